@@ -1,0 +1,15 @@
+pub mod ColonLaws
+pub mod DecisionLemmas
+pub mod GroupLaws
+pub mod GroupLemmas
+pub mod LineLaws
+pub mod NumeralBounds
+pub mod NumeralLaws
+pub mod OptionLemmas
+pub mod PieceLaws
+pub mod PlaceLemmas
+pub mod PolicyLemmas
+pub mod PrefixLaws
+pub mod TextLaws
+pub mod TrafficLaws
+pub mod WordLemmas

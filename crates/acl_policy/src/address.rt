@@ -1,0 +1,143 @@
+//! Addresses as text (RFC 4291, section 2.2, without an embedded IPv4 address).
+ghost use Rattle.std.specs.Prelude.{◌≡◌, ◌≤◌, ◌<◌, ◌^◌, ◌+◌, IfSome, length, option_map, position, zip, drop};
+ghost use Rattle.packet_view.specs.Addresses.{address_limit};
+ghost use Rattle.acl_policy.specs.Reading.Numerals;
+ghost use Rattle.acl_policy.specs.Reading.Prefixes;
+ghost use Rattle.acl_policy.specs.Reading.Numerals.{octet_in, pair_in, piece_in};
+ghost use Rattle.acl_policy.specs.Reading.Prefixes.{address_in, all_groups, cut_double_in, four_parts_in, groups_address_in, groups_after, groups_in, is_double, mac_in};
+
+use crate::numeral::{group_of, octet_of, pair_of};
+use crate::words::cut_at;
+use packet_view::{Family, Mac};
+
+#[tactic(auto, unfolding(crate::specs::Reading::Numerals::piece_in))]
+fn pair_before_colon(text: &[u8]) -> Option<(u8, &[u8])>
+    ensures { option_map (λ r. (r.0, r.1.now)) result ≡ piece_in 58 pair_in text.now }
+{
+    let (first, rest) = cut_at(text, b':')?;
+    let pair = pair_of(first)?;
+    Some((pair, rest))
+}
+
+/// The address of an Ethernet interface: six pairs of hexadecimal digits with `:` between them.
+#[tactic(auto, unfolding(crate::specs::Reading::Prefixes::mac_in))]
+pub fn mac_of(text: &[u8]) -> Option<Mac>
+    ensures { result ≡ mac_in text.now }
+{
+    let (a, text) = pair_before_colon(text)?;
+    let (b, text) = pair_before_colon(text)?;
+    let (c, text) = pair_before_colon(text)?;
+    let (d, text) = pair_before_colon(text)?;
+    let (e, text) = pair_before_colon(text)?;
+    let f = pair_of(text)?;
+    Some(Mac([a, b, c, d, e, f]))
+}
+
+#[tactic(auto, unfolding(crate::specs::Reading::Numerals::piece_in))]
+fn octet_before_dot(text: &[u8]) -> Option<(u8, &[u8])>
+    ensures { option_map (λ r. (r.0, r.1.now)) result ≡ piece_in 46 octet_in text.now }
+{
+    let (first, rest) = cut_at(text, b'.')?;
+    let octet = octet_of(first)?;
+    Some((octet, rest))
+}
+
+#[tactic(auto, unfolding(crate::specs::Reading::Prefixes::four_parts_in))]
+fn four_parts_of(text: &[u8]) -> Option<u32>
+    ensures { result ≡ four_parts_in text.now }
+{
+    let (a, text) = octet_before_dot(text)?;
+    let (b, text) = octet_before_dot(text)?;
+    let (c, text) = octet_before_dot(text)?;
+    let d = octet_of(text)?;
+    Some(((u32::from(a) * 256 + u32::from(b)) * 256 + u32::from(c)) * 256 + u32::from(d))
+}
+
+/// The groups of a text as one number, and how many they are. `None`: another form, or more than eight.
+fn groups_of(text: &[u8]) -> Option<(u128, u32)>
+    ensures value { result ≡ groups_in text.now }
+    ensures few { IfSome result (λ groups. groups.1 ≤ 8) }
+    ensures fits { IfSome result (λ groups. groups.0 < 65536 ^ groups.1) }
+{
+    if text.is_empty() {
+        return Some((0, 0));
+    }
+    let mut number = 0;
+    let mut rest = text;
+    for count in 0..8 {
+        let Some((first, more)) = cut_at(rest, b':') else {
+            let group = group_of(rest)?;
+            return Some((number * 65536 + u128::from(group), count + 1));
+        };
+        let group = group_of(first)?;
+        number = number * 65536 + u128::from(group);
+        rest = more;
+    }
+    None
+}
+
+/// What stands before the first `::`, and what behind it.
+#[tactic(auto, unfolding(crate::specs::Reading::Prefixes::cut_double_in))]
+fn cut_at_double_colon(text: &[u8]) -> Option<(&[u8], &[u8])>
+    ensures { option_map (λ r. (r.0.now, r.1.now)) result ≡ cut_double_in text.now }
+{
+    let place = double_colon(text)?;
+    Some((&text[..place], &text[place + 2..]))
+}
+
+fn double_colon(text: &[u8]) -> Option<usize>
+    ensures place { result ≡ position is_double (zip text.now (drop 1 text.now)) }
+    ensures within { IfSome result (λ i. i + 2 ≤ length text.now) }
+{
+    text.iter()
+        .zip(text.iter().skip(1))
+        .position(|(a, b)| *a == b':' && *b == b':')
+}
+
+/// Groups at both ends of an address, each with how many they are, and at least one group of zeros between them.
+fn spread(front: (u128, u32), back: (u128, u32)) -> Option<u128>
+    requires front_few { front.1 ≤ 8 }
+    requires back_few { back.1 ≤ 8 }
+    requires front_fits { front.0 < 65536 ^ front.1 }
+    requires back_fits { back.0 < 65536 ^ back.1 }
+    ensures { result ≡ Prefixes.spread front back }
+{
+    if front.1 + back.1 > 7 {
+        return None;
+    }
+    if front.1 == 0 {
+        return Some(back.0);
+    }
+    Some(front.0 * 65536u128.pow(8 - front.1) + back.0)
+}
+
+#[tactic(auto, unfolding(crate::specs::Reading::Prefixes::groups_address_in))]
+fn groups_address_of(text: &[u8]) -> Option<u128>
+    ensures { result ≡ groups_address_in text.now }
+{
+    match cut_at_double_colon(text) {
+        Some((before, after)) => {
+            let front = groups_of(before)?;
+            let back = groups_of(after)?;
+            spread(front, back)
+        }
+        None => {
+            let (number, count) = groups_of(text)?;
+            if count == 8 { Some(number) } else { None }
+        }
+    }
+}
+
+/// An address of the family, as a number.
+pub fn address_of(family: Family, text: &[u8]) -> Option<u128>
+    ensures value { result ≡ address_in family text.now }
+    ensures fits { IfSome result (λ address. address < address_limit family) }
+{
+    match family {
+        Family::V4 => {
+            let address = four_parts_of(text)?;
+            Some(u128::from(address))
+        }
+        Family::V6 => groups_address_of(text),
+    }
+}

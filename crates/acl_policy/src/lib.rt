@@ -1,0 +1,16 @@
+//! The rules of a filter: their text, and which of them decides a packet.
+#![tactic(auto)]
+
+mod address;
+mod line;
+mod matching;
+mod numeral;
+mod policy;
+mod prefix;
+mod rule;
+mod traffic;
+mod words;
+
+pub use matching::first_match;
+pub use policy::{Policy, PolicyFault, read_policy};
+pub use rule::{Action, Rule};

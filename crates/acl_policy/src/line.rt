@@ -1,0 +1,136 @@
+//! What a line of a policy says.
+ghost use Rattle.std.specs.Prelude.{◌≡◌, ◌≤◌, ◌<◌, IfSome, option_map};
+ghost use Rattle.acl_policy.specs.Reading.Lines.{action_in, direction_in, ends_in, family_in, head_in, line_facts, line_in, own_line_in, rule_line_in};
+ghost use Rattle.acl_policy.specs.Widths.{width};
+ghost use Rattle.acl_policy.specs.Words.{words_of};
+ghost use Rattle.packet_view.specs.Addresses.{address_limit};
+
+use crate::address::mac_of;
+use crate::prefix::prefix_of;
+use crate::rule::{Action, Rule};
+use crate::traffic::{is_end, traffic_of};
+use crate::words::{before_comment, next_word};
+use packet_view::{Direction, Family, Mac};
+
+/// What a line says: nothing, the own address of the interface, or a rule of a direction.
+#[derive(Clone, Copy)]
+pub enum Line {
+    Blank,
+    Own(Mac),
+    Ruled(Direction, Rule),
+}
+
+fn direction_of(word: &[u8]) -> Option<Direction>
+    ensures { result ≡ direction_in word.now }
+{
+    match word {
+        b"in" => Some(Direction::Inbound),
+        b"out" => Some(Direction::Outbound),
+        _ => None,
+    }
+}
+
+fn action_of(word: &[u8]) -> Option<Action>
+    ensures { result ≡ action_in word.now }
+{
+    if word == b"deny".as_slice() {
+        return Some(Action::Deny);
+    }
+    if word == b"permit".as_slice() {
+        return Some(Action::Permit);
+    }
+    if word == b"permit+reflect".as_slice() {
+        return Some(Action::Reflect);
+    }
+    None
+}
+
+fn family_of(word: &[u8]) -> Option<Family>
+    ensures { result ≡ family_in word.now }
+{
+    match word {
+        b"ipv4" => Some(Family::V4),
+        b"ipv6" => Some(Family::V6),
+        _ => None,
+    }
+}
+
+/// The first three words of a rule, and the text behind them.
+#[tactic(auto, unfolding(crate::specs::Reading::Lines::head_in))]
+fn head_of(text: &[u8]) -> Option<(Direction, Action, Family, &[u8])>
+    ensures { option_map (λ r. (r.0, r.1, r.2, words_of r.3.now)) result ≡ head_in (words_of text.now) }
+{
+    let (word, text) = next_word(text)?;
+    let direction = direction_of(word)?;
+    let (word, text) = next_word(text)?;
+    let action = action_of(word)?;
+    let (word, text) = next_word(text)?;
+    let family = family_of(word)?;
+    Some((direction, action, family, text))
+}
+
+/// The prefixes of a rule, and the text behind them.
+#[tactic(auto, unfolding(crate::specs::Reading::Lines::ends_in))]
+fn ends_of(family: Family, text: &[u8]) -> Option<((u128, u8), (u128, u8), &[u8])>
+    ensures value { option_map (λ r. (r.0, r.1, words_of r.2.now)) result ≡ ends_in family (words_of text.now) }
+    ensures source_fits { IfSome result (λ r. r.0.0 < address_limit family) }
+    ensures source_length { IfSome result (λ r. r.0.1 ≤ width family) }
+    ensures dest_fits { IfSome result (λ r. r.1.0 < address_limit family) }
+    ensures dest_length { IfSome result (λ r. r.1.1 ≤ width family) }
+{
+    let (word, text) = next_word(text)?;
+    let source = prefix_of(family, word)?;
+    let (word, text) = next_word(text)?;
+    let dest = prefix_of(family, word)?;
+    Some((source, dest, text))
+}
+
+#[tactic(auto, unfolding(crate::specs::Reading::Lines::rule_line_in))]
+fn rule_line_of(text: &[u8]) -> Option<Line>
+    ensures { option_map line_facts result ≡ rule_line_in (words_of text.now) }
+{
+    let (direction, action, family, text) = head_of(text)?;
+    let (source, dest, text) = ends_of(family, text)?;
+    let traffic = traffic_of(family, text)?;
+    let rule = Rule {
+        action,
+        family,
+        source,
+        dest,
+        proto: traffic.proto,
+        first: traffic.first,
+        second: traffic.second,
+        value: traffic.value,
+        mask: traffic.mask,
+    };
+    Some(Line::Ruled(direction, rule))
+}
+
+#[tactic(auto, unfolding(crate::specs::Reading::Lines::own_line_in))]
+fn own_line_of(text: &[u8]) -> Option<Line>
+    ensures { option_map line_facts result ≡ own_line_in (words_of text.now) }
+{
+    let (word, text) = next_word(text)?;
+    let mac = mac_of(word)?;
+    if is_end(text) {
+        Some(Line::Own(mac))
+    } else {
+        None
+    }
+}
+
+/// What a line says. `None`: it is of no form.
+#[tactic(auto, unfolding(crate::specs::Reading::Lines::line_in, crate::specs::Reading::Lines::said_in))]
+pub fn line_of(line: &[u8]) -> Option<Line>
+    ensures { option_map line_facts result ≡ line_in line.now }
+{
+    let text = before_comment(line);
+    let Some((word, rest)) = next_word(text) else {
+        return Some(Line::Blank);
+    };
+    if word == b"mac".as_slice() {
+        own_line_of(rest)
+    } else {
+        rule_line_of(text)
+    }
+}

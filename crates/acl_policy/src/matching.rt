@@ -1,0 +1,73 @@
+//! Which rule decides a packet.
+ghost use Rattle.std.specs.Prelude.{◌≡◌, ◌≤◌, ◌<◌, ◌↔◌, ◌⊎◌, ℕ, IsTrue, Option, map};
+ghost use Rattle.acl_policy.specs.declared.rule.Action.{Action};
+ghost use Rattle.acl_policy.specs.Matching.{HasFields, HoldsPrefix, HoldsProtocol, IsDecision, IsIn, Matches};
+ghost use Rattle.acl_policy.specs.Rules.{rule_facts};
+ghost use Rattle.acl_policy.specs.Widths.{width};
+ghost use Rattle.packet_view.specs.Addresses.{address_limit};
+ghost use Rattle.packet_view.specs.Tuples.{facts};
+
+use crate::rule::{Action, Rule};
+use packet_view::{Family, Fields, Tuple};
+
+fn has_prefix(family: Family, prefix: (u128, u8), address: u128) -> bool
+    requires length { prefix.1 ≤ width family }
+    requires fits { prefix.0 < address_limit family }
+    requires in_family { address < address_limit family }
+    ensures { IsTrue result ↔ HoldsPrefix family prefix address }
+{
+    let width: u8 = match family {
+        Family::V4 => 32,
+        Family::V6 => 128,
+    };
+    let (network, length) = prefix;
+    if length == 0 {
+        return true;
+    }
+    let rest = u32::from(width - length);
+    network >> rest == address >> rest
+}
+
+fn is_in(range: (u16, u16), n: u16) -> bool
+    ensures { IsTrue result ↔ IsIn range n }
+{
+    range.0 <= n && n <= range.1
+}
+
+fn has_fields(rule: &Rule, fields: &Fields) -> bool
+    ensures { IsTrue result ↔ HasFields (rule_facts rule.now) fields.now }
+{
+    match fields {
+        Fields::Absent => true,
+        Fields::Ports { from, to } => is_in(rule.first, *from) && is_in(rule.second, *to),
+        Fields::Tcp { from, to, flags } => {
+            is_in(rule.first, *from) && is_in(rule.second, *to) && *flags & rule.mask == rule.value
+        }
+        Fields::Icmp { kind, code } => {
+            is_in(rule.first, u16::from(*kind)) && is_in(rule.second, u16::from(*code))
+        }
+    }
+}
+
+/// The tests that need no long numbers come first.
+fn is_match(rule: &Rule, tuple: &Tuple) -> bool
+    ensures { IsTrue result ↔ Matches (rule_facts rule.now) (facts tuple.now) }
+{
+    rule.family == tuple.family
+        && (rule.proto == 0 || rule.proto == tuple.proto && has_fields(rule, &tuple.fields))
+        && has_prefix(tuple.family, rule.source, tuple.source)
+        && has_prefix(tuple.family, rule.dest, tuple.dest)
+}
+
+/// The first rule that matches, by its place from 0, and what it does. `None`: no rule matches.
+pub fn first_match(rules: &[Rule], tuple: &Tuple) -> Option<(usize, Action)>
+    ensures decided { IsDecision (map rule_facts rules.now) (facts tuple.now) result }
+    ensures only { (other : Option (ℕ × Action)) → IsDecision (map rule_facts rules.now) (facts tuple.now) other → other ≡ result }
+{
+    for (i, rule) in rules.iter().enumerate() {
+        if is_match(rule, tuple) {
+            return Some((i, rule.action));
+        }
+    }
+    None
+}

@@ -1,0 +1,5 @@
+pub mod Hash
+pub mod Maps
+pub mod Patches
+pub mod Sizes
+pub mod Words

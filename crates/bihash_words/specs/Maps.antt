@@ -1,0 +1,80 @@
+-- The bounded map of a bucket: what one call finds, decides, answers and leaves (this project's profile).
+use Rattle.std.specs.Prelude.{◌≡◌, ◌≤◌, ◌<◌, ◌⊎◌, ℕ, ◌*◌, ◌^◌, ◌==◌, if◌then◌else◌, List, Option, Some, None, nat_lt}
+use Rattle.std.specs.Ordering.{nat_cmp}
+use Rattle.std.specs.Cmp.Lexicographic.{slice_cmp}
+use Rattle.std.specs.FinMap.{FinMap, get, insert, remove, len}
+use Rattle.bihash_words.specs.declared.patch.Change.{Change}
+use Rattle.bihash_words.specs.declared.patch.Change.TheVariants.{Keep, Set, Remove}
+use Rattle.bihash_words.specs.declared.patch.Reply.{Reply}
+use Rattle.bihash_words.specs.declared.patch.Reply.TheVariants.{Kept, Changed, Worn, Full, NoPages}
+
+-- the pairs of a bucket; a key is seen as its words, and the keys stand in the order of their words
+abbrev pub Pairs : Type 0
+Pairs = FinMap (slice_cmp nat_cmp) ℕ
+
+-- how often the map may change, and the log2 of the most pages in its block
+pub record Bounds : Type 0 where
+  pub limit : ℕ
+  pub max_log2 : ℕ
+
+-- a page has four places
+abbrev pub most_pairs : Bounds → ℕ
+most_pairs b = 4 * 2 ^ b.max_log2
+
+-- a call: its key, the value that was found there, what was decided on that value, and the reply
+pub record Event : Type 0 where
+  pub key : List ℕ
+  pub found : Option ℕ
+  pub change : Change
+  pub reply : Reply
+
+-- what a change comes to: to set the value that was found, or to remove where there is none, is to keep
+abbrev pub effect_of : Change → Option ℕ → Change
+effect_of Keep found = Keep
+effect_of (Set value) None = Set value
+effect_of (Set value) (Some old) = if old == value then Keep else Set value
+effect_of Remove None = Keep
+effect_of Remove (Some old) = Remove
+
+-- the map after a change of a key's value
+abbrev pub changed : Pairs → List ℕ → Change → Pairs
+changed m key Keep = m
+changed m key (Set value) = insert m key value
+changed m key Remove = remove m key
+
+-- a refusal for want of pages names a block that a table may have, and fewer pages than it wants
+abbrev pub IsRefusal : Bounds → Reply → Type 0
+IsRefusal b reply = (log2 left : ℕ) × (reply ≡ NoPages log2 left) × (log2 ≤ b.max_log2) × (left < 2 ^ log2)
+
+-- the cases of a call
+pub data Row : Type 0 where
+  -- nothing is to be changed
+  Idle : Row
+  -- a change is wanted, and the map may not change any more
+  Exhausted : Row
+  -- a new key finds no room
+  Crowded : Row
+  -- a new key finds room
+  Entering : Row
+  -- a key that is there gets another value or goes
+  Present : Row
+
+-- the case of an effect, at a map of so many pairs after w changes
+abbrev pub row_with : Bounds → ℕ → ℕ → Option ℕ → Change → Row
+row_with b pairs w found Keep = Idle
+row_with b pairs w None (Set value) = if nat_lt w b.limit then (if nat_lt pairs (most_pairs b) then Entering else Crowded) else Exhausted
+row_with b pairs w (Some old) (Set value) = if nat_lt w b.limit then Present else Exhausted
+row_with b pairs w found Remove = if nat_lt w b.limit then Present else Exhausted
+
+-- the replies of a case, and the map m' that is left
+abbrev pub Answers : Row → Bounds → Pairs → Event → Pairs → Type 0
+Answers Idle b m e m' = (e.reply ≡ Kept e.found) × (m' ≡ m)
+Answers Exhausted b m e m' = (e.reply ≡ Worn e.found) × (m' ≡ m)
+Answers Crowded b m e m' = (e.reply ≡ Full) × (m' ≡ m)
+Answers Entering b m e m' = ((e.reply ≡ Changed None) × (m' ≡ changed m e.key e.change)) ⊎ (IsRefusal b e.reply × (m' ≡ m))
+Answers Present b m e m' = (e.reply ≡ Changed e.found) × (m' ≡ changed m e.key e.change)
+
+-- a call leads from the map m after w changes to the map m'
+pub record Step (b : Bounds) (m : Pairs) (w : ℕ) (e : Event) (m' : Pairs) : Type 0 where
+  pub found : e.found ≡ get m e.key
+  pub answers : Answers (row_with b (len m) w e.found (effect_of e.change e.found)) b m e m'

@@ -1,0 +1,28 @@
+-- The word of a bucket (this project's profile).
+use Rattle.std.specs.Prelude.{ℕ, ◌+◌, ◌*◌, ◌/◌, ◌^◌, ◌<◌, Bool, if◌then◌else◌}
+
+-- what a bucket's word says: the first page of the bucket's block, 0 for none; the log2 of the block's pages; whether any place may hold any key; whether a writer holds the bucket; how often its map changed
+pub record Bucket : Type 0 where
+  pub page : ℕ
+  pub log2 : ℕ
+  pub linear : Bool
+  pub locked : Bool
+  pub version : ℕ
+
+-- each field fits its bits
+pub record Fits (b : Bucket) : Type 0 where
+  pub page : b.page < 2 ^ 24
+  pub log2 : b.log2 < 2 ^ 5
+  pub version : b.version < 2 ^ 33
+
+-- a mark as a bit
+abbrev pub bit : Bool → ℕ
+bit mark = if mark then 1 else 0
+
+-- the fields at their places, from the lowest bit
+abbrev pub packed : Bucket → ℕ
+packed b = b.page + 2 ^ 24 * b.log2 + 2 ^ 29 * bit b.linear + 2 ^ 30 * bit b.locked + 2 ^ 31 * b.version
+
+-- the highest 33 bits of a word
+abbrev pub version_of : ℕ → ℕ
+version_of word = word / 2 ^ 31

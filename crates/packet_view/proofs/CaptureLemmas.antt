@@ -1,0 +1,131 @@
+-- A capture is read in one way: with its packets and end, or with its first fault.
+use Rattle.std.proofs.Common.{◌≡◌, ◌≢◌, ◌⊎◌, ◌∙◌, ◌+◌, ℕ, Bool, true, false, List, drop, length, map, Result, Ok, Err, refl, sym, ap, inl, inr, subst}
+use Rattle.std.specs.Prelude.{IfOk, IfErr, MatchResult}
+use Rattle.packet_view.specs.declared.capture.Order.{Order}
+use Rattle.packet_view.specs.declared.capture.Capture.{Capture}
+use Rattle.packet_view.specs.declared.capture.CaptureFault.{CaptureFault}
+use Rattle.packet_view.specs.declared.capture.CaptureFault.TheVariants as fault
+use Rattle.packet_view.specs.Captures.{AreRecords, End, HasHeader, IsCapture, IsCaptureFault, IsCut, IsEnd, IsHeaderFault, IsPart, IsTooLong, Part, Record, Nothing, Cut, TooLong, Seen, Truncated, Whole, end_of, seen}
+use Rattle.packet_view.specs.RecordSteps.{Reads, part_of}
+use Rattle.packet_view.proofs.RecordLemmas.{IsStop, Stops, part_only, records_once}
+
+pub fault_of_header : (bytes : List ℕ) (found : CaptureFault) → IsHeaderFault bytes found → IsCaptureFault bytes found
+fault_of_header bytes fault.Short h = h
+fault_of_header bytes fault.Magic h = h
+fault_of_header bytes fault.Version h = h
+fault_of_header bytes fault.LinkType h = h
+fault_of_header bytes (fault.LongRecord number) h = absurd h
+fault_of_header bytes fault.Memory h = absurd h
+
+-- a fault stands in the header, or there is none in it
+pub header_of_fault : (bytes : List ℕ) (found : CaptureFault) → IsCaptureFault bytes found → ((order : Order) × HasHeader order bytes) ⊎ IsHeaderFault bytes found
+header_of_fault bytes fault.Short h = inr h
+header_of_fault bytes fault.Magic h = inr h
+header_of_fault bytes fault.Version h = inr h
+header_of_fault bytes fault.LinkType h = inr h
+header_of_fault bytes (fault.LongRecord number) h = inl (h.0, h.3)
+header_of_fault bytes fault.Memory h = absurd h
+
+-- what stands where the whole records end
+part_at : End → Part
+part_at Whole = Nothing
+part_at Truncated = Cut
+
+end_part : (order : Order) (rest : List ℕ) (end : End) → IsEnd order rest end → part_at end ≡ part_of order rest
+unfolding part_at
+end_part order rest Whole h = part_only order rest Nothing h
+end_part order rest Truncated h = part_only order rest Cut h
+
+end_stops : (order : Order) (rest : List ℕ) (end : End) → IsEnd order rest end → Stops order rest
+unfolding part_at
+end_stops order rest Whole h = record { stops = subst IsStop (end_part order rest Whole h) tt }
+end_stops order rest Truncated h = record { stops = subst IsStop (end_part order rest Truncated h) tt }
+
+long_stops : (order : Order) (rest : List ℕ) → IsTooLong order rest → Stops order rest
+long_stops order rest h = record { stops = subst IsStop (part_only order rest TooLong h) tt }
+
+same_end : (order : Order) (rest : List ℕ) (end other : End) → IsEnd order rest end → IsEnd order rest other → end ≡ other
+unfolding part_at
+same_end order rest Whole Whole h g = refl
+same_end order rest Truncated Truncated h g = refl
+same_end order rest Whole Truncated h g = let e = end_part order rest Whole h in let f = end_part order rest Truncated g in cc
+same_end order rest Truncated Whole h g = let e = end_part order rest Truncated h in let f = end_part order rest Whole g in cc
+
+not_both : (order : Order) (rest : List ℕ) (end : End) → IsEnd order rest end → IsTooLong order rest → ⊥
+unfolding part_at
+not_both order rest Whole h long = let e = end_part order rest Whole h in let f = part_only order rest TooLong long in cc
+not_both order rest Truncated h long = let e = end_part order rest Truncated h in let f = part_only order rest TooLong long in cc
+
+-- the header stands in one order, and has no fault
+pub record IsHeaderOf (order : Order) (bytes : List ℕ) : Type 0 where
+  pub right : HasHeader order bytes
+  pub one : (other : Order) → HasHeader other bytes → other ≡ order
+  pub none : (found : CaptureFault) → IsHeaderFault bytes found → ⊥
+
+module _ (order : Order) (bytes : List ℕ) (header : IsHeaderOf order bytes) where
+  pub reads_ok : (result : Result Capture CaptureFault) → Reads order (drop 24 bytes) result
+      → IfOk result (λ capture. IsCapture bytes (map seen capture.packets.items) (end_of capture.truncated))
+  reads_ok (Ok capture) (rest, all, end) = (order, rest, header.right, all, end)
+  reads_ok (Err found) h = tt
+
+  pub reads_fault : (result : Result Capture CaptureFault) → Reads order (drop 24 bytes) result
+      → IfErr result (λ found. found ≢ fault.Memory → IsCaptureFault bytes found)
+  reads_fault (Ok capture) h = tt
+  reads_fault (Err (fault.LongRecord number)) (packets, rest, all, long, count) = λ _. (order, packets, rest, header.right, all, long, count)
+  reads_fault (Err fault.Memory) h = λ other. absurd (other refl)
+  reads_fault (Err fault.Short) h = absurd h
+  reads_fault (Err fault.Magic) h = absurd h
+  reads_fault (Err fault.Version) h = absurd h
+  reads_fault (Err fault.LinkType) h = absurd h
+
+  pub reads_accepts : (result : Result Capture CaptureFault) → Reads order (drop 24 bytes) result → (packets : List Seen) (end : End) → IsCapture bytes packets end
+      → MatchResult result (λ capture. (map seen capture.packets.items ≡ packets) × (end_of capture.truncated ≡ end)) (λ found. found ≡ fault.Memory)
+  reads_accepts (Ok capture) (rest, all, stop) packets end (other, left, right, same, last) =
+      let e = header.one other right in
+      let all_too : AreRecords order (drop 24 bytes) packets left = rw (← e) same in
+      let last_too : IsEnd order left end = rw (← e) last in
+      let once = records_once order (drop 24 bytes) (map seen capture.packets.items) packets rest left all (end_stops order rest _ stop) all_too
+      (end_stops order left end last_too) in
+      (once.0, same_end order left (end_of capture.truncated) end (rw (← once.1) stop) last_too)
+  reads_accepts (Err (fault.LongRecord number)) (packets, rest, all, long, count) others end (other, left, right, same, last) =
+      let e = header.one other right in
+      let all_too : AreRecords order (drop 24 bytes) others left = rw (← e) same in
+      let last_too : IsEnd order left end = rw (← e) last in
+      let once = records_once order (drop 24 bytes) packets others rest left all (long_stops order rest long) all_too (end_stops order left end last_too) in
+      absurd (not_both order left end last_too (rw (← once.1) long))
+  reads_accepts (Err fault.Memory) h packets end g = refl
+  reads_accepts (Err fault.Short) h packets end g = absurd h
+  reads_accepts (Err fault.Magic) h packets end g = absurd h
+  reads_accepts (Err fault.Version) h packets end g = absurd h
+  reads_accepts (Err fault.LinkType) h packets end g = absurd h
+
+  long_accepts : (result : Result Capture CaptureFault) → Reads order (drop 24 bytes) result → (number : ℕ) → IsCaptureFault bytes (fault.LongRecord number)
+      → MatchResult result (λ capture. ⊥) (λ found. (found ≡ fault.LongRecord number) ⊎ (found ≡ fault.Memory))
+  long_accepts (Ok capture) (rest, all, stop) number (other, packets, left, right, same, long, count) =
+      let e = header.one other right in
+      let all_too : AreRecords order (drop 24 bytes) packets left = rw (← e) same in
+      let long_too : IsTooLong order left = rw (← e) long in
+      let once = records_once order (drop 24 bytes) (map seen capture.packets.items) packets rest left all (end_stops order rest _ stop) all_too
+      (long_stops order left long_too) in
+      not_both order left (end_of capture.truncated) (rw (← once.1) stop) long_too
+  long_accepts (Err (fault.LongRecord n)) (packets, rest, all, long, count) number (other, others, left, right, same, long_other, count_other) =
+      let e = header.one other right in
+      let all_too : AreRecords order (drop 24 bytes) others left = rw (← e) same in
+      let long_too : IsTooLong order left = rw (← e) long_other in
+      let once = records_once order (drop 24 bytes) packets others rest left all (long_stops order rest long) all_too (long_stops order left long_too) in
+      let counts : n ≡ number = count ∙ ap (λ (ps : List Seen). length ps + 1) once.0 ∙ sym count_other in
+      inl (ap fault.LongRecord counts)
+  long_accepts (Err fault.Memory) h number g = inr refl
+  long_accepts (Err fault.Short) h number g = absurd h
+  long_accepts (Err fault.Magic) h number g = absurd h
+  long_accepts (Err fault.Version) h number g = absurd h
+  long_accepts (Err fault.LinkType) h number g = absurd h
+
+  pub reads_refuses : (result : Result Capture CaptureFault) → Reads order (drop 24 bytes) result → (found : CaptureFault) → IsCaptureFault bytes found
+      → MatchResult result (λ capture. ⊥) (λ other. (other ≡ found) ⊎ (other ≡ fault.Memory))
+  reads_refuses result h (fault.LongRecord number) g = long_accepts result h number g
+  reads_refuses result h fault.Short g = absurd (header.none fault.Short g)
+  reads_refuses result h fault.Magic g = absurd (header.none fault.Magic g)
+  reads_refuses result h fault.Version g = absurd (header.none fault.Version g)
+  reads_refuses result h fault.LinkType g = absurd (header.none fault.LinkType g)
+  reads_refuses result h fault.Memory g = absurd g

@@ -1,0 +1,12 @@
+pub mod CaptureLemmas
+pub mod EthernetLemmas
+pub mod FrameLemmas
+pub mod Ipv4Lemmas
+pub mod Ipv6Lemmas
+pub mod LawLemmas
+pub mod PacketLemmas
+pub mod RecordLemmas
+pub mod Steps
+pub mod TrailingLemmas
+pub mod TransportLemmas
+pub mod Walks

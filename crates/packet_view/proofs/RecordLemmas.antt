@@ -1,0 +1,121 @@
+-- What stands at the front of records is what the tests find there, and nothing else.
+use Rattle.std.proofs.Common.{◌≡◌, ◌⊎◌, ◌∙◌, ◌≤◌, ◌<◌, ℕ, Bool, true, false, cond, List, [], ◌∷◌, ◌++◌, length, take, drop, nat_lt, ◌==◌, ◌-◌, ◌+◌, refl, sym, ap, subst, inl, inr, arith, lit≤, append_assoc}
+use Rattle.std.proofs.lemmas.List.{drop-drop, drop-take, drop-append-le, drop_at, length-append, length-take-le, take-append-drop, take_at, nil_from_length}
+use Rattle.std.proofs.lemmas.Grind.{common_steps}
+use Rattle.std.proofs.lemmas.Bool.{cond_both, eqb-true, ltb-true, ltb-false}
+use Rattle.std.proofs.lemmas.Bool.Decides.{nat_tests}
+use Rattle.byteorder.specs.Numbers.{big_from-append, little_from-append}
+use Rattle.packet_view.specs.declared.capture.Order.{Order}
+use Rattle.packet_view.specs.declared.capture.Order.TheVariants.{Little, Big}
+use Rattle.packet_view.specs.Captures.{AreRecords, IsCut, IsPart, IsRecord, IsTooLong, Part, Record, Nothing, Cut, TooLong, Seen, kept_length, number_from}
+use Rattle.packet_view.specs.RecordSteps.{part_of}
+
+-- a number lies in the front that holds its bytes
+pub number_from-append : (order : Order) (place width : ℕ) (xs ys : List ℕ) → place + width ≤ length xs
+    → number_from order place width (xs ++ ys) ≡ number_from order place width xs
+number_from-append Little place width xs ys h =
+    let front : width ≤ length (drop place xs) = grind (arith, common_steps) in
+    rw (drop-append-le place xs ys (omega arith)) (little_from-append width (drop place xs) ys front)
+number_from-append Big place width xs ys h =
+    let front : width ≤ length (drop place xs) = grind (arith, common_steps) in
+    rw (drop-append-le place xs ys (omega arith)) (big_from-append width (drop place xs) ys front)
+
+number_from-take : (order : Order) (place width n : ℕ) (bytes : List ℕ) → place + width ≤ n → n ≤ length bytes
+    → number_from order place width bytes ≡ number_from order place width (take n bytes)
+number_from-take order place width n bytes h long =
+    let front : length (take n bytes) ≡ n = length-take-le n bytes long in
+    ap (number_from order place width) (sym (take-append-drop n bytes)) ∙ number_from-append order place width (take n bytes) (drop n bytes) (omega arith)
+
+-- a record that is whole is found
+found : (order : Order) (bytes : List ℕ) → 16 ≤ length bytes → kept_length order bytes ≤ 262144 → 16 + kept_length order bytes ≤ length bytes
+    → part_of order bytes ≡ Record (record { moment = number_from order 0 4 bytes; frame = take (kept_length order bytes) (drop 16 bytes) })
+    (drop (16 + kept_length order bytes) bytes)
+found order bytes long limit fits = grind (arith, nat_tests)
+
+-- a record that is spelt out is found
+spelt_is_found : (order : Order) (header frame rest : List ℕ) (moment : ℕ) → IsRecord order header (record { moment = moment; frame = frame })
+    → Record (record { moment = moment; frame = frame }) rest ≡ part_of order (header ++ (frame ++ rest))
+spelt_is_found order header frame rest moment r =
+    let bytes : List ℕ = header ++ (frame ++ rest) in
+    let kept : kept_length order bytes ≡ length frame = number_from-append order 8 4 header (frame ++ rest) (omega (arith, r.sixteen)) ∙ sym r.kept in
+    let seconds : number_from order 0 4 bytes ≡ moment = number_from-append order 0 4 header (frame ++ rest) (omega (arith, r.sixteen)) ∙ sym r.moment in
+    let size : length bytes ≡ 16 + (length frame + length rest) = simp (length-append, r.sixteen) refl in
+    let behind : drop 16 bytes ≡ frame ++ rest = drop_at header (frame ++ rest) 16 r.sixteen in
+    let front : take (kept_length order bytes) (drop 16 bytes) ≡ frame = ap (take (kept_length order bytes)) behind ∙ take_at frame rest (kept_length order bytes) (sym kept) in
+    let left : drop (16 + kept_length order bytes) bytes ≡ rest =
+    sym (drop-drop (kept_length order bytes) 16 bytes) ∙ ap (drop (kept_length order bytes)) behind ∙ drop_at frame rest (kept_length order bytes) (sym kept) in
+    let is_found = found order bytes (omega arith) (omega (arith, r.limit)) (omega arith) in
+    cc
+
+pub part_only : (order : Order) (bytes : List ℕ) (part : Part) → IsPart order bytes part → part ≡ part_of order bytes
+part_only order bytes (Record packet rest) (header, spelt, r) = rw spelt (spelt_is_found order header packet.frame rest packet.moment r)
+part_only order bytes Nothing h = rw h refl
+part_only order bytes Cut (inl h) = grind (arith, nat_tests)
+part_only order bytes Cut (inr h) = grind (arith, nat_tests)
+part_only order bytes TooLong h = grind (arith, nat_tests)
+
+-- the bytes, cut behind sixteen and behind the kept ones
+spelt : (order : Order) (bytes : List ℕ) (kept : ℕ) → bytes ≡ take 16 bytes ++ (take kept (drop 16 bytes) ++ drop (16 + kept) bytes)
+spelt order bytes kept = rw (← drop-drop kept 16 bytes, take-append-drop, take-append-drop) refl
+
+record_shown : (order : Order) (bytes : List ℕ) → 16 ≤ length bytes → kept_length order bytes ≤ 262144 → 16 + kept_length order bytes ≤ length bytes
+    → IsPart order bytes (Record (record { moment = number_from order 0 4 bytes; frame = take (kept_length order bytes) (drop 16 bytes) })
+    (drop (16 + kept_length order bytes) bytes))
+record_shown order bytes long limit fits = (
+  take 16 bytes,
+  spelt order bytes (kept_length order bytes),
+  let count : length (take (kept_length order bytes) (drop 16 bytes)) ≡ kept_length order bytes = grind (arith, common_steps) in
+      record {
+        sixteen = length-take-le 16 bytes long;
+        moment = number_from-take order 0 4 16 bytes (lit≤ tt) long;
+        kept = count ∙ number_from-take order 8 4 16 bytes (lit≤ tt) long;
+        limit = omega arith;
+      },
+)
+
+pub part_shown : (order : Order) (bytes : List ℕ) → IsPart order bytes (part_of order bytes)
+part_shown order bytes =
+    cond_both (length bytes == 0) _ _ (IsPart order bytes) (λ h. nil_from_length bytes (eqb-true _ _ h))
+    (λ some. cond_both (nat_lt (length bytes) 16) _ _ (IsPart order bytes)
+    (λ h. inl (grind (arith, nat_tests), ltb-true _ _ h))
+    (λ long. cond_both (nat_lt 262144 (kept_length order bytes)) _ _ (IsPart order bytes)
+    (λ h. (ltb-false _ _ long, ltb-true _ _ h))
+    (λ limit. cond_both (nat_lt (length bytes - 16) (kept_length order bytes)) _ _ (IsPart order bytes)
+    (λ h. inr (ltb-false _ _ long, ltb-false _ _ limit, grind (arith, nat_tests)))
+    (λ fits. record_shown order bytes (ltb-false _ _ long) (ltb-false _ _ limit) (grind (arith, nat_tests))))))
+
+-- one more whole record behind whole records
+pub AreRecords-push : (order : Order) (packet : Seen) (others bytes : List ℕ) (packets : List Seen) (rest : List ℕ) → AreRecords order bytes packets rest
+    → IsPart order rest (Record packet others) → AreRecords order bytes (packets ++ packet ∷ []) others
+AreRecords-push order packet others bytes [] rest all more = (others, subst (λ (b : List ℕ). IsPart order b (Record packet others)) (sym all) more, refl)
+AreRecords-push order packet others bytes (first ∷ packets) rest (behind, one, all) more =
+    (behind, one, AreRecords-push order packet others behind packets rest all more)
+
+-- no record stands at the front
+abbrev pub IsStop : Part → Type 0
+IsStop (Record packet rest) = ⊥
+IsStop Nothing = Unit {0}
+IsStop Cut = Unit {0}
+IsStop TooLong = Unit {0}
+
+pub record Stops (order : Order) (rest : List ℕ) : Type 0 where
+  pub stops : IsStop (part_of order rest)
+
+stops_none : (order : Order) (bytes others : List ℕ) (packet : Seen) → IsPart order bytes (Record packet others) → Stops order bytes → ⊥
+stops_none order bytes others packet h stop = subst IsStop (sym (part_only order bytes (Record packet others) h)) stop.stops
+
+-- bytes are records in one way up to where no further one stands
+pub records_once : (order : Order) (bytes : List ℕ) (packets others : List Seen) (rest left : List ℕ) → AreRecords order bytes packets rest → Stops order rest
+    → AreRecords order bytes others left → Stops order left → (packets ≡ others) × (rest ≡ left)
+records_once order bytes [] [] rest left all stop same end = (refl, sym all ∙ same)
+records_once order bytes [] (other ∷ others) rest left all stop (behind, one, same) end =
+    absurd (stops_none order bytes behind other one (rw all stop))
+records_once order bytes (packet ∷ packets) [] rest left (behind, one, all) stop same end =
+    absurd (stops_none order bytes behind packet one (rw same end))
+records_once order bytes (packet ∷ packets) (other ∷ others) rest left (behind, one, all) stop (after, same_one, same) end =
+    let a = part_only order bytes (Record packet behind) one in
+    let b = part_only order bytes (Record other after) same_one in
+    let equal : behind ≡ after = cc in
+    let first : packet ≡ other = cc in
+    let more = records_once order behind packets others rest left all stop (rw equal same) end in
+    (cc, more.1)

@@ -1,0 +1,126 @@
+-- Captures: a header of 24 bytes, and records one behind another (the classic pcap format).
+use Rattle.std.specs.Prelude.{◌≡◌, ◌≢◌, ◌≤◌, ◌<◌, ◌⊎◌, ℕ, ◌+◌, ◌%◌, ◌^◌, Bool, true, false, List, [], ◌∷◌, ◌++◌, length, drop}
+use Rattle.byteorder.specs.Endian.{big_number, little_number}
+use Rattle.packet_view.specs.declared.capture.Order.{Order}
+use Rattle.packet_view.specs.declared.capture.Order.TheVariants.{Little, Big}
+use Rattle.packet_view.specs.declared.capture.Packet.{Packet}
+use Rattle.packet_view.specs.declared.capture.Piece.{Piece}
+use Rattle.packet_view.specs.declared.capture.Piece.TheVariants as piece
+use Rattle.packet_view.specs.declared.capture.CaptureFault.{CaptureFault}
+use Rattle.packet_view.specs.declared.capture.CaptureFault.TheVariants as fault
+
+-- a packet without where its bytes lie
+pub record Seen : Type 0 where
+  pub moment : ℕ
+  pub frame : List ℕ
+
+abbrev pub seen : Packet → Seen
+seen packet = record { moment = packet.moment; frame = packet.frame.now }
+
+-- how the records end: behind a whole one, or inside one
+pub data End : Type 0 where
+  Whole : End
+  Truncated : End
+
+-- the end that the field `truncated` says
+abbrev pub end_of : Bool → End
+end_of false = Whole
+end_of true = Truncated
+
+-- the number in so many bytes from this place on
+abbrev pub number_from : Order → ℕ → ℕ → List ℕ → ℕ
+number_from Little place width bytes = little_number width (drop place bytes)
+number_from Big place width bytes = big_number width (drop place bytes)
+
+-- the bytes begin with a magic number, of microseconds or nanoseconds, in this order
+abbrev pub HasMagic : Order → List ℕ → Type 0
+HasMagic order bytes = (number_from order 0 4 bytes ≡ 0xa1b2c3d4) ⊎ (number_from order 0 4 bytes ≡ 0xa1b23c4d)
+
+-- the major version
+abbrev pub version : Order → List ℕ → ℕ
+version order bytes = number_from order 4 2 bytes
+
+-- the low sixteen bits of the link field
+abbrev pub link_type : Order → List ℕ → ℕ
+link_type order bytes = number_from order 20 4 bytes % 2 ^ 16
+
+-- the bytes begin with a header in this order, of version 2 and for Ethernet
+pub record HasHeader (order : Order) (bytes : List ℕ) : Type 0 where
+  pub whole : 24 ≤ length bytes
+  pub magic : HasMagic order bytes
+  pub two : version order bytes ≡ 2
+  pub ethernet : link_type order bytes ≡ 1
+
+-- the kept length that a record's header says
+abbrev pub kept_length : Order → List ℕ → ℕ
+kept_length order header = number_from order 8 4 header
+
+-- one record's header: it says the moment and the frame's length, which is at most 262144
+pub record IsRecord (order : Order) (header : List ℕ) (packet : Seen) : Type 0 where
+  pub sixteen : length header ≡ 16
+  pub moment : packet.moment ≡ number_from order 0 4 header
+  pub kept : length packet.frame ≡ kept_length order header
+  pub limit : length packet.frame ≤ 262144
+
+-- the bytes begin with a record's header that says a greater length
+abbrev pub IsTooLong : Order → List ℕ → Type 0
+IsTooLong order bytes = (16 ≤ length bytes) × (262144 < kept_length order bytes)
+
+-- the bytes are the front of a record, and neither all of it nor nothing
+abbrev pub IsCut : Order → List ℕ → Type 0
+IsCut order bytes =
+    ((0 < length bytes) × (length bytes < 16))
+    ⊎ ((16 ≤ length bytes) × (kept_length order bytes ≤ 262144) × (length bytes < 16 + kept_length order bytes))
+
+-- what stands at the front of the bytes
+pub data Part : Type 0 where
+  Record : Seen → List ℕ → Part
+  Nothing : Part
+  Cut : Part
+  TooLong : Part
+
+-- what `next_record` answers, as a value
+abbrev pub parted : Piece → Part
+parted (piece.Whole moment frame rest) = Record (record { moment = moment; frame = frame.now }) rest.now
+parted piece.End = Nothing
+parted piece.Truncated = Cut
+parted piece.TooLong = TooLong
+
+abbrev pub IsPart : Order → List ℕ → Part → Type 0
+IsPart order bytes (Record packet rest) = (header : List ℕ) × (bytes ≡ header ++ (packet.frame ++ rest)) × IsRecord order header packet
+IsPart order bytes Nothing = bytes ≡ []
+IsPart order bytes Cut = IsCut order bytes
+IsPart order bytes TooLong = IsTooLong order bytes
+
+-- the bytes are the records of these packets, one behind another, and then the rest
+abbrev pub AreRecords : Order → List ℕ → List Seen → List ℕ → Type 0
+AreRecords order bytes [] rest = bytes ≡ rest
+AreRecords order bytes (packet ∷ packets) rest =
+    (others : List ℕ) × IsPart order bytes (Record packet others) × AreRecords order others packets rest
+
+-- what is left behind the whole records
+abbrev pub IsEnd : Order → List ℕ → End → Type 0
+IsEnd order rest Whole = rest ≡ []
+IsEnd order rest Truncated = IsCut order rest
+
+-- all the bytes are a capture of these packets with this end
+abbrev pub IsCapture : List ℕ → List Seen → End → Type 0
+IsCapture bytes packets end =
+    (order : Order) × (rest : List ℕ) × HasHeader order bytes × AreRecords order (drop 24 bytes) packets rest × IsEnd order rest end
+
+-- the fault stands in the header, and no earlier one does
+abbrev pub IsHeaderFault : List ℕ → CaptureFault → Type 0
+IsHeaderFault bytes fault.Short = length bytes < 24
+IsHeaderFault bytes fault.Magic = (24 ≤ length bytes) × ((order : Order) → HasMagic order bytes → ⊥)
+IsHeaderFault bytes fault.Version = (24 ≤ length bytes) × (order : Order) × HasMagic order bytes × (version order bytes ≢ 2)
+IsHeaderFault bytes fault.LinkType =
+    (24 ≤ length bytes) × (order : Order) × HasMagic order bytes × (version order bytes ≡ 2) × (link_type order bytes ≢ 1)
+IsHeaderFault bytes (fault.LongRecord number) = ⊥
+IsHeaderFault bytes fault.Memory = ⊥
+
+-- the fault stands in the capture, and no earlier one does; records are counted from 1
+abbrev pub IsCaptureFault : List ℕ → CaptureFault → Type 0
+IsCaptureFault bytes (fault.LongRecord number) =
+    (order : Order) × (packets : List Seen) × (rest : List ℕ) × HasHeader order bytes × AreRecords order (drop 24 bytes) packets rest
+    × IsTooLong order rest × (number ≡ length packets + 1)
+IsCaptureFault bytes header_fault = IsHeaderFault bytes header_fault

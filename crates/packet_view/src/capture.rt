@@ -1,0 +1,241 @@
+//! Captures of the classic pcap format: a header, and records one behind another.
+ghost use Rattle.std.specs.Prelude.{◌≡◌, ◌≤◌, ◌+◌, ◌⊎◌, ◌≢◌, length, List, Ok, Err, IsTrue, ◌↔◌, IfOk, IfErr, MatchResult, map};
+ghost use Rattle.packet_view.specs.Captures.{
+  End,
+  HasHeader,
+  HasMagic,
+  IsCapture,
+  IsCaptureFault,
+  IsHeaderFault,
+  IsPart,
+  Part,
+  Seen,
+  end_of,
+  number_from,
+  parted,
+  seen,
+};
+ghost use Rattle.packet_view.specs.RecordSteps.{Reads, part_of};
+ghost use Rattle.packet_view.specs.declared.capture.CaptureFault.{CaptureFault};
+ghost use Rattle.packet_view.specs.declared.capture.CaptureFault.TheVariants.{Memory};
+ghost use Rattle.packet_view.specs.declared.capture.Order.{Order};
+
+use byteorder::{BigEndian, ByteOrder, LittleEndian};
+use std::alloc::{AllocError, AllocFailed, Global};
+
+/// Which byte of a number in a capture comes first: its lowest or its highest.
+#[derive(Clone, Copy, Debug, PartialEq, Eq)]
+pub enum Order {
+    Little,
+    Big,
+}
+
+/// A frame, and the whole seconds at which it was seen.
+#[derive(Clone, Copy, Debug)]
+pub struct Packet<'a> {
+    pub moment: u32,
+    pub frame: &'a [u8],
+}
+
+/// What stands at the front of the records that are left.
+#[derive(Clone, Copy, Debug)]
+pub enum Piece<'a> {
+    /// A record, and the bytes behind it.
+    Whole {
+        moment: u32,
+        frame: &'a [u8],
+        rest: &'a [u8],
+    },
+    /// No byte.
+    End,
+    /// The front of a record, and not all of it.
+    Truncated,
+    /// A record that keeps more than 262144 bytes.
+    TooLong,
+}
+
+/// Why a capture isn't read, in the order of the checks.
+#[derive(Clone, Copy, Debug, PartialEq, Eq)]
+pub enum CaptureFault {
+    /// Fewer bytes than the header has.
+    Short,
+    /// The bytes don't begin with the magic number in either order.
+    Magic,
+    /// Another major version than 2.
+    Version,
+    /// Another link type than Ethernet.
+    LinkType,
+    /// The record of this number, counted from 1, is too long.
+    LongRecord(u64),
+    /// A growth was refused.
+    Memory,
+}
+
+impl From<AllocError> for CaptureFault {
+    ghost use Rattle.packet_view.specs.declared.capture.CaptureFault.TheVariants.{Memory};
+    ghost use Rattle.std.specs.Prelude.{◌≡◌};
+
+    ghost from_gives = { λ _ fault. fault ≡ Memory };
+
+    fn from(_refused: AllocError) -> CaptureFault {
+        CaptureFault::Memory
+    }
+}
+
+impl<T: Drop> From<AllocFailed<T>> for CaptureFault {
+    ghost use Rattle.packet_view.specs.declared.capture.CaptureFault.TheVariants.{Memory};
+    ghost use Rattle.std.specs.Prelude.{◌≡◌};
+
+    ghost from_gives = { λ _ fault. fault ≡ Memory };
+
+    fn from(_refused: AllocFailed<T>) -> CaptureFault {
+        CaptureFault::Memory
+    }
+}
+
+/// The packets of a capture, in its order, and whether it ends inside a record.
+#[derive(Drop)]
+pub struct Capture<'a> {
+    pub packets: Vec<Packet<'a>>,
+    pub truncated: bool,
+}
+
+#[inline]
+fn u16_in(order: Order, bytes: &[u8]) -> u16
+    requires { 2 ≤ length bytes.now }
+    ensures { result ≡ number_from order 0 2 bytes.now }
+{
+    match order {
+        Order::Little => LittleEndian::read_u16(bytes),
+        Order::Big => BigEndian::read_u16(bytes),
+    }
+}
+
+#[inline]
+fn u32_in(order: Order, bytes: &[u8]) -> u32
+    requires { 4 ≤ length bytes.now }
+    ensures { result ≡ number_from order 0 4 bytes.now }
+{
+    match order {
+        Order::Little => LittleEndian::read_u32(bytes),
+        Order::Big => BigEndian::read_u32(bytes),
+    }
+}
+
+/// Whether the bytes begin with a magic number in this order.
+fn has_magic(order: Order, bytes: &[u8]) -> bool
+    requires { 4 ≤ length bytes.now }
+    ensures { IsTrue result ↔ HasMagic order bytes.now }
+{
+    let magic = u32_in(order, bytes);
+    magic == 0xa1b2c3d4 || magic == 0xa1b23c4d
+}
+
+/// The byte order of the capture whose header these bytes begin with.
+pub fn capture_header(bytes: &[u8]) -> Result<Order, CaptureFault>
+    ensures ok { IfOk result (λ order. HasHeader order bytes.now) }
+    ensures fault { IfErr result (λ fault. IsHeaderFault bytes.now fault) }
+    ensures accepts { (order : Order) → HasHeader order bytes.now → result ≡ Ok order }
+    ensures refuses { (fault : CaptureFault) → IsHeaderFault bytes.now fault → result ≡ Err fault }
+{
+    if bytes.len() < 24 {
+        return Err(CaptureFault::Short);
+    }
+    let order = if has_magic(Order::Little, bytes) {
+        Order::Little
+    } else if has_magic(Order::Big, bytes) {
+        Order::Big
+    } else {
+        return Err(CaptureFault::Magic);
+    };
+    if u16_in(order, &bytes[4..]) != 2 {
+        return Err(CaptureFault::Version);
+    }
+    if u32_in(order, &bytes[20..]) % 65536 != 1 {
+        return Err(CaptureFault::LinkType);
+    }
+    Ok(order)
+}
+
+#[inline]
+fn front_piece(rest: &[u8], order: Order) -> Piece<'_>
+    ensures { parted result ≡ part_of order rest.now }
+{
+    if rest.is_empty() {
+        return Piece::End;
+    }
+    if rest.len() < 16 {
+        return Piece::Truncated;
+    }
+    let kept = u32_in(order, &rest[8..]) as usize;
+    if kept > 262144 {
+        return Piece::TooLong;
+    }
+    if rest.len() - 16 < kept {
+        return Piece::Truncated;
+    }
+    Piece::Whole {
+        moment: u32_in(order, rest),
+        frame: &rest[16..16 + kept],
+        rest: &rest[16 + kept..],
+    }
+}
+
+/// What stands at the front of the records that are left of a capture in this order.
+#[inline]
+pub fn next_record(rest: &[u8], order: Order) -> Piece<'_>
+    ensures shown { IsPart order rest.now (parted result) }
+    ensures only { (other : Part) → IsPart order rest.now other → other ≡ parted result }
+{
+    front_piece(rest, order)
+}
+
+/// The packets of the records behind a header.
+fn read_records<'a>(
+    alloc: Global,
+    bytes: &'a [u8],
+    order: Order,
+) -> Result<Capture<'a>, CaptureFault>
+    ensures { Reads order bytes.entry.now result }
+{
+    let mut packets = Vec::new(alloc);
+    let mut rest = bytes;
+    'records: loop {
+        match next_record(rest, order) {
+            Piece::Whole {
+                moment,
+                frame,
+                rest: behind,
+            } => {
+                packets.push(Packet { moment, frame })?;
+                rest = behind;
+            }
+            Piece::End => {
+                return Ok(Capture {
+                    packets,
+                    truncated: false,
+                });
+            }
+            Piece::Truncated => {
+                return Ok(Capture {
+                    packets,
+                    truncated: true,
+                });
+            }
+            Piece::TooLong => return Err(CaptureFault::LongRecord(packets.len() as u64 + 1)),
+        }
+    }
+}
+
+/// The packets of a capture. Memory is answered where a growth was refused.
+pub fn read_capture<'a>(alloc: Global, bytes: &'a [u8]) -> Result<Capture<'a>, CaptureFault>
+    ensures ok { IfOk result (λ capture. IsCapture bytes.entry.now (map seen capture.packets.items) (end_of capture.truncated)) }
+    ensures fault { IfErr result (λ fault. fault ≢ Memory → IsCaptureFault bytes.entry.now fault) }
+    ensures accepts { (packets : List Seen) (end : End) → IsCapture bytes.entry.now packets end →
+        MatchResult result (λ capture. (map seen capture.packets.items ≡ packets) × (end_of capture.truncated ≡ end)) (λ fault. fault ≡ Memory) }
+    ensures refuses { (fault : CaptureFault) → IsCaptureFault bytes.entry.now fault →
+        MatchResult result (λ capture. ⊥) (λ found. (found ≡ fault) ⊎ (found ≡ Memory)) }
+{
+    let order = capture_header(bytes)?;
+    read_records(alloc, &bytes[24..], order)
+}

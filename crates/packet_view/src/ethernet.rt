@@ -1,0 +1,33 @@
+//! Ethernet headers with up to two VLAN tags.
+ghost use Rattle.std.specs.Prelude.{◌≡◌};
+ghost use Rattle.packet_view.specs.FrameSteps.{behind_tag, content_of, contents};
+
+use byteorder::{BigEndian, ByteOrder};
+
+/// The type that a frame's content has behind one tag, if a tag stands here. None where the tag is cut.
+#[inline]
+fn past_tag(kind: u16, content: &[u8]) -> Option<(u16, &[u8])>
+    ensures { contents result ≡ behind_tag kind content.now }
+{
+    match kind {
+        0x8100 | 0x88a8 => {
+            if content.len() < 4 {
+                return None;
+            }
+            Some((BigEndian::read_u16(&content[2..]), &content[4..]))
+        }
+        _ => Some((kind, content)),
+    }
+}
+
+/// The type of a frame and its content. None where the frame ends before them.
+#[inline]
+pub fn content(frame: &[u8]) -> Option<(u16, &[u8])>
+    ensures { contents result ≡ content_of frame.now }
+{
+    if frame.len() < 14 {
+        return None;
+    }
+    let (kind, content) = past_tag(BigEndian::read_u16(&frame[12..]), &frame[14..])?;
+    past_tag(kind, content)
+}

@@ -1,0 +1,90 @@
+//! Frames, and what they turn out to be.
+ghost use Rattle.std.specs.Prelude.{◌≡◌, ◌≤◌, length};
+ghost use Rattle.packet_view.specs.Frames.{IsFrame, View, viewed};
+ghost use Rattle.packet_view.specs.FrameSteps.{direction_of, packets, view_of, view_of_packet};
+
+use crate::packet::{IpPacket, Upper};
+use crate::tuple::{Direction, Fields, Mac, Tuple};
+use crate::{ethernet, ipv4, ipv6, transport};
+
+/// What a frame turns out to be.
+#[derive(Clone, Copy, Debug, PartialEq, Eq)]
+pub enum Frame {
+    /// A frame of another type than IPv4 and IPv6.
+    NotIp,
+    /// A frame whose Ethernet or IP headers aren't whole, or not right.
+    Malformed,
+    /// A packet that ends within the fields of its own protocol.
+    Short,
+    /// A packet, by its way at the interface.
+    Ip(Direction, Tuple),
+}
+
+/// The way of a frame with at least twelve bytes.
+#[inline]
+fn direction(frame: &[u8], own: Option<Mac>) -> Direction
+    requires { 12 ≤ length frame.now }
+    ensures { result ≡ direction_of frame.now own }
+{
+    let Some(mac) = own else {
+        return Direction::Inbound;
+    };
+    let address = mac.0;
+    if &frame[6..12] == address.as_slice() {
+        Direction::Outbound
+    } else {
+        Direction::Inbound
+    }
+}
+
+#[inline]
+fn frame_of(direction: Direction, packet: Option<IpPacket<'_>>) -> Frame
+    ensures { viewed result ≡ view_of_packet direction (packets packet.entry) }
+{
+    let Some(packet) = packet else {
+        return Frame::Malformed;
+    };
+    let (proto, fields) = match packet.upper {
+        Upper::Later(proto) => (proto, Fields::Absent),
+        Upper::First(proto, payload) => {
+            let Some(fields) = transport::fields(packet.family, proto, payload) else {
+                return Frame::Short;
+            };
+            (proto, fields)
+        }
+    };
+    Frame::Ip(
+        direction,
+        Tuple {
+            family: packet.family,
+            source: packet.source,
+            dest: packet.dest,
+            proto,
+            fields,
+        },
+    )
+}
+
+#[inline]
+fn read(frame: &[u8], own: Option<Mac>) -> Frame
+    ensures { viewed result ≡ view_of frame.now own }
+{
+    let Some((kind, content)) = ethernet::content(frame) else {
+        return Frame::Malformed;
+    };
+    let packet = match kind {
+        0x0800 => ipv4::packet(content),
+        0x86dd => ipv6::packet(content),
+        _ => return Frame::NotIp,
+    };
+    frame_of(direction(frame, own), packet)
+}
+
+/// Reads a frame as the interface with this address has it: from that address it goes out, from every other it comes in.
+#[inline]
+pub fn view(frame: &[u8], own: Option<Mac>) -> Frame
+    ensures shown { IsFrame frame.now own (viewed result) }
+    ensures only { (other : View) → IsFrame frame.now own other → other ≡ viewed result }
+{
+    read(frame, own)
+}

@@ -1,0 +1,27 @@
+//! What a reader of the standards expects of the definitions, each proved of all frames at once.
+ghost use Rattle.std.specs.Prelude.{◌≡◌, ◌↔◌, ◌++◌, ℕ, List, Option};
+ghost use Rattle.packet_view.specs.declared.tuple.Direction.{Direction};
+ghost use Rattle.packet_view.specs.declared.tuple.Family.{Family};
+ghost use Rattle.packet_view.specs.declared.tuple.Mac.{Mac};
+ghost use Rattle.packet_view.specs.Ethernet.{IsEthernet};
+ghost use Rattle.packet_view.specs.Frames.{EndsWithin, Ip, IsFrame, View, ether_type};
+ghost use Rattle.packet_view.specs.Tuples.{Facts};
+
+/// Each frame turns out to be one thing, and no other.
+pub fn each_frame_has_one_view()
+    ensures some { (frame : List ℕ) (own : Option Mac) → (view : View) × IsFrame frame own view }
+    ensures one { (frame : List ℕ) (own : Option Mac) (view other : View) →
+        IsFrame frame own view → IsFrame frame own other → view ≡ other }
+{}
+
+/// Bytes behind the end of an IP packet that declares its length never change what the frame is.
+pub fn bytes_behind_the_packet_are_not_seen()
+    ensures { (frame more source packet : List ℕ) (family : Family) → IsEthernet frame source (ether_type family) packet →
+        EndsWithin family packet → (own : Option Mac) (view : View) → IsFrame frame own view ↔ IsFrame (frame ++ more) own view }
+{}
+
+/// The interface's own address decides the way of a packet, and nothing else of it.
+pub fn own_address_decides_the_way_alone()
+    ensures { (frame : List ℕ) (own other : Option Mac) (direction : Direction) (tuple : Facts) →
+        IsFrame frame own (Ip direction tuple) → (way : Direction) × IsFrame frame other (Ip way tuple) }
+{}

@@ -1,0 +1,24 @@
+//! Captures of the classic pcap format, and Ethernet frames as IP packets with their five-tuples.
+#![tactic(auto)]
+
+mod capture;
+mod ethernet;
+mod frame;
+mod ipv4;
+mod ipv6;
+mod laws;
+mod packet;
+#[cfg(test)]
+mod tests;
+mod transport;
+mod tuple;
+
+pub use capture::{
+    Capture, CaptureFault, Order, Packet, Piece, capture_header, next_record, read_capture,
+};
+pub use frame::{Frame, view};
+pub use laws::{
+    bytes_behind_the_packet_are_not_seen, each_frame_has_one_view,
+    own_address_decides_the_way_alone,
+};
+pub use tuple::{Direction, Family, Fields, Mac, Tuple};

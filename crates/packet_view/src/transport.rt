@@ -1,0 +1,46 @@
+//! The first bytes of TCP, UDP and ICMP.
+ghost use Rattle.std.specs.Prelude.{◌≡◌, IsTrue, IfSome};
+ghost use Rattle.packet_view.specs.Addresses.{fields_suit};
+ghost use Rattle.packet_view.specs.FrameSteps.{fields_of};
+
+use crate::tuple::{Family, Fields};
+use byteorder::{BigEndian, ByteOrder};
+
+/// The fields under a protocol. None where the payload ends before they do.
+#[inline]
+pub fn fields(family: Family, proto: u8, payload: &[u8]) -> Option<Fields>
+    ensures exact { result ≡ fields_of family proto payload.now }
+    ensures suit { IfSome result (λ fields. IsTrue (fields_suit family proto fields)) }
+{
+    match (family, proto) {
+        (_, 6) => {
+            if payload.len() < 14 {
+                return None;
+            }
+            Some(Fields::Tcp {
+                from: BigEndian::read_u16(payload),
+                to: BigEndian::read_u16(&payload[2..]),
+                flags: payload[13],
+            })
+        }
+        (_, 17) => {
+            if payload.len() < 4 {
+                return None;
+            }
+            Some(Fields::Ports {
+                from: BigEndian::read_u16(payload),
+                to: BigEndian::read_u16(&payload[2..]),
+            })
+        }
+        (Family::V4, 1) | (Family::V6, 58) => {
+            if payload.len() < 2 {
+                return None;
+            }
+            Some(Fields::Icmp {
+                kind: payload[0],
+                code: payload[1],
+            })
+        }
+        _ => Some(Fields::Absent),
+    }
+}

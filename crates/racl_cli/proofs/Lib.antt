@@ -1,0 +1,5 @@
+pub mod CommandLemmas
+pub mod InputLemmas
+pub mod JudgingLemmas
+pub mod NumberLemmas
+pub mod RunLemmas

@@ -1,0 +1,21 @@
+use Rattle.std.proofs.Common.{◌∙◌, refl, sym, subst, inl, inr, ap}
+use Rattle.std.proofs.lemmas.Result.{IfErr-weaker, err_from_is_err_and}
+use Rattle.racl_cli.proofs.RunLemmas.{fault_of_known_parts, fault_without_parts, fault_of_wrong_policy, fault_of_right_policy}
+use Rattle.racl_cli.proofs.run.report_input.Goals as goal
+
+pub returns-in_default-clause-refuses : goal.returns-in_default-clause-refuses
+returns-in_default-clause-refuses c = λ fault of. inl (sym (fault_without_parts _ fault c.in_default.ensures.none of))
+
+pub returns-in_err-policy-clause-refuses : goal.returns-in_err-policy-clause-refuses
+returns-in_err-policy-clause-refuses c = λ fault of.
+    let p = err_from_is_err_and c.from_residual.result c.from_residual.ensures.1 in
+    rw (p.1, p.2) (fault_of_wrong_policy _ _ fault c.in_err-policy.ensures.accepts c.in_err-policy.ensures.refuses (fault_of_known_parts _ _ fault c.in-Some.ensures.some of))
+
+pub returns-clause-fault : goal.returns-clause-fault
+returns-clause-fault c =
+    IfErr-weaker c.report_content.result _ _ (λ fault of differs. inr (_, c.in-Some.ensures.some, inr (_, c.in_ok-policy.ensures.ok, of differs))) c.report_content.ensures.fault
+
+pub returns-clause-refuses : goal.returns-clause-refuses
+returns-clause-refuses c = λ fault of.
+    c.report_content.ensures.refuses fault
+    (fault_of_right_policy _ fault c.in_ok-policy.ensures.refuses (fault_of_known_parts _ _ fault c.in-Some.ensures.some of))

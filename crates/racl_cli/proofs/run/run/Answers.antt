@@ -1,0 +1,27 @@
+use Rattle.std.proofs.Common.{◌≡◌, ◌⊎◌, inl, inr}
+use Rattle.std.proofs.lemmas.Result.{err_from_is_err_and}
+use Rattle.racl_cli.specs.Faults.{RefusesRead}
+use Rattle.racl_cli.proofs.RunLemmas.{device_or, excluded_by_input, fault_of_input, read_bytes}
+use Rattle.racl_cli.proofs.run.run.Goals as goal
+
+pub returns-in_err-report-clause-fault : goal.returns-in_err-report-clause-fault
+returns-in_err-report-clause-fault g c =
+    let p = err_from_is_err_and c.from_residual-in_err-report.result c.from_residual-in_err-report.ensures.1 in
+    let read = read_bytes _ _ _ _ c.in_ok-bytes.ensures.whole c.deref.ensures.value c.deref.ensures.len c.in_ok-bytes.ensures.few in
+    rw (p.1, p.2) (device_or _ _ (λ other. fault_of_input _ _ _ read (c.in_err-report.ensures.fault other)))
+
+pub returns-in_err-report-clause-refuses : goal.returns-in_err-report-clause-refuses
+returns-in_err-report-clause-refuses g c =
+    let p = err_from_is_err_and c.from_residual-in_err-report.result c.from_residual-in_err-report.ensures.1 in
+    let read = read_bytes _ _ _ _ c.in_ok-bytes.ensures.whole c.deref.ensures.value c.deref.ensures.len c.in_ok-bytes.ensures.few in
+    rw (p.1, p.2) (excluded_by_input _ _ _ read (λ fault of. elim (c.in_err-report.ensures.refuses fault of) [ inl same ↦ inl same | inr memory ↦ inr (inl memory) ]))
+
+pub returns-in_err-write_all-clause-refuses : goal.returns-in_err-write_all-clause-refuses
+returns-in_err-write_all-clause-refuses g c =
+    let read = read_bytes _ _ _ _ c.in_ok-bytes.ensures.whole c.deref.ensures.value c.deref.ensures.len c.in_ok-bytes.ensures.few in
+    excluded_by_input _ _ _ read (λ fault of. absurd (c.in_ok-report.ensures.refuses fault of))
+
+pub returns-clause-refuses : goal.returns-clause-refuses
+returns-clause-refuses g c =
+    let read = read_bytes _ _ _ _ c.in_ok-bytes.ensures.whole c.deref.ensures.value c.deref.ensures.len c.in_ok-bytes.ensures.few in
+    excluded_by_input _ _ _ read c.in_ok-report.ensures.refuses

@@ -1,0 +1,11 @@
+pub mod Command
+pub mod Devices
+pub mod Faults
+pub mod Filters
+pub mod Inputs
+pub mod Judging
+pub mod Reports
+pub mod Runs
+pub mod Statuses
+pub mod Stores
+pub mod Updates

@@ -1,0 +1,40 @@
+-- What a run has filtered, from the bytes of its input.
+use Rattle.std.specs.Prelude.{◌≡◌, ℕ, Bool, List}
+use Rattle.packet_view.specs.Captures.{IsCapture, Seen, end_of}
+use Rattle.acl_policy.specs.Policies.{IsPolicyText, PolicyFacts}
+use Rattle.session_state.specs.declared.timeouts.Timeouts.{Timeouts}
+use Rattle.racl_cli.specs.declared.input.Form.{Form}
+use Rattle.racl_cli.specs.declared.report.Report.{Report}
+use Rattle.racl_cli.specs.declared.verdict.Verdict.{Verdict}
+use Rattle.racl_cli.specs.Filters.{AreVerdicts}
+use Rattle.racl_cli.specs.Inputs.{IsContent, IsInput, Parts}
+use Rattle.racl_cli.specs.Reports.{report_of, totals_of}
+
+-- what a capture's packets met, and whether the capture ends within a record
+pub record Outcome : Type 0 where
+  pub verdicts : List Verdict
+  pub truncated : Bool
+
+-- the outcome is that of the one-thread filter on the capture of these bytes
+pub record FiltersCapture (times : Timeouts) (policy : PolicyFacts) (capture : List ℕ) (outcome : Outcome) : Type 0 where
+  pub packets : List Seen
+  pub records : IsCapture capture packets (end_of outcome.truncated)
+  pub verdicts : AreVerdicts times policy packets outcome.verdicts
+
+pub record FiltersContent (times : Timeouts) (policy : PolicyFacts) (form : Form) (content : List ℕ) (outcome : Outcome) : Type 0 where
+  pub capture : List ℕ
+  pub spelt : IsContent form content capture
+  pub filters : FiltersCapture times policy capture outcome
+
+-- the input is a policy, a marker line and a capture, and the outcome that of the one-thread filter
+pub record FiltersInput (times : Timeouts) (bytes : List ℕ) (outcome : Outcome) : Type 0 where
+  pub parts : Parts
+  pub parted : IsInput bytes parts
+  pub policy : PolicyFacts
+  pub says : IsPolicyText parts.policy policy
+  pub filters : FiltersContent times policy parts.form parts.content outcome
+
+-- the report tells the outcome
+pub record Tells (outcome : Outcome) (report : Report) : Type 0 where
+  pub text : report.text.items ≡ report_of outcome.verdicts outcome.truncated
+  pub totals : report.totals ≡ totals_of outcome.verdicts outcome.truncated

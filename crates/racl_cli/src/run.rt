@@ -1,0 +1,125 @@
+//! One run of the filter, from the bytes of an input to the report.
+ghost use Rattle.std.specs.Prelude.{◌≡◌, ◌≢◌, ◌+◌, ◌-◌, ◌<◌, ◌≤◌, ◌^◌, ◌⊎◌, ◌↔◌, Err, IfOk, IfErr, IfSome, length};
+ghost use Rattle.std.specs.Io.KnownBytes.{Appends};
+ghost use Rattle.acl_policy.specs.Policies.{policy_facts};
+ghost use Rattle.racl_cli.specs.declared.fault.Fault.{Fault};
+ghost use Rattle.racl_cli.specs.declared.fault.Fault.TheVariants.{Memory};
+ghost use Rattle.racl_cli.specs.Faults.{IsFaultOfBytes, IsFaultOfCapture, IsFaultOfContent, IsInputFault, IsDeviceFault, Refuses, RefusesRead};
+ghost use Rattle.racl_cli.specs.Inputs.{parts_of};
+ghost use Rattle.racl_cli.specs.Reports.{report_of, totals_of};
+ghost use Rattle.racl_cli.specs.Runs.{FiltersCapture, FiltersContent, FiltersInput, Outcome, Tells};
+ghost use Rattle.racl_cli.specs.Statuses.{status_of};
+
+use crate::content::decoded;
+use crate::device::{Sink, Source};
+use crate::fault::Fault;
+use crate::filter::verdicts_on;
+use crate::input::{Form, Input, parts};
+use crate::report::{Report, Totals, report_on};
+use crate::settings::Options;
+use crate::transfer::{read_input, write_all};
+use acl_policy::{Policy, read_policy};
+use packet_view::read_capture;
+use session_state::Timeouts;
+use std::alloc::Global;
+
+fn report_capture(
+    alloc: Global,
+    times: &Timeouts,
+    policy: &Policy,
+    capture: &[u8],
+) -> Result<Report, Fault>
+    ensures ok { IfOk result (λ report. (outcome : Outcome) × FiltersCapture times.now (policy_facts policy.now) capture.now outcome × Tells outcome report) }
+    ensures fault { IfErr result (λ fault. fault ≢ Memory → IsFaultOfCapture capture.now fault) }
+    ensures refuses { (fault : Fault) → IsFaultOfCapture capture.now fault → Refuses fault result }
+{
+    let capture = read_capture(alloc, capture)?;
+    let verdicts = verdicts_on(alloc, times, policy, &capture.packets)?;
+    let report = report_on(alloc, &verdicts, capture.truncated)?;
+    Ok(report)
+}
+
+fn report_content(
+    alloc: Global,
+    times: &Timeouts,
+    policy: &Policy,
+    form: Form,
+    content: &[u8],
+) -> Result<Report, Fault>
+    ensures ok { IfOk result (λ report. (outcome : Outcome) × FiltersContent times.now (policy_facts policy.now) form content.now outcome × Tells outcome report) }
+    ensures fault { IfErr result (λ fault. fault ≢ Memory → IsFaultOfContent form content.now fault) }
+    ensures refuses { (fault : Fault) → IsFaultOfContent form content.now fault → Refuses fault result }
+{
+    match form {
+        Form::Binary => report_capture(alloc, times, policy, content),
+        Form::Hexadecimal => {
+            let capture = decoded(alloc, content)?;
+            report_capture(alloc, times, policy, &capture)
+        }
+    }
+}
+
+/// The report on an input.
+fn report_input(alloc: Global, times: &Timeouts, bytes: &[u8]) -> Result<Report, Fault>
+    ensures ok { IfOk result (λ report. (outcome : Outcome) × FiltersInput times.now bytes.now outcome × Tells outcome report) }
+    ensures fault { IfErr result (λ fault. fault ≢ Memory → IsFaultOfBytes bytes.now fault) }
+    ensures refuses { (fault : Fault) → IsFaultOfBytes bytes.now fault → Refuses fault result }
+{
+    let Some(input) = parts(bytes) else {
+        return Err(Fault::NoCapture);
+    };
+    let policy = read_policy(alloc, input.policy)?;
+    report_content(alloc, times, &policy, input.form, input.content)
+}
+
+/// Reads an input, filters its capture by its policy, and writes the report.
+///
+/// Nothing is written before the whole input was judged.
+pub fn run<R: Source, W: Sink>(
+    alloc: Global,
+    options: &Options,
+    reader: &mut R,
+    writer: &mut W,
+) -> Result<Totals, Fault>
+    requires reader { R.failures reader.old < 2 ^ 64 - 1 }
+    requires writer { W.failures writer.old < 2 ^ 64 - 1 }
+
+    // What was written is the report on what was read.
+    ensures ok { IfOk result (λ totals. IfSome (R.bytes reader.old) (λ bytes. (outcome : Outcome)
+        × FiltersInput options.now.times bytes outcome
+        × Appends (W.bytes writer.old) (W.bytes writer.new) (report_of outcome.verdicts outcome.truncated)
+        × (totals ≡ totals_of outcome.verdicts outcome.truncated))) }
+
+    // A fault of the input is answered where its cause stands first, and then nothing else of the input.
+    ensures fault { IfErr result (λ fault. IsDeviceFault fault ⊎ IfSome (R.bytes reader.old) (λ bytes. IsInputFault bytes fault)) }
+    ensures refuses { IfSome (R.bytes reader.old) (λ bytes. (fault : Fault) → IsInputFault bytes fault → RefusesRead fault result) }
+
+    // A device's fault is answered where it failed, and it failed once.
+    ensures read { (result ≡ Err Fault.Read) ↔ (R.failures reader.new ≡ R.failures reader.old + 1) }
+    ensures sound { result ≢ Err Fault.Read → R.failures reader.new ≡ R.failures reader.old }
+    ensures write { (result ≡ Err Fault.Write) ↔ (W.failures writer.new ≡ W.failures writer.old + 1) }
+    ensures unwritten { IfErr result (λ fault. fault ≢ Fault.Write → writer.new ≡ writer.old) }
+{
+    let bytes = read_input(alloc, reader)?;
+    let report = report_input(alloc, &options.times, &bytes)?;
+    write_all(writer, &report.text)?;
+    Ok(report.totals)
+}
+
+/// The status with which the program ends: 0 done, 3 done but the capture was truncated, 1 a fault
+/// of the input, 4 want of memory or a device that failed.
+pub fn status(outcome: &Result<Totals, Fault>) -> u8
+    ensures { result ≡ status_of outcome.now }
+{
+    match outcome {
+        Ok(totals) => {
+            if totals.truncated {
+                3
+            } else {
+                0
+            }
+        }
+        Err(Fault::Memory | Fault::Read | Fault::Write) => 4,
+        Err(_) => 1,
+    }
+}

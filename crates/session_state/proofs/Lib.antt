@@ -1,0 +1,6 @@
+pub mod FlagLemmas
+pub mod FlowLemmas
+pub mod KeyLemmas
+pub mod SameFlowLemmas
+pub mod SessionLemmas
+pub mod DecisionLemmas

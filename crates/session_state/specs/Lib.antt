@@ -1,0 +1,5 @@
+pub mod Decisions
+pub mod Flags
+pub mod Flows
+pub mod SameFlow
+pub mod Sessions

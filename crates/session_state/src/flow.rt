@@ -1,0 +1,122 @@
+//! Flows: both directions of an exchange under one key.
+ghost use Rattle.std.specs.Prelude.{◌≡◌, ◌<◌, Bool, IfSome, Some};
+ghost use Rattle.packet_view.specs.Addresses.{address_limit};
+ghost use Rattle.packet_view.specs.Tuples.{facts};
+ghost use Rattle.session_state.specs.declared.flow.Flow.{Flow};
+ghost use Rattle.session_state.specs.Flows;
+ghost use Rattle.session_state.specs.Flows.{IsFlow, echo_flow, flow_by_order, flow_of, key_of};
+
+use crate::end::{End, is_first, receiver, sender};
+use packet_view::{Family, Fields, Tuple};
+
+/// What names a flow in its family's table: addresses, ports and protocol of both ends.
+#[derive(Clone, Copy, Debug, PartialEq, Eq)]
+pub enum FlowKey {
+    /// Of IPv4.
+    Four([u64; 2]),
+    /// Of IPv6.
+    Six([u64; 5]),
+}
+
+/// A packet's place in its flow.
+#[derive(Clone, Copy, Debug, PartialEq, Eq)]
+pub struct Flow {
+    pub key: FlowKey,
+    /// The sender's side: 0 for the end that stands first in the key, else 1.
+    pub side: u8,
+    /// Whether the packet may start a session.
+    pub starts: bool,
+}
+
+fn request_type(family: Family) -> u8
+    ensures { result ≡ Flows.request_type family }
+{
+    match family {
+        Family::V4 => 8,
+        Family::V6 => 128,
+    }
+}
+
+fn reply_type(family: Family) -> u8
+    ensures { result ≡ Flows.reply_type family }
+{
+    match family {
+        Family::V4 => 0,
+        Family::V6 => 129,
+    }
+}
+
+fn key(family: Family, first: End, second: End, proto: u8) -> FlowKey
+    requires first { first.address < address_limit family }
+    requires second { second.address < address_limit family }
+    ensures { result ≡ key_of family first second proto }
+{
+    let ports = (u64::from(first.port) << 48)
+        + (u64::from(second.port) << 32)
+        + (u64::from(proto) << 24);
+    match family {
+        Family::V4 => FlowKey::Four([((first.address << 32) + second.address) as u64, ports]),
+        Family::V6 => FlowKey::Six([
+            (first.address >> 64) as u64,
+            (first.address % (1 << 64)) as u64,
+            (second.address >> 64) as u64,
+            (second.address % (1 << 64)) as u64,
+            ports,
+        ]),
+    }
+}
+
+fn oriented(tuple: &Tuple, first: End, second: End, starts: bool) -> Flow
+    requires first { first.address < address_limit tuple.now.family }
+    requires second { second.address < address_limit tuple.now.family }
+    ensures { result ≡ Flows.oriented (facts tuple.now) first second starts }
+{
+    Flow {
+        key: key(tuple.family, first, second, tuple.proto),
+        side: u8::from(sender(tuple) != first),
+        starts,
+    }
+}
+
+fn by_order(tuple: &Tuple) -> Flow
+    ensures { result ≡ flow_by_order (facts tuple.now) }
+{
+    let from = sender(tuple);
+    let to = receiver(tuple);
+    if is_first(from, to) {
+        oriented(tuple, from, to, true)
+    } else {
+        oriented(tuple, to, from, true)
+    }
+}
+
+fn echo(tuple: &Tuple, kind: u8) -> Option<Flow>
+    ensures { result ≡ echo_flow (facts tuple.now) kind }
+{
+    let from = sender(tuple);
+    let to = receiver(tuple);
+    if kind == request_type(tuple.family) {
+        return Some(oriented(tuple, from, to, true));
+    }
+    if kind == reply_type(tuple.family) {
+        return Some(oriented(tuple, to, from, false));
+    }
+    None
+}
+
+/// The flow of a packet, `None` where it takes no part in sessions.
+///
+/// TCP and UDP packets take part, and echo requests and replies of their own family's ICMP (RFC 792, RFC 4443).
+#[tactic(auto, using(crate::proofs::FlowLemmas::found, crate::proofs::FlowLemmas::only))]
+pub fn orient(tuple: &Tuple) -> Option<Flow>
+    ensures value { result ≡ flow_of (facts tuple.now) }
+    ensures found { IfSome result (IsFlow (facts tuple.now)) }
+    ensures side { IfSome result (λ flow. flow.side < 2) }
+    ensures only { (flow : Flow) → IsFlow (facts tuple.now) flow → result ≡ Some flow }
+{
+    match tuple.fields {
+        Fields::Absent => None,
+        Fields::Ports { .. } | Fields::Tcp { .. } => Some(by_order(tuple)),
+        Fields::Icmp { kind, .. } => echo(tuple, kind),
+    }
+}

@@ -1,0 +1,22 @@
+//! Flow keys, sessions, and the decision of a packet on its session.
+#![tactic(auto)]
+
+mod end;
+mod flags;
+mod flow;
+mod laws;
+mod packet_patch;
+mod session;
+mod timeouts;
+
+pub use flow::{Flow, FlowKey, orient};
+pub use laws::{
+    both_directions_share_a_key, keys_tell_flows, last_never_falls, last_second_counts,
+    replies_start_nothing, sides_tell_senders, tuples_are_in_range, words_tell_sessions,
+};
+pub use packet_patch::PacketPatch;
+pub use session::Session;
+pub use timeouts::Timeouts;
+
+#[cfg(test)]
+mod tests;
