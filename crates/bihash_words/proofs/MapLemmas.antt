@@ -12,7 +12,8 @@ use Rattle.bihash_words.specs.declared.patch.Reply.TheVariants.{Changed, Full, K
 use Rattle.bihash_words.specs.Maps.{Answers, Bounds, Crowded, Entering, Event, Exhausted, Idle, Pairs, Present, Row, Step, changed, effect_of, most_pairs, row_with}
 
 -- the map is left or changed
-left_or_changed : (r : Row) (b : Bounds) (m n : Pairs) (e : Event) → Answers r b m e n → (n ≡ m) ⊎ (n ≡ changed m e.key e.change)
+left_or_changed : (r : Row) (b : Bounds) (m n : Pairs) (e : Event) → Answers r b m e n
+    → (n ≡ m) ⊎ (n ≡ changed m e.key e.change)
 left_or_changed Idle b m n e h = inl h.1
 left_or_changed Exhausted b m n e h = inl h.1
 left_or_changed Crowded b m n e h = inl h.1
@@ -20,7 +21,8 @@ left_or_changed Entering b m n e (inl h) = inr h.1
 left_or_changed Entering b m n e (inr h) = inl h.1
 left_or_changed Present b m n e h = inr h.1
 
-unchanged_at : (r : Row) (b : Bounds) (m n : Pairs) (e : Event) → Answers r b m e n → ((found : Option ℕ) → e.reply ≢ Changed found) → n ≡ m
+unchanged_at : (r : Row) (b : Bounds) (m n : Pairs) (e : Event) → Answers r b m e n
+    → ((found : Option ℕ) → e.reply ≢ Changed found) → n ≡ m
 unchanged_at Idle b m n e h other = h.1
 unchanged_at Exhausted b m n e h other = h.1
 unchanged_at Crowded b m n e h other = h.1
@@ -29,13 +31,16 @@ unchanged_at Entering b m n e (inr h) other = h.1
 unchanged_at Present b m n e h other = absurd (other e.found h.0)
 
 -- a call that isn't answered Changed leaves the map
-pub unchanged : (b : Bounds) (m n : Pairs) (w : ℕ) (e : Event) → Step b m w e n → ((found : Option ℕ) → e.reply ≢ Changed found) → n ≡ m
+pub unchanged : (b : Bounds) (m n : Pairs) (w : ℕ) (e : Event) → Step b m w e n
+    → ((found : Option ℕ) → e.reply ≢ Changed found) → n ≡ m
 unchanged b m n w e step other = unchanged_at _ b m n e step.answers other
 
 -- a call that keeps is answered Kept
-pub kept : (b : Bounds) (m n : Pairs) (w : ℕ) (e : Event) → Step b m w e n → e.change ≡ Keep → e.reply ≡ Kept (get m e.key)
+pub kept : (b : Bounds) (m n : Pairs) (w : ℕ) (e : Event) → Step b m w e n → e.change ≡ Keep
+    → e.reply ≡ Kept (get m e.key)
 kept b m n w e step keep =
-    let answers : Answers Idle b m e n = subst (λ c. Answers (row_with b (len m) w e.found (effect_of c e.found)) b m e n) keep step.answers in
+    let row : Change → Row = λ c. row_with b (len m) w e.found (effect_of c e.found) in
+    let answers : Answers Idle b m e n = subst (λ c. Answers (row c) b m e n) keep step.answers in
     answers.0 ∙ ap Kept step.found
 
 -- another key is not in the order's way
@@ -47,13 +52,18 @@ apart key other differ =
       | Greater ↦ λ is. refl
     ] refl
 
-others_after : (m : Pairs) (key other : List ℕ) (change : Change) → other ≢ key → get (changed m key change) other ≡ get m other
+others_after : (m : Pairs) (key other : List ℕ) (change : Change) → other ≢ key
+    → get (changed m key change) other ≡ get m other
 others_after m key other Keep differ = refl
-others_after m key other (Set value) differ = get-insert nat_list_cmp_total m key value other ∙ ap (λ b. cond b (Some value) (get m other)) (apart other key differ)
-others_after m key other Remove differ = get-remove nat_list_cmp_total m key other ∙ ap (λ b. cond b None (get m other)) (apart other key differ)
+others_after m key other (Set value) differ =
+    get-insert nat_list_cmp_total m key value other
+    ∙ ap (λ b. cond b (Some value) (get m other)) (apart other key differ)
+others_after m key other Remove differ =
+    get-remove nat_list_cmp_total m key other ∙ ap (λ b. cond b None (get m other)) (apart other key differ)
 
 -- the values of other keys stay
-pub others_stay : (b : Bounds) (m n : Pairs) (w : ℕ) (e : Event) (key : List ℕ) → Step b m w e n → key ≢ e.key → get n key ≡ get m key
+pub others_stay : (b : Bounds) (m n : Pairs) (w : ℕ) (e : Event) (key : List ℕ) → Step b m w e n
+    → key ≢ e.key → get n key ≡ get m key
 others_stay b m n w e key step differ =
     elim (left_or_changed _ b m n e step.answers) [
       | inl same ↦ ap (λ x. get x key) same
@@ -64,7 +74,8 @@ others_stay b m n w e key step differ =
 limited : (b : Bounds) (w : ℕ) (r : Row) (m n : Pairs) (e : Event) (found : Option ℕ)
     → Answers (if nat_lt w b.limit then r else Exhausted) b m e n → e.reply ≡ Changed found → w < b.limit
 limited b w r m n e found =
-    elim (nat_lt w b.limit) as (λ t. nat_lt w b.limit ≡ t → Answers (if t then r else Exhausted) b m e n → e.reply ≡ Changed found → w < b.limit) [
+    elim (nat_lt w b.limit) as (λ t. nat_lt w b.limit ≡ t → Answers (if t then r else Exhausted) b m e n
+    → e.reply ≡ Changed found → w < b.limit) [
       | true ↦ λ test h is. ltb-true w b.limit test
       | false ↦ λ test h is. absurd (let clash = sym h.0 ∙ is in cc)
     ] refl
@@ -72,25 +83,34 @@ limited b w r m n e found =
 limited_at : (b : Bounds) (pairs w : ℕ) (at : Option ℕ) (effect : Change) (m n : Pairs) (e : Event) (found : Option ℕ)
     → Answers (row_with b pairs w at effect) b m e n → e.reply ≡ Changed found → w < b.limit
 limited_at b pairs w at Keep m n e found h is = absurd (let clash = sym h.0 ∙ is in cc)
-limited_at b pairs w None (Set value) m n e found h is = limited b w (if nat_lt pairs (most_pairs b) then Entering else Crowded) m n e found h is
+limited_at b pairs w None (Set value) m n e found h is =
+    limited b w (if nat_lt pairs (most_pairs b) then Entering else Crowded) m n e found h is
 limited_at b pairs w (Some old) (Set value) m n e found h is = limited b w Present m n e found h is
 limited_at b pairs w at Remove m n e found h is = limited b w Present m n e found h is
 
 -- a change is made only where the map may still change
-pub within_limit : (b : Bounds) (m n : Pairs) (w : ℕ) (e : Event) (found : Option ℕ) → Step b m w e n → e.reply ≡ Changed found → w < b.limit
-within_limit b m n w e found step is = limited_at b (len m) w e.found (effect_of e.change e.found) m n e found step.answers is
+pub within_limit : (b : Bounds) (m n : Pairs) (w : ℕ) (e : Event) (found : Option ℕ) → Step b m w e n
+    → e.reply ≡ Changed found → w < b.limit
+within_limit b m n w e found step is =
+    limited_at b (len m) w e.found (effect_of e.change e.found) m n e found step.answers is
 
 -- a new key finds no room, or room
 abbrev RoomCases : Bounds → Pairs → Pairs → Event → Type 0
-RoomCases b m n e = ((n ≡ m) × (e.reply ≡ Full → most_pairs b ≤ len m)) ⊎ ((n ≡ changed m e.key e.change) × (e.reply ≡ Changed None) × (len m < most_pairs b))
+RoomCases b m n e =
+    ((n ≡ m) × (e.reply ≡ Full → most_pairs b ≤ len m))
+    ⊎ ((n ≡ changed m e.key e.change) × (e.reply ≡ Changed None) × (len m < most_pairs b))
 
-entering : (b : Bounds) (m n : Pairs) (e : Event) → len m < most_pairs b → Answers Entering b m e n → RoomCases b m n e
+entering : (b : Bounds) (m n : Pairs) (e : Event) → len m < most_pairs b → Answers Entering b m e n
+    → RoomCases b m n e
 entering b m n e room (inl h) = inr (h.1, h.0, room)
-entering b m n e room (inr ((log2, left, refused, may, few), same)) = inl (same, λ is. absurd (let clash = sym refused ∙ is in cc))
+entering b m n e room (inr ((log2, left, refused, may, few), same)) =
+    inl (same, λ is. absurd (let clash = sym refused ∙ is in cc))
 
-by_room : (b : Bounds) (m n : Pairs) (e : Event) → Answers (if nat_lt (len m) (most_pairs b) then Entering else Crowded) b m e n → RoomCases b m n e
+by_room : (b : Bounds) (m n : Pairs) (e : Event)
+    → Answers (if nat_lt (len m) (most_pairs b) then Entering else Crowded) b m e n → RoomCases b m n e
 by_room b m n e =
-    elim (nat_lt (len m) (most_pairs b)) as (λ t. nat_lt (len m) (most_pairs b) ≡ t → Answers (if t then Entering else Crowded) b m e n → RoomCases b m n e) [
+    elim (nat_lt (len m) (most_pairs b)) as (λ t. nat_lt (len m) (most_pairs b) ≡ t
+    → Answers (if t then Entering else Crowded) b m e n → RoomCases b m n e) [
       | true ↦ λ test h. entering b m n e (ltb-true (len m) (most_pairs b) test) h
       | false ↦ λ test h. inl (h.1, λ is. ltb-false (len m) (most_pairs b) test)
     ] refl
@@ -100,64 +120,86 @@ room_cases : (b : Bounds) (m n : Pairs) (w : ℕ) (e : Event)
     → Answers (if nat_lt w b.limit then (if nat_lt (len m) (most_pairs b) then Entering else Crowded) else Exhausted) b m e n
     → RoomCases b m n e
 room_cases b m n w e =
-    elim (nat_lt w b.limit) as (λ t. Answers (if t then (if nat_lt (len m) (most_pairs b) then Entering else Crowded) else Exhausted) b m e n → RoomCases b m n e) [
+    elim (nat_lt w b.limit) as (λ t.
+    Answers (if t then (if nat_lt (len m) (most_pairs b) then Entering else Crowded) else Exhausted) b m e n
+    → RoomCases b m n e) [
       | true ↦ by_room b m n e
       | false ↦ λ h. inl (h.1, λ is. absurd (let clash = sym h.0 ∙ is in cc))
     ]
 
-not_full : (b : Bounds) (m n : Pairs) (w : ℕ) (e : Event) → Answers (if nat_lt w b.limit then Present else Exhausted) b m e n → e.reply ≡ Full → ⊥
+not_full : (b : Bounds) (m n : Pairs) (w : ℕ) (e : Event)
+    → Answers (if nat_lt w b.limit then Present else Exhausted) b m e n → e.reply ≡ Full → ⊥
 not_full b m n w e =
     elim (nat_lt w b.limit) as (λ t. Answers (if t then Present else Exhausted) b m e n → e.reply ≡ Full → ⊥) [
       | true ↦ λ h is. (let clash = sym h.0 ∙ is in cc)
       | false ↦ λ h is. (let clash = sym h.0 ∙ is in cc)
     ]
 
-full_at : (b : Bounds) (m n : Pairs) (w : ℕ) (e : Event) (at : Option ℕ) (effect : Change) → Answers (row_with b (len m) w at effect) b m e n → e.reply ≡ Full → most_pairs b ≤ len m
+full_at : (b : Bounds) (m n : Pairs) (w : ℕ) (e : Event) (at : Option ℕ) (effect : Change)
+    → Answers (row_with b (len m) w at effect) b m e n → e.reply ≡ Full → most_pairs b ≤ len m
 full_at b m n w e at Keep h is = absurd (let clash = sym h.0 ∙ is in cc)
 full_at b m n w e None (Set value) h is =
-    elim (room_cases b m n w e h) [ inl (same, full) ↦ full is | inr (after, entered, room) ↦ absurd (let clash = sym entered ∙ is in cc) ]
+    elim (room_cases b m n w e h) [
+      | inl (same, full) ↦ full is
+      | inr (after, entered, room) ↦ absurd (let clash = sym entered ∙ is in cc)
+    ]
 full_at b m n w e (Some old) (Set value) h is = absurd (not_full b m n w e h is)
 full_at b m n w e at Remove h is = absurd (not_full b m n w e h is)
 
 -- Full is answered only where the map has its most pairs
-pub full_at_bound : (b : Bounds) (m n : Pairs) (w : ℕ) (e : Event) → Step b m w e n → e.reply ≡ Full → most_pairs b ≤ len m
+pub full_at_bound : (b : Bounds) (m n : Pairs) (w : ℕ) (e : Event) → Step b m w e n → e.reply ≡ Full
+    → most_pairs b ≤ len m
 full_at_bound b m n w e step is = full_at b m n w e e.found (effect_of e.change e.found) step.answers is
 
 -- the number of pairs after a change of a key that is there
-len_after_set : (m : Pairs) (key : List ℕ) (value old : ℕ) → get m key ≡ Some old → len (insert m key value) ≡ len m
-len_after_set m key value old there = len-insert nat_list_cmp_total m key value ∙ ap (λ o. cond (is_some o) (len m) (len m + 1)) there
+len_after_set : (m : Pairs) (key : List ℕ) (value old : ℕ) → get m key ≡ Some old
+    → len (insert m key value) ≡ len m
+len_after_set m key value old there =
+    len-insert nat_list_cmp_total m key value ∙ ap (λ o. cond (is_some o) (len m) (len m + 1)) there
 
-len_after_new : (m : Pairs) (key : List ℕ) (value : ℕ) → get m key ≡ None → len (insert m key value) ≡ len m + 1
-len_after_new m key value absent = len-insert nat_list_cmp_total m key value ∙ ap (λ o. cond (is_some o) (len m) (len m + 1)) absent
+len_after_new : (m : Pairs) (key : List ℕ) (value : ℕ) → get m key ≡ None
+    → len (insert m key value) ≡ len m + 1
+len_after_new m key value absent =
+    len-insert nat_list_cmp_total m key value ∙ ap (λ o. cond (is_some o) (len m) (len m + 1)) absent
 
 fewer : (b : Bool) (n : ℕ) → cond b (n - 1) n ≤ n
 fewer true n = omega arith
 fewer false n = omega arith
 
 len_after_remove : (m : Pairs) (key : List ℕ) → len (remove m key) ≤ len m
-len_after_remove m key = subst (λ l. l ≤ len m) (sym (len-remove nat_list_cmp_total m key)) (fewer (contains_key m key) (len m))
+len_after_remove m key =
+    subst (λ l. l ≤ len m) (sym (len-remove nat_list_cmp_total m key)) (fewer (contains_key m key) (len m))
 
 -- the map after a step, where it is one of two
-bounded_by : (b : Bounds) (m n after : Pairs) → (n ≡ m) ⊎ (n ≡ after) → len after ≤ most_pairs b → len m ≤ most_pairs b → len n ≤ most_pairs b
+bounded_by : (b : Bounds) (m n after : Pairs) → (n ≡ m) ⊎ (n ≡ after) → len after ≤ most_pairs b
+    → len m ≤ most_pairs b → len n ≤ most_pairs b
 bounded_by b m n after (inl same) few before = subst (λ x. len x ≤ most_pairs b) (sym same) before
 bounded_by b m n after (inr same) few before = subst (λ x. len x ≤ most_pairs b) (sym same) few
 
-bounded_at : (b : Bounds) (m n : Pairs) (w : ℕ) (e : Event) (found : Option ℕ) (change : Change) → found ≡ get m e.key → e.change ≡ change
-    → Answers (row_with b (len m) w found (effect_of change found)) b m e n → len m ≤ most_pairs b → len n ≤ most_pairs b
+bounded_at : (b : Bounds) (m n : Pairs) (w : ℕ) (e : Event) (found : Option ℕ) (change : Change)
+    → found ≡ get m e.key → e.change ≡ change
+    → Answers (row_with b (len m) w found (effect_of change found)) b m e n → len m ≤ most_pairs b
+    → len n ≤ most_pairs b
 bounded_at b m n w e found Keep there is h before = subst (λ x. len x ≤ most_pairs b) (sym h.1) before
 bounded_at b m n w e None Remove there is h before = subst (λ x. len x ≤ most_pairs b) (sym h.1) before
 bounded_at b m n w e (Some old) Remove there is h before =
     bounded_by b m n (changed m e.key e.change) (left_or_changed _ b m n e h)
-    (subst (λ c. len (changed m e.key c) ≤ most_pairs b) (sym is) (omega (arith, len_after_remove m e.key, before))) before
+    (subst (λ c. len (changed m e.key c) ≤ most_pairs b) (sym is)
+    (omega (arith, len_after_remove m e.key, before))) before
 bounded_at b m n w e (Some old) (Set value) there is h before =
     bounded_by b m n (changed m e.key e.change) (left_or_changed _ b m n e h)
-    (subst (λ c. len (changed m e.key c) ≤ most_pairs b) (sym is) (omega (arith, len_after_set m e.key value old (sym there), before))) before
+    (subst (λ c. len (changed m e.key c) ≤ most_pairs b) (sym is)
+    (omega (arith, len_after_set m e.key value old (sym there), before))) before
 bounded_at b m n w e None (Set value) there is h before =
     elim (room_cases b m n w e h) [
       | inl (same, full) ↦ subst (λ x. len x ≤ most_pairs b) (sym same) before
-      | inr (after, entered, room) ↦ subst (λ x. len x ≤ most_pairs b) (sym (after ∙ ap (changed m e.key) is)) (omega (arith, len_after_new m e.key value (sym there), room))
+      | inr (after, entered, room) ↦
+          subst (λ x. len x ≤ most_pairs b) (sym (after ∙ ap (changed m e.key) is))
+          (omega (arith, len_after_new m e.key value (sym there), room))
     ]
 
 -- no step makes a map exceed its bound
-pub stays_bounded : (b : Bounds) (m n : Pairs) (w : ℕ) (e : Event) → Step b m w e n → len m ≤ most_pairs b → len n ≤ most_pairs b
-stays_bounded b m n w e step before = bounded_at b m n w e e.found e.change step.found refl step.answers before
+pub stays_bounded : (b : Bounds) (m n : Pairs) (w : ℕ) (e : Event) → Step b m w e n → len m ≤ most_pairs b
+    → len n ≤ most_pairs b
+stays_bounded b m n w e step before =
+    bounded_at b m n w e e.found e.change step.found refl step.answers before

@@ -62,7 +62,8 @@ pub data Row : Type 0 where
 -- the case of an effect, at a map of so many pairs after w changes
 abbrev pub row_with : Bounds → ℕ → ℕ → Option ℕ → Change → Row
 row_with b pairs w found Keep = Idle
-row_with b pairs w None (Set value) = if nat_lt w b.limit then (if nat_lt pairs (most_pairs b) then Entering else Crowded) else Exhausted
+row_with b pairs w None (Set value) =
+    if nat_lt w b.limit then (if nat_lt pairs (most_pairs b) then Entering else Crowded) else Exhausted
 row_with b pairs w (Some old) (Set value) = if nat_lt w b.limit then Present else Exhausted
 row_with b pairs w found Remove = if nat_lt w b.limit then Present else Exhausted
 
@@ -71,7 +72,8 @@ abbrev pub Answers : Row → Bounds → Pairs → Event → Pairs → Type 0
 Answers Idle b m e m' = (e.reply ≡ Kept e.found) × (m' ≡ m)
 Answers Exhausted b m e m' = (e.reply ≡ Worn e.found) × (m' ≡ m)
 Answers Crowded b m e m' = (e.reply ≡ Full) × (m' ≡ m)
-Answers Entering b m e m' = ((e.reply ≡ Changed None) × (m' ≡ changed m e.key e.change)) ⊎ (IsRefusal b e.reply × (m' ≡ m))
+Answers Entering b m e m' =
+    ((e.reply ≡ Changed None) × (m' ≡ changed m e.key e.change)) ⊎ (IsRefusal b e.reply × (m' ≡ m))
 Answers Present b m e m' = (e.reply ≡ Changed e.found) × (m' ≡ changed m e.key e.change)
 
 -- a call leads from the map m after w changes to the map m'

@@ -3,10 +3,14 @@ use Rattle.std.specs.Prelude.{◌≢◌, ℕ, ◌-◌, ◌^◌, Option, Some, No
 use Rattle.bihash_words.specs.declared.patch.Change.{Change}
 use Rattle.bihash_words.specs.declared.patch.Change.TheVariants.{Keep, Set, Remove}
 
--- a value that is set differs from the word of all ones, which marks a free place
+-- the value of a free place, all ones
+abbrev pub free_mark : ℕ
+free_mark = 2 ^ 64 - 1
+
+-- a value that is set is no mark of a free place
 abbrev pub IsStorable : Change → Type 0
 IsStorable Keep = Unit {0}
-IsStorable (Set value) = value ≢ 2 ^ 64 - 1
+IsStorable (Set value) = value ≢ free_mark
 IsStorable Remove = Unit {0}
 
 -- sets the value of a key that has none

@@ -1,12 +1,17 @@
 -- The word of a bucket (this project's profile).
 use Rattle.std.specs.Prelude.{ℕ, ◌+◌, ◌*◌, ◌/◌, ◌^◌, ◌<◌, Bool, if◌then◌else◌}
 
--- what a bucket's word says: the first page of the bucket's block, 0 for none; the log2 of the block's pages; whether any place may hold any key; whether a writer holds the bucket; how often its map changed
+-- what a bucket's word says
 pub record Bucket : Type 0 where
+  -- the number of the first page of the bucket's block, 0 for none
   pub page : ℕ
+  -- the log2 of the block's pages
   pub log2 : ℕ
+  -- any place of the block may hold any key
   pub linear : Bool
+  -- a writer holds the bucket
   pub locked : Bool
+  -- how often the bucket's map was changed
   pub version : ℕ
 
 -- each field fits its bits

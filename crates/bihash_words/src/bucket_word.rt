@@ -4,8 +4,8 @@ ghost use Rattle.bihash_words.specs.Words.{Bucket, Fits, packed, version_of};
 
 use std::marker::Model;
 
-/// The word of a bucket. From the lowest bit: 24 bits for the first page of its block, 0 for none; 5 for the log2 of the block's pages;
-/// the linear mark; the lock bit; 33 for the version.
+/// The word of a bucket. From the lowest bit: 24 bits for the number of its block's first page, 0 for
+/// none; 5 for the log2 of the block's pages; the linear mark; the lock bit; 33 for the version.
 #[derive(Clone, Copy, Debug, PartialEq, Eq)]
 pub struct BucketWord(u64);
 

@@ -1,4 +1,5 @@
-//! The words of a shared hash table: the shape of a table, the word of a bucket, the hash of a key, and the decisions of updates.
+//! What a shared hash table is made of: its shape, the word of a bucket, the hash of a key, and the
+//! decisions of updates.
 #![tactic(auto)]
 
 mod bucket_word;

@@ -2,7 +2,7 @@
 ghost use Rattle.std.specs.Prelude.{◌≡◌, ◌≢◌, ℕ, ◌-◌, ◌^◌, Option};
 ghost use Rattle.bihash_words.specs.declared.patch.Change.{Change};
 ghost use Rattle.bihash_words.specs.declared.patch.Change.TheVariants.{Set, Remove};
-ghost use Rattle.bihash_words.specs.Patches.{IsStorable, set_if_absent, set_if_present};
+ghost use Rattle.bihash_words.specs.Patches.{IsStorable, free_mark, set_if_absent, set_if_present};
 
 /// What becomes of a key's value.
 #[derive(Clone, Copy, Debug, PartialEq, Eq)]
@@ -43,7 +43,7 @@ pub trait Patch {
 #[derive(Clone, Copy, Debug, PartialEq, Eq)]
 pub struct Add {
     pub value: u64,
-    pub ghost storable: { value ≢ 2 ^ 64 - 1 },
+    pub ghost storable: { value ≢ free_mark },
 }
 
 impl Patch for Add {
@@ -58,7 +58,7 @@ impl Patch for Add {
 #[derive(Clone, Copy, Debug, PartialEq, Eq)]
 pub struct AddIfAbsent {
     pub value: u64,
-    pub ghost storable: { value ≢ 2 ^ 64 - 1 },
+    pub ghost storable: { value ≢ free_mark },
 }
 
 impl Patch for AddIfAbsent {
@@ -88,7 +88,7 @@ impl Patch for Delete {
 #[derive(Clone, Copy, Debug, PartialEq, Eq)]
 pub struct Touch {
     pub value: u64,
-    pub ghost storable: { value ≢ 2 ^ 64 - 1 },
+    pub ghost storable: { value ≢ free_mark },
 }
 
 impl Patch for Touch {

@@ -3,7 +3,8 @@ ghost use Rattle.std.specs.Prelude.{refl, slice_index};
 
 use crate::shape::Shape;
 
-/// A table of `P` pages and two buckets, each of which takes `L` changes and 16 pairs. A key's hash is its first word.
+/// A table of `P` pages and two buckets, each of which takes `L` changes and 16 pairs. A key's hash is
+/// its first word.
 #[derive(Clone, Copy, Debug, PartialEq, Eq)]
 pub struct Tiny<const P: u64, const L: u64>;
 

@@ -1,11 +1,11 @@
 -- A capture is read in one way: with its packets and end, or with its first fault.
-use Rattle.std.proofs.Common.{◌≡◌, ◌≢◌, ◌⊎◌, ◌∙◌, ◌+◌, ℕ, Bool, true, false, List, drop, length, map, Result, Ok, Err, refl, sym, ap, inl, inr, subst}
+use Rattle.std.proofs.Common.{◌≡◌, ◌≢◌, ◌⊎◌, ◌∙◌, ◌+◌, ℕ, List, drop, length, map, Result, Ok, Err, refl, sym, ap, inl, inr, subst}
 use Rattle.std.specs.Prelude.{IfOk, IfErr, MatchResult}
 use Rattle.packet_view.specs.declared.capture.Order.{Order}
 use Rattle.packet_view.specs.declared.capture.Capture.{Capture}
 use Rattle.packet_view.specs.declared.capture.CaptureFault.{CaptureFault}
 use Rattle.packet_view.specs.declared.capture.CaptureFault.TheVariants as fault
-use Rattle.packet_view.specs.Captures.{AreRecords, End, HasHeader, IsCapture, IsCaptureFault, IsCut, IsEnd, IsHeaderFault, IsPart, IsTooLong, Part, Record, Nothing, Cut, TooLong, Seen, Truncated, Whole, end_of, seen}
+use Rattle.packet_view.specs.Captures.{AreRecords, End, HasHeader, IsCapture, IsCaptureFault, IsEnd, IsHeaderFault, IsTooLong, Part, Nothing, Cut, TooLong, Seen, Truncated, Whole, end_of, seen}
 use Rattle.packet_view.specs.RecordSteps.{Reads, part_of}
 use Rattle.packet_view.proofs.RecordLemmas.{IsStop, Stops, part_only, records_once}
 
@@ -36,22 +36,22 @@ unfolding part_at
 end_part order rest Whole h = part_only order rest Nothing h
 end_part order rest Truncated h = part_only order rest Cut h
 
-end_stops : (order : Order) (rest : List ℕ) (end : End) → IsEnd order rest end → Stops order rest
+pub end_stops : (order : Order) (rest : List ℕ) (end : End) → IsEnd order rest end → Stops order rest
 unfolding part_at
 end_stops order rest Whole h = record { stops = subst IsStop (end_part order rest Whole h) tt }
 end_stops order rest Truncated h = record { stops = subst IsStop (end_part order rest Truncated h) tt }
 
-long_stops : (order : Order) (rest : List ℕ) → IsTooLong order rest → Stops order rest
+pub long_stops : (order : Order) (rest : List ℕ) → IsTooLong order rest → Stops order rest
 long_stops order rest h = record { stops = subst IsStop (part_only order rest TooLong h) tt }
 
-same_end : (order : Order) (rest : List ℕ) (end other : End) → IsEnd order rest end → IsEnd order rest other → end ≡ other
+pub same_end : (order : Order) (rest : List ℕ) (end other : End) → IsEnd order rest end → IsEnd order rest other → end ≡ other
 unfolding part_at
 same_end order rest Whole Whole h g = refl
 same_end order rest Truncated Truncated h g = refl
 same_end order rest Whole Truncated h g = let e = end_part order rest Whole h in let f = end_part order rest Truncated g in cc
 same_end order rest Truncated Whole h g = let e = end_part order rest Truncated h in let f = end_part order rest Whole g in cc
 
-not_both : (order : Order) (rest : List ℕ) (end : End) → IsEnd order rest end → IsTooLong order rest → ⊥
+pub not_both : (order : Order) (rest : List ℕ) (end : End) → IsEnd order rest end → IsTooLong order rest → ⊥
 unfolding part_at
 not_both order rest Whole h long = let e = end_part order rest Whole h in let f = part_only order rest TooLong long in cc
 not_both order rest Truncated h long = let e = end_part order rest Truncated h in let f = part_only order rest TooLong long in cc

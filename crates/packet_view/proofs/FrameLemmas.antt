@@ -1,8 +1,8 @@
 -- A frame is what the code finds it to be, and nothing else.
-use Rattle.std.proofs.Common.{◌≡◌, ◌≢◌, ◌⊎◌, ◌∙◌, ℕ, Bool, true, false, cond, ◌==◌, List, Option, Some, None, refl, sym, ap, subst, inl, inr}
+use Rattle.std.proofs.Common.{◌≡◌, ◌∙◌, ℕ, ◌==◌, List, Option, Some, None, refl, sym, ap, subst, inl, inr}
 use Rattle.std.specs.List.{slice_range}
 use Rattle.std.specs.Str.{bytes_eq}
-use Rattle.std.proofs.lemmas.Bool.{cond-true, cond-false, cond_both, eq-eqb, ne_eqb, cases_eq, both_ways, false_from_ne_true}
+use Rattle.std.proofs.lemmas.Bool.{cond-true, cond-false, cond_both, ne_eqb, cases_eq, both_ways, false_from_ne_true}
 use Rattle.std.proofs.lemmas.Option.{same_Some}
 use Rattle.std.proofs.lemmas.Slice.Eq.{bytes_eq-Decides}
 use Rattle.packet_view.specs.declared.tuple.Direction.{Direction}
@@ -12,11 +12,10 @@ use Rattle.packet_view.specs.declared.tuple.Family.TheVariants.{V4, V6}
 use Rattle.packet_view.specs.declared.tuple.Fields.{Fields}
 use Rattle.packet_view.specs.declared.tuple.Fields.TheVariants.{Absent}
 use Rattle.packet_view.specs.declared.tuple.Mac.{Mac}
-use Rattle.packet_view.specs.Ethernet.{IsCut, IsEthernet}
+use Rattle.packet_view.specs.Ethernet.{IsEthernet}
 use Rattle.packet_view.specs.Frames.{Carries, GoesIn, Ip, IsFrame, IsMalformed, IsTuple, Malformed, NotIp, Short, View, dest_of, ether_type, source_of}
-use Rattle.packet_view.specs.FrameSteps.{Packet, content_of, direction_of, fields_of, packet_of_v4, packet_of_v6, view_of, view_of_content, view_of_packet, view_of_upper, with_fields}
+use Rattle.packet_view.specs.FrameSteps.{IpPacketFacts, direction_of, fields_of, packet_of_v4, packet_of_v6, view_of, view_of_content, view_of_packet, view_of_upper, with_fields}
 use Rattle.packet_view.specs.Packets.{First, Later, Upper}
-use Rattle.packet_view.specs.Transport.{HasFields, IsShort}
 use Rattle.packet_view.specs.Tuples.{Facts}
 use Rattle.packet_view.proofs.EthernetLemmas as ethernet
 use Rattle.packet_view.proofs.Ipv4Lemmas as ipv4
@@ -49,11 +48,11 @@ direction_only frame (Some mac) Outbound h =
     cond-true _ _ _ (decides.1 (own_source frame mac h))
 
 -- the packet under a family
-abbrev pub packet_of : Family → List ℕ → Option Packet
+abbrev pub packet_of : Family → List ℕ → Option IpPacketFacts
 packet_of V4 bytes = packet_of_v4 bytes
 packet_of V6 bytes = packet_of_v6 bytes
 
-abbrev pub read : Family → List ℕ → Upper → Packet
+abbrev pub read : Family → List ℕ → Upper → IpPacketFacts
 read family bytes upper = record { family = family; source = source_of family bytes; dest = dest_of family bytes; upper = upper }
 
 carries_only : (family : Family) (bytes : List ℕ) (upper : Upper) → Carries family bytes upper → packet_of family bytes ≡ Some (read family bytes upper)
@@ -160,9 +159,9 @@ shown_upper frame own family packet (First proto payload) e h =
 shown_packet : (frame : List ℕ) (own : Option Mac) (family : Family) (packet : List ℕ) → IsEthernet frame (source frame) (ether_type family) packet → Reading family packet
     → IsFrame frame own (view_of_packet (direction_of frame own) (packet_of family packet))
 shown_packet frame own family packet e (Right upper h is) =
-    subst (λ (p : Option Packet). IsFrame frame own (view_of_packet (direction_of frame own) p)) (sym is) (shown_upper frame own family packet upper e h)
+    subst (λ (p : Option IpPacketFacts). IsFrame frame own (view_of_packet (direction_of frame own) p)) (sym is) (shown_upper frame own family packet upper e h)
 shown_packet frame own family packet e (Wrong bad is) =
-    subst (λ (p : Option Packet). IsFrame frame own (view_of_packet (direction_of frame own) p)) (sym is) (inr (source frame, family, packet, e, bad))
+    subst (λ (p : Option IpPacketFacts). IsFrame frame own (view_of_packet (direction_of frame own) p)) (sym is) (inr (source frame, family, packet, e, bad))
 
 shown_family : (frame : List ℕ) (own : Option Mac) (family : Family) (kind : ℕ) (content : List ℕ) → IsEthernet frame (source frame) kind content → kind ≡ ether_type family
     → IsFrame frame own (view_of_content frame own (Some (kind, content)))

@@ -1,17 +1,17 @@
 -- An IPv4 packet is what the code reads, and a malformed one isn't read.
-use Rattle.std.proofs.Common.{◌≡◌, ◌≢◌, ◌⊎◌, ◌∙◌, ◌≤◌, ◌<◌, ◌+◌, ◌-◌, ℕ, Bool, true, false, cond, not, ◌&&◌, ◌||◌, ◌==◌, nat_lt, min, List, ◌++◌, length, take, drop, Option, Some, None, refl, sym, ap, inl, inr, arith}
+use Rattle.std.proofs.Common.{◌≡◌, ◌≢◌, ◌⊎◌, ◌∙◌, ◌≤◌, ◌<◌, ◌-◌, ℕ, true, false, List, ◌++◌, length, take, drop, Some, None, refl, sym, ap, inl, inr, arith}
 use Rattle.std.specs.List.{slice_range}
-use Rattle.std.proofs.lemmas.Bool.{cond-true, cond-false, lt-ltb, le-ltb, eq-eqb, ne_eqb, cases_lt, cases_eq}
+use Rattle.std.proofs.lemmas.Bool.{cond-true, cond-false, eq-eqb, ne_eqb, cases_lt, cases_eq}
 use Rattle.std.proofs.lemmas.Bool.Decides.{nat_tests}
-use Rattle.std.proofs.lemmas.List.{drop_at, length-append, length-drop, length-take-le, take-append-drop, take_at}
+use Rattle.std.proofs.lemmas.List.{drop_at, length-drop, length-take-le, take-append-drop, take_at}
 use Rattle.std.proofs.lemmas.List.Folds.{drop_split}
 use Rattle.packet_view.specs.declared.tuple.Family.TheVariants.{V4}
 use Rattle.packet_view.specs.Ipv4.{Carries, HasHeader, HasPayload, IsMalformed, dest, fragment_offset, header_length, protocol, source, total_length, version}
 use Rattle.packet_view.specs.Packets.{Upper, Later, First, extent}
 use Rattle.packet_view.proofs.PacketLemmas.{extent_holds, extent_within}
-use Rattle.packet_view.specs.FrameSteps.{Packet, is_malformed_v4, packet_of_v4, upper_of_v4}
+use Rattle.packet_view.specs.FrameSteps.{IpPacketFacts, is_malformed_v4, packet_of_v4, upper_of_v4}
 
-abbrev read : List ℕ → Upper → Packet
+abbrev read : List ℕ → Upper → IpPacketFacts
 read bytes upper = record { family = V4; source = source bytes; dest = dest bytes; upper = upper }
 
 right_header : (bytes : List ℕ) → HasHeader bytes → is_malformed_v4 bytes ≡ false

@@ -1,16 +1,16 @@
 -- An IPv6 packet is what the code reads, and a malformed one isn't read.
-use Rattle.std.proofs.Common.{◌≡◌, ◌≢◌, ◌⊎◌, ◌∙◌, ◌≤◌, ◌<◌, ◌+◌, ◌-◌, ◌*◌, ◌/◌, ℕ, zero, suc, Bool, true, false, cond, not, ◌&&◌, ◌||◌, ◌==◌, nat_lt, get_or, List, [], ◌∷◌, ◌++◌, length, take, drop, Option, Some, None, refl, sym, ap, subst, inl, inr, arith, lit≤, lit<, append_assoc}
+use Rattle.std.proofs.Common.{◌≡◌, ◌≢◌, ◌⊎◌, ◌∙◌, ◌≤◌, ◌<◌, ◌+◌, ◌-◌, ◌*◌, ◌/◌, ℕ, zero, suc, true, false, cond, not, ◌&&◌, ◌==◌, nat_lt, List, [], ◌∷◌, ◌++◌, length, take, drop, Some, None, refl, sym, ap, subst, inl, inr, arith, lit≤, append_assoc}
 use Rattle.std.specs.List.{concat, slice_index}
 use Rattle.std.specs.Option.{option_map}
 use Rattle.std.proofs.lemmas.Bool.{cond-true, cond-false, lt-ltb, le-ltb, eq-eqb, ne_eqb, cases_lt, cases_eq, cases_Bool, not_from_true, not_from_false, and_left, and_right}
 use Rattle.std.proofs.lemmas.Bool.Decides.{nat_tests}
-use Rattle.std.proofs.lemmas.List.{append-nil, drop-append-le, drop_at, get_or_append_left, get_or-take, length-append, length-drop, length-take-le, take-append-drop, take_at}
+use Rattle.std.proofs.lemmas.List.{drop-append-le, drop_at, get_or_append_left, length-append, length-drop, length-take-le, take-append-drop, take_at}
 use Rattle.byteorder.specs.Endian.{big_number}
 use Rattle.byteorder.specs.Numbers.{big_from-append}
 use Rattle.packet_view.specs.declared.tuple.Family.TheVariants.{V6}
 use Rattle.packet_view.specs.Ipv6.{Carries, IsChain, IsMalformed, IsSkipped, Skips, dest, extension_length, fragment_offset, is_extension, next_header, payload_length, source, version}
 use Rattle.packet_view.specs.Packets.{Upper, Later, First, extent}
-use Rattle.packet_view.specs.FrameSteps.{Packet, Step, Skipped, Last, behind_header, header_of, is_malformed_v6, packet_of_v6, walk}
+use Rattle.packet_view.specs.FrameSteps.{IpPacketFacts, Skipped, Last, behind_header, header_of, is_malformed_v6, packet_of_v6, walk}
 use Rattle.packet_view.proofs.PacketLemmas.{extent_within}
 use Rattle.packet_view.proofs.Walks.{walk_ends, walk_skips, walk_full, walk_last}
 
@@ -163,7 +163,7 @@ walked (suc n) number bytes =
       | inr last ↦ Arrives [] number bytes refl (omega arith) refl last
     ]
 
-abbrev read : List ℕ → Upper → Packet
+abbrev read : List ℕ → Upper → IpPacketFacts
 read bytes upper = record { family = V6; source = source bytes; dest = dest bytes; upper = upper }
 
 -- what the skipped headers and the rest make up

@@ -1,13 +1,13 @@
 -- A frame and the same with bytes behind its packet's end have one view.
-use Rattle.std.proofs.Common.{◌≡◌, ◌∙◌, ℕ, List, ◌++◌, Option, refl, sym, ap, subst}
+use Rattle.std.proofs.Common.{◌≡◌, ◌∙◌, ℕ, List, ◌++◌, Option, sym, ap, subst}
 use Rattle.packet_view.specs.declared.tuple.Direction.{Direction}
 use Rattle.packet_view.specs.declared.tuple.Family.{Family}
 use Rattle.packet_view.specs.declared.tuple.Mac.{Mac}
 use Rattle.packet_view.specs.Ethernet.{IsEthernet}
-use Rattle.packet_view.specs.Frames.{Carries, EndsWithin, IsFrame, View, dest_of, ether_type, source_of}
-use Rattle.packet_view.specs.FrameSteps.{Packet, direction_of, view_of, view_of_packet, view_of_upper}
+use Rattle.packet_view.specs.Frames.{Carries, EndsWithin, IsFrame, View, ether_type}
+use Rattle.packet_view.specs.FrameSteps.{IpPacketFacts, direction_of, view_of, view_of_packet, view_of_upper}
 use Rattle.packet_view.specs.Packets.{Upper}
-use Rattle.packet_view.proofs.FrameLemmas.{Reading, Right, Wrong, carried, goes_in, goes_of, malformed_only, packet_of, read, reading, right_view, view_only, view_shown}
+use Rattle.packet_view.proofs.FrameLemmas.{Reading, Right, Wrong, carried, goes_in, goes_of, malformed_only, read, reading, right_view, view_only, view_shown}
 use Rattle.packet_view.proofs.TrailingLemmas.{carries_more, dest_more, ethernet_more, malformed_more, source_more}
 
 module _ (frame more source : List ℕ) (family : Family) (packet : List ℕ) (own : Option Mac) where
@@ -26,7 +26,7 @@ module _ (frame more source : List ℕ) (family : Family) (packet : List ℕ) (o
   by_reading e ends (Right upper h is) =
       right_view frame source own family packet upper e h
       ∙ ap (λ (d : Direction). view_of_upper d (read family packet upper) upper) (way_more e)
-      ∙ ap (λ (p : Packet). view_of_upper (direction_of (frame ++ more) own) p upper) (read_more ends upper h)
+      ∙ ap (λ (p : IpPacketFacts). view_of_upper (direction_of (frame ++ more) own) p upper) (read_more ends upper h)
       ∙ sym (right_view (frame ++ more) source own family (packet ++ more) upper (ethernet_more frame source (ether_type family) packet more e)
       (carries_more family packet more ends upper h))
   by_reading e ends (Wrong bad is) =

@@ -1,4 +1,5 @@
 pub mod CaptureLemmas
+pub mod CutLemmas
 pub mod EthernetLemmas
 pub mod FrameLemmas
 pub mod Ipv4Lemmas

@@ -1,13 +1,13 @@
 -- What stands at the front of records is what the tests find there, and nothing else.
-use Rattle.std.proofs.Common.{◌≡◌, ◌⊎◌, ◌∙◌, ◌≤◌, ◌<◌, ℕ, Bool, true, false, cond, List, [], ◌∷◌, ◌++◌, length, take, drop, nat_lt, ◌==◌, ◌-◌, ◌+◌, refl, sym, ap, subst, inl, inr, arith, lit≤, append_assoc}
-use Rattle.std.proofs.lemmas.List.{drop-drop, drop-take, drop-append-le, drop_at, length-append, length-take-le, take-append-drop, take_at, nil_from_length}
+use Rattle.std.proofs.Common.{◌≡◌, ◌∙◌, ◌≤◌, ℕ, List, [], ◌∷◌, ◌++◌, length, take, drop, nat_lt, ◌==◌, ◌-◌, ◌+◌, refl, sym, ap, subst, inl, inr, arith, lit≤}
+use Rattle.std.proofs.lemmas.List.{drop-drop, drop-append-le, drop_at, length-append, length-take-le, take-append-drop, take_at, nil_from_length}
 use Rattle.std.proofs.lemmas.Grind.{common_steps}
 use Rattle.std.proofs.lemmas.Bool.{cond_both, eqb-true, ltb-true, ltb-false}
 use Rattle.std.proofs.lemmas.Bool.Decides.{nat_tests}
 use Rattle.byteorder.specs.Numbers.{big_from-append, little_from-append}
 use Rattle.packet_view.specs.declared.capture.Order.{Order}
 use Rattle.packet_view.specs.declared.capture.Order.TheVariants.{Little, Big}
-use Rattle.packet_view.specs.Captures.{AreRecords, IsCut, IsPart, IsRecord, IsTooLong, Part, Record, Nothing, Cut, TooLong, Seen, kept_length, number_from}
+use Rattle.packet_view.specs.Captures.{AreRecords, IsPart, IsRecord, Part, Record, Nothing, Cut, TooLong, Seen, kept_length, kept_limit, number_from}
 use Rattle.packet_view.specs.RecordSteps.{part_of}
 
 -- a number lies in the front that holds its bytes
@@ -20,14 +20,14 @@ number_from-append Big place width xs ys h =
     let front : width ≤ length (drop place xs) = grind (arith, common_steps) in
     rw (drop-append-le place xs ys (omega arith)) (big_from-append width (drop place xs) ys front)
 
-number_from-take : (order : Order) (place width n : ℕ) (bytes : List ℕ) → place + width ≤ n → n ≤ length bytes
+pub number_from-take : (order : Order) (place width n : ℕ) (bytes : List ℕ) → place + width ≤ n → n ≤ length bytes
     → number_from order place width bytes ≡ number_from order place width (take n bytes)
 number_from-take order place width n bytes h long =
     let front : length (take n bytes) ≡ n = length-take-le n bytes long in
     ap (number_from order place width) (sym (take-append-drop n bytes)) ∙ number_from-append order place width (take n bytes) (drop n bytes) (omega arith)
 
 -- a record that is whole is found
-found : (order : Order) (bytes : List ℕ) → 16 ≤ length bytes → kept_length order bytes ≤ 262144 → 16 + kept_length order bytes ≤ length bytes
+found : (order : Order) (bytes : List ℕ) → 16 ≤ length bytes → kept_length order bytes ≤ kept_limit → 16 + kept_length order bytes ≤ length bytes
     → part_of order bytes ≡ Record (record { moment = number_from order 0 4 bytes; frame = take (kept_length order bytes) (drop 16 bytes) })
     (drop (16 + kept_length order bytes) bytes)
 found order bytes long limit fits = grind (arith, nat_tests)
@@ -58,7 +58,7 @@ part_only order bytes TooLong h = grind (arith, nat_tests)
 spelt : (order : Order) (bytes : List ℕ) (kept : ℕ) → bytes ≡ take 16 bytes ++ (take kept (drop 16 bytes) ++ drop (16 + kept) bytes)
 spelt order bytes kept = rw (← drop-drop kept 16 bytes, take-append-drop, take-append-drop) refl
 
-record_shown : (order : Order) (bytes : List ℕ) → 16 ≤ length bytes → kept_length order bytes ≤ 262144 → 16 + kept_length order bytes ≤ length bytes
+record_shown : (order : Order) (bytes : List ℕ) → 16 ≤ length bytes → kept_length order bytes ≤ kept_limit → 16 + kept_length order bytes ≤ length bytes
     → IsPart order bytes (Record (record { moment = number_from order 0 4 bytes; frame = take (kept_length order bytes) (drop 16 bytes) })
     (drop (16 + kept_length order bytes) bytes))
 record_shown order bytes long limit fits = (
@@ -78,7 +78,7 @@ part_shown order bytes =
     cond_both (length bytes == 0) _ _ (IsPart order bytes) (λ h. nil_from_length bytes (eqb-true _ _ h))
     (λ some. cond_both (nat_lt (length bytes) 16) _ _ (IsPart order bytes)
     (λ h. inl (grind (arith, nat_tests), ltb-true _ _ h))
-    (λ long. cond_both (nat_lt 262144 (kept_length order bytes)) _ _ (IsPart order bytes)
+    (λ long. cond_both (nat_lt kept_limit (kept_length order bytes)) _ _ (IsPart order bytes)
     (λ h. (ltb-false _ _ long, ltb-true _ _ h))
     (λ limit. cond_both (nat_lt (length bytes - 16) (kept_length order bytes)) _ _ (IsPart order bytes)
     (λ h. inr (ltb-false _ _ long, ltb-false _ _ limit, grind (arith, nat_tests)))

@@ -1,6 +1,6 @@
 -- Bytes behind the end that a packet declares change nothing of it.
-use Rattle.std.proofs.Common.{◌≡◌, ◌≢◌, ◌⊎◌, ◌∙◌, ◌≤◌, ◌<◌, ◌+◌, ◌-◌, ◌*◌, ◌/◌, ◌%◌, ℕ, List, ◌++◌, length, drop, get_or, refl, sym, ap, subst, inl, inr, arith, append_assoc}
-use Rattle.std.specs.List.{concat, slice_index}
+use Rattle.std.proofs.Common.{◌≡◌, ◌≢◌, ◌⊎◌, ◌∙◌, ◌≤◌, ◌<◌, ◌-◌, ◌*◌, ◌/◌, ◌%◌, ℕ, List, ◌++◌, length, drop, get_or, sym, ap, subst, inl, inr, arith, append_assoc}
+use Rattle.std.specs.List.{concat}
 use Rattle.std.proofs.lemmas.Bool.{cases_lt}
 use Rattle.std.proofs.lemmas.List.{get_or_past, length-append, length-drop}
 use Rattle.packet_view.specs.declared.tuple.Family.{Family}
@@ -10,7 +10,6 @@ use Rattle.packet_view.specs.Frames.{Carries, EndsWithin, IsMalformed, dest_of, 
 use Rattle.packet_view.specs.Ipv4 as ipv4
 use Rattle.packet_view.specs.Ipv6 as ipv6
 use Rattle.packet_view.specs.Packets.{Upper, Later, First, extent}
-use Rattle.packet_view.proofs.Ipv4Lemmas.{total_cases}
 use Rattle.packet_view.proofs.PacketLemmas.{extent_is, number_from-append, slice_index-append}
 
 pub ethernet_more : (frame source : List ℕ) (kind : ℕ) (content more : List ℕ) → IsEthernet frame source kind content

@@ -1,5 +1,5 @@
 -- The fields under a protocol are what the code reads, and from a short payload it reads none.
-use Rattle.std.proofs.Common.{◌≡◌, ◌≢◌, ◌⊎◌, ◌∙◌, ◌≤◌, ◌<◌, ℕ, Bool, true, false, cond, ◌==◌, nat_lt, List, length, Option, Some, None, refl, sym, ap, inl, inr, arith}
+use Rattle.std.proofs.Common.{◌≡◌, ◌≢◌, ◌∙◌, ℕ, cond, ◌==◌, nat_lt, List, length, Some, None, refl, inl, inr, arith}
 use Rattle.std.proofs.lemmas.Bool.{cond-true, cond-false, lt-ltb, le-ltb, eq-eqb, ne_eqb, cases_lt, cases_eq}
 use Rattle.std.specs.List.{slice_index}
 use Rattle.packet_view.specs.declared.tuple.Family.{Family}

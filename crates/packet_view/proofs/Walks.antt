@@ -1,9 +1,9 @@
 -- One more header of a walk over extension headers.
-use Rattle.std.proofs.Common.{◌≡◌, ℕ, zero, suc, ◌+◌, Bool, true, false, List, Option, Some, None, refl, sym, ◌∙◌, ap, arith}
+use Rattle.std.proofs.Common.{◌≡◌, ℕ, suc, ◌+◌, true, false, List, Option, Some, None, refl, sym, ◌∙◌, ap, arith}
 use Rattle.std.proofs.lemmas.Bool.{cond-true, cond-false}
 use Rattle.packet_view.specs.Ipv6.{is_extension}
 use Rattle.packet_view.specs.Packets.{Upper, First}
-use Rattle.packet_view.specs.FrameSteps.{Step, Skipped, Last, walk, go_on, header_of}
+use Rattle.packet_view.specs.FrameSteps.{Skipped, Last, walk, go_on, header_of}
 
 pub walk-suc : (k number : ℕ) (bytes : List ℕ) → walk (suc k) number bytes ≡ go_on (walk k) (header_of number bytes)
 unfolding walk

@@ -55,22 +55,26 @@ pub record HasHeader (order : Order) (bytes : List ℕ) : Type 0 where
 abbrev pub kept_length : Order → List ℕ → ℕ
 kept_length order header = number_from order 8 4 header
 
--- one record's header: it says the moment and the frame's length, which is at most 262144
+-- the most bytes that a record keeps of a frame
+abbrev pub kept_limit : ℕ
+kept_limit = 262144
+
+-- one record's header: it says the moment and the frame's length
 pub record IsRecord (order : Order) (header : List ℕ) (packet : Seen) : Type 0 where
   pub sixteen : length header ≡ 16
   pub moment : packet.moment ≡ number_from order 0 4 header
   pub kept : length packet.frame ≡ kept_length order header
-  pub limit : length packet.frame ≤ 262144
+  pub limit : length packet.frame ≤ kept_limit
 
 -- the bytes begin with a record's header that says a greater length
 abbrev pub IsTooLong : Order → List ℕ → Type 0
-IsTooLong order bytes = (16 ≤ length bytes) × (262144 < kept_length order bytes)
+IsTooLong order bytes = (16 ≤ length bytes) × (kept_limit < kept_length order bytes)
 
 -- the bytes are the front of a record, and neither all of it nor nothing
 abbrev pub IsCut : Order → List ℕ → Type 0
 IsCut order bytes =
     ((0 < length bytes) × (length bytes < 16))
-    ⊎ ((16 ≤ length bytes) × (kept_length order bytes ≤ 262144) × (length bytes < 16 + kept_length order bytes))
+    ⊎ ((16 ≤ length bytes) × (kept_length order bytes ≤ kept_limit) × (length bytes < 16 + kept_length order bytes))
 
 -- what stands at the front of the bytes
 pub data Part : Type 0 where

@@ -1,5 +1,5 @@
 -- Ethernet frames: two addresses, tags, a type and the content (IEEE 802.3, 802.1Q and 802.1ad).
-use Rattle.std.specs.Prelude.{◌≡◌, ◌≤◌, ◌<◌, ◌⊎◌, ℕ, Bool, true, false, ◌||◌, ◌==◌, List, ◌++◌, length, IsTrue}
+use Rattle.std.specs.Prelude.{◌≡◌, ◌≤◌, ◌<◌, ◌⊎◌, ℕ, Bool, false, ◌||◌, ◌==◌, List, ◌++◌, length, IsTrue}
 use Rattle.std.specs.List.{AllByRecursion, concat}
 use Rattle.packet_view.specs.Bytes.{number_from}
 

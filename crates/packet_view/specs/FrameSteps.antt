@@ -1,5 +1,5 @@
 -- What each step of the code makes of the bytes, which `Frames` says whole. The two are proved to agree.
-use Rattle.std.specs.Prelude.{ℕ, zero, suc, ◌+◌, ◌-◌, ◌*◌, ◌/◌, ◌%◌, Bool, true, false, not, ◌&&◌, ◌||◌, ◌==◌, nat_lt, if◌then◌else◌, List, length, take, drop, slice_index, slice_range, Option, Some, None, option_map, option_and_then}
+use Rattle.std.specs.Prelude.{ℕ, zero, suc, ◌-◌, Bool, not, ◌&&◌, ◌||◌, ◌==◌, nat_lt, if◌then◌else◌, List, length, take, drop, slice_index, slice_range, Option, Some, None, option_map, option_and_then}
 use Rattle.std.specs.Borrow.{Bor}
 use Rattle.std.specs.Str.{bytes_eq}
 use Rattle.packet_view.specs.declared.tuple.Direction.{Direction}
@@ -22,7 +22,6 @@ use Rattle.packet_view.specs.Ipv4 as ipv4
 use Rattle.packet_view.specs.Ipv6 as ipv6
 use Rattle.packet_view.specs.Packets as carried
 use Rattle.packet_view.specs.Packets.{extent}
-use Rattle.packet_view.specs.Tuples.{Facts}
 
 -- a type and the bytes under it, as values
 abbrev pub contents : Option (ℕ × Bor (List ℕ)) → Option (ℕ × List ℕ)
@@ -40,7 +39,7 @@ content_of frame =
     else option_and_then (λ c. behind_tag c.0 c.1) (behind_tag (number_from 12 2 frame) (drop 14 frame))
 
 -- an `IpPacket` as a value
-pub record Packet : Type 0 where
+pub record IpPacketFacts : Type 0 where
   pub family : Family
   pub source : ℕ
   pub dest : ℕ
@@ -53,7 +52,7 @@ upper_of (upper.First proto payload) = carried.First proto payload.now
 abbrev pub uppers : Option Upper → Option carried.Upper
 uppers found = option_map upper_of found
 
-abbrev pub packets : Option IpPacket → Option Packet
+abbrev pub packets : Option IpPacket → Option IpPacketFacts
 packets found = option_map (λ p. record { family = p.family; source = p.source; dest = p.dest; upper = upper_of p.upper }) found
 
 -- the tests of an IPv4 header
@@ -69,7 +68,7 @@ upper_of_v4 bytes =
     then carried.First (ipv4.protocol bytes) (slice_range bytes (ipv4.header_length bytes) (extent (ipv4.total_length bytes) (length bytes)))
     else carried.Later (ipv4.protocol bytes)
 
-abbrev pub packet_of_v4 : List ℕ → Option Packet
+abbrev pub packet_of_v4 : List ℕ → Option IpPacketFacts
 packet_of_v4 bytes =
     if is_malformed_v4 bytes then None
     else Some (record { family = V4; source = ipv4.source bytes; dest = ipv4.dest bytes; upper = upper_of_v4 bytes })
@@ -106,7 +105,7 @@ is_malformed_v6 bytes = nat_lt (length bytes) 40 || not (ipv6.version bytes == 6
 abbrev pub behind_header : List ℕ → List ℕ
 behind_header bytes = take (extent (ipv6.payload_length bytes) (length bytes - 40)) (drop 40 bytes)
 
-abbrev pub packet_of_v6 : List ℕ → Option Packet
+abbrev pub packet_of_v6 : List ℕ → Option IpPacketFacts
 packet_of_v6 bytes =
     if is_malformed_v6 bytes then None
     else option_map (λ u. record { family = V6; source = ipv6.source bytes; dest = ipv6.dest bytes; upper = u })
@@ -123,16 +122,16 @@ fields_of family proto payload =
     then (if nat_lt (length payload) 2 then None else Some (Icmp (slice_index payload 0) (slice_index payload 1)))
     else Some Absent))
 
-abbrev pub with_fields : Direction → Packet → ℕ → Option Fields → View
+abbrev pub with_fields : Direction → IpPacketFacts → ℕ → Option Fields → View
 with_fields direction packet proto None = Short
 with_fields direction packet proto (Some fields) =
     Ip direction (record { family = packet.family; source = packet.source; dest = packet.dest; proto = proto; fields = fields })
 
-abbrev pub view_of_upper : Direction → Packet → carried.Upper → View
+abbrev pub view_of_upper : Direction → IpPacketFacts → carried.Upper → View
 view_of_upper direction packet (carried.Later proto) = with_fields direction packet proto (Some Absent)
 view_of_upper direction packet (carried.First proto payload) = with_fields direction packet proto (fields_of packet.family proto payload)
 
-abbrev pub view_of_packet : Direction → Option Packet → View
+abbrev pub view_of_packet : Direction → Option IpPacketFacts → View
 view_of_packet direction None = Malformed
 view_of_packet direction (Some packet) = view_of_upper direction packet packet.upper
 

@@ -1,5 +1,5 @@
 -- IPv6 packets and their extension headers (RFC 8200, sections 3 and 4).
-use Rattle.std.specs.Prelude.{◌≡◌, ◌≢◌, ◌≤◌, ◌<◌, ◌⊎◌, ℕ, ◌+◌, ◌-◌, ◌*◌, ◌/◌, Bool, true, false, ◌||◌, ◌==◌, if◌then◌else◌, List, [], ◌∷◌, ◌++◌, length, slice_index, IsTrue}
+use Rattle.std.specs.Prelude.{◌≡◌, ◌≢◌, ◌≤◌, ◌<◌, ◌⊎◌, ℕ, ◌+◌, ◌-◌, ◌*◌, ◌/◌, Bool, false, ◌||◌, ◌==◌, if◌then◌else◌, List, [], ◌∷◌, ◌++◌, length, slice_index, IsTrue}
 use Rattle.std.specs.List.{concat}
 use Rattle.packet_view.specs.Bytes.{number_from}
 use Rattle.packet_view.specs.Packets.{Upper, Later, First, extent}

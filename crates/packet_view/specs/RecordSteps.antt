@@ -4,13 +4,13 @@ use Rattle.packet_view.specs.declared.capture.Order.{Order}
 use Rattle.packet_view.specs.declared.capture.Capture.{Capture}
 use Rattle.packet_view.specs.declared.capture.CaptureFault.{CaptureFault}
 use Rattle.packet_view.specs.declared.capture.CaptureFault.TheVariants.{LongRecord, Memory}
-use Rattle.packet_view.specs.Captures.{AreRecords, IsEnd, IsTooLong, Seen, end_of, seen, Part, Record, Nothing, Cut, TooLong, kept_length, number_from}
+use Rattle.packet_view.specs.Captures.{AreRecords, IsEnd, IsTooLong, Seen, end_of, seen, Part, Record, Nothing, Cut, TooLong, kept_length, kept_limit, number_from}
 
 abbrev pub part_of : Order → List ℕ → Part
 part_of order bytes =
     if length bytes == 0 then Nothing
     else (if nat_lt (length bytes) 16 then Cut
-    else (if nat_lt 262144 (kept_length order bytes) then TooLong
+    else (if nat_lt kept_limit (kept_length order bytes) then TooLong
     else (if nat_lt (length bytes - 16) (kept_length order bytes) then Cut
     else Record (record { moment = number_from order 0 4 bytes; frame = take (kept_length order bytes) (drop 16 bytes) })
     (drop (16 + kept_length order bytes) bytes))))

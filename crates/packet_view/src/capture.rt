@@ -23,6 +23,9 @@ ghost use Rattle.packet_view.specs.declared.capture.Order.{Order};
 use byteorder::{BigEndian, ByteOrder, LittleEndian};
 use std::alloc::{AllocError, AllocFailed, Global};
 
+/// The most bytes that a record keeps of a frame.
+const KEPT_LIMIT: usize = 262_144;
+
 /// Which byte of a number in a capture comes first: its lowest or its highest.
 #[derive(Clone, Copy, Debug, PartialEq, Eq)]
 pub enum Order {
@@ -168,7 +171,7 @@ fn front_piece(rest: &[u8], order: Order) -> Piece<'_>
         return Piece::Truncated;
     }
     let kept = u32_in(order, &rest[8..]) as usize;
-    if kept > 262144 {
+    if kept > KEPT_LIMIT {
         return Piece::TooLong;
     }
     if rest.len() - 16 < kept {

@@ -1,4 +1,4 @@
-//! Ethernet headers with up to two VLAN tags.
+//! Ethernet headers with up to two VLAN tags (IEEE 802.3, 802.1Q and 802.1ad).
 ghost use Rattle.std.specs.Prelude.{◌≡◌};
 ghost use Rattle.packet_view.specs.FrameSteps.{behind_tag, content_of, contents};
 

@@ -37,6 +37,7 @@ fn direction(frame: &[u8], own: Option<Mac>) -> Direction
     }
 }
 
+/// What a frame that goes this way is by its packet, None where that is malformed.
 #[inline]
 fn frame_of(direction: Direction, packet: Option<IpPacket<'_>>) -> Frame
     ensures { viewed result ≡ view_of_packet direction (packets packet.entry) }
@@ -65,6 +66,7 @@ fn frame_of(direction: Direction, packet: Option<IpPacket<'_>>) -> Frame
     )
 }
 
+/// The layers, one above the other.
 #[inline]
 fn read(frame: &[u8], own: Option<Mac>) -> Frame
     ensures { viewed result ≡ view_of frame.now own }
@@ -80,7 +82,10 @@ fn read(frame: &[u8], own: Option<Mac>) -> Frame
     frame_of(direction(frame, own), packet)
 }
 
-/// Reads a frame as the interface with this address has it: from that address it goes out, from every other it comes in.
+/// What a frame is at the interface with this address: from that address it goes out, from every other it comes in.
+///
+/// Up to two VLAN tags are skipped, and up to eight IPv6 extension headers. A packet ends where its total or payload
+/// length says, or with the frame. A length of 0, as captures show of offloaded packets, says nothing.
 #[inline]
 pub fn view(frame: &[u8], own: Option<Mac>) -> Frame
     ensures shown { IsFrame frame.now own (viewed result) }

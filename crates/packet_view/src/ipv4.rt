@@ -1,4 +1,4 @@
-//! IPv4 headers.
+//! IPv4 headers (RFC 791, section 3.1).
 ghost use Rattle.std.specs.Prelude.{◌≡◌};
 ghost use Rattle.packet_view.specs.FrameSteps.{packet_of_v4, packets};
 

@@ -1,4 +1,4 @@
-//! IPv6 headers, and the walk over extension headers.
+//! IPv6 headers, and the walk over extension headers (RFC 8200, sections 3 and 4).
 ghost use Rattle.std.specs.Prelude.{◌≡◌};
 ghost use Rattle.packet_view.specs.Ipv6;
 ghost use Rattle.packet_view.specs.FrameSteps.{header_of, headers, packet_of_v6, packets, uppers, walk};
@@ -16,6 +16,7 @@ enum Header<'a> {
     Last(Option<Upper<'a>>),
 }
 
+/// Hop-by-hop options, routing, fragment and destination options (RFC 8200, section 4).
 #[inline]
 fn is_extension(number: u8) -> bool
     ensures { result ≡ Ipv6.is_extension number }
@@ -23,6 +24,7 @@ fn is_extension(number: u8) -> bool
     matches!(number, 0 | 43 | 44 | 60)
 }
 
+/// What stands under this number at the front of the bytes.
 #[inline]
 fn header_at(number: u8, bytes: &[u8]) -> Header<'_>
     ensures { headers result ≡ header_of number bytes.now }

@@ -1,8 +1,11 @@
-//! What a reader of the standards expects of the definitions, each proved of all frames at once.
-ghost use Rattle.std.specs.Prelude.{◌≡◌, ◌↔◌, ◌++◌, ℕ, List, Option};
+//! What a reader of the standards expects of the definitions, proved of all frames and captures at once.
+ghost use Rattle.std.specs.Prelude.{◌≡◌, ◌≤◌, ◌↔◌, ◌++◌, ℕ, List, take, Option};
+ghost use Rattle.packet_view.specs.declared.capture.CaptureFault.{CaptureFault};
 ghost use Rattle.packet_view.specs.declared.tuple.Direction.{Direction};
 ghost use Rattle.packet_view.specs.declared.tuple.Family.{Family};
 ghost use Rattle.packet_view.specs.declared.tuple.Mac.{Mac};
+ghost use Rattle.packet_view.specs.Bytes.{AreBytes};
+ghost use Rattle.packet_view.specs.Captures.{End, IsCapture, IsCaptureFault, Seen};
 ghost use Rattle.packet_view.specs.Ethernet.{IsEthernet};
 ghost use Rattle.packet_view.specs.Frames.{EndsWithin, Ip, IsFrame, View, ether_type};
 ghost use Rattle.packet_view.specs.Tuples.{Facts};
@@ -24,4 +27,18 @@ pub fn bytes_behind_the_packet_are_not_seen()
 pub fn own_address_decides_the_way_alone()
     ensures { (frame : List ℕ) (own other : Option Mac) (direction : Direction) (tuple : Facts) →
         IsFrame frame own (Ip direction tuple) → (way : Direction) × IsFrame frame other (Ip way tuple) }
+{}
+
+/// The bytes of a capture are its packets and its end in one way, and then it has no fault.
+pub fn each_capture_has_one_reading()
+    ensures one { (bytes : List ℕ) (packets others : List Seen) (end other : End) → AreBytes bytes →
+        IsCapture bytes packets end → IsCapture bytes others other → (packets ≡ others) × (end ≡ other) }
+    ensures apart { (bytes : List ℕ) (packets : List Seen) (end : End) (fault : CaptureFault) → AreBytes bytes →
+        IsCapture bytes packets end → IsCaptureFault bytes fault → ⊥ }
+{}
+
+/// A capture that is cut anywhere behind its header is a capture of the front of its packets.
+pub fn a_cut_capture_keeps_its_front()
+    ensures { (bytes : List ℕ) (packets : List Seen) (end : End) (kept : ℕ) → IsCapture bytes packets end → 24 ≤ kept →
+        (count : ℕ) × (last : End) × IsCapture (take kept bytes) (take count packets) last }
 {}

@@ -1,7 +1,8 @@
 //! Frames and captures byte by byte, with the views that the standards give them.
 use crate::{
     Capture, CaptureFault, Direction, Family, Fields, Frame, Mac, Order, Piece, Tuple,
-    bytes_behind_the_packet_are_not_seen, capture_header, each_frame_has_one_view, next_record,
+    a_cut_capture_keeps_its_front, bytes_behind_the_packet_are_not_seen, capture_header,
+    each_capture_has_one_reading, each_frame_has_one_view, next_record,
     own_address_decides_the_way_alone, read_capture, view,
 };
 use std::test::Fail;
@@ -199,20 +200,22 @@ const IPV6_UDP: Tuple = Tuple {
 fn reads_ipv6_fragments(rt: HostRuntime) {
     let first = [
         0x02, 0, 0, 0, 0, 0x02, 0x02, 0, 0, 0, 0, 0x01, 0x86, 0xdd, // Ethernet
-        0x60, 0, 0, 0, 0, 0x20, 0, 0x40, // IPv6
-        0x20, 0x01, 0x0d, 0xb8, 0, 0, 0, 0, 0, 0, 0, 0, 0, 0, 0, 0x01, 0x20, 0x01, 0x0d, 0xb8, 0,
-        0, 0, 0, 0, 0, 0, 0, 0, 0, 0, 0x02, 0x2c, 0, 0x01, 0x04, 0, 0, 0, 0, // hop-by-hop options
+        0x60, 0, 0, 0, 0, 0x20, 0, 0x40, // IPv6, 32 bytes behind it
+        0x20, 0x01, 0x0d, 0xb8, 0, 0, 0, 0, 0, 0, 0, 0, 0, 0, 0, 0x01, // source
+        0x20, 0x01, 0x0d, 0xb8, 0, 0, 0, 0, 0, 0, 0, 0, 0, 0, 0, 0x02, // destination
+        0x2c, 0, 0x01, 0x04, 0, 0, 0, 0, // hop-by-hop options
         0x11, 0, 0, 0x01, 0, 0, 0, 0x01, // fragment, offset 0
         0x03, 0xe8, 0, 0x35, 0, 0x18, 0, 0, // UDP
-        0, 0, 0, 0, 0, 0, 0, 0, //
+        0, 0, 0, 0, 0, 0, 0, 0, // its bytes
     ];
     let later = [
         0x02, 0, 0, 0, 0, 0x02, 0x02, 0, 0, 0, 0, 0x01, 0x86, 0xdd, // Ethernet
-        0x60, 0, 0, 0, 0, 0x18, 0, 0x40, // IPv6
-        0x20, 0x01, 0x0d, 0xb8, 0, 0, 0, 0, 0, 0, 0, 0, 0, 0, 0, 0x01, 0x20, 0x01, 0x0d, 0xb8, 0,
-        0, 0, 0, 0, 0, 0, 0, 0, 0, 0, 0x02, 0x2c, 0, 0x01, 0x04, 0, 0, 0, 0, // hop-by-hop options
+        0x60, 0, 0, 0, 0, 0x18, 0, 0x40, // IPv6, 24 bytes behind it
+        0x20, 0x01, 0x0d, 0xb8, 0, 0, 0, 0, 0, 0, 0, 0, 0, 0, 0, 0x01, // source
+        0x20, 0x01, 0x0d, 0xb8, 0, 0, 0, 0, 0, 0, 0, 0, 0, 0, 0, 0x02, // destination
+        0x2c, 0, 0x01, 0x04, 0, 0, 0, 0, // hop-by-hop options
         0x11, 0, 0, 0x10, 0, 0, 0, 0x01, // fragment, offset 2
-        0, 0, 0, 0, 0, 0, 0, 0, //
+        0, 0, 0, 0, 0, 0, 0, 0, // its bytes
     ];
     let fragment = Tuple {
         family: Family::V6,
@@ -234,21 +237,34 @@ fn reads_ipv6_fragments(rt: HostRuntime) {
 fn skips_eight_ipv6_headers(rt: HostRuntime) {
     let eight = [
         0x02, 0, 0, 0, 0, 0x02, 0x02, 0, 0, 0, 0, 0x01, 0x86, 0xdd, // Ethernet
-        0x60, 0, 0, 0, 0, 0x48, 0x3c, 0x40, // IPv6
-        0x20, 0x01, 0x0d, 0xb8, 0, 0, 0, 0, 0, 0, 0, 0, 0, 0, 0, 0x01, 0x20, 0x01, 0x0d, 0xb8, 0,
-        0, 0, 0, 0, 0, 0, 0, 0, 0, 0, 0x02, 0x3c, 0, 0, 0, 0, 0, 0, 0, // destination options
-        0x3c, 0, 0, 0, 0, 0, 0, 0, 0x3c, 0, 0, 0, 0, 0, 0, 0, 0x3c, 0, 0, 0, 0, 0, 0, 0, 0x3c, 0,
-        0, 0, 0, 0, 0, 0, 0x3c, 0, 0, 0, 0, 0, 0, 0, 0x3c, 0, 0, 0, 0, 0, 0, 0, 0x11, 0, 0, 0, 0,
-        0, 0, 0, 0x03, 0xe8, 0, 0x35, 0, 0x08, 0, 0, // UDP
+        0x60, 0, 0, 0, 0, 0x48, 0x3c, 0x40, // IPv6, 72 bytes behind it
+        0x20, 0x01, 0x0d, 0xb8, 0, 0, 0, 0, 0, 0, 0, 0, 0, 0, 0, 0x01, // source
+        0x20, 0x01, 0x0d, 0xb8, 0, 0, 0, 0, 0, 0, 0, 0, 0, 0, 0, 0x02, // destination
+        0x3c, 0, 0, 0, 0, 0, 0, 0, // destination options
+        0x3c, 0, 0, 0, 0, 0, 0, 0, // destination options
+        0x3c, 0, 0, 0, 0, 0, 0, 0, // destination options
+        0x3c, 0, 0, 0, 0, 0, 0, 0, // destination options
+        0x3c, 0, 0, 0, 0, 0, 0, 0, // destination options
+        0x3c, 0, 0, 0, 0, 0, 0, 0, // destination options
+        0x3c, 0, 0, 0, 0, 0, 0, 0, // destination options
+        0x11, 0, 0, 0, 0, 0, 0, 0, // destination options, the eighth header
+        0x03, 0xe8, 0, 0x35, 0, 0x08, 0, 0, // UDP
     ];
     let nine = [
         0x02, 0, 0, 0, 0, 0x02, 0x02, 0, 0, 0, 0, 0x01, 0x86, 0xdd, // Ethernet
-        0x60, 0, 0, 0, 0, 0x50, 0x3c, 0x40, // IPv6
-        0x20, 0x01, 0x0d, 0xb8, 0, 0, 0, 0, 0, 0, 0, 0, 0, 0, 0, 0x01, 0x20, 0x01, 0x0d, 0xb8, 0,
-        0, 0, 0, 0, 0, 0, 0, 0, 0, 0, 0x02, 0x3c, 0, 0, 0, 0, 0, 0, 0, // destination options
-        0x3c, 0, 0, 0, 0, 0, 0, 0, 0x3c, 0, 0, 0, 0, 0, 0, 0, 0x3c, 0, 0, 0, 0, 0, 0, 0, 0x3c, 0,
-        0, 0, 0, 0, 0, 0, 0x3c, 0, 0, 0, 0, 0, 0, 0, 0x3c, 0, 0, 0, 0, 0, 0, 0, 0x3c, 0, 0, 0, 0,
-        0, 0, 0, 0x11, 0, 0, 0, 0, 0, 0, 0, 0x03, 0xe8, 0, 0x35, 0, 0x08, 0, 0, // UDP
+        0x60, 0, 0, 0, 0, 0x50, 0x3c, 0x40, // IPv6, 80 bytes behind it
+        0x20, 0x01, 0x0d, 0xb8, 0, 0, 0, 0, 0, 0, 0, 0, 0, 0, 0, 0x01, // source
+        0x20, 0x01, 0x0d, 0xb8, 0, 0, 0, 0, 0, 0, 0, 0, 0, 0, 0, 0x02, // destination
+        0x3c, 0, 0, 0, 0, 0, 0, 0, // destination options
+        0x3c, 0, 0, 0, 0, 0, 0, 0, // destination options
+        0x3c, 0, 0, 0, 0, 0, 0, 0, // destination options
+        0x3c, 0, 0, 0, 0, 0, 0, 0, // destination options
+        0x3c, 0, 0, 0, 0, 0, 0, 0, // destination options
+        0x3c, 0, 0, 0, 0, 0, 0, 0, // destination options
+        0x3c, 0, 0, 0, 0, 0, 0, 0, // destination options
+        0x3c, 0, 0, 0, 0, 0, 0, 0, // destination options
+        0x11, 0, 0, 0, 0, 0, 0, 0, // destination options, the ninth header
+        0x03, 0xe8, 0, 0x35, 0, 0x08, 0, 0, // UDP
     ];
     assert_eq!(rt; view(&eight, OWN), Frame::Ip(Direction::Outbound, IPV6_UDP));
     assert_eq!(rt; view(&nine, OWN), Frame::Malformed);
@@ -412,6 +428,8 @@ fn answers_the_fault_of_a_capture(rt: HostRuntime) -> Result<(), Fail> {
 #[test]
 fn states_the_laws() {
     each_frame_has_one_view();
+    each_capture_has_one_reading();
+    a_cut_capture_keeps_its_front();
     bytes_behind_the_packet_are_not_seen();
     own_address_decides_the_way_alone();
 }

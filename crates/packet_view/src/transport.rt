@@ -1,4 +1,4 @@
-//! The first bytes of TCP, UDP and ICMP.
+//! The first bytes of TCP (RFC 9293), UDP (RFC 768) and ICMP (RFC 792, RFC 4443).
 ghost use Rattle.std.specs.Prelude.{◌≡◌, IsTrue, IfSome};
 ghost use Rattle.packet_view.specs.Addresses.{fields_suit};
 ghost use Rattle.packet_view.specs.FrameSteps.{fields_of};
@@ -6,7 +6,8 @@ ghost use Rattle.packet_view.specs.FrameSteps.{fields_of};
 use crate::tuple::{Family, Fields};
 use byteorder::{BigEndian, ByteOrder};
 
-/// The fields under a protocol. None where the payload ends before they do.
+/// The fields under a protocol: 6 for TCP, 17 for UDP, 1 and 58 for the ICMP of either family. None where the payload
+/// ends before they do.
 #[inline]
 pub fn fields(family: Family, proto: u8, payload: &[u8]) -> Option<Fields>
     ensures exact { result ≡ fields_of family proto payload.now }

@@ -3,7 +3,6 @@ use Rattle.std.proofs.Common.{◌≡◌, ◌∙◌, ◌<◌, ap, arith, map, len
 use Rattle.std.specs.List.{IsDistinct, slice_index_or}
 use Rattle.std.specs.Prelude.{unwrap_or}
 use Rattle.std.specs.Str.{bytes_eq}
-use Rattle.std.specs.Str.Parse.{digits_value, without_leading_plus}
 use Rattle.std.proofs.lemmas.Bool.{cases_lt}
 use Rattle.std.proofs.lemmas.List.{get_or-map, length-map}
 use Rattle.std.proofs.lemmas.Map.Keys.{apart_from_distinct}
@@ -17,8 +16,8 @@ use Rattle.clap.specs.declared.parser.matches.ArgMatches.{ArgMatches}
 use Rattle.clap.proofs.OnLiterals.{clap_on_literals}
 use Rattle.clap.proofs.SimpleLemmas.{all_simple, plain_fields, simple_groups}
 use Rattle.clap.proofs.WalkLemmas.{one_text-rows}
-use Rattle.racl_cli.specs.Command.{AskFor, HoldsNumber, HoldsNumbers, OptionFacts, SpellsOptions, SpellsUpTo, most_seconds, most_workers, number_option, racl, text_at}
-use Rattle.racl_cli.proofs.NumberLemmas.{number_held, number_option_of}
+use Rattle.racl_cli.specs.Command.{AskFor, HoldsNumber, HoldsNumbers, OptionFacts, OptionName, Workers, Established, Transient, Udp, Spells, SpellsOptions, most_of, name_of, number_of, option_rule, racl, text_at}
+use Rattle.racl_cli.proofs.NumberLemmas.{number_held, option_by_rule}
 
 racl_is_simple : is_simple racl ≡ true
 unfolding clap_on_literals
@@ -77,15 +76,15 @@ module _ (c : Command) (is : app_of c ≡ racl) where
       absurd (omega arith)
 
   -- the matches hold a number for the option at a place
-  held_at : (m : ArgMatches) → IsParsedFrom c m → (k : ℕ) (d : Arg) (id default : Text) (most : ℕ) → k < 4
-      → slice_index_or racl.top.rules k (rule_of d) ≡ number_option id default most → HoldsNumber most (one_text (found_of m) id)
-  held_at m p k d id default most lt here =
+  held_at : (m : ArgMatches) → IsParsedFrom c m → (k : ℕ) (d : Arg) (o : OptionName) → k < 4 → slice_index_or racl.top.rules k (rule_of d) ≡ option_rule o
+      → HoldsNumber (most_of o) (one_text (found_of m) (name_of o))
+  held_at m p k d o lt here =
       let plain = plain_fields c (ap (λ (a : App). a.top.is_plain) is) in
       let simple : all_simple (shape_of c).rules ≡ true = ap (λ (a : App). all_simple a.top.rules) is in
-      let option = number_option_of (slice_index_or (args_of c) k d) id default most (rule_at k d lt ∙ here) in
-      number_held c m p plain.globals (simple_groups c simple) plain.groups k d id most option (rw four lt)
-      (λ j e low same. unique j k d e (rw four at low) lt ((bytes_eq-Decides _ id).0 same ∙ sym option.id_is))
-      (λ empty. own 0 k d (omega arith) lt (option.id_is ∙ empty))
+      let option = option_by_rule o (slice_index_or (args_of c) k d) (rule_at k d lt ∙ here) in
+      number_held c m p plain.globals (simple_groups c simple) plain.groups k d o option (rw four lt)
+      (λ j e low same. unique j k d e (rw four at low) lt ((bytes_eq-Decides _ (name_of o)).0 same ∙ sym option.name))
+      (λ empty. own 0 k d (omega arith) lt (option.name ∙ empty))
       (λ auto. elim auto [ inl h ↦ own 1 k d (omega arith) lt h | inr h ↦ own 2 k d (omega arith) lt h ])
 
 -- the matches hold a number for each option
@@ -97,10 +96,10 @@ numbers_held c m is p = go (args_of c) refl
         let none : length (args_of c) ≡ 0 = ap length e in
         absurd (omega (arith, four c is))
     go (d ∷ rest) e = record {
-      workers = held_at c is m p 0 d _ (codes "1") most_workers (omega arith) refl;
-      established = held_at c is m p 1 d _ (codes "86400") most_seconds (omega arith) refl;
-      transient = held_at c is m p 2 d _ (codes "120") most_seconds (omega arith) refl;
-      udp = held_at c is m p 3 d _ (codes "600") most_seconds (omega arith) refl;
+      workers = held_at c is m p 0 d Workers (omega arith) refl;
+      established = held_at c is m p 1 d Established (omega arith) refl;
+      transient = held_at c is m p 2 d Transient (omega arith) refl;
+      udp = held_at c is m p 3 d Udp (omega arith) refl;
     }
 
 -- what the getters read is what the command's matches hold
@@ -117,18 +116,18 @@ pub fails_by_fault : {T : Type 0} (c : Command) (words : List Text) (r : Result 
 fails_by_fault c words r is kinds = subst (λ a. FailsBy (fault_of a words) r) is (kinds (ap is_simple_and_free is ∙ racl_is_free))
 
 -- a text spells one number
-one_number : (most m n : ℕ) (text : Option Text) → SpellsUpTo most text m → SpellsUpTo most text n → m ≡ n
-one_number most m n text a b =
+one_number : (o : OptionName) (m n : ℕ) (text : Option Text) → Spells o text m → Spells o text n → m ≡ n
+one_number o m n text a b =
     let same : Some a.0 ≡ Some b.0 = sym a.1 ∙ b.1 in
-    a.3 ∙ ap (λ o. digits_value 10 (without_leading_plus (unwrap_or o a.0))) same ∙ sym b.3
+    a.3 ∙ ap (λ t. number_of (unwrap_or t a.0)) same ∙ sym b.3
 
 -- words ask for one setting of the options
 pub one_setting : (words : List Text) (a b : OptionFacts) → AskFor words a → AskFor words b → a ≡ b
 one_setting words a b p q =
-    let workers = one_number most_workers a.workers b.workers _ p.options.workers q.options.workers in
-    let established = one_number most_seconds a.established b.established _ p.options.established q.options.established in
-    let transient = one_number most_seconds a.transient b.transient _ p.options.transient q.options.transient in
-    let udp = one_number most_seconds a.udp b.udp _ p.options.udp q.options.udp in
+    let workers = one_number Workers a.workers b.workers _ p.options.workers q.options.workers in
+    let established = one_number Established a.established b.established _ p.options.established q.options.established in
+    let transient = one_number Transient a.transient b.transient _ p.options.transient q.options.transient in
+    let udp = one_number Udp a.udp b.udp _ p.options.udp q.options.udp in
     λ i. record { workers = workers i; established = established i; transient = transient i; udp = udp i }
 
 -- words without a fault are refused for want of memory alone

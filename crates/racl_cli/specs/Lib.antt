@@ -6,6 +6,7 @@ pub mod Inputs
 pub mod Judging
 pub mod Reports
 pub mod Runs
+pub mod Settings
 pub mod Statuses
 pub mod Stores
 pub mod Updates

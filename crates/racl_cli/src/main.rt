@@ -75,3 +75,6 @@ fn status_of_failure(rt: &HostRuntime, error: &io::Error) -> u8 {
     let _ = rt.eprintln(text);
     status
 }
+
+#[cfg(test)]
+mod tests;

@@ -1,9 +1,13 @@
 //! The command line: the words with which the program is called, read by `clap`.
-ghost use Rattle.std.specs.Prelude.{◌≡◌, ◌≢◌, ◌≤◌, ◌<◌, ◌^◌, ℕ, [], ◌∷◌, IfErr, IfOk, MatchResult, codes, false};
-ghost use Rattle.clap.specs.Words.{HasKind, app_of, fault_of, found_of, kind_of, new_app, one_text, rule_of};
+ghost use Rattle.std.specs.Prelude.{◌≡◌, ◌≢◌, List, ◌∷◌, IfErr, IfOk, MatchResult, codes, false};
+ghost use Rattle.std.specs.List.{flat_map};
 ghost use Rattle.clap.specs.Walk.{Text, texts};
-ghost use Rattle.racl_cli.specs.Command.{AskFor, HoldsNumber, HoldsNumbers, OptionFacts, SpellsOptions, SpellsUpTo, option_facts, racl};
+ghost use Rattle.clap.specs.Words.{HasKind, app_of, fault_of, found_of, kind_of, new_app};
+ghost use Rattle.clap.specs.Words.{one_text, rule_of};
+ghost use Rattle.racl_cli.specs.Command.{AskFor, HoldsNumber, HoldsNumbers, OptionFacts};
+ghost use Rattle.racl_cli.specs.Command.{OptionName, Spells, SpellsOptions, option_facts, racl};
 ghost use Rattle.racl_cli.specs.Command as line;
+ghost use Rattle.racl_cli.specs.Settings.{AreSettings, Setting, facts_of, words_of};
 
 use crate::settings::Options;
 use clap::error::ErrorKind;
@@ -15,8 +19,18 @@ use std::alloc::{AllocError, Global};
 /// mistake in the words or want of memory, by its kind.
 pub fn options<'a>(alloc: Global, words: &'a [&'a str]) -> Result<Options, Error>
     ensures ok { IfOk result (λ o. AskFor (texts words.entry.now) (option_facts o)) }
+
+    // Words that ask for something, and those that a user writes for it, are refused for want of
+    // memory alone.
     ensures accepts { (facts : OptionFacts) → AskFor (texts words.entry.now) facts
-        → MatchResult result (λ o. option_facts o ≡ facts) (λ e. kind_of e ≡ ErrorKind.OutOfMemory) }
+        → MatchResult result (λ o. option_facts o ≡ facts)
+        (λ e. kind_of e ≡ ErrorKind.OutOfMemory) }
+    ensures written { (program : Text) (settings : List Setting) → AreSettings settings
+        → texts words.entry.now ≡ program ∷ flat_map words_of settings
+        → MatchResult result (λ o. option_facts o ≡ facts_of settings)
+        (λ e. kind_of e ≡ ErrorKind.OutOfMemory) }
+
+    // An error has a kind of the words' fault, or memory ran out.
     ensures refuses { IfErr result (HasKind (fault_of racl (texts words.entry.now))) }
 {
     let matches = command(alloc)?.try_get_matches_from(words)?;
@@ -138,8 +152,9 @@ fn read_options(matches: &ArgMatches<'_>) -> Options
 
 fn number_at(matches: &ArgMatches<'_>, name: &str) -> u32
     requires { HoldsNumber line.most_seconds (one_text (found_of matches.now) name.now) }
-    ensures { (most : ℕ) → HoldsNumber most (one_text (found_of matches.now) name.now)
-        → SpellsUpTo most (one_text (found_of matches.now) name.now) result }
+    ensures { (option : OptionName)
+        → HoldsNumber (line.most_of option) (one_text (found_of matches.now) name.now)
+        → Spells option (one_text (found_of matches.now) name.now) result }
 {
     match matches.get_one::<u32>(name) {
         Some(number) => number,

@@ -17,7 +17,8 @@ min_max a b c = omega arith
 -- `and` distributes over `or`
 and_or : (a b c : ℕ) → bit_and (bit_or a b) c ≡ bit_or (bit_and a c) (bit_and b c)
 and_or a b c = same_from_bits _ _ (λ i.
-    bit_at_and (bit_or a b) c i ∙ ap (λ x. min x (bit_at c i)) (bit_at_or a b i) ∙ min_max (bit_at a i) (bit_at b i) (bit_at c i)
+    bit_at_and (bit_or a b) c i ∙ ap (λ x. min x (bit_at c i)) (bit_at_or a b i)
+    ∙ min_max (bit_at a i) (bit_at b i) (bit_at c i)
     ∙ sym (bit_at_or (bit_and a c) (bit_and b c) i ∙ ap₂ max (bit_at_and a c i) (bit_at_and b c i)))
 
 -- flags of two packets together are kept where each one's are

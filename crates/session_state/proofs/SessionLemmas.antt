@@ -1,4 +1,4 @@
--- A session and its word give each other back, and the decision of a packet is what its rules say.
+-- A session and its word give each other back.
 use Rattle.std.proofs.Common.{◌≡◌, ◌∙◌, ◌<◌, ◌+◌, ◌*◌, ◌/◌, ◌%◌, ◌^◌, ℕ, Bool, true, false, ap, ap₂, arith, sym, subst, refl, inl, inr, Some, None, if◌then◌else◌, ◌==◌, ◌&&◌, nat_lt}
 use Rattle.std.proofs.lemmas.Bool.{eq-eqb, eqb-true, ltb-true}
 use Rattle.std.proofs.lemmas.Bool.Decides.{eqb_tells}
@@ -11,26 +11,32 @@ use Rattle.session_state.specs.Sessions.{IsSession, SessionFacts, fields_of_word
 flags_fit : (flags : ℕ) → IsKept flags → flags < 2 ^ 8
 flags_fit flags kept = omega (arith, and_le_r flags 23, kept)
 
-last_place : (l f g k : ℕ) → l < 2 ^ 32 → f < 2 ^ 8 → g < 2 ^ 8 → (l + f * 2 ^ 32 + g * 2 ^ 40 + k * 2 ^ 48) % 2 ^ 32 ≡ l
+-- the word with these numbers at its places
+abbrev word_with : ℕ → ℕ → ℕ → ℕ → ℕ
+word_with l f g k = l + f * 2 ^ 32 + g * 2 ^ 40 + k * 2 ^ 48
+
+last_place : (l f g k : ℕ) → l < 2 ^ 32 → f < 2 ^ 8 → g < 2 ^ 8 → word_with l f g k % 2 ^ 32 ≡ l
 last_place l f g k fits_l fits_f fits_g = omega arith
 
-first_place : (l f g k : ℕ) → l < 2 ^ 32 → f < 2 ^ 8 → g < 2 ^ 8 → (l + f * 2 ^ 32 + g * 2 ^ 40 + k * 2 ^ 48) / 2 ^ 32 % 2 ^ 8 ≡ f
+first_place : (l f g k : ℕ) → l < 2 ^ 32 → f < 2 ^ 8 → g < 2 ^ 8 → word_with l f g k / 2 ^ 32 % 2 ^ 8 ≡ f
 first_place l f g k fits_l fits_f fits_g = omega arith
 
-second_place : (l f g k : ℕ) → l < 2 ^ 32 → f < 2 ^ 8 → g < 2 ^ 8 → (l + f * 2 ^ 32 + g * 2 ^ 40 + k * 2 ^ 48) / 2 ^ 40 % 2 ^ 8 ≡ g
+second_place : (l f g k : ℕ) → l < 2 ^ 32 → f < 2 ^ 8 → g < 2 ^ 8 → word_with l f g k / 2 ^ 40 % 2 ^ 8 ≡ g
 second_place l f g k fits_l fits_f fits_g = omega arith
 
-kind_place : (l f g k : ℕ) → l < 2 ^ 32 → f < 2 ^ 8 → g < 2 ^ 8 → (l + f * 2 ^ 32 + g * 2 ^ 40 + k * 2 ^ 48) / 2 ^ 48 ≡ k
+kind_place : (l f g k : ℕ) → l < 2 ^ 32 → f < 2 ^ 8 → g < 2 ^ 8 → word_with l f g k / 2 ^ 48 ≡ k
 kind_place l f g k fits_l fits_f fits_g = omega arith
 
--- a word has its places
-places : (word : ℕ) → word / 2 ^ 48 < 2 → word ≡ word % 2 ^ 32 + word / 2 ^ 32 % 2 ^ 8 * 2 ^ 32 + word / 2 ^ 40 % 2 ^ 8 * 2 ^ 40 + word / 2 ^ 48 * 2 ^ 48
+-- a word is made of what stands at its places
+places : (word : ℕ) → word / 2 ^ 48 < 2
+    → word ≡ word_with (word % 2 ^ 32) (word / 2 ^ 32 % 2 ^ 8) (word / 2 ^ 40 % 2 ^ 8) (word / 2 ^ 48)
 places word small = omega arith
 
-same_session : (one other : SessionFacts) → one.last ≡ other.last → one.first_flags ≡ other.first_flags → one.second_flags ≡ other.second_flags → one.tcp ≡ other.tcp → one ≡ other
+same_session : (one other : SessionFacts) → one.last ≡ other.last → one.first_flags ≡ other.first_flags
+    → one.second_flags ≡ other.second_flags → one.tcp ≡ other.tcp → one ≡ other
 same_session one other last first second tcp =
-    ap₂ (λ l f. let s : SessionFacts = record { last = l; first_flags = f; second_flags = one.second_flags; tcp = one.tcp } in s) last first
-    ∙ ap₂ (λ f t. let s : SessionFacts = record { last = other.last; first_flags = other.first_flags; second_flags = f; tcp = t } in s) second tcp
+    ap₂ (λ l f. let s : SessionFacts = record one { last = l; first_flags = f } in s) last first
+    ∙ ap₂ (λ f t. let s : SessionFacts = record other { second_flags = f; tcp = t } in s) second tcp
 
 kind_of_bit : (tcp : Bool) → ((if tcp then 1 else 0) == 1) ≡ tcp
 kind_of_bit true = refl
@@ -44,30 +50,33 @@ small_bit false = refl
 fields_of_session : (session : SessionFacts) → IsSession session → fields_of_word (session_word session) ≡ session
 fields_of_session session fits =
     let bit : ℕ = if session.tcp then 1 else 0 in
-    let fits_first = flags_fit session.first_flags fits.first in
-    let fits_second = flags_fit session.second_flags fits.second in
+    let first = flags_fit session.first_flags fits.first in
+    let second = flags_fit session.second_flags fits.second in
     same_session _ session
-    (last_place session.last session.first_flags session.second_flags bit fits.moment fits_first fits_second)
-    (first_place session.last session.first_flags session.second_flags bit fits.moment fits_first fits_second)
-    (second_place session.last session.first_flags session.second_flags bit fits.moment fits_first fits_second)
-    (ap (λ k. k == 1) (kind_place session.last session.first_flags session.second_flags bit fits.moment fits_first fits_second) ∙ kind_of_bit session.tcp)
+    (last_place session.last session.first_flags session.second_flags bit fits.moment first second)
+    (first_place session.last session.first_flags session.second_flags bit fits.moment first second)
+    (second_place session.last session.first_flags session.second_flags bit fits.moment first second)
+    (ap (λ k. k == 1) (kind_place session.last session.first_flags session.second_flags bit fits.moment first second)
+    ∙ kind_of_bit session.tcp)
 
 -- the word of a session is one
 is_word : (session : SessionFacts) → IsSession session → is_session_word (session_word session) ≡ true
 is_word session fits =
     let bit : ℕ = if session.tcp then 1 else 0 in
-    let fits_first = flags_fit session.first_flags fits.first in
-    let fits_second = flags_fit session.second_flags fits.second in
-    let kind : session_word session / 2 ^ 48 ≡ bit = kind_place session.last session.first_flags session.second_flags bit fits.moment fits_first fits_second in
-    let same = fields_of_session session fits in
-    let test : Bool → SessionFacts → Bool = λ small s. small && ((kept_flags s.first_flags == s.first_flags) && (kept_flags s.second_flags == s.second_flags)) in
-    ap₂ test (ap (λ k. nat_lt k 2) kind ∙ small_bit session.tcp) same
+    let first = flags_fit session.first_flags fits.first in
+    let second = flags_fit session.second_flags fits.second in
+    let kind : session_word session / 2 ^ 48 ≡ bit =
+    kind_place session.last session.first_flags session.second_flags bit fits.moment first second in
+    let test : Bool → SessionFacts → Bool = λ small s.
+    small && ((kept_flags s.first_flags == s.first_flags) && (kept_flags s.second_flags == s.second_flags)) in
+    ap₂ test (ap (λ k. nat_lt k 2) kind ∙ small_bit session.tcp) (fields_of_session session fits)
     ∙ ap₂ (λ a b. true && (a && b)) (eq-eqb _ _ fits.first) (eq-eqb _ _ fits.second)
 
 -- a session is the session of its word
 pub session_of_word : (session : SessionFacts) → IsSession session → session_of (session_word session) ≡ Some session
 session_of_word session fits =
-    ap (λ b. if b then Some (fields_of_word (session_word session)) else None) (is_word session fits) ∙ ap Some (fields_of_session session fits)
+    ap (λ b. if b then Some (fields_of_word (session_word session)) else None) (is_word session fits)
+    ∙ ap Some (fields_of_session session fits)
 
 bit_of_kind : (kind : ℕ) → kind < 2 → (if kind == 1 then 1 else 0) ≡ kind
 bit_of_kind kind small =
@@ -82,17 +91,20 @@ both_true true false both = cc
 both_true false y both = cc
 
 -- a word that is one of a session is the word of its places
-word_fits : (word : ℕ) → is_session_word word ≡ true → IsSession (fields_of_word word) × (session_word (fields_of_word word) ≡ word)
+word_fits : (word : ℕ) → is_session_word word ≡ true
+    → IsSession (fields_of_word word) × (session_word (fields_of_word word) ≡ word)
 word_fits word test =
     let parts = both_true _ _ test in
     let flags = both_true _ _ parts.1 in
     let small : word / 2 ^ 48 < 2 = ltb-true (word / 2 ^ 48) 2 parts.0 in (
       record { moment = omega arith; first = eqb-true _ _ flags.0; second = eqb-true _ _ flags.1 },
-      ap (λ k. word % 2 ^ 32 + word / 2 ^ 32 % 2 ^ 8 * 2 ^ 32 + word / 2 ^ 40 % 2 ^ 8 * 2 ^ 40 + k * 2 ^ 48) (bit_of_kind (word / 2 ^ 48) small) ∙ sym (places word small),
+      ap (word_with (word % 2 ^ 32) (word / 2 ^ 32 % 2 ^ 8) (word / 2 ^ 40 % 2 ^ 8))
+          (bit_of_kind (word / 2 ^ 48) small) ∙ sym (places word small),
     )
 
 -- the session of a word has that word
-pub word_of_session : (word : ℕ) (session : SessionFacts) → session_of word ≡ Some session → IsSession session × (session_word session ≡ word)
+pub word_of_session : (word : ℕ) (session : SessionFacts) → session_of word ≡ Some session
+    → IsSession session × (session_word session ≡ word)
 word_of_session word session same =
     let found = cond_some (is_session_word word) (fields_of_word word) session same in
     subst (λ s. IsSession s × (session_word s ≡ word)) found.1 (word_fits word found.0)

@@ -16,7 +16,14 @@ pub record PatchFacts : Type 0 where
   pub times : Timeouts
 
 abbrev pub patch_facts : PacketPatch → PatchFacts
-patch_facts p = record { moment = p.moment; side = p.side; flags = p.flags; tcp = p.tcp; reflects = p.reflects; times = p.times }
+patch_facts p = record {
+  moment = p.moment;
+  side = p.side;
+  flags = p.flags;
+  tcp = p.tcp;
+  reflects = p.reflects;
+  times = p.times;
+}
 
 -- the stored value is the word of a session that is live at the packet's moment
 pub record IsLiveFor (packet : PatchFacts) (old : Option ℕ) (session : SessionFacts) : Type 0 where
@@ -26,7 +33,8 @@ pub record IsLiveFor (packet : PatchFacts) (old : Option ℕ) (session : Session
 
 -- the session where it is live at the packet's moment
 abbrev pub if_live : PatchFacts → SessionFacts → Option SessionFacts
-if_live packet session = if nat_le packet.moment (live_until session packet.times) then Some session else None
+if_live packet session =
+    if nat_le packet.moment (live_until session packet.times) then Some session else None
 
 -- the live session of a stored value
 abbrev pub live_session : PatchFacts → Option ℕ → Option SessionFacts
@@ -52,7 +60,8 @@ passed_session packet session = touched_session session packet.moment packet.sid
 
 abbrev pub decision_at : PatchFacts → Option ℕ → Option SessionFacts → Change
 decision_at packet old (Some session) = Set (session_word (passed_session packet session))
-decision_at packet old None = if packet.reflects then Set (session_word (started_session packet)) else removal_of old
+decision_at packet old None =
+    if packet.reflects then Set (session_word (started_session packet)) else removal_of old
 
 -- the decision of a packet on the stored value
 abbrev pub decision_of : PatchFacts → Option ℕ → Change
@@ -62,8 +71,11 @@ decision_of packet old = decision_at packet old (live_session packet old)
 abbrev pub HasNoneLive : PatchFacts → Option ℕ → Type 0
 HasNoneLive packet old = (session : SessionFacts) → IsLiveFor packet old session → ⊥
 
--- what a packet decides: a live session is touched; else a packet that reflects starts a session; else what is stored goes
+-- what a packet decides: a live session is touched; else a packet that reflects starts a session;
+-- else what is stored goes
 pub record IsDecision (packet : PatchFacts) (old : Option ℕ) (change : Change) : Type 0 where
-  pub passes : (session : SessionFacts) → IsLiveFor packet old session → change ≡ Set (session_word (passed_session packet session))
-  pub starts : HasNoneLive packet old → packet.reflects ≡ true → change ≡ Set (session_word (started_session packet))
+  pub passes : (session : SessionFacts) → IsLiveFor packet old session
+      → change ≡ Set (session_word (passed_session packet session))
+  pub starts : HasNoneLive packet old → packet.reflects ≡ true
+      → change ≡ Set (session_word (started_session packet))
   pub clears : HasNoneLive packet old → packet.reflects ≡ false → change ≡ removal_of old

@@ -1,4 +1,5 @@
--- The TCP flags that a session keeps (flags of RFC 9293, section 3.1; which are kept is this project's profile).
+-- The TCP flags that a session keeps. The flags are of RFC 9293, section 3.1; which of them are kept
+-- is this project's profile.
 use Rattle.std.specs.Prelude.{◌≡◌, ℕ, bit_and}
 
 -- FIN, SYN, RST and ACK

@@ -1,4 +1,5 @@
--- Which packets take part in sessions, and the key of a flow in its family's table (echo types of RFC 792 and RFC 4443; the order of the ends and the layout of a key are this project's profile).
+-- Which packets take part in sessions, and the key of a flow in its family's table. The types of an
+-- echo are of RFC 792 and RFC 4443; the order of the ends and the layout of a key are this project's.
 use Rattle.std.specs.Prelude.{◌≡◌, ◌≢◌, ◌<◌, ◌⊎◌, ℕ, ◌+◌, ◌*◌, ◌/◌, ◌%◌, ◌^◌, Bool, true, false, ◌||◌, ◌&&◌, ◌==◌, nat_lt, nat_le, if◌then◌else◌, [], ◌∷◌, Option, Some, None}
 use Rattle.packet_view.specs.declared.tuple.Family.{Family}
 use Rattle.packet_view.specs.declared.tuple.Family.TheVariants.{V4, V6}
@@ -50,7 +51,8 @@ IsEchoReply packet = (code : ℕ) × (packet.fields ≡ Icmp (reply_type packet.
 abbrev pub Precedes : End → End → Type 0
 Precedes one other = (one.address < other.address) ⊎ ((one.address ≡ other.address) × (one.port < other.port))
 
--- the last word of a key: the port that stands first from bit 48, the other from bit 32, the protocol from bit 24
+-- the last word of a key: the first end's port from bit 48, the other's from bit 32, the protocol from
+-- bit 24
 abbrev pub ports_word : End → End → ℕ → ℕ
 ports_word first second proto = first.port * 2 ^ 48 + second.port * 2 ^ 32 + proto * 2 ^ 24
 
@@ -58,7 +60,8 @@ ports_word first second proto = first.port * 2 ^ 48 + second.port * 2 ^ 32 + pro
 abbrev pub key_of : Family → End → End → ℕ → FlowKey
 key_of V4 first second proto = Four ((first.address * 2 ^ 32 + second.address) ∷ ports_word first second proto ∷ [])
 key_of V6 first second proto =
-    Six ((first.address / 2 ^ 64) ∷ (first.address % 2 ^ 64) ∷ (second.address / 2 ^ 64) ∷ (second.address % 2 ^ 64) ∷ ports_word first second proto ∷ [])
+    Six ((first.address / 2 ^ 64) ∷ (first.address % 2 ^ 64) ∷ (second.address / 2 ^ 64) ∷ (second.address % 2 ^ 64)
+    ∷ ports_word first second proto ∷ [])
 
 -- both ends in an order in which the lesser one stands first
 abbrev pub LesserFirst : End → End → End → End → Type 0
@@ -66,7 +69,8 @@ LesserFirst sender receiver first second =
     ((first ≡ sender) × (second ≡ receiver) × (Precedes receiver sender → ⊥))
     ⊎ ((first ≡ receiver) × (second ≡ sender) × (Precedes sender receiver → ⊥))
 
--- the ends of a packet's flow in the order of its key: of TCP and UDP the lesser one first, of an echo the one that asks
+-- the ends of a packet's flow in the order of its key: of TCP and UDP the lesser one first, of an
+-- echo the one that asks
 abbrev pub StandAs : Facts → Fields → End → End → Type 0
 StandAs packet Absent first second = ⊥
 StandAs packet (Ports from to) first second = LesserFirst (sender_of packet) (receiver_of packet) first second
@@ -86,28 +90,41 @@ pub record IsFlow (packet : Facts) (flow : Flow) : Type 0 where
   pub reply : IsEchoReply packet → flow.starts ≡ false
   pub other : (IsEchoReply packet → ⊥) → flow.starts ≡ true
 
+-- What follows computes the flow that `IsFlow` names.
+
 -- the side of a sender, where `first` stands first
 abbrev pub side_of : End → End → ℕ
 side_of first sender = if (sender.address == first.address) && (sender.port == first.port) then 0 else 1
 
+-- the flow of a packet whose ends stand in this order
 abbrev pub oriented : Facts → End → End → Bool → Flow
 oriented packet first second starts =
-    record { key = key_of packet.family first second packet.proto; side = side_of first (sender_of packet); starts = starts }
+    record {
+      key = key_of packet.family first second packet.proto;
+      side = side_of first (sender_of packet);
+      starts = starts;
+    }
 
+-- the test of the order: the other end isn't lesser
 abbrev pub stands_first : End → End → Bool
-stands_first one other = nat_lt one.address other.address || ((one.address == other.address) && nat_le one.port other.port)
+stands_first one other =
+    nat_lt one.address other.address || ((one.address == other.address) && nat_le one.port other.port)
 
 -- the flow of a packet with ports
 abbrev pub flow_by_order : Facts → Flow
 flow_by_order packet =
-    if stands_first (sender_of packet) (receiver_of packet) then oriented packet (sender_of packet) (receiver_of packet) true
+    if stands_first (sender_of packet) (receiver_of packet)
+    then oriented packet (sender_of packet) (receiver_of packet) true
     else oriented packet (receiver_of packet) (sender_of packet) true
 
 -- the flow of an ICMP packet, where it is an echo
 abbrev pub echo_flow : Facts → ℕ → Option Flow
 echo_flow packet kind =
-    if kind == request_type packet.family then Some (oriented packet (sender_of packet) (receiver_of packet) true)
-    else (if kind == reply_type packet.family then Some (oriented packet (receiver_of packet) (sender_of packet) false) else None)
+    if kind == request_type packet.family
+    then Some (oriented packet (sender_of packet) (receiver_of packet) true)
+    else (if kind == reply_type packet.family
+    then Some (oriented packet (receiver_of packet) (sender_of packet) false)
+    else None)
 
 abbrev pub flow_with : Facts → Fields → Option Flow
 flow_with packet Absent = None

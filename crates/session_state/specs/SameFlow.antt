@@ -4,7 +4,8 @@ use Rattle.packet_view.specs.Addresses.{address_limit, fields_suit}
 use Rattle.packet_view.specs.Tuples.{Facts}
 use Rattle.packet_view.specs.declared.tuple.Fields.{Fields}
 use Rattle.packet_view.specs.declared.tuple.Fields.TheVariants.{Absent, Ports, Tcp, Icmp}
-use Rattle.session_state.specs.Flows.{IsEchoReply, IsEchoRequest, dest_port, receiver_of, sender_of, source_port}
+use Rattle.session_state.specs.declared.flow.Flow.{Flow}
+use Rattle.session_state.specs.Flows.{IsEchoReply, IsEchoRequest, IsFlow, dest_port, receiver_of, sender_of, source_port}
 
 -- what the type of a five-tuple and the widths of its numbers keep
 pub record IsTuple (packet : Facts) : Type 0 where
@@ -15,6 +16,13 @@ pub record IsTuple (packet : Facts) : Type 0 where
   pub dest_port : dest_port packet.fields < 2 ^ 16
   pub suit : IsTrue (fields_suit packet.family packet.proto packet.fields)
 
+-- two packets, and the flows that they are of
+pub record AreFlows (a b : Facts) (f g : Flow) : Type 0 where
+  pub one_tuple : IsTuple a
+  pub other_tuple : IsTuple b
+  pub one : IsFlow a f
+  pub other : IsFlow b g
+
 -- the fields of TCP or UDP
 abbrev pub HavePorts : Fields → Type 0
 HavePorts Absent = ⊥
@@ -24,16 +32,16 @@ HavePorts (Icmp kind code) = ⊥
 
 -- both packets go from one end to the other, or one goes back where the other came from
 abbrev pub SameEnds : Facts → Facts → Type 0
-SameEnds one other =
-    ((sender_of one ≡ sender_of other) × (receiver_of one ≡ receiver_of other))
-    ⊎ ((sender_of one ≡ receiver_of other) × (receiver_of one ≡ sender_of other))
+SameEnds a b =
+    ((sender_of a ≡ sender_of b) × (receiver_of a ≡ receiver_of b))
+    ⊎ ((sender_of a ≡ receiver_of b) × (receiver_of a ≡ sender_of b))
 
 -- both packets are of one protocol with ports, between the same ends
-pub record SameExchange (one other : Facts) : Type 0 where
-  pub one_ports : HavePorts one.fields
-  pub other_ports : HavePorts other.fields
-  pub proto : one.proto ≡ other.proto
-  pub ends : SameEnds one other
+pub record SameExchange (a b : Facts) : Type 0 where
+  pub one_ports : HavePorts a.fields
+  pub other_ports : HavePorts b.fields
+  pub proto : a.proto ≡ b.proto
+  pub ends : SameEnds a b
 
 -- the packet is an echo that the address `requester` asks of `answerer`, or the reply to it
 abbrev pub IsEcho : Facts → ℕ → ℕ → Type 0
@@ -43,23 +51,24 @@ IsEcho packet requester answerer =
 
 -- both packets are echoes that one address asks of another
 abbrev pub SameEcho : Facts → Facts → Type 0
-SameEcho one other = (requester answerer : ℕ) × IsEcho one requester answerer × IsEcho other requester answerer
+SameEcho a b = (requester answerer : ℕ) × IsEcho a requester answerer × IsEcho b requester answerer
 
 -- a TCP or UDP flow is a protocol and two ends in no order, an echo flow a requester and an answerer
 abbrev pub SameFlow : Facts → Facts → Type 0
-SameFlow one other = (one.family ≡ other.family) × (SameExchange one other ⊎ SameEcho one other)
+SameFlow a b = (a.family ≡ b.family) × (SameExchange a b ⊎ SameEcho a b)
 
--- fields that go back where others came from
+-- the fields of packets of which the second goes back where the first came from
 abbrev pub AnswerFields : Facts → Fields → Facts → Fields → Type 0
-AnswerFields one (Ports from to) other (Ports back_from back_to) = (back_from ≡ to) × (back_to ≡ from)
-AnswerFields one (Tcp from to flags) other (Tcp back_from back_to back_flags) = (back_from ≡ to) × (back_to ≡ from)
-AnswerFields one (Icmp kind code) other (Icmp back_kind back_code) = (IsEchoRequest one × IsEchoReply other) ⊎ (IsEchoReply one × IsEchoRequest other)
-AnswerFields one _ other _ = ⊥
+AnswerFields a (Ports from to) b (Ports back_from back_to) = (back_from ≡ to) × (back_to ≡ from)
+AnswerFields a (Tcp from to flags) b (Tcp back_from back_to back_flags) = (back_from ≡ to) × (back_to ≡ from)
+AnswerFields a (Icmp kind code) b (Icmp back_kind back_code) =
+    (IsEchoRequest a × IsEchoReply b) ⊎ (IsEchoReply a × IsEchoRequest b)
+AnswerFields a _ b _ = ⊥
 
--- the other packet goes the other way of one flow
-pub record IsAnswer (one other : Facts) : Type 0 where
-  pub family : other.family ≡ one.family
-  pub proto : other.proto ≡ one.proto
-  pub source : other.source ≡ one.dest
-  pub dest : other.dest ≡ one.source
-  pub fields : AnswerFields one one.fields other other.fields
+-- the second packet goes the other way of the first one's flow
+pub record IsAnswer (a b : Facts) : Type 0 where
+  pub family : b.family ≡ a.family
+  pub proto : b.proto ≡ a.proto
+  pub source : b.source ≡ a.dest
+  pub dest : b.dest ≡ a.source
+  pub fields : AnswerFields a a.fields b b.fields

@@ -28,19 +28,24 @@ with_flags session side flags =
 
 -- the session that a packet of this side and these flags starts
 abbrev pub new_session : ℕ → ℕ → ℕ → Bool → SessionFacts
-new_session moment side flags tcp = with_flags (record { last = moment; first_flags = 0; second_flags = 0; tcp = tcp }) side flags
+new_session moment side flags tcp =
+    with_flags (record { last = moment; first_flags = 0; second_flags = 0; tcp = tcp }) side flags
 
 -- the session after a packet of this side and these flags
 abbrev pub touched_session : SessionFacts → ℕ → ℕ → ℕ → SessionFacts
-touched_session session moment side flags = with_flags (record session { last = max session.last moment }) side flags
+touched_session session moment side flags =
+    with_flags (record session { last = max session.last moment }) side flags
 
 -- exactly SYN and ACK were seen on both sides
 abbrev pub is_established : SessionFacts → Bool
-is_established session = (session.first_flags == syn_and_ack) && (session.second_flags == syn_and_ack)
+is_established session =
+    (session.first_flags == syn_and_ack) && (session.second_flags == syn_and_ack)
 
 -- how long the session outlives its last moment
 abbrev pub timeout_of : SessionFacts → Timeouts → ℕ
-timeout_of session times = if session.tcp then (if is_established session then times.established else times.transient) else times.udp
+timeout_of session times =
+    if session.tcp then (if is_established session then times.established else times.transient)
+    else times.udp
 
 -- the last second in which the session is live
 abbrev pub live_until : SessionFacts → Timeouts → ℕ
@@ -52,17 +57,26 @@ IsLive session times moment = moment ≤ live_until session times
 
 -- the word of a session
 abbrev pub session_word : SessionFacts → ℕ
-session_word session = session.last + session.first_flags * 2 ^ 32 + session.second_flags * 2 ^ 40 + (if session.tcp then 1 else 0) * 2 ^ 48
+session_word session =
+    session.last + session.first_flags * 2 ^ 32 + session.second_flags * 2 ^ 40
+    + (if session.tcp then 1 else 0) * 2 ^ 48
 
 -- what stands at the places of a session in a word
 abbrev pub fields_of_word : ℕ → SessionFacts
-fields_of_word word = record { last = word % 2 ^ 32; first_flags = word / 2 ^ 32 % 2 ^ 8; second_flags = word / 2 ^ 40 % 2 ^ 8; tcp = word / 2 ^ 48 == 1 }
+fields_of_word word = record {
+  last = word % 2 ^ 32;
+  first_flags = word / 2 ^ 32 % 2 ^ 8;
+  second_flags = word / 2 ^ 40 % 2 ^ 8;
+  tcp = word / 2 ^ 48 == 1;
+}
 
 -- the word is one of a session
 abbrev pub is_session_word : ℕ → Bool
 is_session_word word =
     let session = fields_of_word word in
-    nat_lt (word / 2 ^ 48) 2 && ((kept_flags session.first_flags == session.first_flags) && (kept_flags session.second_flags == session.second_flags))
+    nat_lt (word / 2 ^ 48) 2
+    && ((kept_flags session.first_flags == session.first_flags)
+    && (kept_flags session.second_flags == session.second_flags))
 
 -- the session of a word, where it has one
 abbrev pub session_of : ℕ → Option SessionFacts

@@ -106,7 +106,8 @@ fn echo(tuple: &Tuple, kind: u8) -> Option<Flow>
 
 /// The flow of a packet, `None` where it takes no part in sessions.
 ///
-/// TCP and UDP packets take part, and echo requests and replies of their own family's ICMP (RFC 792, RFC 4443).
+/// TCP and UDP packets take part, and echo requests and replies of their own family's ICMP
+/// (RFC 792, RFC 4443).
 #[tactic(auto, using(crate::proofs::FlowLemmas::found, crate::proofs::FlowLemmas::only))]
 pub fn orient(tuple: &Tuple) -> Option<Flow>
     ensures value { result ≡ flow_of (facts tuple.now) }

@@ -1,10 +1,12 @@
-//! What follows from the definitions for every packet and every session. The functions do nothing: their contracts are the laws.
-ghost use Rattle.std.specs.Prelude.{◌≡◌, ◌≢◌, ◌≤◌, ◌+◌, ◌↔◌, ℕ, Option, Some, IsSome, true, false};
+//! What follows from the definitions, for every packet and every session.
+//!
+//! The functions do nothing: their contracts are the laws.
+ghost use Rattle.std.specs.Prelude.{◌≡◌, ◌≢◌, ◌≤◌, ◌+◌, ℕ, Option, Some, IsSome, false};
 ghost use Rattle.bihash_words.specs.declared.patch.Change.TheVariants.{Set};
 ghost use Rattle.packet_view.specs.Tuples.{Facts, facts};
 ghost use Rattle.session_state.specs.Decisions.{PatchFacts, decision_of, is_live_for};
 ghost use Rattle.session_state.specs.Flows.{IsEchoReply, IsFlow, flow_of, receiver_of, sender_of};
-ghost use Rattle.session_state.specs.SameFlow.{IsAnswer, IsTuple, SameFlow};
+ghost use Rattle.session_state.specs.SameFlow.{AreFlows, IsAnswer, IsTuple, SameFlow};
 ghost use Rattle.session_state.specs.Sessions.{IsLive, IsSession, SessionFacts, session_of, session_word, timeout_of, touched_session};
 ghost use Rattle.session_state.specs.declared.flow.Flow.{Flow};
 ghost use Rattle.session_state.specs.declared.timeouts.Timeouts.{Timeouts};
@@ -17,39 +19,46 @@ pub fn tuples_are_in_range(tuple: Tuple)
 {}
 
 /// Packets have one key exactly where they are of one flow.
-#[tactic(auto, using(crate::proofs::SameFlowLemmas::key_of_same_flow, crate::proofs::SameFlowLemmas::same_flow_of_key, crate::proofs::SameFlowLemmas::take_part))]
+#[tactic(auto, using(crate::proofs::SameFlowLemmas::key_of_same_flow, crate::proofs::SameFlowLemmas::take_part))]
 pub fn keys_tell_flows()
-    ensures one_key { (a b : Facts) (f g : Flow) → IsTuple a → IsTuple b → IsFlow a f → IsFlow b g → SameFlow a b → f.key ≡ g.key }
-    ensures one_flow { (a b : Facts) (f g : Flow) → IsTuple a → IsTuple b → IsFlow a f → IsFlow b g → f.key ≡ g.key → SameFlow a b }
+    ensures one_key { (a b : Facts) (f g : Flow) → AreFlows a b f g → SameFlow a b → f.key ≡ g.key }
+    ensures one_flow { (a b : Facts) (f g : Flow) → AreFlows a b f g → f.key ≡ g.key → SameFlow a b }
     ensures take_part { (a b : Facts) → SameFlow a b → IsSome (flow_of a) × IsSome (flow_of b) }
 {}
 
-/// Packets of one flow have one side exactly where one end sends both. Where both ends are the same, that is side 0.
-#[tactic(auto, using(crate::proofs::SameFlowLemmas::side_of_sender, crate::proofs::SameFlowLemmas::sender_of_side, crate::proofs::SameFlowLemmas::side_of_tie))]
+/// Packets of one flow have one side exactly where one end sends both. Between equal ends that is
+/// side 0.
+#[tactic(auto, using(crate::proofs::SideLemmas::side_of_sender, crate::proofs::SideLemmas::sender_of_side, crate::proofs::SideLemmas::side_of_tie))]
 pub fn sides_tell_senders()
-    ensures one_side { (a b : Facts) (f g : Flow) → IsTuple a → IsTuple b → IsFlow a f → IsFlow b g → SameFlow a b → sender_of a ≡ sender_of b → f.side ≡ g.side }
-    ensures one_sender { (a b : Facts) (f g : Flow) → IsTuple a → IsTuple b → IsFlow a f → IsFlow b g → SameFlow a b → f.side ≡ g.side → sender_of a ≡ sender_of b }
+    ensures one_side { (a b : Facts) (f g : Flow) → AreFlows a b f g → SameFlow a b
+        → sender_of a ≡ sender_of b → f.side ≡ g.side }
+    ensures one_sender { (a b : Facts) (f g : Flow) → AreFlows a b f g → SameFlow a b
+        → f.side ≡ g.side → sender_of a ≡ sender_of b }
     ensures tie { (a : Facts) (f : Flow) → IsFlow a f → sender_of a ≡ receiver_of a → f.side ≡ 0 }
 {}
 
 /// A packet and its answer have one key, and opposite sides where the ends differ.
-#[tactic(auto, using(crate::proofs::SameFlowLemmas::key_of_answer, crate::proofs::SameFlowLemmas::side_of_answer))]
+#[tactic(auto, using(crate::proofs::SameFlowLemmas::key_of_answer, crate::proofs::SideLemmas::side_of_answer))]
 pub fn both_directions_share_a_key()
-    ensures one_key { (a b : Facts) (f g : Flow) → IsTuple a → IsTuple b → IsFlow a f → IsFlow b g → IsAnswer a b → f.key ≡ g.key }
-    ensures opposite { (a b : Facts) (f g : Flow) → IsTuple a → IsTuple b → IsFlow a f → IsFlow b g → IsAnswer a b → sender_of a ≢ receiver_of a → f.side + g.side ≡ 1 }
+    ensures one_key { (a b : Facts) (f g : Flow) → AreFlows a b f g → IsAnswer a b → f.key ≡ g.key }
+    ensures opposite { (a b : Facts) (f g : Flow) → AreFlows a b f g → IsAnswer a b
+        → sender_of a ≢ receiver_of a → f.side + g.side ≡ 1 }
 {}
 
-/// An echo reply may not start a session, and what may not start one sets no value where no session is live.
+/// An echo reply may not start a session, and a packet that doesn't reflect sets no value where no
+/// session is live.
 pub fn replies_start_nothing()
     ensures reply { (a : Facts) (f : Flow) → IsFlow a f → IsEchoReply a → f.starts ≡ false }
-    ensures none_set { (p : PatchFacts) (old : Option ℕ) (word : ℕ) → p.reflects ≡ false → is_live_for p old ≡ false → decision_of p old ≢ Set word }
+    ensures none_set { (p : PatchFacts) (old : Option ℕ) (word : ℕ) → p.reflects ≡ false
+        → is_live_for p old ≡ false → decision_of p old ≢ Set word }
 {}
 
 /// A session has one word, and a word at most one session.
 #[tactic(auto, using(crate::proofs::SessionLemmas::session_of_word, crate::proofs::SessionLemmas::word_of_session))]
 pub fn words_tell_sessions()
     ensures word { (s : SessionFacts) → IsSession s → session_of (session_word s) ≡ Some s }
-    ensures session { (word : ℕ) (s : SessionFacts) → session_of word ≡ Some s → IsSession s × (session_word s ≡ word) }
+    ensures session { (word : ℕ) (s : SessionFacts) → session_of word ≡ Some s
+        → IsSession s × (session_word s ≡ word) }
 {}
 
 /// A session is live in the last second of its timeout, and not in the next.
@@ -60,6 +69,8 @@ pub fn last_second_counts()
 
 /// The last moment never falls: a packet of an earlier moment leaves it.
 pub fn last_never_falls()
-    ensures earlier { (s : SessionFacts) (moment side flags : ℕ) → moment ≤ s.last → (touched_session s moment side flags).last ≡ s.last }
-    ensures later { (s : SessionFacts) (moment side flags : ℕ) → s.last ≤ moment → (touched_session s moment side flags).last ≡ moment }
+    ensures earlier { (s : SessionFacts) (moment side flags : ℕ) → moment ≤ s.last
+        → (touched_session s moment side flags).last ≡ s.last }
+    ensures later { (s : SessionFacts) (moment side flags : ℕ) → s.last ≤ moment
+        → (touched_session s moment side flags).last ≡ moment }
 {}

@@ -88,7 +88,8 @@ impl Session {
     pub fn from_word(word: u64) -> Option<Session>
         ensures value { result ≡ session_of word }
         ensures found { IfSome result (λ session. IsSession session × (session_word session ≡ word)) }
-        ensures only { (session : SessionFacts) → IsSession session → session_word session ≡ word → result ≡ Some session }
+        ensures only { (session : SessionFacts) → IsSession session → session_word session ≡ word
+            → result ≡ Some session }
     {
         let last = (word & 0xffff_ffff) as u32;
         let first_flags = ((word >> 32) & 0xff) as u8;

@@ -1,4 +1,6 @@
-//! Keys, session words and decisions of packets whose values were worked out by hand. `.n` stands for the address 10.0.0.n.
+//! Keys, session words and decisions whose values were worked out by hand.
+//!
+//! In comments `.n` stands for the address 10.0.0.n.
 ghost use Rattle.std.specs.Prelude.{◌<◌};
 
 use crate::{Flow, FlowKey, PacketPatch, Session, Timeouts, orient};

@@ -21,9 +21,11 @@ bit_of_test n small =
       | inr (test, other) ↦ ap bit test ∙ omega (arith, small, other)
     ]
 
-marks : (word : ℕ) → bit (word / 2 ^ 29 % 2 == 1) * 2 ^ 29 + bit (word / 2 ^ 30 % 2 == 1) * 2 ^ 30 ≡ word / 2 ^ 29 % 4 * 2 ^ 29
+marks : (word : ℕ)
+    → bit (word / 2 ^ 29 % 2 == 1) * 2 ^ 29 + bit (word / 2 ^ 30 % 2 == 1) * 2 ^ 30 ≡ word / 2 ^ 29 % 4 * 2 ^ 29
 marks word =
-    ap₂ (λ linear locked. linear * 2 ^ 29 + locked * 2 ^ 30) (bit_of_test (word / 2 ^ 29 % 2) (omega arith)) (bit_of_test (word / 2 ^ 30 % 2) (omega arith))
+    ap₂ (λ linear locked. linear * 2 ^ 29 + locked * 2 ^ 30)
+    (bit_of_test (word / 2 ^ 29 % 2) (omega arith)) (bit_of_test (word / 2 ^ 30 % 2) (omega arith))
     ∙ omega arith
 
 pub returns-clause-each : goal.returns-clause-each

@@ -1,4 +1,4 @@
-use Rattle.std.proofs.Common.{◌≡◌, ℕ, List, drop, subst}
+use Rattle.std.proofs.Common.{ℕ, List, drop, subst}
 use Rattle.std.proofs.lemmas.List.{take_rest}
 use Rattle.packet_view.specs.RecordSteps.{Reads}
 use Rattle.packet_view.proofs.CaptureLemmas.{IsHeaderOf, reads_ok, reads_fault, reads_accepts, reads_refuses}

@@ -1,5 +1,8 @@
+use Rattle.std.proofs.Common.{rules}
 use Rattle.std.specs.Prelude.{Ok}
+use Rattle.racl_cli.specs.Settings.{facts_of}
 use Rattle.racl_cli.proofs.CommandLemmas.{fails_by_fault, numbers_held, one_setting, same_options}
+use Rattle.racl_cli.proofs.SettingLemmas.{written_asks}
 use Rattle.racl_cli.proofs.words.options.Goals as goal
 
 pub read_options-requires : goal.read_options-requires
@@ -13,3 +16,13 @@ returns-clause-ok c = record {
 
 pub returns-clause-accepts : goal.returns-clause-accepts
 returns-clause-accepts c facts asked = one_setting _ _ facts (returns-clause-ok c) asked
+
+pub returns-clause-written : goal.returns-clause-written
+returns-clause-written c program settings are is =
+    returns-clause-accepts c (facts_of settings) (written_asks _ program settings are is)
+
+pub returns-in_err-matches-clause-accepts : goal.returns-in_err-matches-clause-accepts
+returns-in_err-matches-clause-accepts c = search rules
+
+pub returns-in_err-matches-clause-written : goal.returns-in_err-matches-clause-written
+returns-in_err-matches-clause-written c program settings are is = returns-in_err-matches-clause-accepts c (facts_of settings) (written_asks _ program settings are is)

@@ -1,0 +1,8 @@
+use Rattle.packet_view.proofs.CutLemmas.{no_fault_too, one_reading}
+use Rattle.packet_view.proofs.laws.each_capture_has_one_reading.Goals as goal
+
+pub returns-clause-one : goal.returns-clause-one
+returns-clause-one c = one_reading
+
+pub returns-clause-apart : goal.returns-clause-apart
+returns-clause-apart c = no_fault_too
