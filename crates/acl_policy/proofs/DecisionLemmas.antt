@@ -1,12 +1,12 @@
 -- A list of rules has one decision for a packet.
-use Rattle.std.proofs.Common.{◌≡◌, ◌<◌, ℕ, List, Option, Some, None, map, sym, ap, subst, ◌∙◌, inl, inr}
+use Rattle.std.proofs.Common.{◌≡◌, ℕ, List, Option, Some, None, map, sym, ap, subst, ◌∙◌, inl, inr}
 use Rattle.std.specs.Prelude.{slice_get, option_map}
 use Rattle.std.proofs.lemmas.Bool.{cases_order}
 use Rattle.std.proofs.lemmas.Option.{slice_get-map}
 use Rattle.packet_view.specs.Tuples.{Facts}
 use Rattle.acl_policy.specs.declared.rule.Action.{Action}
 use Rattle.acl_policy.specs.declared.rule.Rule.{Rule}
-use Rattle.acl_policy.specs.Matching.{Decides, IsDecision, Matches}
+use Rattle.acl_policy.specs.Matching.{Decides, IsDecision}
 use Rattle.acl_policy.specs.Rules.{RuleFacts, rule_facts}
 
 -- what a place of a list of rules says

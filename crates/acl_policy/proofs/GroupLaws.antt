@@ -1,15 +1,15 @@
 -- The groups of an IPv6 address are read as the grammar says.
-use Rattle.std.proofs.Common.{◌≡◌, ℕ, zero, suc, ◌+◌, ◌-◌, ◌*◌, ◌^◌, ◌<◌, ◌≤◌, ◌==◌, Bool, true, false, List, [], ◌∷◌, ◌++◌, length, Option, Some, None, refl, sym, ap, ◌∙◌, subst, arith, lit≤, pow-add}
+use Rattle.std.proofs.Common.{◌≡◌, ℕ, zero, suc, ◌+◌, ◌*◌, ◌^◌, ◌≤◌, ◌==◌, false, List, [], ◌∷◌, ◌++◌, length, Option, Some, None, refl, sym, ap, ◌∙◌, arith, lit≤, pow-add}
 use Rattle.std.specs.Prelude.{option_map, replicate}
 use Rattle.std.proofs.Math.Nat.{pow-suc}
-use Rattle.std.proofs.lemmas.Bool.{cases_Bool, ne_eqb}
+use Rattle.std.proofs.lemmas.Bool.{ne_eqb}
 use Rattle.std.proofs.lemmas.List.{length-append}
 use Rattle.acl_policy.specs.Numerals.{ArePieces, IsGroup, in_base}
 use Rattle.acl_policy.specs.Reading.{◌>>=◌}
 use Rattle.acl_policy.specs.Reading.Numerals.{cut_in, group_in}
 use Rattle.acl_policy.specs.Reading.Prefixes.{groups_after, groups_in, groups_step}
 use Rattle.acl_policy.proofs.GroupLemmas.{groups_after-suc, groups_in-none, groups_in-some}
-use Rattle.acl_policy.proofs.NumeralLaws.{Lacks, cut_in-complete, cut_in-none, cut_in-sound, group_in-complete, group_in-sound}
+use Rattle.acl_policy.proofs.NumeralLaws.{cut_in-complete, cut_in-none, cut_in-sound, group_in-complete, group_in-sound}
 use Rattle.acl_policy.proofs.OptionLemmas.{bind_some, map_some, same_some}
 use Rattle.acl_policy.proofs.PieceLaws.{Lacks-IsGroup}
 

@@ -1,5 +1,5 @@
 -- Groups of an IPv6 address, read one after another.
-use Rattle.std.proofs.Common.{◌≡◌, ℕ, suc, ◌+◌, ◌-◌, ◌*◌, ◌^◌, ◌<◌, ◌≤◌, ◌==◌, Bool, false, true, List, length, Option, Some, None, refl, sym, ap, ◌∙◌, arith, lit<, pow-add}
+use Rattle.std.proofs.Common.{◌≡◌, ℕ, suc, ◌+◌, ◌-◌, ◌*◌, ◌^◌, ◌<◌, ◌≤◌, ◌==◌, false, true, List, length, Option, Some, None, refl, sym, ap, ◌∙◌, arith, lit<, pow-add}
 use Rattle.std.proofs.Math.Nat.{mul-le-mul_right, pow-le-pow_right}
 use Rattle.std.proofs.lemmas.Bool.{cond-false, cond-true}
 use Rattle.std.proofs.lemmas.Grind.{pow_more}
@@ -38,8 +38,8 @@ pub groups_in-none : (text : List ℕ) → (length text == 0) ≡ true → group
 unfolding groups_in
 groups_in-none text none = cond-true _ _ _ none
 
--- groups at both ends, of which there are at most seven, fit 128 bits
-pub spread-fits : (front back count rest : ℕ) → front < 65536 ^ count → back < 65536 ^ rest → count + rest ≤ 7
+-- groups at both ends, of which there are at most eight, fit 128 bits
+pub spread-fits : (front back count rest : ℕ) → front < 65536 ^ count → back < 65536 ^ rest → count + rest ≤ 8
     → front * 65536 ^ (8 - count) + back < 2 ^ 128
 spread-fits front back count rest front_fits back_fits few =
     let behind = 65536 ^ (8 - count) in

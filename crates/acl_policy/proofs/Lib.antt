@@ -6,10 +6,13 @@ pub mod LineLaws
 pub mod NumeralBounds
 pub mod NumeralLaws
 pub mod OptionLemmas
+pub mod PartLaws
 pub mod PieceLaws
 pub mod PlaceLemmas
 pub mod PolicyLemmas
+pub mod PrefixBits
 pub mod PrefixLaws
+pub mod RangeLaws
 pub mod TextLaws
 pub mod TrafficLaws
 pub mod WordLemmas

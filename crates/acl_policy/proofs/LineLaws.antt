@@ -1,5 +1,5 @@
 -- A line is read as the grammar says.
-use Rattle.std.proofs.Common.{◌≡◌, ℕ, Bool, true, false, List, [], ◌∷◌, Option, Some, None, refl, sym, ap, ◌∙◌, subst, inl, inr}
+use Rattle.std.proofs.Common.{◌≡◌, ℕ, false, List, [], ◌∷◌, Some, None, refl, sym, ap, ◌∙◌, subst, inl, inr}
 use Rattle.std.specs.Prelude.{codes}
 use Rattle.std.specs.Str.{bytes_eq}
 use Rattle.packet_view.specs.declared.tuple.Direction.{Direction}
@@ -8,8 +8,8 @@ use Rattle.packet_view.specs.declared.tuple.Family.{Family}
 use Rattle.packet_view.specs.declared.tuple.Family.TheVariants.{V4, V6}
 use Rattle.acl_policy.specs.declared.rule.Action.{Action}
 use Rattle.acl_policy.specs.declared.rule.Action.TheVariants.{Deny, Permit, Reflect}
-use Rattle.acl_policy.specs.Lines.{Blank, IsLine, IsRule, LineFacts, Own, Ruled, Say, action_word, direction_word, family_word, traffic_of}
-use Rattle.acl_policy.specs.Reading.{if_last, next_in, ◌>>=◌}
+use Rattle.acl_policy.specs.Lines.{Blank, IsLine, LineFacts, Own, Ruled, Say, action_word, direction_word, family_word, traffic_of}
+use Rattle.acl_policy.specs.Reading.{next_in}
 use Rattle.acl_policy.specs.Reading.Lines.{action_in, direction_in, ends_in, family_in, head_in, line_in, own_line_in, rule_line_in, said_in}
 use Rattle.acl_policy.specs.Reading.Prefixes.{mac_in, prefix_in}
 use Rattle.acl_policy.specs.Reading.Traffic.{traffic_in}

@@ -1,11 +1,9 @@
 -- Words of pieces with a byte between them: addresses of interfaces, and IPv4 addresses.
-use Rattle.std.proofs.Common.{◌≡◌, ℕ, suc, ◌+◌, ◌*◌, ◌<◌, ◌≤◌, ◌==◌, false, List, [], ◌∷◌, ◌++◌, length, Option, Some, None, refl, sym, ap, ◌∙◌, subst, arith, lit≤}
-use Rattle.std.specs.Prelude.{option_map}
+use Rattle.std.proofs.Common.{◌≡◌, ℕ, ◌+◌, ◌*◌, ◌≤◌, ◌==◌, false, List, [], ◌∷◌, ◌++◌, length, Option, Some, refl, sym, ap, ◌∙◌, subst, arith, lit≤}
 use Rattle.std.specs.Char.{digit_value}
 use Rattle.packet_view.specs.declared.tuple.Mac.{Mac}
 use Rattle.acl_policy.specs.Numerals.{ArePieces, IsGroup, IsNumber, IsOctet, IsPair, in_base}
 use Rattle.acl_policy.specs.Prefixes.{IsFourParts, IsMac}
-use Rattle.acl_policy.specs.Reading.{◌>>=◌}
 use Rattle.acl_policy.specs.Reading.Numerals.{cut_in, octet_in, pair_in, piece_in}
 use Rattle.acl_policy.specs.Reading.Prefixes.{four_parts_in, mac_in}
 use Rattle.acl_policy.proofs.NumeralLaws.{Lacks, Lacks-AllDigits, Lacks-append, cut_in-complete, cut_in-sound, octet_in-complete, octet_in-sound, pair_in-complete, pair_in-sound}
@@ -80,7 +78,7 @@ mac_in-sound word mac found =
     let s = pair_in-pieces c.0.1 d.0 d.1 in
     let t = pair_in-pieces d.0.1 e.0 e.1 in
     let last = pair_in-sound e.0.1 f.0 f.1 in
-    subst (IsMac word) (same_some _ mac f.2)
+    subst (IsMac word) (same_some (record { 0 = a.0.0 ∷ b.0.0 ∷ c.0.0 ∷ d.0.0 ∷ e.0.0 ∷ f.0 ∷ [] }) mac f.2)
     (refl, (p.0, a.0.1, p.1, p.2, (q.0, b.0.1, q.1, q.2, (r.0, c.0.1, r.1, r.2, (s.0, d.0.1, s.1, s.2, (t.0, e.0.1, t.1, t.2, last))))))
 
 six_pairs : (word : List ℕ) (bytes : List ℕ) → length bytes ≡ 6 → ArePieces 58 IsPair word bytes → mac_in word ≡ Some (record { 0 = bytes })
@@ -115,7 +113,7 @@ four_parts_in-sound word address found =
       a.0.0 ∷ b.0.0 ∷ c.0.0 ∷ d.0 ∷ [],
       refl,
       (p.0, a.0.1, p.1, p.2, (q.0, b.0.1, q.1, q.2, (r.0, c.0.1, r.1, r.2, last))),
-      sym (four_value a.0.0 b.0.0 c.0.0 d.0 ∙ same_some _ address d.2),
+      sym (four_value a.0.0 b.0.0 c.0.0 d.0 ∙ same_some (((a.0.0 * 256 + b.0.0) * 256 + c.0.0) * 256 + d.0) address d.2),
     )
 
 four_octets : (word : List ℕ) (parts : List ℕ) → length parts ≡ 4 → ArePieces 46 IsOctet word parts → four_parts_in word ≡ Some (in_base 256 parts)

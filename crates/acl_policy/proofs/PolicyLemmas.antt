@@ -1,5 +1,5 @@
 -- What the lines so far say, and what one more adds.
-use Rattle.std.proofs.Common.{◌≡◌, ℕ, ◌+◌, ◌<◌, ◌≤◌, Bool, true, false, List, [], ◌∷◌, ◌++◌, length, length-take-le, take, drop, get_or, Option, Some, None, Result, Ok, Err, refl, sym, ap, ◌∙◌, subst, arith, ◌⊎◌, inl, inr, IsSome}
+use Rattle.std.proofs.Common.{◌≡◌, ℕ, ◌+◌, ◌<◌, ◌≤◌, false, List, [], ◌∷◌, ◌++◌, length, length-take-le, take, drop, get_or, Option, Some, None, Result, Ok, Err, refl, sym, ap, ◌∙◌, subst, arith, ◌⊎◌, inl, inr}
 use Rattle.std.specs.Prelude.{is_some, nat_le}
 use Rattle.std.specs.List.{cons_option, filter_map}
 use Rattle.std.proofs.lemmas.Bool.{cases_Bool, leb-false, leb-true}
@@ -12,14 +12,11 @@ use Rattle.packet_view.specs.declared.tuple.Mac.{Mac}
 use Rattle.acl_policy.specs.declared.policy.PolicyFault.{PolicyFault}
 use Rattle.acl_policy.specs.declared.policy.PolicyFault.TheVariants.{Memory, NotUtf8, BadLine, TooMany}
 use Rattle.acl_policy.specs.Lines.{Blank, IsLine, LineFacts, Own, Ruled}
-use Rattle.acl_policy.specs.Policies.{AreLines, IsFirstFault, IsOnly, IsSurplus, IsWrong, PolicyFacts, Reads, most_rules, own_in, rule_in, rules_of}
+use Rattle.acl_policy.specs.Policies.{AreLines, IsOnly, IsSurplus, IsWrong, PolicyFacts, Reads, most_rules, own_in, rule_in, rules_of}
 use Rattle.acl_policy.specs.Reading.Lines.{line_in}
 use Rattle.acl_policy.specs.Reading.Policies.{Fails, LinesFail, line_added, rule_added, with_inbound, with_outbound}
 use Rattle.acl_policy.specs.Rules.{RuleFacts}
 use Rattle.acl_policy.proofs.LineLaws.{line_in-complete, line_in-sound}
-
-pub Reads-nil : Reads [] (record { own = None; inbound = []; outbound = [] })
-Reads-nil = record { readings = []; lines = tt; own = refl; inbound = refl; outbound = refl; inbound_fits = omega arith; outbound_fits = omega arith }
 
 AreLines-push : (texts : List (List ℕ)) (readings : List LineFacts) (line : List ℕ) (reading : LineFacts)
     → AreLines texts readings → IsLine line reading → AreLines (texts ++ line ∷ []) (readings ++ reading ∷ [])

@@ -1,5 +1,5 @@
 -- Addresses and prefixes are read as the grammar says.
-use Rattle.std.proofs.Common.{◌≡◌, ℕ, zero, suc, ◌+◌, ◌-◌, ◌*◌, ◌^◌, ◌<◌, ◌≤◌, ◌==◌, Bool, true, false, List, [], ◌∷◌, ◌++◌, length, Option, Some, None, refl, sym, ap, ◌∙◌, subst, arith, lit≤, ◌⊎◌, inl, inr}
+use Rattle.std.proofs.Common.{◌≡◌, ℕ, zero, suc, ◌+◌, ◌-◌, ◌*◌, ◌^◌, ◌≤◌, ◌==◌, true, false, List, ◌∷◌, ◌++◌, length, Option, Some, None, refl, sym, ap, ◌∙◌, subst, arith, lit≤, ◌⊎◌, inl, inr}
 use Rattle.std.specs.Prelude.{codes, nat_le, option_map, replicate}
 use Rattle.std.specs.Char.{digit_value}
 use Rattle.std.specs.Str.{bytes_eq}
@@ -7,8 +7,8 @@ use Rattle.std.proofs.lemmas.Bool.{eq-eqb, eqb-true, le-leb, leb-true}
 use Rattle.std.proofs.lemmas.List.{length-append}
 use Rattle.packet_view.specs.declared.tuple.Family.{Family}
 use Rattle.packet_view.specs.declared.tuple.Family.TheVariants.{V4, V6}
-use Rattle.acl_policy.specs.Numerals.{ArePieces, IsGroup, IsNumber, IsOctet, in_base}
-use Rattle.acl_policy.specs.Prefixes.{IsAddress, IsEightGroups, IsFourParts, IsPrefix, IsShortened}
+use Rattle.acl_policy.specs.Numerals.{IsGroup, IsNumber, IsOctet, in_base}
+use Rattle.acl_policy.specs.Prefixes.{IsAddress, IsEightGroups, IsPrefix, IsShortened}
 use Rattle.acl_policy.specs.Reading.{at_most, ◌>>=◌}
 use Rattle.acl_policy.specs.Reading.Numerals.{cut_in, number_in}
 use Rattle.acl_policy.specs.Reading.Prefixes.{address_in, all_groups, cut_double_in, groups_address_in, groups_in, prefix_in, prefix_in_parts, six_in_parts, spread}

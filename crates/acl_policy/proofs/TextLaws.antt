@@ -1,5 +1,5 @@
 -- A text says one policy at most, or has one fault.
-use Rattle.std.proofs.Common.{◌≡◌, ℕ, ◌+◌, ◌<◌, ◌≤◌, List, [], ◌∷◌, ◌++◌, length, Option, Some, None, Result, Ok, Err, refl, sym, ap, ◌∙◌, subst, arith, ◌⊎◌, inl, inr, IsSome, IfOk, IfErr, MatchResult}
+use Rattle.std.proofs.Common.{◌≡◌, ℕ, ◌≤◌, List, [], ◌∷◌, ◌++◌, length, Option, Some, None, Result, Ok, Err, refl, sym, ap, ◌∙◌, subst, arith, ◌⊎◌, inl, inr, IsSome, IfOk, IfErr, MatchResult}
 use Rattle.std.specs.List.{cons_option, filter_map}
 use Rattle.std.specs.Str.{IsUtf8}
 use Rattle.std.specs.Str.Lines.{lines}
@@ -10,7 +10,7 @@ use Rattle.packet_view.specs.declared.tuple.Direction.TheVariants.{Inbound, Outb
 use Rattle.packet_view.specs.declared.tuple.Mac.{Mac}
 use Rattle.acl_policy.specs.declared.policy.PolicyFault.{PolicyFault}
 use Rattle.acl_policy.specs.declared.policy.PolicyFault.TheVariants.{Memory, NotUtf8, BadLine, TooMany}
-use Rattle.acl_policy.specs.Lines.{Blank, IsLine, LineFacts, Own, Ruled}
+use Rattle.acl_policy.specs.Lines.{IsLine, LineFacts, Own, Ruled}
 use Rattle.acl_policy.specs.Policies.{AreLines, IsFirstFault, IsOnly, IsPolicyFault, IsPolicyText, IsSurplus, IsWrong, PolicyFacts, Reads, most_rules, own_in, rule_in, rules_of}
 use Rattle.acl_policy.specs.Reading.Policies.{LinesFail}
 use Rattle.acl_policy.specs.Rules.{RuleFacts}

@@ -1,5 +1,5 @@
--- What a line of a policy says, by cases on its words.
-use Rattle.std.specs.Prelude.{◌≡◌, ◌⊎◌, ℕ, List, [], ◌∷◌, codes}
+-- What a line says, by cases on its words, in this project's policy grammar.
+use Rattle.std.specs.Prelude.{◌≡◌, ℕ, List, [], ◌∷◌, codes}
 use Rattle.packet_view.specs.declared.tuple.Direction.{Direction}
 use Rattle.packet_view.specs.declared.tuple.Direction.TheVariants.{Inbound, Outbound}
 use Rattle.packet_view.specs.declared.tuple.Family.{Family}
@@ -36,7 +36,7 @@ family_word V6 = codes "ipv6"
 abbrev pub traffic_of : RuleFacts → Traffic
 traffic_of rule = record { proto = rule.proto; first = rule.first; second = rule.second; value = rule.value; mask = rule.mask }
 
--- DIRECTION ACTION FAMILY SOURCE DEST, and what stands behind them
+-- A rule is a direction, an action, a family, two prefixes, and what stands behind them.
 abbrev pub IsRule : List (List ℕ) → Direction → RuleFacts → Type 0
 IsRule words direction rule =
     (source dest : List ℕ) × (rest : List (List ℕ))

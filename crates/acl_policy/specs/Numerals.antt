@@ -1,4 +1,4 @@
--- Numbers in a policy, and pieces of a word with one byte between them.
+-- Numbers, and pieces of a word with one byte between them, in this project's policy grammar.
 use Rattle.std.specs.Prelude.{◌≡◌, ◌≤◌, ℕ, ◌+◌, ◌*◌, ◌^◌, List, [], ◌∷◌, ◌++◌, length}
 use Rattle.std.specs.Str.Parse.{IsNumeral, digits_value}
 

@@ -1,4 +1,4 @@
--- A whole policy text, what it says, and where it is wrong.
+-- What a whole text says, and where it is wrong, in this project's policy grammar.
 use Rattle.std.specs.Prelude.{◌≡◌, ◌≤◌, ◌⊎◌, ℕ, ◌+◌, List, [], ◌∷◌, ◌++◌, length, map, Option, Some, None, IsSome}
 use Rattle.std.specs.List.{filter_map}
 use Rattle.std.specs.Str.{IsUtf8}
@@ -18,6 +18,7 @@ pub record PolicyFacts : Type 0 where
   pub inbound : List RuleFacts
   pub outbound : List RuleFacts
 
+-- what a policy says
 abbrev pub policy_facts : Policy → PolicyFacts
 policy_facts p = record { own = p.own; inbound = map rule_facts p.inbound.items; outbound = map rule_facts p.outbound.items }
 
@@ -62,6 +63,7 @@ pub record Reads (texts : List (List ℕ)) (policy : PolicyFacts) : Type 0 where
   pub inbound_fits : length policy.inbound ≤ most_rules
   pub outbound_fits : length policy.outbound ≤ most_rules
 
+-- the rules of a direction
 abbrev pub rules_of : Direction → PolicyFacts → List RuleFacts
 rules_of Inbound policy = policy.inbound
 rules_of Outbound policy = policy.outbound

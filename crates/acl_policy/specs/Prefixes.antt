@@ -1,5 +1,5 @@
--- Addresses and prefixes in a policy (RFC 4632, section 3.1; RFC 4291, sections 2.2 and 2.3).
-use Rattle.std.specs.Prelude.{◌≡◌, ◌≤◌, ◌⊎◌, ℕ, ◌+◌, List, [], ◌∷◌, ◌++◌, length, replicate, codes}
+-- Addresses and prefixes (RFC 4632, section 3.1; RFC 4291, sections 2.2 and 2.3), in this project's policy grammar.
+use Rattle.std.specs.Prelude.{◌≡◌, ◌≤◌, ◌⊎◌, ℕ, ◌+◌, List, ◌∷◌, ◌++◌, length, replicate, codes}
 use Rattle.packet_view.specs.declared.tuple.Family.{Family}
 use Rattle.packet_view.specs.declared.tuple.Family.TheVariants.{V4, V6}
 use Rattle.packet_view.specs.declared.tuple.Mac.{Mac}

@@ -1,4 +1,4 @@
--- The protocol of a rule, and the parts behind it: ports, types and codes, flags.
+-- The protocol of a rule and the parts behind it (ports, types and codes, flags), in this project's policy grammar.
 use Rattle.std.specs.Prelude.{◌≡◌, ◌≤◌, ◌⊎◌, ℕ, ◌==◌, List, [], ◌∷◌, ◌++◌, codes, if◌then◌else◌}
 use Rattle.packet_view.specs.Addresses.{icmp_of}
 use Rattle.packet_view.specs.declared.tuple.Family.{Family}
@@ -36,9 +36,11 @@ IsPart name IsValue usual (word ∷ other ∷ third ∷ more) value = ⊥
 abbrev pub every : ℕ × ℕ
 every = (0, 65535)
 
+-- no flag counts
 abbrev pub HasNoFlags : Traffic → Type 0
 HasNoFlags traffic = (traffic.value ≡ 0) × (traffic.mask ≡ 0)
 
+-- The ports of TCP and UDP, the source before the destination.
 abbrev pub ArePorts : List (List ℕ) → Traffic → Type 0
 ArePorts words traffic =
     (source dest : List (List ℕ)) × (words ≡ source ++ dest)

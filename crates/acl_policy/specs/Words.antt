@@ -1,4 +1,4 @@
--- The words of a line of a policy.
+-- The words of a line, in this project's policy grammar.
 use Rattle.std.specs.Prelude.{ℕ, Bool, true, false, List, [], ◌∷◌, ◌||◌, ◌==◌, filter}
 use Rattle.std.specs.List.{before_first, slice_split}
 
@@ -13,6 +13,7 @@ is_hash b = b == 35
 unfoldable pub without_comment : List ℕ → List ℕ
 without_comment line = before_first is_hash line
 
+-- A part between two blanks is a word where it has a byte.
 abbrev pub is_word : List ℕ → Bool
 is_word [] = false
 is_word (byte ∷ bytes) = true

@@ -1,37 +1,13 @@
 //! Addresses as text (RFC 4291, section 2.2, without an embedded IPv4 address).
 ghost use Rattle.std.specs.Prelude.{◌≡◌, ◌≤◌, ◌<◌, ◌^◌, ◌+◌, IfSome, length, option_map, position, zip, drop};
 ghost use Rattle.packet_view.specs.Addresses.{address_limit};
-ghost use Rattle.acl_policy.specs.Reading.Numerals;
 ghost use Rattle.acl_policy.specs.Reading.Prefixes;
-ghost use Rattle.acl_policy.specs.Reading.Numerals.{octet_in, pair_in, piece_in};
-ghost use Rattle.acl_policy.specs.Reading.Prefixes.{address_in, all_groups, cut_double_in, four_parts_in, groups_address_in, groups_after, groups_in, is_double, mac_in};
+ghost use Rattle.acl_policy.specs.Reading.Numerals.{octet_in, piece_in};
+ghost use Rattle.acl_policy.specs.Reading.Prefixes.{address_in, cut_double_in, four_parts_in, groups_address_in, groups_in, is_double};
 
-use crate::numeral::{group_of, octet_of, pair_of};
+use crate::numeral::{group_of, octet_of};
 use crate::words::cut_at;
-use packet_view::{Family, Mac};
-
-#[tactic(auto, unfolding(crate::specs::Reading::Numerals::piece_in))]
-fn pair_before_colon(text: &[u8]) -> Option<(u8, &[u8])>
-    ensures { option_map (λ r. (r.0, r.1.now)) result ≡ piece_in 58 pair_in text.now }
-{
-    let (first, rest) = cut_at(text, b':')?;
-    let pair = pair_of(first)?;
-    Some((pair, rest))
-}
-
-/// The address of an Ethernet interface: six pairs of hexadecimal digits with `:` between them.
-#[tactic(auto, unfolding(crate::specs::Reading::Prefixes::mac_in))]
-pub fn mac_of(text: &[u8]) -> Option<Mac>
-    ensures { result ≡ mac_in text.now }
-{
-    let (a, text) = pair_before_colon(text)?;
-    let (b, text) = pair_before_colon(text)?;
-    let (c, text) = pair_before_colon(text)?;
-    let (d, text) = pair_before_colon(text)?;
-    let (e, text) = pair_before_colon(text)?;
-    let f = pair_of(text)?;
-    Some(Mac([a, b, c, d, e, f]))
-}
+use packet_view::Family;
 
 #[tactic(auto, unfolding(crate::specs::Reading::Numerals::piece_in))]
 fn octet_before_dot(text: &[u8]) -> Option<(u8, &[u8])>
@@ -53,21 +29,34 @@ fn four_parts_of(text: &[u8]) -> Option<u32>
     Some(((u32::from(a) * 256 + u32::from(b)) * 256 + u32::from(c)) * 256 + u32::from(d))
 }
 
-/// The groups of a text as one number, and how many they are. `None`: another form, or more than eight.
-fn groups_of(text: &[u8]) -> Option<(u128, u32)>
-    ensures value { result ≡ groups_in text.now }
-    ensures few { IfSome result (λ groups. groups.1 ≤ 8) }
-    ensures fits { IfSome result (λ groups. groups.0 < 65536 ^ groups.1) }
+/// Groups of an IPv6 address as one number, and how many they are.
+#[derive(Clone, Copy)]
+struct Groups {
+    number: u128,
+    count: u32,
+    ghost few: { count ≤ 8 },
+    ghost fits: { number < 65536 ^ count },
+}
+
+/// The groups of a text. `None`: another form, or more than eight.
+fn groups_of(text: &[u8]) -> Option<Groups>
+    ensures { option_map (λ groups. (groups.number, groups.count)) result ≡ groups_in text.now }
 {
     if text.is_empty() {
-        return Some((0, 0));
+        return Some(Groups {
+            number: 0,
+            count: 0,
+        });
     }
     let mut number = 0;
     let mut rest = text;
     for count in 0..8 {
         let Some((first, more)) = cut_at(rest, b':') else {
             let group = group_of(rest)?;
-            return Some((number * 65536 + u128::from(group), count + 1));
+            return Some(Groups {
+                number: number * 65536 + u128::from(group),
+                count: count + 1,
+            });
         };
         let group = group_of(first)?;
         number = number * 65536 + u128::from(group);
@@ -94,21 +83,17 @@ fn double_colon(text: &[u8]) -> Option<usize>
         .position(|(a, b)| *a == b':' && *b == b':')
 }
 
-/// Groups at both ends of an address, each with how many they are, and at least one group of zeros between them.
-fn spread(front: (u128, u32), back: (u128, u32)) -> Option<u128>
-    requires front_few { front.1 ≤ 8 }
-    requires back_few { back.1 ≤ 8 }
-    requires front_fits { front.0 < 65536 ^ front.1 }
-    requires back_fits { back.0 < 65536 ^ back.1 }
-    ensures { result ≡ Prefixes.spread front back }
+/// An address of groups at both ends and at least one group of zeros between them.
+fn spread(front: Groups, back: Groups) -> Option<u128>
+    ensures { result ≡ Prefixes.spread (front.number, front.count) (back.number, back.count) }
 {
-    if front.1 + back.1 > 7 {
+    if front.count + back.count > 7 {
         return None;
     }
-    if front.1 == 0 {
-        return Some(back.0);
+    if front.count == 0 {
+        return Some(back.number);
     }
-    Some(front.0 * 65536u128.pow(8 - front.1) + back.0)
+    Some(front.number * 65536u128.pow(8 - front.count) + back.number)
 }
 
 #[tactic(auto, unfolding(crate::specs::Reading::Prefixes::groups_address_in))]
@@ -122,8 +107,12 @@ fn groups_address_of(text: &[u8]) -> Option<u128>
             spread(front, back)
         }
         None => {
-            let (number, count) = groups_of(text)?;
-            if count == 8 { Some(number) } else { None }
+            let groups = groups_of(text)?;
+            if groups.count == 8 {
+                Some(groups.number)
+            } else {
+                None
+            }
         }
     }
 }

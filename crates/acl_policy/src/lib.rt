@@ -2,15 +2,20 @@
 #![tactic(auto)]
 
 mod address;
+mod family;
+mod laws;
 mod line;
+mod mac;
 mod matching;
 mod numeral;
+mod parts;
 mod policy;
 mod prefix;
 mod rule;
 mod traffic;
 mod words;
 
+pub use laws::one_reading;
 pub use matching::first_match;
 pub use policy::{Policy, PolicyFault, read_policy};
 pub use rule::{Action, Rule};

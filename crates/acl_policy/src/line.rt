@@ -5,11 +5,11 @@ ghost use Rattle.acl_policy.specs.Widths.{width};
 ghost use Rattle.acl_policy.specs.Words.{words_of};
 ghost use Rattle.packet_view.specs.Addresses.{address_limit};
 
-use crate::address::mac_of;
+use crate::mac::mac_of;
 use crate::prefix::prefix_of;
 use crate::rule::{Action, Rule};
-use crate::traffic::{is_end, traffic_of};
-use crate::words::{before_comment, next_word};
+use crate::traffic::traffic_of;
+use crate::words::{before_comment, is_end, next_word};
 use packet_view::{Direction, Family, Mac};
 
 /// What a line says: nothing, the own address of the interface, or a rule of a direction.

@@ -1,31 +1,32 @@
 //! Which rule decides a packet.
-ghost use Rattle.std.specs.Prelude.{◌≡◌, ◌≤◌, ◌<◌, ◌↔◌, ◌⊎◌, ℕ, IsTrue, Option, map};
+ghost use Rattle.std.specs.Prelude.{◌≡◌, ◌≤◌, ◌<◌, ◌↔◌, ℕ, IsTrue, Option, map};
 ghost use Rattle.acl_policy.specs.declared.rule.Action.{Action};
-ghost use Rattle.acl_policy.specs.Matching.{HasFields, HoldsPrefix, HoldsProtocol, IsDecision, IsIn, Matches};
+ghost use Rattle.acl_policy.specs.Matching.{HasFields, HoldsPrefix, IsDecision, IsIn, Matches};
 ghost use Rattle.acl_policy.specs.Rules.{rule_facts};
 ghost use Rattle.acl_policy.specs.Widths.{width};
 ghost use Rattle.packet_view.specs.Addresses.{address_limit};
 ghost use Rattle.packet_view.specs.Tuples.{facts};
 
+use crate::family::width_of;
 use crate::rule::{Action, Rule};
 use packet_view::{Family, Fields, Tuple};
 
+#[cfg(test)]
+mod tests;
+
+#[tactic(auto, using(crate::proofs::PrefixBits::begins_alike))]
 fn has_prefix(family: Family, prefix: (u128, u8), address: u128) -> bool
     requires length { prefix.1 ≤ width family }
     requires fits { prefix.0 < address_limit family }
     requires in_family { address < address_limit family }
     ensures { IsTrue result ↔ HoldsPrefix family prefix address }
 {
-    let width: u8 = match family {
-        Family::V4 => 32,
-        Family::V6 => 128,
-    };
     let (network, length) = prefix;
-    if length == 0 {
-        return true;
+    let rest = u32::from(width_of(family) - length);
+    match family {
+        Family::V4 => (network as u64 ^ address as u64) >> rest == 0,
+        Family::V6 => rest == 128 || (network ^ address) >> rest == 0,
     }
-    let rest = u32::from(width - length);
-    network >> rest == address >> rest
 }
 
 fn is_in(range: (u16, u16), n: u16) -> bool
@@ -49,14 +50,15 @@ fn has_fields(rule: &Rule, fields: &Fields) -> bool
     }
 }
 
-/// The tests that need no long numbers come first.
+/// The tests come in the order of what they cost.
 fn is_match(rule: &Rule, tuple: &Tuple) -> bool
     ensures { IsTrue result ↔ Matches (rule_facts rule.now) (facts tuple.now) }
 {
     rule.family == tuple.family
-        && (rule.proto == 0 || rule.proto == tuple.proto && has_fields(rule, &tuple.fields))
+        && (rule.proto == 0 || rule.proto == tuple.proto)
         && has_prefix(tuple.family, rule.source, tuple.source)
         && has_prefix(tuple.family, rule.dest, tuple.dest)
+        && (rule.proto == 0 || has_fields(rule, &tuple.fields))
 }
 
 /// The first rule that matches, by its place from 0, and what it does. `None`: no rule matches.

@@ -1,7 +1,6 @@
 //! Numbers as digits.
 ghost use Rattle.std.specs.Prelude.{◌≡◌, ◌≤◌, ◌<◌, ◌^◌, IfSome};
-ghost use Rattle.acl_policy.specs.Reading.Numerals;
-ghost use Rattle.acl_policy.specs.Reading.Numerals.{group_in, number_in, numeral_in, octet_in, pair_in, piece_in};
+ghost use Rattle.acl_policy.specs.Reading.Numerals.{group_in, number_in, numeral_in, octet_in, pair_in};
 
 /// The number that at least one and at most so many digits in a base spell. `None`: they don't.
 #[tactic(auto, unfolding(crate::specs::Reading::Numerals::numeral_in))]

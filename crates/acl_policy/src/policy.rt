@@ -12,6 +12,9 @@ use packet_view::{Direction, Mac};
 use std::alloc::{AllocFailed, Global};
 use thiserror::Error;
 
+#[cfg(test)]
+mod tests;
+
 /// The greatest number of rules of one direction.
 const MOST_RULES: usize = 4096;
 

@@ -5,18 +5,10 @@ ghost use Rattle.acl_policy.specs.Widths.{width};
 ghost use Rattle.packet_view.specs.Addresses.{address_limit};
 
 use crate::address::address_of;
+use crate::family::width_of;
 use crate::numeral::number_of;
 use crate::words::cut_at;
 use packet_view::Family;
-
-fn width_of(family: Family) -> u8
-    ensures { result ≡ width family }
-{
-    match family {
-        Family::V4 => 32,
-        Family::V6 => 128,
-    }
-}
 
 /// An address and how many of its first bits count: `any`, one address, or an address and a length.
 #[tactic(auto, unfolding(crate::specs::Reading::Prefixes::prefix_in))]

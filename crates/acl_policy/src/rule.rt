@@ -1,5 +1,5 @@
 //! A rule: which packets it is about, and what becomes of them.
-ghost use Rattle.std.specs.Prelude.{◌≡◌, ◌≤◌, ◌<◌};
+ghost use Rattle.std.specs.Prelude.{◌≤◌, ◌<◌};
 ghost use Rattle.packet_view.specs.Addresses.{address_limit};
 ghost use Rattle.acl_policy.specs.Widths.{width};
 

@@ -1,9 +1,9 @@
 //! The words of a line, and the pieces of a word.
-ghost use Rattle.std.specs.Prelude.{◌≡◌, ◌<◌, ◌==◌, not, IfSome, length, option_map, position};
+ghost use Rattle.std.specs.Prelude.{◌≡◌, ◌<◌, ◌↔◌, ◌==◌, [], not, IsTrue, IfSome, length, option_map, position};
 ghost use Rattle.acl_policy.specs.Reading.{next_in};
 ghost use Rattle.acl_policy.specs.Reading.Numerals.{cut_in};
 ghost use Rattle.acl_policy.specs.Words;
-ghost use Rattle.acl_policy.specs.Words.{is_hash, without_comment, words_of};
+ghost use Rattle.acl_policy.specs.Words.{without_comment, words_of};
 
 fn is_blank(byte: u8) -> bool
     ensures { result ≡ Words.is_blank byte }
@@ -51,6 +51,13 @@ pub fn next_word(text: &[u8]) -> Option<(&[u8], &[u8])>
     let (_, text) = text.split_at(start);
     let end = word_end(text).unwrap_or(text.len());
     Some(text.split_at(end))
+}
+
+/// Whether a text has no word.
+pub fn is_end(text: &[u8]) -> bool
+    ensures { IsTrue result ↔ (words_of text.now ≡ []) }
+{
+    next_word(text).is_none()
 }
 
 /// What stands before the first such byte of a word, and what behind it.

@@ -90,7 +90,7 @@ no_marker form content (line ∷ lines) (other ∷ others) rest marked plain pla
 pub no_input : (bytes rest : List ℕ) → IsFront bytes rest → HasNoFeed rest → ((f : Form) → rest ≡ word_of f → ⊥) → (parts : Parts) → IsInput bytes parts → ⊥
 no_input bytes rest front none unmarked parts is =
     no_marker parts.form parts.content front.lines is.lines rest is.marked front.plain is.plain none unmarked
-        (sym front.parted ∙ is.parted ∙ ap (λ p. p ++ is.marked) is.policy) is.content
+    (sym front.parted ∙ is.parted ∙ ap (λ p. p ++ is.marked) is.policy) is.content
 
 -- the words begin with different letters
 unlike : (x y : List ℕ) → 112 ∷ x ≡ 104 ∷ y → ⊥
@@ -140,5 +140,5 @@ same_parts a b policy form content =
 pub one_input : (bytes : List ℕ) (a b : Parts) → IsInput bytes a → IsInput bytes b → a ≡ b
 one_input bytes a b is other =
     let all = one_front a.form b.form a.content b.content is.lines other.lines is.marked other.marked is.plain other.plain
-        (ap (λ p. p ++ is.marked) (sym is.policy) ∙ sym is.parted ∙ other.parted ∙ ap (λ p. p ++ other.marked) other.policy) is.content other.content in
+    (ap (λ p. p ++ is.marked) (sym is.policy) ∙ sym is.parted ∙ other.parted ∙ ap (λ p. p ++ other.marked) other.policy) is.content other.content in
     same_parts a b (is.policy ∙ ap joined all.0 ∙ sym other.policy) all.1 all.2

@@ -46,8 +46,8 @@ verdict_by_event : (earlier : List Event) (decision : Decision) (event : Event) 
 verdict_by_event earlier decision event found reply verdict same replied is =
     is
     ∙ ap₂ (λ f r. verdict_of event.patch decision f r)
-        (ap found_in replied ∙ found_in-reply_of found (decision_of event.patch found) ∙ same)
-        (replied ∙ ap (λ f. reply_of f (decision_of event.patch f)) same)
+    (ap found_in replied ∙ found_in-reply_of found (decision_of event.patch found) ∙ same)
+    (replied ∙ ap (λ f. reply_of f (decision_of event.patch f)) same)
 
 left_by_event : (earlier : List Event) (event : Event) (old new : Sessions) → IsLeftBy earlier old
     → Changes old new event.key (decision_of event.patch (stored old event.key)) → IsLeftBy (event ∷ earlier) new

@@ -82,9 +82,13 @@ abbrev pub event_in : Timeouts → ℕ → Facts → Decision → Flow → Event
 event_in times moment tuple decision flow = record {
   key = flow.key;
   patch = record {
-    moment = moment; side = flow.side; flags = flags_of tuple.fields; tcp = is_tcp tuple.fields;
-    reflects = reflects decision && flow.starts; times = times
-  }
+    moment = moment;
+    side = flow.side;
+    flags = flags_of tuple.fields;
+    tcp = is_tcp tuple.fields;
+    reflects = reflects decision && flow.starts;
+    times = times;
+  };
 }
 
 abbrev pub event_of : Timeouts → Reading → Option Event

@@ -18,7 +18,11 @@ fn is_blank(b: u8) -> bool
 fn digits(alloc: Global, content: &[u8]) -> Result<Vec<u8>, AllocError>
     ensures { IfOk result (λ v. v.items ≡ digits_of content.now) }
 {
-    content.iter().copied().filter(|b| !is_blank(*b)).collect(alloc)
+    content
+        .iter()
+        .copied()
+        .filter(|b| !is_blank(*b))
+        .collect(alloc)
 }
 
 /// The bytes that hexadecimal digits stand for, two digits a byte, high digit first; spaces, tabs,

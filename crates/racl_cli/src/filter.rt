@@ -40,7 +40,13 @@ fn reflects(decision: Option<(usize, Action)>) -> bool
     matches!(decision, Some((_, Action::Reflect)))
 }
 
-fn patch_of(times: &Timeouts, moment: u32, tuple: &Tuple, decision: Option<(usize, Action)>, flow: &Flow) -> PacketPatch
+fn patch_of(
+    times: &Timeouts,
+    moment: u32,
+    tuple: &Tuple,
+    decision: Option<(usize, Action)>,
+    flow: &Flow,
+) -> PacketPatch
     requires { flow.now.side < 2 }
     ensures { patch_facts result ≡ (event_in times.now moment (facts tuple.now) decision flow.now).patch }
 {

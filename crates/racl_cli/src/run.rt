@@ -112,13 +112,7 @@ pub fn status(outcome: &Result<Totals, Fault>) -> u8
     ensures { result ≡ status_of outcome.now }
 {
     match outcome {
-        Ok(totals) => {
-            if totals.truncated {
-                3
-            } else {
-                0
-            }
-        }
+        Ok(totals) => { if totals.truncated { 3 } else { 0 } }
         Err(Fault::Memory | Fault::Read | Fault::Write) => 4,
         Err(_) => 1,
     }

@@ -35,10 +35,7 @@ impl Verdict {
         ensures { result ≡ Reports.passes self }
     {
         match self {
-            Verdict::Session
-            | Verdict::Reflect(_)
-            | Verdict::Permit(_)
-            | Verdict::NotIp => true,
+            Verdict::Session | Verdict::Reflect(_) | Verdict::Permit(_) | Verdict::NotIp => true,
             Verdict::Deny(_)
             | Verdict::ByDefault
             | Verdict::Worn

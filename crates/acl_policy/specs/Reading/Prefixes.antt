@@ -5,7 +5,6 @@ use Rattle.std.specs.Str.{bytes_eq}
 use Rattle.packet_view.specs.declared.tuple.Family.{Family}
 use Rattle.packet_view.specs.declared.tuple.Family.TheVariants.{V4, V6}
 use Rattle.packet_view.specs.declared.tuple.Mac.{Mac}
-use Rattle.acl_policy.specs.Numerals.{in_base}
 use Rattle.acl_policy.specs.Reading.{at_most, ◌>>=◌}
 use Rattle.acl_policy.specs.Reading.Numerals.{cut_in, group_in, number_in, octet_in, pair_in, piece_in}
 use Rattle.acl_policy.specs.Widths.{width}

@@ -1,5 +1,5 @@
 -- What the readers of protocols and their parts give.
-use Rattle.std.specs.Prelude.{ℕ, ◌==◌, nat_le, List, [], ◌∷◌, codes, Option, Some, None, option_map, if◌then◌else◌}
+use Rattle.std.specs.Prelude.{ℕ, nat_le, List, [], ◌∷◌, codes, Option, Some, None, option_map, if◌then◌else◌}
 use Rattle.std.specs.Str.{bytes_eq}
 use Rattle.packet_view.specs.Addresses.{icmp_of}
 use Rattle.packet_view.specs.declared.tuple.Family.{Family}
@@ -56,18 +56,25 @@ ranges_in most one two words = do
   second ← part_in two (range_in most) every first.1
   Some (first.0, second.0, second.1)
 
+-- the ranges that may stand behind a protocol, and the words behind them
+unfoldable pub protocol_ranges_in : Parts → List (List ℕ) → Option ((ℕ × ℕ) × (ℕ × ℕ) × List (List ℕ))
+protocol_ranges_in OfTcp words = ranges_in 65535 (codes "sport") (codes "dport") words
+protocol_ranges_in OfUdp words = ranges_in 65535 (codes "sport") (codes "dport") words
+protocol_ranges_in OfIcmp words = ranges_in 255 (codes "type") (codes "code") words
+protocol_ranges_in OfNone words = Some (every, every, words)
+
+-- the flags that may stand behind a protocol, and the words behind them
+unfoldable pub protocol_flags_in : Parts → List (List ℕ) → Option ((ℕ × ℕ) × List (List ℕ))
+protocol_flags_in OfTcp words = part_in (codes "flags") flags_in (0, 0) words
+protocol_flags_in OfUdp words = Some ((0, 0), words)
+protocol_flags_in OfIcmp words = Some ((0, 0), words)
+protocol_flags_in OfNone words = Some ((0, 0), words)
+
 unfoldable pub parts_in : Parts → ℕ → List (List ℕ) → Option Traffic
-parts_in OfTcp proto words = do
-  ports ← ranges_in 65535 (codes "sport") (codes "dport") words
-  flags ← part_in (codes "flags") flags_in (0, 0) ports.2
-  if_last (made proto ports.0 ports.1 flags.0) flags.1
-parts_in OfUdp proto words = do
-  ports ← ranges_in 65535 (codes "sport") (codes "dport") words
-  if_last (made proto ports.0 ports.1 (0, 0)) ports.2
-parts_in OfIcmp proto words = do
-  ranges ← ranges_in 255 (codes "type") (codes "code") words
-  if_last (made proto ranges.0 ranges.1 (0, 0)) ranges.2
-parts_in OfNone proto words = if_last (made proto every every (0, 0)) words
+parts_in parts proto words = do
+  ranges ← protocol_ranges_in parts words
+  flags ← protocol_flags_in parts ranges.2
+  if_last (made proto ranges.0 ranges.1 flags.0) flags.1
 
 unfoldable pub traffic_in : Family → List (List ℕ) → Option Traffic
 traffic_in family [] = Some (made 0 every every (0, 0))

@@ -1,4 +1,4 @@
-use Rattle.std.proofs.Common.{refl, arith, below_more, ◌≡◌, Some, None, sym, ◌∙◌, subst, ℕ, ◌<◌, true, length, map}
+use Rattle.std.proofs.Common.{refl, arith, below_more, ◌≡◌, Some, None, subst, ℕ, ◌<◌, true, length, map}
 use Rattle.std.proofs.lemmas.List.{length-map}
 use Rattle.std.specs.Prelude.{slice_get}
 use Rattle.std.proofs.lemmas.Option.{slice_get_read, slice_get_within}

@@ -1,4 +1,4 @@
-use Rattle.std.proofs.Common.{◌≡◌, ◌+◌, ◌∷◌, ◌++◌, [], length, take, ℕ, List, sym, subst, ap, ◌∙◌, arith}
+use Rattle.std.proofs.Common.{length, take, ℕ, List, sym, subst, ap, ◌∙◌, arith}
 use Rattle.std.specs.Str.Lines.{lines}
 use Rattle.std.proofs.lemmas.Iterator.Consumers.{YieldsList-end, YieldsList-turn}
 use Rattle.std.proofs.lemmas.Iterator.Splits.{YieldsList-from_lines}
@@ -6,8 +6,7 @@ use Rattle.std.proofs.lemmas.List.{length_push, take_all}
 use Rattle.std.proofs.lemmas.Result.{err_from_is_err_and}
 use Rattle.acl_policy.specs.declared.policy.PolicyFault.{PolicyFault}
 use Rattle.acl_policy.specs.Policies.{Reads, policy_facts}
-use Rattle.acl_policy.specs.Reading.Lines.{line_in}
-use Rattle.acl_policy.specs.Reading.Policies.{Fails, LinesFail, line_added}
+use Rattle.acl_policy.specs.Reading.Policies.{LinesFail}
 use Rattle.acl_policy.proofs.PolicyLemmas.{LinesFail-take, Reads-take}
 use Rattle.acl_policy.proofs.policy.read_lines.Goals as goal
 

@@ -1,7 +1,7 @@
-use Rattle.std.proofs.Common.{◌≡◌, sym, ◌∙◌, ap, Some, None, length, drop, take, ℕ, List}
-use Rattle.std.specs.Prelude.{position, option_map, unwrap_or}
-use Rattle.acl_policy.specs.Words.{is_blank, words_of}
-use Rattle.acl_policy.proofs.WordLemmas.{first_word, is_ink, no_words}
+use Rattle.std.proofs.Common.{◌≡◌, sym, ◌∙◌, length, drop, take}
+use Rattle.std.specs.Prelude.{position, unwrap_or}
+use Rattle.acl_policy.specs.Words.{is_blank}
+use Rattle.acl_policy.proofs.WordLemmas.{first_word, no_words}
 use Rattle.acl_policy.proofs.words.next_word.Goals as goal
 
 pub returns-in_err-start : goal.returns-in_err-start

@@ -1,0 +1,11 @@
+pub mod Counts
+pub mod LayoutLemmas
+pub mod OpenPlaces
+pub mod Orders
+pub mod PageLemmas
+pub mod Pairs
+pub mod Places
+pub mod PlanLemmas
+pub mod Puts
+pub mod Room
+pub mod TallyLemmas

@@ -1,0 +1,45 @@
+-- Lemmas on what stands at a place of a block.
+use Rattle.std.proofs.Common.{◌*◌, ◌^◌, ⊎_elim, arith, ◌≡◌, ◌≢◌, ◌<◌, ℕ, List, Some, length, get_or, refl, ap, ◌∙◌}
+use Rattle.std.proofs.lemmas.Option.{get_or_from_slice_get, slice_get-get_or, slice_get_read, slice_get_within}
+use Rattle.bihash_plan.specs.Blocks.{HasKey, IsFree, IsSized, free}
+
+-- a place that was read has a pair with the key, where it shows the key and no free place's value
+pub has_key_read : {K : Type 0} (places : List (K × ℕ)) (key : K) (i : ℕ) (place : K × ℕ)
+    → i < length places → place ≡ get_or places i place → place.1 ≢ free → place.0 ≡ key
+    → HasKey places key i
+has_key_read places key i place inside is taken same = record {
+  value = place.1;
+  at = slice_get_read places (length places) i place refl inside is ∙ ap (λ k. Some (k, place.1)) same;
+  taken = taken;
+}
+
+pub pair_read : {K : Type 0} {places : List (K × ℕ)} {key : K} {i : ℕ} (place : K × ℕ)
+    → place ≡ get_or places i place → (h : HasKey places key i) → place ≡ (key, h.value)
+pair_read {places = places} {i = i} place is h = is ∙ get_or_from_slice_get places i _ place h.at
+
+-- a bucket that has a place has a block of four places a page
+pub block_sized : {X : Type 0} (places : List X) (log2 : ℕ)
+    → 0 < length places → IsSized log2 (length places) → length places ≡ 4 * 2 ^ log2
+block_sized places log2 some sized = ⊎_elim
+    (λ (none : length places ≡ 0). absurd (omega arith))
+    (λ (whole : length places ≡ 4 * 2 ^ log2). whole)
+    sized
+
+pub key_inside : {K : Type 0} {places : List (K × ℕ)} {key : K} {i : ℕ}
+    → HasKey places key i → i < length places
+key_inside {places = places} {i = i} h = slice_get_within places i _ h.at
+
+pub free_inside : {K : Type 0} {places : List (K × ℕ)} {i : ℕ} → IsFree places i → i < length places
+free_inside {places = places} {i = i} h = slice_get_within places i _ h.at
+
+-- a place is free where its value is a free place's
+pub free_at : {K : Type 0} (places : List (K × ℕ)) (i : ℕ) (d : K × ℕ)
+    → i < length places → (get_or places i d).1 ≡ free → IsFree places i
+free_at places i d inside is = record {
+  key = (get_or places i d).0;
+  at = slice_get-get_or places i d inside ∙ ap (λ v. Some ((get_or places i d).0, v)) is;
+}
+
+pub free_value_at : {K : Type 0} {places : List (K × ℕ)} {i : ℕ} (d : K × ℕ)
+    → IsFree places i → (get_or places i d).1 ≡ free
+free_value_at {places = places} {i = i} d h = ap (λ place. place.1) (get_or_from_slice_get places i _ d h.at)

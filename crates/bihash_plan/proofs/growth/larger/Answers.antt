@@ -1,0 +1,18 @@
+use Rattle.std.proofs.Common.{arith, sym, ◌∙◌}
+use Rattle.std.proofs.lemmas.Bool.{false≢true}
+use Rattle.bihash_plan.specs.Pages.{paging_of}
+use Rattle.bihash_plan.proofs.PlanLemmas.{exhausted}
+use Rattle.bihash_plan.proofs.growth.larger.Goals as goal
+use Rattle.bihash_plan.proofs.growth.larger.Goals.{else-not-linear-via-then-not-linear+else-has_free_place, else-not-linear-via-else-not-linear}
+
+pub returns-clause-exact : goal.returns-clause-exact
+returns-clause-exact g c = λ lawful new crowded. (
+  new,
+  crowded,
+  exhausted (paging_of g.S.Shape) _ _ _ _ c.requires.block (omega arith)
+      (λ can. elim c.else-not-linear.branch [
+        | else-not-linear-via-then-not-linear+else-has_free_place w ↦ false≢true
+            (w.if-has_free_place.ensures.1 can.2)
+        | else-not-linear-via-else-not-linear w ↦ false≢true (sym can.1 ∙ w.if-not-linear.false)
+      ]),
+)

@@ -1,0 +1,13 @@
+use Rattle.std.proofs.Common.{◌≤◌, length}
+use Rattle.bihash_plan.specs.Layouts.{IsNamed}
+use Rattle.bihash_plan.specs.Pages.{paging_of}
+use Rattle.bihash_plan.proofs.LayoutLemmas.{IsLaidSoFar}
+use Rattle.bihash_plan.proofs.rehash.lay.Given as goal
+
+-- the pairs of the places so far are laid out
+abbrev pub invariant-loop-pair : goal.invariant-loop-pair
+invariant-loop-pair g l = record {
+  within : l.next ≤ length l.out;
+  laid : IsNamed (paging_of g.S.Shape) l.places l.key l.log2 l.linear
+      → IsLaidSoFar (paging_of g.S.Shape) l.log2 l.linear l.places l.key l.pair-index l.next l.out;
+}

@@ -1,0 +1,5 @@
+pub mod Blocks
+pub mod Layouts
+pub mod Pages
+pub mod Plans
+pub mod Tallies

@@ -1,0 +1,163 @@
+//! The plan of a key: its place, a free place, or a larger block.
+
+ghost use Rattle.std.specs.Prelude.{◌≡◌, ◌≤◌, ◌<◌, ◌+◌, ◌*◌, ◌^◌, ◌↔◌, ◌∷◌, ℕ, false, IsTrue, length};
+ghost use Rattle.std.specs.Bool.{OnTrue, OnFalse};
+ghost use Rattle.bihash_words.specs.Sizes.{IsSound, sizes_of};
+ghost use Rattle.bihash_plan.specs.Blocks.{HasKey, IsCrowded, IsFree, IsLawfulBlock, IsNew, IsSized, NamesPage, pairs};
+ghost use Rattle.bihash_plan.specs.Pages.{page_of, paging_of};
+ghost use Rattle.bihash_plan.specs.Plans.{HasRoom, IsPlan, IsSafe, keys_of};
+
+use crate::fit::fits;
+use crate::outcome::Plan;
+use crate::place::{open_places, page};
+use crate::search::{free_place, place_of_key};
+use bihash_words::Shape;
+
+/// What the key needs of its bucket's block: its own place; for a new key the first free place
+/// open to it; else the first larger block in which no page is named by more than four pairs, or
+/// else a linear one. It is refused where the bucket holds as many pairs as the largest block.
+/// `places` has four places a page, and none where the bucket has no block.
+///
+/// In a block that isn't linear the four places of one page decide. All places are looked at only
+/// where that page is full and the block has the greatest size.
+pub fn plan<S: Shape>(places: &[(S::Key, u64)], log2: u64, linear: bool, key: &S::Key) -> Plan
+    requires shape { IsSound (sizes_of ⟦<S as Shape>⟧) }
+    requires small { log2 ≤ S.MAX_LOG2 }
+    requires sized { IsSized log2 (length places.now) }
+
+    ensures safe { IsSafe (paging_of ⟦<S as Shape>⟧) places.now key.now result }
+    ensures without_block { length places.now ≡ 0 → result ≡ Plan.Grow 0 false }
+    ensures exact { IsLawfulBlock (paging_of ⟦<S as Shape>⟧) log2 linear places.now
+        → IsPlan (paging_of ⟦<S as Shape>⟧) log2 linear places.now key.now result }
+    ensures only { IsLawfulBlock (paging_of ⟦<S as Shape>⟧) log2 linear places.now
+        → (other : Plan) → IsPlan (paging_of ⟦<S as Shape>⟧) log2 linear places.now key.now other → other ≡ result }
+    // A new key is refused exactly where the bucket holds as many pairs as the largest block.
+    ensures full { IsLawfulBlock (paging_of ⟦<S as Shape>⟧) log2 linear places.now → IsNew places.now key.now
+        → ((result ≡ Plan.Full) ↔ (length (pairs places.now) ≡ 4 * 2 ^ S.MAX_LOG2)) }
+{
+    if places.is_empty() {
+        return Plan::Grow {
+            log2: 0,
+            linear: false,
+        };
+    }
+    let (from, to) = open_places::<S>(places.len(), log2, linear, key);
+    if let Some(i) = place_of_key::<S>(places, from, to, key) {
+        return Plan::InPlace(i);
+    }
+    if let Some(i) = free_place(places, from, to) {
+        return Plan::InPlace(i);
+    }
+    larger::<S>(places, log2, linear, key)
+}
+
+/// The plan of a new key to which no free place is open.
+fn larger<S: Shape>(places: &[(S::Key, u64)], log2: u64, linear: bool, key: &S::Key) -> Plan
+    requires shape { IsSound (sizes_of ⟦<S as Shape>⟧) }
+    requires small { log2 ≤ S.MAX_LOG2 }
+    requires sized { IsSized log2 (length places.now) }
+    requires block { 0 < length places.now }
+    ensures safe { IsSafe (paging_of ⟦<S as Shape>⟧) places.now key.now result }
+    ensures exact { IsLawfulBlock (paging_of ⟦<S as Shape>⟧) log2 linear places.now → IsNew places.now key.now
+        → IsCrowded linear (page_of (paging_of ⟦<S as Shape>⟧) log2 key.now) places.now
+        → IsPlan (paging_of ⟦<S as Shape>⟧) log2 linear places.now key.now result }
+{
+    if has_room::<S>(places, log2, linear, key, log2 + 1) {
+        return Plan::Grow {
+            log2: log2 + 1,
+            linear: false,
+        };
+    }
+    if has_room::<S>(places, log2, linear, key, log2 + 2) {
+        return Plan::Grow {
+            log2: log2 + 2,
+            linear: false,
+        };
+    }
+    if log2 < S::MAX_LOG2 {
+        return Plan::Grow {
+            log2: log2 + 1,
+            linear: true,
+        };
+    }
+    if !linear && has_free_place(places) {
+        return Plan::Grow {
+            log2: S::MAX_LOG2,
+            linear: true,
+        };
+    }
+    Plan::Full
+}
+
+/// Whether some place of the block is free.
+fn has_free_place<K: Copy>(places: &[(K, u64)]) -> bool
+    requires { length places.now < 2 ^ 62 }
+    ensures { IsTrue result ↔ ((i : ℕ) × IsFree places.now i) }
+{
+    free_place(places, 0, places.len()).is_some()
+}
+
+/// Whether a block of `2^size` pages, above the block's own, takes the pairs and the new key.
+fn has_room<S: Shape>(
+    places: &[(S::Key, u64)],
+    log2: u64,
+    linear: bool,
+    key: &S::Key,
+    size: u64,
+) -> bool
+    requires shape { IsSound (sizes_of ⟦<S as Shape>⟧) }
+    requires small { log2 ≤ S.MAX_LOG2 }
+    requires sized { IsSized log2 (length places.now) }
+    ensures within { IsTrue result → size ≤ S.MAX_LOG2 }
+    ensures exact { IsLawfulBlock (paging_of ⟦<S as Shape>⟧) log2 linear places.now
+        → IsCrowded linear (page_of (paging_of ⟦<S as Shape>⟧) log2 key.now) places.now
+        → 0 < length places.now → log2 ≤ size
+        → (IsTrue result ↔ HasRoom (paging_of ⟦<S as Shape>⟧) (key.now ∷ keys_of places.now) size) }
+{
+    if S::MAX_LOG2 < size {
+        return false;
+    }
+    if linear {
+        return fits::<S>(places, key, size);
+    }
+    // A page's pairs go to pages that no other page's go to, so only the key's page can overflow.
+    let (from, to) = open_places::<S>(places.len(), log2, linear, key);
+    has_other_page::<S>(places, from, to, key, size)
+}
+
+/// Whether one of the pairs, from one place to before another, has another page than the key.
+fn has_other_page<S: Shape>(
+    places: &[(S::Key, u64)],
+    from: usize,
+    to: usize,
+    key: &S::Key,
+    log2: u64,
+) -> bool
+    requires shape { IsSound (sizes_of ⟦<S as Shape>⟧) }
+    requires small { log2 ≤ S.MAX_LOG2 }
+    requires short { length places.now < 2 ^ 62 }
+    requires within { to ≤ length places.now }
+    ensures other { let own = page_of (paging_of ⟦<S as Shape>⟧) log2 key.now in
+        OnTrue result ((i : ℕ) × (from ≤ i) × (i < to) × (NamesPage (paging_of ⟦<S as Shape>⟧) log2 own places.now i → ⊥)) }
+    ensures same { let own = page_of (paging_of ⟦<S as Shape>⟧) log2 key.now in
+        OnFalse result ((i : ℕ) → from ≤ i → i < to → NamesPage (paging_of ⟦<S as Shape>⟧) log2 own places.now i) }
+{
+    let own = page::<S>(key, log2);
+    for i in from..to {
+        if !names_page::<S>(places, i, log2, own) {
+            return true;
+        }
+    }
+    false
+}
+
+/// Whether the key that the place shows names the page.
+fn names_page<S: Shape>(places: &[(S::Key, u64)], i: usize, log2: u64, own: usize) -> bool
+    requires shape { IsSound (sizes_of ⟦<S as Shape>⟧) }
+    requires small { log2 ≤ S.MAX_LOG2 }
+    requires short { length places.now < 2 ^ 62 }
+    requires inside { i < length places.now }
+    ensures { IsTrue result ↔ NamesPage (paging_of ⟦<S as Shape>⟧) log2 own places.now i }
+{
+    page::<S>(&places[i].0, log2) == own
+}

@@ -1,0 +1,18 @@
+//! Pure plans for the blocks of a bucket: where a key stands, what a new key needs, and how a
+//! larger block is laid out.
+#![tactic(auto)]
+
+mod fit;
+mod growth;
+mod outcome;
+mod place;
+mod rehash;
+mod search;
+
+pub use growth::plan;
+pub use outcome::Plan;
+pub use rehash::lay;
+pub use search::find;
+
+#[cfg(test)]
+mod tests;

@@ -1,0 +1,54 @@
+//! The pages and places of a block, and which places are open to a key.
+
+ghost use Rattle.std.specs.Prelude.{◌≡◌, ◌≤◌, ◌<◌, ◌+◌, ◌^◌, ◌↔◌, ℕ};
+ghost use Rattle.bihash_words.specs.Sizes.{IsSound, sizes_of};
+ghost use Rattle.bihash_plan.specs.Blocks.{IsOpen, IsSized};
+ghost use Rattle.bihash_plan.specs.Pages.{page_of, paging_of};
+
+use bihash_words::Shape;
+
+/// The value of a free place, which no stored value has.
+pub(crate) const FREE: u64 = u64::MAX;
+
+/// How many places a page has.
+pub(crate) const PAGE_PLACES: usize = 4;
+
+/// The page that the key's hash names in a block of `2^log2` pages.
+pub(crate) fn page<S: Shape>(key: &S::Key, log2: u64) -> usize
+    requires shape { IsSound (sizes_of ⟦<S as Shape>⟧) }
+    requires small { log2 ≤ S.MAX_LOG2 }
+    ensures { result ≡ page_of (paging_of ⟦<S as Shape>⟧) log2 key.now }
+{
+    let hash = S::hash(key);
+    ((hash >> S::LOG2_BUCKETS) % (1u64 << log2)) as usize
+}
+
+/// How many pages a block has.
+pub(crate) fn page_count(log2: u64) -> usize
+    requires { log2 ≤ 24 }
+    ensures { result ≡ 2 ^ log2 }
+{
+    1usize << log2
+}
+
+/// The places open to the key, as the first of them and the one behind the last.
+pub(crate) fn open_places<S: Shape>(
+    count: usize,
+    log2: u64,
+    linear: bool,
+    key: &S::Key,
+) -> (usize, usize)
+    requires shape { IsSound (sizes_of ⟦<S as Shape>⟧) }
+    requires small { log2 ≤ S.MAX_LOG2 }
+    requires sized { IsSized log2 count }
+    ensures order { result.0 ≤ result.1 }
+    ensures within { result.1 ≤ count }
+    ensures exact { (i : ℕ) → i < count
+        → ((result.0 ≤ i) × (i < result.1)) ↔ IsOpen linear (page_of (paging_of ⟦<S as Shape>⟧) log2 key.now) i }
+{
+    if linear || count == 0 {
+        return (0, count);
+    }
+    let first = PAGE_PLACES * page::<S>(key, log2);
+    (first, first + PAGE_PLACES)
+}

@@ -1,0 +1,101 @@
+//! Laying the pairs of a bucket and a new one out in a larger block.
+
+ghost use Rattle.std.specs.Prelude.{◌≡◌, ◌≢◌, ◌≤◌, ◌<◌, ◌*◌, ◌^◌, ℕ, length, replicate, slice_set, IfSome, IfNone};
+ghost use Rattle.bihash_words.specs.Sizes.{IsSound, sizes_of};
+ghost use Rattle.bihash_plan.specs.Blocks.{IsCrowded, IsFirstFree, IsLawfulBlock, free};
+ghost use Rattle.bihash_plan.specs.Layouts.{IsNamed, IsRehash, IsTakenBefore};
+ghost use Rattle.bihash_plan.specs.Pages.{page_of, paging_of};
+
+use crate::place::{FREE, open_places};
+use crate::search::free_place;
+use bihash_words::Shape;
+
+/// Writes a block of `2^log2` pages into `out`: the pairs in the order of their places and then
+/// the new one, each at the first free place open to its key. `plan` has to have named this block
+/// for the key, and the value isn't all ones; else pairs for which there is no place are left out.
+pub fn lay<S: Shape>(
+    places: &[(S::Key, u64)],
+    key: &S::Key,
+    value: u64,
+    log2: u64,
+    linear: bool,
+    out: &mut [(S::Key, u64)],
+)
+    requires shape { IsSound (sizes_of ⟦<S as Shape>⟧) }
+    requires small { log2 ≤ S.MAX_LOG2 }
+    requires sized { length out.old ≡ 4 * 2 ^ log2 }
+    ensures { IsNamed (paging_of ⟦<S as Shape>⟧) places.now key.now log2 linear → value ≢ free
+        → IsRehash (paging_of ⟦<S as Shape>⟧) log2 linear places.now key.now value out.new }
+{
+    clear(*key, out);
+    let mut next = 0;
+    for pair in places {
+        if pair.1 == FREE {
+            continue;
+        }
+        next = put::<S>(*pair, log2, linear, next, out);
+    }
+    put::<S>((*key, value), log2, linear, next, out);
+}
+
+/// Makes each place free.
+fn clear<K: Copy>(key: K, out: &mut [(K, u64)])
+    ensures { out.new ≡ replicate (length out.old) (key, free) }
+{
+    for place in out.iter_mut() {
+        *place = (key, FREE);
+    }
+}
+
+/// Puts a pair at the first free place open to its key, where a linear block has none before
+/// `next`, and says before which place it has none afterwards.
+fn put<S: Shape>(
+    pair: (S::Key, u64),
+    log2: u64,
+    linear: bool,
+    next: usize,
+    out: &mut [(S::Key, u64)],
+) -> usize
+    requires shape { IsSound (sizes_of ⟦<S as Shape>⟧) }
+    requires small { log2 ≤ S.MAX_LOG2 }
+    requires sized { length out.old ≡ 4 * 2 ^ log2 }
+    requires within { next ≤ length out.old }
+    ensures within { result ≤ length out.new }
+    ensures placed { pair.1 ≢ free → IsTakenBefore linear next out.old
+        → (IsCrowded linear (page_of (paging_of ⟦<S as Shape>⟧) log2 pair.0) out.old → ⊥)
+        → (i : ℕ) × IsFirstFree linear (page_of (paging_of ⟦<S as Shape>⟧) log2 pair.0) out.old i
+        × (out.new ≡ slice_set out.old i pair) × IsTakenBefore linear result out.new }
+{
+    match first_free::<S>(out, log2, linear, next, &pair.0) {
+        Some(i) => {
+            out[i] = pair;
+            i + 1
+        }
+        None => next,
+    }
+}
+
+/// The first free place open to the key, where a linear block has none before `next`.
+fn first_free<S: Shape>(
+    places: &[(S::Key, u64)],
+    log2: u64,
+    linear: bool,
+    next: usize,
+    key: &S::Key,
+) -> Option<usize>
+    requires shape { IsSound (sizes_of ⟦<S as Shape>⟧) }
+    requires small { log2 ≤ S.MAX_LOG2 }
+    requires sized { length places.now ≡ 4 * 2 ^ log2 }
+    requires within { next ≤ length places.now }
+    ensures within { IfSome result (λ i. i < length places.now) }
+    ensures found { IsTakenBefore linear next places.now
+        → IfSome result (IsFirstFree linear (page_of (paging_of ⟦<S as Shape>⟧) log2 key.now) places.now) }
+    ensures none { IsTakenBefore linear next places.now
+        → IfNone result (IsCrowded linear (page_of (paging_of ⟦<S as Shape>⟧) log2 key.now) places.now) }
+{
+    if linear {
+        return free_place(places, next, places.len());
+    }
+    let (from, to) = open_places::<S>(places.len(), log2, linear, key);
+    free_place(places, from, to)
+}

@@ -1,0 +1,92 @@
+//! Searches of a block for a key and for a free place.
+
+ghost use Rattle.std.specs.Prelude.{◌≡◌, ◌≤◌, ◌<◌, ◌^◌, ◌↔◌, ℕ, IsTrue, IfSome, IfNone, length};
+ghost use Rattle.bihash_words.specs.Sizes.{IsSound, sizes_of};
+ghost use Rattle.bihash_plan.specs.Blocks.{HasKey, IsFree, IsLawfulBlock, IsNew, IsOpen, IsSized};
+ghost use Rattle.bihash_plan.specs.Pages.{page_of, paging_of};
+
+use crate::place::{FREE, open_places};
+use bihash_words::{Shape, is_same};
+
+/// The place where the key's pair stands. `places` has four places a page, and none where the
+/// bucket has no block. Where they are no lawful block, as in a read that a writer overtook, only
+/// the places open to the key are searched.
+pub fn find<S: Shape>(
+    places: &[(S::Key, u64)],
+    log2: u64,
+    linear: bool,
+    key: &S::Key,
+) -> Option<usize>
+    requires shape { IsSound (sizes_of ⟦<S as Shape>⟧) }
+    requires small { log2 ≤ S.MAX_LOG2 }
+    requires sized { IsSized log2 (length places.now) }
+
+    ensures found { IfSome result (HasKey places.now key.now) }
+    ensures open_only { IfNone result ((i : ℕ) → IsOpen linear (page_of (paging_of ⟦<S as Shape>⟧) log2 key.now) i
+        → HasKey places.now key.now i → ⊥) }
+    // On a lawful block the answer is the key's place, and None exactly where no pair has the key.
+    ensures place { IsLawfulBlock (paging_of ⟦<S as Shape>⟧) log2 linear places.now
+        → (i : ℕ) → HasKey places.now key.now i → result ≡ Some i }
+    ensures none { IsLawfulBlock (paging_of ⟦<S as Shape>⟧) log2 linear places.now
+        → ((result ≡ None) ↔ IsNew places.now key.now) }
+{
+    let (from, to) = open_places::<S>(places.len(), log2, linear, key);
+    place_of_key::<S>(places, from, to, key)
+}
+
+/// A place with a pair of the key, among those from one place to before another.
+pub(crate) fn place_of_key<S: Shape>(
+    places: &[(S::Key, u64)],
+    from: usize,
+    to: usize,
+    key: &S::Key,
+) -> Option<usize>
+    requires shape { IsSound (sizes_of ⟦<S as Shape>⟧) }
+    requires short { length places.now < 2 ^ 62 }
+    requires within { to ≤ length places.now }
+    ensures found { IfSome result (HasKey places.now key.now) }
+    ensures none { IfNone result ((i : ℕ) → from ≤ i → i < to → HasKey places.now key.now i → ⊥) }
+{
+    for i in from..to {
+        if has_key::<S>(places, i, key) {
+            return Some(i);
+        }
+    }
+    None
+}
+
+/// The first free place, among those from one place to before another.
+pub(crate) fn free_place<K: Copy>(places: &[(K, u64)], from: usize, to: usize) -> Option<usize>
+    requires short { length places.now < 2 ^ 62 }
+    requires within { to ≤ length places.now }
+    ensures found { IfSome result (λ i. (from ≤ i) × (i < to) × IsFree places.now i) }
+    ensures first { IfSome result (λ i. (j : ℕ) → from ≤ j → j < i → IsFree places.now j → ⊥) }
+    ensures none { IfNone result ((i : ℕ) → from ≤ i → i < to → IsFree places.now i → ⊥) }
+{
+    for i in from..to {
+        if is_free(places, i) {
+            return Some(i);
+        }
+    }
+    None
+}
+
+/// Whether a pair with the key stands at the place.
+fn has_key<S: Shape>(places: &[(S::Key, u64)], i: usize, key: &S::Key) -> bool
+    requires shape { IsSound (sizes_of ⟦<S as Shape>⟧) }
+    requires short { length places.now < 2 ^ 62 }
+    requires inside { i < length places.now }
+    ensures { IsTrue result ↔ HasKey places.now key.now i }
+{
+    let (other, value) = &places[i];
+    *value != FREE && is_same::<S>(other, key)
+}
+
+/// Whether the place is free.
+fn is_free<K: Copy>(places: &[(K, u64)], i: usize) -> bool
+    requires short { length places.now < 2 ^ 62 }
+    requires inside { i < length places.now }
+    ensures { IsTrue result ↔ IsFree places.now i }
+{
+    places[i].1 == FREE
+}

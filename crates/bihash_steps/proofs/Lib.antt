@@ -1,0 +1,10 @@
+pub mod Lists
+pub mod Prefixes
+pub mod Numbers
+pub mod Lawful
+pub mod CountWord
+pub mod Counting
+pub mod Sharing
+pub mod Fresh
+pub mod Bounds
+pub mod Splits

@@ -1,0 +1,22 @@
+use Rattle.std.proofs.Common.{rules, ap, sym, subst, ◌∙◌}
+use Rattle.bihash_steps.specs.Callers.{IsLawfulCaller}
+use Rattle.bihash_steps.specs.Seats.{CallerState}
+use Rattle.bihash_steps.specs.Steps.{ViewOfSeat}
+use Rattle.bihash_steps.proofs.CountWord.{some_words}
+use Rattle.bihash_steps.proofs.Sharing.{cut_lawful, splits_numbers}
+use Rattle.bihash_steps.proofs.row.Row.cut.Goals as goal
+
+pub split_seat-seat-requires : goal.split_seat-seat-requires
+split_seat-seat-requires g c = (
+  search rules,
+  rw c.self.invariant.wide (some_words _),
+  splits_numbers _ _ _ _
+      (ap (λ (k : CallerState). k.view.holds) c.caller.view_is ∙ c.requires.free),
+)
+
+pub returns-clause-lawful : goal.returns-clause-lawful
+returns-clause-lawful g c law =
+    let first = λ (m : ViewOfSeat). m.0 in
+    let same = ap (λ (k : CallerState). k.view) c.caller.view_is in
+    cut_lawful _ _ c.caller.inside.seat.me.0 _ _ (ap first c.split_seat-seat.ensures.2) (ap first c.split_seat-seat.ensures.4)
+    (subst (IsLawfulCaller _) (sym same) law)

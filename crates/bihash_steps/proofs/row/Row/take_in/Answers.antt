@@ -1,0 +1,27 @@
+use Rattle.std.proofs.Common.{rules, ap, ◌∙◌, arith}
+use Rattle.bihash_steps.specs.Seats.{CallerState}
+use Rattle.bihash_steps.proofs.CountWord.{some_words}
+use Rattle.bihash_steps.proofs.Counting.{agrees_known, met_agree}
+use Rattle.bihash_steps.proofs.Sharing.{joins_numbers}
+use Rattle.bihash_steps.proofs.row.Row.take_in.Goals as goal
+
+pub join_seat-requires : goal.join_seat-requires
+join_seat-requires g c = (
+  search rules,
+  search rules,
+  search rules,
+  rw c.self.invariant.wide (some_words _),
+  joins_numbers _ _ _ _ _ (let a = c.caller.invariant.1.count in let b = c.caller.invariant.1.some in omega arith)
+      (let a = c.other.invariant.1.count in let b = c.other.invariant.1.some in omega arith)
+      (ap (λ (k : CallerState). k.view.holds) c.caller.view_is ∙ c.requires.free.0)
+      (ap (λ (k : CallerState). k.view.holds) c.other.view_is ∙ c.requires.free.1),
+)
+
+pub load-requires : goal.load-requires
+load-requires g c = (search rules, rw c.self.invariant.wide (some_words _), agrees_known _ _ _ _)
+
+pub returns-clause-agree : goal.returns-clause-agree
+returns-clause-agree g c =
+    let mine = ap (λ (k : CallerState). k.view) c.caller.view_is in
+    let theirs = ap (λ (k : CallerState). k.view) c.other.view_is in
+    met_agree _ _ _ _ _ _ _ _ c.join_seat.ensures.2 mine theirs c.load.ensures.2

@@ -1,0 +1,88 @@
+-- Lawful callers, what two of them have in common, and whole callers.
+use Rattle.std.specs.Prelude.{◌≡◌, ◌≢◌, ◌⊎◌, ℕ, ◌+◌, ◌<◌, ◌≤◌, true, List, [], slice_index_or}
+use lib.ListN.{get_elem?}
+use mathlib.Core.Option.{some}
+use Rattle.std.specs.FinMap.{from_entries}
+use Rattle.bihash_words.specs.Maps.{Pairs}
+use Rattle.bihash_words.specs.Sizes.{Sizes}
+use Rattle.bihash_steps.specs.Words.{buckets}
+use Rattle.bihash_steps.specs.Histories.{IsLegal, IsPrefix, is_changed}
+use Rattle.bihash_steps.specs.declared.view.Write.{Write}
+use Rattle.bihash_steps.specs.declared.view.Call.{Call}
+use Rattle.bihash_steps.specs.declared.view.Record.{Record}
+use Rattle.bihash_steps.specs.declared.view.Known.{Known}
+use Rattle.bihash_steps.specs.declared.view.View.{View}
+
+-- for each bucket the pairs with which it began
+abbrev pub Openings : Type 0
+Openings = List (List (List ℕ × ℕ))
+
+abbrev pub opening_in : Openings → ℕ → Pairs
+opening_in openings b = from_entries (slice_index_or openings b [])
+
+-- the map with which bucket b began
+abbrev pub opening_at : Known → ℕ → Pairs
+opening_at known b = opening_in known.openings b
+
+-- what is known of the writes of bucket b
+abbrev pub known_at : Known → ℕ → List Write
+known_at known b = slice_index_or known.writes b []
+
+-- d may come behind c in one record: on one bucket no stamp falls, and that of a write is greater than
+-- all before it
+abbrev pub MayFollow : Call → Call → Type 0
+MayFollow c d = c.bucket ≡ d.bucket → (c.stamp ≤ d.stamp)
+    × (is_changed d.reply ≡ true → c.stamp < d.stamp)
+
+abbrev pub Rises : List Call → Type 0
+Rises calls = (i j : ℕ) (c d : Call) → i < j → get_elem? calls i ≡ some c → get_elem? calls j ≡ some d
+    → MayFollow c d
+
+-- the calls have the write of this number of bucket b
+abbrev pub HasWrite : List Call → ℕ → ℕ → Type 0
+HasWrite calls b number = (k : ℕ) × (c : Call) × (get_elem? calls k ≡ some c) × (c.bucket ≡ b)
+    × (is_changed c.reply ≡ true) × (c.stamp ≡ number)
+
+-- What records have to do with known writes. Each call is legal on what is known of its bucket, stamps
+-- rise, and each known write that bears a record's number is a call of that record, at its stamp.
+pub record IsLawful (z : Sizes) (known : Known) (records : List Record) : Type 0 where
+  pub legal : (i k : ℕ) (r : Record) (c : Call) → get_elem? records i ≡ some r
+      → get_elem? r.calls k ≡ some c
+      → IsLegal z (opening_at known c.bucket) (known_at known c.bucket) r.number c
+  pub rises : (i : ℕ) (r : Record) → get_elem? records i ≡ some r → Rises r.calls
+  pub own : (i b n : ℕ) (r : Record) (w : Write) → get_elem? records i ≡ some r → b < buckets z
+      → get_elem? (known_at known b) n ≡ some w → w.by ≡ r.number → HasWrite r.calls b (n + 1)
+
+-- the records bear numbers from 1 to the count that was seen, no two the same
+pub record HasNumbers (seen : ℕ) (records : List Record) : Type 0 where
+  pub range : (i : ℕ) (r : Record) → get_elem? records i ≡ some r → (1 ≤ r.number) × (r.number ≤ seen)
+  pub once : (i k : ℕ) (r q : Record) → i ≢ k → get_elem? records i ≡ some r
+      → get_elem? records k ≡ some q → r.number ≢ q.number
+
+-- a lawful caller
+pub record IsLawfulCaller (z : Sizes) (v : View) : Type 0 where
+  pub numbers : HasNumbers v.seen v.records
+  pub lawful : IsLawful z v.known v.records
+
+abbrev pub HasNumber : List Record → ℕ → Type 0
+HasNumber records n = (i : ℕ) × (r : Record) × (get_elem? records i ≡ some r) × (r.number ≡ n)
+
+-- a whole caller has every number up to the caller count
+abbrev pub IsWhole : List Record → ℕ → Type 0
+IsWhole records count = (n : ℕ) → 1 ≤ n → n ≤ count → HasNumber records n
+
+-- no number of the one is the other's
+abbrev pub Apart : List Record → List Record → Type 0
+Apart records others = (i k : ℕ) (r q : Record) → get_elem? records i ≡ some r
+    → get_elem? others k ≡ some q → r.number ≢ q.number
+
+-- what is known of one table: the same beginnings, and of each bucket the one list begins the other
+abbrev pub IsConsistent : Known → Known → Type 0
+IsConsistent k m = (k.openings ≡ m.openings)
+    × ((b : ℕ) → IsPrefix (known_at k b) (known_at m b) ⊎ IsPrefix (known_at m b) (known_at k b))
+
+-- two callers agree: they share no number, and of each bucket the one knows a beginning of what the
+-- other knows
+pub record Agrees (v w : View) : Type 0 where
+  pub apart : Apart v.records w.records
+  pub known : IsConsistent v.known w.known

@@ -1,0 +1,88 @@
+-- The writes of a bucket in their order, and when an answered call is legal on them.
+use Rattle.std.specs.Prelude.{◌≡◌, ℕ, ◌+◌, ◌^◌, ◌%◌, ◌≤◌, ◌++◌, Bool, true, false, List, [], ◌∷◌, length}
+use Rattle.std.proofs.Math.ListN.{take}
+use lib.ListN.{get_elem?}
+use mathlib.Core.Option.{some}
+use Rattle.std.specs.FinMap.{get}
+use Rattle.bihash_words.specs.Maps.{Pairs, Bounds, Event, Step, changed}
+use Rattle.bihash_words.specs.Patches.{IsStorable}
+use Rattle.bihash_words.specs.declared.patch.Reply.{Reply}
+use Rattle.bihash_words.specs.declared.patch.Reply.TheVariants.{Kept, Changed, Worn, Full, NoPages}
+use Rattle.bihash_words.specs.Sizes.{Sizes}
+use Rattle.bihash_steps.specs.declared.view.Write.{Write}
+use Rattle.bihash_steps.specs.declared.view.Call.{Call}
+
+-- what bounds the map of a bucket
+abbrev pub bounds_of : Sizes → Bounds
+bounds_of z = record { limit = z.limit; max_log2 = z.max_log2 }
+
+-- the bucket of a key: the low bits of its hash
+abbrev pub bucket_of : Sizes → List ℕ → ℕ
+bucket_of z key = z.hash key % 2 ^ z.log2_buckets
+
+-- a key of this bucket
+pub record IsKeyOf (z : Sizes) (b : ℕ) (key : List ℕ) : Type 0 where
+  pub long : length key ≡ z.key_words
+  pub home : bucket_of z key ≡ b
+
+-- the map after these writes, from the map m
+abbrev pub replay : Pairs → List Write → Pairs
+replay m [] = m
+replay m (w ∷ ws) = replay (changed m w.key w.change) ws
+
+-- the map after the first n writes
+abbrev pub after : Pairs → List Write → ℕ → Pairs
+after opening H n = replay opening (take n H)
+
+-- what a write did, seen as an event at the map m
+abbrev pub event_of_write : Pairs → Write → Event
+event_of_write m w = record {
+  key = w.key;
+  found = get m w.key;
+  change = w.change;
+  reply = Changed (get m w.key);
+}
+
+-- a write of bucket b that stands behind n others, which left the map m
+pub record IsWrite (z : Sizes) (b n : ℕ) (m : Pairs) (w : Write) : Type 0 where
+  pub key : IsKeyOf z b w.key
+  pub storable : IsStorable w.change
+  pub changes : Step (bounds_of z) m n (event_of_write m w) (changed m w.key w.change)
+
+-- a write list: at most `limit` writes, each of which changes the map that those before it left
+pub record IsWriteList (z : Sizes) (b : ℕ) (opening : Pairs) (H : List Write) : Type 0 where
+  pub short : length H ≤ z.limit
+  pub each : (n : ℕ) (w : Write) → get_elem? H n ≡ some w → IsWrite z b n (after opening H n) w
+
+-- xs is the beginning of ys
+pub record IsPrefix (xs ys : List Write) : Type 0 where
+  pub rest : List Write
+  pub whole : ys ≡ xs ++ rest
+
+-- whether a reply tells of a write
+abbrev pub is_changed : Reply → Bool
+is_changed (Kept found) = false
+is_changed (Changed found) = true
+is_changed (Worn found) = false
+is_changed Full = false
+is_changed (NoPages log2 left) = false
+
+abbrev pub event_of : Call → Event
+event_of c = record { key = c.key; found = c.found; change = c.change; reply = c.reply }
+
+-- the call is what a bounded map answers at the map m, behind n writes
+abbrev pub IsAnswer : Sizes → Pairs → ℕ → Call → Type 0
+IsAnswer z m n c = (m' : Pairs) × Step (bounds_of z) m n (event_of c) m'
+
+-- the write that a call of this caller number made
+abbrev pub write_of : ℕ → Call → Write
+write_of by c = record { by = by; key = c.key; change = c.change }
+
+-- A legal call on the history H. A write is the one of H that its stamp names, and an answer at the map
+-- before it. Any other call is an answer at the map that its stamp names.
+pub record IsLegal (z : Sizes) (opening : Pairs) (H : List Write) (by : ℕ) (c : Call) : Type 0 where
+  pub key : IsKeyOf z c.bucket c.key
+  pub seen : c.stamp ≤ length H
+  pub write : is_changed c.reply ≡ true → (n : ℕ) × (c.stamp ≡ n + 1)
+      × (get_elem? H n ≡ some (write_of by c)) × IsAnswer z (after opening H n) n c
+  pub other : is_changed c.reply ≡ false → IsAnswer z (after opening H c.stamp) c.stamp c

@@ -1,0 +1,11 @@
+pub mod Words
+pub mod Histories
+pub mod Callers
+pub mod Blocks
+pub mod Partition
+pub mod Buckets
+pub mod PageStores
+pub mod Views
+pub mod WordRule
+pub mod Steps
+pub mod Seats

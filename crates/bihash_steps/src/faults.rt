@@ -1,0 +1,31 @@
+//! Why a row or a caller could not be made.
+ghost use Rattle.std.specs.Prelude.{◌≡◌};
+ghost use Rattle.bihash_steps.specs.declared.faults.CreateFault.TheVariants.{Memory};
+
+use std::alloc::AllocError;
+
+/// Why a row could not be made.
+#[derive(Clone, Copy, Debug, PartialEq, Eq)]
+pub enum CreateFault {
+    /// Memory was refused.
+    Memory,
+}
+
+impl From<AllocError> for CreateFault {
+    ghost from_gives = { λ _ fault. fault ≡ Memory };
+
+    fn from(_error: AllocError) -> Self {
+        CreateFault::Memory
+    }
+}
+
+/// Why a caller could not be split.
+#[derive(Clone, Copy, Debug, PartialEq, Eq)]
+pub enum SplitFault {
+    /// Memory was refused.
+    Memory,
+    /// As many callers were made as a table may have.
+    Numbers,
+    /// Another caller took a number in the same moment.
+    Contended,
+}

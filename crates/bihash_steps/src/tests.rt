@@ -1,0 +1,65 @@
+//! New rows, callers of a small table that split, meet and join, and as many callers as it may have.
+ghost use Rattle.std.specs.Prelude.{◌≡◌, IfOk};
+ghost use Rattle.bihash_steps.specs.Views.{nothing_held};
+
+use crate::{Caller, Row, SplitFault, open_row};
+use bihash_words::{ShapeV4, ShapeV6, Tiny};
+use std::alloc::Global;
+use std::test::Fail;
+
+// Four pages, and eight writes to a bucket. A table of this shape may have 64 callers.
+type Small = Tiny<4, 8>;
+
+// A caller and a new one. A refusal fails the test.
+fn split(
+    alloc: Global,
+    row: &Row<Small>,
+    caller: Caller<Small>,
+) -> Result<(Caller<Small>, Caller<Small>), Fail>
+    requires { (caller.row ≡ row.now) × (caller.view.holds ≡ nothing_held) }
+    ensures old { IfOk result (λ r. (r.0.row ≡ row.now) × (r.0.view.holds ≡ nothing_held)) }
+    ensures new { IfOk result (λ r. (r.1.row ≡ row.now) × (r.1.view.holds ≡ nothing_held)) }
+{
+    match row.split(alloc, caller) {
+        Ok(both) => Ok(both),
+        Err((fault, _)) => Err(fault)?,
+    }
+}
+
+#[test]
+fn rows_of_both_flow_shapes_open(rt: HostRuntime) -> Result<(), Fail> {
+    let (four, mut first) = open_row::<ShapeV4>(rt.alloc())?;
+    assert_eq!(rt; four.load_count(&mut first), 1);
+    let (six, mut first) = open_row::<ShapeV6>(rt.alloc())?;
+    assert_eq!(rt; six.load_count(&mut first), 1);
+    Ok(())
+}
+
+#[test]
+fn callers_split_meet_and_join(rt: HostRuntime) -> Result<(), Fail> {
+    let (row, mut first) = open_row::<Small>(rt.alloc())?;
+    assert_eq!(rt; row.load_count(&mut first), 1);
+    let (first, mut second) = split(rt.alloc(), &row, first)?;
+    assert_eq!(rt; row.load_count(&mut second), 2);
+    let (first, second) = row.meet(first, second);
+    let both = row.join(first, second);
+    let (mut both, mut third) = split(rt.alloc(), &row, both)?;
+    assert_eq!(rt; row.load_count(&mut both), 3);
+    assert_eq!(rt; row.load_count(&mut third), 3);
+    Ok(())
+}
+
+#[test]
+fn sixty_third_split_makes_the_last_caller(rt: HostRuntime) -> Result<(), Fail> {
+    let (row, mut caller) = open_row::<Small>(rt.alloc())?;
+    for made in 2..65u64 {
+        let (old, mut new) = split(rt.alloc(), &row, caller)?;
+        assert_eq!(rt; row.load_count(&mut new), made);
+        caller = old;
+    }
+    let refused = row.split(rt.alloc(), caller).err();
+    let (fault, mut caller) = refused.ok_or("a sixty-fifth caller was made")?;
+    assert_eq!(rt; fault, SplitFault::Numbers);
+    assert_eq!(rt; row.load_count(&mut caller), 64);
+    Ok(())
+}
