@@ -7,7 +7,10 @@ ghost use Rattle.acl_policy.specs.Policies.{IsPolicyFault, IsPolicyText, PolicyF
 /// A line is read in one way at most, and so is a text: it says one policy, or it has one fault.
 pub fn one_reading()
     ensures line { (line : List ℕ) (a b : LineFacts) → IsLine line a → IsLine line b → a ≡ b }
-    ensures policy { (text : List ℕ) (a b : PolicyFacts) → IsPolicyText text a → IsPolicyText text b → a ≡ b }
-    ensures fault { (text : List ℕ) (a b : PolicyFault) → IsPolicyFault text a → IsPolicyFault text b → a ≡ b }
-    ensures not_both { (text : List ℕ) (policy : PolicyFacts) (fault : PolicyFault) → IsPolicyText text policy → IsPolicyFault text fault → ⊥ }
+    ensures policy { (text : List ℕ) (a b : PolicyFacts)
+        → IsPolicyText text a → IsPolicyText text b → a ≡ b }
+    ensures fault { (text : List ℕ) (a b : PolicyFault)
+        → IsPolicyFault text a → IsPolicyFault text b → a ≡ b }
+    ensures not_both { (text : List ℕ) (policy : PolicyFacts) (fault : PolicyFault)
+        → IsPolicyText text policy → IsPolicyFault text fault → ⊥ }
 {}

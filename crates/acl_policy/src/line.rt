@@ -72,7 +72,8 @@ fn head_of(text: &[u8]) -> Option<(Direction, Action, Family, &[u8])>
 /// The prefixes of a rule, and the text behind them.
 #[tactic(auto, unfolding(crate::specs::Reading::Lines::ends_in))]
 fn ends_of(family: Family, text: &[u8]) -> Option<((u128, u8), (u128, u8), &[u8])>
-    ensures value { option_map (λ r. (r.0, r.1, words_of r.2.now)) result ≡ ends_in family (words_of text.now) }
+    ensures value { option_map (λ r. (r.0, r.1, words_of r.2.now)) result
+        ≡ ends_in family (words_of text.now) }
     ensures source_fits { IfSome result (λ r. r.0.0 < address_limit family) }
     ensures source_length { IfSome result (λ r. r.0.1 ≤ width family) }
     ensures dest_fits { IfSome result (λ r. r.1.0 < address_limit family) }

@@ -64,7 +64,8 @@ fn is_match(rule: &Rule, tuple: &Tuple) -> bool
 /// The first rule that matches, by its place from 0, and what it does. `None`: no rule matches.
 pub fn first_match(rules: &[Rule], tuple: &Tuple) -> Option<(usize, Action)>
     ensures decided { IsDecision (map rule_facts rules.now) (facts tuple.now) result }
-    ensures only { (other : Option (ℕ × Action)) → IsDecision (map rule_facts rules.now) (facts tuple.now) other → other ≡ result }
+    ensures only { (other : Option (ℕ × Action))
+        → IsDecision (map rule_facts rules.now) (facts tuple.now) other → other ≡ result }
 {
     for (i, rule) in rules.iter().enumerate() {
         if is_match(rule, tuple) {

@@ -58,10 +58,12 @@ fn behind_name<'a>(text: &'a [u8], name: &[u8]) -> Option<&'a [u8]>
     if word == name { Some(rest) } else { None }
 }
 
-/// The range of a part, and the text behind it. Where the text doesn't begin with the part's name, that is every number.
+/// The range of a part, and the text behind it. Where the text doesn't begin with the part's name,
+/// that is every number.
 #[tactic(auto, unfolding(crate::specs::Reading::Traffic::part_in))]
 fn range_part<'a>(text: &'a [u8], name: &[u8], most: u16) -> Option<((u16, u16), &'a [u8])>
-    ensures { option_map (λ r. (r.0, words_of r.1.now)) result ≡ part_in name.now (range_in most) every (words_of text.now) }
+    ensures { option_map (λ r. (r.0, words_of r.1.now)) result
+        ≡ part_in name.now (range_in most) every (words_of text.now) }
 {
     let Some(rest) = behind_name(text, name) else {
         return Some((EVERY, text));
@@ -71,10 +73,12 @@ fn range_part<'a>(text: &'a [u8], name: &[u8], most: u16) -> Option<((u16, u16),
     Some((range, rest))
 }
 
-/// The flags of a rule, and the text behind them. Where the text doesn't begin with `flags`, no flag counts.
+/// The flags of a rule, and the text behind them. Where the text doesn't begin with `flags`, no flag
+/// counts.
 #[tactic(auto, unfolding(crate::specs::Reading::Traffic::part_in))]
 pub fn flags_part(text: &[u8]) -> Option<((u8, u8), &[u8])>
-    ensures { option_map (λ r. (r.0, words_of r.1.now)) result ≡ part_in (codes "flags") flags_in (0, 0) (words_of text.now) }
+    ensures { option_map (λ r. (r.0, words_of r.1.now)) result
+        ≡ part_in (codes "flags") flags_in (0, 0) (words_of text.now) }
 {
     let Some(rest) = behind_name(text, b"flags") else {
         return Some(((0, 0), text));
@@ -92,7 +96,8 @@ pub fn ranges_of<'a>(
     two: &[u8],
     most: u16,
 ) -> Option<((u16, u16), (u16, u16), &'a [u8])>
-    ensures { option_map (λ r. (r.0, r.1, words_of r.2.now)) result ≡ ranges_in most one.now two.now (words_of text.now) }
+    ensures { option_map (λ r. (r.0, r.1, words_of r.2.now)) result
+        ≡ ranges_in most one.now two.now (words_of text.now) }
 {
     let (first, text) = range_part(text, one, most)?;
     let (second, text) = range_part(text, two, most)?;

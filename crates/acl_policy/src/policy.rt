@@ -53,8 +53,10 @@ impl<T: Drop> From<AllocFailed<T>> for PolicyFault {
 /// Adds a rule to those of its direction. `number` is its line.
 #[tactic(auto, unfolding(crate::specs::Reading::Policies::rule_added))]
 fn add_rule(rules: &mut Vec<Rule>, rule: Rule, number: u64) -> Result<(), PolicyFault>
-    ensures ok { OnOk result (rule_added number (map rule_facts rules.old.items) (rule_facts rule) ≡ Ok (map rule_facts rules.new.items)) }
-    ensures fault { IfErr result (Fails (rule_added number (map rule_facts rules.old.items) (rule_facts rule))) }
+    ensures ok { OnOk result (rule_added number (map rule_facts rules.old.items) (rule_facts rule)
+        ≡ Ok (map rule_facts rules.new.items)) }
+    ensures fault { IfErr result
+        (Fails (rule_added number (map rule_facts rules.old.items) (rule_facts rule))) }
 {
     if rules.len() >= MOST_RULES {
         return Err(PolicyFault::TooMany(number));
@@ -65,8 +67,10 @@ fn add_rule(rules: &mut Vec<Rule>, rule: Rule, number: u64) -> Result<(), Policy
 
 /// Adds what a line says to the policy of the lines before it. `number` is the line's.
 fn add_line(policy: &mut Policy, line: &[u8], number: u64) -> Result<(), PolicyFault>
-    ensures ok { OnOk result (line_added number (policy_facts policy.old) (line_in line.now) ≡ Ok (policy_facts policy.new)) }
-    ensures fault { IfErr result (Fails (line_added number (policy_facts policy.old) (line_in line.now))) }
+    ensures ok { OnOk result (line_added number (policy_facts policy.old) (line_in line.now)
+        ≡ Ok (policy_facts policy.new)) }
+    ensures fault { IfErr result
+        (Fails (line_added number (policy_facts policy.old) (line_in line.now))) }
 {
     match line_of(line) {
         None => Err(PolicyFault::BadLine(number)),
@@ -104,13 +108,14 @@ fn read_lines(alloc: Global, text: &str) -> Result<Policy, PolicyFault>
 
 /// Reads a policy from its text.
 ///
-/// An `Err` other than `Memory` names the first fault: bytes that aren't UTF-8 anywhere in the text, and else the
-/// first line that is wrong or one rule too many.
+/// An `Err` other than `Memory` names the first fault: bytes that aren't UTF-8 anywhere in the text,
+/// and else the first line that is wrong or one rule too many.
 pub fn read_policy(alloc: Global, text: &[u8]) -> Result<Policy, PolicyFault>
     ensures ok { IfOk result (λ policy. IsPolicyText text.now (policy_facts policy)) }
     ensures fault { IfErr result (λ fault. fault ≢ PolicyFault.Memory → IsPolicyFault text.now fault) }
 
-    // A text of a policy is refused for want of memory alone, and a text with a fault for that fault or want of memory.
+    // A text of a policy is refused for want of memory alone, and a text with a fault for that fault
+    // or want of memory.
     ensures accepts { (policy : PolicyFacts) → IsPolicyText text.now policy
         → MatchResult result (λ read. policy_facts read ≡ policy) (λ fault. fault ≡ PolicyFault.Memory) }
     ensures refuses { (fault : PolicyFault) → IsPolicyFault text.now fault

@@ -51,7 +51,8 @@ fn protocol_ranges(
     proto: u8,
     text: &[u8],
 ) -> Option<((u16, u16), (u16, u16), &[u8])>
-    ensures { option_map (λ r. (r.0, r.1, words_of r.2.now)) result ≡ protocol_ranges_in (parts_of family proto) (words_of text.now) }
+    ensures { option_map (λ r. (r.0, r.1, words_of r.2.now)) result
+        ≡ protocol_ranges_in (parts_of family proto) (words_of text.now) }
 {
     if proto == TCP || proto == UDP {
         return ranges_of(text, b"sport", b"dport", u16::MAX);
@@ -65,7 +66,8 @@ fn protocol_ranges(
 /// The flags that may stand behind a protocol, and the text behind them.
 #[tactic(auto, unfolding(crate::specs::Reading::Traffic::protocol_flags_in))]
 fn protocol_flags(family: Family, proto: u8, text: &[u8]) -> Option<((u8, u8), &[u8])>
-    ensures { option_map (λ r. (r.0, words_of r.1.now)) result ≡ protocol_flags_in (parts_of family proto) (words_of text.now) }
+    ensures { option_map (λ r. (r.0, words_of r.1.now)) result
+        ≡ protocol_flags_in (parts_of family proto) (words_of text.now) }
 {
     if proto == TCP {
         flags_part(text)

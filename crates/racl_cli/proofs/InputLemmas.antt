@@ -1,6 +1,5 @@
 -- The first marker line parts an input in one way at most.
-use Rattle.std.proofs.Common.{◌≡◌, ◌≢◌, ◌∙◌, ◌+◌, ◌-◌, ℕ, List, [], ◌∷◌, ◌++◌, length, take, refl, sym, ap, ap₂, subst, inl, inr, append_assoc, append-nil, arith, length-append, codes}
-use Rattle.std.specs.Prelude.{◌⊎◌}
+use Rattle.std.proofs.Common.{◌≡◌, ◌∙◌, ℕ, List, [], ◌∷◌, ◌++◌, refl, sym, ap, ap₂, subst, inl, inr, append_assoc, arith}
 use Rattle.std.specs.List.{AllByRecursion}
 use Rattle.racl_cli.specs.declared.input.Form.{Form}
 use Rattle.racl_cli.specs.declared.input.Form.TheVariants.{Binary, Hexadecimal}

@@ -1,8 +1,16 @@
 pub mod CommandLemmas
+pub mod Holding
 pub mod InputLemmas
 pub mod JudgingLemmas
+pub mod MapValues
+pub mod Mirrors
 pub mod NumberLemmas
+pub mod Reading
+pub mod Rehashes
 pub mod RunLemmas
+pub mod SetPlaces
 pub mod SettingDefaults
 pub mod SettingLemmas
 pub mod SettingWalks
+pub mod Steps
+pub mod TableLemmas

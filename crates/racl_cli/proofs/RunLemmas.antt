@@ -1,6 +1,5 @@
 -- A fault of an input is the fault of its parts.
-use Rattle.std.proofs.Common.{◌≡◌, ◌≢◌, ◌≤◌, ◌∙◌, ◌⊎◌, ℕ, List, Option, Some, None, IfSome, length, arith, Ok, Err, Result, refl, sym, ap, subst, inl, inr}
-use Rattle.packet_view.specs.declared.capture.CaptureFault.{CaptureFault}
+use Rattle.std.proofs.Common.{◌≡◌, ◌≢◌, ◌≤◌, ◌∙◌, ◌⊎◌, ℕ, List, Option, Some, None, IfSome, length, arith, sym, ap, subst, inl, inr}
 use Rattle.acl_policy.specs.Policies.{IsPolicyFault, IsPolicyText, PolicyFacts}
 use Rattle.acl_policy.specs.declared.policy.PolicyFault.{PolicyFault}
 use Rattle.acl_policy.specs.declared.policy.PolicyFault.TheVariants as policy

@@ -1,27 +1,31 @@
 -- The one-thread filter: what becomes of each packet of a capture, from the rules and from the packets before it (this project's profile).
-use Rattle.std.specs.Prelude.{◌≡◌, ℕ, ◌+◌, Bool, true, false, ◌&&◌, if◌then◌else◌, List, [], ◌∷◌, Option, Some, None, option_map}
+use Rattle.std.specs.Prelude.{◌≡◌, ℕ, ◌+◌, ◌%◌, ◌^◌, ◌==◌, Bool, true, false, ◌&&◌, if◌then◌else◌, List, [], ◌∷◌, Option, Some, None, option_map}
 use Rattle.packet_view.specs.Captures.{Seen}
 use Rattle.packet_view.specs.Frames as frames
 use Rattle.packet_view.specs.Frames.{IsFrame, View}
 use Rattle.packet_view.specs.Tuples.{Facts}
+use Rattle.packet_view.specs.declared.tuple.Family.{Family}
+use Rattle.packet_view.specs.declared.tuple.Family.TheVariants.{V4, V6}
 use Rattle.packet_view.specs.declared.tuple.Fields.{Fields}
 use Rattle.packet_view.specs.declared.tuple.Fields.TheVariants.{Absent, Ports, Tcp, Icmp}
 use Rattle.acl_policy.specs.declared.rule.Action.{Action}
 use Rattle.acl_policy.specs.declared.rule.Action.TheVariants as action
 use Rattle.acl_policy.specs.Matching.{IsDecision}
 use Rattle.acl_policy.specs.Policies.{PolicyFacts, rules_of}
+use Rattle.bihash_words.specs.Hash.{hash_of}
+use Rattle.bihash_words.specs.Maps.{Bounds}
 use Rattle.bihash_words.specs.declared.patch.Change.{Change}
 use Rattle.bihash_words.specs.declared.patch.Reply.{Reply}
 use Rattle.bihash_words.specs.declared.patch.Reply.TheVariants as reply
 use Rattle.session_state.specs.declared.flow.Flow.{Flow}
 use Rattle.session_state.specs.declared.flow.FlowKey.{FlowKey}
+use Rattle.session_state.specs.declared.flow.FlowKey.TheVariants.{Four, Six}
 use Rattle.session_state.specs.declared.timeouts.Timeouts.{Timeouts}
 use Rattle.session_state.specs.Decisions.{PatchFacts, decision_of, is_live_for}
 use Rattle.session_state.specs.Flows.{flow_of}
 use Rattle.racl_cli.specs.declared.verdict.Verdict.{Verdict}
 use Rattle.racl_cli.specs.declared.verdict.Verdict.TheVariants as verdict
-use Rattle.racl_cli.specs.Stores.{same_key}
-use Rattle.racl_cli.specs.Updates.{after, reply_of}
+use Rattle.racl_cli.specs.Contents.{Contents, contents_after, nothing, reply_of, value_of}
 
 -- the rule that decides, by its position from 0, and its action; none where no rule matches
 abbrev pub Decision : Type 0
@@ -95,15 +99,50 @@ abbrev pub event_of : Timeouts → Reading → Option Event
 event_of times (Framed verdict) = None
 event_of times (Ruled moment tuple decision) = option_map (event_in times moment tuple decision) (flow_of tuple)
 
--- the value of a key after an event that decided this on the value of its own key
-abbrev pub value_after : Event → Option ℕ → FlowKey → Option ℕ → Option ℕ
-value_after event found key value = if same_key event.key key then after value (decision_of event.patch found) else value
+-- the words of a key
+abbrev pub words_of : FlowKey → List ℕ
+words_of (Four words) = words
+words_of (Six words) = words
 
--- What is stored under a key after earlier packets, of which the latest stands first: each event changes
--- the value of its key by its decision on what was stored there.
-abbrev pub stored_after : List Event → FlowKey → Option ℕ
-stored_after [] key = None
-stored_after (event ∷ earlier) key = value_after event (stored_after earlier event.key) key (stored_after earlier key)
+-- the table and the bucket that a key's value is in
+pub record Home : Type 0 where
+  pub family : Family
+  pub bucket : ℕ
+
+-- the lowest bits of a key's hash name the bucket: twelve for IPv4, ten for IPv6
+abbrev pub home_of : FlowKey → Home
+home_of (Four words) = record { family = V4; bucket = hash_of words % 2 ^ 12 }
+home_of (Six words) = record { family = V6; bucket = hash_of words % 2 ^ 10 }
+
+abbrev pub same_family : Family → Family → Bool
+same_family V4 V4 = true
+same_family V4 V6 = false
+same_family V6 V4 = false
+same_family V6 V6 = true
+
+abbrev pub same_home : Home → Home → Bool
+same_home one other = same_family one.family other.family && (one.bucket == other.bucket)
+
+-- a bucket changes at most 8589934591 times and holds at most 256 pairs, in both tables
+abbrev pub bounds : Bounds
+bounds = record { limit = 8589934591; max_log2 = 6 }
+
+-- what an event decides at the contents of its bucket
+abbrev pub decided_at : Event → Contents → Change
+decided_at event contents = decision_of event.patch (value_of contents (words_of event.key))
+
+-- the contents of its bucket after an event
+abbrev pub after_event : Event → Contents → Contents
+after_event event contents = contents_after bounds contents (words_of event.key) (decided_at event contents)
+
+-- an event changes the contents of its own bucket
+abbrev pub with_event : (Home → Contents) → Event → Home → Contents
+with_event at event home = if same_home home (home_of event.key) then after_event event (at (home_of event.key)) else at home
+
+-- what a bucket holds after earlier events, of which the latest stands first: nothing at first
+abbrev pub contents_at : List Event → Home → Contents
+contents_at [] home = nothing
+contents_at (event ∷ earlier) home = with_event (contents_at earlier) event home
 
 -- the events of earlier readings, of which the latest stands first
 abbrev pub add_event : Option Event → List Event → List Event
@@ -139,12 +178,15 @@ verdict_of patch decision found reply =
     if is_live_for patch found then verdict.Session
     else (if patch.reflects then verdict_reflected decision reply else verdict_of_rules decision)
 
+-- the verdict on a packet whose bucket holds these contents
+abbrev pub verdict_at : Contents → Decision → Event → Verdict
+verdict_at contents decision event =
+    verdict_of event.patch decision (value_of contents (words_of event.key)) (reply_of bounds contents (words_of event.key) (decided_at event contents))
+
 -- the verdict on a packet behind earlier events
 abbrev pub verdict_after : List Event → Decision → Option Event → Verdict
 verdict_after earlier decision None = verdict_of_rules decision
-verdict_after earlier decision (Some event) =
-    let found = stored_after earlier event.key in
-    verdict_of event.patch decision found (reply_of found (decision_of event.patch found))
+verdict_after earlier decision (Some event) = verdict_at (contents_at earlier (home_of event.key)) decision event
 
 abbrev pub verdict_on : Timeouts → List Event → Reading → Verdict
 verdict_on times earlier (Framed verdict) = verdict
@@ -156,8 +198,7 @@ verdicts_after times earlier [] = []
 verdicts_after times earlier (reading ∷ readings) =
     verdict_on times earlier reading ∷ verdicts_after times (add_event (event_of times reading) earlier) readings
 
--- The one-thread filter: nothing is stored at first. Its store has no bound; the session table's buckets have
--- room for 256 pairs each, so the two agree on every capture of at most 256 packets.
+-- the one-thread filter: no bucket holds anything at first, and pages never run out
 abbrev pub one_thread_verdicts : Timeouts → List Reading → List Verdict
 one_thread_verdicts times readings = verdicts_after times [] readings
 

@@ -1,12 +1,13 @@
 pub mod Command
+pub mod Contents
 pub mod Devices
 pub mod Faults
 pub mod Filters
+pub mod Held
 pub mod Inputs
 pub mod Judging
 pub mod Reports
 pub mod Runs
 pub mod Settings
 pub mod Statuses
-pub mod Stores
-pub mod Updates
+pub mod Tables

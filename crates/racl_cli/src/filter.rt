@@ -5,7 +5,7 @@ ghost use Rattle.packet_view.specs.Captures.{seen};
 ghost use Rattle.acl_policy.specs.Matching.{IsDecision};
 ghost use Rattle.acl_policy.specs.Policies.{policy_facts, rules_of};
 ghost use Rattle.racl_cli.specs.Judging;
-ghost use Rattle.racl_cli.specs.Judging.{IsJudged};
+ghost use Rattle.racl_cli.specs.Judging.{IsHeld, IsJudged};
 ghost use Rattle.packet_view.specs.Tuples.{facts};
 ghost use Rattle.session_state.specs.Decisions.{patch_facts};
 ghost use Rattle.racl_cli.specs.Filters;
@@ -14,7 +14,7 @@ ghost use Rattle.racl_cli.specs.Filters.{AreVerdicts, Decision, IsReading, Readi
 use crate::sessions::Sessions;
 use crate::verdict::Verdict;
 use acl_policy::{Action, Policy, first_match};
-use bihash_words::Reply;
+use bihash_words::{Reply, Shape, ShapeV4, ShapeV6};
 use packet_view::{Direction, Fields, Frame, Packet, Tuple, view};
 use session_state::{Flow, PacketPatch, Timeouts, orient};
 use std::alloc::{AllocError, Global};
@@ -128,8 +128,9 @@ fn judge_tuple(
     direction: Direction,
     tuple: &Tuple,
 ) -> Result<Verdict, AllocError>
+    requires { IsHeld ⟦<ShapeV4 as Shape>⟧ ⟦<ShapeV6 as Shape>⟧ sessions.old }
     ensures { IfOk result (λ verdict. (decision : Decision) × IsDecision (rules_of direction (policy_facts policy.now)) (facts tuple.now) decision
-        × IsJudged times.now (Ruled moment (facts tuple.now) decision) sessions.old sessions.new verdict) }
+        × IsJudged ⟦<ShapeV4 as Shape>⟧ ⟦<ShapeV6 as Shape>⟧ times.now (Ruled moment (facts tuple.now) decision) sessions.old sessions.new verdict) }
 {
     let decision = decision_on(policy, direction, tuple);
     let Some(flow) = orient(tuple) else {
@@ -147,8 +148,9 @@ fn judge(
     sessions: &mut Sessions,
     packet: &Packet<'_>,
 ) -> Result<Verdict, AllocError>
+    requires { IsHeld ⟦<ShapeV4 as Shape>⟧ ⟦<ShapeV6 as Shape>⟧ sessions.old }
     ensures { IfOk result (λ verdict. (reading : Reading) × IsReading (policy_facts policy.now) (seen packet.now) reading
-        × IsJudged times.now reading sessions.old sessions.new verdict) }
+        × IsJudged ⟦<ShapeV4 as Shape>⟧ ⟦<ShapeV6 as Shape>⟧ times.now reading sessions.old sessions.new verdict) }
 {
     match view(packet.frame, policy.own) {
         Frame::NotIp => Ok(Verdict::NotIp),
@@ -169,7 +171,7 @@ pub fn verdicts_on(
 ) -> Result<Vec<Verdict>, AllocError>
     ensures { IfOk result (λ v. AreVerdicts times.now (policy_facts policy.now) (map seen packets.now) v.items) }
 {
-    let mut sessions = Sessions::new(alloc);
+    let mut sessions = Sessions::new(alloc)?;
     let mut verdicts = Vec::new(alloc);
     for packet in packets {
         verdicts.push(judge(times, policy, &mut sessions, packet)?)?;

@@ -2,6 +2,7 @@
 //! on each packet to standard output.
 #![tactic(auto)]
 
+mod bucket;
 mod content;
 mod device;
 mod fault;
@@ -11,6 +12,7 @@ mod report;
 mod run;
 mod sessions;
 mod settings;
+mod table;
 mod transfer;
 mod verdict;
 mod words;

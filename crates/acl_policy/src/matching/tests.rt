@@ -66,7 +66,8 @@ fn flag_mask(rt: HostRuntime) {
     assert_eq!(rt; first_match(&rules, &tcp(0x12)), None);
 }
 
-/// A value with bits outside the mask matches no TCP packet, but a fragment that has no flags to look at.
+/// A value with bits outside the mask matches no TCP packet, but a fragment that has no flags to look
+/// at.
 #[test]
 fn value_outside_the_mask(rt: HostRuntime) {
     let impossible = rule(Action::Permit, 6, (9, 9), EVERY, (0x0f, 0x01));

@@ -12,7 +12,8 @@ use std::fmt::{Display, Formatter, Write};
 use std::process::Abort;
 use std::test::Fail;
 
-/// Policy lines: frames from this address are outbound, and 10.0.0.1 may ask name servers, and gets their answers.
+/// Policy lines: frames from this address are outbound, and 10.0.0.1 may ask name servers and gets
+/// their answers.
 pub const NAMES: &str =
     "mac 02:00:00:00:00:01\nout permit+reflect ipv4 10.0.0.1 any udp dport 53\n";
 

@@ -1,22 +1,20 @@
 //! Captures: their headers, their records, and where they end.
 
-use super::captures::{FIRST_REPORT, NAMES, Ran, assert_refused, defaults, run_on};
+use super::captures::{FIRST_PATH, FIRST_REPORT, NAMES, Ran, assert_refused, defaults, run_on};
 use crate::content::decoded;
 use crate::fault::Fault;
+use crate::input::parts;
 use crate::report::Totals;
 use crate::run::status;
 use std::alloc::{AllocError, Global};
 use std::test::Fail;
 
-/// The capture of a request, its answer, and an answer that nobody asked for.
-const CAPTURE: &str = "\
-    d4c3b2a102000400000000000000000000000400 01000000
-    64000000 00000000 2a000000 2a000000 020000000002 020000000001 0800
-    4500001c 00000000 40110000 0a000001 0a000002 03e8 0035 0008 0000
-    69000000 00000000 2a000000 2a000000 020000000001 020000000002 0800
-    4500001c 00000000 40110000 0a000002 0a000001 0035 03e8 0008 0000
-    6a000000 00000000 2a000000 2a000000 020000000001 020000000002 0800
-    4500001c 00000000 40110000 0a000003 0a000001 0035 03e8 0008 0000";
+/// The capture of a request, its answer, and an answer that nobody asked for: 24 bytes, and 58 for
+/// each packet.
+fn first_capture(alloc: Global) -> Result<Vec<u8>, Fail> {
+    let input = parts(FIRST_PATH.as_bytes()).ok_or("no marker line")?;
+    Ok(decoded(alloc, input.content)?)
+}
 
 /// An input with these bytes as its capture.
 fn with_capture(alloc: Global, capture: &[u8]) -> Result<Vec<u8>, AllocError> {
@@ -28,7 +26,7 @@ fn with_capture(alloc: Global, capture: &[u8]) -> Result<Vec<u8>, AllocError> {
 }
 
 /// What a run makes of a capture's first bytes.
-fn ran_cut(alloc: Global, capture: &[u8], count: usize) -> Result<Ran, Fail> {
+fn run_cut(alloc: Global, capture: &[u8], count: usize) -> Result<Ran, Fail> {
     let first = &capture[..count.min(capture.len())];
     let input = with_capture(alloc, first)?;
     run_on(alloc, &defaults(), &input)
@@ -37,9 +35,9 @@ fn ran_cut(alloc: Global, capture: &[u8], count: usize) -> Result<Ran, Fail> {
 #[test]
 fn as_pcap(rt: HostRuntime) -> Result<(), Fail> {
     let alloc = rt.alloc();
-    let capture = decoded(alloc, CAPTURE.as_bytes())?;
+    let capture = first_capture(alloc)?;
     assert_eq!(rt; capture.len(), 198);
-    let ran = ran_cut(alloc, &capture, 198)?;
+    let ran = run_cut(alloc, &capture, 198)?;
     assert_eq!(rt; ran.report.as_str(), FIRST_REPORT);
     assert_eq!(rt; status(&ran.outcome), 0);
     Ok(())
@@ -48,9 +46,9 @@ fn as_pcap(rt: HostRuntime) -> Result<(), Fail> {
 #[test]
 fn truncated(rt: HostRuntime) -> Result<(), Fail> {
     let alloc = rt.alloc();
-    let capture = decoded(alloc, CAPTURE.as_bytes())?;
+    let capture = first_capture(alloc)?;
     // The header, one record, and 10 bytes of the second record's frame.
-    let ran = ran_cut(alloc, &capture, 108)?;
+    let ran = run_cut(alloc, &capture, 108)?;
     assert_eq!(rt;
         ran.report.as_str(),
         "1 pass rule 1 reflect\ntruncated after 1\npackets 1 pass 1 drop 0\n"
@@ -62,14 +60,14 @@ fn truncated(rt: HostRuntime) -> Result<(), Fail> {
 #[test]
 fn capture_cut_anywhere(rt: HostRuntime) -> Result<(), Fail> {
     let alloc = rt.alloc();
-    let capture = decoded(alloc, CAPTURE.as_bytes())?;
+    let capture = first_capture(alloc)?;
     for count in 0..24 {
-        let ran = ran_cut(alloc, &capture, count)?;
+        let ran = run_cut(alloc, &capture, count)?;
         assert_eq!(rt; ran.outcome, Err(Fault::Short), "after {count} bytes");
         assert_eq!(rt; ran.report.as_str(), "", "after {count} bytes");
     }
     for count in 24..=198 {
-        let ran = ran_cut(alloc, &capture, count)?;
+        let ran = run_cut(alloc, &capture, count)?;
         let packets = (count as u64).saturating_sub(24) / 58;
         let totals = Totals {
             packets,

@@ -69,7 +69,7 @@ fn udp(moment: u32, side: u8, reflects: bool) -> PacketPatch
 
 #[test]
 fn a_session_is_stored_until_it_expires(rt: HostRuntime) -> Result<(), Fail> {
-    let mut sessions = Sessions::new(rt.alloc());
+    let mut sessions = Sessions::new(rt.alloc())?;
     let key = FlowKey::Four([0x0a0000010a000002, 0x03e8003511000000]);
     let other = FlowKey::Four([0x0a0000010a000003, 0x03e8003511000000]);
     assert_eq!(rt;

@@ -5,7 +5,6 @@ use super::captures::{FIRST_PATH, FIRST_REPORT, defaults};
 use crate::device::{Device, DeviceFault, Sink, Source};
 use crate::fault::Fault;
 use crate::run::{run, status};
-use crate::transfer::MOST_BYTES;
 use std::alloc::Global;
 use std::test::Fail;
 
@@ -131,6 +130,7 @@ fn failing_writes(rt: HostRuntime) {
         assert_eq!(rt; outcome, Err(Fault::Write), "after {writes} writes");
         assert_eq!(rt; status(&outcome), 4);
         assert_eq!(rt; writer.taken.len(), writes);
+        assert!(rt; FIRST_REPORT.as_bytes().starts_with(&writer.taken));
     }
 }
 
@@ -143,20 +143,20 @@ fn a_write_of_nothing_is_a_failed_one(rt: HostRuntime) {
     assert_eq!(rt; writer.failures, 1);
 }
 
-/// Gives so many line feeds.
+/// Gives so many spaces.
 #[derive(Drop)]
-struct LineFeeds {
+struct Spaces {
     left: usize,
 }
 
-impl Source for LineFeeds {
+impl Source for Spaces {
     ghost bytes = { λ _. None };
 
     ghost failures = { λ _. 0 };
 
     fn read(&mut self, buf: &mut [u8]) -> Result<usize, DeviceFault> {
         let count = self.left.min(buf.len());
-        buf[..count].fill(b'\n');
+        buf[..count].fill(b' ');
         self.left -= count;
         Ok(count)
     }
@@ -166,11 +166,11 @@ impl Source for LineFeeds {
 fn input_limit(rt: HostRuntime) {
     let alloc = rt.alloc();
     for (left, fault) in [
-        (MOST_BYTES, Fault::NoCapture),
-        (MOST_BYTES + 1, Fault::TooLarge),
+        (67_108_864, Fault::NoCapture),
+        (67_108_865, Fault::TooLarge),
     ] {
         let mut writer = trickling(alloc, usize::MAX);
-        let outcome = run(alloc, &defaults(), &mut LineFeeds { left }, &mut writer);
+        let outcome = run(alloc, &defaults(), &mut Spaces { left }, &mut writer);
         assert_eq!(rt; outcome, Err(fault), "with {left} bytes");
         assert_eq!(rt; writer.taken.len(), 0);
     }

@@ -1,4 +1,4 @@
-use Rattle.std.proofs.Common.{refl, sym, subst}
+use Rattle.std.proofs.Common.{refl, subst}
 use Rattle.racl_cli.specs.declared.input.Form.TheVariants.{Binary, Hexadecimal}
 use Rattle.racl_cli.specs.Faults.{IsFaultOfContent}
 use Rattle.racl_cli.proofs.RunLemmas.{fault_of_known_content}

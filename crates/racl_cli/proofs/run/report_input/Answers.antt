@@ -1,4 +1,4 @@
-use Rattle.std.proofs.Common.{◌∙◌, refl, sym, subst, inl, inr, ap}
+use Rattle.std.proofs.Common.{sym, inl, inr}
 use Rattle.std.proofs.lemmas.Result.{IfErr-weaker, err_from_is_err_and}
 use Rattle.racl_cli.proofs.RunLemmas.{fault_of_known_parts, fault_without_parts, fault_of_wrong_policy, fault_of_right_policy}
 use Rattle.racl_cli.proofs.run.report_input.Goals as goal

@@ -1,6 +1,5 @@
-use Rattle.std.proofs.Common.{◌≡◌, ◌⊎◌, inl, inr}
+use Rattle.std.proofs.Common.{inl, inr}
 use Rattle.std.proofs.lemmas.Result.{err_from_is_err_and}
-use Rattle.racl_cli.specs.Faults.{RefusesRead}
 use Rattle.racl_cli.proofs.RunLemmas.{device_or, excluded_by_input, fault_of_input, read_bytes}
 use Rattle.racl_cli.proofs.run.run.Goals as goal
 

@@ -1,4 +1,4 @@
-use Rattle.std.proofs.Common.{◌≡◌, ◌++◌, ◌-◌, length, List, ℕ}
+use Rattle.std.proofs.Common.{◌≡◌, ◌++◌, length, List, ℕ}
 use Rattle.std.specs.Io.KnownBytes.{Appends}
 use Rattle.racl_cli.proofs.transfer.write_all.Given as goal
 
