@@ -73,7 +73,17 @@ fn ours(rules: &[Rule], tuple: &Tuple) -> Option<Action> {
 
 fn rule(source: (u128, u8), dest: (u128, u8), proto: u8, ports: (u16, u16)) -> Option<Rule> {
     if source.0 < 4294967296 && dest.0 < 4294967296 && source.1 <= 32 && dest.1 <= 32 {
-        Some(Rule { action: Action::Deny, family: Family::V4, source, dest, proto, first: (0, 65535), second: ports, value: 0, mask: 0 })
+        Some(Rule {
+            action: Action::Deny,
+            family: Family::V4,
+            source,
+            dest,
+            proto,
+            first: (0, 65535),
+            second: ports,
+            value: 0,
+            mask: 0,
+        })
     } else {
         None
     }
@@ -84,15 +94,21 @@ fn rounds(rt: &HostRuntime, name: &str, rules: &[Rule], tuple: &Tuple) -> io::Re
         let start = Instant::now(rt)?;
         let mut hits = 0u32;
         for _ in 0..2000u32 {
-            if plain(rules, tuple).is_some() { hits = hits.saturating_add(1); }
+            if plain(rules, tuple).is_some() {
+                hits = hits.saturating_add(1);
+            }
         }
         let a = start.elapsed(rt)?.as_micros();
         let start = Instant::now(rt)?;
         for _ in 0..2000u32 {
-            if ours(rules, tuple).is_some() { hits = hits.saturating_add(1); }
+            if ours(rules, tuple).is_some() {
+                hits = hits.saturating_add(1);
+            }
         }
         let b = start.elapsed(rt)?.as_micros();
-        println!(rt; "{name} (one of 3): plain {a} us, first_match {b} us for 2000 x 4096, hits {hits}")?;
+        println!(rt;
+            "{name} (one of 3): plain {a} us, first_match {b} us for 2000 x 4096, hits {hits}"
+        )?;
     }
     Ok(())
 }
@@ -104,18 +120,43 @@ fn measure(rt: &HostRuntime) -> io::Result<()> {
             let start = Instant::now(rt)?;
             let read = read_policy(alloc, &text);
             let t = start.elapsed(rt)?.as_micros();
-            let n = match read { Ok(policy) => policy.inbound.len(), Err(_) => 0 };
+            let n = match read {
+                Ok(policy) => policy.inbound.len(),
+                Err(_) => 0
+            };
             let len = text.len();
             println!(rt; "read_policy of {len} bytes: {t} us, {n}")?;
         }
     }
-    let tuple = Tuple { family: Family::V4, source: 0x0a000002, dest: 0x0a000001, proto: 6, fields: Fields::Tcp { from: 1000, to: 80, flags: 2 } };
+    let tuple = Tuple {
+        family: Family::V4,
+        source: 0x0a000002,
+        dest: 0x0a000001,
+        proto: 6,
+        fields: Fields::Tcp {
+            from: 1000,
+            to: 80,
+            flags: 2,
+        },
+    };
     for (name, source, dest, proto, ports) in [
-        ("protocol", (0x0a000002, 32), (0x0a000001, 32), 17, (0, 65535)),
+        (
+            "protocol",
+            (0x0a000002, 32),
+            (0x0a000001, 32),
+            17,
+            (0, 65535),
+        ),
         ("ports", (0x0a000002, 32), (0x0a000001, 32), 6, (81, 65535)),
         ("source", (0x0b000000, 24), (0x0a000001, 32), 6, (0, 65535)),
         ("dest", (0x0a000000, 24), (0x0b000000, 24), 6, (0, 65535)),
-        ("dest, no protocol", (0x0a000000, 24), (0x0b000000, 24), 0, (0, 65535)),
+        (
+            "dest, no protocol",
+            (0x0a000000, 24),
+            (0x0b000000, 24),
+            0,
+            (0, 65535),
+        ),
     ] {
         if let Some(rule) = rule(source, dest, proto, ports) {
             if let Ok(rules) = rules_of(alloc, rule) {
