@@ -23,6 +23,7 @@ use Rattle.bihash_steps.specs.declared.view.LockedStore.{LockedStore}
 use Rattle.bihash_steps.specs.declared.view.HeldBlock.{HeldBlock}
 use Rattle.bihash_steps.specs.declared.view.OpenBucket.{OpenBucket}
 use Rattle.bihash_steps.specs.declared.view.View.{View}
+use Rattle.bihash_steps.proofs.Lists.{there}
 
 -- the words before the bucket words begin with the caller count, the allocation lock, the used mark and the counts of returned blocks
 pub front : (z : Sizes) → 4 + z.max_log2 ≤ front_words z
@@ -184,6 +185,22 @@ pub as_view : (z : Sizes) (words : List ℕ) (count : ℕ) (t : TableState) (i j
     → IsView z words count t j u
 as_view z words count t i j v u e f = subst (λ (y : ℕ × View). IsView z words count t y.0 y.1) (λ k. (sym e k, f k))
 
+module _ (z : Sizes) where
+  pub others_apart : (s : State (Unit {0}) View) (r : WordRule z s) (id : ℕ) (v : View) → get_elem? s.views id ≡ some v
+      → (j : ℕ) (u : View) → j ≢ id → get_elem? s.views j ≡ some u → Apart v.records u.records
+  others_apart s r id v at j u ne e = r.apart id j v u (λ h. ne (sym h)) at e
+
+  -- a caller with a number meets no other that is lone
+  pub not_lone : (s : State (Unit {0}) View) (r : WordRule z s) (id j : ℕ) (v u : View) → get_elem? s.views id ≡ some v
+      → get_elem? s.views j ≡ some u → j ≢ id
+      → 1 ≤ length v.records → u.lone ≡ true → ⊥
+  not_lone s r id j v u at at' ne has_one lone =
+      let first = there v.records 0 (omega arith) in
+      let ok = r.each_view id v at in
+      let n = ok.numbers.range 0 first.0 first.1 in
+      let same = (r.each_view j u at').lone lone first.0.number n.0 (let a = n.1 in let b = ok.seen in omega arith) in
+      r.apart id j v u (λ h. ne (sym h)) at at' 0 same.0 first.0 same.1 first.1 same.2 (sym same.3)
+
 -- ---- The rule
 
 module _ (z : Sizes) (s : State (Unit {0}) View) (r : WordRule z s) where
@@ -245,12 +262,19 @@ module _ (z : Sizes) (s : State (Unit {0}) View) (r : WordRule z s) where
   }
 
   -- one seat gets another view, and no word changes
+  pub stays_at : (i id : ℕ) (v w : View) → get_elem? s.views id ≡ some v → run_in w.holds.block ≡ run_in v.holds.block
+      → IsView z s.words (count_of s.words) r.table id w
+      → ((j : ℕ) (u : View) → j ≢ id → get_elem? s.views j ≡ some u → Apart w.records u.records)
+      → WordRule z record { words = set s.words i (slice_index s.words i); homes = s.homes; views = set s.views id w }
+  stays_at i id v w at block ok others =
+      subst (λ (words : List ℕ). WordRule z record { words = words; homes = s.homes; views = set s.views id w })
+      (sym (set-get_or s.words i 0))
+      (one_moved s.words id v w at (λ i l. refl) refl (le_refl (count_of s.words)) r.few_callers block ok
+      (λ j u ne e. ((λ _. refl), others j u ne e)))
+
+  -- the same at the caller count
   pub stays : (id : ℕ) (v w : View) → get_elem? s.views id ≡ some v → run_in w.holds.block ≡ run_in v.holds.block
       → IsView z s.words (count_of s.words) r.table id w
       → ((j : ℕ) (u : View) → j ≢ id → get_elem? s.views j ≡ some u → Apart w.records u.records)
       → WordRule z record { words = set s.words 0 (count_of s.words); homes = s.homes; views = set s.views id w }
-  stays id v w at block ok others =
-      subst (λ (words : List ℕ). WordRule z record { words = words; homes = s.homes; views = set s.views id w })
-      (sym (set-get_or s.words 0 0))
-      (one_moved s.words id v w at (λ i l. refl) refl (le_refl (count_of s.words)) r.few_callers block ok
-      (λ j u ne e. ((λ _. refl), others j u ne e)))
+  stays = stays_at 0

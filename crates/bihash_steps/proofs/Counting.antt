@@ -1,5 +1,5 @@
 -- Steps on the caller count: a load, a load behind a join, and the exchange by which a caller takes the next number.
-use Rattle.std.proofs.Common.{◌≡◌, ◌≢◌, ℕ, zero, suc, ◌+◌, ◌<◌, ◌≤◌, eqb, Bool, true, true≢false, List, [], ◌∷◌, ◌++◌, length, set, get_or, refl, sym, ap, ◌∙◌, subst, inl, inr, arith, le_refl, length-set, length-append, get_or-set_same, get_or-set_other, eq-eqb, ne_eqb}
+use Rattle.std.proofs.Common.{◌≡◌, ◌≢◌, ℕ, zero, suc, ◌+◌, ◌<◌, ◌≤◌, eqb, Bool, true≢false, List, [], ◌∷◌, ◌++◌, length, set, get_or, refl, sym, ap, ◌∙◌, subst, inl, inr, arith, le_refl, length-set, length-append, get_or-set_same, get_or-set_other, eq-eqb, ne_eqb}
 use mathlib.Core.Logic.{dite}
 use mathlib.Core.Option.{some, some-ne-none}
 use native.Mathlib.Decide.{ℕ_discrete, dec_lt}
@@ -21,17 +21,13 @@ use Rattle.bihash_steps.specs.declared.view.Call.{Call}
 use Rattle.bihash_steps.specs.declared.view.Record.{Record}
 use Rattle.bihash_steps.specs.declared.view.Meeting.{Meeting}
 use Rattle.bihash_steps.specs.declared.view.View.{View}
-use Rattle.bihash_steps.proofs.Lists.{there, at_end}
+use Rattle.bihash_steps.proofs.Lists.{at_end}
 use Rattle.bihash_steps.proofs.Prefixes.{one_begins}
 use Rattle.bihash_steps.proofs.Numbers.{few_numbers, whole_by_count}
 use Rattle.bihash_steps.proofs.Lawful.{more_informed, more_numbers, parts_apart, wider}
-use Rattle.bihash_steps.proofs.CountWord.{SameButCount, still_lock, still_pool, still_block, one_moved, stays, some_words}
+use Rattle.bihash_steps.proofs.CountWord.{SameButCount, still_lock, still_pool, still_block, one_moved, stays, some_words, others_apart, not_lone}
 
 module _ (z : Sizes) where
-  others_apart : (s : State (Unit {0}) View) (r : WordRule z s) (id : ℕ) (v : View) → get_elem? s.views id ≡ some v
-      → (j : ℕ) (u : View) → j ≢ id → get_elem? s.views j ≡ some u → Apart v.records u.records
-  others_apart s r id v at j u ne e = r.apart id j v u (λ h. ne (sym h)) at e
-
   -- ---- A load of the caller count
 
   counted_view : (words : List ℕ) (count : ℕ) (t : TableState) (j : ℕ) (v : View) → IsView z words count t j v
@@ -63,7 +59,7 @@ module _ (z : Sizes) where
         counted v count,
         keeps,
         tt,
-        stays z s r id v (counted v count) at refl good (others_apart s r id v at),
+        stays z s r id v (counted v count) at refl good (others_apart z s r id v at),
         record {
           seat = refl;
           rises = ok.seen;
@@ -75,9 +71,9 @@ module _ (z : Sizes) where
 
   -- ---- A load behind a join
 
-  met_view : (words : List ℕ) (count : ℕ) (t : TableState) (j : ℕ) (v : View) → IsView z words count t j v
+  pub unnoted_view : (words : List ℕ) (count : ℕ) (t : TableState) (j : ℕ) (v : View) → IsView z words count t j v
       → IsView z words count t j (record v { notes = no_notes })
-  met_view words count t j v ok = record {
+  unnoted_view words count t j v ok = record {
     informed = ok.informed;
     numbers = ok.numbers;
     seen = ok.seen;
@@ -117,8 +113,8 @@ module _ (z : Sizes) where
         record v { notes = no_notes },
         keeps,
         tt,
-        stays z s r id v (record v { notes = no_notes }) at refl (met_view s.words (count_of s.words) r.table id v ok)
-            (others_apart s r id v at),
+        stays z s r id v (record v { notes = no_notes }) at refl (unnoted_view s.words (count_of s.words) r.table id v ok)
+            (others_apart z s r id v at),
         record {
           seat = refl;
           few = let l = few_numbers v.seen v.records ok.numbers in let a = ok.seen in let b = r.few_callers in omega arith;
@@ -190,17 +186,6 @@ module _ (z : Sizes) where
     meeting = ok.meeting;
   }
 
-  -- a caller with a number meets no other that is lone
-  not_lone : (s : State (Unit {0}) View) (r : WordRule z s) (id j : ℕ) (v u : View) → get_elem? s.views id ≡ some v
-      → get_elem? s.views j ≡ some u → j ≢ id
-      → 1 ≤ length v.records → u.lone ≡ true → ⊥
-  not_lone s r id j v u at at' ne has_one lone =
-      let first = there v.records 0 (omega arith) in
-      let ok = r.each_view id v at in
-      let n = ok.numbers.range 0 first.0 first.1 in
-      let same = (r.each_view j u at').lone lone first.0.number n.0 (let a = n.1 in let b = ok.seen in omega arith) in
-      r.apart id j v u (λ h. ne (sym h)) at at' 0 same.0 first.0 same.1 first.1 same.2 (sym same.3)
-
   -- the next number is nobody's
   new_apart : (count seen : ℕ) (rs qs : List Record) → seen ≤ count → HasNumbers seen qs → Apart rs qs
       → Apart (rs ++ empty_record (count + 1) ∷ []) qs
@@ -214,8 +199,9 @@ module _ (z : Sizes) where
       → count_of s.words < z.callers
       → WordRule z record { words = set s.words 0 (count_of s.words + 1); homes = s.homes; views = set s.views id (numbered v (count_of s.words)) }
   taken_rule s r id v at has_one few = one_moved z s r words id v (numbered v count) at same (length-set s.words 0 (count + 1))
-      (let e = now in omega arith) (let e = now in omega arith) refl (subst (λ (c : ℕ). IsView z words c r.table id (numbered v count)) (sym now) good)
-      (λ j u ne e. ((λ lone. absurd (not_lone s r id j v u at e ne has_one lone)), apart j u ne e))
+      (let e = now in omega arith) (let e = now in omega arith) refl
+      (subst (λ (c : ℕ). IsView z words c r.table id (numbered v count)) (sym now) good)
+      (λ j u ne e. ((λ lone. absurd (not_lone z s r id j v u at e ne has_one lone)), apart j u ne e))
     where
       count : ℕ
       count = count_of s.words
@@ -234,7 +220,7 @@ module _ (z : Sizes) where
 
       apart : (j : ℕ) (u : View) → j ≢ id → get_elem? s.views j ≡ some u → Apart (numbered v count).records u.records
       apart j u ne e = let other = r.each_view j u e in
-          new_apart count u.seen v.records u.records other.seen other.numbers (others_apart s r id v at j u ne e)
+          new_apart count u.seen v.records u.records other.seen other.numbers (others_apart z s r id v at j u ne e)
 
   pub takes_number : (slots id n : ℕ) (m : ViewOfSeat) → n < z.callers → 1 ≤ length m.0.records
       → Allows (WordRule z) slots id m 0 (λ k. either (eqb k n) (n + 1) k) (TellsNumber z n m)
@@ -283,7 +269,7 @@ module _ (z : Sizes) where
         keeps,
         tt,
         subst (λ (b : Bool). WordRule z (after (either b (n + 1) count) (recounted v count))) (sym (ne_eqb count n ne))
-            (stays z s r id v (recounted v count) at refl good (others_apart s r id v at)),
+            (stays z s r id v (recounted v count) at refl good (others_apart z s r id v at)),
         record {
           slots = refl;
           taken = λ e. absurd (ne e);

@@ -4,7 +4,8 @@ use mathlib.Core.Logic.{dite}
 use mathlib.Core.Option.{some, some-ne-none, some-injective}
 use native.Mathlib.Decide.{dec_lt}
 use lib.ListN.{get_elem?, get_or-replicate}
-use Rattle.std.specs.FinMap.{empty, get-empty}
+use Rattle.std.specs.FinMap.{empty, get, get-empty, get-from_entries}
+use Rattle.std.proofs.lemmas.Cmp.{nat_list_cmp_total}
 use Rattle.std.proofs.lemmas.List.{length-replicate}
 use Rattle.std.specs.Ordering.{nat_cmp}
 use Rattle.std.specs.Cmp.Lexicographic.{slice_cmp}
@@ -13,7 +14,7 @@ use Rattle.bihash_words.specs.Sizes.{Sizes, IsSound}
 use Rattle.bihash_steps.specs.Words.{buckets, bucket_at, page_words, list_words, list_at, returned_count_at, Stands}
 use Rattle.bihash_steps.specs.Blocks.{no_block, IsBlockOf}
 use Rattle.bihash_steps.specs.Partition.{PageRun, Owner, of_bucket, returned_at, never_used, held_by, run_at}
-use Rattle.bihash_steps.specs.Callers.{known_at, IsLawfulCaller}
+use Rattle.bihash_steps.specs.Callers.{known_at, opening_in, IsLawfulCaller}
 use Rattle.bihash_steps.specs.Words.{IsFresh}
 use Rattle.bihash_steps.specs.Buckets.{BucketState}
 use Rattle.bihash_steps.specs.PageStores.{returned_in, runs_now, all_writes}
@@ -122,6 +123,10 @@ module _ (z : Sizes) where
   only_view zero v e = (refl, some-injective (first_view z) v e)
   only_view (suc j) v e = absurd (some-ne-none v (sym e))
 
+  no_pair : (key : List ℕ) (b : ℕ) → get (opening_in [] b) key ≡ None
+  no_pair key zero = get-from_entries nat_list_cmp_total [] key
+  no_pair key (suc b) = get-from_entries nat_list_cmp_total [] key
+
   pub starts : (words : List ℕ) → IsSound z → IsFresh z words → WordRule z (opening words [] (first_view z))
   starts words sound fresh = let one = fresh.one in let front = front z in let many = sound.some_callers in
       let pages : ℕ = z.pages * page_words z in record {
@@ -132,7 +137,11 @@ module _ (z : Sizes) where
         few_callers = omega arith;
         each_bucket = λ b l. record {
           word = fresh.empty (bucket_at z b) (omega arith) (omega arith);
-          writes = record { short = omega arith; each = λ n w e. absurd (some-ne-none w (sym e)) };
+          writes = record {
+            short = omega arith;
+            each = λ n w e. absurd (some-ne-none w (sym e));
+            home = λ key value h. let e = no_pair key b in absurd (cc (h, e));
+          };
           bearers = λ n w e. absurd (some-ne-none w (sym e));
           size = refl;
           pairs = bare_block;

@@ -145,12 +145,12 @@ module _ (z : Sizes) where
   -- ---- Two callers' numbers are put together
 
   -- a legal call is one of a bucket of the table
-  inside : (opening : Pairs) (H : List Write) (by : ℕ) (c : Call) → IsLegal z opening H by c → c.bucket < buckets z
+  pub inside : (opening : Pairs) (H : List Write) (by : ℕ) (c : Call) → IsLegal z opening H by c → c.bucket < buckets z
   inside opening H by c h = subst (λ (b : ℕ). b < buckets z) h.key.home
       (mod-lt (z.hash c.key) (let p = pow_pos z.log2_buckets in omega arith))
 
   -- a call that is legal on a beginning is legal on the whole
-  legal_longer : (opening : Pairs) (K H : List Write) (by : ℕ) (c : Call) → IsPrefix K H → IsLegal z opening K by c
+  pub legal_longer : (opening : Pairs) (K H : List Write) (by : ℕ) (c : Call) → IsPrefix K H → IsLegal z opening K by c
       → IsLegal z opening H by c
   legal_longer opening K H by c p h = let s = h.seen in let l = prefix_length K H p in record {
     key = h.key;
@@ -161,7 +161,7 @@ module _ (z : Sizes) where
   }
 
   -- a call that is legal on what one caller knows is legal on what both know
-  still_legal : (known all : Known) (r : Record) (c : Call) → opening_at known c.bucket ≡ opening_at all c.bucket
+  pub still_legal : (known all : Known) (r : Record) (c : Call) → opening_at known c.bucket ≡ opening_at all c.bucket
       → (c.bucket < buckets z → IsPrefix (known_at known c.bucket) (known_at all c.bucket))
       → IsLegal z (opening_at known c.bucket) (known_at known c.bucket) r.number c
       → IsLegal z (opening_at all c.bucket) (known_at all c.bucket) r.number c

@@ -1,9 +1,9 @@
 -- What the steps of a split come to: the parent keeps its numbers, and the new caller has the next one.
-use Rattle.std.proofs.Common.{◌≡◌, ℕ, ◌+◌, List, [], ◌∷◌, ◌++◌, length, take, drop, sym, ap, ◌∙◌}
+use Rattle.std.proofs.Common.{◌≡◌, ℕ, ◌+◌, List, [], ◌∷◌, ◌++◌, length, take, drop, refl, sym, ap, ◌∙◌, None}
 use Rattle.std.proofs.Math.Seq.{take-append_seam, drop-append_seam}
 use Rattle.bihash_steps.specs.Views.{empty_record}
 use Rattle.bihash_steps.specs.Steps.{counted, numbered, first_numbers, other_numbers, parent, newcomer}
-use Rattle.bihash_steps.specs.Seats.{CallerState, with_view}
+use Rattle.bihash_steps.specs.Seats.{CallerState, with_view, stamp_of}
 use Rattle.bihash_steps.specs.declared.view.Record.{Record}
 use Rattle.bihash_steps.specs.declared.view.View.{View}
 
@@ -32,3 +32,7 @@ module _ (a loaded taken : CallerState) (n kept : ℕ) (load : loaded ≡ with_v
   pub new_caller : (right : View) → right ≡ other_numbers kept taken.view → right ≡ newcomer a.view n
   new_caller right is =
       is ∙ (ap (other_numbers kept) view_is ∙ ap (λ (rs : List Record). record (newcomer a.view n) { records = rs }) other_is)
+
+  -- it has made no call
+  pub new_stamp : stamp_of (other_numbers kept taken.view).records ≡ None
+  new_stamp = ap (λ (v : View). stamp_of v.records) (new_caller (other_numbers kept taken.view) refl)

@@ -1,5 +1,5 @@
 -- The writes of a bucket in their order, and when an answered call is legal on them.
-use Rattle.std.specs.Prelude.{◌≡◌, ℕ, ◌+◌, ◌^◌, ◌%◌, ◌≤◌, ◌++◌, Bool, true, false, List, [], ◌∷◌, length}
+use Rattle.std.specs.Prelude.{◌≡◌, ℕ, ◌+◌, ◌^◌, ◌%◌, ◌≤◌, ◌++◌, Bool, true, false, List, [], ◌∷◌, length, Some}
 use Rattle.std.proofs.Math.ListN.{take}
 use lib.ListN.{get_elem?}
 use mathlib.Core.Option.{some}
@@ -49,10 +49,12 @@ pub record IsWrite (z : Sizes) (b n : ℕ) (m : Pairs) (w : Write) : Type 0 wher
   pub storable : IsStorable w.change
   pub changes : Step (bounds_of z) m n (event_of_write m w) (changed m w.key w.change)
 
--- a write list: at most `limit` writes, each of which changes the map that those before it left
+-- a write list: at most `limit` writes, each of which changes the map that those before it left; the keys
+-- of the map that it starts from are the bucket's
 pub record IsWriteList (z : Sizes) (b : ℕ) (opening : Pairs) (H : List Write) : Type 0 where
   pub short : length H ≤ z.limit
   pub each : (n : ℕ) (w : Write) → get_elem? H n ≡ some w → IsWrite z b n (after opening H n) w
+  pub home : (key : List ℕ) (value : ℕ) → get opening key ≡ Some value → IsKeyOf z b key
 
 -- xs is the beginning of ys
 pub record IsPrefix (xs ys : List Write) : Type 0 where

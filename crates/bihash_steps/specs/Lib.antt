@@ -9,3 +9,5 @@ pub mod Views
 pub mod WordRule
 pub mod Steps
 pub mod Seats
+pub mod BucketSteps
+pub mod StoreSteps

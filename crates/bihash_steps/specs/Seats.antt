@@ -1,8 +1,10 @@
 -- What contracts see of a row and of its callers.
-use Rattle.std.specs.Prelude.{◌≡◌, ℕ, ◌≤◌, length}
+use Rattle.std.specs.Prelude.{◌≡◌, ℕ, ◌≤◌, List, [], ◌∷◌, length, Option, Some, None}
 use Rattle.atomic_table.specs.Seated.{TableId}
 use Rattle.bihash_words.specs.Sizes.{Sizes, IsSound}
 use Rattle.bihash_steps.specs.Words.{all_words}
+use Rattle.bihash_steps.specs.declared.view.Call.{Call}
+use Rattle.bihash_steps.specs.declared.view.Record.{Record}
 use Rattle.bihash_steps.specs.declared.view.View.{View}
 
 -- a caller: the row that it belongs to, its seat there, and what it knows
@@ -28,3 +30,14 @@ pub record IsRow (z : Sizes) (t : TableId) : Type 0 where
 pub record CanAct (v : View) (numbers : ℕ) : Type 0 where
   pub count : length v.records ≡ numbers
   pub some : 1 ≤ numbers
+
+-- the bucket and the stamp of the last call
+abbrev pub stamp_in : List Call → Option (ℕ × ℕ)
+stamp_in [] = None
+stamp_in (c ∷ []) = Some (c.bucket, c.stamp)
+stamp_in (c ∷ d ∷ cs) = stamp_in (d ∷ cs)
+
+-- the same of the record that the caller acts under
+abbrev pub stamp_of : List Record → Option (ℕ × ℕ)
+stamp_of [] = None
+stamp_of (r ∷ rs) = stamp_in r.calls

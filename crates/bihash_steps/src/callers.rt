@@ -1,18 +1,18 @@
 //! Callers that are counted, split, joined and told of one another.
 ghost use Rattle.std.specs.Prelude.{◌≡◌, ◌≢◌, ℕ, ◌+◌, ◌<◌, ◌≤◌, true, false, length, IfOk, IfErr};
-ghost use Rattle.bihash_words.specs.Sizes.{sizes_of};
+ghost use Rattle.bihash_words.specs.Sizes.{sizes_of, IsSound};
 ghost use Rattle.bihash_steps.specs.Callers.{IsLawfulCaller, IsWhole, Agrees};
 ghost use Rattle.bihash_steps.specs.Views.{nothing_held};
 ghost use Rattle.bihash_steps.specs.Steps.{counted, numbered, recounted, first_numbers, other_numbers, parent, newcomer, IsRefused, informed_by, joined};
-ghost use Rattle.bihash_steps.specs.Seats.{with_view};
+ghost use Rattle.bihash_steps.specs.Seats.{with_view, stamp_of};
 
 use crate::faults::SplitFault;
 use crate::plays::{Counts, Cut, Joins, Keeping, Meets, Numbers};
-use crate::row::{Caller, Row};
+use crate::row::{Caller, CallerSeat, Row};
 use crate::scratch::Scratch;
 use bihash_words::Shape;
 use std::alloc::Global;
-use std::marker::Brand;
+use std::marker::{Brand, PhantomData};
 
 // Where the caller count stands.
 const COUNT: usize = 0;
@@ -20,7 +20,7 @@ const COUNT: usize = 0;
 impl<S: Shape> Row<S> {
     /// How many callers were made. The caller is lone from then on where it has as many numbers, until a
     /// split of it succeeds.
-    pub fn load_count(&self, caller: &mut Caller<S>) -> u64
+    pub fn load_count(&self, caller: &mut CallerSeat<S>) -> u64
         requires own { caller.old.row ≡ self.now }
         ensures view { caller.new ≡ with_view caller.old (counted caller.old.view result) }
         ensures rises { caller.old.view.seen ≤ result }
@@ -32,7 +32,7 @@ impl<S: Shape> Row<S> {
     }
 
     // Takes the next number, where the caller count still is this one.
-    fn take_number(&self, caller: &mut Caller<S>, count: u64) -> bool
+    fn take_number(&self, caller: &mut CallerSeat<S>, count: u64) -> bool
         requires own { caller.old.row ≡ self.now }
         requires few { count < S.CALLERS }
         ensures row { (caller.new.row ≡ caller.old.row) × (caller.new.seat ≡ caller.old.seat) }
@@ -52,13 +52,19 @@ impl<S: Shape> Row<S> {
         true
     }
 
-    // Gives a new caller, with these lists to work with, all numbers but the first ones.
-    fn cut<E: Keeping>(&self, caller: &mut Caller<S>, kept: u64, scratch: Scratch<S>) -> Caller<S>
+    // Gives a new seat, whose last answered call had this stamp, all numbers but the first ones.
+    fn cut<E: Keeping>(
+        &self,
+        caller: &mut CallerSeat<S>,
+        kept: u64,
+        stamp: Option<(u64, u64)>,
+    ) -> CallerSeat<S>
         requires own { caller.old.row ≡ self.now }
         requires free { caller.old.view.holds ≡ nothing_held }
         requires kept { E.kept ≡ kept }
         requires some { 1 ≤ kept }
         requires less { kept < length caller.old.view.records }
+        requires stamped { stamp ≡ stamp_of (other_numbers E.kept caller.old.view).records }
         ensures left { caller.new ≡ with_view caller.old (first_numbers E.kept caller.old.view) }
         ensures right { (result.row ≡ caller.old.row) × (result.view ≡ other_numbers E.kept caller.old.view) }
         ensures lawful { IsLawfulCaller (sizes_of S.Shape) caller.old.view
@@ -68,10 +74,11 @@ impl<S: Shape> Row<S> {
         let seat = self.table.shared.split_seat::<Cut<E>>(&mut caller.seat);
         let numbers = caller.numbers - kept;
         caller.numbers = kept;
-        Caller {
+        CallerSeat {
             seat,
             numbers,
-            scratch,
+            stamp,
+            shape: PhantomData,
         }
     }
 
@@ -83,36 +90,37 @@ impl<S: Shape> Row<S> {
         alloc: Global,
         mut caller: Caller<S>,
     ) -> Result<(Caller<S>, Caller<S>), (SplitFault, Caller<S>)>
-        requires own { caller.row ≡ self.now }
-        requires free { caller.view.holds ≡ nothing_held }
-        ensures split { IfOk result (λ r. (count : ℕ) × (caller.view.seen ≤ count) × (count < S.CALLERS)
-            × (r.0 ≡ with_view caller (parent caller.view count))
-            × (r.1.row ≡ caller.row) × (r.1.view ≡ newcomer caller.view count)) }
-        ensures lawful { IfOk result (λ r. IsLawfulCaller (sizes_of S.Shape) r.0.view
-            × IsLawfulCaller (sizes_of S.Shape) r.1.view) }
-        ensures agree { IfOk result (λ r. Agrees r.0.view r.1.view) }
-        ensures refused { IfErr result (λ r. (r.1 ≡ with_view caller r.1.view)
-            × IsRefused (sizes_of S.Shape) caller.view r.0 r.1.view) }
+        requires own { caller.seat.row ≡ self.now }
+        requires free { caller.seat.view.holds ≡ nothing_held }
+        ensures split { IfOk result (λ r. (count : ℕ) × (caller.seat.view.seen ≤ count) × (count < S.CALLERS)
+            × (r.0.seat ≡ with_view caller.seat (parent caller.seat.view count))
+            × (r.1.seat.row ≡ caller.seat.row) × (r.1.seat.view ≡ newcomer caller.seat.view count)) }
+        ensures lawful { IfOk result (λ r. IsLawfulCaller (sizes_of S.Shape) r.0.seat.view
+            × IsLawfulCaller (sizes_of S.Shape) r.1.seat.view) }
+        ensures agree { IfOk result (λ r. Agrees r.0.seat.view r.1.seat.view) }
+        ensures refused { IfErr result (λ r. (r.1.seat ≡ with_view caller.seat r.1.seat.view)
+            × IsRefused (sizes_of S.Shape) caller.seat.view r.0 r.1.seat.view) }
     {
         // The sizes of a row are sound: its invariant says so.
         let _ = &self.table;
         let Ok(scratch) = Scratch::reserve(alloc) else {
             return Err((SplitFault::Memory, caller));
         };
-        let count = self.load_count(&mut caller);
+        let seat = &mut caller.seat;
+        let count = self.load_count(seat);
         if count == S::CALLERS {
             return Err((SplitFault::Numbers, caller));
         }
-        let kept = caller.numbers;
-        if !self.take_number(&mut caller, count) {
+        let kept = seat.numbers;
+        if !self.take_number(seat, count) {
             return Err((SplitFault::Contended, caller));
         }
-        let other = self.cut::<Brand>(&mut caller, kept, scratch);
-        Ok((caller, other))
+        let seat = self.cut::<Brand>(&mut caller.seat, kept, None);
+        Ok((caller, Caller { seat, scratch }))
     }
 
-    // The caller takes in the other one, and answers the lists that that one worked with.
-    fn take_in(&self, caller: &mut Caller<S>, other: Caller<S>) -> Scratch<S>
+    // The caller takes in the other one.
+    fn take_in(&self, caller: &mut CallerSeat<S>, other: CallerSeat<S>)
         requires own { (caller.old.row ≡ self.now) × (other.row ≡ self.now) }
         requires free { (caller.old.view.holds ≡ nothing_held) × (other.view.holds ≡ nothing_held) }
         ensures view { caller.new ≡ with_view caller.old (joined caller.old.view other.view) }
@@ -120,46 +128,76 @@ impl<S: Shape> Row<S> {
         ensures agree { Agrees caller.old.view other.view }
         ensures some { 1 ≤ length other.view.records }
     {
-        let Caller {
+        let CallerSeat {
             seat,
             numbers,
-            scratch,
+            stamp: _,
+            shape: _,
         } = other;
         let shared = &self.table.shared;
         shared.join_seat::<Joins<S>>(&mut caller.seat, seat);
         shared.load::<Meets<S>>(&mut caller.seat, COUNT);
         caller.numbers += numbers;
-        scratch
     }
 
     /// One caller with the numbers and records of both, each as it was. It knows what either knew, and
     /// acts under the first one's number.
     pub fn join(&self, mut caller: Caller<S>, other: Caller<S>) -> Caller<S>
-        requires own { (caller.row ≡ self.now) × (other.row ≡ self.now) }
-        requires free { (caller.view.holds ≡ nothing_held) × (other.view.holds ≡ nothing_held) }
-        ensures view { result ≡ with_view caller (joined caller.view other.view) }
-        ensures lawful { IsLawfulCaller (sizes_of S.Shape) result.view }
-        ensures agree { Agrees caller.view other.view }
+        requires own { (caller.seat.row ≡ self.now) × (other.seat.row ≡ self.now) }
+        requires free { (caller.seat.view.holds ≡ nothing_held) × (other.seat.view.holds ≡ nothing_held) }
+        ensures view { result.seat ≡ with_view caller.seat (joined caller.seat.view other.seat.view) }
+        ensures lawful { IsLawfulCaller (sizes_of S.Shape) result.seat.view }
+        ensures agree { Agrees caller.seat.view other.seat.view }
     {
-        self.take_in(&mut caller, other);
+        self.take_in(&mut caller.seat, other.seat);
         caller
     }
 
     /// Both callers with their numbers and records. Each knows afterwards what either knew.
     pub fn meet(&self, mut caller: Caller<S>, other: Caller<S>) -> (Caller<S>, Caller<S>)
-        requires own { (caller.row ≡ self.now) × (other.row ≡ self.now) }
-        requires free { (caller.view.holds ≡ nothing_held) × (other.view.holds ≡ nothing_held) }
-        ensures first { result.0 ≡ with_view caller (informed_by caller.view caller.view other.view) }
-        ensures second { (result.1.row ≡ other.row)
-            × (result.1.view ≡ informed_by other.view caller.view other.view) }
-        ensures lawful { IsLawfulCaller (sizes_of S.Shape) result.0.view
-            × IsLawfulCaller (sizes_of S.Shape) result.1.view }
-        ensures before { Agrees caller.view other.view }
-        ensures after { Agrees result.0.view result.1.view }
+        requires own { (caller.seat.row ≡ self.now) × (other.seat.row ≡ self.now) }
+        requires free { (caller.seat.view.holds ≡ nothing_held) × (other.seat.view.holds ≡ nothing_held) }
+        ensures first { result.0.seat
+            ≡ with_view caller.seat (informed_by caller.seat.view caller.seat.view other.seat.view) }
+        ensures second { (result.1.seat.row ≡ other.seat.row)
+            × (result.1.seat.view ≡ informed_by other.seat.view caller.seat.view other.seat.view) }
+        ensures lawful { IsLawfulCaller (sizes_of S.Shape) result.0.seat.view
+            × IsLawfulCaller (sizes_of S.Shape) result.1.seat.view }
+        ensures before { Agrees caller.seat.view other.seat.view }
+        ensures after { Agrees result.0.seat.view result.1.seat.view }
     {
-        let own = caller.numbers;
-        let scratch = self.take_in(&mut caller, other);
-        let second = self.cut::<Brand>(&mut caller, own, scratch);
-        (caller, second)
+        let Caller { seat, scratch } = other;
+        let own = caller.seat.numbers;
+        let stamp = seat.stamp;
+        self.take_in(&mut caller.seat, seat);
+        let seat = self.cut::<Brand>(&mut caller.seat, own, stamp);
+        (caller, Caller { seat, scratch })
+    }
+}
+
+impl<S: Shape> CallerSeat<S> {
+    /// The bucket and the stamp of the last answered call under the caller's acting number, None before
+    /// the first.
+    pub fn stamp(&self) -> Option<(u64, u64)>
+        ensures { result ≡ stamp_of self.now.view.records }
+    {
+        self.stamp
+    }
+
+    /// How many numbers the caller has.
+    pub fn numbers(&self) -> u64
+        ensures count { result ≡ length self.now.view.records }
+        ensures some { 1 ≤ result }
+    {
+        self.numbers
+    }
+}
+
+impl<S: Shape> Row<S> {
+    /// The sizes of a row are sound.
+    pub fn is_sound(&self)
+        ensures { IsSound (sizes_of S.Shape) }
+    {
+        let _ = &self.table;
     }
 }

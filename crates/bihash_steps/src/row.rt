@@ -1,8 +1,9 @@
 //! A row of atomic words under the word rule, and its callers.
-ghost use Rattle.std.specs.Prelude.{◌≡◌, []};
+ghost use Rattle.std.specs.Prelude.{◌≡◌, ◌+◌, []};
 ghost use Rattle.atomic_table.specs.Seated.{TableId};
 ghost use Rattle.bihash_words.specs.Sizes.{sizes_of};
-ghost use Rattle.bihash_steps.specs.Seats.{CallerState, caller_state, IsRow, CanAct};
+ghost use Rattle.bihash_steps.specs.Words.{front_words, buckets};
+ghost use Rattle.bihash_steps.specs.Seats.{CallerState, caller_state, IsRow, CanAct, stamp_of};
 ghost use Rattle.bihash_steps.specs.Views.{first_view};
 ghost use Rattle.bihash_steps.specs.WordRule.{WordRule};
 
@@ -28,6 +29,9 @@ impl<S: Shape> TableRule<(), View, ()> for RowRule<S> {
 #[derive(Drop)]
 pub struct Row<S: Shape> {
     pub(crate) table: Table<(), View, (), RowRule<S>, Global>,
+    // Where the bucket words begin, and where the page words do.
+    pub(crate) buckets_at: usize,
+    pub(crate) pages_at: usize,
 }
 
 impl<S: Shape> Model for Row<S> {
@@ -35,22 +39,34 @@ impl<S: Shape> Model for Row<S> {
 
     ghost view = { λ r. r.table.shared.table_id };
 
-    ghost invariant = { λ r. IsRow (sizes_of S.Shape) r.table.shared.table_id };
+    ghost invariant = { λ r. IsRow (sizes_of S.Shape) r.table.shared.table_id
+        × (r.buckets_at ≡ front_words (sizes_of S.Shape))
+        × (r.pages_at ≡ front_words (sizes_of S.Shape) + buckets (sizes_of S.Shape)) };
 }
 
-/// A caller of one table. Contracts see its row and what it knows.
+/// The seat of a caller at one table. Contracts see its row and what the caller knows.
 #[derive(Drop)]
-pub struct Caller<S: Shape> {
+pub struct CallerSeat<S: Shape> {
     pub(crate) seat: Seat<(), View>,
-    // How many numbers it has.
+    // How many numbers the caller has.
     pub(crate) numbers: u64,
-    pub(crate) scratch: Scratch<S>,
+    // The bucket and the stamp of its last answered call.
+    pub(crate) stamp: Option<(u64, u64)>,
+    pub(crate) shape: PhantomData<S>,
 }
 
-impl<S: Shape> Model for Caller<S> {
+impl<S: Shape> Model for CallerSeat<S> {
     ghost Value = { CallerState };
 
     ghost view = { λ c. caller_state c.seat.table_id c.seat.id c.seat.me.0 };
 
-    ghost invariant = { λ c. (c.seat.me.1 ≡ []) × CanAct c.seat.me.0 c.numbers };
+    ghost invariant = { λ c. (c.seat.me.1 ≡ []) × CanAct c.seat.me.0 c.numbers
+        × (c.stamp ≡ stamp_of c.seat.me.0.records) };
+}
+
+/// A caller of one table: its seat, and the lists that it works with while it splits a block.
+#[derive(Drop)]
+pub struct Caller<S: Shape> {
+    pub seat: CallerSeat<S>,
+    pub scratch: Scratch<S>,
 }

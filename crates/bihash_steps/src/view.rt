@@ -1,4 +1,4 @@
-//! What a caller knows, as proofs and contracts see it. No value of these types is ever made.
+//! What a caller knows, as proofs and contracts see it. Of these types only extents are ever made.
 use bihash_words::{Change, Reply};
 use std::collections::LinkedList;
 
@@ -31,6 +31,7 @@ pub struct Record {
 
 /// Where the block of a bucket lies: its first page (0: there is no block), the log2 of its pages, and
 /// whether it is linear.
+#[derive(Clone, Copy, Debug, PartialEq, Eq)]
 pub struct Extent {
     pub page: u64,
     pub log2: u64,

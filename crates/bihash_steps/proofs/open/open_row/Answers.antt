@@ -1,5 +1,6 @@
-use Rattle.std.proofs.Common.{ap, sym, subst}
+use Rattle.std.proofs.Common.{◌≡◌, ℕ, [], ap, sym, subst, refl, le_refl, Option, None}
 use Rattle.bihash_steps.specs.Callers.{IsLawfulCaller}
+use Rattle.bihash_steps.specs.Seats.{CanAct, stamp_of}
 use Rattle.bihash_steps.specs.Words.{IsFresh}
 use Rattle.bihash_steps.specs.Steps.{ViewOfSeat}
 use Rattle.bihash_steps.proofs.Fresh.{starts, first_lawful}
@@ -10,3 +11,8 @@ of_words-requires g c = starts _ _ c.requires.sound (subst (IsFresh _) (sym c.as
 
 pub returns-clause-lawful : goal.returns-clause-lawful
 returns-clause-lawful g c = subst (IsLawfulCaller _) (sym (ap (λ (m : ViewOfSeat). m.0) c.in_ok-table.ensures.4)) (first_lawful _)
+
+pub invariant_of-seat : goal.invariant_of-seat
+invariant_of-seat g c = subst (λ (m : ViewOfSeat). (m.1 ≡ []) × CanAct m.0 1 × ◌≡◌ {A = Option (ℕ × ℕ)} None (stamp_of m.0.records))
+    (sym c.in_ok-table.ensures.4)
+    (refl, record { count = refl; some = le_refl 1 }, refl)

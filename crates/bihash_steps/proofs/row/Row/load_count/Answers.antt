@@ -4,4 +4,4 @@ use Rattle.bihash_steps.proofs.Counting.{loads_count}
 use Rattle.bihash_steps.proofs.row.Row.load_count.Goals as goal
 
 pub load-requires : goal.load-requires
-load-requires g c = (search rules, rw c.self.invariant.wide (some_words _), loads_count _ _ _ _)
+load-requires g c = (search rules, rw c.self.invariant.0.wide (some_words _), loads_count _ _ _ _)

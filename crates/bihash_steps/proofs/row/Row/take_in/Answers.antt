@@ -10,7 +10,7 @@ join_seat-requires g c = (
   search rules,
   search rules,
   search rules,
-  rw c.self.invariant.wide (some_words _),
+  rw c.self.invariant.0.wide (some_words _),
   joins_numbers _ _ _ _ _ (let a = c.caller.invariant.1.count in let b = c.caller.invariant.1.some in omega arith)
       (let a = c.other.invariant.1.count in let b = c.other.invariant.1.some in omega arith)
       (ap (λ (k : CallerState). k.view.holds) c.caller.view_is ∙ c.requires.free.0)
@@ -18,7 +18,7 @@ join_seat-requires g c = (
 )
 
 pub load-requires : goal.load-requires
-load-requires g c = (search rules, rw c.self.invariant.wide (some_words _), agrees_known _ _ _ _)
+load-requires g c = (search rules, rw c.self.invariant.0.wide (some_words _), agrees_known _ _ _ _)
 
 pub returns-clause-agree : goal.returns-clause-agree
 returns-clause-agree g c =

@@ -1,0 +1,21 @@
+use Rattle.std.proofs.Common.{rules}
+use Rattle.bihash_words.specs.Sizes.{sizes_of}
+use Rattle.bihash_steps.specs.BucketSteps.{MayAnswer}
+use Rattle.bihash_steps.proofs.Addresses.{answers_at}
+use Rattle.bihash_steps.proofs.NextWords.{counted_answer}
+use Rattle.bihash_steps.proofs.SeatCounts.{of_seat}
+use Rattle.bihash_steps.proofs.row.Row.cancel_as.Goals as goal
+
+pub store-requires : goal.store-requires
+store-requires g c = (
+  search rules,
+  search rules,
+  rw c.to_word.ensures (answers_at _ _ _ _ _ _ _ _ c.bucket_at.ensures.place
+      (of_seat (λ v. MayAnswer (sizes_of g.S.Shape) v c.args.bucket c.args.word g.E.Calling.call) c.caller.view_is c.requires.may)),
+)
+
+pub invariant_of-caller : goal.invariant_of-caller
+invariant_of-caller g c =
+    let may = of_seat (λ v. MayAnswer (sizes_of g.S.Shape) v c.args.bucket c.args.word g.E.Calling.call) c.caller.view_is c.requires.may in
+    counted_answer (sizes_of g.S.Shape) c.caller.inside.seat.me _ _ _ _ _ _ _ may c.store.ensures.2.1 c.version.ensures
+    c.store.ensures.2.0 c.caller.invariant

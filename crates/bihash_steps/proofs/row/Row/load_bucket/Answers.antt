@@ -1,0 +1,19 @@
+use Rattle.std.proofs.Common.{rules}
+use Rattle.bihash_steps.proofs.Addresses.{sees_at}
+use Rattle.bihash_steps.proofs.SeatCounts.{can_act, counted_same, seen_records}
+use Rattle.bihash_steps.proofs.row.Row.load_bucket.Goals as goal
+
+pub load-requires : goal.load-requires
+load-requires g c = (
+  search rules,
+  search rules,
+  sees_at _ _ _ _ _ _ c.bucket_at.ensures.place c.requires.inside (can_act _ _ c.caller.invariant.1),
+)
+
+pub invariant_of-caller : goal.invariant_of-caller
+invariant_of-caller g c =
+    let told = c.load.ensures.2 _ c.bucket_at.ensures.place in
+    counted_same c.caller.inside.seat.me _ _ _ told.slots (seen_records _ _ _ _ _ told.seen) c.caller.invariant
+
+pub returns-clause-lawful : goal.returns-clause-lawful
+returns-clause-lawful g c = (c.load.ensures.2 _ c.bucket_at.ensures.place).lawful

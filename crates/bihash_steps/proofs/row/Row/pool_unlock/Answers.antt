@@ -1,0 +1,14 @@
+use Rattle.std.proofs.Common.{rules, ◌∙◌, ap}
+use Rattle.bihash_steps.specs.Seats.{CallerState}
+use Rattle.bihash_steps.proofs.Bounds.{some_front}
+use Rattle.bihash_steps.proofs.SeatCounts.{can_act}
+use Rattle.bihash_steps.proofs.StoreLock.{opens_store}
+use Rattle.bihash_steps.proofs.row.Row.pool_unlock.Goals as goal
+
+pub store-requires : goal.store-requires
+store-requires g c =
+    let n = c.requires.settled in (
+      search rules,
+      rw c.self.invariant.0.wide (some_front _).0,
+      opens_store _ _ _ _ n.0 (ap (λ (k : CallerState). k.view.holds.store) c.caller.view_is ∙ n.1) n.2 (can_act _ _ c.caller.invariant.1),
+    )

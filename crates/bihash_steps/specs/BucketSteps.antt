@@ -1,0 +1,244 @@
+-- What a view becomes at each kind of step on a bucket, and what the step tells its caller.
+use Rattle.std.specs.Prelude.{◌≡◌, ◌⊎◌, ℕ, ◌+◌, ◌^◌, ◌<◌, ◌≤◌, List, [], ◌∷◌, ◌++◌, length, slice_index, slice_set, true, false, Option, Some, None}
+use Rattle.std.specs.FinMap.{get}
+use Rattle.bihash_words.specs.Maps.{Pairs, changed}
+use Rattle.bihash_words.specs.Sizes.{Sizes}
+use Rattle.bihash_words.specs.Words.{Fits, packed}
+use Rattle.bihash_words.specs.declared.patch.Change.{Change}
+use Rattle.bihash_words.specs.declared.patch.Reply.{Reply}
+use Rattle.bihash_words.specs.declared.patch.Reply.TheVariants.{Changed, NoPages}
+use Rattle.bihash_steps.specs.Words.{block_words}
+use Rattle.bihash_steps.specs.Histories.{IsKeyOf, IsPrefix, IsWrite, IsWriteList, IsAnswer, after, is_changed, write_of}
+use Rattle.bihash_steps.specs.Callers.{known_at, opening_at, IsLawfulCaller}
+use Rattle.bihash_steps.specs.Blocks.{IsBlockOf}
+use Rattle.bihash_steps.specs.Buckets.{word_of, open_word}
+use Rattle.bihash_steps.specs.PageStores.{returned_in}
+use Rattle.bihash_steps.specs.Views.{no_notes}
+use Rattle.bihash_steps.specs.Steps.{ViewOfSeat}
+use Rattle.bihash_steps.specs.declared.view.Write.{Write}
+use Rattle.bihash_steps.specs.declared.view.Call.{Call}
+use Rattle.bihash_steps.specs.declared.view.Record.{Record}
+use Rattle.bihash_steps.specs.declared.view.Extent.{Extent}
+use Rattle.bihash_steps.specs.declared.view.LockedBucket.{LockedBucket}
+use Rattle.bihash_steps.specs.declared.view.OpenBucket.{OpenBucket}
+use Rattle.bihash_steps.specs.declared.view.PageStore.{PageStore}
+use Rattle.bihash_steps.specs.declared.view.View.{View}
+
+-- ---- A load of a bucket's word
+
+-- what was noted is dropped
+abbrev pub unnoted : View → View
+unnoted v = record v { notes = no_notes }
+
+-- the history of bucket b is known whole
+abbrev pub learned : View → ℕ → List Write → View
+learned v b history = record v { known = record v.known { writes = slice_set v.known.writes b history } }
+
+-- What a step that finds bucket b with this word, and so without its lock, tells of it: a history that
+-- continues what was known, and the block that holds the pairs which that leaves.
+pub record IsFound (z : Sizes) (v : View) (b word : ℕ) (history : List Write) (extent : Extent)
+    (block : List ℕ) : Type 0 where
+  pub begins : IsPrefix (known_at v.known b) history
+  pub writes : IsWriteList z b (opening_at v.known b) history
+  pub fits : Fits (word_of extent false (length history))
+  pub stood : word ≡ packed (word_of extent false (length history))
+  pub near : extent.page + 2 ^ extent.log2 ≤ z.pages + 1
+  pub size : length block ≡ block_words z extent.page extent.log2
+  pub pairs : IsBlockOf z extent block (after (opening_at v.known b) history (length history))
+  pub listed : b < length v.known.writes
+
+abbrev pub open_on : ℕ → ℕ → Extent → List ℕ → OpenBucket
+open_on b version extent block = record {
+  bucket = b;
+  version = version;
+  extent = extent;
+  block = block;
+  reads = [];
+}
+
+-- the bucket was seen without its lock: its history is known, and its block is noted
+pub record SeesOpen (z : Sizes) (v : View) (b word : ℕ) (w : View) : Type 0 where
+  pub history : List Write
+  pub extent : Extent
+  pub block : List ℕ
+  pub found : IsFound z v b word history extent block
+  pub is : w ≡ record (learned v b history) {
+    notes = record no_notes { open_bucket = Some (open_on b (length history) extent block) };
+  }
+
+-- somebody has the lock
+pub record SeesLocked (v : View) (word : ℕ) (w : View) : Type 0 where
+  pub extent : Extent
+  pub version : ℕ
+  pub fits : Fits (word_of extent true version)
+  pub stood : word ≡ packed (word_of extent true version)
+  pub is : w ≡ unnoted v
+
+-- a lone caller that has no lock finds none, and knew the history before
+pub record TellsBucket (z : Sizes) (b : ℕ) (m : ViewOfSeat) (found : ℕ) (m' : ViewOfSeat) : Type 0 where
+  pub slots : m'.1 ≡ m.1
+  pub seen : SeesOpen z m.0 b found m'.0 ⊎ SeesLocked m.0 found m'.0
+  pub lone : m.0.lone ≡ true → m.0.holds.bucket ≡ None → SeesOpen z m.0 b found m'.0
+  pub lawful : IsLawfulCaller z m'.0
+  pub whole : m.0.lone ≡ true → known_at m'.0.known b ≡ known_at m.0.known b
+
+-- ---- The exchange that sets the lock bit
+
+-- the acting record counts one lock more
+abbrev pub lock_counted : List Record → List Record
+lock_counted [] = []
+lock_counted (r ∷ rs) = record r { locks = r.locks + 1 } ∷ rs
+
+abbrev pub locked_on : ℕ → ℕ → Extent → List ℕ → LockedBucket
+locked_on b version extent block = record {
+  bucket = b;
+  version = version;
+  extent = extent;
+  was = block;
+  now = block;
+  stored = false;
+}
+
+abbrev pub locking : View → LockedBucket → View
+locking v l = record v {
+  records = lock_counted v.records;
+  holds = record v.holds { bucket = Some l };
+  notes = no_notes;
+}
+
+-- the lock was taken where the bucket had this word: its history is known, and the words of its block
+pub record TakesLock (z : Sizes) (v : View) (b word : ℕ) (w : View) : Type 0 where
+  pub history : List Write
+  pub extent : Extent
+  pub block : List ℕ
+  pub found : IsFound z v b word history extent block
+  pub is : w ≡ locking (learned v b history) (locked_on b (length history) extent block)
+
+-- a lone caller that saw the bucket with this word takes its lock, and knew the history before
+pub record TellsLock (z : Sizes) (b word : ℕ) (m : ViewOfSeat) (found : ℕ) (m' : ViewOfSeat) : Type 0 where
+  pub slots : m'.1 ≡ m.1
+  pub taken : found ≡ word → TakesLock z m.0 b word m'.0
+  pub not : (found ≡ word → ⊥) → m'.0 ≡ unnoted m.0
+  pub lone : m.0.lone ≡ true → (o : OpenBucket) → m.0.notes.open_bucket ≡ Some o → o.bucket ≡ b
+      → word ≡ open_word o → found ≡ word
+  pub lawful : IsLawfulCaller z m'.0
+  pub whole : m.0.lone ≡ true → found ≡ word → known_at m'.0.known b ≡ known_at m.0.known b
+
+-- ---- The words of the block under the lock
+
+abbrev pub relocked : View → Option LockedBucket → View
+relocked v lock = record v { holds = record v.holds { bucket = lock }; notes = no_notes }
+
+-- word k of the block that the caller has locked, which begins at this page
+pub record IsLockedWord (z : Sizes) (v : View) (page k : ℕ) : Type 0 where
+  pub lock : LockedBucket
+  pub held : v.holds.bucket ≡ Some lock
+  pub first : lock.extent.page ≡ page
+  pub near : page + 2 ^ lock.extent.log2 ≤ z.pages + 1
+  pub inside : k < block_words z page lock.extent.log2
+
+pub record TellsLockedWord (k : ℕ) (m : ViewOfSeat) (found : ℕ) (m' : ViewOfSeat) : Type 0 where
+  pub same : m' ≡ m
+  pub value : (l : LockedBucket) → m.0.holds.bucket ≡ Some l → found ≡ slice_index l.now k
+
+-- a word was stored
+abbrev pub stored_in : LockedBucket → ℕ → ℕ → LockedBucket
+stored_in l k word = record l { now = slice_set l.now k word; stored = true }
+
+abbrev pub TellsStored : ℕ → ℕ → ViewOfSeat → ViewOfSeat → Type 0
+TellsStored k word m m' = (l : LockedBucket) → m.0.holds.bucket ≡ Some l
+    → m' ≡ (relocked m.0 (Some (stored_in l k word)), m.1)
+
+-- ---- The old word is put back
+
+-- the holder of the lock of bucket b, whose word was this one, in whose block it stored nothing
+pub record HoldsClean (v : View) (b word : ℕ) : Type 0 where
+  pub lock : LockedBucket
+  pub held : v.holds.bucket ≡ Some lock
+  pub bucket : lock.bucket ≡ b
+  pub stood : word ≡ packed (word_of lock.extent false lock.version)
+  pub clean : lock.stored ≡ false
+
+-- the lock was opened without an answer
+abbrev pub unlocked : View → View
+unlocked v = relocked v None
+
+-- the number that the caller acts under
+abbrev pub acting : List Record → ℕ
+acting [] = 0
+acting (r ∷ rs) = r.number
+
+-- the acting record has one call more
+abbrev pub push_call : Call → List Record → List Record
+push_call c [] = []
+push_call c (r ∷ rs) = record r { calls = r.calls ++ c ∷ [] } ∷ rs
+
+abbrev pub called : View → Call → View
+called v c = record v { records = push_call c v.records }
+
+-- a call on bucket b, `more` writes behind what is known of it
+abbrev pub call_of : View → ℕ → ℕ → List ℕ → Option ℕ → Change → Reply → Call
+call_of v b more key found change reply = record {
+  bucket = b;
+  stamp = length (known_at v.known b) + more;
+  key = key;
+  found = found;
+  change = change;
+  reply = reply;
+}
+
+-- the map of bucket b, as far as it is known
+abbrev pub map_now : View → ℕ → Pairs
+map_now v b = after (opening_at v.known b) (known_at v.known b) (length (known_at v.known b))
+
+-- A call that is no write may be answered at the bucket's map. A refusal for want of pages rests on what
+-- was noted when the allocation lock was opened: no block of its size was there, and so many pages
+-- were never used.
+pub record MayAnswer (z : Sizes) (v : View) (b word : ℕ) (c : Call) : Type 0 where
+  pub clean : HoldsClean v b word
+  pub bucket : c.bucket ≡ b
+  pub stamp : c.stamp ≡ length (known_at v.known b)
+  pub key : IsKeyOf z b c.key
+  pub reads : is_changed c.reply ≡ false
+  pub answers : IsAnswer z (map_now v b) (length (known_at v.known b)) c
+  pub short : (log2 left : ℕ) → c.reply ≡ NoPages log2 left → (store : PageStore)
+      × (v.notes.left ≡ Some store) × (store.used + left ≡ z.pages) × (returned_in store log2 ≡ [])
+
+-- the call was answered, and the lock opened
+abbrev pub answered : View → Call → View
+answered v c = unlocked (called v c)
+
+pub record TellsEvent (z : Sizes) (after : View → View) (m m' : ViewOfSeat) : Type 0 where
+  pub seat : m' ≡ (after m.0, m.1)
+  pub lawful : IsLawfulCaller z m'.0
+
+-- ---- A write
+
+-- The holder of the lock of bucket b, whose word was this one, may make the write of the call.
+pub record MayWrite (z : Sizes) (v : View) (b word : ℕ) (c : Call) : Type 0 where
+  pub lock : LockedBucket
+  pub held : v.holds.bucket ≡ Some lock
+  pub bucket : lock.bucket ≡ b
+  pub version : lock.version ≡ length (known_at v.known b)
+  pub fits : Fits (word_of lock.extent false lock.version)
+  pub stood : word ≡ packed (word_of lock.extent false lock.version)
+  pub unworn : length (known_at v.known b) < z.limit
+  pub call : c.bucket ≡ b
+  pub stamp : c.stamp ≡ length (known_at v.known b) + 1
+  pub found : c.found ≡ get (map_now v b) c.key
+  pub reply : c.reply ≡ Changed c.found
+  pub write : IsWrite z b (length (known_at v.known b)) (map_now v b) (write_of (acting v.records) c)
+
+-- the map behind the write
+abbrev pub next_map : View → ℕ → Call → Pairs
+next_map v b c = changed (map_now v b) c.key c.change
+
+-- it may be made with the block as it is now
+pub record MayPublish (z : Sizes) (v : View) (b word : ℕ) (c : Call) : Type 0 where
+  pub write : MayWrite z v b word c
+  pub pairs : IsBlockOf z write.lock.extent write.lock.now (next_map v b c)
+
+-- the write stands at the end of the bucket's history, and the lock is open
+abbrev pub written : View → Call → View
+written v c = unlocked
+    (called (learned v c.bucket (known_at v.known c.bucket ++ write_of (acting v.records) c ∷ [])) c)
