@@ -1,0 +1,258 @@
+-- What was learned of a bucket before a lock or an answer: from the first view on it is one call.
+use lib.Seq.{set-get_or}
+use Rattle.std.proofs.Common.{◌≡◌, ◌⊎◌, ℕ, zero, suc, ◌+◌, ◌<◌, Bool, true, false, true≢false, List, [], ◌∷◌, ◌++◌, length, get_or, set, set-set, get_or-set_same, append_assoc, refl, sym, ap, ◌∙◌, subst, Option, Some, inl, inr}
+use Rattle.bihash_words.specs.Maps.{Pairs, Event}
+use Rattle.bihash_words.specs.Sizes.{Sizes}
+use Rattle.bihash_words.specs.Words.{Bucket, Fits, packed}
+use Rattle.bihash_words.specs.declared.patch.Change.{Change}
+use Rattle.bihash_words.specs.declared.patch.Reply.{Reply}
+use Rattle.bihash_steps.specs.Words.{buckets}
+use Rattle.bihash_steps.specs.Histories.{IsPrefix, IsWriteList, bucket_of, after}
+use Rattle.bihash_steps.specs.Callers.{known_at, opening_at}
+use Rattle.bihash_steps.specs.Blocks.{IsBlockOf}
+use Rattle.bihash_steps.specs.Buckets.{word_of}
+use Rattle.bihash_steps.specs.Views.{nothing_held}
+use Rattle.bihash_steps.specs.BucketSteps.{learned, unnoted, lock_counted, locked_on, locking, open_on, push_call, map_now, SeesOpen, SeesLocked, TakesLock}
+use Rattle.bihash_steps.specs.declared.view.Write.{Write}
+use Rattle.bihash_steps.specs.declared.view.Record.{Record}
+use Rattle.bihash_steps.specs.declared.view.Holdings.{Holdings}
+use Rattle.bihash_steps.specs.declared.view.LockedBucket.{LockedBucket}
+use Rattle.bihash_steps.specs.declared.view.View.{View}
+use Rattle.bihash_steps.proofs.Prefixes.{prefix_refl}
+use Rattle.bihash_table.specs.Answers.{with_locks, entry_of, IsAnswered, IsTurnedAway, IsUpdated}
+use Rattle.bihash_table.specs.Locked.{HasLock, IsLocked}
+use Rattle.bihash_table.proofs.Released.{locks_of, with_locks-locks_of}
+
+-- ---- Lock counts
+
+pub with_one_more : (rs : List Record) → with_locks (locks_of rs + 1) rs ≡ lock_counted rs
+with_one_more [] = refl
+with_one_more (r ∷ rs) = refl
+
+pub with_locks_twice : (m n : ℕ) (rs : List Record) → with_locks m (with_locks n rs) ≡ with_locks m rs
+with_locks_twice m n [] = refl
+with_locks_twice m n (r ∷ rs) = refl
+
+-- ---- Histories
+
+pub prefix_trans : (xs ys zs : List Write) → IsPrefix xs ys → IsPrefix ys zs → IsPrefix xs zs
+prefix_trans xs ys zs p q = record {
+  rest = p.rest ++ q.rest;
+  whole = q.whole ∙ (ap (λ (h : List Write). h ++ q.rest) p.whole ∙ append_assoc xs p.rest q.rest);
+}
+
+-- a history that continues what was learned continues what was known before
+prefix_through : (writes : List (List Write)) (b : ℕ) (h H : List Write) → IsPrefix (get_or writes b []) h
+    → IsPrefix (get_or (set writes b h) b []) H → IsPrefix (get_or writes b []) H
+prefix_through [] b h H p q = q
+prefix_through (x ∷ xs) zero h H p q = prefix_trans x h H p q
+prefix_through (x ∷ xs) (suc b) h H p q = prefix_through xs b h H p q
+
+-- ---- A view behind others
+
+-- u is v behind steps that learned of bucket b and took locks
+pub record IsAhead (v u : View) (b : ℕ) : Type 0 where
+  pub history : List Write
+  pub begins : IsPrefix (known_at v.known b) history
+  pub locks : ℕ
+  pub is : u ≡ record (learned v b history) { records = with_locks locks v.records; holds = u.holds; notes = u.notes }
+
+pub locked_ahead : (z : Sizes) (v u : View) (b word : ℕ) → IsLocked z v u b word → IsAhead v u b
+locked_ahead z v u b word s = let same = sym s.is in record {
+  history = s.history;
+  begins = s.begins;
+  locks = locks_of v.records + 1;
+  is = s.is ∙ (λ i. record (learned v b s.history) { records = sym (with_one_more v.records) i; holds = (same i).holds; notes = (same i).notes });
+}
+
+pub turned_away_ahead : (z : Sizes) (v u : View) (b : ℕ) → IsTurnedAway z v u b → IsAhead v u b
+turned_away_ahead z v u b s = let same = sym s.is in record {
+  history = s.history;
+  begins = s.begins;
+  locks = s.locks;
+  is = s.is ∙ (λ i. record (learned v b s.history) { records = with_locks s.locks v.records; holds = (same i).holds; notes = u.notes });
+}
+
+module _ (z : Sizes) (v u w : View) where
+  -- what continues the history of u continues that of v
+  goes_on : (b : ℕ) (H : List Write) → IsAhead v u b → IsPrefix (known_at u.known b) H → IsPrefix (known_at v.known b) H
+  goes_on b H s p = prefix_through v.known.writes b s.history H s.begins
+      (subst (λ (x : View). IsPrefix (known_at x.known b) H) s.is p)
+
+  pub ahead_turned_away : (b : ℕ) → IsAhead v u b → IsTurnedAway z u w b → IsTurnedAway z v w b
+  ahead_turned_away b s t = record {
+    history = t.history;
+    begins = goes_on b t.history s t.begins;
+    locks = t.locks;
+    is = t.is ∙ (ap (λ (x : View). record (learned x b t.history) {
+      records = with_locks t.locks x.records;
+      holds = nothing_held;
+      notes = w.notes;
+    }) s.is
+        ∙ (λ i. record v {
+          records = with_locks_twice t.locks s.locks v.records i;
+          known = record v.known { writes = set-set v.known.writes b s.history t.history i };
+          holds = nothing_held;
+          notes = w.notes;
+        }));
+  }
+
+  ahead_answered_at : (e : Event) → IsAhead v u (bucket_of z e.key) → IsAnswered z u w e → IsAnswered z v w e
+  ahead_answered_at e s t = let b : ℕ = bucket_of z e.key in record {
+    history = t.history;
+    begins = goes_on b t.history s t.begins;
+    locks = t.locks;
+    is = t.is ∙ (ap (λ (x : View). record (learned x b t.history) {
+      records = push_call (entry_of z (length t.history) e) (with_locks t.locks x.records);
+      holds = nothing_held;
+      notes = w.notes;
+    }) s.is
+        ∙ (λ i. record v {
+          records = push_call (entry_of z (length t.history) e) (with_locks_twice t.locks s.locks v.records i);
+          known = record v.known { writes = set-set v.known.writes b s.history t.history i };
+          holds = nothing_held;
+          notes = w.notes;
+        }));
+  }
+
+  pub ahead_answered : (b : ℕ) (e : Event) → bucket_of z e.key ≡ b → IsAhead v u b → IsAnswered z u w e → IsAnswered z v w e
+  ahead_answered b e home s = ahead_answered_at e (subst (IsAhead v u) (sym home) s)
+
+  pub ahead_updated : (b : ℕ) (key : List ℕ) (decision : Option ℕ → Change) (reply : Reply) → bucket_of z key ≡ b → IsAhead v u b
+      → IsUpdated z u w key decision reply → IsUpdated z v w key decision reply
+  ahead_updated b key decision reply home s t = record { found = t.found; answered = ahead_answered b _ home s t.answered }
+
+  -- ---- What was locked and then answered was answered
+
+  pub locked_answered : (b word : ℕ) (e : Event) → bucket_of z e.key ≡ b → IsLocked z v u b word → IsAnswered z u w e → IsAnswered z v w e
+  locked_answered b word e home s = ahead_answered b e home (locked_ahead z v u b word s)
+
+  pub locked_turned_away : (b word : ℕ) → IsLocked z v u b word → IsTurnedAway z u w b → IsTurnedAway z v w b
+  locked_turned_away b word s = ahead_turned_away b (locked_ahead z v u b word s)
+
+  -- ---- What was turned away, and tried again
+
+  pub again_turned_away : (b : ℕ) → IsTurnedAway z v u b → IsTurnedAway z u w b → IsTurnedAway z v w b
+  again_turned_away b s = ahead_turned_away b (turned_away_ahead z v u b s)
+
+  pub again_answered : (b : ℕ) (e : Event) → bucket_of z e.key ≡ b → IsTurnedAway z v u b → IsAnswered z u w e → IsAnswered z v w e
+  again_answered b e home s = ahead_answered b e home (turned_away_ahead z v u b s)
+
+  pub again_updated : (b : ℕ) (key : List ℕ) (decision : Option ℕ → Change) (reply : Reply) → bucket_of z key ≡ b → IsTurnedAway z v u b
+      → IsUpdated z u w key decision reply → IsUpdated z v w key decision reply
+  again_updated b key decision reply home s = ahead_updated b key decision reply home (turned_away_ahead z v u b s)
+
+-- before the first try
+pub not_yet_tried : (z : Sizes) (v : View) (b : ℕ) → v.holds ≡ nothing_held → IsTurnedAway z v v b
+not_yet_tried z v b free = record {
+  history = known_at v.known b;
+  begins = prefix_refl (known_at v.known b);
+  locks = locks_of v.records;
+  is = λ i. record v {
+    records = sym (with_locks-locks_of v.records) i;
+    known = record v.known { writes = sym (set-get_or v.known.writes b []) i };
+    holds = free i;
+  };
+}
+
+-- ---- The word of a bucket and its lock
+
+-- a word tells of its lock bit
+abbrev pub TellsLocked : ℕ → Bool → Type 0
+TellsLocked word locked = (x : Bucket) → Fits x → word ≡ packed x → locked ≡ x.locked
+
+module _ (z : Sizes) (v u : View) (b word : ℕ) where
+  pub open_unlocked : SeesOpen z v b word u → (x : Bucket) × Fits x × (word ≡ packed x) × (x.locked ≡ false)
+  open_unlocked s = (word_of s.extent false (length s.history), s.found.fits, s.found.stood, refl)
+
+  pub open_lone : SeesOpen z v b word u → v.lone ≡ true → u.lone ≡ true
+  open_lone s lone = ap (λ (x : View). x.lone) s.is ∙ lone
+
+  pub open_noted : (s : SeesOpen z v b word u) → u.notes.open_bucket ≡ Some (open_on b (length s.history) s.extent s.block)
+  open_noted s = ap (λ (x : View). x.notes.open_bucket) s.is
+
+  pub sees_open : (locked : Bool) → TellsLocked word locked → locked ≡ false → SeesOpen z v b word u ⊎ SeesLocked v word u
+      → SeesOpen z v b word u
+  sees_open locked tells is s = elim s [
+    | inl found ↦ found
+    | inr held ↦ absurd (true≢false (sym (tells (word_of held.extent true held.version) held.fits held.stood) ∙ is))
+  ]
+
+  pub open_not_locked : (locked : Bool) → TellsLocked word locked → locked ≡ true → SeesOpen z v b word u → ⊥
+  open_not_locked locked tells is s = true≢false (sym is ∙ tells (word_of s.extent false (length s.history)) s.found.fits s.found.stood)
+
+  pub sees_locked : (locked : Bool) → TellsLocked word locked → locked ≡ true → SeesOpen z v b word u ⊎ SeesLocked v word u
+      → SeesLocked v word u
+  sees_locked locked tells is s = elim s [
+    | inl found ↦ absurd (open_not_locked locked tells is found)
+    | inr held ↦ held
+  ]
+
+  pub locked_turns_away : v.holds ≡ nothing_held → SeesLocked v word u → IsTurnedAway z v u b
+  locked_turns_away free s = let notes = ap (λ (x : View). x.notes) s.is in record {
+    history = known_at v.known b;
+    begins = prefix_refl (known_at v.known b);
+    locks = locks_of v.records;
+    is = s.is ∙ (λ i. record v {
+      records = sym (with_locks-locks_of v.records) i;
+      known = record v.known { writes = sym (set-get_or v.known.writes b []) i };
+      holds = free i;
+      notes = sym notes i;
+    });
+  }
+
+module _ (z : Sizes) (v u w : View) (b word : ℕ) (inside : b < buckets z) (free : v.holds ≡ nothing_held) (s : SeesOpen z v b word u) where
+  pub open_turns_away : w ≡ unnoted u → IsTurnedAway z v w b
+  open_turns_away is = let notes = ap (λ (x : View). x.notes) is in record {
+    history = s.history;
+    begins = s.found.begins;
+    locks = locks_of v.records;
+    is = is ∙ (ap unnoted s.is ∙ (λ i. record (learned v b s.history) {
+      records = sym (with_locks-locks_of v.records) i;
+      holds = free i;
+      notes = sym notes i;
+    }));
+  }
+
+  module _ (t : TakesLock z u b word w) where
+    abbrev taken : LockedBucket
+    taken = locked_on b (length t.history) t.extent t.block
+
+    known_is : known_at w.known b ≡ t.history
+    known_is = ap (λ (x : View). known_at x.known b) t.is ∙ get_or-set_same u.known.writes b t.history [] t.found.listed
+
+    opening_is : opening_at w.known b ≡ opening_at u.known b
+    opening_is = ap (λ (x : View). opening_at x.known b) t.is
+
+    map_is : map_now w b ≡ after (opening_at u.known b) t.history (length t.history)
+    map_is = λ i. after (opening_is i) (known_is i) (length (known_is i))
+
+    nothing_before : u.holds ≡ nothing_held
+    nothing_before = ap (λ (x : View). x.holds) s.is ∙ free
+
+    has_lock : HasLock z w b word taken
+    has_lock = record {
+      inside = inside;
+      held = ap (λ (x : View). x.holds) t.is ∙ ap (λ (h : Holdings). record h { bucket = Some taken }) nothing_before;
+      bucket = refl;
+      version = ap length (sym known_is);
+      fits = t.found.fits;
+      stood = t.found.stood;
+      clean = refl;
+      near = t.found.near;
+      size = t.found.size;
+      pairs = subst (IsBlockOf z t.extent t.block) (sym map_is) t.found.pairs;
+      writes = subst (IsWriteList z b (opening_at w.known b)) (sym known_is)
+          (subst (λ (m : Pairs). IsWriteList z b m t.history) (sym opening_is) t.found.writes);
+    }
+
+    pub takes_after : IsLocked z v w b word
+    takes_after = record {
+      history = t.history;
+      begins = prefix_through v.known.writes b s.history t.history s.found.begins
+          (subst (λ (x : View). IsPrefix (known_at x.known b) t.history) s.is t.found.begins);
+      lock = taken;
+      is = t.is ∙ (ap (λ (x : View). locking (learned x b t.history) taken) s.is
+          ∙ (λ i. locking (record v { known = record v.known { writes = set-set v.known.writes b s.history t.history i } }) taken));
+      has = has_lock;
+    }

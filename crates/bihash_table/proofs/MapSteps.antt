@@ -1,0 +1,41 @@
+-- What a step of a bounded map leaves, and the map behind one write more.
+use Rattle.std.proofs.Common.{◌≡◌, ◌∙◌, ◌+◌, ℕ, zero, suc, true, false, List, [], ◌∷◌, ap, arith, sym, inl, inr}
+use mathlib.Core.Option.{some, some-ne-none, some-injective}
+use lib.ListN.{get_elem?}
+use Rattle.bihash_words.specs.Maps.{Answers, Bounds, Crowded, Entering, Event, Exhausted, Idle, Pairs, Present, Row, Step, changed}
+use Rattle.bihash_steps.specs.Histories.{after, is_changed}
+use Rattle.bihash_steps.specs.declared.view.Write.{Write}
+
+changed_at : (r : Row) (b : Bounds) (m n : Pairs) (e : Event) → Answers r b m e n → is_changed e.reply ≡ true
+    → n ≡ changed m e.key e.change
+changed_at Idle b m n e h is = absurd (let clash = sym is ∙ ap is_changed h.0 in let f : ⊥ = cc in f)
+changed_at Exhausted b m n e h is = absurd (let clash = sym is ∙ ap is_changed h.0 in let f : ⊥ = cc in f)
+changed_at Crowded b m n e h is = absurd (let clash = sym is ∙ ap is_changed h.0 in let f : ⊥ = cc in f)
+changed_at Entering b m n e (inl h) is = h.1
+changed_at Entering b m n e (inr h) is = absurd (let clash = sym is ∙ ap is_changed h.0.2 in let f : ⊥ = cc in f)
+changed_at Present b m n e h is = h.1
+
+left_at : (r : Row) (b : Bounds) (m n : Pairs) (e : Event) → Answers r b m e n → is_changed e.reply ≡ false → n ≡ m
+left_at Idle b m n e h is = h.1
+left_at Exhausted b m n e h is = h.1
+left_at Crowded b m n e h is = h.1
+left_at Entering b m n e (inl h) is = absurd (let clash = sym is ∙ ap is_changed h.0 in let f : ⊥ = cc in f)
+left_at Entering b m n e (inr h) is = h.1
+left_at Present b m n e h is = absurd (let clash = sym is ∙ ap is_changed h.0 in let f : ⊥ = cc in f)
+
+-- a call that is answered Changed leaves the map with its change
+pub step_changes : (b : Bounds) (m n : Pairs) (w : ℕ) (e : Event) → Step b m w e n → is_changed e.reply ≡ true
+    → n ≡ changed m e.key e.change
+step_changes b m n w e step = changed_at _ b m n e step.answers
+
+-- any other call leaves the map
+pub step_leaves : (b : Bounds) (m n : Pairs) (w : ℕ) (e : Event) → Step b m w e n → is_changed e.reply ≡ false → n ≡ m
+step_leaves b m n w e step = left_at _ b m n e step.answers
+
+-- the map behind the write at place n
+pub after_next : (opening : Pairs) (H : List Write) (n : ℕ) (w : Write) → get_elem? H n ≡ some w
+    → after opening H (n + 1) ≡ changed (after opening H n) w.key w.change
+after_next opening [] n w at = absurd (some-ne-none w (sym at))
+after_next opening (x ∷ xs) zero w at = ap (λ (y : Write). changed opening y.key y.change) (some-injective x w at)
+after_next opening (x ∷ xs) (suc n) w at = let next : suc n + 1 ≡ suc (n + 1) = omega arith in
+    ap (after opening (x ∷ xs)) next ∙ after_next (changed opening x.key x.change) xs n w at

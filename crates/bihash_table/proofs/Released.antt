@@ -1,0 +1,79 @@
+-- What a call leaves of its caller where it opened the lock that it had: it was answered.
+use Rattle.std.proofs.Common.{◌≡◌, ◌∙◌, ◌+◌, ℕ, List, [], ◌∷◌, ◌++◌, length, set, None, ap, arith, refl, sym, subst, append-nil, length-append}
+use Rattle.std.proofs.lemmas.List.{set-get_or}
+use Rattle.bihash_words.specs.Maps.{Event}
+use Rattle.bihash_words.specs.Sizes.{Sizes}
+use Rattle.bihash_steps.specs.Histories.{IsPrefix, bucket_of, write_of}
+use Rattle.bihash_steps.specs.Callers.{known_at}
+use Rattle.bihash_steps.specs.Views.{nothing_held}
+use Rattle.bihash_steps.specs.BucketSteps.{acting, answered, call_of, learned, push_call, written}
+use Rattle.bihash_steps.specs.declared.view.Write.{Write}
+use Rattle.bihash_steps.specs.declared.view.Record.{Record}
+use Rattle.bihash_steps.specs.declared.view.Holdings.{Holdings}
+use Rattle.bihash_steps.specs.declared.view.LockedBucket.{LockedBucket}
+use Rattle.bihash_steps.specs.declared.view.View.{View}
+use Rattle.bihash_table.specs.Answers.{IsAnswered, entry_of, with_locks}
+use Rattle.bihash_table.specs.Locked.{HasLock}
+
+-- how many locks the acting record counts
+abbrev pub locks_of : List Record → ℕ
+locks_of [] = 0
+locks_of (r ∷ rs) = r.locks
+
+pub with_locks-locks_of : (records : List Record) → with_locks (locks_of records) records ≡ records
+with_locks-locks_of [] = refl
+with_locks-locks_of (r ∷ rs) = refl
+
+-- the entry of a call behind the writes that are known, where no view is named
+module _ (z : Sizes) (v w : View) (b word : ℕ) (l : LockedBucket) (e : Event) (has : HasLock z v b word l)
+    (home : bucket_of z e.key ≡ b) where
+  -- the view behind an answer at bucket b, as it stands in the claim
+  abbrev Left : ℕ → ℕ → List Write → List Record → View
+  Left b stamp history records = record (learned v b history) {
+    records = push_call (record (entry_of z stamp e) { bucket = b }) records;
+    holds = nothing_held;
+    notes = w.notes;
+  }
+
+  is_left : (history : List Write) → IsPrefix (known_at v.known b) history
+      → w ≡ Left b (length history) history v.records → IsAnswered z v w e
+  is_left history begins is = record {
+    history = history;
+    begins = subst (λ (c : ℕ). IsPrefix (known_at v.known c) history) (sym home) begins;
+    locks = locks_of v.records;
+    is = is ∙ (ap (λ (rs : List Record). Left b (length history) history rs)
+        (sym (with_locks-locks_of v.records))
+        ∙ ap (λ (c : ℕ). Left c (length history) history (with_locks (locks_of v.records) v.records))
+        (sym home));
+  }
+
+  -- the call was no write: nothing more is known
+  pub answered_from_lock : w ≡ answered v (call_of v b 0 e.key e.found e.change e.reply)
+      → IsAnswered z v w e
+  answered_from_lock is =
+      let H : List Write = known_at v.known b in
+      let kept : v.known.writes ≡ set v.known.writes b H = sym (set-get_or v.known.writes b []) in
+      let stamp : length H + 0 ≡ length H = omega arith in
+      let At : ℕ → List (List Write) → Holdings → View = λ n writes holds. record v {
+        records = push_call (record (entry_of z n e) { bucket = b }) v.records;
+        known = record v.known { writes = writes };
+        holds = record holds { bucket = None };
+        notes = w.notes;
+      } in
+      let notes : w ≡ record (answered v (call_of v b 0 e.key e.found e.change e.reply)) { notes = w.notes } =
+      is ∙ ap (λ n. record (answered v (call_of v b 0 e.key e.found e.change e.reply)) { notes = n })
+      (sym (ap (λ (u : View). u.notes) is)) in
+      is_left H (record { rest = []; whole = sym (append-nil H) })
+      (notes ∙ (ap (λ (n : ℕ). At n v.known.writes v.holds) stamp
+      ∙ (ap (λ (ws : List (List Write)). At (length H) ws v.holds) kept
+      ∙ ap (λ (h : Holdings). At (length H) (set v.known.writes b H) h) has.held)))
+
+  -- the call was a write: it is known, and stands last
+  pub written_from_lock : w ≡ record (written v (call_of v b 1 e.key e.found e.change e.reply)) { holds = nothing_held; notes = w.notes }
+      → IsAnswered z v w e
+  written_from_lock is =
+      let H : List Write = known_at v.known b in
+      let x : Write = write_of (acting v.records) (call_of v b 1 e.key e.found e.change e.reply) in
+      let stamp : length H + 1 ≡ length (H ++ x ∷ []) = sym (length-append H (x ∷ [])) in
+      is_left (H ++ x ∷ []) (record { rest = x ∷ []; whole = refl })
+      (is ∙ ap (λ (n : ℕ). Left b n (H ++ x ∷ []) v.records) stamp)

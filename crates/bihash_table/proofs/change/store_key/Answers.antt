@@ -1,0 +1,43 @@
+use Rattle.std.proofs.Common.{◌+◌, ◌*◌, ◌<◌, ℕ, arith, refl, subst}
+use Rattle.std.specs.Prelude.{slice_index}
+use Rattle.bihash_words.specs.Sizes.{sizes_of}
+use Rattle.bihash_steps.specs.Words.{place_words}
+use Rattle.bihash_steps.specs.Blocks.{places}
+use Rattle.bihash_steps.specs.declared.view.LockedBucket.{LockedBucket}
+use Rattle.bihash_table.proofs.PlaceReads.{same_lock}
+use Rattle.bihash_table.proofs.SameCallers.{same_through}
+use Rattle.bihash_table.proofs.Storing.{held_now, holds_stored, stored_more, stored_none, view_stored}
+use Rattle.bihash_table.proofs.change.store_key.Goals as goal
+
+pub store_word-requires-clause-place : goal.store_word-requires-clause-place
+store_word-requires-clause-place g c =
+    let lock = c.requires.lock in let key = g.S.Shape.words_of c.args.key.now in
+    holds_stored (sizes_of g.S.Shape) c.args.caller.now.view c.args.bucket c.args.word lock.0 lock.1 c.loop-i.caller.view
+    c.args.place lock.2 key c.loop-i.i (c.loop-i.invariant.1 lock.0 lock.1)
+
+pub loop-i-init : goal.loop-i-init
+loop-i-init g c = (
+  refl,
+  λ lock has. stored_none (sizes_of g.S.Shape) c.args.caller.now.view c.args.bucket c.args.word lock has c.args.place
+      (g.S.Shape.words_of c.args.key.now),
+)
+
+pub loop-i-preserved : goal.loop-i-preserved
+loop-i-preserved g c =
+    let z = sizes_of g.S.Shape in let v = c.args.caller.now.view in let w = c.loop-i.caller.view in
+    let key = g.S.Shape.words_of c.args.key.now in let b = c.args.bucket in let word = c.args.word in let i = c.args.place in
+    let own = c.requires.lock in let mine = c.loop-i.invariant.1 own.0 own.1 in
+    let small : c.loop-i.i < g.S.Shape.WORDS =
+    let below = c.loop-i-test.true in let same = c.WORDS-i-end.ensures in omega arith in (
+      same_through c.args.caller.now c.loop-i.caller c.store_word.new.caller _ c.loop-i.invariant.0
+          (c.store_word.ensures _ (held_now z v b word own.0 own.1 w i own.2 key c.loop-i.i mine)),
+      λ lock has.
+          let inside : i < places lock.extent.page lock.extent.log2 =
+          subst (λ (l : LockedBucket). i < places l.extent.page l.extent.log2) (same_lock z v b word own.0 lock own.1 has) own.2 in
+          let h = c.loop-i.invariant.1 lock has in
+          let now : LockedBucket = record lock { now = h.now; stored = h.stored } in
+          let at : ℕ = i * place_words z + c.loop-i.i in
+          stored_more z v b word lock has w i inside key c.loop-i.i h c.store_word.new.caller.view small
+          (view_stored c.loop-i.caller c.store_word.new.caller now at at c.word.result (slice_index key c.loop-i.i) refl c.word.ensures.word
+          (c.store_word.ensures now (held_now z v b word lock has w i inside key c.loop-i.i h))),
+    )

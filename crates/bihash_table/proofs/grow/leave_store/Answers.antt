@@ -1,0 +1,22 @@
+use Rattle.std.proofs.Common.{◌≡◌, ◌∙◌, ap}
+use Rattle.bihash_steps.specs.Seats.{CallerState}
+use Rattle.bihash_table.proofs.Stores.{released}
+use Rattle.bihash_table.proofs.grow.leave_store.Goals as goal
+
+pub pool_unlock-requires-clause-own : goal.pool_unlock-requires-clause-own
+pool_unlock-requires-clause-own g c = ap (λ (s : CallerState). s.row) c.give_back_old.ensures.is ∙ c.requires.own
+
+pub pool_unlock-requires-clause-settled : goal.pool_unlock-requires-clause-settled
+pool_unlock-requires-clause-settled g c = (
+  c.give_back_old.ensures.locked,
+  ap (λ (s : CallerState). s.view.holds.store) c.give_back_old.ensures.is,
+  c.give_back_old.ensures.settled,
+)
+
+pub returns-clause-same : goal.returns-clause-same
+returns-clause-same g c =
+    (released c.args.seat.now c.give_back_old.new.seat c.pool_unlock.new.caller c.give_back_old.ensures c.pool_unlock.ensures).0
+
+pub returns-clause-left : goal.returns-clause-left
+returns-clause-left g c =
+    (released c.args.seat.now c.give_back_old.new.seat c.pool_unlock.new.caller c.give_back_old.ensures c.pool_unlock.ensures).1

@@ -1,0 +1,75 @@
+use Rattle.std.proofs.Common.{◌≡◌, ◌∙◌, ◌≤◌, ◌+◌, ℕ, false, Some, None, ap, arith, refl, subst, sym}
+use Rattle.bihash_words.specs.Sizes.{sizes_of}
+use Rattle.bihash_words.specs.declared.patch.Change.TheVariants.{Remove}
+use Rattle.bihash_words.specs.declared.patch.Reply.TheVariants.{Changed}
+use Rattle.bihash_steps.specs.BucketSteps.{call_of, map_now}
+use Rattle.bihash_steps.specs.Seats.{CallerState, with_view}
+use Rattle.bihash_steps.specs.StoreSteps.{holding}
+use Rattle.bihash_steps.specs.declared.view.Holdings.{Holdings}
+use Rattle.bihash_steps.specs.declared.view.View.{View}
+use Rattle.bihash_table.proofs.OpenPlaces.{word_tells}
+use Rattle.bihash_table.proofs.Replacing.{emptied, found_there, locked_on, may_empty, published, store_only}
+use Rattle.bihash_table.proofs.Stores.{holds_old, left_written, turned_away}
+use Rattle.bihash_table.proofs.grow.remove_last.Goals as goal
+
+pub returns-then-not-pool_lock-clause-contended : goal.returns-then-not-pool_lock-clause-contended
+returns-then-not-pool_lock-clause-contended g c = turned_away (sizes_of g.S.Shape) c.args.caller.now.view
+    c.pool_lock.new.caller.view c.release.new.caller.view c.args.bucket c.args.word c.requires.lock.0 c.requires.lock.2
+    (c.pool_lock.ensures.not c.if-not-pool_lock.true) (ap (λ (s : CallerState). s.view) c.release.ensures.view)
+
+pub publish_block-requires-clause-may : goal.publish_block-requires-clause-may
+publish_block-requires-clause-may g c =
+    let z = sizes_of g.S.Shape in
+    let v = c.args.caller.now.view in
+    let l = c.requires.lock.0 in
+    let key = g.S.Shape.words_of c.args.key.now in
+    let locks = c.pool_lock.ensures.taken c.if-not-pool_lock.false in
+    may_empty z v c.args.bucket c.args.word l key c.requires.lock.2
+    (record { long = c.requires.counted; home = c.requires.home }) c.requires.unworn (locked_on locks.store)
+    c.args.found
+    (found_there z l.extent l.now key (map_now v c.args.bucket) c.requires.lock.1 c.args.found c.requires.lock.2.pairs
+    c.requires.lock.3 c.requires.lock.4)
+    c.is_sound.ensures.some_page
+    (emptied z l.extent l.now key (map_now v c.args.bucket) c.requires.lock.1 c.requires.lock.2.pairs c.requires.lock.3
+    c.requires.lock.5)
+    c.pool_lock.new.caller.view (store_only z v c.pool_lock.new.caller.view c.args.bucket c.args.word l c.requires.lock.2 locks)
+
+pub leave_store-requires-clause-block : goal.leave_store-requires-clause-block
+leave_store-requires-clause-block g c =
+    let z = sizes_of g.S.Shape in
+    let v = c.args.caller.now.view in
+    let l = c.requires.lock.0 in
+    let key = g.S.Shape.words_of c.args.key.now in
+    let locks = c.pool_lock.ensures.taken c.if-not-pool_lock.false in
+    let n = locked_on locks.store in (
+      record n { store = record n.store { unpublished = false } },
+      l.extent,
+      l.now,
+      word_tells z v c.args.bucket c.args.word l c.requires.lock.2,
+      holds_old z v c.publish_block.new.caller.view c.args.bucket c.args.word l n None
+          (call_of v c.args.bucket 1 key (Some c.args.found) Remove (Changed (Some c.args.found)))
+          c.requires.lock.2
+          (published c.args.caller.now c.pool_lock.new.caller c.publish_block.new.caller n None c.args.bucket key
+          (Some c.args.found) Remove (c.pool_lock.ensures.same ∙ ap (with_view c.args.caller.now)
+          (store_only z v c.pool_lock.new.caller.view c.args.bucket c.args.word l c.requires.lock.2 locks))
+          c.publish_block.ensures.view),
+    )
+
+pub returns-clause-answered : goal.returns-clause-answered
+returns-clause-answered g c =
+    let z = sizes_of g.S.Shape in
+    let v = c.args.caller.now.view in
+    let l = c.requires.lock.0 in
+    let key = g.S.Shape.words_of c.args.key.now in
+    let locks = c.pool_lock.ensures.taken c.if-not-pool_lock.false in
+    let n = locked_on locks.store in (
+      refl,
+      left_written z v c.publish_block.new.caller.view c.leave_store.new.seat.view c.args.bucket c.args.word l n None
+          (record { key = key; found = Some c.args.found; change = Remove; reply = Changed (Some c.args.found) })
+          c.requires.lock.2 c.requires.home
+          (published c.args.caller.now c.pool_lock.new.caller c.publish_block.new.caller n None c.args.bucket key
+          (Some c.args.found) Remove (c.pool_lock.ensures.same ∙ ap (with_view c.args.caller.now)
+          (store_only z v c.pool_lock.new.caller.view c.args.bucket c.args.word l c.requires.lock.2 locks))
+          c.publish_block.ensures.view)
+          c.leave_store.ensures.left,
+    )

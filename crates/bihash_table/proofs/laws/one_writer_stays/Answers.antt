@@ -1,0 +1,9 @@
+-- What a reader is told of one writer.
+use Rattle.bihash_table.proofs.AnsweredCalls.{first_one_writer, stays_one_writer}
+use Rattle.bihash_table.proofs.laws.one_writer_stays.Goals as goal
+
+pub returns-clause-first : goal.returns-clause-first
+returns-clause-first c = first_one_writer
+
+pub returns-clause-stays : goal.returns-clause-stays
+returns-clause-stays c = stays_one_writer

@@ -1,0 +1,34 @@
+use Rattle.std.proofs.Common.{◌≡◌, ◌∙◌, length, arith, refl, sym, ap, subst}
+use Rattle.bihash_words.specs.Sizes.{sizes_of}
+use Rattle.bihash_steps.specs.Words.{buckets}
+use Rattle.bihash_steps.specs.Callers.{HasNumbers}
+use Rattle.bihash_steps.specs.Seats.{CallerState, with_view}
+use Rattle.bihash_steps.specs.Steps.{counted}
+use Rattle.bihash_steps.specs.declared.view.Known.{Known}
+use Rattle.bihash_steps.specs.declared.view.View.{View}
+use Rattle.bihash_steps.proofs.Numbers.{few_numbers}
+use Rattle.bihash_table.specs.PairLists.{ListsBuckets}
+use Rattle.bihash_table.proofs.PairListLemmas.{sorted_pairs}
+use Rattle.bihash_table.proofs.sessions.Sessions.close.Goals as goal
+
+pub returns-then-load_count-numbers-clause-refused : goal.returns-then-load_count-numbers-clause-refused
+returns-then-load_count-numbers-clause-refused g c =
+    let v = c.args.caller.seat.view in
+    let count = c.load_count.result in
+    let is : c.load_count.new.caller.view ≡ counted v count = ap (λ (s : CallerState). s.view) c.load_count.ensures.view in
+    let numbers = subst (λ (u : View). HasNumbers u.seen u.records) is c.load_count.ensures.lawful.numbers in
+    let few = few_numbers count v.records numbers in
+    let own = c.numbers.ensures.count ∙ ap (λ (u : View). length u.records) is in
+    let other = c.if-load_count-numbers.true in (
+      refl,
+      c.load_count.ensures.view ∙ ap (with_view c.args.caller.seat) (sym is),
+      (count, c.load_count.ensures.rises, omega arith, is),
+    )
+
+pub returns-in-Ok-clause-pairs : goal.returns-in-Ok-clause-pairs
+returns-in-Ok-clause-pairs g c =
+    let known : c.load_count.new.caller.view.known ≡ c.args.caller.seat.view.known =
+    ap (λ (s : CallerState). s.view.known) c.load_count.ensures.view in
+    sorted_pairs g.S.Shape c.args.caller.seat.view.known c.in-Ok.pairs.items c.sort.new.pairs.items
+    (subst (λ (k : Known). ListsBuckets g.S.Shape k (buckets (sizes_of g.S.Shape)) c.in-Ok.pairs.items) known c.in-Ok.ensures.pairs)
+    c.sort.ensures.same (c.sort.ensures.sorted c.is_sound.ensures.some_word)

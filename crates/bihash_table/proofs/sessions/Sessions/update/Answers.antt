@@ -1,0 +1,20 @@
+use Rattle.std.proofs.Common.{refl, ap, ◌∙◌}
+use Rattle.bihash_words.specs.Sizes.{sizes_of}
+use Rattle.bihash_steps.specs.Seats.{CallerState, with_view}
+use Rattle.bihash_table.proofs.Composed.{not_yet_tried, again_turned_away, again_updated}
+use Rattle.bihash_table.proofs.sessions.Sessions.update.Goals as goal
+
+pub loop-init : goal.loop-init
+loop-init g c = record { next = tt; finite = tt; same = refl; tried = not_yet_tried (sizes_of g.S.Shape) _ _ c.requires.free }
+
+pub returns-in-Ok-clause-answered : goal.returns-in-Ok-clause-answered
+returns-in-Ok-clause-answered g c =
+    again_updated (sizes_of g.S.Shape) _ _ _ _ _ _ _ refl c.loop.invariant.tried c.in-Ok.ensures.answered
+
+pub loop-preserved : goal.loop-preserved
+loop-preserved g c = record {
+  next = tt;
+  finite = tt;
+  same = c.try_update.ensures.same ∙ ap (λ (k : CallerState). with_view k c.try_update.new.caller.seat.view) c.loop.invariant.same;
+  tried = again_turned_away (sizes_of g.S.Shape) _ _ _ _ c.loop.invariant.tried c.in_default.ensures.contended;
+}

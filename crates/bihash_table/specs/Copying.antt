@@ -1,0 +1,88 @@
+-- What copies of a block to places and back rest on, and what taking and giving back a block leaves.
+use Rattle.std.specs.Prelude.{◌≡◌, ℕ, ◌+◌, ◌-◌, ◌^◌, ◌<◌, ◌≤◌, List, [], length, slice_index, false, Option, Some, None}
+use Rattle.bihash_words.specs.Sizes.{Sizes}
+use Rattle.bihash_steps.specs.Words.{block_words, list_words}
+use Rattle.bihash_steps.specs.PageStores.{returned_in}
+use Rattle.bihash_steps.specs.Views.{no_notes, nothing_held}
+use Rattle.bihash_steps.specs.StoreSteps.{TakesBlock, grown, holding, old_block, unlisted}
+use Rattle.bihash_steps.specs.Seats.{CallerState, with_view}
+use Rattle.bihash_steps.specs.declared.view.Extent.{Extent}
+use Rattle.bihash_steps.specs.declared.view.LockedBucket.{LockedBucket}
+use Rattle.bihash_steps.specs.declared.view.LockedStore.{LockedStore}
+use Rattle.bihash_steps.specs.declared.view.HeldBlock.{HeldBlock}
+use Rattle.bihash_steps.specs.declared.view.PageStore.{PageStore}
+use Rattle.bihash_steps.specs.declared.view.View.{View}
+
+-- the caller has locked the block of these words, which begins at this page
+pub record LocksBlock (z : Sizes) (v : View) (page : ℕ) (l : LockedBucket) : Type 0 where
+  pub held : v.holds.bucket ≡ Some l
+  pub first : l.extent.page ≡ page
+  pub near : page + 2 ^ l.extent.log2 ≤ z.pages + 1
+  pub size : length l.now ≡ block_words z page l.extent.log2
+
+-- the caller holds this block, which begins at this page, and has no note
+pub record HasBlock (z : Sizes) (v : View) (page : ℕ) (h : HeldBlock) : Type 0 where
+  pub held : v.holds.block ≡ Some h
+  pub first : h.page ≡ page
+  pub some_page : 1 ≤ page
+  pub near : page + 2 ^ h.log2 ≤ z.pages + 1
+  pub size : length h.words ≡ block_words z page h.log2
+  pub plain : v.notes ≡ no_notes
+
+-- the view with other words in the held block
+abbrev pub with_words : View → HeldBlock → List ℕ → View
+with_words v h words = holding v v.holds.store (Some (record h { words = words }))
+
+-- the caller has the allocation lock, and no block
+pub record HasStore (z : Sizes) (v : View) (n : LockedStore) : Type 0 where
+  pub held : v.holds.store ≡ Some n
+  pub block : v.holds.block ≡ None
+  pub few : n.store.used ≤ z.pages
+  pub room : (log2 : ℕ) → log2 ≤ z.max_log2 → length (returned_in n.store log2) ≤ list_words z log2
+  pub settled : n.store.unpublished ≡ false
+
+-- The last of the returned blocks of this log2 was taken, or the next pages that were never used where
+-- there is none.
+pub record TakesPages (z : Sizes) (v : View) (store : PageStore) (page log2 : ℕ) (w : View) : Type 0 where
+  pub returned : 1 ≤ length (returned_in store log2)
+      → (page ≡ slice_index (returned_in store log2) (length (returned_in store log2) - 1))
+      × TakesBlock z v (unlisted store log2) page log2 w
+  pub unused : returned_in store log2 ≡ []
+      → (page ≡ store.used + 1) × TakesBlock z v (grown store log2) page log2 w
+
+-- no block of this log2 was returned, and fewer pages than it has were never used
+pub record IsWanting (z : Sizes) (store : PageStore) (log2 left : ℕ) : Type 0 where
+  pub none : returned_in store log2 ≡ []
+  pub unused : store.used + left ≡ z.pages
+  pub few : left < 2 ^ log2
+
+-- under the allocation lock the caller holds this block, which no bucket waits for
+pub record MayGiveBack (v : View) (log2 page : ℕ) (n : LockedStore) (h : HeldBlock) : Type 0 where
+  pub store : v.holds.store ≡ Some n
+  pub block : v.holds.block ≡ Some h
+  pub same_log2 : h.log2 ≡ log2
+  pub same_page : h.page ≡ page
+  pub settled : n.store.unpublished ≡ false
+
+-- under the allocation lock the caller holds the block that a bucket had, or none where it had none
+pub record HoldsOld (v : View) (n : LockedStore) (e : Extent) (words : List ℕ) : Type 0 where
+  pub store : v.holds.store ≡ Some n
+  pub block : v.holds.block ≡ old_block e.page e.log2 words
+  pub settled : n.store.unpublished ≡ false
+
+-- the same view, which notes what it does, with the allocation lock and without a block
+abbrev pub with_store : View → LockedStore → View → View
+with_store v n w = record v {
+  holds = record { bucket = v.holds.bucket; store = Some n; block = None };
+  notes = w.notes;
+}
+
+-- behind the return of the old block the caller holds the allocation lock, and no block
+pub record GivenBack (s t : CallerState) : Type 0 where
+  pub locked : LockedStore
+  pub is : t ≡ with_view s (with_store s.view locked t.view)
+  pub settled : locked.store.unpublished ≡ false
+
+-- the caller holds neither the allocation lock nor a block any more
+pub record Released (v w : View) : Type 0 where
+  pub is : w ≡ record v { holds = record nothing_held { bucket = v.holds.bucket }; notes = w.notes }

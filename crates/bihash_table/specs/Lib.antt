@@ -1,0 +1,10 @@
+pub mod Answers
+pub mod Closing
+pub mod Copying
+pub mod Locked
+pub mod PairLists
+pub mod Places
+pub mod Runs
+pub mod Scans
+pub mod Shortage
+pub mod Stores

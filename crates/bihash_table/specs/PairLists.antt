@@ -1,0 +1,56 @@
+-- Lists of the pairs that were read so far.
+use Rattle.std.specs.Prelude.{◌≡◌, ℕ, ◌⊎◌, ◌<◌, List, Contains, Some}
+use Rattle.std.specs.FinMap.{get}
+use Rattle.std.specs.List.{IsDistinct}
+use Rattle.std.specs.Ordering.{eq_by_cmp, nat_cmp}
+use Rattle.std.specs.Cmp.Lexicographic.{slice_cmp}
+use Rattle.bihash_words.specs.Sizes.{Sizes, sizes_of}
+use Rattle.bihash_words.specs.declared.shape.Shape.{Ghosts}
+use Rattle.bihash_steps.specs.Histories.{bucket_of}
+use Rattle.bihash_steps.specs.Blocks.{key_in, value_in, HasPair}
+use Rattle.bihash_steps.specs.declared.view.Extent.{Extent}
+use Rattle.bihash_steps.specs.declared.view.Known.{Known}
+use Rattle.bihash_steps.specs.declared.view.LockedBucket.{LockedBucket}
+use Rattle.bihash_steps.specs.declared.view.View.{View}
+use Rattle.bihash_table.specs.Answers.{with_locks}
+use Rattle.bihash_table.specs.Closing.{keys_of, map_in}
+
+-- The pairs of the list are those that `has` has, and each key stands once.
+pub record ListsPairs {A K : Type 0} (g : Ghosts A K) (ps : List (K × ℕ)) (has : List ℕ → ℕ → Type 0) : Type 0 where
+  pub each : (p : K × ℕ) → Contains ps p → has (g.words_of p.0) p.1
+  pub all : (key : List ℕ) (value : ℕ) → has key value
+      → (p : K × ℕ) × Contains ps p × (g.words_of p.0 ≡ key) × (p.1 ≡ value)
+  pub once : IsDistinct (eq_by_cmp (slice_cmp nat_cmp)) (keys_of g ps)
+
+-- the pairs of the buckets below n
+abbrev pub InBucketsBelow : Sizes → Known → ℕ → List ℕ → ℕ → Type 0
+InBucketsBelow z known n key value = (bucket_of z key < n) × (get (map_in known (bucket_of z key)) key ≡ Some value)
+
+-- The pairs of the list are those of the buckets below n, whose keys are keys of their buckets.
+pub record ListsBuckets {A K : Type 0} (g : Ghosts A K) (known : Known) (n : ℕ) (ps : List (K × ℕ)) : Type 0 where
+  pub pairs : ListsPairs g ps (InBucketsBelow (sizes_of g) known n)
+  pub home : (b : ℕ) (key : List ℕ) (value : ℕ) → b < n → get (map_in known b) key ≡ Some value
+      → bucket_of (sizes_of g) key ≡ b
+
+-- the pairs of the places of a block below n
+pub record InPlacesBelow (z : Sizes) (e : Extent) (block : List ℕ) (n : ℕ) (key : List ℕ) (value : ℕ) : Type 0 where
+  pub place : ℕ
+  pub below : place < n
+  pub pair : HasPair z e block place
+  pub stands : key_in z block place ≡ key
+  pub has : value_in z block place ≡ value
+
+-- those of the buckets below b, and those of the places below n of the block of b
+abbrev pub InPart : Sizes → Known → ℕ → LockedBucket → ℕ → List ℕ → ℕ → Type 0
+InPart z known b l n key value = InBucketsBelow z known b key value ⊎ InPlacesBelow z l.extent l.now n key value
+
+-- the pair stands at this place of a block
+pub record IsPairAt {A K : Type 0} (g : Ghosts A K) (z : Sizes) (e : Extent) (block : List ℕ) (place : ℕ) (p : K × ℕ) : Type 0 where
+  pub pair : HasPair z e block place
+  pub key : g.words_of p.0 ≡ key_in z block place
+  pub value : p.1 ≡ value_in z block place
+
+-- locks were taken and opened, and nothing changed but what was noted
+pub record TookLocks (v w : View) : Type 0 where
+  pub locks : ℕ
+  pub is : w ≡ record v { records = with_locks locks v.records; notes = w.notes }

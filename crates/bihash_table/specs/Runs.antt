@@ -1,0 +1,76 @@
+-- What the calls of lawful callers say of the map of a bucket.
+use Rattle.std.specs.Prelude.{◌≡◌, ◌⊎◌, ℕ, ◌+◌, ◌≤◌, ◌==◌, if◌then◌else◌, List, [], ◌∷◌, length}
+use Rattle.std.specs.List.{filter}
+use Rattle.std.specs.FinMap.{get}
+use lib.ListN.{get_elem?}
+use mathlib.Core.Option.{some}
+use Rattle.bihash_words.specs.Maps.{Pairs, Event, Step, changed}
+use Rattle.bihash_words.specs.Sizes.{Sizes}
+use Rattle.bihash_steps.specs.Histories.{IsLegal, IsPrefix, after, bounds_of, bucket_of, event_of, is_changed}
+use Rattle.bihash_steps.specs.Callers.{IsLawfulCaller, known_at, opening_at}
+use Rattle.bihash_steps.specs.declared.view.Write.{Write}
+use Rattle.bihash_steps.specs.declared.view.Call.{Call}
+use Rattle.bihash_steps.specs.declared.view.Record.{Record}
+use Rattle.bihash_steps.specs.declared.view.Known.{Known}
+use Rattle.bihash_steps.specs.declared.view.View.{View}
+use Rattle.bihash_table.specs.Answers.{IsAnswered}
+
+-- ---- One caller
+
+-- the calls on bucket b, in their order
+abbrev pub calls_on : ℕ → List Call → List Call
+calls_on b calls = filter (λ c. c.bucket == b) calls
+
+-- how many writes there are behind a call that came behind n writes
+abbrev pub writes_behind : ℕ → Call → ℕ
+writes_behind n c = if is_changed c.reply then n + 1 else n
+
+-- The calls are a run of one bounded map: each is a step of the map that the one before it left. They lead
+-- from the map m behind n writes to the map `last` behind `writes`.
+abbrev pub IsRun : Sizes → Pairs → ℕ → List Call → Pairs → ℕ → Type 0
+IsRun z m n [] last writes = (m ≡ last) × (n ≡ writes)
+IsRun z m n (c ∷ cs) last writes = (m' : Pairs) × Step (bounds_of z) m n (event_of c) m'
+    × IsRun z m' (writes_behind n c) cs last writes
+
+-- each known write of bucket b was made under this number
+abbrev pub IsOneWriter : Known → ℕ → ℕ → Type 0
+IsOneWriter known b number = (n : ℕ) (w : Write) → get_elem? (known_at known b) n ≡ some w → w.by ≡ number
+
+-- ---- Two callers
+
+-- each call of these records on bucket b is legal on this history
+abbrev pub AreLegal : Sizes → ℕ → Pairs → List Write → List Record → Type 0
+AreLegal z b opening history records = (i k : ℕ) (r : Record) (c : Call) → get_elem? records i ≡ some r
+    → get_elem? r.calls k ≡ some c → c.bucket ≡ b → IsLegal z opening history r.number c
+
+-- One history of bucket b for both callers: the longer of what the two know. It continues what either
+-- knows, and each call of either is legal on it.
+pub record IsCommonHistory (z : Sizes) (b : ℕ) (v w : View) (history : List Write) : Type 0 where
+  pub known : (history ≡ known_at v.known b) ⊎ (history ≡ known_at w.known b)
+  pub continues : IsPrefix (known_at v.known b) history
+  pub other_continues : IsPrefix (known_at w.known b) history
+  pub opening : opening_at v.known b ≡ opening_at w.known b
+  pub legal : AreLegal z b (opening_at v.known b) history v.records
+  pub other_legal : AreLegal z b (opening_at v.known b) history w.records
+
+-- ---- One call
+
+-- a call of a key of bucket b was answered to a caller that has a number, and is lawful then
+pub record IsLawfulAnswer (z : Sizes) (b : ℕ) (v w : View) (e : Event) : Type 0 where
+  pub home : bucket_of z e.key ≡ b
+  pub answered : IsAnswered z v w e
+  pub acts : 1 ≤ length v.records
+  pub lawful : IsLawfulCaller z w
+
+-- The event is the last write of this history, made under this number: it found what the map before it
+-- held, and left that map with its change.
+pub record IsLastWrite (opening : Pairs) (history : List Write) (number : ℕ) (e : Event) : Type 0 where
+  pub before : ℕ
+  pub last : length history ≡ before + 1
+  pub stands : get_elem? history before ≡ some (record { by = number; key = e.key; change = e.change })
+  pub found : e.found ≡ get (after opening history before) e.key
+  pub leaves : after opening history (length history) ≡ changed (after opening history before) e.key e.change
+
+-- no write of bucket b was learned but the one that the call made
+abbrev pub LearnsOnlyOwn : ℕ → View → View → Event → Type 0
+LearnsOnlyOwn b v w e = length (known_at w.known b) ≤ length (known_at v.known b) + (if is_changed e.reply then 1 else 0)

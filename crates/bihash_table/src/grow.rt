@@ -1,0 +1,259 @@
+//! Changes that give a bucket another block, or none.
+ghost use Rattle.std.specs.Prelude.{◌≡◌, ◌≢◌, ◌<◌, ◌≤◌, ◌*◌, ◌^◌, true, ℕ, List, length, None, Some, IfOk, IfErr, is_ok};
+ghost use Rattle.std.specs.FinMap.{get, insert, len};
+ghost use Rattle.bihash_words.specs.Maps.{most_pairs};
+ghost use Rattle.bihash_words.specs.Patches.{free_mark};
+ghost use Rattle.bihash_words.specs.Sizes.{IsSound, sizes_of};
+ghost use Rattle.bihash_words.specs.declared.patch.Change.TheVariants.{Set, Remove};
+ghost use Rattle.bihash_words.specs.declared.patch.Reply.TheVariants.{Changed, NoPages};
+ghost use Rattle.bihash_steps.specs.Histories.{bounds_of, bucket_of};
+ghost use Rattle.bihash_steps.specs.Blocks.{HasPair, IsBlockOf, places, value_in};
+ghost use Rattle.bihash_steps.specs.Callers.{IsLawfulCaller, known_at};
+ghost use Rattle.bihash_steps.specs.BucketSteps.{map_now};
+ghost use Rattle.bihash_steps.specs.declared.view.Extent.{Extent};
+ghost use Rattle.bihash_steps.specs.declared.view.LockedBucket.{LockedBucket};
+ghost use Rattle.bihash_steps.specs.declared.view.LockedStore.{LockedStore};
+ghost use Rattle.bihash_steps.specs.declared.view.PageStore.{PageStore};
+ghost use Rattle.bihash_steps.specs.Seats.{with_view};
+ghost use Rattle.bihash_table.specs.Answers.{IsAnswered, IsTurnedAway};
+ghost use Rattle.bihash_table.specs.Copying.{GivenBack, HoldsOld, IsWanting, Released};
+ghost use Rattle.bihash_table.specs.Locked.{HasLock};
+ghost use Rattle.bihash_table.specs.Places.{ArePlaces, HasPairOf, IsCrowdedFor};
+ghost use Rattle.bihash_table.specs.Scans.{IsWordOf};
+ghost use Rattle.bihash_table.specs.Shortage.{IsShortage};
+
+use crate::block::{read_block, write_block};
+use crate::contended::Contended;
+use crate::pages::{give_back, take_block};
+use bihash_plan::{Plan, lay, plan};
+use bihash_steps::view::Extent;
+use bihash_steps::{Caller, CallerSeat, Row};
+use bihash_words::{BucketWord, Change, Reply, Shape};
+
+/// Enters a new pair that finds no place in the locked block: the block grows, or the call is refused.
+pub(crate) fn enter_larger<S: Shape>(
+    row: &Row<S>,
+    caller: &mut Caller<S>,
+    bucket: usize,
+    word: BucketWord,
+    key: &S::Key,
+    value: u64,
+) -> Result<Reply, Contended>
+    requires own { caller.old.seat.row ≡ row.now }
+    requires lock { (l : LockedBucket) × HasLock (sizes_of S.Shape) caller.old.seat.view bucket word l
+        × IsCrowdedFor (sizes_of S.Shape) l.extent l.now (S.words_of key.now) }
+    requires home { bucket_of (sizes_of S.Shape) (S.words_of key.now) ≡ bucket }
+    requires counted { length (S.words_of key.now) ≡ S.WORDS }
+    requires unworn { length (known_at caller.old.seat.view.known bucket) < S.LIMIT }
+    requires new { get (map_now caller.old.seat.view bucket) (S.words_of key.now) ≡ None }
+    requires storable { value ≢ free_mark }
+    ensures same { caller.new.seat ≡ with_view caller.old.seat caller.new.seat.view }
+    ensures answered { IfOk result (λ reply. IsAnswered (sizes_of S.Shape) caller.old.seat.view caller.new.seat.view
+        (record { key = S.words_of key.now; found = None; change = Set value; reply = reply })) }
+    ensures no_pages { IfOk result (λ reply. (log2 left : ℕ) → reply ≡ NoPages log2 left
+        → IsShortage ⟦<S as Shape>⟧ (map_now caller.new.seat.view bucket) key.now log2 left) }
+    ensures contended { IfErr result (λ _. IsTurnedAway (sizes_of S.Shape) caller.old.seat.view caller.new.seat.view bucket) }
+    ensures lone { caller.old.seat.view.lone ≡ true → is_ok result ≡ true }
+    ensures lawful { IsLawfulCaller (sizes_of S.Shape) caller.new.seat.view }
+{
+    let scratch = &mut caller.scratch;
+    enter_as_planned(
+        row,
+        &mut caller.seat,
+        bucket,
+        word,
+        key,
+        value,
+        &mut scratch.old_places,
+        &mut scratch.new_places,
+    )
+}
+
+/// The same, with room for all pairs of a bucket twice: as they stand, and as they will stand.
+fn enter_as_planned<S: Shape>(
+    row: &Row<S>,
+    seat: &mut CallerSeat<S>,
+    bucket: usize,
+    word: BucketWord,
+    key: &S::Key,
+    value: u64,
+    old: &mut [(S::Key, u64)],
+    new: &mut [(S::Key, u64)],
+) -> Result<Reply, Contended>
+    requires own { seat.old.row ≡ row.now }
+    requires lock { (l : LockedBucket) × HasLock (sizes_of S.Shape) seat.old.view bucket word l
+        × IsCrowdedFor (sizes_of S.Shape) l.extent l.now (S.words_of key.now) }
+    requires home { bucket_of (sizes_of S.Shape) (S.words_of key.now) ≡ bucket }
+    requires counted { length (S.words_of key.now) ≡ S.WORDS }
+    requires unworn { length (known_at seat.old.view.known bucket) < S.LIMIT }
+    requires new { get (map_now seat.old.view bucket) (S.words_of key.now) ≡ None }
+    requires storable { value ≢ free_mark }
+    requires old_room { length old.old ≡ 4 * 2 ^ S.MAX_LOG2 }
+    requires new_room { length new.old ≡ 4 * 2 ^ S.MAX_LOG2 }
+    ensures same { seat.new ≡ with_view seat.old seat.new.view }
+    ensures answered { IfOk result (λ reply. IsAnswered (sizes_of S.Shape) seat.old.view seat.new.view
+        (record { key = S.words_of key.now; found = None; change = Set value; reply = reply })) }
+    ensures no_pages { IfOk result (λ reply. (log2 left : ℕ) → reply ≡ NoPages log2 left
+        → IsShortage ⟦<S as Shape>⟧ (map_now seat.new.view bucket) key.now log2 left) }
+    ensures contended { IfErr result (λ _. IsTurnedAway (sizes_of S.Shape) seat.old.view seat.new.view bucket) }
+    ensures lone { seat.old.view.lone ≡ true → is_ok result ≡ true }
+    ensures lawful { IsLawfulCaller (sizes_of S.Shape) seat.new.view }
+{
+    row.is_sound();
+    let old = &mut old[..place_count::<S>(word)];
+    read_block(row, seat, word.page(), old);
+    let Plan::Grow { log2, linear } = plan::<S>(old, word.log2(), word.linear(), key) else {
+        let full = Reply::Full;
+        row.cancel(seat, bucket, word, key, None, Change::Set(value), full);
+        return Ok(full);
+    };
+    let new = &mut new[..places_of(log2)];
+    lay::<S>(old, key, value, log2, linear, new);
+    enter(row, seat, bucket, word, key, value, log2, linear, new)
+}
+
+/// How many places the block of a bucket has whose word is this.
+fn place_count<S: Shape>(word: BucketWord) -> usize
+    requires shape { IsSound (sizes_of S.Shape) }
+    requires word { (e : Extent) × IsWordOf (sizes_of S.Shape) word e }
+    ensures count { (e : Extent) → IsWordOf (sizes_of S.Shape) word e → result ≡ places e.page e.log2 }
+    ensures few { result ≤ 4 * 2 ^ S.MAX_LOG2 }
+{
+    if word.page() == 0 {
+        return 0;
+    }
+    places_of(word.log2())
+}
+
+/// How many places a block of `2^log2` pages has.
+fn places_of(log2: u64) -> usize
+    requires { log2 ≤ 24 }
+    ensures { result ≡ 4 * 2 ^ log2 }
+{
+    4usize << log2
+}
+
+/// Gives the bucket a block of `2^log2` pages, in which its pairs and the new one are laid out.
+fn enter<S: Shape>(
+    row: &Row<S>,
+    seat: &mut CallerSeat<S>,
+    bucket: usize,
+    word: BucketWord,
+    key: &S::Key,
+    value: u64,
+    log2: u64,
+    linear: bool,
+    block: &[(S::Key, u64)],
+) -> Result<Reply, Contended>
+    requires own { seat.old.row ≡ row.now }
+    requires shape { IsSound (sizes_of S.Shape) }
+    requires lock { (l : LockedBucket) × HasLock (sizes_of S.Shape) seat.old.view bucket word l }
+    requires home { bucket_of (sizes_of S.Shape) (S.words_of key.now) ≡ bucket }
+    requires counted { length (S.words_of key.now) ≡ S.WORDS }
+    requires unworn { length (known_at seat.old.view.known bucket) < S.LIMIT }
+    requires new { get (map_now seat.old.view bucket) (S.words_of key.now) ≡ None }
+    requires storable { value ≢ free_mark }
+    requires room { len (map_now seat.old.view bucket) < most_pairs (bounds_of (sizes_of S.Shape)) }
+    requires small { log2 ≤ S.MAX_LOG2 }
+    requires sized { length block.now ≡ 4 * 2 ^ log2 }
+    requires laid { (page : ℕ) (words : List ℕ) → 1 ≤ page → ArePlaces ⟦<S as Shape>⟧ block.now words
+        → IsBlockOf (sizes_of S.Shape) (record { page = page; log2 = log2; linear = linear }) words
+        (insert (map_now seat.old.view bucket) (S.words_of key.now) value) }
+    ensures same { seat.new ≡ with_view seat.old seat.new.view }
+    ensures answered { IfOk result (λ reply. IsAnswered (sizes_of S.Shape) seat.old.view seat.new.view
+        (record { key = S.words_of key.now; found = None; change = Set value; reply = reply })) }
+    ensures no_pages { IfOk result (λ reply. (wanted left : ℕ) → reply ≡ NoPages wanted left → (wanted ≡ log2)
+        × (map_now seat.new.view bucket ≡ map_now seat.old.view bucket)
+        × ((store : PageStore) × IsWanting (sizes_of S.Shape) store log2 left)) }
+    ensures contended { IfErr result (λ _. IsTurnedAway (sizes_of S.Shape) seat.old.view seat.new.view bucket) }
+    ensures lone { seat.old.view.lone ≡ true → is_ok result ≡ true }
+    ensures lawful { IsLawfulCaller (sizes_of S.Shape) seat.new.view }
+{
+    if !row.pool_lock(seat) {
+        row.release(seat, bucket, word);
+        return Err(Contended);
+    }
+    match take_block(row, seat, log2) {
+        Ok(page) => {
+            write_block(row, seat, page, block);
+            let larger = Extent { page, log2, linear };
+            row.publish_block(seat, bucket, word, larger, key, None, Change::Set(value));
+            leave_store(row, seat, word);
+            Ok(Reply::Changed(None))
+        }
+        Err(left) => {
+            row.pool_unlock(seat);
+            let reply = Reply::NoPages { log2, left };
+            row.cancel(seat, bucket, word, key, None, Change::Set(value), reply);
+            Ok(reply)
+        }
+    }
+}
+
+/// Gives back the block that the bucket of this word had, if any, and opens the allocation lock.
+fn leave_store<S: Shape>(row: &Row<S>, seat: &mut CallerSeat<S>, word: BucketWord)
+    requires own { seat.old.row ≡ row.now }
+    requires shape { IsSound (sizes_of S.Shape) }
+    requires block { (n : LockedStore) × (e : Extent) × (words : List ℕ) × IsWordOf (sizes_of S.Shape) word e
+        × HoldsOld seat.old.view n e words }
+    ensures same { seat.new ≡ with_view seat.old seat.new.view }
+    ensures left { Released seat.old.view seat.new.view }
+{
+    give_back_old(row, seat, word);
+    row.pool_unlock(seat);
+}
+
+/// Gives back the block that the bucket of this word had, if any.
+fn give_back_old<S: Shape>(row: &Row<S>, seat: &mut CallerSeat<S>, word: BucketWord)
+    requires own { seat.old.row ≡ row.now }
+    requires shape { IsSound (sizes_of S.Shape) }
+    requires block { (n : LockedStore) × (e : Extent) × (words : List ℕ) × IsWordOf (sizes_of S.Shape) word e
+        × HoldsOld seat.old.view n e words }
+    ensures { GivenBack seat.old seat.new }
+{
+    let page = word.page();
+    if page == 0 {
+        return;
+    }
+    give_back(row, seat, word.log2(), page);
+}
+
+/// Removes the last pair of a bucket, and gives its block back.
+pub(crate) fn remove_last<S: Shape>(
+    row: &Row<S>,
+    caller: &mut CallerSeat<S>,
+    bucket: usize,
+    word: BucketWord,
+    key: &S::Key,
+    found: u64,
+) -> Result<Reply, Contended>
+    requires own { caller.old.row ≡ row.now }
+    requires lock { (l : LockedBucket) × (i : ℕ) × HasLock (sizes_of S.Shape) caller.old.view bucket word l
+        × HasPairOf (sizes_of S.Shape) l.extent l.now (S.words_of key.now) i
+        × (value_in (sizes_of S.Shape) l.now i ≡ found)
+        × ((k : ℕ) → HasPair (sizes_of S.Shape) l.extent l.now k → k ≡ i) }
+    requires home { bucket_of (sizes_of S.Shape) (S.words_of key.now) ≡ bucket }
+    requires counted { length (S.words_of key.now) ≡ S.WORDS }
+    requires unworn { length (known_at caller.old.view.known bucket) < S.LIMIT }
+    ensures same { caller.new ≡ with_view caller.old caller.new.view }
+    ensures answered { IfOk result (λ reply. (reply ≡ Changed (Some found))
+        × IsAnswered (sizes_of S.Shape) caller.old.view caller.new.view
+        (record { key = S.words_of key.now; found = Some found; change = Remove; reply = reply })) }
+    ensures contended { IfErr result (λ _. IsTurnedAway (sizes_of S.Shape) caller.old.view caller.new.view bucket) }
+    ensures lone { caller.old.view.lone ≡ true → is_ok result ≡ true }
+    ensures lawful { IsLawfulCaller (sizes_of S.Shape) caller.new.view }
+{
+    row.is_sound();
+    if !row.pool_lock(caller) {
+        row.release(caller, bucket, word);
+        return Err(Contended);
+    }
+    let none = Extent {
+        page: 0,
+        log2: 0,
+        linear: false,
+    };
+    row.publish_block(caller, bucket, word, none, key, Some(found), Change::Remove);
+    leave_store(row, caller, word);
+    Ok(Reply::Changed(Some(found)))
+}

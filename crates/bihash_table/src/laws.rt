@@ -1,0 +1,82 @@
+//! What the lawfulness of callers means for the maps of the buckets.
+//!
+//! The functions do nothing: their contracts are the laws.
+ghost use Rattle.std.specs.Prelude.{◌≡◌, ◌≢◌, ◌≤◌, ◌<◌, ◌+◌, ◌++◌, ℕ, [], ◌∷◌, List, length, true, false};
+ghost use Rattle.std.specs.FinMap.{get};
+ghost use lib.ListN.{get_elem?};
+ghost use mathlib.Core.Option.{some};
+ghost use Rattle.bihash_words.specs.Maps.{Event};
+ghost use Rattle.bihash_words.specs.Sizes.{Sizes};
+ghost use Rattle.bihash_steps.specs.Words.{buckets};
+ghost use Rattle.bihash_steps.specs.Histories.{IsLegal, IsPrefix, is_changed};
+ghost use Rattle.bihash_steps.specs.Callers.{Agrees, IsLawfulCaller, known_at, opening_at};
+ghost use Rattle.bihash_steps.specs.Views.{first_view};
+ghost use Rattle.bihash_steps.specs.BucketSteps.{acting, map_now};
+ghost use Rattle.bihash_steps.specs.declared.view.Write.{Write};
+ghost use Rattle.bihash_steps.specs.declared.view.Record.{Record};
+ghost use Rattle.bihash_steps.specs.declared.view.View.{View};
+ghost use Rattle.bihash_table.specs.Answers.{entry_of};
+ghost use Rattle.bihash_table.specs.Runs.{IsCommonHistory, IsLastWrite, IsLawfulAnswer, LearnsOnlyOwn, IsOneWriter, IsRun, calls_on};
+
+/// To a caller each of whose known writes of a bucket was made under one number, the bucket is one bounded
+/// map: the calls of that number there, in their order, are a run of the map. It begins with the map that the
+/// bucket began with, and ends at the map that the last known write left.
+#[tactic(auto, using(crate::proofs::OneWriter::one_map))]
+pub fn one_writer_has_one_map()
+    ensures { (z : Sizes) (v : View) (i b : ℕ) (r : Record) → IsLawfulCaller z v → get_elem? v.records i ≡ some r
+        → b < buckets z → IsOneWriter v.known b r.number
+        → IsRun z (opening_at v.known b) 0 (calls_on b r.calls) (map_now v b) (length (known_at v.known b)) }
+{}
+
+/// Two lawful callers that agree have one history of each bucket: the longer of what they know.
+#[tactic(auto, using(crate::proofs::CommonHistories::common_history))]
+pub fn agreeing_callers_share_a_history()
+    ensures { (z : Sizes) (v w : View) → IsLawfulCaller z v → IsLawfulCaller z w → Agrees v w → (b : ℕ)
+        → (history : List Write) × IsCommonHistory z b v w history }
+{}
+
+/// An answered call is legal on what is known of its bucket afterwards, which continues what was known
+/// before. What it found, unless it wrote, is what the map holds there. Its entry stands at the end of the
+/// acting record, with the number of the bucket's known writes as its stamp. Nothing is learned of another
+/// bucket, and no other record changes.
+pub fn answers_are_the_maps()
+    ensures continues { (z : Sizes) (b : ℕ) (v w : View) (e : Event) → IsLawfulAnswer z b v w e
+        → IsPrefix (known_at v.known b) (known_at w.known b) }
+    ensures legal { (z : Sizes) (b : ℕ) (v w : View) (e : Event) → IsLawfulAnswer z b v w e
+        → IsLegal z (opening_at w.known b) (known_at w.known b) (acting v.records)
+        (entry_of z (length (known_at w.known b)) e) }
+    ensures found { (z : Sizes) (b : ℕ) (v w : View) (e : Event) → IsLawfulAnswer z b v w e
+        → is_changed e.reply ≡ false → e.found ≡ get (map_now w b) e.key }
+    ensures entered { (z : Sizes) (b : ℕ) (v w : View) (e : Event) → IsLawfulAnswer z b v w e
+        → (r : Record) → get_elem? v.records 0 ≡ some r
+        → (q : Record) × (get_elem? w.records 0 ≡ some q) × (q.number ≡ r.number)
+        × (q.calls ≡ r.calls ++ entry_of z (length (known_at w.known b)) e ∷ []) }
+    ensures other_records { (z : Sizes) (b : ℕ) (v w : View) (e : Event) → IsLawfulAnswer z b v w e
+        → (i : ℕ) → 1 ≤ i → get_elem? w.records i ≡ get_elem? v.records i }
+    ensures other_buckets { (z : Sizes) (b : ℕ) (v w : View) (e : Event) → IsLawfulAnswer z b v w e
+        → (other : ℕ) → other ≢ b → known_at w.known other ≡ known_at v.known other }
+    ensures openings { (z : Sizes) (b : ℕ) (v w : View) (e : Event) → IsLawfulAnswer z b v w e
+        → w.known.openings ≡ v.known.openings }
+{}
+
+/// A call writes at most once. Answered `Changed` its write is the last that is known of the bucket, and no
+/// other that was learned is the caller's own. Answered otherwise none is.
+pub fn changed_alone_writes()
+    ensures last { (z : Sizes) (b : ℕ) (v w : View) (e : Event) → IsLawfulAnswer z b v w e
+        → is_changed e.reply ≡ true
+        → IsLastWrite (opening_at w.known b) (known_at w.known b) (acting v.records) e }
+    ensures once { (z : Sizes) (b : ℕ) (v w : View) (e : Event) → IsLawfulAnswer z b v w e → IsLawfulCaller z v
+        → (n : ℕ) (x : Write) → length (known_at v.known b) ≤ n → n + 1 < length (known_at w.known b)
+        → get_elem? (known_at w.known b) n ≡ some x → x.by ≢ acting v.records }
+    ensures none { (z : Sizes) (b : ℕ) (v w : View) (e : Event) → IsLawfulAnswer z b v w e → IsLawfulCaller z v
+        → is_changed e.reply ≡ false → (n : ℕ) (x : Write) → length (known_at v.known b) ≤ n
+        → get_elem? (known_at w.known b) n ≡ some x → x.by ≢ acting v.records }
+{}
+
+/// A caller that only ever learns of writes that it makes itself is each bucket's one writer: caller 1 of a
+/// new table is, and an answer that taught no other write leaves it so.
+pub fn one_writer_stays()
+    ensures first { (z : Sizes) (b : ℕ) → IsOneWriter (first_view z).known b (acting (first_view z).records) }
+    ensures stays { (z : Sizes) (b : ℕ) (v w : View) (e : Event) → IsLawfulAnswer z b v w e → LearnsOnlyOwn b v w e
+        → (d : ℕ) → IsOneWriter v.known d (acting v.records) → IsOneWriter w.known d (acting w.records) }
+{}

@@ -1,0 +1,26 @@
+//! A session table that many callers share: each answer is a place in one legal history of its bucket.
+#![tactic(auto)]
+
+mod block;
+mod change;
+mod close;
+mod close_fault;
+mod contended;
+mod grow;
+mod laws;
+mod lock;
+mod pages;
+mod scan;
+mod search;
+mod sessions;
+mod update;
+mod wait;
+
+pub use bihash_steps::{Caller, CallerSeat, CreateFault, SplitFault};
+pub use close_fault::CloseFault;
+pub use contended::Contended;
+pub use laws::{
+    agreeing_callers_share_a_history, answers_are_the_maps, changed_alone_writes,
+    one_writer_has_one_map, one_writer_stays,
+};
+pub use sessions::{Sessions, create};

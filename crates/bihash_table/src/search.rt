@@ -1,0 +1,68 @@
+//! Searches: one try, and a search that waits for its turn.
+ghost use Rattle.std.specs.Prelude.{◌≡◌, ◌+◌, true, ℕ, IfOk, IfErr, is_ok};
+ghost use Rattle.bihash_words.specs.Sizes.{sizes_of};
+ghost use Rattle.bihash_steps.specs.Histories.{bucket_of};
+ghost use Rattle.bihash_steps.specs.Callers.{IsLawfulCaller};
+ghost use Rattle.bihash_steps.specs.Views.{nothing_held};
+ghost use Rattle.bihash_steps.specs.Seats.{with_view};
+ghost use Rattle.bihash_table.specs.Answers.{IsAnswered, IsTurnedAway, search_of};
+
+use crate::contended::Contended;
+use crate::lock::{bucket_of, lock};
+use crate::scan::find_value;
+use crate::sessions::Sessions;
+use bihash_steps::Caller;
+use bihash_words::{Change, Reply, Shape};
+use crossbeam_utils::Backoff;
+use std::sync::Wait;
+
+impl<S: Shape> Sessions<S> {
+    /// The value of the key, `None` where it is absent.
+    pub fn try_search(&self, caller: &mut Caller<S>, key: &S::Key) -> Result<Option<u64>, Contended>
+        requires own { caller.old.seat.row ≡ self.now.row }
+        requires free { caller.old.seat.view.holds ≡ nothing_held }
+        ensures same { caller.new.seat ≡ with_view caller.old.seat caller.new.seat.view }
+        ensures answered { IfOk result (λ found. IsAnswered (sizes_of S.Shape) caller.old.seat.view caller.new.seat.view
+            (search_of (S.words_of key.now) found)) }
+        ensures contended { IfErr result (λ _. IsTurnedAway (sizes_of S.Shape) caller.old.seat.view caller.new.seat.view
+            (bucket_of (sizes_of S.Shape) (S.words_of key.now))) }
+        ensures lone { caller.old.seat.view.lone ≡ true → is_ok result ≡ true }
+        ensures lawful { IsLawfulCaller (sizes_of S.Shape) caller.new.seat.view }
+    {
+        self.row.is_sound();
+        let bucket = bucket_of::<S>(key);
+        let Some(word) = lock(&self.row, &mut caller.seat, bucket) else {
+            return Err(Contended);
+        };
+        let found = find_value(&self.row, &mut caller.seat, bucket, word, key);
+        self.row.cancel(
+            &mut caller.seat,
+            bucket,
+            word,
+            key,
+            found,
+            Change::Keep,
+            Reply::Kept(found),
+        );
+        Ok(found)
+    }
+
+    /// The same. It tries again until it meets no other caller's lock.
+    pub fn search<R: Wait>(&self, rt: &R, caller: &mut Caller<S>, key: &S::Key) -> Option<u64>
+        requires own { caller.old.seat.row ≡ self.now.row }
+        requires free { caller.old.seat.view.holds ≡ nothing_held }
+        ensures same { caller.new.seat ≡ with_view caller.old.seat caller.new.seat.view }
+        ensures answered { IsAnswered (sizes_of S.Shape) caller.old.seat.view caller.new.seat.view
+            (search_of (S.words_of key.now) result) }
+        ensures lawful { IsLawfulCaller (sizes_of S.Shape) caller.new.seat.view }
+    {
+        let backoff = Backoff::new();
+        for _ in rt.forever() {
+            if let Ok(found) = self.try_search(caller, key) {
+                return found;
+            }
+            backoff.snooze();
+        }
+        unreachable!()
+    }
+}

@@ -1,0 +1,91 @@
+//! The shared table, and its callers.
+ghost use Rattle.std.specs.Prelude.{◌≡◌, ◌<◌, ◌≤◌, ◌==◌, ℕ, length, IfOk, IfErr};
+ghost use Rattle.bihash_words.specs.Sizes.{sizes_of, IsSound};
+ghost use Rattle.bihash_steps.specs.Callers.{IsLawfulCaller, IsWhole, Agrees};
+ghost use Rattle.bihash_steps.specs.Views.{first_view, nothing_held};
+ghost use Rattle.bihash_steps.specs.Steps.{counted, parent, newcomer, IsRefused, informed_by, joined};
+ghost use Rattle.bihash_steps.specs.Seats.{with_view};
+
+use bihash_steps::{Caller, CreateFault, Row, SplitFault, open_row};
+use bihash_words::Shape;
+use std::alloc::Global;
+
+/// A table of sessions that many callers share.
+#[derive(Drop)]
+pub struct Sessions<S: Shape> {
+    /// The words of the table.
+    pub row: Row<S>,
+}
+
+/// A new table and its caller 1, which is lone and has made no call. `Memory`: memory was refused.
+pub fn create<S: Shape>(alloc: Global) -> Result<(Sessions<S>, Caller<S>), CreateFault>
+    requires sound { IsSound (sizes_of S.Shape) }
+    ensures first { IfOk result (λ r. (r.1.seat.row ≡ r.0.row) × (r.1.seat.view ≡ first_view (sizes_of S.Shape))) }
+    ensures lawful { IfOk result (λ r. IsLawfulCaller (sizes_of S.Shape) r.1.seat.view) }
+{
+    let (row, caller) = open_row(alloc)?;
+    Ok((Sessions { row }, caller))
+}
+
+impl<S: Shape> Sessions<S> {
+    /// The caller, and a new one that knows the same and has a number of its own without calls.
+    /// `Numbers`: as many callers were made as there may be. `Contended`: another caller took a number
+    /// in the same moment.
+    pub fn split(
+        &self,
+        alloc: Global,
+        caller: Caller<S>,
+    ) -> Result<(Caller<S>, Caller<S>), (SplitFault, Caller<S>)>
+        requires own { caller.seat.row ≡ self.now.row }
+        requires free { caller.seat.view.holds ≡ nothing_held }
+        ensures split { IfOk result (λ r. (count : ℕ) × (caller.seat.view.seen ≤ count) × (count < S.CALLERS)
+            × (r.0.seat ≡ with_view caller.seat (parent caller.seat.view count))
+            × (r.1.seat.row ≡ caller.seat.row) × (r.1.seat.view ≡ newcomer caller.seat.view count)) }
+        ensures lawful { IfOk result (λ r. IsLawfulCaller (sizes_of S.Shape) r.0.seat.view
+            × IsLawfulCaller (sizes_of S.Shape) r.1.seat.view) }
+        ensures agree { IfOk result (λ r. Agrees r.0.seat.view r.1.seat.view) }
+        ensures refused { IfErr result (λ r. (r.1.seat ≡ with_view caller.seat r.1.seat.view)
+            × IsRefused (sizes_of S.Shape) caller.seat.view r.0 r.1.seat.view) }
+    {
+        self.row.split(alloc, caller)
+    }
+
+    /// Both callers with their numbers and records. Each knows afterwards what either knew.
+    pub fn meet(&self, caller: Caller<S>, other: Caller<S>) -> (Caller<S>, Caller<S>)
+        requires own { (caller.seat.row ≡ self.now.row) × (other.seat.row ≡ self.now.row) }
+        requires free { (caller.seat.view.holds ≡ nothing_held) × (other.seat.view.holds ≡ nothing_held) }
+        ensures first { result.0.seat ≡ with_view caller.seat (informed_by caller.seat.view caller.seat.view other.seat.view) }
+        ensures second { (result.1.seat.row ≡ other.seat.row)
+            × (result.1.seat.view ≡ informed_by other.seat.view caller.seat.view other.seat.view) }
+        ensures lawful { IsLawfulCaller (sizes_of S.Shape) result.0.seat.view
+            × IsLawfulCaller (sizes_of S.Shape) result.1.seat.view }
+        ensures before { Agrees caller.seat.view other.seat.view }
+        ensures after { Agrees result.0.seat.view result.1.seat.view }
+    {
+        self.row.meet(caller, other)
+    }
+
+    /// One caller with the numbers and records of both, each as it was. It knows what either knew, and
+    /// acts under the first one's number.
+    pub fn join(&self, caller: Caller<S>, other: Caller<S>) -> Caller<S>
+        requires own { (caller.seat.row ≡ self.now.row) × (other.seat.row ≡ self.now.row) }
+        requires free { (caller.seat.view.holds ≡ nothing_held) × (other.seat.view.holds ≡ nothing_held) }
+        ensures view { result.seat ≡ with_view caller.seat (joined caller.seat.view other.seat.view) }
+        ensures lawful { IsLawfulCaller (sizes_of S.Shape) result.seat.view }
+        ensures agree { Agrees caller.seat.view other.seat.view }
+    {
+        self.row.join(caller, other)
+    }
+
+    /// Whether the caller has every number that was made. It is lone then, until a split of it succeeds.
+    pub fn is_lone(&self, caller: &mut Caller<S>) -> bool
+        requires own { caller.old.seat.row ≡ self.now.row }
+        ensures counted { (count : ℕ) × (caller.old.seat.view.seen ≤ count)
+            × (caller.new.seat ≡ with_view caller.old.seat (counted caller.old.seat.view count))
+            × (result ≡ (count == length caller.old.seat.view.records)) }
+        ensures lone { result ≡ caller.new.seat.view.lone }
+        ensures lawful { IsLawfulCaller (sizes_of S.Shape) caller.new.seat.view }
+    {
+        self.row.load_count(&mut caller.seat) == caller.seat.numbers()
+    }
+}
