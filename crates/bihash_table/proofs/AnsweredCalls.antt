@@ -19,8 +19,9 @@ use Rattle.bihash_steps.specs.declared.view.Record.{Record}
 use Rattle.bihash_steps.specs.declared.view.View.{View}
 use Rattle.bihash_steps.proofs.Prefixes.{prefix_below}
 use Rattle.bihash_steps.proofs.Lists.{at_end, within}
-use Rattle.bihash_table.specs.Answers.{entry_of, with_locks}
+use Rattle.bihash_table.specs.Answers.{entry_of, own_writes, with_locks}
 use Rattle.bihash_table.specs.Runs.{IsLastWrite, IsLawfulAnswer, LearnsOnlyOwn, IsOneWriter}
+use Rattle.bihash_table.proofs.Composed.{learned_length}
 use Rattle.bihash_table.proofs.MapSteps.{after_next}
 
 -- what is put outside of a list is not there
@@ -228,3 +229,15 @@ module _ (z : Sizes) (b : ℕ) (v w : View) (e : Event) (a : IsLawfulAnswer z b 
 -- nothing is known at first
 pub first_one_writer : (z : Sizes) (b : ℕ) → IsOneWriter (first_view z).known b (acting (first_view z).records)
 first_one_writer z b n w at = absurd (some-ne-none w (sym (ap (λ (ws : List Write). get_elem? ws n) (sym (none_known (buckets z) b)) ∙ at)))
+
+-- a lone caller learns of no write but its own, and stays lone
+pub lone_learns_own : (z : Sizes) (b : ℕ) (v w : View) (e : Event) → IsLawfulAnswer z b v w e → v.lone ≡ true
+    → LearnsOnlyOwn b v w e × (w.lone ≡ true)
+lone_learns_own z b v w e a lone =
+    let h = a.answered in
+    let most : ℕ = length (known_at v.known (bucket_of z e.key)) + own_writes e.reply in (
+      subst (λ (c : ℕ). length (known_at w.known c) ≤ length (known_at v.known c) + own_writes e.reply) a.home
+          (subst (λ (x : View). length (known_at x.known (bucket_of z e.key)) ≤ most) (sym h.is)
+          (learned_length v.known.writes (bucket_of z e.key) h.history most (h.alone lone))),
+      ap (λ (x : View). x.lone) h.is ∙ lone,
+    )

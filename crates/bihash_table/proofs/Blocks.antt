@@ -1,5 +1,5 @@
 -- The block of a map behind a change at one place.
-use Rattle.std.proofs.Common.{◌≡◌, ◌≢◌, ◌⊎◌, ◌∙◌, ◌/◌, ◌<◌, ℕ, false, List, Some, None, ap, sym, subst, ⊎_elim}
+use Rattle.std.proofs.Common.{◌≡◌, ◌≢◌, ◌∙◌, ◌/◌, ◌<◌, ℕ, false, List, Some, None, ap, sym, subst, ⊎_elim}
 use Rattle.std.specs.FinMap.{get, get-empty, insert, remove}
 use Rattle.std.proofs.lemmas.Bool.{cases_eq}
 use Rattle.bihash_words.specs.Maps.{Pairs}

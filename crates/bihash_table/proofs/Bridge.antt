@@ -1,13 +1,12 @@
 -- A block as words and as places: the places of a lawful block hold its map, and a block that was laid out
 -- anew is lawful as words.
-use Rattle.std.proofs.Common.{◌≡◌, ◌≢◌, ◌∙◌, ◌<◌, ◌≤◌, ◌+◌, ◌*◌, ◌/◌, ◌^◌, ◌++◌, ◌∷◌, ℕ, zero, suc, Bool, true, false, List, [], Some, None, ap, arith, get_or, le-mul_of_pos_right, mul-div_cancel, inl, inr, length, refl, subst, sym, ⊎_elim}
-use Rattle.std.specs.FinMap.{empty, get, get-empty, insert}
+use Rattle.std.proofs.Common.{◌≡◌, ◌≢◌, ◌∙◌, ◌<◌, ◌≤◌, ◌*◌, ◌/◌, ◌^◌, ◌++◌, ◌∷◌, ℕ, zero, suc, Bool, true, false, List, [], Some, None, ap, arith, get_or, le-mul_of_pos_right, mul-div_cancel, inl, inr, length, refl, subst, sym, ⊎_elim}
+use Rattle.std.specs.FinMap.{get, get-empty, insert}
 use Rattle.std.specs.List.{Contains}
 use Rattle.std.specs.Prelude.{slice_get}
-use Rattle.std.proofs.lemmas.Bool.{cases_eq}
 use Rattle.std.proofs.lemmas.List.Elements.{Contains-append_left, Contains-push, Contains-push_cases}
 use Rattle.std.proofs.lemmas.List.Sorted.{Contains-permutation, IsPermutation-sym}
-use Rattle.std.proofs.lemmas.Option.{slice_get-get_or, slice_get_within}
+use Rattle.std.proofs.lemmas.Option.{slice_get-get_or}
 use Rattle.bihash_words.specs.declared.shape.Shape.{Ghosts}
 use Rattle.bihash_words.specs.Maps.{Pairs}
 use Rattle.bihash_words.specs.Sizes.{sizes_of}
@@ -16,7 +15,7 @@ use Rattle.bihash_plan.specs.Layouts.{IsRehash}
 use Rattle.bihash_plan.specs.Pages.{page_of, paging_of}
 use Rattle.bihash_plan.proofs.Places.{block_sized, key_inside}
 use Rattle.bihash_steps.specs.Words.{place_words, block_words}
-use Rattle.bihash_steps.specs.Blocks.{HasPair, IsBlockOf, free, key_in, page_of as word_page, places, value_in}
+use Rattle.bihash_steps.specs.Blocks.{HasPair, IsBlockOf, key_in, page_of as word_page, places, value_in}
 use Rattle.bihash_steps.specs.declared.view.Extent.{Extent}
 use Rattle.bihash_table.specs.Places.{ArePlaces}
 use Rattle.bihash_table.specs.Shortage.{HoldMap}

@@ -1,6 +1,6 @@
 -- What was learned of a bucket before a lock or an answer: from the first view on it is one call.
 use lib.Seq.{set-get_or}
-use Rattle.std.proofs.Common.{◌≡◌, ◌⊎◌, ℕ, zero, suc, ◌+◌, ◌<◌, Bool, true, false, true≢false, List, [], ◌∷◌, ◌++◌, length, get_or, set, set-set, get_or-set_same, append_assoc, refl, sym, ap, ◌∙◌, subst, Option, Some, inl, inr}
+use Rattle.std.proofs.Common.{◌≡◌, ◌⊎◌, ℕ, zero, suc, ◌+◌, ◌<◌, ◌≤◌, Bool, true, false, true≢false, List, [], ◌∷◌, ◌++◌, length, get_or, set, set-set, get_or-set_same, append_assoc, refl, sym, ap, ◌∙◌, subst, arith, le_refl, Option, Some, inl, inr}
 use Rattle.bihash_words.specs.Maps.{Pairs, Event}
 use Rattle.bihash_words.specs.Sizes.{Sizes}
 use Rattle.bihash_words.specs.Words.{Bucket, Fits, packed}
@@ -19,7 +19,7 @@ use Rattle.bihash_steps.specs.declared.view.Holdings.{Holdings}
 use Rattle.bihash_steps.specs.declared.view.LockedBucket.{LockedBucket}
 use Rattle.bihash_steps.specs.declared.view.View.{View}
 use Rattle.bihash_steps.proofs.Prefixes.{prefix_refl}
-use Rattle.bihash_table.specs.Answers.{with_locks, entry_of, IsAnswered, IsTurnedAway, IsUpdated}
+use Rattle.bihash_table.specs.Answers.{with_locks, entry_of, IsAnswered, IsTurnedAway, IsUpdated, own_writes}
 use Rattle.bihash_table.specs.Locked.{HasLock, IsLocked}
 use Rattle.bihash_table.proofs.Released.{locks_of, with_locks-locks_of}
 
@@ -56,6 +56,7 @@ pub record IsAhead (v u : View) (b : ℕ) : Type 0 where
   pub begins : IsPrefix (known_at v.known b) history
   pub locks : ℕ
   pub is : u ≡ record (learned v b history) { records = with_locks locks v.records; holds = u.holds; notes = u.notes }
+  pub alone : v.lone ≡ true → length history ≤ length (known_at v.known b)
 
 pub locked_ahead : (z : Sizes) (v u : View) (b word : ℕ) → IsLocked z v u b word → IsAhead v u b
 locked_ahead z v u b word s = let same = sym s.is in record {
@@ -63,6 +64,7 @@ locked_ahead z v u b word s = let same = sym s.is in record {
   begins = s.begins;
   locks = locks_of v.records + 1;
   is = s.is ∙ (λ i. record (learned v b s.history) { records = sym (with_one_more v.records) i; holds = (same i).holds; notes = (same i).notes });
+  alone = s.alone;
 }
 
 pub turned_away_ahead : (z : Sizes) (v u : View) (b : ℕ) → IsTurnedAway z v u b → IsAhead v u b
@@ -71,7 +73,22 @@ turned_away_ahead z v u b s = let same = sym s.is in record {
   begins = s.begins;
   locks = s.locks;
   is = s.is ∙ (λ i. record (learned v b s.history) { records = with_locks s.locks v.records; holds = (same i).holds; notes = u.notes });
+  alone = s.alone;
 }
+
+-- a list that was learned is as long as what was learned, or there is none
+pub learned_length : (writes : List (List Write)) (b : ℕ) (h : List Write) (n : ℕ) → length h ≤ n → length (get_or (set writes b h) b []) ≤ n
+learned_length [] b h n few = omega arith
+learned_length (x ∷ xs) zero h n few = few
+learned_length (x ∷ xs) (suc b) h n few = learned_length xs b h n few
+
+ahead_lone : (v u : View) (b : ℕ) → IsAhead v u b → v.lone ≡ true → u.lone ≡ true
+ahead_lone v u b s lone = ap (λ (x : View). x.lone) s.is ∙ lone
+
+-- a lone caller knows no more of the bucket than before
+ahead_few : (v u : View) (b : ℕ) → IsAhead v u b → v.lone ≡ true → length (known_at u.known b) ≤ length (known_at v.known b)
+ahead_few v u b s lone = subst (λ (x : View). length (known_at x.known b) ≤ length (known_at v.known b)) (sym s.is)
+    (learned_length v.known.writes b s.history (length (known_at v.known b)) (s.alone lone))
 
 module _ (z : Sizes) (v u w : View) where
   -- what continues the history of u continues that of v
@@ -95,6 +112,7 @@ module _ (z : Sizes) (v u w : View) where
           holds = nothing_held;
           notes = w.notes;
         }));
+    alone = λ lone. let few = t.alone (ahead_lone v u b s lone) in let same = ahead_few v u b s lone in omega arith;
   }
 
   ahead_answered_at : (e : Event) → IsAhead v u (bucket_of z e.key) → IsAnswered z u w e → IsAnswered z v w e
@@ -113,6 +131,8 @@ module _ (z : Sizes) (v u w : View) where
           holds = nothing_held;
           notes = w.notes;
         }));
+    alone = λ lone. let few = t.alone (ahead_lone v u b s lone) in let same = ahead_few v u b s lone in
+        let own : ℕ = own_writes e.reply in omega arith;
   }
 
   pub ahead_answered : (b : ℕ) (e : Event) → bucket_of z e.key ≡ b → IsAhead v u b → IsAnswered z u w e → IsAnswered z v w e
@@ -153,6 +173,7 @@ not_yet_tried z v b free = record {
     known = record v.known { writes = sym (set-get_or v.known.writes b []) i };
     holds = free i;
   };
+  alone = λ _. le_refl (length (known_at v.known b));
 }
 
 -- ---- The word of a bucket and its lock
@@ -199,9 +220,15 @@ module _ (z : Sizes) (v u : View) (b word : ℕ) where
       holds = free i;
       notes = sym notes i;
     });
+    alone = λ _. le_refl (length (known_at v.known b));
   }
 
-module _ (z : Sizes) (v u w : View) (b word : ℕ) (inside : b < buckets z) (free : v.holds ≡ nothing_held) (s : SeesOpen z v b word u) where
+module _ (z : Sizes) (v u w : View) (b word : ℕ) (inside : b < buckets z) (free : v.holds ≡ nothing_held) (s : SeesOpen z v b word u)
+    (seen : v.lone ≡ true → known_at u.known b ≡ known_at v.known b) where
+  -- what was seen is what is known behind it
+  seen_is : known_at u.known b ≡ s.history
+  seen_is = ap (λ (x : View). known_at x.known b) s.is ∙ get_or-set_same v.known.writes b s.history [] s.found.listed
+
   pub open_turns_away : w ≡ unnoted u → IsTurnedAway z v w b
   open_turns_away is = let notes = ap (λ (x : View). x.notes) is in record {
     history = s.history;
@@ -212,9 +239,10 @@ module _ (z : Sizes) (v u w : View) (b word : ℕ) (inside : b < buckets z) (fre
       holds = free i;
       notes = sym notes i;
     }));
+    alone = λ lone. let same = ap length (seen lone) in let whole = ap length seen_is in omega arith;
   }
 
-  module _ (t : TakesLock z u b word w) where
+  module _ (t : TakesLock z u b word w) (held : u.lone ≡ true → known_at w.known b ≡ known_at u.known b) where
     abbrev taken : LockedBucket
     taken = locked_on b (length t.history) t.extent t.block
 
@@ -254,5 +282,7 @@ module _ (z : Sizes) (v u w : View) (b word : ℕ) (inside : b < buckets z) (fre
       lock = taken;
       is = t.is ∙ (ap (λ (x : View). locking (learned x b t.history) taken) s.is
           ∙ (λ i. locking (record v { known = record v.known { writes = set-set v.known.writes b s.history t.history i } }) taken));
+      alone = λ lone. let whole = ap length known_is in let same = ap length (held (ap (λ (x : View). x.lone) s.is ∙ lone)) in
+          let before = ap length (seen lone) in omega arith;
       has = has_lock;
     }

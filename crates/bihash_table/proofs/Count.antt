@@ -1,5 +1,5 @@
 -- How many pairs a map has: as many as the places of its block.
-use Rattle.std.proofs.Common.{◌≡◌, ◌≢◌, ◌∙◌, ◌+◌, ◌-◌, ◌*◌, ◌^◌, ◌<◌, ◌≤◌, ℕ, zero, suc, cond, eqb, List, Some, None, ap, arith, refl, sym, subst, eq-eqb, ne_eqb, ⊎_elim}
+use Rattle.std.proofs.Common.{◌≡◌, ◌≢◌, ◌∙◌, ◌+◌, ◌*◌, ◌^◌, ◌<◌, ◌≤◌, ℕ, zero, suc, cond, eqb, List, Some, None, ap, arith, refl, sym, subst, eq-eqb, ne_eqb, ⊎_elim}
 use Rattle.std.specs.Cmp.Lexicographic.{nat_list_cmp_total, slice_cmp}
 use Rattle.std.specs.FinMap.{empty, empty_of_len, get, get-empty, len, len-empty, nat_cmp-IsAntisymmetric, remove, same_map, slice_cmp-IsAntisymmetric}
 use Rattle.std.specs.Ordering.{nat_cmp}

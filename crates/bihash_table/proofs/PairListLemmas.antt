@@ -54,7 +54,8 @@ module _ {A K : Type 0} (g : Ghosts A K) where
     once = tt;
   }
 
-  lists_same : (ps : List (K × ℕ)) (has has' : List ℕ → ℕ → Type 0) → ((key : List ℕ) (value : ℕ) → has key value → has' key value)
+  lists_same : (ps : List (K × ℕ)) (has has' : List ℕ → ℕ → Type 0)
+      → ((key : List ℕ) (value : ℕ) → has key value → has' key value)
       → ((key : List ℕ) (value : ℕ) → has' key value → has key value) → ListsPairs g ps has → ListsPairs g ps has'
   lists_same ps has has' to back l = record {
     each = λ p h. to (g.words_of p.0) p.1 (l.each p h);

@@ -1,5 +1,5 @@
 -- The pairs of a block as a list, and the places at which they stand.
-use Rattle.std.proofs.Common.{◌≡◌, ◌∙◌, ◌<◌, ◌++◌, ◌∷◌, ℕ, true, List, [], Some, ap, arith, cond, drop, length, refl, set, subst, suc, sym, take}
+use Rattle.std.proofs.Common.{◌≡◌, ◌∙◌, ◌<◌, ◌++◌, ◌∷◌, ℕ, true, List, Some, ap, arith, cond, drop, length, refl, set, subst, suc, sym, take}
 use Rattle.std.specs.List.{Contains}
 use Rattle.std.proofs.lemmas.Bool.{true≢false}
 use Rattle.std.proofs.lemmas.List.{set-get_or, set_split}

@@ -1,15 +1,14 @@
 -- What a plan on the places of a locked block says of its bucket, for a new key that finds no place in it.
-use Rattle.std.proofs.Common.{◌≡◌, ◌≢◌, ◌∙◌, ◌<◌, ◌≤◌, ◌+◌, ◌*◌, ◌/◌, ◌^◌, ◌⊎◌, ◌∷◌, ℕ, Bool, true, false, List, [], Some, None, ap, arith, get_or, inl, inr, length, length-take, pow_mono, pow_pos, refl, subst, sym, take, ⊎_elim}
+use Rattle.std.proofs.Common.{◌≡◌, ◌∙◌, ◌<◌, ◌≤◌, ◌+◌, ◌*◌, ◌^◌, ◌⊎◌, ◌∷◌, ℕ, Bool, true, false, List, [], None, ap, arith, get_or, inl, inr, length, length-take, pow_pos, refl, subst, sym, take, ⊎_elim}
 use Rattle.std.specs.FinMap.{get, len}
-use Rattle.std.specs.Prelude.{slice_get}
 use Rattle.std.proofs.lemmas.Option.{slice_get-get_or}
 use Rattle.bihash_words.specs.declared.shape.Shape.{Ghosts}
 use Rattle.bihash_words.specs.Maps.{Pairs, most_pairs}
 use Rattle.bihash_words.specs.Sizes.{Sizes, sizes_of}
-use Rattle.bihash_plan.specs.Blocks.{HasKey, IsCrowded, IsFree, IsLawfulBlock, IsOpen}
+use Rattle.bihash_plan.specs.Blocks.{HasKey, IsFree, IsLawfulBlock, IsOpen}
 use Rattle.bihash_plan.specs.Layouts.{IsNamed}
 use Rattle.bihash_plan.specs.Pages.{Paging, page_of, paging_of}
-use Rattle.bihash_plan.specs.Plans.{CanBecomeLinear, IsExhausted, IsGrowth, IsLinearSize, IsPlan}
+use Rattle.bihash_plan.specs.Plans.{CanBecomeLinear, IsExhausted, IsGrowth, IsPlan}
 use Rattle.bihash_plan.specs.declared.outcome.Plan.{Plan}
 use Rattle.bihash_plan.specs.declared.outcome.Plan.TheVariants.{Full, Grow, InPlace}
 use Rattle.bihash_plan.proofs.Places.{free_at, free_inside}
@@ -17,14 +16,13 @@ use Rattle.bihash_steps.specs.Words.{block_words}
 use Rattle.bihash_steps.specs.Histories.{bounds_of}
 use Rattle.bihash_steps.specs.Blocks.{free, places, value_in}
 use Rattle.bihash_steps.specs.BucketSteps.{map_now}
-use Rattle.bihash_steps.specs.declared.view.Extent.{Extent}
 use Rattle.bihash_steps.specs.declared.view.Holdings.{Holdings}
 use Rattle.bihash_steps.specs.declared.view.LockedBucket.{LockedBucket}
 use Rattle.bihash_steps.specs.declared.view.PageStore.{PageStore}
 use Rattle.bihash_steps.specs.declared.view.View.{View}
 use Rattle.bihash_table.specs.Copying.{IsWanting, LocksBlock}
 use Rattle.bihash_table.specs.Locked.{HasLock}
-use Rattle.bihash_table.specs.Places.{ArePlaces, IsCrowdedFor, IsFreeFor}
+use Rattle.bihash_table.specs.Places.{ArePlaces, IsCrowdedFor}
 use Rattle.bihash_table.specs.Shortage.{HoldMap, IsShortage}
 use Rattle.bihash_table.proofs.Bridge.{AreKeyWords, AreKeysOf, are_keys, count_places, hold_map, lawful_places}
 use Rattle.bihash_table.proofs.Count.{few_pairs, few_places, full_block}

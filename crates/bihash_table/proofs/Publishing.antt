@@ -82,6 +82,6 @@ module _ (z : Sizes) (v : View) (b word : ℕ) (l : LockedBucket) (has : HasLock
         done ∙ ap (λ (x : View). written x (call_of x b 1 key found change (Changed found))) is in
         let here : View = written v (call_of v b 1 key found change (Changed found)) in
         let notes = ap (λ (x : View). x.notes) all in
-        written_from_lock z v u b word l (record { key = key; found = found; change = change; reply = Changed found }) has home
+        written_from_lock z v u b word l (record { key = key; found = found; change = change; reply = Changed found }) has home refl
         (all ∙ (ap (λ (h : Holdings). record here { holds = record h { bucket = None } }) has.held
         ∙ ap (λ n. record here { holds = record { bucket = None; store = None; block = None }; notes = n }) (sym notes)))

@@ -1,9 +1,9 @@
 -- What a call leaves of its caller where it opened the lock that it had: it was answered.
-use Rattle.std.proofs.Common.{◌≡◌, ◌∙◌, ◌+◌, ℕ, List, [], ◌∷◌, ◌++◌, length, set, None, ap, arith, refl, sym, subst, append-nil, length-append}
+use Rattle.std.proofs.Common.{◌≡◌, ◌∙◌, ◌+◌, ◌≤◌, true, ℕ, List, [], ◌∷◌, ◌++◌, length, set, None, ap, arith, refl, sym, subst, append-nil, length-append}
 use Rattle.std.proofs.lemmas.List.{set-get_or}
 use Rattle.bihash_words.specs.Maps.{Event}
 use Rattle.bihash_words.specs.Sizes.{Sizes}
-use Rattle.bihash_steps.specs.Histories.{IsPrefix, bucket_of, write_of}
+use Rattle.bihash_steps.specs.Histories.{IsPrefix, bucket_of, is_changed, write_of}
 use Rattle.bihash_steps.specs.Callers.{known_at}
 use Rattle.bihash_steps.specs.Views.{nothing_held}
 use Rattle.bihash_steps.specs.BucketSteps.{acting, answered, call_of, learned, push_call, written}
@@ -12,7 +12,7 @@ use Rattle.bihash_steps.specs.declared.view.Record.{Record}
 use Rattle.bihash_steps.specs.declared.view.Holdings.{Holdings}
 use Rattle.bihash_steps.specs.declared.view.LockedBucket.{LockedBucket}
 use Rattle.bihash_steps.specs.declared.view.View.{View}
-use Rattle.bihash_table.specs.Answers.{IsAnswered, entry_of, with_locks}
+use Rattle.bihash_table.specs.Answers.{IsAnswered, entry_of, own_writes, with_locks}
 use Rattle.bihash_table.specs.Locked.{HasLock}
 
 -- how many locks the acting record counts
@@ -36,8 +36,9 @@ module _ (z : Sizes) (v w : View) (b word : ℕ) (l : LockedBucket) (e : Event) 
   }
 
   is_left : (history : List Write) → IsPrefix (known_at v.known b) history
+      → length history ≤ length (known_at v.known b) + own_writes e.reply
       → w ≡ Left b (length history) history v.records → IsAnswered z v w e
-  is_left history begins is = record {
+  is_left history begins few is = record {
     history = history;
     begins = subst (λ (c : ℕ). IsPrefix (known_at v.known c) history) (sym home) begins;
     locks = locks_of v.records;
@@ -45,6 +46,7 @@ module _ (z : Sizes) (v w : View) (b word : ℕ) (l : LockedBucket) (e : Event) 
         (sym (with_locks-locks_of v.records))
         ∙ ap (λ (c : ℕ). Left c (length history) history (with_locks (locks_of v.records) v.records))
         (sym home));
+    alone = λ _. subst (λ (c : ℕ). length history ≤ length (known_at v.known c) + own_writes e.reply) (sym home) few;
   }
 
   -- the call was no write: nothing more is known
@@ -63,17 +65,18 @@ module _ (z : Sizes) (v w : View) (b word : ℕ) (l : LockedBucket) (e : Event) 
       let notes : w ≡ record (answered v (call_of v b 0 e.key e.found e.change e.reply)) { notes = w.notes } =
       is ∙ ap (λ n. record (answered v (call_of v b 0 e.key e.found e.change e.reply)) { notes = n })
       (sym (ap (λ (u : View). u.notes) is)) in
-      is_left H (record { rest = []; whole = sym (append-nil H) })
+      is_left H (record { rest = []; whole = sym (append-nil H) }) (let own : ℕ = own_writes e.reply in omega arith)
       (notes ∙ (ap (λ (n : ℕ). At n v.known.writes v.holds) stamp
       ∙ (ap (λ (ws : List (List Write)). At (length H) ws v.holds) kept
       ∙ ap (λ (h : Holdings). At (length H) (set v.known.writes b H) h) has.held)))
 
   -- the call was a write: it is known, and stands last
-  pub written_from_lock : w ≡ record (written v (call_of v b 1 e.key e.found e.change e.reply)) { holds = nothing_held; notes = w.notes }
+  pub written_from_lock : is_changed e.reply ≡ true → w ≡ record (written v (call_of v b 1 e.key e.found e.change e.reply)) { holds = nothing_held; notes = w.notes }
       → IsAnswered z v w e
-  written_from_lock is =
+  written_from_lock changes is =
       let H : List Write = known_at v.known b in
       let x : Write = write_of (acting v.records) (call_of v b 1 e.key e.found e.change e.reply) in
       let stamp : length H + 1 ≡ length (H ++ x ∷ []) = sym (length-append H (x ∷ [])) in
       is_left (H ++ x ∷ []) (record { rest = x ∷ []; whole = refl })
+      (rw changes (let long = length-append H (x ∷ []) in omega arith))
       (is ∙ ap (λ (n : ℕ). Left b n (H ++ x ∷ []) v.records) stamp)

@@ -1,5 +1,5 @@
 -- A bucket that is given another block, or none, under both locks.
-use Rattle.std.proofs.Common.{◌≡◌, ◌≢◌, ◌∙◌, ◌<◌, ◌≤◌, ◌+◌, ◌*◌, ◌^◌, ℕ, List, [], Bool, Option, Some, None, ap, arith, length, refl, subst, sym, ⊎_elim}
+use Rattle.std.proofs.Common.{◌≡◌, ◌≢◌, ◌∙◌, ◌<◌, ◌≤◌, ◌+◌, ◌^◌, ℕ, List, [], Bool, Option, Some, None, ap, arith, length, refl, subst, sym, ⊎_elim}
 use Rattle.std.specs.FinMap.{get, insert, len, remove}
 use Rattle.bihash_words.specs.Maps.{Pairs, most_pairs}
 use Rattle.bihash_words.specs.Patches.{free_mark}
@@ -9,7 +9,7 @@ use Rattle.bihash_words.specs.declared.patch.Change.{Change}
 use Rattle.bihash_words.specs.declared.patch.Change.TheVariants.{Set, Remove}
 use Rattle.bihash_words.specs.declared.patch.Reply.{Reply}
 use Rattle.bihash_words.specs.declared.patch.Reply.TheVariants.{Changed, NoPages}
-use Rattle.bihash_steps.specs.Histories.{IsKeyOf, bounds_of, bucket_of}
+use Rattle.bihash_steps.specs.Histories.{IsKeyOf, bounds_of}
 use Rattle.bihash_steps.specs.Callers.{known_at}
 use Rattle.bihash_steps.specs.Blocks.{HasPair, IsBlockOf, key_in, no_block, places, value_in}
 use Rattle.bihash_steps.specs.BucketSteps.{MayAnswer, answered, call_of, map_now}

@@ -1,12 +1,12 @@
 -- What a bucket's word tells of its block, and what the caller holds of the page store while it gives a
 -- bucket another block.
-use Rattle.std.proofs.Common.{◌≡◌, ◌≢◌, ◌∙◌, ◌<◌, ◌≤◌, ◌+◌, ◌*◌, ◌^◌, ℕ, zero, suc, List, [], ◌∷◌, Bool, false, Option, Some, None, ap, append-nil, arith, length, refl, subst, sym}
+use Rattle.std.proofs.Common.{◌≡◌, ◌≢◌, ◌∙◌, ◌≤◌, ◌*◌, ◌^◌, ℕ, zero, suc, List, [], ◌∷◌, Bool, true, false, Option, Some, None, ap, append-nil, arith, le_refl, length, refl, subst, sym}
 use Rattle.std.proofs.lemmas.List.{set-get_or}
 use Rattle.bihash_words.specs.Maps.{Event}
-use Rattle.bihash_words.specs.Sizes.{IsSound, Sizes}
+use Rattle.bihash_words.specs.Sizes.{Sizes}
 use Rattle.bihash_words.specs.Words.{Bucket, Fits, packed}
 use Rattle.bihash_steps.specs.Words.{block_words, page_words}
-use Rattle.bihash_steps.specs.Histories.{bucket_of}
+use Rattle.bihash_steps.specs.Histories.{bucket_of, is_changed}
 use Rattle.bihash_steps.specs.Callers.{IsLawfulCaller, known_at}
 use Rattle.bihash_steps.specs.Blocks.{places}
 use Rattle.bihash_steps.specs.Buckets.{word_of}
@@ -24,7 +24,7 @@ use Rattle.bihash_steps.specs.declared.view.LockedStore.{LockedStore}
 use Rattle.bihash_steps.specs.declared.view.PageStore.{PageStore}
 use Rattle.bihash_steps.specs.declared.view.View.{View}
 use Rattle.bihash_table.specs.Answers.{IsAnswered, IsTurnedAway}
-use Rattle.bihash_table.specs.Copying.{GivenBack, HasBlock, HasStore, HoldsOld, MayGiveBack, Released, TakesPages, with_store}
+use Rattle.bihash_table.specs.Copying.{GivenBack, HasBlock, HasStore, HoldsOld, MayGiveBack, Released, TakesPages}
 use Rattle.bihash_table.specs.Locked.{HasLock}
 use Rattle.bihash_table.specs.Scans.{IsWordOf}
 use Rattle.bihash_table.proofs.Entering.{looked_at}
@@ -175,10 +175,11 @@ holds_old z v w b word l n block c lock is = record {
 pub left_written : (z : Sizes) (v u w : View) (b word : ℕ) (l : LockedBucket) (n : LockedStore) (block : Option HeldBlock)
     (e : Event)
     → HasLock z v b word l → bucket_of z e.key ≡ b
+    → is_changed e.reply ≡ true
     → u ≡ replaced (holding v (Some n) block) (call_of v b 1 e.key e.found e.change e.reply) → Released u w
     → IsAnswered z v w e
-left_written z v u w b word l n block e lock home is gone =
-    written_from_lock z v w b word l e lock home (gone.is
+left_written z v u w b word l n block e lock home changes is gone =
+    written_from_lock z v w b word l e lock home changes (gone.is
     ∙ ap (λ (x : View). record x { holds = record nothing_held { bucket = x.holds.bucket }; notes = w.notes }) is)
 
 -- the caller is lawful still
@@ -203,6 +204,7 @@ turned_away z v u w b word l lock not opened =
         holds = record (lock.held i) { bucket = None };
         notes = notes i;
       });
+      alone = λ _. le_refl (length (known_at v.known b));
     }
 
 -- the allocation lock was taken and opened, and then the call was answered

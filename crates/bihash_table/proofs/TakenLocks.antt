@@ -42,7 +42,8 @@ module _ (z : Sizes) (v w : View) (b word : ℕ) where
     is =
         ap (λ (k : Known). record (unlocked w) { known = k }) (locked_known s whole)
         ∙ (ap (λ (x : View). record (unlocked x) { known = v.known }) s.is
-        ∙ (ap (λ (rs : List Record). record v { records = rs; holds = record v.holds { bucket = None }; notes = no_notes }) (sym (with_one_more v.records))
+        ∙ (ap (λ (rs : List Record). record v { records = rs; holds = record v.holds { bucket = None }; notes = no_notes })
+        (sym (with_one_more v.records))
         ∙ ap (λ (h : Holdings). record v {
           records = with_locks (locks_of v.records + 1) v.records;
           holds = h;

@@ -1,12 +1,12 @@
 -- What a call on a shared table leaves of its caller, where it was answered and where it met a lock.
-use Rattle.std.specs.Prelude.{◌≡◌, ℕ, List, [], ◌∷◌, length, Option}
+use Rattle.std.specs.Prelude.{◌≡◌, ◌≤◌, ℕ, ◌+◌, if◌then◌else◌, true, List, [], ◌∷◌, length, Option}
 use Rattle.bihash_words.specs.Maps.{Event}
 use Rattle.bihash_words.specs.Sizes.{Sizes}
 use Rattle.bihash_words.specs.declared.patch.Change.{Change}
 use Rattle.bihash_words.specs.declared.patch.Change.TheVariants.{Keep}
 use Rattle.bihash_words.specs.declared.patch.Reply.{Reply}
 use Rattle.bihash_words.specs.declared.patch.Reply.TheVariants.{Kept}
-use Rattle.bihash_steps.specs.Histories.{IsPrefix, bucket_of}
+use Rattle.bihash_steps.specs.Histories.{IsPrefix, bucket_of, is_changed}
 use Rattle.bihash_steps.specs.Callers.{known_at}
 use Rattle.bihash_steps.specs.Views.{nothing_held}
 use Rattle.bihash_steps.specs.BucketSteps.{learned, push_call}
@@ -31,6 +31,10 @@ entry_of z stamp e = record {
   reply = e.reply;
 }
 
+-- how many writes the call itself made
+abbrev pub own_writes : Reply → ℕ
+own_writes reply = if is_changed reply then 1 else 0
+
 -- The call was answered: the acting record has just this entry more, with the number of writes that are
 -- known of its bucket afterwards as its stamp. These continue what was known of it. Nothing else
 -- changed but how many locks were taken and what was noted, and nothing is held.
@@ -43,6 +47,9 @@ pub record IsAnswered (z : Sizes) (v w : View) (e : Event) : Type 0 where
     holds = nothing_held;
     notes = w.notes;
   }
+  -- a lone caller learns of no write but its own
+  pub alone : v.lone ≡ true → length history
+      ≤ length (known_at v.known (bucket_of z e.key)) + own_writes e.reply
 
 -- The call met a lock of another caller: what is known of the bucket may have grown. Nothing else changed
 -- but how many locks were taken and what was noted, and nothing is held.
@@ -55,6 +62,7 @@ pub record IsTurnedAway (z : Sizes) (v w : View) (b : ℕ) : Type 0 where
     holds = nothing_held;
     notes = w.notes;
   }
+  pub alone : v.lone ≡ true → length history ≤ length (known_at v.known b)
 
 -- a search of a key that answered this
 abbrev pub search_of : List ℕ → Option ℕ → Event

@@ -1,5 +1,5 @@
 -- A bucket whose lock a caller has, before it stored a word of its block.
-use Rattle.std.specs.Prelude.{◌≡◌, ℕ, ◌+◌, ◌^◌, ◌<◌, ◌≤◌, List, length, false, Some}
+use Rattle.std.specs.Prelude.{◌≡◌, ℕ, ◌+◌, ◌^◌, ◌<◌, ◌≤◌, List, length, true, false, Some}
 use Rattle.bihash_words.specs.Sizes.{Sizes}
 use Rattle.bihash_words.specs.Words.{Fits, packed}
 use Rattle.bihash_steps.specs.Words.{buckets, block_words}
@@ -34,4 +34,6 @@ pub record IsLocked (z : Sizes) (v w : View) (b word : ℕ) : Type 0 where
   pub begins : IsPrefix (known_at v.known b) history
   pub lock : LockedBucket
   pub is : w ≡ locking (learned v b history) lock
+  -- a lone caller knew the history before
+  pub alone : v.lone ≡ true → length history ≤ length (known_at v.known b)
   pub has : HasLock z w b word lock

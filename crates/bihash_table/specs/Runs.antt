@@ -13,7 +13,7 @@ use Rattle.bihash_steps.specs.declared.view.Call.{Call}
 use Rattle.bihash_steps.specs.declared.view.Record.{Record}
 use Rattle.bihash_steps.specs.declared.view.Known.{Known}
 use Rattle.bihash_steps.specs.declared.view.View.{View}
-use Rattle.bihash_table.specs.Answers.{IsAnswered}
+use Rattle.bihash_table.specs.Answers.{IsAnswered, own_writes}
 
 -- ---- One caller
 
@@ -73,4 +73,4 @@ pub record IsLastWrite (opening : Pairs) (history : List Write) (number : ℕ) (
 
 -- no write of bucket b was learned but the one that the call made
 abbrev pub LearnsOnlyOwn : ℕ → View → View → Event → Type 0
-LearnsOnlyOwn b v w e = length (known_at w.known b) ≤ length (known_at v.known b) + (if is_changed e.reply then 1 else 0)
+LearnsOnlyOwn b v w e = length (known_at w.known b) ≤ length (known_at v.known b) + own_writes e.reply

@@ -74,9 +74,11 @@ pub fn changed_alone_writes()
 {}
 
 /// A caller that only ever learns of writes that it makes itself is each bucket's one writer: caller 1 of a
-/// new table is, and an answer that taught no other write leaves it so.
+/// new table is, an answer that taught no other write leaves it so, and an answer teaches a lone caller none.
 pub fn one_writer_stays()
     ensures first { (z : Sizes) (b : ℕ) → IsOneWriter (first_view z).known b (acting (first_view z).records) }
     ensures stays { (z : Sizes) (b : ℕ) (v w : View) (e : Event) → IsLawfulAnswer z b v w e → LearnsOnlyOwn b v w e
         → (d : ℕ) → IsOneWriter v.known d (acting v.records) → IsOneWriter w.known d (acting w.records) }
+    ensures lone { (z : Sizes) (b : ℕ) (v w : View) (e : Event) → IsLawfulAnswer z b v w e → v.lone ≡ true
+        → LearnsOnlyOwn b v w e × (w.lone ≡ true) }
 {}

@@ -24,3 +24,6 @@ pub use laws::{
     one_writer_has_one_map, one_writer_stays,
 };
 pub use sessions::{Sessions, create};
+
+#[cfg(test)]
+mod tests;

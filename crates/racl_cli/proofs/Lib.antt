@@ -2,7 +2,6 @@ pub mod CommandLemmas
 pub mod Holding
 pub mod InputLemmas
 pub mod JudgingLemmas
-pub mod MapValues
 pub mod Mirrors
 pub mod NumberLemmas
 pub mod Reading

@@ -8,7 +8,7 @@ use Rattle.bihash_words.specs.Maps.{Pairs}
 use Rattle.bihash_plan.specs.Blocks.{HasKey, IsFree, IsNew, free, pairs}
 use Rattle.bihash_plan.proofs.Pairs.{is_taken-free, is_taken-pair}
 use Rattle.bihash_plan.proofs.Places.{free_inside, key_inside}
-use Rattle.racl_cli.proofs.MapValues.{get_left, get_none, get_other, get_set, len_less, len_more, len_set}
+use Rattle.bihash_words.proofs.MapValues.{get_left, get_none, get_other, get_set, len_less, len_more, len_set}
 use Rattle.racl_cli.proofs.SetPlaces.{count_set, get_after, get_elsewhere, get_here}
 
 -- keys of the same words are the same

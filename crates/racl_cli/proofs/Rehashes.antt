@@ -11,7 +11,7 @@ use Rattle.std.proofs.lemmas.List.Elements.{All-contains, All-contains_itself, A
 use Rattle.std.proofs.lemmas.List.Sorted.{Contains-permutation, IsPermutation-sym, length_permutation}
 use Rattle.bihash_words.specs.Maps.{Pairs}
 use Rattle.bihash_plan.specs.Blocks.{HasKey, IsNew, is_taken, pairs}
-use Rattle.racl_cli.proofs.MapValues.{get_other, get_set, len_more}
+use Rattle.bihash_words.proofs.MapValues.{get_other, get_set, len_more}
 use Rattle.racl_cli.proofs.Mirrors.{Mirrors, Tells}
 
 -- a pair that stands at a place is one of the pairs

@@ -1,4 +1,4 @@
-use Rattle.std.proofs.Common.{◌≡◌, ◌<◌, ◌≤◌, ◌*◌, ◌+◌, ℕ, ap, arith, length, subst}
+use Rattle.std.proofs.Common.{◌<◌, ◌*◌, ◌+◌, arith, subst}
 use Rattle.bihash_words.specs.Sizes.{sizes_of}
 use Rattle.bihash_steps.specs.Blocks.{places}
 use Rattle.bihash_steps.specs.declared.view.HeldBlock.{HeldBlock}

@@ -1,11 +1,9 @@
-use Rattle.std.proofs.Common.{◌≡◌, ◌≢◌, ◌∙◌, ◌≤◌, ◌+◌, ◌*◌, ◌^◌, ℕ, false, Some, None, ap, arith, refl, subst, sym}
+use Rattle.std.proofs.Common.{◌≡◌, ◌∙◌, ◌*◌, ◌^◌, false, Some, None, ap, arith, refl, subst, sym}
 use Rattle.bihash_words.specs.Sizes.{sizes_of}
 use Rattle.bihash_words.specs.declared.patch.Change.TheVariants.{Set}
 use Rattle.bihash_words.specs.declared.patch.Reply.TheVariants.{Changed, NoPages}
-use Rattle.bihash_steps.specs.Histories.{IsKeyOf}
-use Rattle.bihash_steps.specs.BucketSteps.{answered, call_of, map_now}
-use Rattle.bihash_steps.specs.StoreSteps.{LocksStore}
-use Rattle.bihash_steps.specs.Seats.{CallerState, with_view}
+use Rattle.bihash_steps.specs.BucketSteps.{call_of, map_now}
+use Rattle.bihash_steps.specs.Seats.{CallerState}
 use Rattle.bihash_steps.specs.declared.view.Holdings.{Holdings}
 use Rattle.bihash_steps.specs.declared.view.View.{View}
 use Rattle.bihash_table.specs.Copying.{IsWanting}
@@ -68,7 +66,10 @@ leave_store-requires-clause-own g c =
     let ready = is_ready g.S.Shape c.args.seat.now c.pool_lock.new.caller c.pool_lock.ensures.same locks
     (ap (λ (h : Holdings). h.block) c.requires.lock.1.held) c.in-Ok.page c.args.log2 c.take_block.new.seat
     c.in-Ok.ensures.same c.in-Ok.ensures.taken c.args.block.now c.write_block.new.seat c.write_block.ensures.written in
-    ap (λ (s : CallerState). s.row) (c.publish_block.ensures.view) ∙ ap (λ (s : CallerState). s.row) ready.is ∙ c.requires.own
+    let there : c.publish_block.new.caller.row ≡ c.write_block.new.seat.row =
+    ap (λ (s : CallerState). s.row) c.publish_block.ensures.view in
+    let before : c.write_block.new.seat.row ≡ c.args.seat.now.row = ap (λ (s : CallerState). s.row) ready.is in
+    there ∙ (before ∙ c.requires.own)
 
 pub leave_store-requires-clause-block : goal.leave_store-requires-clause-block
 leave_store-requires-clause-block g c =
@@ -115,7 +116,7 @@ returns-in-Ok-clause-answered g c =
     let block = Some (block_of c.in-Ok.page c.args.log2 ready.words) in
     left_written z v c.publish_block.new.caller.view c.leave_store.new.seat.view c.args.bucket c.args.word l n block
     (record { key = g.S.Shape.words_of c.args.key.now; found = None; change = Set c.args.value; reply = Changed None })
-    c.requires.lock.1 c.requires.home
+    c.requires.lock.1 c.requires.home refl
     (published c.args.seat.now c.write_block.new.seat c.publish_block.new.caller n block c.args.bucket
     (g.S.Shape.words_of c.args.key.now) None (Set c.args.value) ready.is c.publish_block.ensures.view)
     c.leave_store.ensures.left

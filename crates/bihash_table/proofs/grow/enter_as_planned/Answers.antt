@@ -1,9 +1,9 @@
-use Rattle.std.proofs.Common.{◌≡◌, ◌≢◌, ◌≤◌, ◌<◌, ◌∙◌, ◌*◌, ◌^◌, ℕ, List, Some, None, Result, Ok, Err, IfOk, ap, arith, length, length-take, pow_mono, refl, subst, sym, take}
+use Rattle.std.proofs.Common.{◌≤◌, ◌<◌, ◌∙◌, ◌^◌, None, Result, Ok, Err, IfOk, ap, arith, length, length-take, pow_mono, refl, subst, sym}
 use Rattle.std.specs.FinMap.{insert, len}
 use Rattle.bihash_words.specs.Maps.{Pairs, most_pairs}
 use Rattle.bihash_words.specs.Sizes.{sizes_of}
 use Rattle.bihash_words.specs.declared.patch.Change.TheVariants.{Set}
-use Rattle.bihash_words.specs.declared.patch.Reply.TheVariants.{Full, NoPages}
+use Rattle.bihash_words.specs.declared.patch.Reply.TheVariants.{Full}
 use Rattle.bihash_plan.specs.declared.outcome.Plan.TheVariants.{Grow}
 use Rattle.bihash_steps.specs.Histories.{bounds_of}
 use Rattle.bihash_steps.specs.Blocks.{IsBlockOf, places}
@@ -83,7 +83,8 @@ cancel-requires g c =
           (sym c.read_block.ensures.same)
           (may_crowd z v b c.args.word l (g.S.Shape.words_of c.args.key.now) lock
           (record { long = c.requires.counted; home = c.requires.home }) c.requires.unworn c.args.value
-          (is_full g.S.Shape keys v b c.args.word l c.args.key.now lock c.requires.lock.2 c.requires.new ps are c.plan.result plan c.in_default.not-Grow) c.requires.new);
+          (is_full g.S.Shape keys v b c.args.word l c.args.key.now lock
+          c.requires.lock.2 c.requires.new ps are c.plan.result plan c.in_default.not-Grow) c.requires.new);
     }
 
 pub returns-in_default : goal.returns-in_default

@@ -1,4 +1,4 @@
-use Rattle.std.proofs.Common.{◌≡◌, ◌∙◌, ap}
+use Rattle.std.proofs.Common.{◌∙◌, ap}
 use Rattle.bihash_steps.specs.Seats.{CallerState}
 use Rattle.bihash_table.proofs.Stores.{released}
 use Rattle.bihash_table.proofs.grow.leave_store.Goals as goal

@@ -1,4 +1,4 @@
-use Rattle.std.proofs.Common.{◌≡◌, ◌≢◌, ◌∙◌, ◌≤◌, ◌*◌, ◌^◌, ap, arith, pow_mono, sym}
+use Rattle.std.proofs.Common.{◌∙◌, ◌≤◌, ◌*◌, ◌^◌, ap, arith, pow_mono, sym}
 use Rattle.bihash_words.specs.Sizes.{sizes_of}
 use Rattle.bihash_table.proofs.Stores.{log2_is, no_places, page_is, some_places}
 use Rattle.bihash_table.proofs.grow.place_count.Goals as goal

@@ -1,12 +1,9 @@
-use Rattle.std.proofs.Common.{◌≡◌, ◌∙◌, ◌≤◌, ◌+◌, ℕ, false, Some, None, ap, arith, refl, subst, sym}
+use Rattle.std.proofs.Common.{◌∙◌, false, Some, None, ap, refl}
 use Rattle.bihash_words.specs.Sizes.{sizes_of}
 use Rattle.bihash_words.specs.declared.patch.Change.TheVariants.{Remove}
 use Rattle.bihash_words.specs.declared.patch.Reply.TheVariants.{Changed}
 use Rattle.bihash_steps.specs.BucketSteps.{call_of, map_now}
 use Rattle.bihash_steps.specs.Seats.{CallerState, with_view}
-use Rattle.bihash_steps.specs.StoreSteps.{holding}
-use Rattle.bihash_steps.specs.declared.view.Holdings.{Holdings}
-use Rattle.bihash_steps.specs.declared.view.View.{View}
 use Rattle.bihash_table.proofs.OpenPlaces.{word_tells}
 use Rattle.bihash_table.proofs.Replacing.{emptied, found_there, locked_on, may_empty, published, store_only}
 use Rattle.bihash_table.proofs.Stores.{holds_old, left_written, turned_away}
@@ -66,7 +63,7 @@ returns-clause-answered g c =
       refl,
       left_written z v c.publish_block.new.caller.view c.leave_store.new.seat.view c.args.bucket c.args.word l n None
           (record { key = key; found = Some c.args.found; change = Remove; reply = Changed (Some c.args.found) })
-          c.requires.lock.2 c.requires.home
+          c.requires.lock.2 c.requires.home refl
           (published c.args.caller.now c.pool_lock.new.caller c.publish_block.new.caller n None c.args.bucket key
           (Some c.args.found) Remove (c.pool_lock.ensures.same ∙ ap (with_view c.args.caller.now)
           (store_only z v c.pool_lock.new.caller.view c.args.bucket c.args.word l c.requires.lock.2 locks))

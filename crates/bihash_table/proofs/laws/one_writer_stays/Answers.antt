@@ -1,5 +1,5 @@
 -- What a reader is told of one writer.
-use Rattle.bihash_table.proofs.AnsweredCalls.{first_one_writer, stays_one_writer}
+use Rattle.bihash_table.proofs.AnsweredCalls.{first_one_writer, lone_learns_own, stays_one_writer}
 use Rattle.bihash_table.proofs.laws.one_writer_stays.Goals as goal
 
 pub returns-clause-first : goal.returns-clause-first
@@ -7,3 +7,6 @@ returns-clause-first c = first_one_writer
 
 pub returns-clause-stays : goal.returns-clause-stays
 returns-clause-stays c = stays_one_writer
+
+pub returns-clause-lone : goal.returns-clause-lone
+returns-clause-lone c = lone_learns_own

@@ -20,7 +20,8 @@ returns-then-locked-clause-turned_away g c =
           (sees_locked _ _ _ _ _ _ c.locked.ensures w.if-locked.true c.load_bucket-word.ensures.seen))
       | then-locked-via-else-locked+then-not-lock_from w ↦ subst away (sym w.caller-is)
           (open_turns_away z _ _ _ _ _ c.requires.inside c.requires.free
-          (sees_open _ _ _ _ _ _ c.locked.ensures w.if-locked.false c.load_bucket-word.ensures.seen) (w.lock_from.ensures.not w.if-not-lock_from.true))
+          (sees_open _ _ _ _ _ _ c.locked.ensures w.if-locked.false c.load_bucket-word.ensures.seen) c.load_bucket-word.ensures.whole
+          (w.lock_from.ensures.not w.if-not-lock_from.true))
     ]
 
 pub returns-then-locked-clause-lone : goal.returns-then-locked-clause-lone
@@ -33,4 +34,5 @@ returns-then-locked-clause-lone g c = λ lone.
 
 pub returns-clause-locked : goal.returns-clause-locked
 returns-clause-locked g c = takes_after _ _ _ _ _ _ c.requires.inside c.requires.free
-    (sees_open _ _ _ _ _ _ c.locked.ensures c.if-locked.false c.load_bucket-word.ensures.seen) (c.lock_from.ensures.taken c.if-not-lock_from.false)
+    (sees_open _ _ _ _ _ _ c.locked.ensures c.if-locked.false c.load_bucket-word.ensures.seen) c.load_bucket-word.ensures.whole
+    (c.lock_from.ensures.taken c.if-not-lock_from.false) (λ lone. c.lock_from.ensures.whole lone c.if-not-lock_from.false)
