@@ -1,4 +1,5 @@
 //! Inputs whose captures are spelt as hexadecimal digits, packet by packet, and what runs make of them.
+//! They are compiled for tests alone, so no clause rests on them.
 
 use crate::device::Device;
 use crate::fault::Fault;
