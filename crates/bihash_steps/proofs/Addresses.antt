@@ -8,8 +8,8 @@ use Rattle.bihash_words.specs.Sizes.{Sizes}
 use Rattle.bihash_words.specs.Words.{Bucket, Fits, packed}
 use Rattle.bihash_steps.specs.Words.{buckets, bucket_at, page_at, page_words}
 use Rattle.bihash_steps.specs.Callers.{known_at}
-use Rattle.bihash_steps.specs.Buckets.{word_of}
-use Rattle.bihash_steps.specs.BucketSteps.{TellsBucket, TellsLock, IsLockedWord, TellsLockedWord, TellsStored, HoldsClean, unlocked, MayAnswer, answered, MayPublish, TellsEvent, written}
+use Rattle.bihash_steps.specs.Buckets.{word_of, open_word}
+use Rattle.bihash_steps.specs.BucketSteps.{TellsBucket, TellsLock, IsLockedWord, TellsLockedWord, TellsStored, HoldsClean, unlocked, MayAnswer, answered, MayPublish, TellsEvent, written, IsOpenWord, TellsOpenWord, MayValidate, TellsValid}
 use Rattle.bihash_steps.specs.Steps.{ViewOfSeat}
 use Rattle.bihash_steps.specs.StoreSteps.{MayReplace, replaced, IsHeldWord, holding, stored_at}
 use Rattle.bihash_steps.specs.WordRule.{WordRule}
@@ -17,11 +17,13 @@ use Rattle.bihash_steps.specs.declared.view.Call.{Call}
 use Rattle.bihash_steps.specs.declared.view.Extent.{Extent}
 use Rattle.bihash_steps.specs.declared.view.LockedBucket.{LockedBucket}
 use Rattle.bihash_steps.specs.declared.view.HeldBlock.{HeldBlock}
+use Rattle.bihash_steps.specs.declared.view.OpenBucket.{OpenBucket}
 use Rattle.bihash_steps.specs.declared.view.View.{View}
 use Rattle.bihash_steps.proofs.SeesBucket.{bucket_fits, loads_bucket}
 use Rattle.bihash_steps.proofs.LocksBucket.{locks_bucket}
 use Rattle.bihash_steps.proofs.LockedWords.{held_bucket, loads_locked_word, stores_locked_word}
 use Rattle.bihash_steps.proofs.Unlocks.{unlocks_bucket, answers_call}
+use Rattle.bihash_steps.proofs.Opens.{loads_open_word, validates_call}
 use Rattle.bihash_steps.proofs.HeldWords.{stores_held_word}
 use Rattle.bihash_steps.proofs.Publish.{publishes_call}
 use Rattle.bihash_steps.proofs.Replace.{replaces_call}
@@ -136,3 +138,34 @@ module _ (z : Sizes) where
       subst (λ (x : ℕ). Allows (WordRule z) slots id m x (λ _. n) (λ _ m'. (p i : ℕ) (h : HeldBlock) → IsHeldWord z m.0 p i → x ≡ page_at z p + i
       → m.0.holds.block ≡ Some h → m' ≡ (holding m.0 m.0.holds.store (Some (stored_at h i n)), m.1))) (sym is)
       (stores_held_word z slots id page k n m word acts)
+
+  -- ---- Without a lock
+
+  one_open_word : (v : View) (page k p i : ℕ) → IsOpenWord z v page k → IsOpenWord z v p i → page_at z page + k ≡ page_at z p + i → k ≡ i
+  one_open_word v page k p i a b e =
+      let one : a.bucket ≡ b.bucket = let h = a.noted in let f = b.noted in cc in
+      let same : page ≡ p = sym a.first ∙ (ap (λ (o : OpenBucket). o.extent.page) one ∙ b.first) in
+      let at : page_at z page + k ≡ page_at z page + i = e ∙ ap (λ (n : ℕ). page_at z n + i) (sym same) in
+      let x : ℕ = (page - 1) * page_words z in omega arith
+
+  pub loads_open_at : (slots id at page k : ℕ) (m : ViewOfSeat) → at ≡ page_at z page + k → IsOpenWord z m.0 page k
+      → Allows (WordRule z) slots id m at (λ n. n) (λ n m'. (p i : ℕ) → IsOpenWord z m.0 p i → at ≡ page_at z p + i → TellsOpenWord i m n m')
+  loads_open_at slots id at page k m is word =
+      subst (λ (x : ℕ). Allows (WordRule z) slots id m x (λ n. n)
+      (λ n m'. (p i : ℕ) → IsOpenWord z m.0 p i → x ≡ page_at z p + i → TellsOpenWord i m n m')) (sym is)
+      (tells (WordRule z) slots id (page_at z page + k) m (λ n. n) (TellsOpenWord k m)
+      (λ n m'. (p i : ℕ) → IsOpenWord z m.0 p i → page_at z page + k ≡ page_at z p + i → TellsOpenWord i m n m')
+      (λ n m' t p i other e. subst (λ (j : ℕ). TellsOpenWord j m n m') (one_open_word m.0 page k p i word other e) t)
+      (loads_open_word z slots id page k m word))
+
+  pub validates_at : (slots id at b word : ℕ) (c : Call) (m : ViewOfSeat) → at ≡ bucket_at z b → b < buckets z → 1 ≤ length m.0.records
+      → MayValidate z m.0 b word c
+      → Allows (WordRule z) slots id m at (λ n. n) (λ n m'. (o : OpenBucket) → m.0.notes.open_bucket ≡ Some o → TellsValid z (open_word o) c m n m')
+  validates_at slots id at b word c m is inside acts may =
+      subst (λ (i : ℕ). Allows (WordRule z) slots id m i (λ n. n)
+      (λ n m'. (o : OpenBucket) → m.0.notes.open_bucket ≡ Some o → TellsValid z (open_word o) c m n m')) (sym is)
+      (tells (WordRule z) slots id (bucket_at z b) m (λ n. n) (TellsValid z word c m)
+      (λ n m'. (o : OpenBucket) → m.0.notes.open_bucket ≡ Some o → TellsValid z (open_word o) c m n m')
+      (λ n m' t o noted. let one : may.open_bucket ≡ o = let h = may.noted in cc in
+      subst (λ (y : ℕ). TellsValid z y c m n m') (may.stood ∙ ap open_word one) t)
+      (validates_call z slots id b word c m may inside acts))

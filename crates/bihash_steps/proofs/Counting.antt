@@ -10,19 +10,23 @@ use Rattle.atomic_table.specs.Table.{State, Act, keeps, Valid, stepped, carried_
 use Rattle.bihash_words.specs.Sizes.{Sizes}
 use Rattle.bihash_steps.specs.Words.{count_of, buckets}
 use Rattle.bihash_steps.specs.Histories.{IsPrefix}
-use Rattle.bihash_steps.specs.Callers.{known_at, opening_in, IsConsistent, HasNumbers, Apart, Agrees}
+use Rattle.bihash_steps.specs.Callers.{IsWhole, known_writes, known_at, opening_in, IsConsistent, HasNumbers, Apart, Agrees}
 use Rattle.bihash_steps.specs.Buckets.{IsBucket}
-use Rattle.bihash_steps.specs.PageStores.{HasCall}
+use Rattle.bihash_steps.specs.PageStores.{AreShort, HasCall, writes_in}
 use Rattle.bihash_steps.specs.Views.{empty_record, no_notes}
 use Rattle.bihash_steps.specs.WordRule.{TableState, HaveMet, HaveMetIf, IsView, WordRule}
 use Rattle.bihash_steps.specs.Steps.{ViewOfSeat, counted, numbered, recounted, joining, TellsCount, TellsNumber, TellsAgreement}
+use Rattle.bihash_steps.specs.declared.view.Known.{Known}
+use Rattle.bihash_steps.specs.Buckets.{BucketState}
 use Rattle.bihash_steps.specs.declared.view.Write.{Write}
 use Rattle.bihash_steps.specs.declared.view.Call.{Call}
 use Rattle.bihash_steps.specs.declared.view.Record.{Record}
 use Rattle.bihash_steps.specs.declared.view.Meeting.{Meeting}
 use Rattle.bihash_steps.specs.declared.view.View.{View}
-use Rattle.bihash_steps.proofs.Lists.{at_end}
-use Rattle.bihash_steps.proofs.Prefixes.{one_begins}
+use Rattle.bihash_steps.proofs.KnownLists.{lawful_here}
+use Rattle.bihash_steps.proofs.Lists.{at_end, there}
+use Rattle.bihash_steps.proofs.Whole.{prefix_whole}
+use Rattle.bihash_steps.proofs.Prefixes.{one_begins, prefix_at}
 use Rattle.bihash_steps.proofs.Numbers.{few_numbers, whole_by_count}
 use Rattle.bihash_steps.proofs.Lawful.{more_informed, more_numbers, parts_apart, wider}
 use Rattle.bihash_steps.proofs.CountWord.{SameButCount, still_lock, still_pool, still_block, one_moved, stays, some_words, others_apart, not_lone}
@@ -50,6 +54,25 @@ module _ (z : Sizes) where
     meeting = tt;
   }
 
+  -- a whole view knows each history whole
+  known_whole : (s : State (Unit {0}) View) (r : WordRule z s) (id : ℕ) (v : View) → IsView z s.words (count_of s.words) r.table id v
+      → IsWhole v.records (count_of s.words) → (b : ℕ) → b < buckets z → known_at v.known b ≡ (r.table.bucket b).history
+  known_whole s r id v ok whole b inside = prefix_whole (known_at v.known b) (r.table.bucket b).history (ok.informed.begins b inside)
+      (long (length (r.table.bucket b).history) refl)
+    where
+      long : (n : ℕ) → length (r.table.bucket b).history ≡ n → length (r.table.bucket b).history ≤ length (known_at v.known b)
+      long zero e = omega arith
+      long (suc n) e =
+          let last = there (r.table.bucket b).history n (omega arith) in
+          let by = (r.each_bucket b inside).bearers n last.0 last.1 in
+          let mine = whole last.0.by by.0 by.1 in
+          let reached : n < length (known_at v.known b) = ok.informed.own mine.0 b n mine.1 last.0 mine.2 inside last.1 (sym mine.3) in omega arith
+
+  known_sum : (known : Known) (x : ℕ → BucketState) (n : ℕ) → ((b : ℕ) → b < n → known_at known b ≡ (x b).history) → known_writes known n ≡ writes_in x n
+  known_sum known x zero each = refl
+  known_sum known x (suc n) each =
+      let before = known_sum known x n (λ b l. each b (omega arith)) in let last = ap length (each n (omega arith)) in omega arith
+
   pub loads_count : (slots id : ℕ) (m : ViewOfSeat) → Allows (WordRule z) slots id m 0 (λ n. n) (TellsCount z m)
   loads_count slots id m s r deep at fits =
       let v = m.0 in
@@ -64,8 +87,12 @@ module _ (z : Sizes) where
           seat = refl;
           rises = ok.seen;
           few = r.few_callers;
-          lawful = record { numbers = good.numbers; lawful = ok.informed.lawful };
+          lawful = lawful_here z s r (counted v count) good.numbers good.informed good.lone;
           whole = good.lone;
+          bearers = λ b n w inside e. (r.each_bucket b inside).bearers n w
+              (prefix_at (known_at v.known b) (r.table.bucket b).history n w (ok.informed.begins b inside) e);
+          short = λ lone. subst (λ (n : ℕ). AreShort z n v.records)
+              (sym (known_sum v.known r.table.bucket (buckets z) (known_whole s r id v ok (good.lone lone)))) ok.short;
         },
       )
 
@@ -118,7 +145,7 @@ module _ (z : Sizes) where
         record {
           seat = refl;
           few = let l = few_numbers v.seen v.records ok.numbers in let a = ok.seen in let b = r.few_callers in omega arith;
-          lawful = record { numbers = ok.numbers; lawful = ok.informed.lawful };
+          lawful = lawful_here z s r (record v { notes = no_notes }) ok.numbers ok.informed ok.lone;
           agree = λ y e. consistent r.table y (subst (HaveMetIf z r.table) e ok.meeting);
         },
       )
@@ -259,7 +286,7 @@ module _ (z : Sizes) where
           not = λ ne. absurd (ne e);
           rises = ok.seen;
           few = fewer;
-          lawful = record { numbers = good.numbers; lawful = good.informed.lawful };
+          lawful = lawful_here z s r (numbered v count) good.numbers good.informed (λ h. absurd (true≢false (sym h)));
         },
       )
 
@@ -276,6 +303,6 @@ module _ (z : Sizes) where
           not = λ _. refl;
           rises = ok.seen;
           few = fewer;
-          lawful = record { numbers = good.numbers; lawful = ok.informed.lawful };
+          lawful = lawful_here z s r (recounted v count) good.numbers good.informed good.lone;
         },
       )

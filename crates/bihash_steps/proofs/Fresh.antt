@@ -14,6 +14,7 @@ use Rattle.bihash_words.specs.Sizes.{Sizes, IsSound}
 use Rattle.bihash_steps.specs.Words.{buckets, bucket_at, page_words, list_words, list_at, returned_count_at, Stands}
 use Rattle.bihash_steps.specs.Blocks.{no_block, IsBlockOf}
 use Rattle.bihash_steps.specs.Partition.{PageRun, Owner, of_bucket, returned_at, never_used, held_by, run_at}
+use Rattle.bihash_steps.specs.Histories.{IsWriteList}
 use Rattle.bihash_steps.specs.Callers.{known_at, opening_in, IsLawfulCaller}
 use Rattle.bihash_steps.specs.Words.{IsFresh}
 use Rattle.bihash_steps.specs.Buckets.{BucketState}
@@ -38,6 +39,18 @@ module _ (z : Sizes) where
   none_known : (b : ℕ) → b < buckets z → known_at (first_view z).known b ≡ []
   none_known b l = get_or-replicate (buckets z) b [] [] l
 
+  no_pair : (key : List ℕ) (b : ℕ) → get (opening_in [] b) key ≡ None
+  no_pair key zero = get-from_entries nat_list_cmp_total [] key
+  no_pair key (suc b) = get-from_entries nat_list_cmp_total [] key
+
+  -- no write at all is a write list
+  no_writes : (b : ℕ) → IsWriteList z b (opening_in [] b) []
+  no_writes b = record {
+    short = omega arith;
+    each = λ n w e. absurd (some-ne-none w (sym e));
+    home = λ key value h. let e = no_pair key b in absurd (cc (h, e));
+  }
+
   pub first_lawful : IsLawfulCaller z (first_view z)
   first_lawful = record {
     numbers = record {
@@ -49,6 +62,8 @@ module _ (z : Sizes) where
       rises = λ i r e a b c d lt f g. absurd (some-ne-none c (sym (ap (λ (q : Record). get_elem? q.calls a) (one_record i r e).1 ∙ f)));
       own = λ i b n r w e l f is. absurd (some-ne-none w (sym (ap (λ (h : List Write). get_elem? h n) (sym (none_known b l)) ∙ f)));
     };
+    lists = λ _ b l. subst (IsWriteList z b (opening_in [] b)) (sym (none_known b l)) (no_writes b);
+    made = λ _ b l n w f. absurd (some-ne-none w (sym (ap (λ (h : List Write). get_elem? h n) (sym (none_known b l)) ∙ f)));
   }
 
   -- ---- The page store
@@ -123,10 +138,6 @@ module _ (z : Sizes) where
   only_view zero v e = (refl, some-injective (first_view z) v e)
   only_view (suc j) v e = absurd (some-ne-none v (sym e))
 
-  no_pair : (key : List ℕ) (b : ℕ) → get (opening_in [] b) key ≡ None
-  no_pair key zero = get-from_entries nat_list_cmp_total [] key
-  no_pair key (suc b) = get-from_entries nat_list_cmp_total [] key
-
   pub starts : (words : List ℕ) → IsSound z → IsFresh z words → WordRule z (opening words [] (first_view z))
   starts words sound fresh = let one = fresh.one in let front = front z in let many = sound.some_callers in
       let pages : ℕ = z.pages * page_words z in record {
@@ -137,11 +148,7 @@ module _ (z : Sizes) where
         few_callers = omega arith;
         each_bucket = λ b l. record {
           word = fresh.empty (bucket_at z b) (omega arith) (omega arith);
-          writes = record {
-            short = omega arith;
-            each = λ n w e. absurd (some-ne-none w (sym e));
-            home = λ key value h. let e = no_pair key b in absurd (cc (h, e));
-          };
+          writes = no_writes b;
           bearers = λ n w e. absurd (some-ne-none w (sym e));
           size = refl;
           pairs = bare_block;

@@ -2,6 +2,8 @@ pub mod Lists
 pub mod Put
 pub mod Prefixes
 pub mod Numbers
+pub mod KnownLists
+pub mod Opens
 pub mod Lawful
 pub mod Pushed
 pub mod Informed
@@ -12,6 +14,7 @@ pub mod Runs
 pub mod Exchange
 pub mod Room
 pub mod Whole
+pub mod WordFields
 pub mod SeesBucket
 pub mod Relocks
 pub mod LocksBucket

@@ -1,14 +1,14 @@
 -- The exchange that sets the lock bit of a bucket's word.
-use Rattle.std.proofs.Common.{◌≡◌, ◌≢◌, ℕ, ◌+◌, ◌*◌, ◌^◌, ◌<◌, ◌≤◌, eqb, Bool, true, false, true≢false, length, set, refl, sym, ap, ◌∙◌, subst, arith, length-set, get_or-set_same, eq-eqb, ne_eqb, Option, Some, None}
+use Rattle.std.proofs.Common.{◌≡◌, ◌≢◌, ℕ, ◌<◌, ◌≤◌, eqb, Bool, true, false, length, set, refl, sym, ap, ◌∙◌, subst, arith, length-set, get_or-set_same, eq-eqb, ne_eqb, Some, None}
 use mathlib.Core.Logic.{dite}
 use mathlib.Core.Option.{some}
 use native.Mathlib.Decide.{ℕ_discrete}
 use lib.ListN.{get_elem?}
 use prog.Atomic.{either}
-use Rattle.std.specs.Prelude.{slice_index, is_some}
+use Rattle.std.specs.Prelude.{slice_index}
 use Rattle.atomic_table.specs.Table.{State, Act, keeps, Valid, stepped, carried_after, Allows}
 use Rattle.bihash_words.specs.Sizes.{Sizes}
-use Rattle.bihash_words.specs.Words.{Bucket, Fits, bit, packed}
+use Rattle.bihash_words.specs.Words.{Bucket, Fits, packed}
 use Rattle.bihash_steps.specs.Words.{count_of, buckets, bucket_at}
 use Rattle.bihash_steps.specs.Buckets.{StandsStillIf, word_of}
 use Rattle.bihash_steps.specs.PageStores.{all_writes, runs_now}
@@ -17,6 +17,7 @@ use Rattle.bihash_steps.specs.Steps.{ViewOfSeat}
 use Rattle.bihash_steps.specs.BucketSteps.{unnoted, learned, lock_counted, locked_on, locking, IsFound, TellsLock}
 use Rattle.bihash_steps.specs.declared.view.LockedBucket.{LockedBucket}
 use Rattle.bihash_steps.specs.declared.view.View.{View}
+use Rattle.bihash_steps.proofs.KnownLists.{lawful_here, lawful_set}
 use Rattle.bihash_steps.proofs.CountWord.{stays_at, others_apart}
 use Rattle.bihash_steps.proofs.Counting.{unnoted_view}
 use Rattle.bihash_steps.proofs.Frames.{free_none, free_own}
@@ -25,53 +26,9 @@ use Rattle.bihash_steps.proofs.Pushed.{counted_numbers, counted_whole, counted_n
 use Rattle.bihash_steps.proofs.Whole.{whole_known}
 use Rattle.bihash_steps.proofs.Informed.{known_learned, learned_informed, counted_informed}
 use Rattle.bihash_steps.proofs.Relocks.{relocked_rule}
-use Rattle.bihash_steps.proofs.SeesBucket.{bucket_fits, is_found}
-
--- ---- A word holds one bucket's fields
-
-few_bit : (mark : Bool) → bit mark ≤ 1
-few_bit true = omega arith
-few_bit false = omega arith
-
-bit_once : (mark other : Bool) → bit mark ≡ bit other → mark ≡ other
-bit_once true true e = refl
-bit_once true false e = absurd (omega arith)
-bit_once false true e = absurd (omega arith)
-bit_once false false e = refl
-
-pub packed_once : (x y : Bucket) → Fits x → Fits y → packed x ≡ packed y → x ≡ y
-packed_once x y fits fits' same =
-    let p = fits.page in let p' = fits'.page in
-    let l = fits.log2 in let l' = fits'.log2 in
-    let a : ℕ = bit x.linear in let a' : ℕ = bit y.linear in
-    let few : a ≤ 1 = few_bit x.linear in let few' : a' ≤ 1 = few_bit y.linear in
-    let c : ℕ = bit x.locked in let c' : ℕ = bit y.locked in
-    let one : c ≤ 1 = few_bit x.locked in let one' : c' ≤ 1 = few_bit y.locked in
-    let e : x.page + 2 ^ 24 * x.log2 + 2 ^ 29 * a + 2 ^ 30 * c + 2 ^ 31 * x.version
-    ≡ y.page + 2 ^ 24 * y.log2 + 2 ^ 29 * a' + 2 ^ 30 * c' + 2 ^ 31 * y.version = same in
-    let page : x.page ≡ y.page = omega arith in
-    let log2 : x.log2 ≡ y.log2 = omega arith in
-    let linear : a ≡ a' = omega arith in
-    let locked : c ≡ c' = omega arith in
-    let version : x.version ≡ y.version = omega arith in
-    let linear' = bit_once x.linear y.linear linear in
-    let locked' = bit_once x.locked y.locked locked in
-    λ i. record { page = page i; log2 = log2 i; linear = linear' i; locked = locked' i; version = version i }
-
-none_of : (lock : Option ℕ) → is_some lock ≡ false → lock ≡ None
-none_of None e = refl
-none_of (Some j) e = absurd (true≢false e)
-
--- a bucket whose word has no lock bit has this extent and version, and nobody has its lock
-pub unlocked_word : (z : Sizes) (s : State (Unit {0}) View) (r : WordRule z s) (b : ℕ) (x : Bucket) → b < buckets z → Fits x → x.locked ≡ false
-    → slice_index s.words (bucket_at z b) ≡ packed x
-    → ((r.table.bucket b).lock ≡ None) × (word_of (r.table.bucket b).extent false (length (r.table.bucket b).history) ≡ x)
-unlocked_word z s r b x inside fits unset here =
-    let y = r.table.bucket b in
-    let is : word_of y.extent (is_some y.lock) (length y.history) ≡ x
-    = packed_once _ x (bucket_fits z s r b inside (is_some y.lock)) fits (sym (r.each_bucket b inside).word ∙ here) in
-    let free : is_some y.lock ≡ false = ap (λ (w : Bucket). w.locked) is ∙ unset in
-    (none_of y.lock free, subst (λ (mark : Bool). word_of y.extent mark (length y.history) ≡ x) free is)
+use Rattle.bihash_steps.proofs.SeesBucket.{is_found}
+use Rattle.bihash_steps.proofs.WordFields.{unlocked_word}
+use Rattle.bihash_steps.proofs.Opens.{rests_on}
 
 module _ (z : Sizes) where
   -- the rule stands where a bucket that nobody has locked gets locked
@@ -176,12 +133,16 @@ module _ (z : Sizes) where
               };
               not = λ ne. absurd (ne e);
               lone = λ _ o f g h. e;
+              rests = λ _ o noted same is l held.
+                  let mine : locked_on b (length y.history) y.extent y.block ≡ l = cc held in
+                  let here = ap (λ (c : ℕ). slice_index s.words (bucket_at z c)) same ∙ (e ∙ is) in
+                  rests_on z s r id v o l at noted here
+                  (ap (λ (k : LockedBucket). k.extent) (sym mine) ∙ ap (λ (c : ℕ). (r.table.bucket c).extent) (sym same))
+                  (ap (λ (k : LockedBucket). k.version) (sym mine) ∙ ap (λ (c : ℕ). length (r.table.bucket c).history) (sym same))
+                  (ap (λ (k : LockedBucket). k.was) (sym mine) ∙ ap (λ (c : ℕ). (r.table.bucket c).block) (sym same));
               whole = λ lone _. known_learned v b y.history (let wide = ok.informed.wide in omega arith)
                   ∙ sym (whole_known z s r id b v at lone inside);
-              lawful = record {
-                numbers = counted_numbers v.seen v.records ok.numbers;
-                lawful = (counted_informed z r.table (learned v b y.history).known v.records good).lawful;
-              };
+              lawful = lawful_set z (set s.words (bucket_at z b) word') s id v w at rule;
             },
           )
 
@@ -199,7 +160,8 @@ module _ (z : Sizes) where
               not = λ _. refl;
               lone = λ lone o noted same is. absurd (ne (ap (λ (c : ℕ). slice_index s.words (bucket_at z c)) (sym same)
                   ∙ (subst (StandsStillIf z s.words) noted (ok.still lone) ∙ sym is)));
+              rests = λ e. absurd (ne e);
               whole = λ _ e. absurd (ne e);
-              lawful = record { numbers = ok.numbers; lawful = ok.informed.lawful };
+              lawful = lawful_here z s r (unnoted v) good.numbers good.informed good.lone;
             },
           )

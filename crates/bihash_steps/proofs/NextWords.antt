@@ -3,11 +3,12 @@ use Rattle.std.proofs.Common.{◌≡◌, ℕ, ◌+◌, ◌-◌, ◌^◌, ◌<◌
 use Rattle.bihash_words.specs.Sizes.{Sizes, IsSound}
 use Rattle.bihash_words.specs.Words.{Bucket, Fits, packed, version_of}
 use Rattle.bihash_steps.specs.Callers.{known_at}
-use Rattle.bihash_steps.specs.Buckets.{word_of}
-use Rattle.bihash_steps.specs.BucketSteps.{MayAnswer, MayWrite, TellsEvent, answered, push_call}
+use Rattle.bihash_steps.specs.Buckets.{word_of, open_word}
+use Rattle.bihash_steps.specs.BucketSteps.{MayAnswer, MayWrite, TellsEvent, answered, push_call, MayValidate, TellsValid}
 use Rattle.bihash_steps.specs.Steps.{ViewOfSeat}
 use Rattle.bihash_steps.specs.declared.view.Call.{Call}
 use Rattle.bihash_steps.specs.declared.view.Extent.{Extent}
+use Rattle.bihash_steps.specs.declared.view.OpenBucket.{OpenBucket}
 use Rattle.bihash_steps.specs.declared.view.View.{View}
 use Rattle.bihash_steps.proofs.Addresses.{HasVersion}
 use Rattle.bihash_steps.proofs.SeatCounts.{IsCounted, counted_call}
@@ -55,3 +56,15 @@ counted_answer z m m' c b word version numbers old may has read told h =
     = may.stamp ∙ (ap (λ (n : ℕ). length (known_at m.0.known n)) (sym may.clean.bucket) ∙ (sym known.1 ∙ sym is)) in
     counted_call m m' c numbers b version old (ap (λ (q : ViewOfSeat). q.1) told.seat) (ap (λ (q : ViewOfSeat). q.0.records) told.seat)
     may.bucket stamp h
+
+-- and of one that was answered without a lock
+pub counted_valid : (z : Sizes) (m m' : ViewOfSeat) (c : Call) (b word version found numbers : ℕ) (old : Option (ℕ × ℕ))
+    → MayValidate z m.0 b word c → ((x : Bucket) → Fits x → word ≡ packed x → version ≡ x.version)
+    → ((o : OpenBucket) → m.0.notes.open_bucket ≡ Some o → TellsValid z (open_word o) c m found m')
+    → found ≡ word → IsCounted m numbers old → IsCounted m' numbers (Some (b, version))
+counted_valid z m m' c b word version found numbers old may read told here h =
+    let o = may.open_bucket in
+    let t = told o may.noted in
+    let is = read (word_of o.extent false o.version) may.fits may.stood in
+    counted_call m m' c numbers b version old t.slots (ap (λ (v : View). v.records) (t.valid (here ∙ may.stood))) may.bucket
+    (let s = may.stamp in let v = may.version in omega arith) h

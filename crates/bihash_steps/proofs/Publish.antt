@@ -27,6 +27,7 @@ use Rattle.bihash_steps.specs.declared.view.LockedBucket.{LockedBucket}
 use Rattle.bihash_steps.specs.declared.view.LockedStore.{LockedStore}
 use Rattle.bihash_steps.specs.declared.view.HeldBlock.{HeldBlock}
 use Rattle.bihash_steps.specs.declared.view.View.{View}
+use Rattle.bihash_steps.proofs.KnownLists.{lawful_set}
 use Rattle.bihash_steps.proofs.Lists.{there}
 use Rattle.bihash_steps.proofs.Frames.{Keeps, Undisturbed, store_keeps, store_lock_beside, more_writes, more_short, moved}
 use Rattle.bihash_steps.proofs.Runs.{beside_bucket, block_keeps, front_still, store_still, count_still, bucket_behind, bucket_inside, runs_still}
@@ -216,9 +217,8 @@ module _ (z : Sizes) where
     written v c,
     keeps,
     tt,
-    writes_word s r id v b word c at acts may.write n l.extent l.now v.holds.store v.holds.block x' q elsewhere here is h.size h.stands
-        may.pairs settles,
-    record { seat = refl; lawful = record { numbers = view.numbers; lawful = view.informed.lawful } },
+    rule,
+    record { seat = refl; lawful = lawful_set z (set s.words (bucket_at z b) n) s id v (written v c) at rule },
   )
     where
       v : View
@@ -282,6 +282,6 @@ module _ (z : Sizes) where
             (sym (runs_still r.table.bucket x' q.store q.store s.views id v (written v c) extents (λ _. refl) at refl)) r.parted;
       }
 
-      view : IsView z words' (count_of s.words) (record r.table { bucket = x'; store = q }) id (written v c)
-      view = written_view s r id v b word c at acts may.write n l.extent l.now v.holds.store v.holds.block x' q elsewhere here is h.size h.stands
+      rule : WordRule z record { words = words'; homes = s.homes; views = set s.views id (written v c) }
+      rule = writes_word s r id v b word c at acts may.write n l.extent l.now v.holds.store v.holds.block x' q elsewhere here is h.size h.stands
           may.pairs settles

@@ -25,11 +25,12 @@ use Rattle.bihash_steps.specs.declared.view.PageStore.{PageStore}
 use Rattle.bihash_steps.specs.declared.view.ListedPage.{ListedPage}
 use Rattle.bihash_steps.specs.declared.view.HeldBlock.{HeldBlock}
 use Rattle.bihash_steps.specs.declared.view.View.{View}
+use Rattle.bihash_steps.proofs.KnownLists.{lawful_set}
 use Rattle.bihash_steps.proofs.Frames.{free_own, more_writes, store_keeps, store_lock_beside}
 use Rattle.bihash_steps.proofs.Runs.{front_still, store_still}
 use Rattle.bihash_steps.proofs.Exchange.{passes}
 use Rattle.bihash_steps.proofs.Put.{put, put_here, put_else}
-use Rattle.bihash_steps.proofs.Publish.{state_after, no_shorter, held_bucket, bucket_in, Settles, written_view, writes_word}
+use Rattle.bihash_steps.proofs.Publish.{state_after, no_shorter, held_bucket, bucket_in, Settles, writes_word}
 
 -- ---- One write more
 
@@ -102,9 +103,8 @@ module _ (z : Sizes) where
     replaced v c,
     keeps,
     tt,
-    writes_word z s r id v b word c at acts may.write n extent now (settled_in v.holds.store) (freed v.holds.bucket) x' q' elsewhere here is
-        new_block.size new_block.stands may.pairs settles,
-    record { seat = refl; lawful = record { numbers = view.numbers; lawful = view.informed.lawful } },
+    rule,
+    record { seat = refl; lawful = lawful_set z (set s.words (bucket_at z b) n) s id v (replaced v c) at rule },
   )
     where
       v : View
@@ -207,6 +207,6 @@ module _ (z : Sizes) where
             (ap run_in freed_is ∙ (freed_run l.extent.page l.extent.log2 l.now ∙ ap (λ (y : Extent). run_of y.page y.log2) h.extent)) r.parted;
       }
 
-      view : IsView z words' (count_of s.words) (record r.table { bucket = x'; store = q' }) id (replaced v c)
-      view = written_view z s r id v b word c at acts may.write n extent now (settled_in v.holds.store) (freed v.holds.bucket) x' q' elsewhere
+      rule : WordRule z record { words = words'; homes = s.homes; views = set s.views id (replaced v c) }
+      rule = writes_word z s r id v b word c at acts may.write n extent now (settled_in v.holds.store) (freed v.holds.bucket) x' q' elsewhere
           here is new_block.size new_block.stands may.pairs settles

@@ -22,6 +22,7 @@ use Rattle.bihash_steps.specs.BucketSteps.{unnoted, learned, open_on, IsFound, S
 use Rattle.bihash_steps.specs.declared.view.Holdings.{Holdings}
 use Rattle.bihash_steps.specs.declared.view.LockedBucket.{LockedBucket}
 use Rattle.bihash_steps.specs.declared.view.View.{View}
+use Rattle.bihash_steps.proofs.KnownLists.{lawful_here}
 use Rattle.bihash_steps.proofs.Lists.{there}
 use Rattle.bihash_steps.proofs.CountWord.{stays_at, others_apart, not_lone}
 use Rattle.bihash_steps.proofs.Counting.{unnoted_view}
@@ -163,7 +164,7 @@ module _ (z : Sizes) where
               lone = λ _ _. seen;
               whole = λ lone. known_learned v b x.history (let wide = ok.informed.wide in omega arith)
                   ∙ sym (whole_known z s r id b v at lone inside);
-              lawful = record { numbers = good.numbers; lawful = good.informed.lawful };
+              lawful = lawful_here z s r (seeing v b x) good.numbers good.informed good.lone;
             },
           )
       go (Some j) held =
@@ -185,6 +186,6 @@ module _ (z : Sizes) where
               };
               lone = λ lone none. absurd (lone_finds_none z s r b inside id j v at lone none held);
               whole = λ _. refl;
-              lawful = record { numbers = ok.numbers; lawful = ok.informed.lawful };
+              lawful = lawful_here z s r (unnoted v) good.numbers good.informed good.lone;
             },
           )

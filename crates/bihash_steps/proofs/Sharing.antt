@@ -1,15 +1,16 @@
 -- A seat's numbers are cut in two, and two seats' numbers are put together.
-use Rattle.std.proofs.Common.{◌≡◌, ◌≢◌, ℕ, ◌+◌, ◌≤◌, false, true≢false, List, [], ◌∷◌, ◌++◌, length, set, take, drop, refl, sym, ap, ◌∙◌, subst, inl, inr, arith, le_refl, length-set, length-append, Some}
+use Rattle.std.proofs.Common.{◌≡◌, ◌≢◌, ℕ, ◌+◌, ◌<◌, ◌≤◌, false, true≢false, List, [], ◌∷◌, ◌++◌, length, set, take, drop, refl, sym, ap, ◌∙◌, subst, inl, inr, arith, le_refl, length-set, length-append, Some}
 use mathlib.Core.Logic.{dite}
 use mathlib.Core.Option.{some, some-ne-none}
 use native.Mathlib.Decide.{dec_lt}
 use lib.ListN.{get_elem?, get_or-replicate}
-use Rattle.std.proofs.lemmas.List.{length-replicate}
+use Rattle.std.proofs.lemmas.List.{length-drop, length-replicate, length-take}
 use Rattle.atomic_table.specs.Table.{State, Splits, Joins}
 use Rattle.atomic_table.proofs.Lists.{at_set}
 use Rattle.bihash_words.specs.Sizes.{Sizes}
 use Rattle.bihash_steps.specs.Words.{count_of, buckets}
-use Rattle.bihash_steps.specs.Callers.{known_at, HasNumbers, IsLawful, IsLawfulCaller, Apart, Agrees}
+use Rattle.bihash_steps.specs.Histories.{IsWriteList}
+use Rattle.bihash_steps.specs.Callers.{known_at, opening_at, HasNumbers, IsLawful, IsLawfulCaller, Apart, Agrees}
 use Rattle.bihash_steps.specs.Buckets.{HoldsBucketIf}
 use Rattle.bihash_steps.specs.PageStores.{HoldsStoreIf, HoldsBlockIf, run_in}
 use Rattle.bihash_steps.specs.Views.{nothing_held, no_notes}
@@ -35,8 +36,8 @@ module _ (z : Sizes) where
   parts_lawful : (n : ℕ) (v : View) → IsLawfulCaller z v → IsLawfulCaller z (first_numbers n v) × IsLawfulCaller z (other_numbers n v)
       × Agrees (first_numbers n v) (other_numbers n v)
   parts_lawful n v law = (
-    record { numbers = numbers first; lawful = lawful first },
-    record { numbers = numbers other; lawful = lawful other },
+    record { numbers = numbers first; lawful = lawful first; lists = lists (take n v.records) few_first; made = λ h. absurd (true≢false (sym h)) },
+    record { numbers = numbers other; lawful = lawful other; lists = lists (drop n v.records) few_other; made = λ h. absurd (true≢false (sym h)) },
     record { apart = cut_apart n v.seen v.records law.numbers; known = (refl, λ b. inl (prefix_refl (known_at v.known b))) },
   )
     where
@@ -51,6 +52,16 @@ module _ (z : Sizes) where
 
       lawful : {part : List Record} → IsPart part v.records → IsLawful z v.known part
       lawful {part} p = part_lawful z v.known part v.records p law.lawful
+
+      few_first : length (take n v.records) ≤ length v.records
+      few_first = simp length-take (omega arith)
+
+      few_other : length (drop n v.records) ≤ length v.records
+      few_other = simp length-drop (omega arith)
+
+      lists : (part : List Record) → length part ≤ length v.records → 1 ≤ length part → (b : ℕ) → b < buckets z
+          → IsWriteList z b (opening_at v.known b) (known_at v.known b)
+      lists part few has b inside = law.lists (omega arith) b inside
 
   -- both parts of a lawful caller are lawful, and agree
   pub cut_lawful : (n : ℕ) (v left right : View) → left ≡ first_numbers n v → right ≡ other_numbers n v → IsLawfulCaller z v

@@ -18,6 +18,7 @@ use Rattle.bihash_steps.specs.declared.view.Call.{Call}
 use Rattle.bihash_steps.specs.declared.view.Record.{Record}
 use Rattle.bihash_steps.specs.declared.view.Extent.{Extent}
 use Rattle.bihash_steps.specs.declared.view.View.{View}
+use Rattle.bihash_steps.proofs.KnownLists.{lawful_here}
 use Rattle.bihash_steps.proofs.Frames.{free_none, free_own}
 use Rattle.bihash_steps.proofs.Runs.{beside_bucket, block_keeps, front_still, store_still, count_still, bucket_behind, bucket_inside}
 use Rattle.bihash_steps.proofs.Pushed.{push_numbers, push_whole, push_number, push_short, push-length}
@@ -99,7 +100,7 @@ module _ (z : Sizes) where
           same = λ n h. h;
           short = ok.short;
         },
-        record { seat = refl; lawful = record { numbers = ok.numbers; lawful = ok.informed.lawful } },
+        record { seat = refl; lawful = lawful_here z s r (unlocked v) ok.numbers ok.informed ok.lone },
       )
 
   -- what was noted of the pages that were left bounds a refusal that rests on it
@@ -139,5 +140,8 @@ module _ (z : Sizes) where
           short = push_short z (all_writes z r.table.bucket) c v.records
               (λ log2 left e. few_left (all_writes z r.table.bucket) left v b word c may ok.left log2 e) ok.short;
         },
-        record { seat = refl; lawful = record { numbers = numbers; lawful = informed.lawful } },
+        record {
+          seat = refl;
+          lawful = lawful_here z s r (answered v c) numbers informed (λ lone. push_whole (count_of s.words) c v.records (ok.lone lone));
+        },
       )

@@ -11,7 +11,7 @@ use Rattle.bihash_steps.specs.Words.{block_words}
 use Rattle.bihash_steps.specs.Histories.{IsKeyOf, IsPrefix, IsWrite, IsWriteList, IsAnswer, after, is_changed, write_of}
 use Rattle.bihash_steps.specs.Callers.{known_at, opening_at, IsLawfulCaller}
 use Rattle.bihash_steps.specs.Blocks.{IsBlockOf}
-use Rattle.bihash_steps.specs.Buckets.{word_of, open_word}
+use Rattle.bihash_steps.specs.Buckets.{Reads, word_of, open_word}
 use Rattle.bihash_steps.specs.PageStores.{returned_in}
 use Rattle.bihash_steps.specs.Views.{no_notes}
 use Rattle.bihash_steps.specs.Steps.{ViewOfSeat}
@@ -114,6 +114,14 @@ pub record TakesLock (z : Sizes) (v : View) (b word : ℕ) (w : View) : Type 0 w
   pub found : IsFound z v b word history extent block
   pub is : w ≡ locking (learned v b history) (locked_on b (length history) extent block)
 
+-- What was read while the bucket was open holds under its lock: the block is the one that was noted, and
+-- the words that were read are its words.
+pub record RestsOn (o : OpenBucket) (l : LockedBucket) : Type 0 where
+  pub extent : l.extent ≡ o.extent
+  pub version : l.version ≡ o.version
+  pub block : l.was ≡ o.block
+  pub reads : Reads o.reads l.was
+
 -- a lone caller that saw the bucket with this word takes its lock, and knew the history before
 pub record TellsLock (z : Sizes) (b word : ℕ) (m : ViewOfSeat) (found : ℕ) (m' : ViewOfSeat) : Type 0 where
   pub slots : m'.1 ≡ m.1
@@ -121,6 +129,8 @@ pub record TellsLock (z : Sizes) (b word : ℕ) (m : ViewOfSeat) (found : ℕ) (
   pub not : (found ≡ word → ⊥) → m'.0 ≡ unnoted m.0
   pub lone : m.0.lone ≡ true → (o : OpenBucket) → m.0.notes.open_bucket ≡ Some o → o.bucket ≡ b
       → word ≡ open_word o → found ≡ word
+  pub rests : found ≡ word → (o : OpenBucket) → m.0.notes.open_bucket ≡ Some o → o.bucket ≡ b
+      → word ≡ open_word o → (l : LockedBucket) → m'.0.holds.bucket ≡ Some l → RestsOn o l
   pub lawful : IsLawfulCaller z m'.0
   pub whole : m.0.lone ≡ true → found ≡ word → known_at m'.0.known b ≡ known_at m.0.known b
 
@@ -242,3 +252,54 @@ pub record MayPublish (z : Sizes) (v : View) (b word : ℕ) (c : Call) : Type 0 
 abbrev pub written : View → Call → View
 written v c = unlocked
     (called (learned v c.bucket (known_at v.known c.bucket ++ write_of (acting v.records) c ∷ [])) c)
+
+-- ---- Without the lock
+
+-- more words of the open bucket were read
+abbrev pub read_more : List (ℕ × ℕ) → Option OpenBucket → Option OpenBucket
+read_more more None = None
+read_more more (Some o) = Some (record o { reads = more ++ o.reads })
+
+abbrev pub reading : View → List (ℕ × ℕ) → View
+reading v more = record v { notes = record v.notes { open_bucket = read_more more v.notes.open_bucket } }
+
+-- word k of the block that was noted of the open bucket, which begins at this page
+pub record IsOpenWord (z : Sizes) (v : View) (page k : ℕ) : Type 0 where
+  pub bucket : OpenBucket
+  pub noted : v.notes.open_bucket ≡ Some bucket
+  pub first : bucket.extent.page ≡ page
+  pub near : page + 2 ^ bucket.extent.log2 ≤ z.pages + 1
+  pub inside : k < block_words z page bucket.extent.log2
+
+-- the word is noted among those that were read
+abbrev pub TellsOpenWord : ℕ → ViewOfSeat → ℕ → ViewOfSeat → Type 0
+TellsOpenWord k m found m' = m' ≡ (reading m.0 ((k, found) ∷ []), m.1)
+
+-- A call that is no write may be answered where the bucket is found with the word that was noted, if it
+-- is the answer at the bucket's map on the condition that the words that were read are the block's.
+pub record MayValidate (z : Sizes) (v : View) (b word : ℕ) (c : Call) : Type 0 where
+  pub open_bucket : OpenBucket
+  pub noted : v.notes.open_bucket ≡ Some open_bucket
+  pub home : open_bucket.bucket ≡ b
+  pub fits : Fits (word_of open_bucket.extent false open_bucket.version)
+  pub stood : word ≡ open_word open_bucket
+  pub version : open_bucket.version ≡ length (known_at v.known b)
+  pub bucket : c.bucket ≡ b
+  pub stamp : c.stamp ≡ length (known_at v.known b)
+  pub key : IsKeyOf z b c.key
+  pub reads : is_changed c.reply ≡ false
+  pub answers : Reads open_bucket.reads open_bucket.block
+      → IsAnswer z (map_now v b) (length (known_at v.known b)) c
+  pub pages : (log2 left : ℕ) → c.reply ≡ NoPages log2 left → ⊥
+
+-- the call was answered without a lock
+abbrev pub validated : View → Call → View
+validated v c = unnoted (called v c)
+
+-- a lone caller finds the word that it noted
+pub record TellsValid (z : Sizes) (word : ℕ) (c : Call) (m : ViewOfSeat) (found : ℕ) (m' : ViewOfSeat) : Type 0 where
+  pub slots : m'.1 ≡ m.1
+  pub valid : found ≡ word → m'.0 ≡ validated m.0 c
+  pub not : (found ≡ word → ⊥) → m'.0 ≡ unnoted m.0
+  pub lone : m.0.lone ≡ true → found ≡ word
+  pub lawful : IsLawfulCaller z m'.0

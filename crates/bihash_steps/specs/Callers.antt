@@ -1,12 +1,12 @@
 -- Lawful callers, what two of them have in common, and whole callers.
-use Rattle.std.specs.Prelude.{◌≡◌, ◌≢◌, ◌⊎◌, ℕ, ◌+◌, ◌<◌, ◌≤◌, true, List, [], slice_index_or}
+use Rattle.std.specs.Prelude.{◌≡◌, ◌≢◌, ◌⊎◌, ℕ, ◌+◌, ◌<◌, ◌≤◌, true, List, [], length, slice_index_or, zero, suc}
 use lib.ListN.{get_elem?}
 use mathlib.Core.Option.{some}
 use Rattle.std.specs.FinMap.{from_entries}
 use Rattle.bihash_words.specs.Maps.{Pairs}
 use Rattle.bihash_words.specs.Sizes.{Sizes}
 use Rattle.bihash_steps.specs.Words.{buckets}
-use Rattle.bihash_steps.specs.Histories.{IsLegal, IsPrefix, is_changed}
+use Rattle.bihash_steps.specs.Histories.{IsLegal, IsPrefix, IsWriteList, is_changed}
 use Rattle.bihash_steps.specs.declared.view.Write.{Write}
 use Rattle.bihash_steps.specs.declared.view.Call.{Call}
 use Rattle.bihash_steps.specs.declared.view.Record.{Record}
@@ -59,13 +59,21 @@ pub record HasNumbers (seen : ℕ) (records : List Record) : Type 0 where
   pub once : (i k : ℕ) (r q : Record) → i ≢ k → get_elem? records i ≡ some r
       → get_elem? records k ≡ some q → r.number ≢ q.number
 
--- a lawful caller
+abbrev pub HasNumber : List Record → ℕ → Type 0
+HasNumber records n = (i : ℕ) × (r : Record) × (get_elem? records i ≡ some r) × (r.number ≡ n)
+
+-- each of these writes was made under a number of these records
+abbrev pub HasMade : List Record → List Write → Type 0
+HasMade records writes = (n : ℕ) (w : Write) → get_elem? writes n ≡ some w → HasNumber records w.by
+
+-- A lawful caller. What it knows of a bucket, if it has a number, is a write list, and a lone caller made
+-- each of these writes.
 pub record IsLawfulCaller (z : Sizes) (v : View) : Type 0 where
   pub numbers : HasNumbers v.seen v.records
   pub lawful : IsLawful z v.known v.records
-
-abbrev pub HasNumber : List Record → ℕ → Type 0
-HasNumber records n = (i : ℕ) × (r : Record) × (get_elem? records i ≡ some r) × (r.number ≡ n)
+  pub lists : 1 ≤ length v.records → (b : ℕ) → b < buckets z
+      → IsWriteList z b (opening_at v.known b) (known_at v.known b)
+  pub made : v.lone ≡ true → (b : ℕ) → b < buckets z → HasMade v.records (known_at v.known b)
 
 -- a whole caller has every number up to the caller count
 abbrev pub IsWhole : List Record → ℕ → Type 0
@@ -86,3 +94,12 @@ IsConsistent k m = (k.openings ≡ m.openings)
 pub record Agrees (v w : View) : Type 0 where
   pub apart : Apart v.records w.records
   pub known : IsConsistent v.known w.known
+
+-- each known write was made under a number of the caller
+abbrev pub HasMadeAll : Sizes → View → Type 0
+HasMadeAll z v = (b n : ℕ) (w : Write) → b < buckets z → get_elem? (known_at v.known b) n ≡ some w → HasNumber v.records w.by
+
+-- how many writes are known of the first n buckets
+abbrev pub known_writes : Known → ℕ → ℕ
+known_writes known zero = 0
+known_writes known (suc n) = known_writes known n + length (known_at known n)

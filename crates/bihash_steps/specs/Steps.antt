@@ -1,8 +1,12 @@
 -- What a view becomes at each kind of step, and what the step tells its caller.
 use Rattle.std.specs.Prelude.{◌≡◌, ◌≢◌, ℕ, ◌+◌, ◌<◌, ◌≤◌, ◌==◌, List, [], ◌∷◌, ◌++◌, length, true, false, cond, nat_le, max, take, drop, Some}
+use lib.ListN.{get_elem?}
+use mathlib.Core.Option.{some}
 use Rattle.atomic_table.specs.Table.{Me}
 use Rattle.bihash_words.specs.Sizes.{Sizes}
-use Rattle.bihash_steps.specs.Callers.{IsConsistent, IsLawfulCaller, IsWhole}
+use Rattle.bihash_steps.specs.Words.{buckets}
+use Rattle.bihash_steps.specs.Callers.{IsConsistent, IsLawfulCaller, IsWhole, known_at, known_writes}
+use Rattle.bihash_steps.specs.PageStores.{AreShort}
 use Rattle.bihash_steps.specs.Views.{empty_record, nothing_known, nothing_held, no_notes}
 use Rattle.bihash_steps.specs.declared.view.Write.{Write}
 use Rattle.bihash_steps.specs.declared.view.Meeting.{Meeting}
@@ -27,6 +31,9 @@ pub record TellsCount (z : Sizes) (m : ViewOfSeat) (found : ℕ) (m' : ViewOfSea
   pub few : found ≤ z.callers
   pub lawful : IsLawfulCaller z m'.0
   pub whole : m'.0.lone ≡ true → IsWhole m'.0.records found
+  pub bearers : (b n : ℕ) (w : Write) → b < buckets z → get_elem? (known_at m'.0.known b) n ≡ some w
+      → (1 ≤ w.by) × (w.by ≤ found)
+  pub short : m'.0.lone ≡ true → AreShort z (known_writes m'.0.known (buckets z)) m'.0.records
 
 -- ---- An exchange of the caller count with the next
 

@@ -6,12 +6,13 @@ ghost use Rattle.bihash_words.specs.declared.patch.Change.TheVariants.{Keep};
 ghost use Rattle.bihash_words.specs.declared.patch.Reply.TheVariants.{Full};
 ghost use Rattle.bihash_words.specs.Words.{Fits};
 ghost use Rattle.bihash_steps.specs.Callers.{known_at};
-ghost use Rattle.bihash_steps.specs.Buckets.{word_of};
+ghost use Rattle.bihash_steps.specs.Buckets.{word_of, open_word};
 ghost use Rattle.bihash_steps.specs.Words.{bucket_at, page_at};
-ghost use Rattle.bihash_steps.specs.BucketSteps.{TellsBucket, TellsLock, IsLockedWord, TellsLockedWord, TellsStored, TellsEvent, unlocked, answered, written};
+ghost use Rattle.bihash_steps.specs.BucketSteps.{TellsBucket, TellsLock, IsLockedWord, TellsLockedWord, TellsStored, IsOpenWord, TellsOpenWord, TellsValid, TellsEvent, unlocked, answered, written};
 ghost use Rattle.bihash_steps.specs.StoreSteps.{replaced};
 ghost use Rattle.bihash_steps.specs.declared.view.Call.{Call};
 ghost use Rattle.bihash_steps.specs.declared.view.LockedBucket.{LockedBucket};
+ghost use Rattle.bihash_steps.specs.declared.view.OpenBucket.{OpenBucket};
 
 use crate::view::View;
 use atomic_table::Play;
@@ -104,4 +105,24 @@ pub(crate) struct Replaces<S, E> {
 
 impl<S: Shape, E: Calling> Play<(), View> for Replaces<S, E> {
     ghost then = { λ _ me _ next. TellsEvent (sizes_of S.Shape) (λ v. replaced v E.call) me next };
+}
+
+/// A load of a word of the block that was noted of an open bucket.
+pub(crate) struct OpenWords<S> {
+    shape: PhantomData<S>,
+}
+
+impl<S: Shape> Play<(), View> for OpenWords<S> {
+    ghost then = { λ step me found next. (page k : ℕ) → IsOpenWord (sizes_of S.Shape) me.0 page k
+        → step.word ≡ page_at (sizes_of S.Shape) page + k → TellsOpenWord k me found next };
+}
+
+/// A load of a bucket's word that answers a call where it finds the word that was noted.
+pub(crate) struct Validates<S, E> {
+    call: PhantomData<(S, E)>,
+}
+
+impl<S: Shape, E: Calling> Play<(), View> for Validates<S, E> {
+    ghost then = { λ _ me found next. (o : OpenBucket) → me.0.notes.open_bucket ≡ Some o
+        → TellsValid (sizes_of S.Shape) (open_word o) E.call me found next };
 }

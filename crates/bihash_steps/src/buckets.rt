@@ -1,19 +1,20 @@
 //! Steps on a bucket: its word, its lock, and the words of its block under the lock.
-ghost use Rattle.std.specs.Prelude.{◌≡◌, ◌⊎◌, ℕ, ◌+◌, ◌<◌, true, false, None, slice_index};
+ghost use Rattle.std.specs.Prelude.{◌≡◌, ◌⊎◌, ℕ, ◌+◌, ◌<◌, [], ◌∷◌, true, false, Some, None, slice_index};
 ghost use Rattle.bihash_words.specs.Sizes.{sizes_of};
 ghost use Rattle.bihash_words.specs.Words.{Bucket, Fits, packed};
 ghost use Rattle.bihash_words.specs.declared.patch.Reply.TheVariants.{Changed};
 ghost use Rattle.bihash_steps.specs.Words.{buckets};
 ghost use Rattle.bihash_steps.specs.Callers.{IsLawfulCaller, known_at};
 ghost use Rattle.bihash_steps.specs.Buckets.{open_word};
-ghost use Rattle.bihash_steps.specs.BucketSteps.{SeesOpen, SeesLocked, TakesLock, unnoted, IsLockedWord, relocked, stored_in, HoldsClean, unlocked, call_of, MayAnswer, answered, MayPublish, written};
+ghost use Rattle.bihash_steps.specs.BucketSteps.{SeesOpen, SeesLocked, TakesLock, unnoted, IsLockedWord, relocked, stored_in, HoldsClean, unlocked, call_of, MayAnswer, answered, MayPublish, written, RestsOn, IsOpenWord, reading, MayValidate, validated};
 ghost use Rattle.bihash_steps.specs.StoreSteps.{MayReplace, replaced};
 ghost use Rattle.bihash_steps.specs.declared.view.LockedBucket.{LockedBucket};
 ghost use Rattle.bihash_steps.specs.declared.view.OpenBucket.{OpenBucket};
 ghost use Rattle.bihash_steps.specs.Seats.{with_view};
 
 use crate::bucket_plays::{
-    Answers, Calling, LockedStores, LockedWords, Locks, Publishes, Releases, Replaces, Sees,
+    Answers, Calling, LockedStores, LockedWords, Locks, OpenWords, Publishes, Releases, Replaces,
+    Sees, Validates,
 };
 use crate::row::{CallerSeat, Row};
 use crate::view::Extent;
@@ -39,7 +40,8 @@ impl<S: Shape> Row<S> {
     }
 
     /// Sets the lock bit of a bucket from exactly this unlocked word, and says whether it stood there. A
-    /// lone caller that has just loaded the word finds it.
+    /// lone caller that has just loaded the word finds it. What was read since the word was loaded holds
+    /// under the lock.
     pub fn lock_from(&self, caller: &mut CallerSeat<S>, bucket: usize, word: BucketWord) -> bool
         requires own { caller.old.row ≡ self.now }
         requires inside { bucket < buckets (sizes_of S.Shape) }
@@ -50,6 +52,9 @@ impl<S: Shape> Row<S> {
         ensures not { result ≡ false → caller.new.view ≡ unnoted caller.old.view }
         ensures lone { caller.old.view.lone ≡ true → (o : OpenBucket) → caller.old.view.notes.open_bucket ≡ Some o
             → o.bucket ≡ bucket → word ≡ open_word o → result ≡ true }
+        ensures rests { result ≡ true → (o : OpenBucket) → caller.old.view.notes.open_bucket ≡ Some o
+            → o.bucket ≡ bucket → word ≡ open_word o → (l : LockedBucket)
+            → caller.new.view.holds.bucket ≡ Some l → RestsOn o l }
         ensures whole { caller.old.view.lone ≡ true → result ≡ true
             → known_at caller.new.view.known bucket ≡ known_at caller.old.view.known bucket }
         ensures lawful { IsLawfulCaller (sizes_of S.Shape) caller.new.view }
@@ -81,6 +86,71 @@ impl<S: Shape> Row<S> {
     {
         let shared = &self.table.shared;
         shared.store::<LockedStores<S>>(&mut caller.seat, self.page_at(page, k), word);
+    }
+
+    /// Word k of the block that was noted when a bucket was found open, which begins at this page.
+    pub fn load_open(&self, caller: &mut CallerSeat<S>, page: u64, k: usize) -> u64
+        requires own { caller.old.row ≡ self.now }
+        requires word { IsOpenWord (sizes_of S.Shape) caller.old.view page k }
+        ensures { caller.new ≡ with_view caller.old (reading caller.old.view ((k, result) ∷ [])) }
+    {
+        let shared = &self.table.shared;
+        shared.load::<OpenWords<S>>(&mut caller.seat, self.page_at(page, k))
+    }
+
+    /// Loads the word of a bucket again, and says whether it is the word that was noted. There the call,
+    /// which is no write, is answered. A lone caller finds the word.
+    pub fn validate(
+        &self,
+        caller: &mut CallerSeat<S>,
+        bucket: usize,
+        word: BucketWord,
+        key: &S::Key,
+        found: Option<u64>,
+        change: Change,
+        reply: Reply,
+    ) -> bool
+        requires own { caller.old.row ≡ self.now }
+        requires inside { bucket < buckets (sizes_of S.Shape) }
+        requires may { MayValidate (sizes_of S.Shape) caller.old.view bucket word
+            (call_of caller.old.view bucket 0 (S.words_of key.now) found change reply) }
+        ensures valid { result ≡ true → caller.new ≡ with_view caller.old (validated caller.old.view
+            (call_of caller.old.view bucket 0 (S.words_of key.now) found change reply)) }
+        ensures not { result ≡ false → caller.new ≡ with_view caller.old (unnoted caller.old.view) }
+        ensures lone { caller.old.view.lone ≡ true → result ≡ true }
+        ensures lawful { IsLawfulCaller (sizes_of S.Shape) caller.new.view }
+    {
+        self.validate_as::<Brand>(caller, bucket, word, key, found, change, reply)
+    }
+
+    // The same for the call that `E` names.
+    fn validate_as<E: Calling>(
+        &self,
+        caller: &mut CallerSeat<S>,
+        bucket: usize,
+        word: BucketWord,
+        key: &S::Key,
+        found: Option<u64>,
+        change: Change,
+        reply: Reply,
+    ) -> bool
+        requires own { caller.old.row ≡ self.now }
+        requires inside { bucket < buckets (sizes_of S.Shape) }
+        requires told { E.call ≡ call_of caller.old.view bucket 0 (S.words_of key.now) found change reply }
+        requires may { MayValidate (sizes_of S.Shape) caller.old.view bucket word E.call }
+        ensures valid { result ≡ true → caller.new ≡ with_view caller.old (validated caller.old.view E.call) }
+        ensures not { result ≡ false → caller.new ≡ with_view caller.old (unnoted caller.old.view) }
+        ensures lone { caller.old.view.lone ≡ true → result ≡ true }
+        ensures lawful { IsLawfulCaller (sizes_of S.Shape) caller.new.view }
+    {
+        let shared = &self.table.shared;
+        let here = shared.load::<Validates<S, E>>(&mut caller.seat, self.bucket_at(bucket));
+        if here != word.to_word() {
+            return false;
+        }
+        let stamp = word.version();
+        caller.stamp = Some((bucket as u64, stamp));
+        true
     }
 
     /// Opens the lock of a bucket in whose block nothing was stored, without an answer.

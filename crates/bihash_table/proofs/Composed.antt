@@ -19,9 +19,9 @@ use Rattle.bihash_steps.specs.declared.view.Holdings.{Holdings}
 use Rattle.bihash_steps.specs.declared.view.LockedBucket.{LockedBucket}
 use Rattle.bihash_steps.specs.declared.view.View.{View}
 use Rattle.bihash_steps.proofs.Prefixes.{prefix_refl}
-use Rattle.bihash_table.specs.Answers.{with_locks, entry_of, IsAnswered, IsTurnedAway, IsUpdated, own_writes}
+use Rattle.bihash_table.specs.Answers.{locks_of, with_locks, entry_of, IsAnswered, IsTurnedAway, IsUpdated, own_writes}
 use Rattle.bihash_table.specs.Locked.{HasLock, IsLocked}
-use Rattle.bihash_table.proofs.Released.{locks_of, with_locks-locks_of}
+use Rattle.bihash_table.proofs.Released.{with_locks-locks_of}
 
 -- ---- Lock counts
 

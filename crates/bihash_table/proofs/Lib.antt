@@ -3,6 +3,7 @@ pub mod Blocks
 pub mod Bridge
 pub mod Changes
 pub mod CommonHistories
+pub mod CommonOrders
 pub mod Composed
 pub mod Copies
 pub mod Count
@@ -10,9 +11,14 @@ pub mod Decisions
 pub mod Entering
 pub mod Homes
 pub mod KeyOrders
+pub mod Linearizing
+pub mod LookedAt
 pub mod MapSteps
+pub mod Moments
 pub mod OneWriter
+pub mod Opened
 pub mod OpenPlaces
+pub mod OwnCalls
 pub mod PairListLemmas
 pub mod PlacePairs
 pub mod PlaceReads
@@ -22,10 +28,12 @@ pub mod Publishing
 pub mod Released
 pub mod Replacing
 pub mod SameCallers
+pub mod Seeing
 pub mod Searching
 pub mod Sorting
 pub mod Stores
 pub mod Storing
 pub mod TakenLocks
+pub mod Turns
 pub mod Updated
 pub mod Versions

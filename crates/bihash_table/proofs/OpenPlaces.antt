@@ -1,5 +1,5 @@
 -- The places of a block that are open to a key, and what a search of them leaves out.
-use Rattle.std.proofs.Common.{◌≡◌, ◌≢◌, ℕ, zero, suc, ◌+◌, ◌*◌, ◌/◌, ◌^◌, ◌<◌, ◌≤◌, true, false, true≢false, List, Option, Some, None, IfNone, pow_mono, mod-lt, pow_pos, refl, sym, ap, ◌∙◌, arith}
+use Rattle.std.proofs.Common.{◌≡◌, ◌≢◌, ℕ, zero, suc, ◌+◌, ◌*◌, ◌/◌, ◌%◌, ◌^◌, ◌<◌, ◌≤◌, true, false, true≢false, List, Option, Some, None, IfNone, pow_mono, mod-lt, pow_pos, refl, sym, ap, ◌∙◌, subst, arith}
 use Rattle.bihash_words.specs.Sizes.{Sizes, IsSound}
 use Rattle.std.specs.FinMap.{get}
 use Rattle.bihash_words.specs.Maps.{Pairs}
@@ -44,6 +44,13 @@ module _ (z : Sizes) (e : Extent) (key : List ℕ) where
         exact = λ i l. (λ among _. sym is ∙ omega arith, λ reached. let at : page ≡ i / 4 = is ∙ reached linear in (omega arith, omega arith));
       }
 
+  -- the same, where the page behind it is named
+  pub one_page_open : (page log2 : ℕ) → e.page ≢ 0 → e.linear ≡ false → log2 ≡ e.log2
+      → page ≡ z.hash key / 2 ^ z.log2_buckets % 2 ^ log2 → AreOpenTo z e key (4 * page) (4 * (page + 1))
+  one_page_open page log2 some linear same is = let up : 4 * page + 4 ≡ 4 * (page + 1) = omega arith in
+      subst (AreOpenTo z e key (4 * page)) up
+      (page_open page some linear (is ∙ ap (λ (n : ℕ). z.hash key / 2 ^ z.log2_buckets % 2 ^ n) same))
+
 -- ---- What was not found is not there
 
 module _ (z : Sizes) (e : Extent) (block key : List ℕ) (from to : ℕ) (open_to : AreOpenTo z e key from to) where
@@ -52,7 +59,7 @@ module _ (z : Sizes) (e : Extent) (block key : List ℕ) (from to : ℕ) (open_t
   pair_among m i ok h = (open_to.exact i h.pair.0).1
       (λ linear. ap (page_of z e.log2) (sym h.stands) ∙ ok.paged linear i h.pair)
 
-  absent_in : (m : Pairs) → IsBlockOf z e block m → ((i : ℕ) → from ≤ i → i < to → HasPairOf z e block key i → ⊥)
+  pub absent_in : (m : Pairs) → IsBlockOf z e block m → ((i : ℕ) → from ≤ i → i < to → HasPairOf z e block key i → ⊥)
       → get m key ≡ None
   absent_in m ok not_there = go (get m key) refl
     where

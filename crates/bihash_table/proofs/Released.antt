@@ -12,13 +12,8 @@ use Rattle.bihash_steps.specs.declared.view.Record.{Record}
 use Rattle.bihash_steps.specs.declared.view.Holdings.{Holdings}
 use Rattle.bihash_steps.specs.declared.view.LockedBucket.{LockedBucket}
 use Rattle.bihash_steps.specs.declared.view.View.{View}
-use Rattle.bihash_table.specs.Answers.{IsAnswered, entry_of, own_writes, with_locks}
+use Rattle.bihash_table.specs.Answers.{IsAnswered, entry_of, locks_of, own_writes, with_locks}
 use Rattle.bihash_table.specs.Locked.{HasLock}
-
--- how many locks the acting record counts
-abbrev pub locks_of : List Record → ℕ
-locks_of [] = 0
-locks_of (r ∷ rs) = r.locks
 
 pub with_locks-locks_of : (records : List Record) → with_locks (locks_of records) records ≡ records
 with_locks-locks_of [] = refl

@@ -23,12 +23,12 @@ use Rattle.bihash_steps.specs.declared.view.HeldBlock.{HeldBlock}
 use Rattle.bihash_steps.specs.declared.view.LockedStore.{LockedStore}
 use Rattle.bihash_steps.specs.declared.view.PageStore.{PageStore}
 use Rattle.bihash_steps.specs.declared.view.View.{View}
-use Rattle.bihash_table.specs.Answers.{IsAnswered, IsTurnedAway}
+use Rattle.bihash_table.specs.Answers.{IsAnswered, IsTurnedAway, locks_of}
 use Rattle.bihash_table.specs.Copying.{GivenBack, HasBlock, HasStore, HoldsOld, MayGiveBack, Released, TakesPages}
 use Rattle.bihash_table.specs.Locked.{HasLock}
 use Rattle.bihash_table.specs.Scans.{IsWordOf}
 use Rattle.bihash_table.proofs.Entering.{looked_at}
-use Rattle.bihash_table.proofs.Released.{answered_from_lock, locks_of, with_locks-locks_of, written_from_lock}
+use Rattle.bihash_table.proofs.Released.{answered_from_lock, with_locks-locks_of, written_from_lock}
 
 -- ---- The word of a bucket
 
@@ -185,7 +185,7 @@ left_written z v u w b word l n block e lock home changes is gone =
 -- the caller is lawful still
 pub still_lawful : (z : Sizes) (u w : View) → Released u w → IsLawfulCaller z u → IsLawfulCaller z w
 still_lawful z u w gone lawful = subst (IsLawfulCaller z) (sym gone.is)
-    (record { numbers = lawful.numbers; lawful = lawful.lawful })
+    (record { numbers = lawful.numbers; lawful = lawful.lawful; lists = lawful.lists; made = lawful.made })
 
 -- ---- Without a write
 

@@ -10,11 +10,11 @@ use Rattle.bihash_steps.specs.declared.view.Record.{Record}
 use Rattle.bihash_steps.specs.declared.view.Known.{Known}
 use Rattle.bihash_steps.specs.declared.view.Holdings.{Holdings}
 use Rattle.bihash_steps.specs.declared.view.View.{View}
-use Rattle.bihash_table.specs.Answers.{with_locks}
+use Rattle.bihash_table.specs.Answers.{locks_of, with_locks}
 use Rattle.bihash_table.specs.Locked.{IsLocked}
 use Rattle.bihash_table.specs.PairLists.{TookLocks}
 use Rattle.bihash_table.proofs.Composed.{with_one_more}
-use Rattle.bihash_table.proofs.Released.{locks_of, with_locks-locks_of}
+use Rattle.bihash_table.proofs.Released.{with_locks-locks_of}
 
 pub took_none : (v : View) → TookLocks v v
 took_none v = record {

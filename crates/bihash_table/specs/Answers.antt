@@ -20,6 +20,11 @@ abbrev pub with_locks : ℕ → List Record → List Record
 with_locks locks [] = []
 with_locks locks (r ∷ rs) = record r { locks = locks } ∷ rs
 
+-- how many locks the acting record counts
+abbrev pub locks_of : List Record → ℕ
+locks_of [] = 0
+locks_of (r ∷ rs) = r.locks
+
 -- the entry of an event in a record, behind so many writes of its bucket
 abbrev pub entry_of : Sizes → ℕ → Event → Call
 entry_of z stamp e = record {

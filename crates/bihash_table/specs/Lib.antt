@@ -1,7 +1,9 @@
 pub mod Answers
 pub mod Closing
 pub mod Copying
+pub mod Linearizations
 pub mod Locked
+pub mod OpenReads
 pub mod PairLists
 pub mod Places
 pub mod Runs

@@ -1,7 +1,7 @@
 //! What the lawfulness of callers means for the maps of the buckets.
 //!
 //! The functions do nothing: their contracts are the laws.
-ghost use Rattle.std.specs.Prelude.{◌≡◌, ◌≢◌, ◌≤◌, ◌<◌, ◌+◌, ◌++◌, ℕ, [], ◌∷◌, List, length, true, false};
+ghost use Rattle.std.specs.Prelude.{◌≡◌, ◌≢◌, ◌≤◌, ◌<◌, ◌+◌, ◌++◌, ℕ, [], ◌∷◌, List, length, true, false, All};
 ghost use Rattle.std.specs.FinMap.{get};
 ghost use lib.ListN.{get_elem?};
 ghost use mathlib.Core.Option.{some};
@@ -9,13 +9,14 @@ ghost use Rattle.bihash_words.specs.Maps.{Event};
 ghost use Rattle.bihash_words.specs.Sizes.{Sizes};
 ghost use Rattle.bihash_steps.specs.Words.{buckets};
 ghost use Rattle.bihash_steps.specs.Histories.{IsLegal, IsPrefix, is_changed};
-ghost use Rattle.bihash_steps.specs.Callers.{Agrees, IsLawfulCaller, known_at, opening_at};
+ghost use Rattle.bihash_steps.specs.Callers.{Agrees, HasMade, HasNumber, IsLawfulCaller, known_at, opening_at};
 ghost use Rattle.bihash_steps.specs.Views.{first_view};
 ghost use Rattle.bihash_steps.specs.BucketSteps.{acting, map_now};
 ghost use Rattle.bihash_steps.specs.declared.view.Write.{Write};
 ghost use Rattle.bihash_steps.specs.declared.view.Record.{Record};
 ghost use Rattle.bihash_steps.specs.declared.view.View.{View};
 ghost use Rattle.bihash_table.specs.Answers.{entry_of};
+ghost use Rattle.bihash_table.specs.Linearizations.{IsCommonLinearization, IsLinearization, KnowsOwn, Turn};
 ghost use Rattle.bihash_table.specs.Runs.{IsCommonHistory, IsLastWrite, IsLawfulAnswer, LearnsOnlyOwn, IsOneWriter, IsRun, calls_on};
 
 /// To a caller each of whose known writes of a bucket was made under one number, the bucket is one bounded
@@ -28,11 +29,43 @@ pub fn one_writer_has_one_map()
         → IsRun z (opening_at v.known b) 0 (calls_on b r.calls) (map_now v b) (length (known_at v.known b)) }
 {}
 
+/// A lawful caller's calls on a bucket, and the writes of others that it knows there, stand in one sequential
+/// order: a run of one bounded map in which each of its records has its calls in their order.
+#[tactic(auto, using(crate::proofs::Linearizing::one_order))]
+pub fn calls_have_one_order()
+    ensures { (z : Sizes) (v : View) (b : ℕ) → IsLawfulCaller z v → b < buckets z
+        → 1 ≤ length v.records → (turns : List Turn)
+        × IsLinearization z b (opening_at v.known b) (known_at v.known b) v.records turns }
+{}
+
+/// A caller that made each write that it knows of a bucket has such an order with no call but its own. A lone
+/// caller did.
+#[tactic(auto, using(crate::proofs::Linearizing::whole_order))]
+pub fn whole_callers_have_one_order()
+    ensures order { (z : Sizes) (v : View) (b : ℕ) → IsLawfulCaller z v → b < buckets z
+        → HasMade v.records (known_at v.known b) → (turns : List Turn)
+        × IsLinearization z b (opening_at v.known b) (known_at v.known b) v.records turns
+        × All (λ t. HasNumber v.records t.by) turns }
+    ensures lone { (z : Sizes) (v : View) (b : ℕ) → IsLawfulCaller z v → v.lone ≡ true → b < buckets z
+        → HasMade v.records (known_at v.known b) }
+{}
+
 /// Two lawful callers that agree have one history of each bucket: the longer of what they know.
 #[tactic(auto, using(crate::proofs::CommonHistories::common_history))]
 pub fn agreeing_callers_share_a_history()
     ensures { (z : Sizes) (v w : View) → IsLawfulCaller z v → IsLawfulCaller z w → Agrees v w → (b : ℕ)
         → (history : List Write) × IsCommonHistory z b v w history }
+{}
+
+/// Two lawful callers that agree have one order of the calls of both on a bucket, if each knows of its own
+/// writes what the other knows of them. Callers that know the same do.
+#[tactic(auto, using(crate::proofs::CommonOrders::common_order, crate::proofs::CommonOrders::same_knows_own))]
+pub fn agreeing_callers_have_one_order()
+    ensures order { (z : Sizes) (v w : View) (b : ℕ) → IsLawfulCaller z v → IsLawfulCaller z w → Agrees v w
+        → b < buckets z → KnowsOwn b v w → KnowsOwn b w v
+        → 1 ≤ length v.records → 1 ≤ length w.records
+        → (history : List Write) × (turns : List Turn) × IsCommonLinearization z b v w history turns }
+    ensures own { (v w : View) (b : ℕ) → known_at v.known b ≡ known_at w.known b → KnowsOwn b v w }
 {}
 
 /// An answered call is legal on what is known of its bucket afterwards, which continues what was known

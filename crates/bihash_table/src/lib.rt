@@ -10,6 +10,7 @@ mod grow;
 mod laws;
 mod lock;
 mod pages;
+mod reads;
 mod scan;
 mod search;
 mod sessions;

@@ -1,5 +1,5 @@
 //! The bucket of a key, and its lock.
-ghost use Rattle.std.specs.Prelude.{◌≡◌, ◌<◌, length, true, Some, IfSome, IfNone, is_some};
+ghost use Rattle.std.specs.Prelude.{◌≡◌, ◌%◌, ◌<◌, length, true, false, Some, IfSome, IfNone, is_some};
 ghost use Rattle.bihash_words.specs.Sizes.{sizes_of, IsSound};
 ghost use Rattle.bihash_steps.specs.Words.{buckets};
 ghost use Rattle.bihash_steps.specs.Histories.{bucket_of};
@@ -8,18 +8,44 @@ ghost use Rattle.bihash_steps.specs.Views.{nothing_held};
 ghost use Rattle.bihash_steps.specs.Seats.{with_view};
 ghost use Rattle.bihash_table.specs.Answers.{IsTurnedAway};
 ghost use Rattle.bihash_table.specs.Locked.{IsLocked};
+ghost use Rattle.bihash_table.specs.OpenReads.{HasOpen, IsOpened};
+ghost use Rattle.bihash_steps.specs.Buckets.{Reads};
+ghost use Rattle.bihash_steps.specs.BucketSteps.{map_now};
+ghost use Rattle.bihash_steps.specs.declared.view.OpenBucket.{OpenBucket};
 
 use bihash_steps::{CallerSeat, Row};
 use bihash_words::{BucketWord, Shape};
 
-/// The bucket of a key.
-pub(crate) fn bucket_of<S: Shape>(key: &S::Key) -> usize
+/// The bucket of a hash.
+pub(crate) fn bucket_of_hash<S: Shape>(hash: u64) -> usize
     requires { IsSound (sizes_of S.Shape) }
-    ensures home { result ≡ bucket_of (sizes_of S.Shape) (S.words_of key.now) }
+    ensures home { result ≡ hash % buckets (sizes_of S.Shape) }
     ensures inside { result < buckets (sizes_of S.Shape) }
-    ensures counted { length (S.words_of key.now) ≡ S.WORDS }
 {
-    (S::hash(key) % (1u64 << S::LOG2_BUCKETS)) as usize
+    (hash % (1u64 << S::LOG2_BUCKETS)) as usize
+}
+
+/// The word of a bucket that no other caller has locked, whose block may be read then.
+pub(crate) fn look<S: Shape>(
+    row: &Row<S>,
+    caller: &mut CallerSeat<S>,
+    bucket: usize,
+) -> Option<BucketWord>
+    requires own { caller.old.row ≡ row.now }
+    requires free { caller.old.view.holds ≡ nothing_held }
+    requires inside { bucket < buckets (sizes_of S.Shape) }
+    ensures same { caller.new ≡ with_view caller.old caller.new.view }
+    ensures opened { IfSome result (IsOpened (sizes_of S.Shape) caller.old.view caller.new.view bucket) }
+    ensures turned_away { IfNone result (IsTurnedAway (sizes_of S.Shape) caller.old.view caller.new.view bucket) }
+    ensures no_lock { IfNone result (caller.new.view.records ≡ caller.old.view.records) }
+    ensures lone { caller.old.view.lone ≡ true → is_some result ≡ true }
+    ensures lawful { IsLawfulCaller (sizes_of S.Shape) caller.new.view }
+{
+    let word = row.load_bucket(caller, bucket);
+    if word.locked() {
+        return None;
+    }
+    Some(word)
 }
 
 /// Locks the bucket. None where another caller has the lock or takes it in the same moment.
@@ -44,4 +70,26 @@ pub(crate) fn lock<S: Shape>(
         return None;
     }
     Some(word)
+}
+
+/// Locks an open bucket, whose block may have been read since it was seen, from the word that it was seen
+/// with. What the words that were read tell of the block holds then.
+pub(crate) fn lock_seen<S: Shape>(
+    row: &Row<S>,
+    caller: &mut CallerSeat<S>,
+    bucket: usize,
+    word: BucketWord,
+) -> bool
+    requires own { caller.old.row ≡ row.now }
+    requires open { HasOpen (sizes_of S.Shape) caller.old.view bucket word }
+    ensures same { caller.new ≡ with_view caller.old caller.new.view }
+    ensures locked { result ≡ true → IsLocked (sizes_of S.Shape) caller.old.view caller.new.view bucket word }
+    ensures map { result ≡ true → map_now caller.new.view bucket ≡ map_now caller.old.view bucket }
+    ensures rests { result ≡ true → (o : OpenBucket) × (caller.old.view.notes.open_bucket ≡ Some o)
+        × Reads o.reads o.block }
+    ensures turned_away { result ≡ false → IsTurnedAway (sizes_of S.Shape) caller.old.view caller.new.view bucket }
+    ensures lone { caller.old.view.lone ≡ true → result ≡ true }
+    ensures lawful { IsLawfulCaller (sizes_of S.Shape) caller.new.view }
+{
+    row.lock_from(caller, bucket, word)
 }

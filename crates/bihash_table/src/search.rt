@@ -5,11 +5,11 @@ ghost use Rattle.bihash_steps.specs.Histories.{bucket_of};
 ghost use Rattle.bihash_steps.specs.Callers.{IsLawfulCaller};
 ghost use Rattle.bihash_steps.specs.Views.{nothing_held};
 ghost use Rattle.bihash_steps.specs.Seats.{with_view};
-ghost use Rattle.bihash_table.specs.Answers.{IsAnswered, IsTurnedAway, search_of};
+ghost use Rattle.bihash_table.specs.Answers.{IsAnswered, IsTurnedAway, locks_of, search_of};
 
 use crate::contended::Contended;
-use crate::lock::{bucket_of, lock};
-use crate::scan::find_value;
+use crate::lock::{bucket_of_hash, look};
+use crate::reads::find_value;
 use crate::sessions::Sessions;
 use bihash_steps::Caller;
 use bihash_words::{Change, Reply, Shape};
@@ -17,7 +17,7 @@ use crossbeam_utils::Backoff;
 use std::sync::Wait;
 
 impl<S: Shape> Sessions<S> {
-    /// The value of the key, `None` where it is absent.
+    /// The value of the key, `None` where it is absent. It takes no lock.
     pub fn try_search(&self, caller: &mut Caller<S>, key: &S::Key) -> Result<Option<u64>, Contended>
         requires own { caller.old.seat.row ≡ self.now.row }
         requires free { caller.old.seat.view.holds ≡ nothing_held }
@@ -26,24 +26,21 @@ impl<S: Shape> Sessions<S> {
             (search_of (S.words_of key.now) found)) }
         ensures contended { IfErr result (λ _. IsTurnedAway (sizes_of S.Shape) caller.old.seat.view caller.new.seat.view
             (bucket_of (sizes_of S.Shape) (S.words_of key.now))) }
+        ensures no_lock { locks_of caller.new.seat.view.records ≡ locks_of caller.old.seat.view.records }
         ensures lone { caller.old.seat.view.lone ≡ true → is_ok result ≡ true }
         ensures lawful { IsLawfulCaller (sizes_of S.Shape) caller.new.seat.view }
     {
         self.row.is_sound();
-        let bucket = bucket_of::<S>(key);
-        let Some(word) = lock(&self.row, &mut caller.seat, bucket) else {
+        let hash = S::hash(key);
+        let bucket = bucket_of_hash::<S>(hash);
+        let Some(word) = look(&self.row, &mut caller.seat, bucket) else {
             return Err(Contended);
         };
-        let found = find_value(&self.row, &mut caller.seat, bucket, word, key);
-        self.row.cancel(
-            &mut caller.seat,
-            bucket,
-            word,
-            key,
-            found,
-            Change::Keep,
-            Reply::Kept(found),
-        );
+        let found = find_value(&self.row, &mut caller.seat, word, hash, key);
+        let seat = &mut caller.seat;
+        if !self.row.validate(seat, bucket, word, key, found, Change::Keep, Reply::Kept(found)) {
+            return Err(Contended);
+        }
         Ok(found)
     }
 
@@ -54,6 +51,7 @@ impl<S: Shape> Sessions<S> {
         ensures same { caller.new.seat ≡ with_view caller.old.seat caller.new.seat.view }
         ensures answered { IsAnswered (sizes_of S.Shape) caller.old.seat.view caller.new.seat.view
             (search_of (S.words_of key.now) result) }
+        ensures no_lock { locks_of caller.new.seat.view.records ≡ locks_of caller.old.seat.view.records }
         ensures lawful { IsLawfulCaller (sizes_of S.Shape) caller.new.seat.view }
     {
         let backoff = Backoff::new();

@@ -1,7 +1,9 @@
 //! The shared table, and its callers.
-ghost use Rattle.std.specs.Prelude.{◌≡◌, ◌<◌, ◌≤◌, ◌==◌, ℕ, length, IfOk, IfErr};
+ghost use Rattle.std.specs.Prelude.{◌≡◌, ◌<◌, ◌≤◌, ◌==◌, ℕ, true, length, IfOk, IfErr};
 ghost use Rattle.bihash_words.specs.Sizes.{sizes_of, IsSound};
-ghost use Rattle.bihash_steps.specs.Callers.{IsLawfulCaller, IsWhole, Agrees};
+ghost use Rattle.bihash_steps.specs.Callers.{HasMadeAll, IsLawfulCaller, IsWhole, Agrees, known_writes};
+ghost use Rattle.bihash_steps.specs.PageStores.{AreShort};
+ghost use Rattle.bihash_steps.specs.Words.{buckets};
 ghost use Rattle.bihash_steps.specs.Views.{first_view, nothing_held};
 ghost use Rattle.bihash_steps.specs.Steps.{counted, parent, newcomer, IsRefused, informed_by, joined};
 ghost use Rattle.bihash_steps.specs.Seats.{with_view};
@@ -84,6 +86,9 @@ impl<S: Shape> Sessions<S> {
             × (caller.new.seat ≡ with_view caller.old.seat (counted caller.old.seat.view count))
             × (result ≡ (count == length caller.old.seat.view.records)) }
         ensures lone { result ≡ caller.new.seat.view.lone }
+        ensures made { result ≡ true → HasMadeAll (sizes_of S.Shape) caller.new.seat.view }
+        ensures short { caller.new.seat.view.lone ≡ true → AreShort (sizes_of S.Shape)
+            (known_writes caller.new.seat.view.known (buckets (sizes_of S.Shape))) caller.new.seat.view.records }
         ensures lawful { IsLawfulCaller (sizes_of S.Shape) caller.new.seat.view }
     {
         self.row.load_count(&mut caller.seat) == caller.seat.numbers()

@@ -1,9 +1,11 @@
 //! Updates, one try each.
 ghost use Rattle.std.specs.Prelude.{◌≡◌, ◌≢◌, ◌==◌, true, ℕ, length, None, Some, IfOk, IfErr, is_ok};
 ghost use Rattle.std.specs.FinMap.{get};
+ghost use Rattle.bihash_words.specs.Maps.{effect_of};
 ghost use Rattle.bihash_words.specs.Patches.{IsStorable};
 ghost use Rattle.bihash_words.specs.Sizes.{sizes_of};
 ghost use Rattle.bihash_words.specs.Words.{Bucket, Fits, packed};
+ghost use Rattle.bihash_words.specs.declared.patch.Change.TheVariants.{Keep};
 ghost use Rattle.bihash_words.specs.declared.patch.Reply.TheVariants.{NoPages};
 ghost use Rattle.bihash_steps.specs.Histories.{bucket_of};
 ghost use Rattle.bihash_steps.specs.Blocks.{value_in};
@@ -20,7 +22,8 @@ ghost use Rattle.bihash_table.specs.Shortage.{IsShortage};
 use crate::change::{fill, keep, overwrite, refuse, remove};
 use crate::contended::Contended;
 use crate::grow::enter_larger;
-use crate::lock::{bucket_of, lock};
+use crate::lock::{bucket_of_hash, lock_seen, look};
+use crate::reads::find_value;
 use crate::scan::{find_free, find_pair, load_value};
 use crate::sessions::Sessions;
 use bihash_steps::{Caller, CallerSeat, Row};
@@ -49,14 +52,27 @@ impl<S: Shape> Sessions<S> {
         ensures lawful { IsLawfulCaller (sizes_of S.Shape) caller.new.seat.view }
     {
         self.row.is_sound();
-        let bucket = bucket_of::<S>(key);
-        let Some(word) = lock(&self.row, &mut caller.seat, bucket) else {
+        let hash = S::hash(key);
+        let bucket = bucket_of_hash::<S>(hash);
+        let Some(word) = look(&self.row, &mut caller.seat, bucket) else {
             return Err(Contended);
         };
+        let found = find_value(&self.row, &mut caller.seat, word, hash, key);
+        let change = patch.decide(found);
+        if is_idle(change, found) {
+            let reply = Reply::Kept(found);
+            let seat = &mut caller.seat;
+            if !self.row.validate(seat, bucket, word, key, found, change, reply) {
+                return Err(Contended);
+            }
+            return Ok(reply);
+        }
+        if !lock_seen(&self.row, &mut caller.seat, bucket, word) {
+            return Err(Contended);
+        }
         match find_pair(&self.row, &mut caller.seat, bucket, word, key) {
             Some(place) => {
-                let found = load_value(&self.row, &mut caller.seat, bucket, word, place);
-                let change = patch.decide(Some(found));
+                let value = load_value(&self.row, &mut caller.seat, bucket, word, place);
                 change_pair(
                     &self.row,
                     &mut caller.seat,
@@ -64,12 +80,24 @@ impl<S: Shape> Sessions<S> {
                     word,
                     key,
                     place,
-                    found,
+                    value,
                     change,
                 )
             }
-            None => change_absent(&self.row, caller, bucket, word, key, patch.decide(None)),
+            None => change_absent(&self.row, caller, bucket, word, key, change),
         }
+    }
+}
+
+// Whether a change of what was found leaves it.
+fn is_idle(change: Change, found: Option<u64>) -> bool
+    ensures { result ≡ true → effect_of change found ≡ Keep }
+{
+    match (change, found) {
+        (Change::Keep, _) => true,
+        (Change::Set(value), Some(old)) => old == value,
+        (Change::Remove, None) => true,
+        _ => false,
     }
 }
 

@@ -10,7 +10,7 @@ use Rattle.bihash_table.specs.Copying.{IsWanting}
 use Rattle.bihash_table.proofs.Entering.{looked_at}
 use Rattle.bihash_table.proofs.OpenPlaces.{word_tells}
 use Rattle.bihash_table.proofs.Replacing.{block_held, block_of, is_ready, locked_on, looked, may_enter, may_refuse, published, ready_same, same_through, seen_same, store_held, was_answered}
-use Rattle.bihash_table.proofs.Stores.{holds_old, left_answered, left_written, some_places, turned_away}
+use Rattle.bihash_table.proofs.Stores.{holds_old, left_answered, left_written, some_places, still_lawful, turned_away}
 use Rattle.bihash_table.proofs.grow.enter.Goals as goal
 
 pub returns-then-not-pool_lock-clause-contended : goal.returns-then-not-pool_lock-clause-contended
@@ -179,3 +179,7 @@ returns-in-Err-clause-no_pages g c = λ wanted left e.
             (c.in-Err.ensures.refused.1 (locked_on locks.store) store),
       ),
     )
+
+pub returns-in-Ok-clause-lawful : goal.returns-in-Ok-clause-lawful
+returns-in-Ok-clause-lawful g c = still_lawful (sizes_of g.S.Shape) c.publish_block.new.caller.view c.leave_store.new.seat.view
+    c.leave_store.ensures.left c.publish_block.ensures.lawful

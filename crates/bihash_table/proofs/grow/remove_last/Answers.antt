@@ -6,7 +6,7 @@ use Rattle.bihash_steps.specs.BucketSteps.{call_of, map_now}
 use Rattle.bihash_steps.specs.Seats.{CallerState, with_view}
 use Rattle.bihash_table.proofs.OpenPlaces.{word_tells}
 use Rattle.bihash_table.proofs.Replacing.{emptied, found_there, locked_on, may_empty, published, store_only}
-use Rattle.bihash_table.proofs.Stores.{holds_old, left_written, turned_away}
+use Rattle.bihash_table.proofs.Stores.{holds_old, left_written, still_lawful, turned_away}
 use Rattle.bihash_table.proofs.grow.remove_last.Goals as goal
 
 pub returns-then-not-pool_lock-clause-contended : goal.returns-then-not-pool_lock-clause-contended
@@ -70,3 +70,7 @@ returns-clause-answered g c =
           c.publish_block.ensures.view)
           c.leave_store.ensures.left,
     )
+
+pub returns-clause-lawful : goal.returns-clause-lawful
+returns-clause-lawful g c = still_lawful (sizes_of g.S.Shape) c.publish_block.new.caller.view c.leave_store.new.seat.view
+    c.leave_store.ensures.left c.publish_block.ensures.lawful

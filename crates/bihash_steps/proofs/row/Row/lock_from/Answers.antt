@@ -1,4 +1,5 @@
 use Rattle.std.proofs.Common.{rules, ◌∙◌, ap}
+use Rattle.std.proofs.lemmas.Bool.{eqb-true}
 use Rattle.bihash_steps.specs.Seats.{CallerState}
 use Rattle.bihash_steps.proofs.Addresses.{locks_at}
 use Rattle.bihash_steps.proofs.SeatCounts.{can_act, counted_locks}
@@ -26,3 +27,9 @@ returns-clause-lone g c = let told = c.compare_exchange.ensures.2 _ c.bucket_at-
 
 pub returns-clause-lawful : goal.returns-clause-lawful
 returns-clause-lawful g c = (c.compare_exchange.ensures.2 _ c.bucket_at-at.ensures.place).lawful
+
+pub returns-clause-rests : goal.returns-clause-rests
+returns-clause-rests g c = λ won o noted home is l held.
+    let told = c.compare_exchange.ensures.2 _ c.bucket_at-at.ensures.place in
+    told.rests (eqb-true _ _ won) o (ap (λ (k : CallerState). k.view.notes.open_bucket) c.caller.view_is ∙ noted) home
+    (c.to_word-open.ensures ∙ is) l held

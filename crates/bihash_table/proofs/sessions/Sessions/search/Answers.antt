@@ -5,7 +5,7 @@ use Rattle.bihash_table.proofs.Composed.{not_yet_tried, again_turned_away, again
 use Rattle.bihash_table.proofs.sessions.Sessions.search.Goals as goal
 
 pub loop-init : goal.loop-init
-loop-init g c = record { next = tt; finite = tt; same = refl; tried = not_yet_tried (sizes_of g.S.Shape) _ _ c.requires.free }
+loop-init g c = record { next = tt; finite = tt; same = refl; tried = not_yet_tried (sizes_of g.S.Shape) _ _ c.requires.free; no_lock = refl }
 
 pub returns-in-Ok-clause-answered : goal.returns-in-Ok-clause-answered
 returns-in-Ok-clause-answered g c =
@@ -17,4 +17,5 @@ loop-preserved g c = record {
   finite = tt;
   same = c.try_search.ensures.same ∙ ap (λ (k : CallerState). with_view k c.try_search.new.caller.seat.view) c.loop.invariant.same;
   tried = again_turned_away (sizes_of g.S.Shape) _ _ _ _ c.loop.invariant.tried c.in_default.ensures.contended;
+  no_lock = c.try_search.ensures.no_lock ∙ c.loop.invariant.no_lock;
 }

@@ -2,7 +2,7 @@ use Rattle.std.proofs.Common.{◌≡◌}
 use Rattle.bihash_words.specs.Sizes.{sizes_of}
 use Rattle.bihash_steps.specs.Histories.{bucket_of}
 use Rattle.bihash_steps.specs.Seats.{with_view}
-use Rattle.bihash_table.specs.Answers.{IsTurnedAway}
+use Rattle.bihash_table.specs.Answers.{IsTurnedAway, locks_of}
 use Rattle.bihash_table.proofs.sessions.Sessions.search.Given as goal
 
 -- each try so far met another caller's lock
@@ -13,4 +13,5 @@ invariant-loop g l = record {
   same : l.caller.seat ≡ with_view l.initial.caller.seat l.caller.seat.view;
   tried : IsTurnedAway (sizes_of g.S.Shape) l.initial.caller.seat.view l.caller.seat.view
       (bucket_of (sizes_of g.S.Shape) (g.S.Shape.words_of l.key));
+  no_lock : locks_of l.caller.seat.view.records ≡ locks_of l.initial.caller.seat.view.records;
 }

@@ -1,0 +1,68 @@
+-- What a view knows of a bucket is a write list, and has each write under its numbers that another view knows.
+use Rattle.std.proofs.Common.{◌≡◌, ℕ, ◌<◌, ◌≤◌, true, List, length, set, arith, subst, sym}
+use mathlib.Core.Option.{some}
+use lib.ListN.{get_elem?}
+use Rattle.atomic_table.specs.Table.{State}
+use Rattle.bihash_words.specs.Maps.{Pairs}
+use Rattle.bihash_words.specs.Sizes.{Sizes}
+use Rattle.bihash_steps.specs.Words.{buckets, count_of}
+use Rattle.bihash_steps.specs.Histories.{IsPrefix, IsWrite, IsWriteList}
+use Rattle.bihash_steps.specs.Callers.{HasNumber, HasNumbers, IsLawfulCaller, IsWhole, Openings, known_at, opening_at, opening_in}
+use Rattle.bihash_steps.specs.WordRule.{IsInformed, WordRule}
+use Rattle.bihash_steps.specs.declared.view.Write.{Write}
+use Rattle.bihash_steps.specs.declared.view.Record.{Record}
+use Rattle.bihash_steps.specs.declared.view.Known.{Known}
+use Rattle.bihash_steps.specs.declared.view.View.{View}
+use Rattle.atomic_table.proofs.Lists.{set_here}
+use Rattle.bihash_steps.proofs.Lists.{within}
+use Rattle.bihash_steps.proofs.Prefixes.{after_longer, prefix_at, prefix_below, prefix_length}
+
+-- the beginning of a write list is one
+pub prefix_list : (z : Sizes) (b : ℕ) (opening : Pairs) (K H : List Write) → IsPrefix K H → IsWriteList z b opening H
+    → IsWriteList z b opening K
+prefix_list z b opening K H begins list = record {
+  short = let few = list.short in let less = prefix_length K H begins in omega arith;
+  each = λ n w at. let inside = within K n w at in
+      subst (λ (m : Pairs). IsWrite z b n m w) (after_longer opening K H n begins (omega arith)) (list.each n w (prefix_at K H n w begins at));
+  home = list.home;
+}
+
+module _ (z : Sizes) (s : State (Unit {0}) View) (r : WordRule z s) (b : ℕ) (inside : b < buckets z) where
+  pub known_list : (known : Known) (records : List Record) → IsInformed z r.table known records → 1 ≤ length records
+      → IsWriteList z b (opening_at known b) (known_at known b)
+  known_list known records ok has = subst (λ (o : Openings). IsWriteList z b (opening_in o b) (known_at known b)) (sym (ok.opening has))
+      (prefix_list z b (opening_in r.table.openings b) (known_at known b) (r.table.bucket b).history (ok.begins b inside) (r.each_bucket b inside).writes)
+
+  -- each write that is known bears the number of a caller that was made
+  pub known_bearers : (known : Known) (records : List Record) → IsInformed z r.table known records → (n : ℕ) (w : Write)
+      → get_elem? (known_at known b) n ≡ some w → (1 ≤ w.by) × (w.by ≤ count_of s.words)
+  known_bearers known records ok n w at = (r.each_bucket b inside).bearers n w (prefix_at (known_at known b) (r.table.bucket b).history n w (ok.begins b inside) at)
+
+  pub knows_own : (known other : Known) (records others : List Record) → IsInformed z r.table known records
+      → IsInformed z r.table other others → (n : ℕ) (x : Write) → get_elem? (known_at other b) n ≡ some x → HasNumber records x.by
+      → get_elem? (known_at known b) n ≡ some x
+  knows_own known other records others ok ok' n x at by =
+      let H : List Write = (r.table.bucket b).history in
+      let there : get_elem? H n ≡ some x = prefix_at (known_at other b) H n x (ok'.begins b inside) at in
+      prefix_below (known_at known b) H n x (ok.begins b inside) (ok.own by.0 b n by.1 x by.2 inside there (sym by.3)) there
+
+-- a view that is informed of the table is a lawful caller's
+pub lawful_here : (z : Sizes) (s : State (Unit {0}) View) (r : WordRule z s) (v : View) → HasNumbers v.seen v.records
+    → IsInformed z r.table v.known v.records → (v.lone ≡ true → IsWhole v.records (count_of s.words)) → IsLawfulCaller z v
+lawful_here z s r v numbers ok whole = record {
+  numbers = numbers;
+  lawful = ok.lawful;
+  lists = λ has b inside. known_list z s r b inside v.known v.records ok has;
+  made = λ lone b inside n w at. let by = known_bearers z s r b inside v.known v.records ok n w at in whole lone w.by by.0 by.1;
+}
+
+-- the caller of each view is lawful
+pub lawful_at : (z : Sizes) (s : State (Unit {0}) View) → WordRule z s → (id : ℕ) (v : View) → get_elem? s.views id ≡ some v
+    → IsLawfulCaller z v
+lawful_at z s r id v at = let ok = r.each_view id v at in lawful_here z s r v ok.numbers ok.informed ok.lone
+
+-- also that of a view that was just set
+pub lawful_set : (z : Sizes) (words : List ℕ) (s : State (Unit {0}) View) (id : ℕ) (v w : View) → get_elem? s.views id ≡ some v
+    → WordRule z record { words = words; homes = s.homes; views = set s.views id w } → IsLawfulCaller z w
+lawful_set z words s id v w at r =
+    lawful_at z record { words = words; homes = s.homes; views = set s.views id w } r id w (set_here s.views id w (within s.views id v at))

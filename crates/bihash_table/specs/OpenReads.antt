@@ -1,0 +1,80 @@
+-- A bucket that a caller saw without its lock, and what words of its block tell that were read since.
+use Rattle.std.specs.Prelude.{◌≡◌, ℕ, ◌+◌, ◌-◌, ◌*◌, ◌^◌, ◌<◌, ◌≤◌, Bool, true, false, List, length, slice_index, Option, Some, None}
+use Rattle.bihash_words.specs.Sizes.{Sizes}
+use Rattle.bihash_words.specs.Words.{Fits, packed}
+use Rattle.bihash_steps.specs.Words.{buckets, block_words, place_words}
+use Rattle.bihash_steps.specs.Histories.{IsPrefix}
+use Rattle.bihash_steps.specs.Callers.{known_at}
+use Rattle.bihash_steps.specs.Blocks.{IsBlockOf, value_in}
+use Rattle.bihash_steps.specs.Buckets.{Reads, word_of}
+use Rattle.bihash_steps.specs.Views.{nothing_held}
+use Rattle.bihash_steps.specs.BucketSteps.{learned, map_now, reading}
+use Rattle.bihash_steps.specs.declared.view.Write.{Write}
+use Rattle.bihash_steps.specs.declared.view.Extent.{Extent}
+use Rattle.bihash_steps.specs.declared.view.Notes.{Notes}
+use Rattle.bihash_steps.specs.declared.view.OpenBucket.{OpenBucket}
+use Rattle.bihash_steps.specs.declared.view.View.{View}
+use Rattle.bihash_table.specs.Places.{HasPairOf}
+
+-- The caller noted an open bucket whose unlocked word was this one, and so a block with this extent. Its
+-- words may be loaded, whatever became of them.
+pub record NotesBlock (z : Sizes) (v : View) (word : ℕ) (e : Extent) : Type 0 where
+  pub open_bucket : OpenBucket
+  pub noted : v.notes.open_bucket ≡ Some open_bucket
+  pub extent : open_bucket.extent ≡ e
+  pub fits : Fits (word_of e false open_bucket.version)
+  pub stood : word ≡ packed (word_of e false open_bucket.version)
+  pub small : e.log2 ≤ z.max_log2
+  pub near : e.page + 2 ^ e.log2 ≤ z.pages + 1
+  pub size : length open_bucket.block ≡ block_words z e.page e.log2
+
+-- The caller saw bucket b without its lock, knows the history that it had then, and holds nothing. The
+-- block that it noted holds the pairs which that history leaves.
+pub record HasOpen (z : Sizes) (v : View) (b word : ℕ) : Type 0 where
+  pub inside : b < buckets z
+  pub held : v.holds ≡ nothing_held
+  pub extent : Extent
+  pub block : NotesBlock z v word extent
+  pub bucket : block.open_bucket.bucket ≡ b
+  pub version : block.open_bucket.version ≡ length (known_at v.known b)
+  pub pairs : IsBlockOf z extent block.open_bucket.block (map_now v b)
+
+-- the bucket was seen from the view v
+pub record IsOpened (z : Sizes) (v w : View) (b word : ℕ) : Type 0 where
+  pub history : List Write
+  pub begins : IsPrefix (known_at v.known b) history
+  pub notes : Notes
+  pub is : w ≡ record (learned v b history) { notes = notes }
+  -- a lone caller knew the history before
+  pub alone : v.lone ≡ true → length history ≤ length (known_at v.known b)
+  pub listed : b < length v.known.writes
+  pub has : HasOpen z w b word
+
+-- From the view v to w the caller read words of the open bucket and did nothing else. What they tell of
+-- the block holds on the condition that they are the block's.
+pub record Saw (v w : View) (tells : Extent → List ℕ → Type 0) : Type 0 where
+  pub more : List (ℕ × ℕ)
+  pub is : w ≡ reading v more
+  pub told : (o : OpenBucket) → v.notes.open_bucket ≡ Some o → Reads more o.block → tells o.extent o.block
+
+-- whether the last word of the key stands at place i: where it doesn't, the key's pair isn't there
+abbrev pub LastWordTells : Sizes → Extent → List ℕ → List ℕ → ℕ → Bool → Type 0
+LastWordTells z e block key i true = slice_index block (i * place_words z + (z.key_words - 1))
+    ≡ slice_index key (z.key_words - 1)
+LastWordTells z e block key i false = HasPairOf z e block key i → ⊥
+
+-- what the marks of the four places of a page tell
+abbrev pub AreMarks : Sizes → Extent → List ℕ → List ℕ → ℕ → Bool × Bool × Bool × Bool → Type 0
+AreMarks z e block key first marks = LastWordTells z e block key first marks.0
+    × LastWordTells z e block key (first + 1) marks.1 × LastWordTells z e block key (first + 2) marks.2
+    × LastWordTells z e block key (first + 3) marks.3
+
+-- what a look at place i found: the value of the key's pair, or that it isn't there
+abbrev pub IsValueAt : Sizes → Extent → List ℕ → List ℕ → ℕ → Option ℕ → Type 0
+IsValueAt z e block key i (Some value) = HasPairOf z e block key i × (value ≡ value_in z block i)
+IsValueAt z e block key i None = HasPairOf z e block key i → ⊥
+
+-- what a look at the places from one to before another found
+abbrev pub IsValueAmong : Sizes → Extent → List ℕ → List ℕ → ℕ → ℕ → Option ℕ → Type 0
+IsValueAmong z e block key from to (Some value) = (i : ℕ) × HasPairOf z e block key i × (value ≡ value_in z block i)
+IsValueAmong z e block key from to None = (i : ℕ) → from ≤ i → i < to → HasPairOf z e block key i → ⊥
