@@ -1,9 +1,6 @@
-pub mod AnsweredCalls
 pub mod Blocks
 pub mod Bridge
 pub mod Changes
-pub mod CommonHistories
-pub mod CommonOrders
 pub mod Composed
 pub mod Copies
 pub mod Count
@@ -11,14 +8,9 @@ pub mod Decisions
 pub mod Entering
 pub mod Homes
 pub mod KeyOrders
-pub mod Linearizing
 pub mod LookedAt
-pub mod MapSteps
-pub mod Moments
-pub mod OneWriter
 pub mod Opened
 pub mod OpenPlaces
-pub mod OwnCalls
 pub mod PairListLemmas
 pub mod PlacePairs
 pub mod PlaceReads
@@ -34,6 +26,5 @@ pub mod Sorting
 pub mod Stores
 pub mod Storing
 pub mod TakenLocks
-pub mod Turns
 pub mod Updated
 pub mod Versions

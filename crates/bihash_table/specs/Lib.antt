@@ -1,12 +1,10 @@
 pub mod Answers
 pub mod Closing
 pub mod Copying
-pub mod Linearizations
 pub mod Locked
 pub mod OpenReads
 pub mod PairLists
 pub mod Places
-pub mod Runs
 pub mod Scans
 pub mod Shortage
 pub mod Stores

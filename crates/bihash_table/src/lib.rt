@@ -7,7 +7,6 @@ mod close;
 mod close_fault;
 mod contended;
 mod grow;
-mod laws;
 mod lock;
 mod pages;
 mod reads;
@@ -20,10 +19,6 @@ mod wait;
 pub use bihash_steps::{Caller, CallerSeat, CreateFault, SplitFault};
 pub use close_fault::CloseFault;
 pub use contended::Contended;
-pub use laws::{
-    agreeing_callers_share_a_history, answers_are_the_maps, changed_alone_writes,
-    one_writer_has_one_map, one_writer_stays,
-};
 pub use sessions::{Sessions, create};
 
 #[cfg(test)]

@@ -1,6 +1,6 @@
 -- What a reader is told of the writes of an answered call.
-use Rattle.bihash_table.proofs.AnsweredCalls.{last_write, no_write, one_write}
-use Rattle.bihash_table.proofs.laws.changed_alone_writes.Goals as goal
+use Rattle.bihash_laws.proofs.AnsweredCalls.{last_write, no_write, one_write}
+use Rattle.bihash_laws.proofs.laws.changed_alone_writes.Goals as goal
 
 pub returns-clause-last : goal.returns-clause-last
 returns-clause-last c = last_write

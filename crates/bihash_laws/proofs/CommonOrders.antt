@@ -12,11 +12,11 @@ use Rattle.bihash_steps.specs.declared.view.Call.{Call}
 use Rattle.bihash_steps.specs.declared.view.Record.{Record}
 use Rattle.bihash_steps.specs.declared.view.View.{View}
 use Rattle.bihash_steps.proofs.Lists.{at_either}
-use Rattle.bihash_table.specs.Runs.{IsCommonHistory}
-use Rattle.bihash_table.specs.Linearizations.{IsCommonLinearization, KnowsOwn, Turn}
-use Rattle.bihash_table.proofs.CommonHistories.{common_history}
-use Rattle.bihash_table.proofs.Linearizing.{AreLawful, linearized, turns}
-use Rattle.bihash_table.proofs.Turns.{BearOnce}
+use Rattle.bihash_laws.specs.Runs.{IsCommonHistory}
+use Rattle.bihash_laws.specs.Linearizations.{IsCommonLinearization, KnowsOwn, Turn}
+use Rattle.bihash_laws.proofs.CommonHistories.{common_history}
+use Rattle.bihash_laws.proofs.Linearizing.{AreLawful, linearized, turns}
+use Rattle.bihash_laws.proofs.Turns.{BearOnce}
 
 -- what holds of each element of two lists holds of each of both
 in_both : {A : Type 0} (P : A → Type 0) (xs ys : List A) → ((i : ℕ) (x : A) → get_elem? xs i ≡ some x → P x)

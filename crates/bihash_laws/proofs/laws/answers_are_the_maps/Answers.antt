@@ -1,6 +1,6 @@
 -- What a reader is told of an answered call.
-use Rattle.bihash_table.proofs.AnsweredCalls.{acting_more, continues, found_there, legal}
-use Rattle.bihash_table.proofs.laws.answers_are_the_maps.Goals as goal
+use Rattle.bihash_laws.proofs.AnsweredCalls.{acting_more, continues, found_there, legal}
+use Rattle.bihash_laws.proofs.laws.answers_are_the_maps.Goals as goal
 
 pub returns-clause-continues : goal.returns-clause-continues
 returns-clause-continues c = continues

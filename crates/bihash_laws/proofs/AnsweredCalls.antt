@@ -20,9 +20,9 @@ use Rattle.bihash_steps.specs.declared.view.View.{View}
 use Rattle.bihash_steps.proofs.Prefixes.{prefix_below}
 use Rattle.bihash_steps.proofs.Lists.{at_end, within}
 use Rattle.bihash_table.specs.Answers.{entry_of, own_writes, with_locks}
-use Rattle.bihash_table.specs.Runs.{IsLastWrite, IsLawfulAnswer, LearnsOnlyOwn, IsOneWriter}
+use Rattle.bihash_laws.specs.Runs.{IsLastWrite, IsLawfulAnswer, LearnsOnlyOwn, IsOneWriter}
 use Rattle.bihash_table.proofs.Composed.{learned_length}
-use Rattle.bihash_table.proofs.MapSteps.{after_next}
+use Rattle.bihash_laws.proofs.MapSteps.{after_next}
 
 -- what is put outside of a list is not there
 set_or_short : (xss : List (List Write)) (b : ℕ) (ys : List Write)

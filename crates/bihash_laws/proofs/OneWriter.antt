@@ -15,8 +15,8 @@ use Rattle.bihash_steps.specs.declared.view.Call.{Call}
 use Rattle.bihash_steps.specs.declared.view.Record.{Record}
 use Rattle.bihash_steps.specs.declared.view.View.{View}
 use Rattle.bihash_steps.proofs.Lists.{there, within}
-use Rattle.bihash_table.specs.Runs.{IsOneWriter, IsRun, calls_on, writes_behind}
-use Rattle.bihash_table.proofs.MapSteps.{after_next, step_changes, step_leaves}
+use Rattle.bihash_laws.specs.Runs.{IsOneWriter, IsRun, calls_on, writes_behind}
+use Rattle.bihash_laws.proofs.MapSteps.{after_next, step_changes, step_leaves}
 
 module _ (z : Sizes) (b : ℕ) (opening : Pairs) (H : List Write) (by : ℕ) where
   -- The calls that are left when the first n writes stand: those on bucket b are legal and not of earlier

@@ -11,7 +11,7 @@ use Rattle.bihash_steps.specs.declared.view.Write.{Write}
 use Rattle.bihash_steps.specs.declared.view.Call.{Call}
 use Rattle.bihash_steps.specs.declared.view.Record.{Record}
 use Rattle.bihash_steps.specs.declared.view.View.{View}
-use Rattle.bihash_table.specs.Runs.{IsCommonHistory, IsRun, calls_on, writes_behind}
+use Rattle.bihash_laws.specs.Runs.{IsCommonHistory, IsRun, calls_on, writes_behind}
 
 -- a call, and the caller number under which it was made
 pub record Turn : Type 0 where

@@ -17,9 +17,9 @@ use Rattle.bihash_steps.specs.Histories.{IsAnswer, IsLegal, after, bounds_of, ev
 use Rattle.bihash_steps.specs.Callers.{HasWrite, Rises}
 use Rattle.bihash_steps.specs.declared.view.Write.{Write}
 use Rattle.bihash_steps.specs.declared.view.Call.{Call}
-use Rattle.bihash_table.specs.Runs.{calls_on}
-use Rattle.bihash_table.proofs.MapSteps.{step_changes}
-use Rattle.bihash_table.proofs.Moments.{AreOrdered, at_moment, filter_none, filter_one, filter_same, from_moment, eqb-true, eqb-false, leb-true, leb-false}
+use Rattle.bihash_laws.specs.Runs.{calls_on}
+use Rattle.bihash_laws.proofs.MapSteps.{step_changes}
+use Rattle.bihash_laws.proofs.Moments.{AreOrdered, at_moment, filter_none, filter_one, filter_same, from_moment, eqb-true, eqb-false, leb-true, leb-false}
 
 -- ---- What a changing call answers
 

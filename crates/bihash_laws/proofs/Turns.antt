@@ -8,9 +8,9 @@ use mathlib.Core.Option.{some, some-ne-none, some-injective}
 use lib.ListN.{get_elem?}
 use Rattle.bihash_steps.specs.declared.view.Call.{Call}
 use Rattle.bihash_steps.specs.declared.view.Record.{Record}
-use Rattle.bihash_table.specs.Linearizations.{Turn, calls_by, calls_in}
-use Rattle.bihash_table.proofs.Moments.{at_moment, eqb-false, eqb-true, filter_each}
-use Rattle.bihash_table.proofs.OwnCalls.{moment}
+use Rattle.bihash_laws.specs.Linearizations.{Turn, calls_by, calls_in}
+use Rattle.bihash_laws.proofs.Moments.{at_moment, eqb-false, eqb-true, filter_each}
+use Rattle.bihash_laws.proofs.OwnCalls.{moment}
 
 abbrev pub turn : ℕ → Call → Turn
 turn by c = record { by = by; call = c }

@@ -16,8 +16,8 @@ ghost use Rattle.bihash_steps.specs.declared.view.Write.{Write};
 ghost use Rattle.bihash_steps.specs.declared.view.Record.{Record};
 ghost use Rattle.bihash_steps.specs.declared.view.View.{View};
 ghost use Rattle.bihash_table.specs.Answers.{entry_of};
-ghost use Rattle.bihash_table.specs.Linearizations.{IsCommonLinearization, IsLinearization, KnowsOwn, Turn};
-ghost use Rattle.bihash_table.specs.Runs.{IsCommonHistory, IsLastWrite, IsLawfulAnswer, LearnsOnlyOwn, IsOneWriter, IsRun, calls_on};
+ghost use Rattle.bihash_laws.specs.Linearizations.{IsCommonLinearization, IsLinearization, KnowsOwn, Turn};
+ghost use Rattle.bihash_laws.specs.Runs.{IsCommonHistory, IsLastWrite, IsLawfulAnswer, LearnsOnlyOwn, IsOneWriter, IsRun, calls_on};
 
 /// To a caller each of whose known writes of a bucket was made under one number, the bucket is one bounded
 /// map: the calls of that number there, in their order, are a run of the map. It begins with the map that the

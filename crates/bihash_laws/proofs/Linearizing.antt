@@ -15,12 +15,12 @@ use Rattle.bihash_steps.specs.declared.view.Write.{Write}
 use Rattle.bihash_steps.specs.declared.view.Call.{Call}
 use Rattle.bihash_steps.specs.declared.view.Record.{Record}
 use Rattle.bihash_steps.specs.declared.view.View.{View}
-use Rattle.bihash_table.specs.Runs.{AreLegal, IsRun, calls_on, writes_behind}
-use Rattle.bihash_table.specs.Linearizations.{AreStamped, IsLinearization, Turn, calls_by, calls_in, writes_in}
-use Rattle.bihash_table.proofs.MapSteps.{after_next, step_leaves}
-use Rattle.bihash_table.proofs.Moments.{at_moment, by_moments, from_moment}
-use Rattle.bihash_table.proofs.OwnCalls.{AreCalls, Kind, call_of, elsewhere, have_moments, in_order, kind, moment, none_later, own_write, read, write, write_steps}
-use Rattle.bihash_table.proofs.Turns.{BearOnce, calls_by-append, calls_by-cons, calls_by-turns_at, turn, turns_at, turns_each}
+use Rattle.bihash_laws.specs.Runs.{AreLegal, IsRun, calls_on, writes_behind}
+use Rattle.bihash_laws.specs.Linearizations.{AreStamped, IsLinearization, Turn, calls_by, calls_in, writes_in}
+use Rattle.bihash_laws.proofs.MapSteps.{after_next, step_leaves}
+use Rattle.bihash_laws.proofs.Moments.{at_moment, by_moments, from_moment}
+use Rattle.bihash_laws.proofs.OwnCalls.{AreCalls, Kind, call_of, elsewhere, have_moments, in_order, kind, moment, none_later, own_write, read, write, write_steps}
+use Rattle.bihash_laws.proofs.Turns.{BearOnce, calls_by-append, calls_by-cons, calls_by-turns_at, turn, turns_at, turns_each}
 
 -- Records whose calls on bucket b are lawful on this history, each write of which is a step.
 pub record AreLawful (z : Sizes) (b : ℕ) (opening : Pairs) (H : List Write) (records : List Record) : Type 0 where

@@ -1,6 +1,6 @@
 -- What a reader is told of one writer.
-use Rattle.bihash_table.proofs.AnsweredCalls.{first_one_writer, lone_learns_own, stays_one_writer}
-use Rattle.bihash_table.proofs.laws.one_writer_stays.Goals as goal
+use Rattle.bihash_laws.proofs.AnsweredCalls.{first_one_writer, lone_learns_own, stays_one_writer}
+use Rattle.bihash_laws.proofs.laws.one_writer_stays.Goals as goal
 
 pub returns-clause-first : goal.returns-clause-first
 returns-clause-first c = first_one_writer

@@ -1,0 +1,9 @@
+pub mod AnsweredCalls
+pub mod CommonHistories
+pub mod CommonOrders
+pub mod Linearizing
+pub mod MapSteps
+pub mod Moments
+pub mod OneWriter
+pub mod OwnCalls
+pub mod Turns

@@ -1,0 +1,2 @@
+pub mod Linearizations
+pub mod Runs
