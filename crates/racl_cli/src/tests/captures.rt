@@ -2,9 +2,10 @@
 //! They are compiled for tests alone, so no clause rests on them.
 
 use crate::device::Device;
+use crate::end_to_end::run;
+use crate::exits::status;
 use crate::fault::Fault;
 use crate::report::Totals;
-use crate::run::{run, status};
 use crate::settings::Options;
 use session_state::Timeouts;
 use std::alloc::{AllocError, Global};

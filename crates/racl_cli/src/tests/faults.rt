@@ -1,8 +1,8 @@
 //! What a fault says, and the status with which it ends the program.
 
+use crate::exits::status;
 use crate::fault::Fault;
 use crate::report::Totals;
-use crate::run::status;
 use std::test::Fail;
 
 #[test]

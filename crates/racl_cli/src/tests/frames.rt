@@ -3,8 +3,8 @@
 use super::captures::Content::{Digits, Tcp, Udp};
 use super::captures::{NAMES, Sent, defaults, inbound, outbound, report_of, run_on};
 use crate::content::decoded;
+use crate::exits::status;
 use crate::fault::Fault;
-use crate::run::status;
 use std::alloc::Global;
 use std::test::Fail;
 

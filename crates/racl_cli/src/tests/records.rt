@@ -2,10 +2,10 @@
 
 use super::captures::{FIRST_PATH, FIRST_REPORT, NAMES, Ran, assert_refused, defaults, run_on};
 use crate::content::decoded;
+use crate::exits::status;
 use crate::fault::Fault;
 use crate::input::parts;
 use crate::report::Totals;
-use crate::run::status;
 use std::alloc::{AllocError, Global};
 use std::test::Fail;
 

@@ -3,8 +3,9 @@ ghost use Rattle.std.specs.Prelude.{◌≡◌, None};
 
 use super::captures::{FIRST_PATH, FIRST_REPORT, defaults};
 use crate::device::{Device, DeviceFault, Sink, Source};
+use crate::end_to_end::run;
+use crate::exits::status;
 use crate::fault::Fault;
-use crate::run::{run, status};
 use std::alloc::Global;
 use std::test::Fail;
 

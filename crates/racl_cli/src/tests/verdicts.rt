@@ -4,8 +4,8 @@ use super::captures::Content::{Echo, Tcp, Udp};
 use super::captures::{
     FIRST_PATH, FIRST_REPORT, NAMES, defaults, inbound, input, outbound, report_of, run_on,
 };
+use crate::exits::status;
 use crate::report::Totals;
-use crate::run::status;
 use crate::words::options;
 use std::test::Fail;
 

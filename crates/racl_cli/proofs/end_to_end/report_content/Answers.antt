@@ -2,7 +2,7 @@ use Rattle.std.proofs.Common.{refl, subst}
 use Rattle.racl_cli.specs.declared.input.Form.TheVariants.{Binary, Hexadecimal}
 use Rattle.racl_cli.specs.Faults.{IsFaultOfContent}
 use Rattle.racl_cli.proofs.RunLemmas.{fault_of_known_content}
-use Rattle.racl_cli.proofs.run.report_content.Goals as goal
+use Rattle.racl_cli.proofs.end_to_end.report_content.Goals as goal
 
 pub returns-in-Binary-clause-refuses : goal.returns-in-Binary-clause-refuses
 returns-in-Binary-clause-refuses c = λ fault of.

@@ -1,7 +1,7 @@
 use Rattle.std.proofs.Common.{sym, inl, inr}
 use Rattle.std.proofs.lemmas.Result.{IfErr-weaker, err_from_is_err_and}
 use Rattle.racl_cli.proofs.RunLemmas.{fault_of_known_parts, fault_without_parts, fault_of_wrong_policy, fault_of_right_policy}
-use Rattle.racl_cli.proofs.run.report_input.Goals as goal
+use Rattle.racl_cli.proofs.end_to_end.report_input.Goals as goal
 
 pub returns-in_default-clause-refuses : goal.returns-in_default-clause-refuses
 returns-in_default-clause-refuses c = λ fault of. inl (sym (fault_without_parts _ fault c.in_default.ensures.none of))

@@ -8,7 +8,6 @@ ghost use Rattle.racl_cli.specs.Faults.{IsFaultOfBytes, IsFaultOfCapture, IsFaul
 ghost use Rattle.racl_cli.specs.Inputs.{parts_of};
 ghost use Rattle.racl_cli.specs.Reports.{report_of, totals_of};
 ghost use Rattle.racl_cli.specs.Runs.{FiltersCapture, FiltersContent, FiltersInput, Outcome, Tells};
-ghost use Rattle.racl_cli.specs.Statuses.{status_of};
 
 use crate::content::decoded;
 use crate::device::{Sink, Source};
@@ -104,16 +103,4 @@ pub fn run<R: Source, W: Sink>(
     let report = report_input(alloc, &options.times, &bytes)?;
     write_all(writer, &report.text)?;
     Ok(report.totals)
-}
-
-/// The status with which the program ends: 0 done, 3 done but the capture was truncated, 1 a fault
-/// of the input, 4 want of memory or a device that failed.
-pub fn status(outcome: &Result<Totals, Fault>) -> u8
-    ensures { result ≡ status_of outcome.now }
-{
-    match outcome {
-        Ok(totals) => { if totals.truncated { 3 } else { 0 } }
-        Err(Fault::Memory | Fault::Read | Fault::Write) => 4,
-        Err(_) => 1,
-    }
 }

@@ -1,5 +1,5 @@
 use Rattle.racl_cli.specs.Runs.{Outcome}
-use Rattle.racl_cli.proofs.run.report_capture.Goals as goal
+use Rattle.racl_cli.proofs.end_to_end.report_capture.Goals as goal
 
 pub returns-clause-ok : goal.returns-clause-ok
 returns-clause-ok c =

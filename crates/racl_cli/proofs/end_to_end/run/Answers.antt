@@ -1,7 +1,7 @@
 use Rattle.std.proofs.Common.{inl, inr}
 use Rattle.std.proofs.lemmas.Result.{err_from_is_err_and}
 use Rattle.racl_cli.proofs.RunLemmas.{device_or, excluded_by_input, fault_of_input, read_bytes}
-use Rattle.racl_cli.proofs.run.run.Goals as goal
+use Rattle.racl_cli.proofs.end_to_end.run.Goals as goal
 
 pub returns-in_err-report-clause-fault : goal.returns-in_err-report-clause-fault
 returns-in_err-report-clause-fault g c =

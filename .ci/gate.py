@@ -1,0 +1,91 @@
+"""Runs the gate and the checks, says how long each part took, and adds up what passed and failed.
+
+The gate is `rt ci`, which leaves the program that it proved in crates/racl/out, as LLVM builds it and
+as Rattle's own compiler does. The launcher finds the first one newer than its sources and only runs it.
+"""
+import os
+import re
+import subprocess
+import sys
+import time
+
+PROGRAM = "crates/racl/out/racl"
+BY_RATTLE = PROGRAM + ".by-rattle"
+COUNTS = re.compile(r"(\d+) passed, (\d+) failed")
+
+# What the gate says of a crate as it comes to it.
+STEPS = [
+    ("proved", re.compile(r"rt: (\w+) (?:NOT )?(?:proved|PROVED)\b")),
+    ("tests proved", re.compile(r"rt: (\w+): its tests are (?:NOT )?(?:proved|PROVED)\b")),
+    ("edits begun", re.compile(r"rt: (\w+): trying its must-fail edits")),
+    ("tests run", re.compile(r"rt: (\w+): its tests (?:passed|FAILED)\b")),
+]
+EDITS_DONE = re.compile(r"rt: must-fail ")
+
+
+def followed(command, look):
+    """Runs a command, passes its lines on as they come, and gives its status and its last line."""
+    last = ""
+    with subprocess.Popen(command, stdout=subprocess.PIPE, stderr=subprocess.STDOUT, text=True, errors="replace") as child:
+        for line in child.stdout:
+            sys.stdout.write(line)
+            sys.stdout.flush()
+            last = line.strip() or last
+            look(line)
+    return child.returncode, last
+
+
+def counted(status, last):
+    """What passed and failed by a last line; a command that failed without saying so is one failure."""
+    found = COUNTS.fullmatch(last)
+    passed, failed = map(int, found.groups()) if found else (0, 0)
+    return passed, failed or int(status != 0 or not found)
+
+
+class Times:
+    """When each step of the gate came, in seconds from its start."""
+
+    def __init__(self):
+        self.start = time.monotonic()
+        self.steps = {}
+        self.edits_done = None
+
+    def look(self, line):
+        now = time.monotonic() - self.start
+        for step, pattern in STEPS:
+            found = pattern.match(line)
+            if found:
+                self.steps.setdefault(found[1], {})[step] = now
+        if self.edits_done is None and EDITS_DONE.match(line):
+            self.edits_done = now
+
+    def tell(self, total, used):
+        names = [step for step, _ in STEPS]
+        print("seconds from the gate's start until a crate was")
+        print(f"  {'':16}" + "".join(f"{it:>14}" for it in names))
+        for crate, at in self.steps.items():
+            print(f"  {crate:16}" + "".join(f"{at[it]:14.0f}" if it in at else f"{'':14}" for it in names))
+        if self.edits_done is not None:
+            print(f"  all edits were tried after {self.edits_done:.0f}")
+        print(f"rt ci took {total:.0f} s and {used / 60:.1f} processor minutes")
+
+
+def main():
+    times = Times()
+    status, last = followed(["rt", "ci"], times.look)
+    total, ended = time.monotonic() - times.start, os.times()
+    gate = counted(status, last)
+    start = time.monotonic()
+    programs = ["./racl", *([BY_RATTLE] if os.path.exists(BY_RATTLE) else [])]
+    # where the gate left no program, none is built for the checks: that would only fail again
+    checks = counted(*followed(["checks/run", *programs], lambda _: None)) if os.path.exists(PROGRAM) else (0, 1)
+    times.tell(total, ended.children_user + ended.children_system)
+    of = "the program that rt ci built" if os.path.exists(PROGRAM) else "no program"
+    print(f"the checks of {of} took {time.monotonic() - start:.0f} s")
+    passed, failed = gate[0] + checks[0], gate[1] + checks[1]
+    print(f"{passed} passed, {failed} failed")
+    sys.exit(status or int(failed != 0))
+
+
+if __name__ == "__main__":
+    main()

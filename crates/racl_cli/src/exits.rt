@@ -1,0 +1,80 @@
+//! How the program ends: what it says on standard error, and its exit status.
+ghost use Rattle.std.specs.Prelude.{◌≡◌, ◌≢◌, None, Some, option_map};
+ghost use Rattle.clap.specs.Words.{kind_of};
+ghost use Rattle.std.specs.IoError.{error_kind};
+ghost use Rattle.racl_cli.specs.Endings.{message_text, said_after};
+ghost use Rattle.racl_cli.specs.Statuses.{status_of};
+ghost use Rattle.racl_cli.specs.declared.fault.Fault.TheVariants.{Memory, Write};
+
+use crate::fault::Fault;
+use crate::message::{Ending, Message};
+use crate::report::Totals;
+use crate::words::words_status;
+use clap::error::ErrorKind;
+use std::io;
+use std::io::ErrorKind as FailureKind;
+
+/// The status with which the program ends: 0 done, 3 done but the capture was truncated, 1 a fault
+/// of the input, 4 want of memory or a device that failed.
+pub fn status(outcome: &Result<Totals, Fault>) -> u8
+    ensures { result ≡ status_of outcome.now }
+{
+    match outcome {
+        Ok(totals) => { if totals.truncated { 3 } else { 0 } }
+        Err(Fault::Memory | Fault::Read | Fault::Write) => 4,
+        Err(_) => 1,
+    }
+}
+
+/// The end of a run: after a report nothing is said, and a fault is told.
+pub fn ending(outcome: &Result<Totals, Fault>) -> Ending
+    ensures status { result.status ≡ status_of outcome.now }
+    ensures said { option_map message_text result.message ≡ said_after outcome.now }
+{
+    let message = match outcome {
+        Ok(_) => None,
+        Err(fault) => Some(Message::Fault(*fault)),
+    };
+    Ending {
+        message,
+        status: status(outcome),
+    }
+}
+
+/// The end after words that `options` refuses. Without a message `clap`'s own text is printed.
+pub fn words_ending(error: &clap::Error) -> Ending
+    ensures help { kind_of error.now ≡ ErrorKind.DisplayHelp → result ≡ record { message = None; status = 0 } }
+    ensures memory { kind_of error.now ≡ ErrorKind.OutOfMemory
+        → result ≡ record { message = Some (Message.Fault Memory); status = 4 } }
+    ensures mistake { kind_of error.now ≢ ErrorKind.DisplayHelp → kind_of error.now ≢ ErrorKind.OutOfMemory
+        → result ≡ record { message = None; status = 2 } }
+{
+    let message = match error.kind() {
+        ErrorKind::OutOfMemory => Some(Message::Fault(Fault::Memory)),
+        _ => None,
+    };
+    Ending {
+        message,
+        status: words_status(error),
+    }
+}
+
+/// The end where the words can't be had, or a text can't be printed.
+pub fn failure_ending(error: &io::Error) -> Ending
+    ensures word { error_kind error.now ≡ FailureKind.InvalidData
+        → result ≡ record { message = Some Message.WordNotUtf8; status = 2 } }
+    ensures memory { error_kind error.now ≡ FailureKind.OutOfMemory
+        → result ≡ record { message = Some (Message.Fault Memory); status = 4 } }
+    ensures device { error_kind error.now ≢ FailureKind.InvalidData → error_kind error.now ≢ FailureKind.OutOfMemory
+        → result ≡ record { message = Some (Message.Fault Write); status = 4 } }
+{
+    let (message, status) = match error.kind() {
+        FailureKind::InvalidData => (Message::WordNotUtf8, 2),
+        FailureKind::OutOfMemory => (Message::Fault(Fault::Memory), 4),
+        _ => (Message::Fault(Fault::Write), 4),
+    };
+    Ending {
+        message: Some(message),
+        status,
+    }
+}
