@@ -1,9 +1,7 @@
 //! Frames and captures byte by byte, with the views that the standards give them.
 use crate::{
-    Capture, CaptureFault, Direction, Family, Fields, Frame, Mac, Order, Piece, Tuple,
-    a_cut_capture_keeps_its_front, bytes_behind_the_packet_are_not_seen, capture_header,
-    each_capture_has_one_reading, each_frame_has_one_view, next_record,
-    own_address_decides_the_way_alone, read_capture, view,
+    Capture, CaptureFault, Direction, Family, Fields, Frame, Mac, Order, Piece, Tuple, capture_header,
+    next_record, read_capture, view,
 };
 use std::test::Fail;
 
@@ -423,13 +421,4 @@ fn answers_the_fault_of_a_capture(rt: HostRuntime) -> Result<(), Fail> {
     assert!(rt; capture.packets.is_empty());
     assert!(rt; capture.truncated);
     Ok(())
-}
-
-#[test]
-fn states_the_laws() {
-    each_frame_has_one_view();
-    each_capture_has_one_reading();
-    a_cut_capture_keeps_its_front();
-    bytes_behind_the_packet_are_not_seen();
-    own_address_decides_the_way_alone();
 }
