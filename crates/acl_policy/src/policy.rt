@@ -58,7 +58,7 @@ fn add_rule(rules: &mut Vec<Rule>, rule: Rule, number: u64) -> Result<(), Policy
         ≡ Ok (map rule_facts rules.new.items)) }
     ensures fault { IfErr result
         (Fails (length (map rule_facts rules.old.items) < most_rules)
-            (rule_added number (map rule_facts rules.old.items) (rule_facts rule))) }
+        (rule_added number (map rule_facts rules.old.items) (rule_facts rule))) }
 {
     if rules.len() >= MOST_RULES {
         return Err(PolicyFault::TooMany(number));
@@ -73,7 +73,7 @@ fn add_line(policy: &mut Policy, line: &[u8], number: u64) -> Result<(), PolicyF
         ≡ Ok (policy_facts policy.new)) }
     ensures fault { IfErr result
         (Fails (HasRoom (policy_facts policy.old) (line_in line.now))
-            (line_added number (policy_facts policy.old) (line_in line.now))) }
+        (line_added number (policy_facts policy.old) (line_in line.now))) }
 {
     match line_of(line) {
         None => Err(PolicyFault::BadLine(number)),

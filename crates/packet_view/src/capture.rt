@@ -231,7 +231,7 @@ fn read_records<'a>(
     }
 }
 
-/// The packets of a capture. Memory is answered where a growth was refused, which the first whole record asks for.
+/// The packets of a capture. Memory is answered where a growth was refused, and none is asked for before a whole record.
 pub fn read_capture<'a>(alloc: Global, bytes: &'a [u8]) -> Result<Capture<'a>, CaptureFault>
     ensures ok { IfOk result (λ capture. IsCapture bytes.entry.now (map seen capture.packets.items) (end_of capture.truncated)) }
     ensures fault { IfErr result (λ fault. fault ≢ Memory → IsCaptureFault bytes.entry.now fault) }

@@ -1,7 +1,7 @@
 //! Frames and captures byte by byte, with the views that the standards give them.
 use crate::{
-    Capture, CaptureFault, Direction, Family, Fields, Frame, Mac, Order, Piece, Tuple, capture_header,
-    next_record, read_capture, view,
+    Capture, CaptureFault, Direction, Family, Fields, Frame, Mac, Order, Piece, Tuple,
+    capture_header, next_record, read_capture, view,
 };
 use std::test::Fail;
 
@@ -386,6 +386,7 @@ fn reads_a_capture_cut_anywhere(rt: HostRuntime) -> Result<(), Fail> {
 #[test]
 fn reads_the_packets_of_a_capture(rt: HostRuntime) -> Result<(), Fail> {
     let capture = read_capture(rt.alloc(), &LITTLE)?;
+    assert_eq!(rt; capture.packets.len(), 3);
     for (packet, moment) in capture.packets.iter().zip([100u32, 105, 106]) {
         assert_eq!(rt; packet.moment, moment);
         assert_eq!(rt; packet.frame.len(), 42);
