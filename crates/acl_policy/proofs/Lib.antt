@@ -13,6 +13,7 @@ pub mod PolicyLemmas
 pub mod PrefixBits
 pub mod PrefixLaws
 pub mod RangeLaws
+pub mod ReadingLaws
 pub mod TextLaws
 pub mod TrafficLaws
 pub mod WordLemmas

@@ -12,9 +12,9 @@ use Rattle.packet_view.specs.declared.tuple.Mac.{Mac}
 use Rattle.acl_policy.specs.declared.policy.PolicyFault.{PolicyFault}
 use Rattle.acl_policy.specs.declared.policy.PolicyFault.TheVariants.{Memory, NotUtf8, BadLine, TooMany}
 use Rattle.acl_policy.specs.Lines.{Blank, IsLine, LineFacts, Own, Ruled}
-use Rattle.acl_policy.specs.Policies.{AreLines, IsOnly, IsSurplus, IsWrong, PolicyFacts, Reads, most_rules, own_in, rule_in, rules_of}
+use Rattle.acl_policy.specs.Policies.{AreLines, HasRule, IsOnly, IsSurplus, IsWrong, PolicyFacts, Reads, most_rules, own_in, rule_in, rules_of}
 use Rattle.acl_policy.specs.Reading.Lines.{line_in}
-use Rattle.acl_policy.specs.Reading.Policies.{Fails, LinesFail, line_added, rule_added, with_inbound, with_outbound}
+use Rattle.acl_policy.specs.Reading.Policies.{Fails, HasRoom, LinesFail, line_added, rule_added, with_inbound, with_outbound}
 use Rattle.acl_policy.specs.Rules.{RuleFacts}
 use Rattle.acl_policy.proofs.LineLaws.{line_in-complete, line_in-sound}
 
@@ -152,7 +152,7 @@ full : (texts : List (List ℕ)) (policy : PolicyFacts) → Reads texts policy �
 full texts policy reads Inbound many = le_antisymm reads.inbound_fits many
 full texts policy reads Outbound many = le_antisymm reads.outbound_fits many
 
-line_added-err : (number : ℕ) (texts : List (List ℕ)) (line : List ℕ) (policy : PolicyFacts) (fault : PolicyFault) (said : Option LineFacts)
+pub line_added-err : (number : ℕ) (texts : List (List ℕ)) (line : List ℕ) (policy : PolicyFacts) (fault : PolicyFault) (said : Option LineFacts)
     → line_in line ≡ said → Reads texts policy → line_added number policy said ≡ Err fault → IsFaultAt fault policy line number
 line_added-err number texts line policy fault None found reads added =
     inl (cc, inl (λ reading is. let other = line_in-complete line reading is in cc))
@@ -179,10 +179,20 @@ LinesFail_from texts before after line policy fault number split counted reads (
 LinesFail_from texts before after line policy fault number split counted reads (inr surplus) =
     subst (λ (f : PolicyFault). LinesFail texts f) (sym surplus.0) (before, line, after, policy, split, counted, reads, surplus.1)
 
+-- a line for whose rule there is room
+HasRule-from_room : (texts before after : List (List ℕ)) (line : List ℕ) (policy : PolicyFacts) (said : Option LineFacts)
+    → line_in line ≡ said → texts ≡ before ++ line ∷ after → Reads before policy → HasRoom policy said → HasRule texts
+HasRule-from_room texts before after line policy None found split reads room = absurd room
+HasRule-from_room texts before after line policy (Some Blank) found split reads room = absurd room
+HasRule-from_room texts before after line policy (Some (Own mac)) found split reads room = absurd room
+HasRule-from_room texts before after line policy (Some (Ruled direction rule)) found split reads room =
+    (before, line, after, policy, direction, rule, split, reads, line_in-sound line (Ruled direction rule) found, room)
+
 pub LinesFail-line_added : (texts before after : List (List ℕ)) (line : List ℕ) (policy : PolicyFacts) (fault : PolicyFault) (number : ℕ)
     → texts ≡ before ++ line ∷ after → number ≡ length before + 1 → Reads before policy
-    → Fails (line_added number policy (line_in line)) fault → LinesFail texts fault
-LinesFail-line_added texts before after line policy Memory number split counted reads fails = tt
+    → Fails (HasRoom policy (line_in line)) (line_added number policy (line_in line)) fault → LinesFail texts fault
+LinesFail-line_added texts before after line policy Memory number split counted reads fails =
+    HasRule-from_room texts before after line policy (line_in line) refl split reads fails
 LinesFail-line_added texts before after line policy NotUtf8 number split counted reads fails =
     LinesFail_from texts before after line policy NotUtf8 number split counted reads (line_added-err number before line policy NotUtf8 (line_in line) refl reads fails)
 LinesFail-line_added texts before after line policy (BadLine n) number split counted reads fails =
@@ -207,7 +217,7 @@ Reads-take number texts k line policy next within read reads added =
     subst (λ (ls : List (List ℕ)). Reads ls next) (sym (line_at texts k line within read).0) (Reads-line_added number (take k texts) line policy next reads added)
 
 pub LinesFail-take : (number : ℕ) (texts : List (List ℕ)) (k : ℕ) (line : List ℕ) (policy : PolicyFacts) (fault : PolicyFault) → k < length texts → line ≡ get_or texts k line
-    → number ≡ k + 1 → Reads (take k texts) policy → Fails (line_added number policy (line_in line)) fault → LinesFail texts fault
+    → number ≡ k + 1 → Reads (take k texts) policy → Fails (HasRoom policy (line_in line)) (line_added number policy (line_in line)) fault → LinesFail texts fault
 LinesFail-take number texts k line policy fault within read counted reads fails =
     let place = line_at texts k line within read in
     LinesFail-line_added texts (take k texts) (drop (k + 1) texts) line policy fault number place.1 (counted ∙ ap (λ (n : ℕ). n + 1) (sym place.2)) reads fails

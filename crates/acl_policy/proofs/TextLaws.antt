@@ -11,7 +11,7 @@ use Rattle.packet_view.specs.declared.tuple.Mac.{Mac}
 use Rattle.acl_policy.specs.declared.policy.PolicyFault.{PolicyFault}
 use Rattle.acl_policy.specs.declared.policy.PolicyFault.TheVariants.{Memory, NotUtf8, BadLine, TooMany}
 use Rattle.acl_policy.specs.Lines.{IsLine, LineFacts, Own, Ruled}
-use Rattle.acl_policy.specs.Policies.{AreLines, IsFirstFault, IsOnly, IsPolicyFault, IsPolicyText, IsSurplus, IsWrong, PolicyFacts, Reads, most_rules, own_in, rule_in, rules_of}
+use Rattle.acl_policy.specs.Policies.{AreLines, HasRule, IsFirstFault, IsOnly, IsPolicyFault, IsPolicyText, IsSurplus, IsWrong, PolicyFacts, Reads, most_rules, own_in, rule_in, rules_of}
 use Rattle.acl_policy.specs.Reading.Policies.{LinesFail}
 use Rattle.acl_policy.specs.Rules.{RuleFacts}
 use Rattle.acl_policy.proofs.LineLaws.{line_in-complete}
@@ -212,3 +212,12 @@ refused view text (Err Memory) utf8 ok found fault is = inr refl
 refused view text (Err NotUtf8) utf8 ok found fault is = absurd found
 refused view text (Err (BadLine n)) utf8 ok found fault is = inl (one_fault text (BadLine n) fault (utf8, found) is)
 refused view text (Err (TooMany n)) utf8 ok found fault is = inl (one_fault text (TooMany n) fault (utf8, found) is)
+
+-- Want of memory comes of a rule.
+pub wanting : {A : Type 0} (text : List ℕ) (result : Result A PolicyFault) → IsUtf8 text → IfErr result (LinesFail (lines text))
+    → IfErr result (λ fault. fault ≡ Memory → IsUtf8 text × HasRule (lines text))
+wanting text (Ok read) utf8 fault = tt
+wanting text (Err Memory) utf8 rule = λ same. (utf8, rule)
+wanting text (Err NotUtf8) utf8 fault = absurd fault
+wanting text (Err (BadLine n)) utf8 fault = λ same. absurd (cc)
+wanting text (Err (TooMany n)) utf8 fault = λ same. absurd (cc)

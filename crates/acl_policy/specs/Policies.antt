@@ -1,5 +1,5 @@
 -- What a whole text says, and where it is wrong, in this project's policy grammar.
-use Rattle.std.specs.Prelude.{◌≡◌, ◌≤◌, ◌⊎◌, ℕ, ◌+◌, List, [], ◌∷◌, ◌++◌, length, map, Option, Some, None, IsSome}
+use Rattle.std.specs.Prelude.{◌≡◌, ◌≤◌, ◌<◌, ◌⊎◌, ℕ, ◌+◌, List, [], ◌∷◌, ◌++◌, length, map, Option, Some, None, IsSome}
 use Rattle.std.specs.List.{filter_map}
 use Rattle.std.specs.Str.{IsUtf8}
 use Rattle.std.specs.Str.Lines.{lines}
@@ -84,6 +84,12 @@ abbrev pub IsFirstFault : (PolicyFacts → List ℕ → Type 0) → List (List �
 IsFirstFault IsAtFault texts number =
     (before : List (List ℕ)) × (line : List ℕ) × (after : List (List ℕ)) × (policy : PolicyFacts)
     × (texts ≡ before ++ line ∷ after) × (number ≡ length before + 1) × Reads before policy × IsAtFault policy line
+
+-- One of the lines is a rule for which there is room behind the policy that the lines before it say.
+abbrev pub HasRule : List (List ℕ) → Type 0
+HasRule texts =
+    (before : List (List ℕ)) × (line : List ℕ) × (after : List (List ℕ)) × (policy : PolicyFacts) × (direction : Direction) × (rule : RuleFacts)
+    × (texts ≡ before ++ line ∷ after) × Reads before policy × IsLine line (Ruled direction rule) × (length (rules_of direction policy) < most_rules)
 
 -- The text says this policy.
 abbrev pub IsPolicyText : List ℕ → PolicyFacts → Type 0

@@ -1,9 +1,10 @@
 //! A policy and its text.
-ghost use Rattle.std.specs.Prelude.{◌≡◌, ◌≢◌, ◌⊎◌, IfOk, IfErr, MatchResult, OnOk, map};
+ghost use Rattle.std.specs.Prelude.{◌≡◌, ◌≢◌, ◌<◌, ◌⊎◌, IfOk, IfErr, MatchResult, OnOk, length, map};
+ghost use Rattle.std.specs.Str.{IsUtf8};
 ghost use Rattle.std.specs.Str.Lines.{lines};
-ghost use Rattle.acl_policy.specs.Policies.{IsPolicyFault, IsPolicyText, PolicyFacts, Reads, policy_facts};
+ghost use Rattle.acl_policy.specs.Policies.{HasRule, IsPolicyFault, IsPolicyText, PolicyFacts, Reads, most_rules, policy_facts};
 ghost use Rattle.acl_policy.specs.Reading.Lines.{line_in};
-ghost use Rattle.acl_policy.specs.Reading.Policies.{Fails, LinesFail, line_added, rule_added};
+ghost use Rattle.acl_policy.specs.Reading.Policies.{Fails, HasRoom, LinesFail, line_added, rule_added};
 ghost use Rattle.acl_policy.specs.Rules.{rule_facts};
 
 use crate::line::{Line, line_of};
@@ -56,7 +57,8 @@ fn add_rule(rules: &mut Vec<Rule>, rule: Rule, number: u64) -> Result<(), Policy
     ensures ok { OnOk result (rule_added number (map rule_facts rules.old.items) (rule_facts rule)
         ≡ Ok (map rule_facts rules.new.items)) }
     ensures fault { IfErr result
-        (Fails (rule_added number (map rule_facts rules.old.items) (rule_facts rule))) }
+        (Fails (length (map rule_facts rules.old.items) < most_rules)
+        (rule_added number (map rule_facts rules.old.items) (rule_facts rule))) }
 {
     if rules.len() >= MOST_RULES {
         return Err(PolicyFault::TooMany(number));
@@ -70,7 +72,8 @@ fn add_line(policy: &mut Policy, line: &[u8], number: u64) -> Result<(), PolicyF
     ensures ok { OnOk result (line_added number (policy_facts policy.old) (line_in line.now)
         ≡ Ok (policy_facts policy.new)) }
     ensures fault { IfErr result
-        (Fails (line_added number (policy_facts policy.old) (line_in line.now))) }
+        (Fails (HasRoom (policy_facts policy.old) (line_in line.now))
+        (line_added number (policy_facts policy.old) (line_in line.now))) }
 {
     match line_of(line) {
         None => Err(PolicyFault::BadLine(number)),
@@ -113,6 +116,10 @@ fn read_lines(alloc: Global, text: &str) -> Result<Policy, PolicyFault>
 pub fn read_policy(alloc: Global, text: &[u8]) -> Result<Policy, PolicyFault>
     ensures ok { IfOk result (λ policy. IsPolicyText text.now (policy_facts policy)) }
     ensures fault { IfErr result (λ fault. fault ≢ PolicyFault.Memory → IsPolicyFault text.now fault) }
+
+    // Memory is asked for rules alone, so no other text is refused for want of it.
+    ensures memory { IfErr result (λ fault. fault ≡ PolicyFault.Memory
+        → IsUtf8 text.now × HasRule (lines text.now)) }
 
     // A text of a policy is refused for want of memory alone, and a text with a fault for that fault
     // or want of memory.

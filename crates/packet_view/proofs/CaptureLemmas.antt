@@ -5,7 +5,7 @@ use Rattle.packet_view.specs.declared.capture.Order.{Order}
 use Rattle.packet_view.specs.declared.capture.Capture.{Capture}
 use Rattle.packet_view.specs.declared.capture.CaptureFault.{CaptureFault}
 use Rattle.packet_view.specs.declared.capture.CaptureFault.TheVariants as fault
-use Rattle.packet_view.specs.Captures.{AreRecords, End, HasHeader, IsCapture, IsCaptureFault, IsEnd, IsHeaderFault, IsTooLong, Part, Nothing, Cut, TooLong, Seen, Truncated, Whole, end_of, seen}
+use Rattle.packet_view.specs.Captures.{AreRecords, End, HasHeader, HasRecord, IsCapture, IsCaptureFault, IsEnd, IsHeaderFault, IsTooLong, Part, Nothing, Cut, TooLong, Seen, Truncated, Whole, end_of, seen}
 use Rattle.packet_view.specs.RecordSteps.{Reads, part_of}
 use Rattle.packet_view.proofs.RecordLemmas.{IsStop, Stops, part_only, records_once}
 
@@ -77,6 +77,15 @@ module _ (order : Order) (bytes : List ℕ) (header : IsHeaderOf order bytes) wh
   reads_fault (Err fault.Magic) h = absurd h
   reads_fault (Err fault.Version) h = absurd h
   reads_fault (Err fault.LinkType) h = absurd h
+
+  pub reads_memory : (result : Result Capture CaptureFault) → Reads order (drop 24 bytes) result → IfErr result (λ found. found ≡ fault.Memory → HasRecord bytes)
+  reads_memory (Ok capture) h = tt
+  reads_memory (Err (fault.LongRecord number)) h = λ same. absurd (cc)
+  reads_memory (Err fault.Memory) (packet, rest, first) = λ same. (order, packet, rest, header.right, first)
+  reads_memory (Err fault.Short) h = absurd h
+  reads_memory (Err fault.Magic) h = absurd h
+  reads_memory (Err fault.Version) h = absurd h
+  reads_memory (Err fault.LinkType) h = absurd h
 
   pub reads_accepts : (result : Result Capture CaptureFault) → Reads order (drop 24 bytes) result → (packets : List Seen) (end : End) → IsCapture bytes packets end
       → MatchResult result (λ capture. (map seen capture.packets.items ≡ packets) × (end_of capture.truncated ≡ end)) (λ found. found ≡ fault.Memory)

@@ -20,13 +20,13 @@ magic_apart bytes fits (inl little) (inr big) = omega (arith, fits 0, fits 1, fi
 magic_apart bytes fits (inr little) (inl big) = omega (arith, fits 0, fits 1, fits 2, fits 3)
 magic_apart bytes fits (inr little) (inr big) = omega (arith, fits 0, fits 1, fits 2, fits 3)
 
-one_order : (bytes : List ℕ) → AreBytes bytes → (order other : Order) → HasMagic order bytes → HasMagic other bytes → order ≡ other
+pub one_order : (bytes : List ℕ) → AreBytes bytes → (order other : Order) → HasMagic order bytes → HasMagic other bytes → order ≡ other
 one_order bytes fits Little Little h g = refl
 one_order bytes fits Big Big h g = refl
 one_order bytes fits Little Big h g = absurd (magic_apart bytes fits h g)
 one_order bytes fits Big Little h g = absurd (magic_apart bytes fits g h)
 
-no_fault : (bytes : List ℕ) → AreBytes bytes → (order : Order) → HasHeader order bytes → (found : CaptureFault) → IsHeaderFault bytes found → ⊥
+pub no_fault : (bytes : List ℕ) → AreBytes bytes → (order : Order) → HasHeader order bytes → (found : CaptureFault) → IsHeaderFault bytes found → ⊥
 no_fault bytes fits order header fault.Short short = omega (arith, header.whole, short)
 no_fault bytes fits order header fault.Magic (long, none) = none order header.magic
 no_fault bytes fits order header fault.Version (long, other, magic, newer) =

@@ -91,6 +91,12 @@ AreRecords-push order packet others bytes [] rest all more = (others, subst (λ 
 AreRecords-push order packet others bytes (first ∷ packets) rest (behind, one, all) more =
     (behind, one, AreRecords-push order packet others behind packets rest all more)
 
+-- the first of whole records, where one more stands behind them
+pub first_record : (order : Order) (packet : Seen) (others bytes : List ℕ) (packets : List Seen) (rest : List ℕ) → AreRecords order bytes packets rest
+    → IsPart order rest (Record packet others) → (first : Seen) × (behind : List ℕ) × IsPart order bytes (Record first behind)
+first_record order packet others bytes [] rest all more = (packet, others, subst (λ (b : List ℕ). IsPart order b (Record packet others)) (sym all) more)
+first_record order packet others bytes (first ∷ packets) rest (behind, one, all) more = (first, behind, one)
+
 -- no record stands at the front
 abbrev pub IsStop : Part → Type 0
 IsStop (Record packet rest) = ⊥

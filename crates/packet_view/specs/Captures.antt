@@ -102,6 +102,10 @@ AreRecords order bytes [] rest = bytes ≡ rest
 AreRecords order bytes (packet ∷ packets) rest =
     (others : List ℕ) × IsPart order bytes (Record packet others) × AreRecords order others packets rest
 
+-- behind a header the bytes go on with a whole record
+abbrev pub HasRecord : List ℕ → Type 0
+HasRecord bytes = (order : Order) × (packet : Seen) × (rest : List ℕ) × HasHeader order bytes × IsPart order (drop 24 bytes) (Record packet rest)
+
 -- what is left behind the whole records
 abbrev pub IsEnd : Order → List ℕ → End → Type 0
 IsEnd order rest Whole = rest ≡ []

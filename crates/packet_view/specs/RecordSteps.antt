@@ -4,7 +4,7 @@ use Rattle.packet_view.specs.declared.capture.Order.{Order}
 use Rattle.packet_view.specs.declared.capture.Capture.{Capture}
 use Rattle.packet_view.specs.declared.capture.CaptureFault.{CaptureFault}
 use Rattle.packet_view.specs.declared.capture.CaptureFault.TheVariants.{LongRecord, Memory}
-use Rattle.packet_view.specs.Captures.{AreRecords, IsEnd, IsTooLong, Seen, end_of, seen, Part, Record, Nothing, Cut, TooLong, kept_length, kept_limit, number_from}
+use Rattle.packet_view.specs.Captures.{AreRecords, IsEnd, IsPart, IsTooLong, Seen, end_of, seen, Part, Record, Nothing, Cut, TooLong, kept_length, kept_limit, number_from}
 
 abbrev pub part_of : Order → List ℕ → Part
 part_of order bytes =
@@ -15,11 +15,12 @@ part_of order bytes =
     else Record (record { moment = number_from order 0 4 bytes; frame = take (kept_length order bytes) (drop 16 bytes) })
     (drop (16 + kept_length order bytes) bytes))))
 
--- the bytes behind a header are these records and end so, or the first record that is too long is of this number
+-- the bytes behind a header are these records and end so, or the first record that is too long is of this number;
+-- want of memory comes behind a whole record
 abbrev pub Reads : Order → List ℕ → Result Capture CaptureFault → Type 0
 Reads order bytes (Ok capture) =
     (rest : List ℕ) × AreRecords order bytes (map seen capture.packets.items) rest × IsEnd order rest (end_of capture.truncated)
 Reads order bytes (Err (LongRecord number)) =
     (packets : List Seen) × (rest : List ℕ) × AreRecords order bytes packets rest × IsTooLong order rest × (number ≡ length packets + 1)
-Reads order bytes (Err Memory) = Unit {0}
+Reads order bytes (Err Memory) = (packet : Seen) × (rest : List ℕ) × IsPart order bytes (Record packet rest)
 Reads order bytes (Err header_fault) = ⊥

@@ -4,6 +4,7 @@ ghost use Rattle.packet_view.specs.Captures.{
   End,
   HasHeader,
   HasMagic,
+  HasRecord,
   IsCapture,
   IsCaptureFault,
   IsHeaderFault,
@@ -230,10 +231,11 @@ fn read_records<'a>(
     }
 }
 
-/// The packets of a capture. Memory is answered where a growth was refused.
+/// The packets of a capture. Memory is answered where a growth was refused, and none is asked for before a whole record.
 pub fn read_capture<'a>(alloc: Global, bytes: &'a [u8]) -> Result<Capture<'a>, CaptureFault>
     ensures ok { IfOk result (λ capture. IsCapture bytes.entry.now (map seen capture.packets.items) (end_of capture.truncated)) }
     ensures fault { IfErr result (λ fault. fault ≢ Memory → IsCaptureFault bytes.entry.now fault) }
+    ensures memory { IfErr result (λ fault. fault ≡ Memory → HasRecord bytes.entry.now) }
     ensures accepts { (packets : List Seen) (end : End) → IsCapture bytes.entry.now packets end →
         MatchResult result (λ capture. (map seen capture.packets.items ≡ packets) × (end_of capture.truncated ≡ end)) (λ fault. fault ≡ Memory) }
     ensures refuses { (fault : CaptureFault) → IsCaptureFault bytes.entry.now fault →

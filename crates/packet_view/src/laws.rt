@@ -1,5 +1,5 @@
 //! What a reader of the standards expects of the definitions, proved of all frames and captures at once.
-ghost use Rattle.std.specs.Prelude.{◌≡◌, ◌≤◌, ◌↔◌, ◌++◌, ℕ, List, take, Option};
+ghost use Rattle.std.specs.Prelude.{◌≡◌, ◌≤◌, ◌↔◌, ◌⊎◌, ◌++◌, ℕ, List, take, Option};
 ghost use Rattle.packet_view.specs.declared.capture.CaptureFault.{CaptureFault};
 ghost use Rattle.packet_view.specs.declared.tuple.Direction.{Direction};
 ghost use Rattle.packet_view.specs.declared.tuple.Family.{Family};
@@ -29,12 +29,16 @@ pub fn own_address_decides_the_way_alone()
         IsFrame frame own (Ip direction tuple) → (way : Direction) × IsFrame frame other (Ip way tuple) }
 {}
 
-/// The bytes of a capture are its packets and its end in one way, and then it has no fault.
+/// All bytes are a capture or have a fault: one of these, with its packets and end in one way, or one fault.
 pub fn each_capture_has_one_reading()
+    ensures some { (bytes : List ℕ) → ((packets : List Seen) × (end : End) × IsCapture bytes packets end)
+        ⊎ ((fault : CaptureFault) × IsCaptureFault bytes fault) }
     ensures one { (bytes : List ℕ) (packets others : List Seen) (end other : End) → AreBytes bytes →
         IsCapture bytes packets end → IsCapture bytes others other → (packets ≡ others) × (end ≡ other) }
     ensures apart { (bytes : List ℕ) (packets : List Seen) (end : End) (fault : CaptureFault) → AreBytes bytes →
         IsCapture bytes packets end → IsCaptureFault bytes fault → ⊥ }
+    ensures fault { (bytes : List ℕ) (fault other : CaptureFault) → AreBytes bytes →
+        IsCaptureFault bytes fault → IsCaptureFault bytes other → fault ≡ other }
 {}
 
 /// A capture that is cut anywhere behind its header is a capture of the front of its packets.

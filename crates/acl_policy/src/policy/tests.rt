@@ -1,6 +1,5 @@
 //! Policy texts with what they say, and texts with their faults.
 use super::{PolicyFault, read_policy};
-use crate::laws::one_reading;
 use crate::rule::{Action, Rule};
 use packet_view::{Family, Mac};
 use std::alloc::{AllocError, Global};
@@ -80,7 +79,6 @@ fn whole_policy(rt: HostRuntime) -> Result<(), Fail> {
             mask: 0,
         }
     );
-    one_reading();
     Ok(())
 }
 

@@ -1,7 +1,7 @@
 use Rattle.std.proofs.Common.{ℕ, List, drop, subst}
 use Rattle.std.proofs.lemmas.List.{take_rest}
 use Rattle.packet_view.specs.RecordSteps.{Reads}
-use Rattle.packet_view.proofs.CaptureLemmas.{IsHeaderOf, reads_ok, reads_fault, reads_accepts, reads_refuses}
+use Rattle.packet_view.proofs.CaptureLemmas.{IsHeaderOf, reads_ok, reads_fault, reads_memory, reads_accepts, reads_refuses}
 use Rattle.packet_view.proofs.capture.read_capture.Goals as goal
 use Rattle.packet_view.proofs.capture.read_capture.Goals.{After-read_records}
 
@@ -20,6 +20,9 @@ returns-clause-ok c = reads_ok c.in_ok-order.order c.args.bytes.now (header c) c
 
 pub returns-clause-fault : goal.returns-clause-fault
 returns-clause-fault c = reads_fault c.in_ok-order.order c.args.bytes.now (header c) c.read_records.result (reads c)
+
+pub returns-clause-memory : goal.returns-clause-memory
+returns-clause-memory c = reads_memory c.in_ok-order.order c.args.bytes.now (header c) c.read_records.result (reads c)
 
 pub returns-clause-accepts : goal.returns-clause-accepts
 returns-clause-accepts c = reads_accepts c.in_ok-order.order c.args.bytes.now (header c) c.read_records.result (reads c)
