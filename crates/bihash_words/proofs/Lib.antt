@@ -1,2 +1,3 @@
 pub mod MapLemmas
 pub mod MapValues
+pub mod RunLemmas

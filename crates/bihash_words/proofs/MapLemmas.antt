@@ -9,7 +9,7 @@ use Rattle.std.specs.Prelude.{is_some, if◌then◌else◌, nat_lt}
 use Rattle.bihash_words.specs.declared.patch.Change.{Change}
 use Rattle.bihash_words.specs.declared.patch.Change.TheVariants.{Keep, Set, Remove}
 use Rattle.bihash_words.specs.declared.patch.Reply.TheVariants.{Changed, Full, Kept}
-use Rattle.bihash_words.specs.Maps.{Answers, Bounds, Crowded, Entering, Event, Exhausted, Idle, Pairs, Present, Row, Step, changed, effect_of, most_pairs, row_with}
+use Rattle.bihash_words.specs.Maps.{Answers, Bounds, Crowded, Entering, Event, Exhausted, Idle, Pairs, Present, Row, Step, changed, effect_of, found_by, most_pairs, row_with}
 
 -- the map is left or changed
 left_or_changed : (r : Row) (b : Bounds) (m n : Pairs) (e : Event) → Answers r b m e n
@@ -203,3 +203,34 @@ pub stays_bounded : (b : Bounds) (m n : Pairs) (w : ℕ) (e : Event) → Step b 
     → len n ≤ most_pairs b
 stays_bounded b m n w e step before =
     bounded_at b m n w e e.found e.change step.found refl step.answers before
+
+-- a new key was absent, whatever it is answered
+told_of_new : (may room : Bool) (b : Bounds) (m n : Pairs) (e : Event) → e.found ≡ None
+    → Answers (if may then (if room then Entering else Crowded) else Exhausted) b m e n
+    → e.found ≡ found_by e.reply
+told_of_new true true b m n e absent (inl h) = absent ∙ sym (ap found_by h.0)
+told_of_new true true b m n e absent (inr ((log2, left, refused, within, few), same)) = absent ∙ sym (ap found_by refused)
+told_of_new true false b m n e absent h = absent ∙ sym (ap found_by h.0)
+told_of_new false room b m n e absent h = sym (ap found_by h.0)
+
+told_of_present : (may : Bool) (b : Bounds) (m n : Pairs) (e : Event)
+    → Answers (if may then Present else Exhausted) b m e n → e.found ≡ found_by e.reply
+told_of_present true b m n e h = sym (ap found_by h.0)
+told_of_present false b m n e h = sym (ap found_by h.0)
+
+told_at : (b : Bounds) (m n : Pairs) (w : ℕ) (e : Event) (found : Option ℕ) (effect : Change)
+    → e.found ≡ found → Answers (row_with b (len m) w found effect) b m e n → e.found ≡ found_by e.reply
+told_at b m n w e found Keep is h = sym (ap found_by h.0)
+told_at b m n w e None (Set value) is h =
+    told_of_new (nat_lt w b.limit) (nat_lt (len m) (most_pairs b)) b m n e is h
+told_at b m n w e (Some old) (Set value) is h = told_of_present (nat_lt w b.limit) b m n e h
+told_at b m n w e found Remove is h = told_of_present (nat_lt w b.limit) b m n e h
+
+-- what was found is what the reply tells
+pub found_is_told : (b : Bounds) (m n : Pairs) (w : ℕ) (e : Event) → Step b m w e n → e.found ≡ found_by e.reply
+found_is_told b m n w e step = told_at b m n w e e.found (effect_of e.change e.found) refl step.answers
+
+-- what the map gives is what the reply tells
+pub stored_is_told : (b : Bounds) (m n : Pairs) (w : ℕ) (e : Event) → Step b m w e n
+    → get m e.key ≡ found_by e.reply
+stored_is_told b m n w e step = sym step.found ∙ found_is_told b m n w e step

@@ -1,5 +1,6 @@
 pub mod Hash
 pub mod Maps
 pub mod Patches
+pub mod Runs
 pub mod Sizes
 pub mod Words

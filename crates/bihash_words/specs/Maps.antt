@@ -28,6 +28,14 @@ pub record Event : Type 0 where
   pub change : Change
   pub reply : Reply
 
+-- the value that was found, as a reply tells it: a key that finds no room or no pages was absent
+abbrev pub found_by : Reply → Option ℕ
+found_by (Kept found) = found
+found_by (Changed found) = found
+found_by (Worn found) = found
+found_by Full = None
+found_by (NoPages log2 left) = None
+
 -- what a change comes to: to set the value that was found, or to remove where there is none, is to keep
 abbrev pub effect_of : Change → Option ℕ → Change
 effect_of Keep found = Keep

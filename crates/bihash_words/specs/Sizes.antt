@@ -1,5 +1,5 @@
 -- The sizes of a table and the hash of its keys, as one value that definitions take.
-use Rattle.std.specs.Prelude.{ℕ, ◌+◌, ◌^◌, ◌<◌, ◌≤◌, List}
+use Rattle.std.specs.Prelude.{ℕ, ◌+◌, ◌^◌, ◌%◌, ◌<◌, ◌≤◌, List}
 use Rattle.bihash_words.specs.declared.shape.Shape.{Ghosts}
 
 pub record Sizes : Type 0 where
@@ -22,6 +22,10 @@ sizes_of s = record {
   callers = s.CALLERS;
   hash = s.hash_of_words;
 }
+
+-- the bucket of a key: the lowest bits of its hash
+abbrev pub bucket_of : Sizes → List ℕ → ℕ
+bucket_of z key = z.hash key % 2 ^ z.log2_buckets
 
 -- the sizes that a table may have
 pub record IsSound (z : Sizes) : Type 0 where

@@ -2,6 +2,7 @@
 //! decisions of updates.
 #![tactic(auto)]
 
+mod bucket;
 mod bucket_word;
 mod flow_shapes;
 mod hash;
@@ -11,13 +12,18 @@ mod patch;
 mod shape;
 mod tiny;
 
+pub use bucket::bucket_of;
 pub use bucket_word::BucketWord;
 pub use flow_shapes::{ShapeV4, ShapeV6};
 pub use hash::mix;
 pub use laws::{
-    flow_shapes_are_sound, mix_has_its_published_values, tiny_is_sound, words_pack_exactly,
+    flow_shapes_are_sound, flow_shapes_have_their_sizes, mix_has_its_published_values,
+    tiny_has_its_sizes, tiny_is_sound, words_pack_exactly,
 };
-pub use maps::{maps_stay_bounded, other_keys_stay, refusals_change_nothing};
+pub use maps::{
+    maps_stay_bounded, other_keys_stay, refusals_change_nothing, replies_tell_what_was_found,
+    runs_join_and_part,
+};
 pub use patch::{Add, AddIfAbsent, Change, Delete, Patch, Reply, Touch};
 pub use shape::{Shape, is_same};
 pub use tiny::Tiny;

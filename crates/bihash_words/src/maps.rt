@@ -1,7 +1,8 @@
 //! What follows of the bounded map of a bucket. The functions do nothing: their contracts are the laws.
-ghost use Rattle.std.specs.Prelude.{◌≡◌, ◌≢◌, ◌<◌, ◌≤◌, ℕ, List, Option};
+ghost use Rattle.std.specs.Prelude.{◌≡◌, ◌≢◌, ◌<◌, ◌≤◌, ◌++◌, ℕ, List, Option};
 ghost use Rattle.std.specs.FinMap.{get, len};
-ghost use Rattle.bihash_words.specs.Maps.{Bounds, Event, Pairs, Step, most_pairs};
+ghost use Rattle.bihash_words.specs.Maps.{Bounds, Event, Pairs, Step, found_by, most_pairs};
+ghost use Rattle.bihash_words.specs.Runs.{IsRun};
 ghost use Rattle.bihash_words.specs.declared.patch.Change.TheVariants.{Keep};
 ghost use Rattle.bihash_words.specs.declared.patch.Reply.TheVariants.{Changed, Full, Kept};
 
@@ -30,4 +31,21 @@ pub fn maps_stay_bounded()
         → len m ≤ most_pairs b → len n ≤ most_pairs b }
     ensures full { (b : Bounds) (m n : Pairs) (w : ℕ) (e : Event) → Step b m w e n
         → e.reply ≡ Full → most_pairs b ≤ len m }
+{}
+
+/// What a call found is what its reply tells, and what the map gives at its key.
+#[tactic(auto, using(crate::proofs::MapLemmas::found_is_told, crate::proofs::MapLemmas::stored_is_told))]
+pub fn replies_tell_what_was_found()
+    ensures found { (b : Bounds) (m n : Pairs) (w : ℕ) (e : Event) → Step b m w e n → e.found ≡ found_by e.reply }
+    ensures stored { (b : Bounds) (m n : Pairs) (w : ℕ) (e : Event) → Step b m w e n → get m e.key ≡ found_by e.reply }
+{}
+
+/// A run and one that begins where it ended are one run, and a run can be parted anywhere.
+#[tactic(auto, using(crate::proofs::RunLemmas::run_append, crate::proofs::RunLemmas::run_parts))]
+pub fn runs_join_and_part()
+    ensures joined { (b : Bounds) (m middle last : Pairs) (w v n : ℕ) (before after : List Event)
+        → IsRun b m w before middle v → IsRun b middle v after last n → IsRun b m w (before ++ after) last n }
+    ensures parted { (b : Bounds) (m last : Pairs) (w n : ℕ) (before after : List Event)
+        → IsRun b m w (before ++ after) last n
+        → (middle : Pairs) × (v : ℕ) × IsRun b m w before middle v × IsRun b middle v after last n }
 {}

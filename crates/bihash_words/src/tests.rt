@@ -1,7 +1,7 @@
 //! Words, hashes and decisions that were worked out by hand or published.
 use crate::{
     Add, AddIfAbsent, BucketWord, Change, Delete, Patch, Shape, ShapeV4, ShapeV6, Tiny, Touch,
-    is_same, mix,
+    bucket_of, is_same, mix,
 };
 
 #[test]
@@ -39,13 +39,24 @@ fn hashes(rt: HostRuntime) {
     assert_eq!(rt; mix(0x3c6e_f372_fe94_f82a), 0x6e78_9e6a_a1b9_65f4);
     let hash = ShapeV4::hash(&[0, 0x9e37_79b9_7f4a_7c15]);
     assert_eq!(rt; hash, 0xe220_a839_7b1d_cdaf);
-    assert_eq!(rt; hash % 4096, 3503);
     assert_eq!(rt; ShapeV4::hash(&[0, 0]), 0);
     assert_eq!(rt;
         ShapeV6::hash(&[0, 0, 0, 0, 0x3c6e_f372_fe94_f82a]),
         0x6e78_9e6a_a1b9_65f4
     );
     assert_eq!(rt; Tiny::<8, 1000>::hash(&[12, 0]), 12);
+}
+
+#[test]
+fn buckets(rt: HostRuntime) {
+    assert_eq!(rt; bucket_of::<ShapeV4>(&[0, 0x9e37_79b9_7f4a_7c15]), 3503);
+    // The lowest ten bits of 0x6e78_9e6a_a1b9_65f4.
+    assert_eq!(rt;
+        bucket_of::<ShapeV6>(&[0, 0, 0, 0, 0x3c6e_f372_fe94_f82a]),
+        0x1f4
+    );
+    assert_eq!(rt; bucket_of::<Tiny<8, 1000>>(&[12, 0]), 0);
+    assert_eq!(rt; bucket_of::<Tiny<8, 1000>>(&[7, 0]), 1);
 }
 
 #[test]

@@ -1,5 +1,5 @@
 -- The flow that is computed for a packet is the flow that the definition names, and the only one.
-use Rattle.std.proofs.Common.{◌≡◌, ◌≢◌, ◌∙◌, ℕ, Bool, true, false, ap, ap₂, arith, sym, subst, refl, inl, inr, Some, if◌then◌else◌}
+use Rattle.std.proofs.Common.{◌≡◌, ◌≢◌, ◌∙◌, ◌<◌, ℕ, Bool, true, false, ap, ap₂, arith, sym, subst, refl, inl, inr, Option, Some, None, IfSome, if◌then◌else◌}
 use Rattle.std.proofs.lemmas.Bool.{eq-eqb, ne_eqb}
 use Rattle.std.proofs.lemmas.Bool.Decides.{eqb_tells}
 use Rattle.std.proofs.lemmas.Option.{same_Some}
@@ -182,3 +182,34 @@ only_at family source dest proto (Icmp kind code) flow h =
 -- a packet has no other flow than the one that is computed
 pub only : (packet : Facts) (flow : Flow) → IsFlow packet flow → flow_of packet ≡ Some flow
 only packet flow = only_at packet.family packet.source packet.dest packet.proto packet.fields flow
+
+-- a sender's side is one of two
+side_fits : (packet : Facts) (flow : Flow) → IsFlow packet flow → flow.side < 2
+side_fits packet flow h =
+    let from = sender_of packet in
+    elim (end_order from h.first) [
+      | inl same ↦ omega (arith, h.first_side same)
+      | inr apart ↦ omega (arith, h.second_side (λ same. apart_ends from h.first apart same))
+    ]
+
+found_in : (packet : Facts) (result : Option Flow) → result ≡ flow_of packet → IfSome result (IsFlow packet)
+found_in packet None same = tt
+found_in packet (Some flow) same = found packet flow (sym same)
+
+side_in : (packet : Facts) (result : Option Flow) → result ≡ flow_of packet → IfSome result (λ flow. flow.side < 2)
+side_in packet None same = tt
+side_in packet (Some flow) same = side_fits packet flow (found packet flow (sym same))
+
+-- what is promised of the flow that is computed
+pub told : (packet : Facts) (result : Option Flow) → result ≡ flow_of packet → record {
+  value : result ≡ flow_of packet;
+  found : IfSome result (IsFlow packet);
+  side : IfSome result (λ flow. flow.side < 2);
+  only : (flow : Flow) → IsFlow packet flow → result ≡ Some flow;
+}
+told packet result same = record {
+  value = same;
+  found = found_in packet result same;
+  side = side_in packet result same;
+  only = λ flow h. same ∙ only packet flow h;
+}

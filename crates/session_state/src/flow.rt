@@ -108,7 +108,6 @@ fn echo(tuple: &Tuple, kind: u8) -> Option<Flow>
 ///
 /// TCP and UDP packets take part, and echo requests and replies of their own family's ICMP
 /// (RFC 792, RFC 4443).
-#[tactic(auto, using(crate::proofs::FlowLemmas::found, crate::proofs::FlowLemmas::only))]
 pub fn orient(tuple: &Tuple) -> Option<Flow>
     ensures value { result ≡ flow_of (facts tuple.now) }
     ensures found { IfSome result (IsFlow (facts tuple.now)) }

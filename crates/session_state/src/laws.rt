@@ -38,7 +38,6 @@ pub fn sides_tell_senders()
 {}
 
 /// A packet and its answer have one key, and opposite sides where the ends differ.
-#[tactic(auto, using(crate::proofs::SameFlowLemmas::key_of_answer, crate::proofs::SideLemmas::side_of_answer))]
 pub fn both_directions_share_a_key()
     ensures one_key { (a b : Facts) (f g : Flow) → AreFlows a b f g → IsAnswer a b → f.key ≡ g.key }
     ensures opposite { (a b : Facts) (f g : Flow) → AreFlows a b f g → IsAnswer a b

@@ -244,16 +244,30 @@ fn words_of_sessions(rt: HostRuntime) {
     let session = Session::new(1000, 1, SYN | PUSH, true);
     assert_eq!(rt; session.word(), 0x0001_0200_0000_03e8);
     assert_eq!(rt; Session::from_word(0x0001_0200_0000_03e8), Some(session));
+}
+
+#[test]
+fn words_of_no_session(rt: HostRuntime) {
+    // A bit above the kind, and a flag that isn't kept on either side.
+    assert_eq!(rt; Session::from_word(0x0002_0000_0000_0000), None);
+    assert_eq!(rt; Session::from_word(0x0001_0008_0000_03e8), None);
+    assert_eq!(rt; Session::from_word(0x0001_2000_0000_03e8), None);
+}
+
+#[test]
+fn touched_session(rt: HostRuntime) {
+    let session = Session::new(1000, 1, SYN | PUSH, true);
     let touched = session.touched(900, 0, FIN | ACK | 0x20);
     assert_eq!(rt; touched.word(), 0x0001_0211_0000_03e8);
     assert_eq!(rt; touched.last(), 1000);
     assert_eq!(rt; touched.flags_seen(0), 0x11);
     assert_eq!(rt; touched.flags_seen(1), 0x02);
-    assert_eq!(rt; touched.timeout(&TIMES), 120);
-    assert!(rt; touched.live_at(1120, &TIMES));
-    assert!(rt; !touched.live_at(1121, &TIMES));
-    // A bit above the kind, and a flag that isn't kept on either side.
-    assert_eq!(rt; Session::from_word(0x0002_0000_0000_0000), None);
-    assert_eq!(rt; Session::from_word(0x0001_0008_0000_03e8), None);
-    assert_eq!(rt; Session::from_word(0x0001_2000_0000_03e8), None);
+}
+
+#[test]
+fn half_open_session(rt: HostRuntime) {
+    let session = Session::new(1000, 1, SYN, true);
+    assert_eq!(rt; session.timeout(&TIMES), 120);
+    assert!(rt; session.live_at(1120, &TIMES));
+    assert!(rt; !session.live_at(1121, &TIMES));
 }
