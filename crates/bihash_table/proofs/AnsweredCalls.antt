@@ -72,7 +72,7 @@ module _ (z : Sizes) (b : ℕ) (v w : View) (e : Event) (a : IsLawfulAnswer z b 
 
   -- the entry, as it was made
   abbrev entry : Call
-  entry = entry_of z (length a.answered.history) e
+  entry = entry_of z (length a.answered.history) e a.answered.noted
 
   records_are : w.records ≡ push_call entry (with_locks a.answered.locks v.records)
   records_are = ap (λ (u : View). u.records) a.answered.is
@@ -122,17 +122,17 @@ module _ (z : Sizes) (b : ℕ) (v w : View) (e : Event) (a : IsLawfulAnswer z b 
   pub continues : IsPrefix (known_at v.known b) (known_at w.known b)
   continues = as_known (IsPrefix (known_at v.known b)) (at_home (λ c. IsPrefix (known_at v.known c) a.answered.history) a.answered.begins)
 
-  pub legal : IsLegal z (opening_at w.known b) (known_at w.known b) (acting v.records) (entry_of z (length (known_at w.known b)) e)
-  legal = as_known (λ H. IsLegal z (opening_at w.known b) (known_at w.known b) (acting v.records) (entry_of z (length H) e))
+  pub legal : IsLegal z (opening_at w.known b) (known_at w.known b) (acting v.records) (entry_of z (length (known_at w.known b)) e a.answered.noted)
+  legal = as_known (λ H. IsLegal z (opening_at w.known b) (known_at w.known b) (acting v.records) (entry_of z (length H) e a.answered.noted))
       (at_home (λ c. IsLegal z (opening_at w.known c) (known_at w.known c) (acting v.records) entry) entry_legal)
 
   pub found_there : is_changed e.reply ≡ false → e.found ≡ get (map_now w b) e.key
   found_there read = (legal.other read).1.found
 
   pub acting_more : (r : Record) → get_elem? v.records 0 ≡ some r → (q : Record) × (get_elem? w.records 0 ≡ some q)
-      × (q.number ≡ r.number) × (q.calls ≡ r.calls ++ entry_of z (length (known_at w.known b)) e ∷ [])
+      × (q.number ≡ r.number) × (q.calls ≡ r.calls ++ entry_of z (length (known_at w.known b)) e a.answered.noted ∷ [])
   acting_more r at = as_known (λ H. (q : Record) × (get_elem? w.records 0 ≡ some q)
-      × (q.number ≡ r.number) × (q.calls ≡ r.calls ++ entry_of z (length H) e ∷ [])) (left_with r at)
+      × (q.number ≡ r.number) × (q.calls ≡ r.calls ++ entry_of z (length H) e a.answered.noted ∷ [])) (left_with r at)
 
   pub others_same : (i : ℕ) → 1 ≤ i → get_elem? w.records i ≡ get_elem? v.records i
   others_same i some_i = ap (λ (records : List Record). get_elem? records i) records_are

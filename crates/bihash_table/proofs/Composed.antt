@@ -120,13 +120,14 @@ module _ (z : Sizes) (v u w : View) where
     history = t.history;
     begins = goes_on b t.history s t.begins;
     locks = t.locks;
+    noted = t.noted;
     is = t.is ∙ (ap (λ (x : View). record (learned x b t.history) {
-      records = push_call (entry_of z (length t.history) e) (with_locks t.locks x.records);
+      records = push_call (entry_of z (length t.history) e t.noted) (with_locks t.locks x.records);
       holds = nothing_held;
       notes = w.notes;
     }) s.is
         ∙ (λ i. record v {
-          records = push_call (entry_of z (length t.history) e) (with_locks_twice t.locks s.locks v.records i);
+          records = push_call (entry_of z (length t.history) e t.noted) (with_locks_twice t.locks s.locks v.records i);
           known = record v.known { writes = set-set v.known.writes b s.history t.history i };
           holds = nothing_held;
           notes = w.notes;

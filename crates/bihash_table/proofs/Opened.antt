@@ -193,6 +193,7 @@ module _ (z : Sizes) (v : View) (x y : View) (b word : ℕ) (s : IsOpened z v x 
           answers = λ reads. answers (map_now x b) (length (known_at x.known b))
               (t.told o h.noted (read_first t.more o.reads o.block reads) (map_now x b) pairs);
           pages = pages;
+          store = refl;
         }
 
     pub may_answer_open : IsKeyOf z b key → is_changed reply ≡ false → ((log2 left : ℕ) → reply ≡ NoPages log2 left → ⊥) → IsRead
@@ -205,7 +206,7 @@ module _ (z : Sizes) (v : View) (x y : View) (b word : ℕ) (s : IsOpened z v x 
 
     abbrev Left : ℕ → ℕ → List Record → Holdings → Notes → View
     Left c stamp records holds notes = record (learned v c s.history) {
-      records = push_call (record (entry_of z stamp event) { bucket = c }) records;
+      records = push_call (record (entry_of z stamp event s.notes.left) { bucket = c }) records;
       holds = holds;
       notes = notes;
     }
@@ -220,6 +221,7 @@ module _ (z : Sizes) (v : View) (x y : View) (b word : ℕ) (s : IsOpened z v x 
           history = s.history;
           begins = subst (λ (c : ℕ). IsPrefix (known_at v.known c) s.history) (sym home) s.begins;
           locks = locks_of v.records;
+          noted = s.notes.left;
           is = left ∙ (λ i. Left (sym home i) (stamp i) (sym (with_locks-locks_of v.records) i) (free i) (sym notes i));
           alone = λ lone. subst (λ (c : ℕ). length s.history ≤ length (known_at v.known c) + own_writes reply) (sym home)
               (let few = s.alone lone in let own : ℕ = own_writes reply in omega arith);

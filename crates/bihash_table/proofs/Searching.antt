@@ -38,6 +38,7 @@ module _ (z : Sizes) (v : View) (x y : CallerState) (b word : ℕ) (s : IsLocked
         reads = refl;
         answers = (map_now x.view b, record { found = is; answers = (refl, refl) });
         short = λ log2 left e. absurd cc;
+        store = refl;
       })
 
   pub searched : (w : CallerState) → bucket_of z key ≡ b

@@ -6,12 +6,13 @@ use Rattle.bihash_words.specs.declared.patch.Change.{Change}
 use Rattle.bihash_words.specs.declared.patch.Change.TheVariants.{Keep}
 use Rattle.bihash_words.specs.declared.patch.Reply.{Reply}
 use Rattle.bihash_words.specs.declared.patch.Reply.TheVariants.{Kept}
-use Rattle.bihash_steps.specs.Histories.{IsPrefix, bucket_of, is_changed}
+use Rattle.bihash_steps.specs.Histories.{IsPrefix, bucket_of, is_changed, store_of}
 use Rattle.bihash_steps.specs.Callers.{known_at}
 use Rattle.bihash_steps.specs.Views.{nothing_held}
 use Rattle.bihash_steps.specs.BucketSteps.{learned, push_call}
 use Rattle.bihash_steps.specs.declared.view.Write.{Write}
 use Rattle.bihash_steps.specs.declared.view.Call.{Call}
+use Rattle.bihash_steps.specs.declared.view.PageStore.{PageStore}
 use Rattle.bihash_steps.specs.declared.view.Record.{Record}
 use Rattle.bihash_steps.specs.declared.view.View.{View}
 
@@ -25,15 +26,16 @@ abbrev pub locks_of : List Record → ℕ
 locks_of [] = 0
 locks_of (r ∷ rs) = r.locks
 
--- the entry of an event in a record, behind so many writes of its bucket
-abbrev pub entry_of : Sizes → ℕ → Event → Call
-entry_of z stamp e = record {
+-- the entry of an event in a record, behind so many writes of its bucket, where this page store was noted
+abbrev pub entry_of : Sizes → ℕ → Event → Option PageStore → Call
+entry_of z stamp e noted = record {
   bucket = bucket_of z e.key;
   stamp = stamp;
   key = e.key;
   found = e.found;
   change = e.change;
   reply = e.reply;
+  store = store_of e.reply noted;
 }
 
 -- how many writes the call itself made
@@ -47,8 +49,9 @@ pub record IsAnswered (z : Sizes) (v w : View) (e : Event) : Type 0 where
   pub history : List Write
   pub begins : IsPrefix (known_at v.known (bucket_of z e.key)) history
   pub locks : ℕ
+  pub noted : Option PageStore
   pub is : w ≡ record (learned v (bucket_of z e.key) history) {
-    records = push_call (entry_of z (length history) e) (with_locks locks v.records);
+    records = push_call (entry_of z (length history) e noted) (with_locks locks v.records);
     holds = nothing_held;
     notes = w.notes;
   }

@@ -44,7 +44,7 @@ impl<S: Shape> Sessions<S> {
         ensures answered { IfOk result (IsUpdated (sizes_of S.Shape) caller.old.seat.view caller.new.seat.view
             (S.words_of key.now) (P.decision patch.now)) }
         ensures no_pages { IfOk result (λ reply. (log2 left : ℕ) → reply ≡ NoPages log2 left
-            → IsShortage ⟦<S as Shape>⟧ (map_now caller.new.seat.view (bucket_of (sizes_of S.Shape) (S.words_of key.now)))
+            → IsShortage ⟦<S as Shape>⟧ caller.new.seat.view (bucket_of (sizes_of S.Shape) (S.words_of key.now))
             key.now log2 left) }
         ensures contended { IfErr result (λ _. IsTurnedAway (sizes_of S.Shape) caller.old.seat.view caller.new.seat.view
             (bucket_of (sizes_of S.Shape) (S.words_of key.now))) }
@@ -166,7 +166,7 @@ fn change_absent<S: Shape>(
     ensures answered { IfOk result (λ reply. IsAnswered (sizes_of S.Shape) caller.old.seat.view caller.new.seat.view
         (record { key = S.words_of key.now; found = None; change = change; reply = reply })) }
     ensures no_pages { IfOk result (λ reply. (log2 left : ℕ) → reply ≡ NoPages log2 left
-        → IsShortage ⟦<S as Shape>⟧ (map_now caller.new.seat.view bucket) key.now log2 left) }
+        → IsShortage ⟦<S as Shape>⟧ caller.new.seat.view bucket key.now log2 left) }
     ensures contended { IfErr result (λ _. IsTurnedAway (sizes_of S.Shape) caller.old.seat.view caller.new.seat.view bucket) }
     ensures lone { caller.old.seat.view.lone ≡ true → is_ok result ≡ true }
     ensures lawful { IsLawfulCaller (sizes_of S.Shape) caller.new.seat.view }
