@@ -14,7 +14,7 @@ use Rattle.bihash_steps.specs.BucketSteps.{MayAnswer, MayPublish, call_of, map_n
 use Rattle.bihash_steps.specs.declared.view.Holdings.{Holdings}
 use Rattle.bihash_steps.specs.declared.view.LockedBucket.{LockedBucket}
 use Rattle.bihash_steps.specs.declared.view.View.{View}
-use Rattle.bihash_table.specs.Answers.{IsAnswered}
+use Rattle.bihash_table.specs.Promise.{IsAnswered}
 use Rattle.bihash_table.specs.Locked.{HasLock}
 use Rattle.bihash_table.proofs.Released.{written_from_lock}
 

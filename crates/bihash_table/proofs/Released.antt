@@ -14,8 +14,10 @@ use Rattle.bihash_steps.specs.declared.view.Holdings.{Holdings}
 use Rattle.bihash_steps.specs.declared.view.LockedBucket.{LockedBucket}
 use Rattle.bihash_steps.specs.declared.view.PageStore.{PageStore}
 use Rattle.bihash_steps.specs.declared.view.View.{View}
-use Rattle.bihash_table.specs.Answers.{IsAnswered, entry_of, locks_of, own_writes, with_locks}
+use Rattle.bihash_table.specs.Answers.{entry_of, locks_of, own_writes, with_locks}
+use Rattle.bihash_table.specs.Promise.{IsAnswered}
 use Rattle.bihash_table.specs.Locked.{HasLock}
+use Rattle.bihash_table.proofs.Promised.{answered_by}
 
 pub with_locks-locks_of : (records : List Record) → with_locks (locks_of records) records ≡ records
 with_locks-locks_of [] = refl
@@ -35,7 +37,7 @@ module _ (z : Sizes) (v w : View) (b word : ℕ) (l : LockedBucket) (e : Event) 
   is_left : (noted : Option PageStore) (history : List Write) → IsPrefix (known_at v.known b) history
       → length history ≤ length (known_at v.known b) + own_writes e.reply
       → w ≡ Left noted b (length history) history v.records → IsAnswered z v w e
-  is_left noted history begins few is = record {
+  is_left noted history begins few is = answered_by z v w e record {
     history = history;
     begins = subst (λ (c : ℕ). IsPrefix (known_at v.known c) history) (sym home) begins;
     locks = locks_of v.records;

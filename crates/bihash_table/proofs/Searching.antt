@@ -10,7 +10,8 @@ use Rattle.bihash_steps.specs.Seats.{CallerState, with_view}
 use Rattle.bihash_steps.specs.declared.view.Holdings.{Holdings}
 use Rattle.bihash_steps.specs.declared.view.LockedBucket.{LockedBucket}
 use Rattle.bihash_steps.specs.declared.view.View.{View}
-use Rattle.bihash_table.specs.Answers.{IsAnswered, search_of}
+use Rattle.bihash_table.specs.Answers.{search_of}
+use Rattle.bihash_table.specs.Promise.{IsAnswered}
 use Rattle.bihash_table.specs.Locked.{HasLock, IsLocked}
 use Rattle.bihash_table.proofs.Composed.{locked_answered}
 use Rattle.bihash_table.proofs.Released.{answered_from_lock}

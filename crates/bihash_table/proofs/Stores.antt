@@ -27,12 +27,14 @@ use Rattle.bihash_steps.specs.declared.view.LockedStore.{LockedStore}
 use Rattle.bihash_steps.specs.declared.view.PageStore.{PageStore}
 use Rattle.bihash_steps.specs.declared.view.Record.{Record}
 use Rattle.bihash_steps.specs.declared.view.View.{View}
-use Rattle.bihash_table.specs.Answers.{IsAnswered, IsTurnedAway, locks_of}
+use Rattle.bihash_table.specs.Answers.{locks_of}
+use Rattle.bihash_table.specs.Promise.{IsAnswered, IsTurnedAway}
 use Rattle.bihash_table.specs.Copying.{GivenBack, HasBlock, HasStore, HoldsOld, MayGiveBack, Released, TakesPages}
 use Rattle.bihash_table.specs.Locked.{HasLock}
 use Rattle.bihash_table.specs.Scans.{IsWordOf}
 use Rattle.bihash_table.specs.Shortage.{Bears}
 use Rattle.bihash_table.proofs.Entering.{looked_at}
+use Rattle.bihash_table.proofs.Promised.{turned_away_by}
 use Rattle.bihash_table.proofs.Released.{answered_noting, with_locks-locks_of, written_from_lock}
 
 -- ---- The word of a bucket
@@ -199,7 +201,7 @@ pub turned_away : (z : Sizes) (v u w : View) (b word : ℕ) (l : LockedBucket)
     → HasLock z v b word l → u ≡ unnoted v → w ≡ unlocked u → IsTurnedAway z v w b
 turned_away z v u w b word l lock not opened =
     let is : w ≡ unlocked (unnoted v) = opened ∙ ap unlocked not in
-    let notes = ap (λ (x : View). x.notes) (sym is) in record {
+    let notes = ap (λ (x : View). x.notes) (sym is) in turned_away_by z v w b record {
       history = known_at v.known b;
       begins = record { rest = []; whole = sym (append-nil (known_at v.known b)) };
       locks = locks_of v.records;

@@ -6,6 +6,7 @@ pub mod Locked
 pub mod OpenReads
 pub mod PairLists
 pub mod Places
+pub mod Promise
 pub mod Runs
 pub mod Scans
 pub mod Shortage

@@ -15,7 +15,7 @@ ghost use Rattle.bihash_steps.specs.declared.view.LockedBucket.{LockedBucket};
 ghost use Rattle.bihash_steps.specs.declared.view.LockedStore.{LockedStore};
 ghost use Rattle.bihash_steps.specs.declared.view.PageStore.{PageStore};
 ghost use Rattle.bihash_steps.specs.Seats.{with_view};
-ghost use Rattle.bihash_table.specs.Answers.{IsAnswered, IsTurnedAway};
+ghost use Rattle.bihash_table.specs.Promise.{IsAnswered, IsTurnedAway};
 ghost use Rattle.bihash_table.specs.Copying.{GivenBack, HoldsOld, IsWanting, Released};
 ghost use Rattle.bihash_table.specs.Locked.{HasLock};
 ghost use Rattle.bihash_table.specs.Places.{ArePlaces, HasPairOf, IsCrowdedFor};

@@ -14,7 +14,7 @@ ghost use Rattle.bihash_steps.specs.Views.{nothing_held};
 ghost use Rattle.bihash_steps.specs.BucketSteps.{map_now};
 ghost use Rattle.bihash_steps.specs.Seats.{with_view};
 ghost use Rattle.bihash_steps.specs.declared.view.LockedBucket.{LockedBucket};
-ghost use Rattle.bihash_table.specs.Answers.{IsAnswered, IsUpdated, IsTurnedAway};
+ghost use Rattle.bihash_table.specs.Promise.{IsAnswered, IsUpdated, IsTurnedAway};
 ghost use Rattle.bihash_table.specs.Locked.{HasLock};
 ghost use Rattle.bihash_table.specs.Places.{HasPairOf};
 ghost use Rattle.bihash_table.specs.Shortage.{IsShortage};

@@ -8,7 +8,7 @@ ghost use Rattle.bihash_steps.specs.Histories.{bucket_of};
 ghost use Rattle.bihash_steps.specs.Callers.{IsLawfulCaller};
 ghost use Rattle.bihash_steps.specs.Views.{nothing_held};
 ghost use Rattle.bihash_steps.specs.Seats.{with_view};
-ghost use Rattle.bihash_table.specs.Answers.{IsUpdated};
+ghost use Rattle.bihash_table.specs.Promise.{IsUpdated};
 ghost use Rattle.bihash_table.specs.Shortage.{IsShortage};
 
 use crate::sessions::Sessions;

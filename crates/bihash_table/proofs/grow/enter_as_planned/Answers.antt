@@ -1,6 +1,6 @@
 use Rattle.std.proofs.Common.{◌≤◌, ◌<◌, ◌∙◌, ◌^◌, None, Result, Ok, Err, IfOk, ap, arith, length, length-take, pow_mono, refl, subst, sym}
 use Rattle.std.specs.FinMap.{insert, len}
-use Rattle.bihash_words.specs.Maps.{Pairs, most_pairs}
+use Rattle.bihash_words.specs.Maps.{most_pairs}
 use Rattle.bihash_words.specs.Sizes.{sizes_of}
 use Rattle.bihash_words.specs.declared.patch.Change.TheVariants.{Set}
 use Rattle.bihash_words.specs.declared.patch.Reply.TheVariants.{Full}

@@ -4,9 +4,8 @@ use Rattle.bihash_words.specs.Sizes.{sizes_of}
 use Rattle.bihash_words.specs.declared.patch.Reply.TheVariants.{Kept, NoPages}
 use Rattle.bihash_words.specs.declared.patch.Change.{Change}
 use Rattle.bihash_steps.specs.Histories.{bounds_of, bucket_of}
-use Rattle.bihash_steps.specs.BucketSteps.{map_now}
 use Rattle.bihash_steps.specs.Seats.{CallerState}
-use Rattle.bihash_table.specs.Answers.{IsAnswered}
+use Rattle.bihash_table.specs.Promise.{IsAnswered}
 use Rattle.std.specs.FinMap.{get}
 use Rattle.bihash_table.specs.Locked.{HasLock}
 use Rattle.bihash_table.specs.Shortage.{IsShortage}
