@@ -16,6 +16,7 @@ use Rattle.bihash_steps.specs.BucketSteps.{acting, map_now, push_call}
 use Rattle.bihash_steps.specs.declared.view.Write.{Write}
 use Rattle.bihash_steps.specs.declared.view.Call.{Call}
 use Rattle.bihash_steps.specs.declared.view.Record.{Record}
+use Rattle.bihash_steps.specs.declared.view.Known.{Known}
 use Rattle.bihash_steps.specs.declared.view.View.{View}
 use Rattle.bihash_steps.proofs.Prefixes.{prefix_below}
 use Rattle.bihash_steps.proofs.Lists.{at_end, within}
@@ -72,13 +73,13 @@ module _ (z : Sizes) (b : ℕ) (v w : View) (e : Event) (a : IsLawfulAnswer z b 
 
   -- the entry, as it was made
   abbrev entry : Call
-  entry = entry_of z (length a.answered.history) e
+  entry = entry_of z (length a.answered.history) e a.answered.noted
 
   records_are : w.records ≡ push_call entry (with_locks a.answered.locks v.records)
-  records_are = ap (λ (u : View). u.records) a.answered.is
+  records_are = a.answered.records
 
   writes_are : w.known.writes ≡ set v.known.writes home a.answered.history
-  writes_are = ap (λ (u : View). u.known.writes) a.answered.is
+  writes_are = ap (λ (k : Known). k.writes) a.answered.known
 
   acts_with : (r : Record) × (get_elem? v.records 0 ≡ some r) × (r.number ≡ acting v.records)
   acts_with = first_there v.records a.acts
@@ -122,17 +123,17 @@ module _ (z : Sizes) (b : ℕ) (v w : View) (e : Event) (a : IsLawfulAnswer z b 
   pub continues : IsPrefix (known_at v.known b) (known_at w.known b)
   continues = as_known (IsPrefix (known_at v.known b)) (at_home (λ c. IsPrefix (known_at v.known c) a.answered.history) a.answered.begins)
 
-  pub legal : IsLegal z (opening_at w.known b) (known_at w.known b) (acting v.records) (entry_of z (length (known_at w.known b)) e)
-  legal = as_known (λ H. IsLegal z (opening_at w.known b) (known_at w.known b) (acting v.records) (entry_of z (length H) e))
+  pub legal : IsLegal z (opening_at w.known b) (known_at w.known b) (acting v.records) (entry_of z (length (known_at w.known b)) e a.answered.noted)
+  legal = as_known (λ H. IsLegal z (opening_at w.known b) (known_at w.known b) (acting v.records) (entry_of z (length H) e a.answered.noted))
       (at_home (λ c. IsLegal z (opening_at w.known c) (known_at w.known c) (acting v.records) entry) entry_legal)
 
   pub found_there : is_changed e.reply ≡ false → e.found ≡ get (map_now w b) e.key
   found_there read = (legal.other read).1.found
 
   pub acting_more : (r : Record) → get_elem? v.records 0 ≡ some r → (q : Record) × (get_elem? w.records 0 ≡ some q)
-      × (q.number ≡ r.number) × (q.calls ≡ r.calls ++ entry_of z (length (known_at w.known b)) e ∷ [])
+      × (q.number ≡ r.number) × (q.calls ≡ r.calls ++ entry_of z (length (known_at w.known b)) e a.answered.noted ∷ [])
   acting_more r at = as_known (λ H. (q : Record) × (get_elem? w.records 0 ≡ some q)
-      × (q.number ≡ r.number) × (q.calls ≡ r.calls ++ entry_of z (length H) e ∷ [])) (left_with r at)
+      × (q.number ≡ r.number) × (q.calls ≡ r.calls ++ entry_of z (length H) e a.answered.noted ∷ [])) (left_with r at)
 
   pub others_same : (i : ℕ) → 1 ≤ i → get_elem? w.records i ≡ get_elem? v.records i
   others_same i some_i = ap (λ (records : List Record). get_elem? records i) records_are
@@ -143,7 +144,7 @@ module _ (z : Sizes) (b : ℕ) (v w : View) (e : Event) (a : IsLawfulAnswer z b 
       ∙ get_or-set_other v.known.writes home other a.answered.history [] (λ same. differ (same ∙ a.home))
 
   pub openings_same : w.known.openings ≡ v.known.openings
-  openings_same = ap (λ (u : View). u.known.openings) a.answered.is
+  openings_same = ap (λ (k : Known). k.openings) a.answered.known
 
   -- ---- Its writes
 
@@ -237,7 +238,7 @@ lone_learns_own z b v w e a lone =
     let h = a.answered in
     let most : ℕ = length (known_at v.known (bucket_of z e.key)) + own_writes e.reply in (
       subst (λ (c : ℕ). length (known_at w.known c) ≤ length (known_at v.known c) + own_writes e.reply) a.home
-          (subst (λ (x : View). length (known_at x.known (bucket_of z e.key)) ≤ most) (sym h.is)
+          (subst (λ (k : Known). length (known_at k (bucket_of z e.key)) ≤ most) (sym h.known)
           (learned_length v.known.writes (bucket_of z e.key) h.history most (h.alone lone))),
-      ap (λ (x : View). x.lone) h.is ∙ lone,
+      h.lone ∙ lone,
     )

@@ -13,7 +13,7 @@ use Rattle.bihash_words.specs.declared.patch.Change.{Change}
 use Rattle.bihash_words.specs.declared.patch.Change.TheVariants.{Keep, Set, Remove}
 use Rattle.bihash_words.specs.declared.patch.Reply.{Reply}
 use Rattle.bihash_words.specs.declared.patch.Reply.TheVariants.{Changed}
-use Rattle.bihash_steps.specs.Histories.{IsAnswer, IsLegal, after, bounds_of, event_of, event_of_write, is_changed, write_of}
+use Rattle.bihash_steps.specs.Histories.{IsAnswer, IsLegal, after, bounds_of, event_of, event_of_write, is_changed, store_of, write_of}
 use Rattle.bihash_steps.specs.Callers.{HasWrite, Rises}
 use Rattle.bihash_steps.specs.declared.view.Write.{Write}
 use Rattle.bihash_steps.specs.declared.view.Call.{Call}
@@ -62,6 +62,7 @@ call_of b n m w = record {
   found = get m w.key;
   change = w.change;
   reply = Changed (get m w.key);
+  store = None;
 }
 
 -- ---- Moments
@@ -109,9 +110,10 @@ module _ (z : Sizes) (b : ℕ) (opening : Pairs) (H : List Write) (by : ℕ) whe
       let change : c.change ≡ w.change = sym (ap (λ (x : Write). x.change) is) in
       let found : c.found ≡ get (after opening H n) w.key = answer.1.found ∙ ap (get (after opening H n)) key in
       let reply : c.reply ≡ Changed (get (after opening H n) w.key) =
-      change_tells (bounds_of z) (after opening H n) answer.0 n (event_of c) answer.1 wrote ∙ ap Changed found in (
+      change_tells (bounds_of z) (after opening H n) answer.0 n (event_of c) answer.1 wrote ∙ ap Changed found in
+      let store : c.store ≡ None = legal.store ∙ ap (λ (r : Reply). store_of r c.store) reply in (
         is,
-        λ i. record { bucket = home i; stamp = stamp i; key = key i; found = found i; change = change i; reply = reply i },
+        λ i. record { bucket = home i; stamp = stamp i; key = key i; found = found i; change = change i; reply = reply i; store = store i },
       )
 
   -- and its write is a step

@@ -13,7 +13,8 @@ use Rattle.bihash_steps.specs.declared.view.Call.{Call}
 use Rattle.bihash_steps.specs.declared.view.Record.{Record}
 use Rattle.bihash_steps.specs.declared.view.Known.{Known}
 use Rattle.bihash_steps.specs.declared.view.View.{View}
-use Rattle.bihash_table.specs.Answers.{IsAnswered, own_writes}
+use Rattle.bihash_table.specs.Answers.{own_writes}
+use Rattle.bihash_table.specs.Promise.{IsAnswered}
 
 -- ---- One caller
 

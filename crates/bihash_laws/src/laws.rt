@@ -75,15 +75,15 @@ pub fn agreeing_callers_have_one_order()
 pub fn answers_are_the_maps()
     ensures continues { (z : Sizes) (b : ℕ) (v w : View) (e : Event) → IsLawfulAnswer z b v w e
         → IsPrefix (known_at v.known b) (known_at w.known b) }
-    ensures legal { (z : Sizes) (b : ℕ) (v w : View) (e : Event) → IsLawfulAnswer z b v w e
+    ensures legal { (z : Sizes) (b : ℕ) (v w : View) (e : Event) (a : IsLawfulAnswer z b v w e)
         → IsLegal z (opening_at w.known b) (known_at w.known b) (acting v.records)
-        (entry_of z (length (known_at w.known b)) e) }
+        (entry_of z (length (known_at w.known b)) e a.answered.noted) }
     ensures found { (z : Sizes) (b : ℕ) (v w : View) (e : Event) → IsLawfulAnswer z b v w e
         → is_changed e.reply ≡ false → e.found ≡ get (map_now w b) e.key }
-    ensures entered { (z : Sizes) (b : ℕ) (v w : View) (e : Event) → IsLawfulAnswer z b v w e
+    ensures entered { (z : Sizes) (b : ℕ) (v w : View) (e : Event) (a : IsLawfulAnswer z b v w e)
         → (r : Record) → get_elem? v.records 0 ≡ some r
         → (q : Record) × (get_elem? w.records 0 ≡ some q) × (q.number ≡ r.number)
-        × (q.calls ≡ r.calls ++ entry_of z (length (known_at w.known b)) e ∷ []) }
+        × (q.calls ≡ r.calls ++ entry_of z (length (known_at w.known b)) e a.answered.noted ∷ []) }
     ensures other_records { (z : Sizes) (b : ℕ) (v w : View) (e : Event) → IsLawfulAnswer z b v w e
         → (i : ℕ) → 1 ≤ i → get_elem? w.records i ≡ get_elem? v.records i }
     ensures other_buckets { (z : Sizes) (b : ℕ) (v w : View) (e : Event) → IsLawfulAnswer z b v w e

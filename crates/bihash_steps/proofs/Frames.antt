@@ -18,6 +18,7 @@ use Rattle.bihash_steps.specs.Buckets.{BucketState, IsBucket, HoldsBucket, Holds
 use Rattle.bihash_steps.specs.PageStores.{StoreState, IsStore, IsShort, IsListedIf, HoldsStore, HoldsStoreIf, HoldsBlockIf, LeftIf, returned_in, writes_in, all_writes, run_in, run_held, runs_now}
 use Rattle.bihash_steps.specs.WordRule.{IsInformed, HaveMetIf, IsView, WordRule}
 use Rattle.bihash_steps.specs.declared.view.Write.{Write}
+use Rattle.bihash_steps.specs.declared.view.Call.{Call}
 use Rattle.bihash_steps.specs.declared.view.Record.{Record}
 use Rattle.bihash_steps.specs.declared.view.Extent.{Extent}
 use Rattle.bihash_steps.specs.declared.view.Known.{Known}
@@ -107,9 +108,15 @@ more_writes x x' more zero = omega arith
 more_writes x x' more (suc n) = let a = more_writes x x' more n in let b = more n in omega arith
 
 module _ (z : Sizes) where
-  pub more_short : (n n' left : ℕ) → n ≤ n' → IsShort z n left → IsShort z n' left
-  more_short n n' left h s = let m = mul-le-mul_left (2 ^ z.max_log2) h in let a : ℕ = 2 ^ z.max_log2 * n in let b : ℕ = 2 ^ z.max_log2 * n' in
-      let l : a ≤ b = m in let o : z.pages ≤ left + a = s in omega arith
+  pub more_short : (n n' : ℕ) (c : Call) (log2 left : ℕ) → n ≤ n' → IsShort z n c log2 left → IsShort z n' c log2 left
+  more_short n n' c log2 left h s = let m = mul-le-mul_left (2 ^ z.max_log2) h in let a : ℕ = 2 ^ z.max_log2 * n in
+      let b : ℕ = 2 ^ z.max_log2 * n' in let l : a ≤ b = m in let o : z.pages ≤ left + a = s.taken in record {
+        store = s.store;
+        bears = s.bears;
+        none = s.none;
+        unused = s.unused;
+        taken = omega arith;
+      }
 
   pub more_left : (n n' : ℕ) → n ≤ n' → (left : Option PageStore) → LeftIf z n left → LeftIf z n' left
   more_left n n' h None l = tt
@@ -299,7 +306,7 @@ module _ (z : Sizes) (s : State (Unit {0}) View) (r : WordRule z s) (b id : ℕ)
       block = block_beside u.holds.block refl ok.block;
       open_bucket = open_keeps z r.table.bucket bucket' each_keeps u.notes.open_bucket ok.open_bucket;
       still = λ lone. absurd (not_lone z s r id j v u m.at at ne m.acts lone);
-      short = λ c h log2 left e. more_short z (all_writes z r.table.bucket) (all_writes z bucket') left all_more (ok.short c h log2 left e);
+      short = λ c h log2 left e. more_short z (all_writes z r.table.bucket) (all_writes z bucket') c log2 left all_more (ok.short c h log2 left e);
       left = more_left z (all_writes z r.table.bucket) (all_writes z bucket') all_more u.notes.left ok.left;
       meeting = meeting_still u.notes.meeting ok.meeting;
     }

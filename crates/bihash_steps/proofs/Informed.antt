@@ -1,13 +1,15 @@
 -- How a view stays informed where it learns a history, counts a lock, and answers a call that is no write.
-use Rattle.std.proofs.Common.{◌≡◌, ◌≢◌, ◌⊎◌, ℕ, ◌+◌, ◌<◌, true, false, true≢false, List, [], ◌∷◌, ◌++◌, length, refl, sym, ap, ◌∙◌, subst, inl, inr, arith, length-set, get_or-set_same, get_or-set_other}
+use Rattle.std.proofs.Common.{◌≡◌, ◌≢◌, ◌⊎◌, ℕ, ◌+◌, ◌<◌, true, false, true≢false, List, [], ◌∷◌, ◌++◌, length, refl, sym, ap, ◌∙◌, subst, inl, inr, arith, length-set, get_or-set_same, get_or-set_other, Option}
 use mathlib.Core.Logic.{dite}
 use mathlib.Core.Option.{some}
 use native.Mathlib.Decide.{ℕ_discrete}
 use lib.ListN.{get_elem?}
 use Rattle.atomic_table.proofs.Lists.{at_longer, at_last}
 use Rattle.bihash_words.specs.Sizes.{Sizes}
+use Rattle.bihash_words.specs.declared.patch.Reply.{Reply}
+use Rattle.bihash_words.specs.declared.patch.Reply.TheVariants.{Kept, Changed, Worn, Full, NoPages}
 use Rattle.bihash_steps.specs.Words.{buckets}
-use Rattle.bihash_steps.specs.Histories.{IsPrefix, IsKeyOf, IsLegal, IsAnswer, after, is_changed}
+use Rattle.bihash_steps.specs.Histories.{IsPrefix, IsKeyOf, IsLegal, IsAnswer, after, is_changed, store_of}
 use Rattle.bihash_steps.specs.Callers.{known_at, opening_at, opening_in, MayFollow, Rises, HasWrite, IsLawful}
 use Rattle.bihash_steps.specs.WordRule.{TableState, IsInformed}
 use Rattle.bihash_steps.specs.BucketSteps.{learned, acting, push_call, lock_counted, map_now}
@@ -15,10 +17,19 @@ use Rattle.bihash_steps.specs.declared.view.Write.{Write}
 use Rattle.bihash_steps.specs.declared.view.Call.{Call}
 use Rattle.bihash_steps.specs.declared.view.Record.{Record}
 use Rattle.bihash_steps.specs.declared.view.Known.{Known}
+use Rattle.bihash_steps.specs.declared.view.PageStore.{PageStore}
 use Rattle.bihash_steps.specs.declared.view.View.{View}
 use Rattle.bihash_steps.proofs.Prefixes.{prefix_refl, prefix_length, prefix_at, prefix_below}
 use Rattle.bihash_steps.proofs.Lawful.{still_legal}
 use Rattle.bihash_steps.proofs.Pushed.{push_at, push-length, pushed_calls, push_renumbers, acting_is, rises_more, counted-length, counted_at}
+
+-- what an entry bears of a note it bears of itself
+pub bears_own : (reply : Reply) (store noted : Option PageStore) → store ≡ store_of reply noted → store ≡ store_of reply store
+bears_own (Kept found) store noted is = is
+bears_own (Changed found) store noted is = is
+bears_own (Worn found) store noted is = is
+bears_own Full store noted is = is
+bears_own (NoPages log2 left) store noted is = refl
 
 -- ---- A history is learned
 
@@ -135,9 +146,9 @@ module _ (z : Sizes) where
   -- a call that is no write, at what is known whole
   pub answered_informed : (t : TableState) (v : View) (c : Call) → c.bucket < buckets z
       → known_at v.known c.bucket ≡ (t.bucket c.bucket).history → IsKeyOf z c.bucket c.key → is_changed c.reply ≡ false
-      → c.stamp ≡ length (known_at v.known c.bucket) → IsAnswer z (map_now v c.bucket) (length (known_at v.known c.bucket)) c
+      → c.store ≡ store_of c.reply c.store → c.stamp ≡ length (known_at v.known c.bucket) → IsAnswer z (map_now v c.bucket) (length (known_at v.known c.bucket)) c
       → IsInformed z t v.known v.records → IsInformed z t v.known (push_call c v.records)
-  answered_informed t v c inside fresh key read stamp answer i = record {
+  answered_informed t v c inside fresh key read store stamp answer i = record {
     wide = i.wide;
     begins = i.begins;
     opening = λ has_one. i.opening (let l = push-length c v.records in omega arith);
@@ -149,6 +160,7 @@ module _ (z : Sizes) where
         seen = omega arith;
         write = λ e. absurd (true≢false (sym e ∙ read));
         other = λ _. subst (λ (n : ℕ). IsAnswer z (after (opening_at v.known c.bucket) (known_at v.known c.bucket) n) n c) (sym stamp) answer;
+        store = store;
       };
       last = λ k m r d e f same. let h = (i.lawful.legal k m r d e f).seen in
           let long : length (known_at v.known d.bucket) ≡ length (known_at v.known c.bucket) = ap (λ (b : ℕ). length (known_at v.known b)) same in

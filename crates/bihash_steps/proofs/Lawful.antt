@@ -158,6 +158,7 @@ module _ (z : Sizes) where
     write = λ e. let w = h.write e in let n = w.1 in
         (w.0, w.1, prefix_at K H w.0 _ p w.2, subst (λ m. IsAnswer z m w.0 c) (sym (after_longer opening K H w.0 p (omega arith))) w.3);
     other = λ e. subst (λ m. IsAnswer z m c.stamp c) (sym (after_longer opening K H c.stamp p s)) (h.other e);
+    store = h.store;
   }
 
   -- a call that is legal on what one caller knows is legal on what both know

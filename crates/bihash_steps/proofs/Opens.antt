@@ -27,7 +27,7 @@ use Rattle.bihash_steps.proofs.CountWord.{stays_at, others_apart}
 use Rattle.bihash_steps.proofs.Counting.{unnoted_view}
 use Rattle.bihash_steps.proofs.Pushed.{push_numbers, push_whole, push_short, push-length, push_renumbers}
 use Rattle.bihash_steps.proofs.Whole.{prefix_whole}
-use Rattle.bihash_steps.proofs.Informed.{answered_informed}
+use Rattle.bihash_steps.proofs.Informed.{answered_informed, bears_own}
 use Rattle.bihash_steps.proofs.WordFields.{unlocked_word}
 
 module _ (z : Sizes) (s : State (Unit {0}) View) (r : WordRule z s) where
@@ -188,7 +188,7 @@ module _ (z : Sizes) where
           let informed : IsInformed z r.table v.known (push_call c v.records)
           = answered_informed z r.table v c (subst (λ (a : ℕ). a < buckets z) (sym may.bucket) inside)
           (subst (λ (a : ℕ). known_at v.known a ≡ (r.table.bucket a).history) (sym may.bucket) fresh)
-          (subst (λ (a : ℕ). IsKeyOf z a c.key) (sym may.bucket) may.key) may.reads
+          (subst (λ (a : ℕ). IsKeyOf z a c.key) (sym may.bucket) may.key) may.reads (bears_own c.reply c.store v.notes.left may.store)
           (may.stamp ∙ ap (λ (a : ℕ). length (known_at v.known a)) (sym may.bucket))
           (subst (λ (a : ℕ). IsAnswer z (map_now v a) (length (known_at v.known a)) c) (sym may.bucket) (may.answers reads)) ok.informed in
           let numbers = push_numbers v.seen c v.records ok.numbers in

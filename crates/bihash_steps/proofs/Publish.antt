@@ -171,7 +171,7 @@ module _ (z : Sizes) where
         open_bucket = tt;
         still = λ _. tt;
         short = push_short z (all_writes z x') c v.records (λ log2 left f. absurd (no_refusal log2 left (sym may.reply ∙ f)))
-            (λ d h log2 left f. more_short z (all_writes z r.table.bucket) (all_writes z x') left
+            (λ d h log2 left f. more_short z (all_writes z r.table.bucket) (all_writes z x') d log2 left
             (more_writes r.table.bucket x' (no_shorter r.table.bucket x' b w e now elsewhere here) (buckets z)) (ok.short d h log2 left f));
         left = tt;
         meeting = tt;

@@ -85,11 +85,11 @@ push_has c d rs h = elim (push_at c rs h.0 h.2 h.3) [
   | inr o ↦ inl (h.0, h.1, h.2, o.1, h.4)
 ]
 
-pub push_short : (z : Sizes) (writes : ℕ) (c : Call) (rs : List Record) → ((log2 left : ℕ) → c.reply ≡ NoPages log2 left → IsShort z writes left)
+pub push_short : (z : Sizes) (writes : ℕ) (c : Call) (rs : List Record) → ((log2 left : ℕ) → c.reply ≡ NoPages log2 left → IsShort z writes c log2 left)
     → AreShort z writes rs → AreShort z writes (push_call c rs)
 push_short z writes c rs new short d h log2 left e = elim (push_has c d rs h) [
   | inl o ↦ short d o log2 left e
-  | inr o ↦ new log2 left (ap (λ (y : Call). y.reply) o ∙ e)
+  | inr o ↦ subst (λ (y : Call). IsShort z writes y log2 left) o (new log2 left (ap (λ (y : Call). y.reply) o ∙ e))
 ]
 
 -- stamps rise where the last call may follow each before it

@@ -5,9 +5,10 @@ use lib.ListN.{get_elem?}
 use Rattle.atomic_table.specs.Table.{State, keeps, Allows}
 use Rattle.bihash_words.specs.Sizes.{Sizes}
 use Rattle.bihash_words.specs.Words.{packed}
+use Rattle.bihash_words.specs.declared.patch.Reply.{Reply}
 use Rattle.bihash_words.specs.declared.patch.Reply.TheVariants.{NoPages}
 use Rattle.bihash_steps.specs.Words.{count_of, buckets, bucket_at, page_at, Stands}
-use Rattle.bihash_steps.specs.Histories.{IsKeyOf, IsAnswer}
+use Rattle.bihash_steps.specs.Histories.{IsKeyOf, IsAnswer, store_of}
 use Rattle.bihash_steps.specs.Callers.{HasNumber, HasNumbers, IsWhole, known_at}
 use Rattle.bihash_steps.specs.Buckets.{HoldsBucket, word_of}
 use Rattle.bihash_steps.specs.PageStores.{IsShort, AreShort, LeftIf, all_writes, runs_now}
@@ -22,7 +23,7 @@ use Rattle.bihash_steps.proofs.KnownLists.{lawful_here}
 use Rattle.bihash_steps.proofs.Frames.{free_none, free_own}
 use Rattle.bihash_steps.proofs.Runs.{beside_bucket, block_keeps, front_still, store_still, count_still, bucket_behind, bucket_inside}
 use Rattle.bihash_steps.proofs.Pushed.{push_numbers, push_whole, push_number, push_short, push-length}
-use Rattle.bihash_steps.proofs.Informed.{answered_informed}
+use Rattle.bihash_steps.proofs.Informed.{answered_informed, bears_own}
 use Rattle.bihash_steps.proofs.Relocks.{relocking, relocked_rule}
 use Rattle.bihash_steps.proofs.LockedWords.{held_bucket, holder_acts, one_lock}
 
@@ -103,15 +104,21 @@ module _ (z : Sizes) where
         record { seat = refl; lawful = lawful_here z s r (unlocked v) ok.numbers ok.informed ok.lone },
       )
 
-  -- what was noted of the pages that were left bounds a refusal that rests on it
+  -- a refusal bears what was noted of the page store, which bounds it
   few_left : (writes left : ℕ) (v : View) (b word : ℕ) (c : Call) → MayAnswer z v b word c → LeftIf z writes v.notes.left → (log2 : ℕ)
-      → c.reply ≡ NoPages log2 left → IsShort z writes left
+      → c.reply ≡ NoPages log2 left → IsShort z writes c log2 left
   few_left writes left v b word c may noted log2 e =
       let o = may.short log2 left e in
       let n = subst (LeftIf z writes) o.1 noted in
       let all = o.2 in
       let a : ℕ = 2 ^ z.max_log2 * writes in
-      let few : o.0.used ≤ a = n.1 in omega arith
+      let few : o.0.used ≤ a = n.1 in record {
+        store = o.0;
+        bears = may.store ∙ (ap (λ (reply : Reply). store_of reply v.notes.left) e ∙ o.1);
+        none = o.3;
+        unused = o.2;
+        taken = omega arith;
+      }
 
   pub answers_call : (slots id b word : ℕ) (c : Call) (m : ViewOfSeat) → MayAnswer z m.0 b word c
       → Allows (WordRule z) slots id m (bucket_at z b) (λ _. word) (λ _. TellsEvent z (λ v. answered v c) m)
@@ -124,7 +131,7 @@ module _ (z : Sizes) where
       let informed : IsInformed z r.table v.known (push_call c v.records)
       = answered_informed z r.table v c (subst (λ (a : ℕ). a < buckets z) same h.inside)
       (subst (λ (a : ℕ). known_at v.known a ≡ (r.table.bucket a).history) same h.fresh)
-      (subst (λ (a : ℕ). IsKeyOf z a c.key) (sym may.bucket) may.key) may.reads
+      (subst (λ (a : ℕ). IsKeyOf z a c.key) (sym may.bucket) may.key) may.reads (bears_own c.reply c.store v.notes.left may.store)
       (may.stamp ∙ ap (λ (a : ℕ). length (known_at v.known a)) (sym may.bucket))
       (subst (λ (a : ℕ). IsAnswer z (map_now v a) (length (known_at v.known a)) c) (sym may.bucket) may.answers) ok.informed in
       let numbers = push_numbers v.seen c v.records ok.numbers in (

@@ -22,7 +22,7 @@ use Rattle.bihash_steps.proofs.Lists.{within, there, at_end}
 use Rattle.bihash_steps.proofs.Prefixes.{prefix_refl, after_longer}
 use Rattle.bihash_steps.proofs.Lawful.{still_legal}
 use Rattle.bihash_steps.proofs.Pushed.{push-length, push_renumbers, acting_is}
-use Rattle.bihash_steps.proofs.Informed.{known_learned, known_else, learned_grows, MayPush, pushed_lawful}
+use Rattle.bihash_steps.proofs.Informed.{known_learned, known_else, learned_grows, MayPush, bears_own, pushed_lawful}
 
 -- ---- A history with one write more
 
@@ -126,6 +126,7 @@ module _ (z : Sizes) (v : View) (b word : ℕ) (c : Call) (may : MayWrite z v b 
           seen = let n = length-append H (w ∷ []) in let s = may.stamp in let l = count in omega arith;
           write = λ _. (length H, (let s = may.stamp in let l = count in omega arith), at_last H w (length H) refl, answers);
           other = λ e. absurd (true≢false (sym write_changes ∙ e));
+          store = bears_own c.reply c.store v.notes.left may.store;
         })
       where
         answers : IsAnswer z (after (opening_at v.known b) (H ++ w ∷ []) (length H)) (length H) c

@@ -1,6 +1,7 @@
 -- What a view becomes at each kind of step on a bucket, and what the step tells its caller.
 use Rattle.std.specs.Prelude.{◌≡◌, ◌⊎◌, ℕ, ◌+◌, ◌^◌, ◌<◌, ◌≤◌, List, [], ◌∷◌, ◌++◌, length, slice_index, slice_set, true, false, Option, Some, None}
 use Rattle.std.specs.FinMap.{get}
+use Rattle.std.specs.List.{last_or}
 use Rattle.bihash_words.specs.Maps.{Pairs, changed}
 use Rattle.bihash_words.specs.Sizes.{Sizes}
 use Rattle.bihash_words.specs.Words.{Fits, packed}
@@ -8,7 +9,7 @@ use Rattle.bihash_words.specs.declared.patch.Change.{Change}
 use Rattle.bihash_words.specs.declared.patch.Reply.{Reply}
 use Rattle.bihash_words.specs.declared.patch.Reply.TheVariants.{Changed, NoPages}
 use Rattle.bihash_steps.specs.Words.{block_words}
-use Rattle.bihash_steps.specs.Histories.{IsKeyOf, IsPrefix, IsWrite, IsWriteList, IsAnswer, after, is_changed, write_of}
+use Rattle.bihash_steps.specs.Histories.{IsKeyOf, IsPrefix, IsWrite, IsWriteList, IsAnswer, after, is_changed, store_of, write_of}
 use Rattle.bihash_steps.specs.Callers.{known_at, opening_at, IsLawfulCaller}
 use Rattle.bihash_steps.specs.Blocks.{IsBlockOf}
 use Rattle.bihash_steps.specs.Buckets.{Reads, word_of, open_word}
@@ -183,6 +184,11 @@ abbrev pub push_call : Call → List Record → List Record
 push_call c [] = []
 push_call c (r ∷ rs) = record r { calls = r.calls ++ c ∷ [] } ∷ rs
 
+-- the last of its calls
+abbrev pub last_call : List Record → Option Call
+last_call [] = None
+last_call (r ∷ rs) = last_or None r.calls
+
 abbrev pub called : View → Call → View
 called v c = record v { records = push_call c v.records }
 
@@ -195,6 +201,7 @@ call_of v b more key found change reply = record {
   found = found;
   change = change;
   reply = reply;
+  store = store_of reply v.notes.left;
 }
 
 -- the map of bucket b, as far as it is known
@@ -213,6 +220,7 @@ pub record MayAnswer (z : Sizes) (v : View) (b word : ℕ) (c : Call) : Type 0 w
   pub answers : IsAnswer z (map_now v b) (length (known_at v.known b)) c
   pub short : (log2 left : ℕ) → c.reply ≡ NoPages log2 left → (store : PageStore)
       × (v.notes.left ≡ Some store) × (store.used + left ≡ z.pages) × (returned_in store log2 ≡ [])
+  pub store : c.store ≡ store_of c.reply v.notes.left
 
 -- the call was answered, and the lock opened
 abbrev pub answered : View → Call → View
@@ -237,6 +245,7 @@ pub record MayWrite (z : Sizes) (v : View) (b word : ℕ) (c : Call) : Type 0 wh
   pub stamp : c.stamp ≡ length (known_at v.known b) + 1
   pub found : c.found ≡ get (map_now v b) c.key
   pub reply : c.reply ≡ Changed c.found
+  pub store : c.store ≡ store_of c.reply v.notes.left
   pub write : IsWrite z b (length (known_at v.known b)) (map_now v b) (write_of (acting v.records) c)
 
 -- the map behind the write
@@ -291,6 +300,7 @@ pub record MayValidate (z : Sizes) (v : View) (b word : ℕ) (c : Call) : Type 0
   pub answers : Reads open_bucket.reads open_bucket.block
       → IsAnswer z (map_now v b) (length (known_at v.known b)) c
   pub pages : (log2 left : ℕ) → c.reply ≡ NoPages log2 left → ⊥
+  pub store : c.store ≡ store_of c.reply v.notes.left
 
 -- the call was answered without a lock
 abbrev pub validated : View → Call → View

@@ -1,5 +1,5 @@
 -- The writes of a bucket in their order, and when an answered call is legal on them.
-use Rattle.std.specs.Prelude.{◌≡◌, ℕ, ◌+◌, ◌^◌, ◌%◌, ◌≤◌, ◌++◌, Bool, true, false, List, [], ◌∷◌, length, Some}
+use Rattle.std.specs.Prelude.{◌≡◌, ℕ, ◌+◌, ◌^◌, ◌%◌, ◌≤◌, ◌++◌, Bool, true, false, List, [], ◌∷◌, length, Option, Some, None}
 use Rattle.std.proofs.Math.ListN.{take}
 use lib.ListN.{get_elem?}
 use mathlib.Core.Option.{some}
@@ -11,6 +11,7 @@ use Rattle.bihash_words.specs.declared.patch.Reply.TheVariants.{Kept, Changed, W
 use Rattle.bihash_words.specs.Sizes.{Sizes}
 use Rattle.bihash_steps.specs.declared.view.Write.{Write}
 use Rattle.bihash_steps.specs.declared.view.Call.{Call}
+use Rattle.bihash_steps.specs.declared.view.PageStore.{PageStore}
 
 -- what bounds the map of a bucket
 abbrev pub bounds_of : Sizes → Bounds
@@ -69,6 +70,14 @@ is_changed (Worn found) = false
 is_changed Full = false
 is_changed (NoPages log2 left) = false
 
+-- what an entry bears of the page store that was noted: a refusal for want of pages has it, and no other
+abbrev pub store_of : Reply → Option PageStore → Option PageStore
+store_of (Kept found) noted = None
+store_of (Changed found) noted = None
+store_of (Worn found) noted = None
+store_of Full noted = None
+store_of (NoPages log2 left) noted = noted
+
 abbrev pub event_of : Call → Event
 event_of c = record { key = c.key; found = c.found; change = c.change; reply = c.reply }
 
@@ -81,10 +90,12 @@ abbrev pub write_of : ℕ → Call → Write
 write_of by c = record { by = by; key = c.key; change = c.change }
 
 -- A legal call on the history H. A write is the one of H that its stamp names, and an answer at the map
--- before it. Any other call is an answer at the map that its stamp names.
+-- before it. Any other call is an answer at the map that its stamp names. Only a refusal for want of pages
+-- bears a page store.
 pub record IsLegal (z : Sizes) (opening : Pairs) (H : List Write) (by : ℕ) (c : Call) : Type 0 where
   pub key : IsKeyOf z c.bucket c.key
   pub seen : c.stamp ≤ length H
   pub write : is_changed c.reply ≡ true → (n : ℕ) × (c.stamp ≡ n + 1)
       × (get_elem? H n ≡ some (write_of by c)) × IsAnswer z (after opening H n) n c
   pub other : is_changed c.reply ≡ false → IsAnswer z (after opening H c.stamp) c.stamp c
+  pub store : c.store ≡ store_of c.reply c.store

@@ -103,18 +103,23 @@ runs_now x store views = runs_of (λ b. run_of (x b).extent.page (x b).extent.lo
 
 -- ---- Refusals for want of pages
 
--- where so few pages are left, so many writes took the others
-abbrev pub IsShort : Sizes → ℕ → ℕ → Type 0
-IsShort z writes left = z.pages ≤ left + 2 ^ z.max_log2 * writes
+-- A call that found no block of this log2 bears the page store that it saw: none was returned there, and
+-- `left` pages were never used. So many writes took the others.
+pub record IsShort (z : Sizes) (writes : ℕ) (c : Call) (log2 left : ℕ) : Type 0 where
+  pub store : PageStore
+  pub bears : c.store ≡ Some store
+  pub none : returned_in store log2 ≡ []
+  pub unused : store.used + left ≡ z.pages
+  pub taken : z.pages ≤ left + 2 ^ z.max_log2 * writes
 
 abbrev pub HasCall : List Record → Call → Type 0
 HasCall records c = (i k : ℕ) × (r : Record) × (get_elem? records i ≡ some r)
     × (get_elem? r.calls k ≡ some c)
 
--- each call of the records that was refused for want of pages tells what can be left
+-- each call of the records that was refused for want of pages tells what it saw, and what can be left
 abbrev pub AreShort : Sizes → ℕ → List Record → Type 0
 AreShort z writes records = (c : Call) → HasCall records c → (log2 left : ℕ)
-    → c.reply ≡ NoPages log2 left → IsShort z writes left
+    → c.reply ≡ NoPages log2 left → IsShort z writes c log2 left
 
 -- what was noted when the allocation lock was opened
 abbrev pub LeftIf : Sizes → ℕ → Option PageStore → Type 0

@@ -74,7 +74,7 @@ pub(crate) trait Calling {
 }
 
 impl Calling for Brand {
-    ghost call = { record { bucket = 0; stamp = 0; key = []; found = None; change = Keep; reply = Full } };
+    ghost call = { record { bucket = 0; stamp = 0; key = []; found = None; change = Keep; reply = Full; store = None } };
 }
 
 /// A store of a bucket's old word that answers a call. The word's version is the number of the writes that

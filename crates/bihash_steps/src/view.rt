@@ -11,7 +11,7 @@ pub struct Write {
 }
 
 /// One answered call. The stamp of a write is its number in the history of its bucket; that of any other
-/// call is how many writes stood before it.
+/// call is how many writes stood before it. A refusal for want of pages bears the page store that it saw.
 pub struct Call {
     pub bucket: u64,
     pub stamp: u64,
@@ -19,6 +19,7 @@ pub struct Call {
     pub found: Option<u64>,
     pub change: Change,
     pub reply: Reply,
+    pub store: Option<PageStore>,
 }
 
 /// A caller number, its answered calls in their order, and how many bucket locks were ever taken under

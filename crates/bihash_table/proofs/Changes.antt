@@ -12,7 +12,7 @@ use Rattle.bihash_steps.specs.BucketSteps.{MayPublish, call_of, map_now, relocke
 use Rattle.bihash_steps.specs.Seats.{CallerState, with_view}
 use Rattle.bihash_steps.specs.declared.view.LockedBucket.{LockedBucket}
 use Rattle.bihash_steps.specs.declared.view.View.{View}
-use Rattle.bihash_table.specs.Answers.{IsAnswered}
+use Rattle.bihash_table.specs.Promise.{IsAnswered}
 use Rattle.bihash_table.specs.Locked.{HasLock}
 use Rattle.bihash_table.specs.Places.{HasPairOf, IsFreeFor}
 use Rattle.bihash_table.specs.Stores.{HasStored}

@@ -19,8 +19,10 @@ use Rattle.bihash_steps.specs.declared.view.Holdings.{Holdings}
 use Rattle.bihash_steps.specs.declared.view.LockedBucket.{LockedBucket}
 use Rattle.bihash_steps.specs.declared.view.View.{View}
 use Rattle.bihash_steps.proofs.Prefixes.{prefix_refl}
-use Rattle.bihash_table.specs.Answers.{locks_of, with_locks, entry_of, IsAnswered, IsTurnedAway, IsUpdated, own_writes}
+use Rattle.bihash_table.specs.Answers.{locks_of, with_locks, entry_of, own_writes}
+use Rattle.bihash_table.specs.Promise.{IsAnswered, IsTurnedAway, IsUpdated}
 use Rattle.bihash_table.specs.Locked.{HasLock, IsLocked}
+use Rattle.bihash_table.proofs.Promised.{answered_as, answered_by, turned_away_as, turned_away_by}
 use Rattle.bihash_table.proofs.Released.{with_locks-locks_of}
 
 -- ---- Lock counts
@@ -68,7 +70,7 @@ locked_ahead z v u b word s = let same = sym s.is in record {
 }
 
 pub turned_away_ahead : (z : Sizes) (v u : View) (b : ℕ) → IsTurnedAway z v u b → IsAhead v u b
-turned_away_ahead z v u b s = let same = sym s.is in record {
+turned_away_ahead z v u b a = let s = turned_away_as z v u b a in let same = sym s.is in record {
   history = s.history;
   begins = s.begins;
   locks = s.locks;
@@ -97,7 +99,7 @@ module _ (z : Sizes) (v u w : View) where
       (subst (λ (x : View). IsPrefix (known_at x.known b) H) s.is p)
 
   pub ahead_turned_away : (b : ℕ) → IsAhead v u b → IsTurnedAway z u w b → IsTurnedAway z v w b
-  ahead_turned_away b s t = record {
+  ahead_turned_away b s a = let t = turned_away_as z u w b a in turned_away_by z v w b record {
     history = t.history;
     begins = goes_on b t.history s t.begins;
     locks = t.locks;
@@ -116,17 +118,18 @@ module _ (z : Sizes) (v u w : View) where
   }
 
   ahead_answered_at : (e : Event) → IsAhead v u (bucket_of z e.key) → IsAnswered z u w e → IsAnswered z v w e
-  ahead_answered_at e s t = let b : ℕ = bucket_of z e.key in record {
+  ahead_answered_at e s a = let t = answered_as z u w e a in let b : ℕ = bucket_of z e.key in answered_by z v w e record {
     history = t.history;
     begins = goes_on b t.history s t.begins;
     locks = t.locks;
+    noted = t.noted;
     is = t.is ∙ (ap (λ (x : View). record (learned x b t.history) {
-      records = push_call (entry_of z (length t.history) e) (with_locks t.locks x.records);
+      records = push_call (entry_of z (length t.history) e t.noted) (with_locks t.locks x.records);
       holds = nothing_held;
       notes = w.notes;
     }) s.is
         ∙ (λ i. record v {
-          records = push_call (entry_of z (length t.history) e) (with_locks_twice t.locks s.locks v.records i);
+          records = push_call (entry_of z (length t.history) e t.noted) (with_locks_twice t.locks s.locks v.records i);
           known = record v.known { writes = set-set v.known.writes b s.history t.history i };
           holds = nothing_held;
           notes = w.notes;
@@ -164,7 +167,7 @@ module _ (z : Sizes) (v u w : View) where
 
 -- before the first try
 pub not_yet_tried : (z : Sizes) (v : View) (b : ℕ) → v.holds ≡ nothing_held → IsTurnedAway z v v b
-not_yet_tried z v b free = record {
+not_yet_tried z v b free = turned_away_by z v v b record {
   history = known_at v.known b;
   begins = prefix_refl (known_at v.known b);
   locks = locks_of v.records;
@@ -210,7 +213,7 @@ module _ (z : Sizes) (v u : View) (b word : ℕ) where
   ]
 
   pub locked_turns_away : v.holds ≡ nothing_held → SeesLocked v word u → IsTurnedAway z v u b
-  locked_turns_away free s = let notes = ap (λ (x : View). x.notes) s.is in record {
+  locked_turns_away free s = let notes = ap (λ (x : View). x.notes) s.is in turned_away_by z v u b record {
     history = known_at v.known b;
     begins = prefix_refl (known_at v.known b);
     locks = locks_of v.records;
@@ -230,7 +233,7 @@ module _ (z : Sizes) (v u w : View) (b word : ℕ) (inside : b < buckets z) (fre
   seen_is = ap (λ (x : View). known_at x.known b) s.is ∙ get_or-set_same v.known.writes b s.history [] s.found.listed
 
   pub open_turns_away : w ≡ unnoted u → IsTurnedAway z v w b
-  open_turns_away is = let notes = ap (λ (x : View). x.notes) is in record {
+  open_turns_away is = let notes = ap (λ (x : View). x.notes) is in turned_away_by z v w b record {
     history = s.history;
     begins = s.found.begins;
     locks = locks_of v.records;

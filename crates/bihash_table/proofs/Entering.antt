@@ -121,6 +121,7 @@ module _ (z : Sizes) (v : View) (b word : ℕ) (l : LockedBucket) (key : List �
     stamp = refl;
     found = is;
     reply = refl;
+    store = refl;
     write = write;
   }
 
@@ -156,12 +157,13 @@ module _ (z : Sizes) (v : View) (b word : ℕ) (l : LockedBucket) (key : List �
     reads = refl;
     answers = (map_now v b, crowds (bounds_of z) (map_now v b) (length (known_at v.known b)) key value unworn full absent);
     short = λ log2 left e. absurd (let c : ⊥ = cc in c);
+    store = refl;
   }
 
   -- the page store has no block for it
   pub may_want : (value log2 left : ℕ) (store : PageStore) → len (map_now v b) < most_pairs (bounds_of z)
       → get (map_now v b) key ≡ None → log2 ≤ z.max_log2 → IsWanting z store log2 left
-      → MayAnswer z (looked_at v store) b word (call_of v b 0 key None (Set value) (NoPages log2 left))
+      → MayAnswer z (looked_at v store) b word (call_of (looked_at v store) b 0 key None (Set value) (NoPages log2 left))
   may_want value log2 left store room absent small wanting = record {
     clean = record { lock = l; held = held_bucket; bucket = lock.bucket; stood = lock.stood; clean = lock.clean };
     bucket = refl;
@@ -181,4 +183,5 @@ module _ (z : Sizes) (v : View) (b word : ℕ) (l : LockedBucket) (key : List �
           ap (λ n. store.used + n) (sym same') ∙ wanting.unused,
           ap (returned_in store) (sym same) ∙ wanting.none,
         );
+    store = refl;
   }

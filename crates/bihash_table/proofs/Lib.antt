@@ -16,6 +16,7 @@ pub mod PlacePairs
 pub mod PlaceReads
 pub mod PlaceWords
 pub mod Planning
+pub mod Promised
 pub mod Publishing
 pub mod Released
 pub mod Replacing

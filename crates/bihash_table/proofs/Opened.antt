@@ -26,11 +26,13 @@ use Rattle.bihash_steps.specs.declared.view.View.{View}
 use Rattle.bihash_steps.proofs.Informed.{known_learned}
 use Rattle.bihash_steps.proofs.Prefixes.{prefix_refl}
 use Rattle.bihash_steps.proofs.Whole.{prefix_whole}
-use Rattle.bihash_table.specs.Answers.{IsAnswered, IsTurnedAway, entry_of, locks_of, own_writes, search_of}
+use Rattle.bihash_table.specs.Answers.{entry_of, locks_of, own_writes, search_of}
+use Rattle.bihash_table.specs.Promise.{IsAnswered, IsTurnedAway}
 use Rattle.bihash_table.specs.Locked.{IsLocked}
 use Rattle.bihash_table.specs.OpenReads.{HasOpen, IsOpened, Saw}
 use Rattle.bihash_table.proofs.Composed.{IsAhead}
 use Rattle.bihash_table.proofs.LookedAt.{IsValueOf}
+use Rattle.bihash_table.proofs.Promised.{answered_by, turned_away_by}
 use Rattle.bihash_table.proofs.Released.{with_locks-locks_of}
 use Rattle.bihash_table.proofs.Seeing.{notes_more, read_first}
 
@@ -139,7 +141,7 @@ module _ (z : Sizes) (v : View) (x y : View) (b word : ℕ) (s : IsOpened z v x 
   lost_open w free is =
       let left : w ≡ record (learned v b s.history) { notes = no_notes }
       = is ∙ ap unnoted behind in
-      let notes : w.notes ≡ no_notes = ap (λ (u : View). u.notes) left in record {
+      let notes : w.notes ≡ no_notes = ap (λ (u : View). u.notes) left in turned_away_by z v w b record {
         history = s.history;
         begins = s.begins;
         locks = locks_of v.records;
@@ -193,6 +195,7 @@ module _ (z : Sizes) (v : View) (x y : View) (b word : ℕ) (s : IsOpened z v x 
           answers = λ reads. answers (map_now x b) (length (known_at x.known b))
               (t.told o h.noted (read_first t.more o.reads o.block reads) (map_now x b) pairs);
           pages = pages;
+          store = refl;
         }
 
     pub may_answer_open : IsKeyOf z b key → is_changed reply ≡ false → ((log2 left : ℕ) → reply ≡ NoPages log2 left → ⊥) → IsRead
@@ -205,7 +208,7 @@ module _ (z : Sizes) (v : View) (x y : View) (b word : ℕ) (s : IsOpened z v x 
 
     abbrev Left : ℕ → ℕ → List Record → Holdings → Notes → View
     Left c stamp records holds notes = record (learned v c s.history) {
-      records = push_call (record (entry_of z stamp event) { bucket = c }) records;
+      records = push_call (record (entry_of z stamp event s.notes.left) { bucket = c }) records;
       holds = holds;
       notes = notes;
     }
@@ -216,10 +219,11 @@ module _ (z : Sizes) (v : View) (x y : View) (b word : ℕ) (s : IsOpened z v x 
         = let long = ap length (known_learned v b s.history s.listed) in omega arith in
         let left : w ≡ Left b (length (known_at (learned v b s.history).known b) + 0) v.records v.holds no_notes
         = is ∙ ap (λ (u : View). validated u (open_call u)) behind in
-        let notes : w.notes ≡ no_notes = ap (λ (u : View). u.notes) left in record {
+        let notes : w.notes ≡ no_notes = ap (λ (u : View). u.notes) left in answered_by z v w event record {
           history = s.history;
           begins = subst (λ (c : ℕ). IsPrefix (known_at v.known c) s.history) (sym home) s.begins;
           locks = locks_of v.records;
+          noted = s.notes.left;
           is = left ∙ (λ i. Left (sym home i) (stamp i) (sym (with_locks-locks_of v.records) i) (free i) (sym notes i));
           alone = λ lone. subst (λ (c : ℕ). length s.history ≤ length (known_at v.known c) + own_writes reply) (sym home)
               (let few = s.alone lone in let own : ℕ = own_writes reply in omega arith);
@@ -241,7 +245,7 @@ is_read z key found m n is = (m, record { found = is; answers = (refl, refl) })
 -- ---- The lock is taken behind the reads
 
 pub not_taken : (z : Sizes) (v w : View) (b : ℕ) → v.holds ≡ nothing_held → w ≡ unnoted v → IsTurnedAway z v w b
-not_taken z v w b free is = let notes = ap (λ (x : View). x.notes) is in record {
+not_taken z v w b free is = let notes = ap (λ (x : View). x.notes) is in turned_away_by z v w b record {
   history = known_at v.known b;
   begins = prefix_refl (known_at v.known b);
   locks = locks_of v.records;

@@ -23,7 +23,7 @@ use Rattle.bihash_steps.specs.declared.view.View.{View}
 use Rattle.bihash_table.specs.Copying.{IsWanting, LocksBlock}
 use Rattle.bihash_table.specs.Locked.{HasLock}
 use Rattle.bihash_table.specs.Places.{ArePlaces, IsCrowdedFor}
-use Rattle.bihash_table.specs.Shortage.{HoldMap, IsShortage}
+use Rattle.bihash_table.specs.Shortage.{Bears, HoldMap, IsShortage}
 use Rattle.bihash_table.proofs.Bridge.{AreKeyWords, AreKeysOf, are_keys, count_places, hold_map, lawful_places}
 use Rattle.bihash_table.proofs.Count.{few_pairs, few_places, full_block}
 
@@ -172,18 +172,19 @@ module _ {A K : Type 0} (g : Ghosts A K) (keys : AreKeyWords g) (v : View) (b wo
     plan = plan;
   }
 
-  pub is_shortage : (log2 left : ℕ) (linear : Bool) (store : PageStore)
+  pub is_shortage : (w : View) → map_now w b ≡ map_now v b → (log2 left : ℕ) (linear : Bool) (store : PageStore)
       → IsPlan (paging_of g) l.extent.log2 l.extent.linear ps key (Grow log2 linear)
-      → IsWanting (sizes_of g) store log2 left → IsShortage g (map_now v b) key log2 left
-  is_shortage log2 left linear store plan wanting = record {
+      → IsWanting (sizes_of g) store log2 left → Bears w b store → IsShortage g w b key log2 left
+  is_shortage w same log2 left linear store plan wanting bears = record {
     places = ps;
     was_log2 = l.extent.log2;
     was_linear = l.extent.linear;
     linear = linear;
     lawful = lawful;
-    map = hold;
+    map = subst (HoldMap g ps) (sym same) hold;
     plan = plan;
     store = store;
+    bears = bears;
     none = wanting.none;
     unused = wanting.unused;
     few = wanting.few;

@@ -14,7 +14,7 @@ use Rattle.bihash_steps.specs.BucketSteps.{MayAnswer, MayPublish, call_of, map_n
 use Rattle.bihash_steps.specs.declared.view.Holdings.{Holdings}
 use Rattle.bihash_steps.specs.declared.view.LockedBucket.{LockedBucket}
 use Rattle.bihash_steps.specs.declared.view.View.{View}
-use Rattle.bihash_table.specs.Answers.{IsAnswered}
+use Rattle.bihash_table.specs.Promise.{IsAnswered}
 use Rattle.bihash_table.specs.Locked.{HasLock}
 use Rattle.bihash_table.proofs.Released.{written_from_lock}
 
@@ -41,6 +41,7 @@ module _ (z : Sizes) (v : View) (b word : ℕ) (l : LockedBucket) (has : HasLock
         reads = reads;
         answers = (map_now v b, record { found = step.found; answers = step.answers });
         short = λ log2 left is. absurd (paged log2 left is);
+        store = refl;
       }
 
   module _ (w : View) (now : List ℕ) (is : w ≡ relocked v (Some (record l { now = now; stored = true }))) where
@@ -65,6 +66,7 @@ module _ (z : Sizes) (v : View) (b word : ℕ) (l : LockedBucket) (has : HasLock
             stamp = refl;
             found = there;
             reply = refl;
+            store = refl;
             write = record {
               key = record { long = long; home = home };
               storable = storable;

@@ -1,19 +1,23 @@
 -- What a call leaves of its caller where it opened the lock that it had: it was answered.
-use Rattle.std.proofs.Common.{◌≡◌, ◌∙◌, ◌+◌, ◌≤◌, true, ℕ, List, [], ◌∷◌, ◌++◌, length, set, None, ap, arith, refl, sym, subst, append-nil, length-append}
+use Rattle.std.proofs.Common.{◌≡◌, ◌∙◌, ◌+◌, ◌≤◌, true, ℕ, List, [], ◌∷◌, ◌++◌, length, set, Option, None, ap, arith, refl, sym, subst, append-nil, length-append}
 use Rattle.std.proofs.lemmas.List.{set-get_or}
 use Rattle.bihash_words.specs.Maps.{Event}
 use Rattle.bihash_words.specs.Sizes.{Sizes}
-use Rattle.bihash_steps.specs.Histories.{IsPrefix, bucket_of, is_changed, write_of}
+use Rattle.bihash_steps.specs.Histories.{IsPrefix, bucket_of, is_changed, store_of, write_of}
 use Rattle.bihash_steps.specs.Callers.{known_at}
 use Rattle.bihash_steps.specs.Views.{nothing_held}
 use Rattle.bihash_steps.specs.BucketSteps.{acting, answered, call_of, learned, push_call, written}
 use Rattle.bihash_steps.specs.declared.view.Write.{Write}
+use Rattle.bihash_steps.specs.declared.view.Call.{Call}
 use Rattle.bihash_steps.specs.declared.view.Record.{Record}
 use Rattle.bihash_steps.specs.declared.view.Holdings.{Holdings}
 use Rattle.bihash_steps.specs.declared.view.LockedBucket.{LockedBucket}
+use Rattle.bihash_steps.specs.declared.view.PageStore.{PageStore}
 use Rattle.bihash_steps.specs.declared.view.View.{View}
-use Rattle.bihash_table.specs.Answers.{IsAnswered, entry_of, locks_of, own_writes, with_locks}
+use Rattle.bihash_table.specs.Answers.{entry_of, locks_of, own_writes, with_locks}
+use Rattle.bihash_table.specs.Promise.{IsAnswered}
 use Rattle.bihash_table.specs.Locked.{HasLock}
+use Rattle.bihash_table.proofs.Promised.{answered_by}
 
 pub with_locks-locks_of : (records : List Record) → with_locks (locks_of records) records ≡ records
 with_locks-locks_of [] = refl
@@ -23,47 +27,51 @@ with_locks-locks_of (r ∷ rs) = refl
 module _ (z : Sizes) (v w : View) (b word : ℕ) (l : LockedBucket) (e : Event) (has : HasLock z v b word l)
     (home : bucket_of z e.key ≡ b) where
   -- the view behind an answer at bucket b, as it stands in the claim
-  abbrev Left : ℕ → ℕ → List Write → List Record → View
-  Left b stamp history records = record (learned v b history) {
-    records = push_call (record (entry_of z stamp e) { bucket = b }) records;
+  abbrev Left : Option PageStore → ℕ → ℕ → List Write → List Record → View
+  Left noted b stamp history records = record (learned v b history) {
+    records = push_call (record (entry_of z stamp e noted) { bucket = b }) records;
     holds = nothing_held;
     notes = w.notes;
   }
 
-  is_left : (history : List Write) → IsPrefix (known_at v.known b) history
+  is_left : (noted : Option PageStore) (history : List Write) → IsPrefix (known_at v.known b) history
       → length history ≤ length (known_at v.known b) + own_writes e.reply
-      → w ≡ Left b (length history) history v.records → IsAnswered z v w e
-  is_left history begins few is = record {
+      → w ≡ Left noted b (length history) history v.records → IsAnswered z v w e
+  is_left noted history begins few is = answered_by z v w e record {
     history = history;
     begins = subst (λ (c : ℕ). IsPrefix (known_at v.known c) history) (sym home) begins;
     locks = locks_of v.records;
-    is = is ∙ (ap (λ (rs : List Record). Left b (length history) history rs)
+    noted = noted;
+    is = is ∙ (ap (λ (rs : List Record). Left noted b (length history) history rs)
         (sym (with_locks-locks_of v.records))
-        ∙ ap (λ (c : ℕ). Left c (length history) history (with_locks (locks_of v.records) v.records))
+        ∙ ap (λ (c : ℕ). Left noted c (length history) history (with_locks (locks_of v.records) v.records))
         (sym home));
     alone = λ _. subst (λ (c : ℕ). length history ≤ length (known_at v.known c) + own_writes e.reply) (sym home) few;
   }
 
   -- the call was no write: nothing more is known
-  pub answered_from_lock : w ≡ answered v (call_of v b 0 e.key e.found e.change e.reply)
-      → IsAnswered z v w e
-  answered_from_lock is =
+  pub answered_noting : (noted : Option PageStore)
+      → w ≡ answered v (record (call_of v b 0 e.key e.found e.change e.reply) { store = store_of e.reply noted }) → IsAnswered z v w e
+  answered_noting noted is =
+      let c : Call = record (call_of v b 0 e.key e.found e.change e.reply) { store = store_of e.reply noted } in
       let H : List Write = known_at v.known b in
       let kept : v.known.writes ≡ set v.known.writes b H = sym (set-get_or v.known.writes b []) in
       let stamp : length H + 0 ≡ length H = omega arith in
       let At : ℕ → List (List Write) → Holdings → View = λ n writes holds. record v {
-        records = push_call (record (entry_of z n e) { bucket = b }) v.records;
+        records = push_call (record (entry_of z n e noted) { bucket = b }) v.records;
         known = record v.known { writes = writes };
         holds = record holds { bucket = None };
         notes = w.notes;
       } in
-      let notes : w ≡ record (answered v (call_of v b 0 e.key e.found e.change e.reply)) { notes = w.notes } =
-      is ∙ ap (λ n. record (answered v (call_of v b 0 e.key e.found e.change e.reply)) { notes = n })
-      (sym (ap (λ (u : View). u.notes) is)) in
-      is_left H (record { rest = []; whole = sym (append-nil H) }) (let own : ℕ = own_writes e.reply in omega arith)
+      let notes : w ≡ record (answered v c) { notes = w.notes } =
+      is ∙ ap (λ n. record (answered v c) { notes = n }) (sym (ap (λ (u : View). u.notes) is)) in
+      is_left noted H (record { rest = []; whole = sym (append-nil H) }) (let own : ℕ = own_writes e.reply in omega arith)
       (notes ∙ (ap (λ (n : ℕ). At n v.known.writes v.holds) stamp
       ∙ (ap (λ (ws : List (List Write)). At (length H) ws v.holds) kept
       ∙ ap (λ (h : Holdings). At (length H) (set v.known.writes b H) h) has.held)))
+
+  pub answered_from_lock : w ≡ answered v (call_of v b 0 e.key e.found e.change e.reply) → IsAnswered z v w e
+  answered_from_lock = answered_noting v.notes.left
 
   -- the call was a write: it is known, and stands last
   pub written_from_lock : is_changed e.reply ≡ true → w ≡ record (written v (call_of v b 1 e.key e.found e.change e.reply)) { holds = nothing_held; notes = w.notes }
@@ -72,6 +80,6 @@ module _ (z : Sizes) (v w : View) (b word : ℕ) (l : LockedBucket) (e : Event) 
       let H : List Write = known_at v.known b in
       let x : Write = write_of (acting v.records) (call_of v b 1 e.key e.found e.change e.reply) in
       let stamp : length H + 1 ≡ length (H ++ x ∷ []) = sym (length-append H (x ∷ [])) in
-      is_left (H ++ x ∷ []) (record { rest = x ∷ []; whole = refl })
+      is_left v.notes.left (H ++ x ∷ []) (record { rest = x ∷ []; whole = refl })
       (rw changes (let long = length-append H (x ∷ []) in omega arith))
-      (is ∙ ap (λ (n : ℕ). Left b n (H ++ x ∷ []) v.records) stamp)
+      (is ∙ ap (λ (n : ℕ). Left v.notes.left b n (H ++ x ∷ []) v.records) stamp)

@@ -10,7 +10,8 @@ use Rattle.bihash_steps.specs.Seats.{CallerState, with_view}
 use Rattle.bihash_steps.specs.declared.view.Holdings.{Holdings}
 use Rattle.bihash_steps.specs.declared.view.LockedBucket.{LockedBucket}
 use Rattle.bihash_steps.specs.declared.view.View.{View}
-use Rattle.bihash_table.specs.Answers.{IsAnswered, search_of}
+use Rattle.bihash_table.specs.Answers.{search_of}
+use Rattle.bihash_table.specs.Promise.{IsAnswered}
 use Rattle.bihash_table.specs.Locked.{HasLock, IsLocked}
 use Rattle.bihash_table.proofs.Composed.{locked_answered}
 use Rattle.bihash_table.proofs.Released.{answered_from_lock}
@@ -38,6 +39,7 @@ module _ (z : Sizes) (v : View) (x y : CallerState) (b word : ℕ) (s : IsLocked
         reads = refl;
         answers = (map_now x.view b, record { found = is; answers = (refl, refl) });
         short = λ log2 left e. absurd cc;
+        store = refl;
       })
 
   pub searched : (w : CallerState) → bucket_of z key ≡ b

@@ -1,10 +1,13 @@
 -- What a bucket's word tells of its block, and what the caller holds of the page store while it gives a
 -- bucket another block.
-use Rattle.std.proofs.Common.{◌≡◌, ◌≢◌, ◌∙◌, ◌≤◌, ◌*◌, ◌^◌, ℕ, zero, suc, List, [], ◌∷◌, Bool, true, false, Option, Some, None, ap, append-nil, arith, le_refl, length, refl, subst, sym}
+use Rattle.std.proofs.Common.{◌≡◌, ◌≢◌, ◌∙◌, ◌≤◌, ◌+◌, ◌*◌, ◌^◌, ℕ, zero, suc, List, [], ◌∷◌, ◌++◌, Bool, true, false, Option, Some, None, ap, append-nil, arith, le_refl, length, refl, subst, sym}
 use Rattle.std.proofs.lemmas.List.{set-get_or}
+use Rattle.std.specs.List.{last_or}
 use Rattle.bihash_words.specs.Maps.{Event}
 use Rattle.bihash_words.specs.Sizes.{Sizes}
 use Rattle.bihash_words.specs.Words.{Bucket, Fits, packed}
+use Rattle.bihash_words.specs.declared.patch.Change.{Change}
+use Rattle.bihash_words.specs.declared.patch.Reply.TheVariants.{NoPages}
 use Rattle.bihash_steps.specs.Words.{block_words, page_words}
 use Rattle.bihash_steps.specs.Histories.{bucket_of, is_changed}
 use Rattle.bihash_steps.specs.Callers.{IsLawfulCaller, known_at}
@@ -13,7 +16,7 @@ use Rattle.bihash_steps.specs.Buckets.{word_of}
 use Rattle.bihash_steps.specs.PageStores.{returned_in}
 use Rattle.bihash_steps.specs.Views.{no_notes, nothing_held}
 use Rattle.bihash_steps.specs.Seats.{CallerState, with_view}
-use Rattle.bihash_steps.specs.BucketSteps.{answered, call_of, called, unlocked, unnoted}
+use Rattle.bihash_steps.specs.BucketSteps.{answered, call_of, called, last_call, push_call, unlocked, unnoted}
 use Rattle.bihash_steps.specs.StoreSteps.{LocksStore, TakesBlock, freed, grown, holding, old_block, relisted, replaced, store_opened, unlisted}
 use Rattle.bihash_steps.specs.declared.view.Call.{Call}
 use Rattle.bihash_steps.specs.declared.view.Extent.{Extent}
@@ -22,13 +25,17 @@ use Rattle.bihash_steps.specs.declared.view.LockedBucket.{LockedBucket}
 use Rattle.bihash_steps.specs.declared.view.HeldBlock.{HeldBlock}
 use Rattle.bihash_steps.specs.declared.view.LockedStore.{LockedStore}
 use Rattle.bihash_steps.specs.declared.view.PageStore.{PageStore}
+use Rattle.bihash_steps.specs.declared.view.Record.{Record}
 use Rattle.bihash_steps.specs.declared.view.View.{View}
-use Rattle.bihash_table.specs.Answers.{IsAnswered, IsTurnedAway, locks_of}
+use Rattle.bihash_table.specs.Answers.{locks_of}
+use Rattle.bihash_table.specs.Promise.{IsAnswered, IsTurnedAway}
 use Rattle.bihash_table.specs.Copying.{GivenBack, HasBlock, HasStore, HoldsOld, MayGiveBack, Released, TakesPages}
 use Rattle.bihash_table.specs.Locked.{HasLock}
 use Rattle.bihash_table.specs.Scans.{IsWordOf}
+use Rattle.bihash_table.specs.Shortage.{Bears}
 use Rattle.bihash_table.proofs.Entering.{looked_at}
-use Rattle.bihash_table.proofs.Released.{answered_from_lock, with_locks-locks_of, written_from_lock}
+use Rattle.bihash_table.proofs.Promised.{turned_away_by}
+use Rattle.bihash_table.proofs.Released.{answered_noting, with_locks-locks_of, written_from_lock}
 
 -- ---- The word of a bucket
 
@@ -194,7 +201,7 @@ pub turned_away : (z : Sizes) (v u w : View) (b word : ℕ) (l : LockedBucket)
     → HasLock z v b word l → u ≡ unnoted v → w ≡ unlocked u → IsTurnedAway z v w b
 turned_away z v u w b word l lock not opened =
     let is : w ≡ unlocked (unnoted v) = opened ∙ ap unlocked not in
-    let notes = ap (λ (x : View). x.notes) (sym is) in record {
+    let notes = ap (λ (x : View). x.notes) (sym is) in turned_away_by z v w b record {
       history = known_at v.known b;
       begins = record { rest = []; whole = sym (append-nil (known_at v.known b)) };
       locks = locks_of v.records;
@@ -210,10 +217,29 @@ turned_away z v u w b word l lock not opened =
 -- the allocation lock was taken and opened, and then the call was answered
 pub left_answered : (z : Sizes) (v w : View) (b word : ℕ) (l : LockedBucket) (store : PageStore) (e : Event)
     → HasLock z v b word l → bucket_of z e.key ≡ b
-    → w ≡ answered (looked_at v store) (call_of v b 0 e.key e.found e.change e.reply)
+    → w ≡ answered (looked_at v store) (call_of (looked_at v store) b 0 e.key e.found e.change e.reply)
     → IsAnswered z v w e
-left_answered z v w b word l store e lock home is = answered_from_lock z v w b word l e lock home
-    (is ∙ (λ i. record (called v (call_of v b 0 e.key e.found e.change e.reply)) {
+left_answered z v w b word l store e lock home is = answered_noting z v w b word l e lock home (Some store)
+    (is ∙ (λ i. record (called v (call_of (looked_at v store) b 0 e.key e.found e.change e.reply)) {
       holds = record { bucket = None; store = (ap (λ (h : Holdings). h.store) (sym lock.held)) i; block = v.holds.block };
       notes = no_notes;
     }))
+
+last_of : (calls : List Call) (c : Call) (o : Option Call) → last_or o (calls ++ c ∷ []) ≡ Some c
+last_of [] c o = refl
+last_of (x ∷ xs) c o = last_of xs c (Some x)
+
+last_pushed : (c d : Call) (rs : List Record) → last_call (push_call c rs) ≡ Some d → c ≡ d
+last_pushed c d [] is = cc
+last_pushed c d (r ∷ rs) is = let same : Some c ≡ Some d = sym (last_of r.calls c None) ∙ is in cc
+
+-- the entry of a refusal comes behind all known writes, and bears what was noted
+pub bears_noted : (v w : View) (b : ℕ) (store : PageStore) (key : List ℕ) (found : Option ℕ) (change : Change) (log2 left : ℕ)
+    → w ≡ answered (looked_at v store) (call_of (looked_at v store) b 0 key found change (NoPages log2 left)) → Bears w b store
+bears_noted v w b store key found change log2 left is c last =
+    let entry : Call = call_of (looked_at v store) b 0 key found change (NoPages log2 left) in
+    let same : entry ≡ c = last_pushed entry c v.records (ap (λ (u : View). last_call u.records) (sym is) ∙ last) in
+    let stamp : entry.stamp ≡ length (known_at w.known b) =
+    (let n : ℕ = length (known_at v.known b) in let plus : n + 0 ≡ n = omega arith in plus)
+    ∙ ap (λ (u : View). length (known_at u.known b)) (sym is) in
+    (ap (λ (d : Call). d.stamp) (sym same) ∙ stamp, ap (λ (d : Call). d.store) (sym same))

@@ -11,7 +11,8 @@ use Rattle.bihash_steps.specs.Blocks.{value_in}
 use Rattle.bihash_steps.specs.BucketSteps.{map_now}
 use Rattle.bihash_steps.specs.declared.view.LockedBucket.{LockedBucket}
 use Rattle.bihash_steps.specs.declared.view.View.{View}
-use Rattle.bihash_table.specs.Answers.{IsAnswered, IsTurnedAway, IsUpdated, update_of}
+use Rattle.bihash_table.specs.Answers.{update_of}
+use Rattle.bihash_table.specs.Promise.{IsAnswered, IsTurnedAway, IsUpdated}
 use Rattle.bihash_table.specs.Locked.{HasLock, IsLocked}
 use Rattle.bihash_table.specs.Places.{HasPairOf}
 use Rattle.bihash_table.specs.declared.contended.Contended.{Contended}

@@ -5,6 +5,7 @@ pub mod Locked
 pub mod OpenReads
 pub mod PairLists
 pub mod Places
+pub mod Promise
 pub mod Scans
 pub mod Shortage
 pub mod Stores

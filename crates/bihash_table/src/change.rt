@@ -13,7 +13,7 @@ ghost use Rattle.bihash_steps.specs.Callers.{IsLawfulCaller, known_at};
 ghost use Rattle.bihash_steps.specs.BucketSteps.{map_now, relocked, stored_in};
 ghost use Rattle.bihash_steps.specs.declared.view.LockedBucket.{LockedBucket};
 ghost use Rattle.bihash_steps.specs.Seats.{with_view};
-ghost use Rattle.bihash_table.specs.Answers.{IsAnswered, IsTurnedAway};
+ghost use Rattle.bihash_table.specs.Promise.{IsAnswered, IsTurnedAway};
 ghost use Rattle.bihash_table.specs.Locked.{HasLock};
 ghost use Rattle.bihash_table.specs.Places.{HasPairOf, IsFreeFor};
 ghost use Rattle.bihash_table.specs.Stores.{HasOtherPair, HasStored, HoldsPlace};

@@ -15,12 +15,12 @@ ghost use Rattle.bihash_steps.specs.declared.view.LockedBucket.{LockedBucket};
 ghost use Rattle.bihash_steps.specs.declared.view.LockedStore.{LockedStore};
 ghost use Rattle.bihash_steps.specs.declared.view.PageStore.{PageStore};
 ghost use Rattle.bihash_steps.specs.Seats.{with_view};
-ghost use Rattle.bihash_table.specs.Answers.{IsAnswered, IsTurnedAway};
+ghost use Rattle.bihash_table.specs.Promise.{IsAnswered, IsTurnedAway};
 ghost use Rattle.bihash_table.specs.Copying.{GivenBack, HoldsOld, IsWanting, Released};
 ghost use Rattle.bihash_table.specs.Locked.{HasLock};
 ghost use Rattle.bihash_table.specs.Places.{ArePlaces, HasPairOf, IsCrowdedFor};
 ghost use Rattle.bihash_table.specs.Scans.{IsWordOf};
-ghost use Rattle.bihash_table.specs.Shortage.{IsShortage};
+ghost use Rattle.bihash_table.specs.Shortage.{Bears, IsShortage};
 
 use crate::block::{read_block, write_block};
 use crate::contended::Contended;
@@ -51,7 +51,7 @@ pub(crate) fn enter_larger<S: Shape>(
     ensures answered { IfOk result (λ reply. IsAnswered (sizes_of S.Shape) caller.old.seat.view caller.new.seat.view
         (record { key = S.words_of key.now; found = None; change = Set value; reply = reply })) }
     ensures no_pages { IfOk result (λ reply. (log2 left : ℕ) → reply ≡ NoPages log2 left
-        → IsShortage ⟦<S as Shape>⟧ (map_now caller.new.seat.view bucket) key.now log2 left) }
+        → IsShortage ⟦<S as Shape>⟧ caller.new.seat.view bucket key.now log2 left) }
     ensures contended { IfErr result (λ _. IsTurnedAway (sizes_of S.Shape) caller.old.seat.view caller.new.seat.view bucket) }
     ensures lone { caller.old.seat.view.lone ≡ true → is_ok result ≡ true }
     ensures lawful { IsLawfulCaller (sizes_of S.Shape) caller.new.seat.view }
@@ -94,7 +94,7 @@ fn enter_as_planned<S: Shape>(
     ensures answered { IfOk result (λ reply. IsAnswered (sizes_of S.Shape) seat.old.view seat.new.view
         (record { key = S.words_of key.now; found = None; change = Set value; reply = reply })) }
     ensures no_pages { IfOk result (λ reply. (log2 left : ℕ) → reply ≡ NoPages log2 left
-        → IsShortage ⟦<S as Shape>⟧ (map_now seat.new.view bucket) key.now log2 left) }
+        → IsShortage ⟦<S as Shape>⟧ seat.new.view bucket key.now log2 left) }
     ensures contended { IfErr result (λ _. IsTurnedAway (sizes_of S.Shape) seat.old.view seat.new.view bucket) }
     ensures lone { seat.old.view.lone ≡ true → is_ok result ≡ true }
     ensures lawful { IsLawfulCaller (sizes_of S.Shape) seat.new.view }
@@ -164,7 +164,7 @@ fn enter<S: Shape>(
         (record { key = S.words_of key.now; found = None; change = Set value; reply = reply })) }
     ensures no_pages { IfOk result (λ reply. (wanted left : ℕ) → reply ≡ NoPages wanted left → (wanted ≡ log2)
         × (map_now seat.new.view bucket ≡ map_now seat.old.view bucket)
-        × ((store : PageStore) × IsWanting (sizes_of S.Shape) store log2 left)) }
+        × ((store : PageStore) × IsWanting (sizes_of S.Shape) store log2 left × Bears seat.new.view bucket store)) }
     ensures contended { IfErr result (λ _. IsTurnedAway (sizes_of S.Shape) seat.old.view seat.new.view bucket) }
     ensures lone { seat.old.view.lone ≡ true → is_ok result ≡ true }
     ensures lawful { IsLawfulCaller (sizes_of S.Shape) seat.new.view }

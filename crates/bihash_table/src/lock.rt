@@ -6,7 +6,7 @@ ghost use Rattle.bihash_steps.specs.Histories.{bucket_of};
 ghost use Rattle.bihash_steps.specs.Callers.{IsLawfulCaller, known_at};
 ghost use Rattle.bihash_steps.specs.Views.{nothing_held};
 ghost use Rattle.bihash_steps.specs.Seats.{with_view};
-ghost use Rattle.bihash_table.specs.Answers.{IsTurnedAway};
+ghost use Rattle.bihash_table.specs.Promise.{IsTurnedAway};
 ghost use Rattle.bihash_table.specs.Locked.{IsLocked};
 ghost use Rattle.bihash_table.specs.OpenReads.{HasOpen, IsOpened};
 ghost use Rattle.bihash_steps.specs.Buckets.{Reads};

@@ -5,7 +5,8 @@ ghost use Rattle.bihash_steps.specs.Histories.{bucket_of};
 ghost use Rattle.bihash_steps.specs.Callers.{IsLawfulCaller};
 ghost use Rattle.bihash_steps.specs.Views.{nothing_held};
 ghost use Rattle.bihash_steps.specs.Seats.{with_view};
-ghost use Rattle.bihash_table.specs.Answers.{IsAnswered, IsTurnedAway, locks_of, search_of};
+ghost use Rattle.bihash_table.specs.Answers.{locks_of, search_of};
+ghost use Rattle.bihash_table.specs.Promise.{IsAnswered, IsTurnedAway};
 
 use crate::contended::Contended;
 use crate::lock::{bucket_of_hash, look};

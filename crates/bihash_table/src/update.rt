@@ -14,7 +14,7 @@ ghost use Rattle.bihash_steps.specs.Views.{nothing_held};
 ghost use Rattle.bihash_steps.specs.BucketSteps.{map_now};
 ghost use Rattle.bihash_steps.specs.Seats.{with_view};
 ghost use Rattle.bihash_steps.specs.declared.view.LockedBucket.{LockedBucket};
-ghost use Rattle.bihash_table.specs.Answers.{IsAnswered, IsUpdated, IsTurnedAway};
+ghost use Rattle.bihash_table.specs.Promise.{IsAnswered, IsUpdated, IsTurnedAway};
 ghost use Rattle.bihash_table.specs.Locked.{HasLock};
 ghost use Rattle.bihash_table.specs.Places.{HasPairOf};
 ghost use Rattle.bihash_table.specs.Shortage.{IsShortage};
@@ -44,7 +44,7 @@ impl<S: Shape> Sessions<S> {
         ensures answered { IfOk result (IsUpdated (sizes_of S.Shape) caller.old.seat.view caller.new.seat.view
             (S.words_of key.now) (P.decision patch.now)) }
         ensures no_pages { IfOk result (λ reply. (log2 left : ℕ) → reply ≡ NoPages log2 left
-            → IsShortage ⟦<S as Shape>⟧ (map_now caller.new.seat.view (bucket_of (sizes_of S.Shape) (S.words_of key.now)))
+            → IsShortage ⟦<S as Shape>⟧ caller.new.seat.view (bucket_of (sizes_of S.Shape) (S.words_of key.now))
             key.now log2 left) }
         ensures contended { IfErr result (λ _. IsTurnedAway (sizes_of S.Shape) caller.old.seat.view caller.new.seat.view
             (bucket_of (sizes_of S.Shape) (S.words_of key.now))) }
@@ -166,7 +166,7 @@ fn change_absent<S: Shape>(
     ensures answered { IfOk result (λ reply. IsAnswered (sizes_of S.Shape) caller.old.seat.view caller.new.seat.view
         (record { key = S.words_of key.now; found = None; change = change; reply = reply })) }
     ensures no_pages { IfOk result (λ reply. (log2 left : ℕ) → reply ≡ NoPages log2 left
-        → IsShortage ⟦<S as Shape>⟧ (map_now caller.new.seat.view bucket) key.now log2 left) }
+        → IsShortage ⟦<S as Shape>⟧ caller.new.seat.view bucket key.now log2 left) }
     ensures contended { IfErr result (λ _. IsTurnedAway (sizes_of S.Shape) caller.old.seat.view caller.new.seat.view bucket) }
     ensures lone { caller.old.seat.view.lone ≡ true → is_ok result ≡ true }
     ensures lawful { IsLawfulCaller (sizes_of S.Shape) caller.new.seat.view }

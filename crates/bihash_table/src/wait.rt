@@ -7,9 +7,8 @@ ghost use Rattle.bihash_words.specs.declared.patch.Reply.TheVariants.{NoPages};
 ghost use Rattle.bihash_steps.specs.Histories.{bucket_of};
 ghost use Rattle.bihash_steps.specs.Callers.{IsLawfulCaller};
 ghost use Rattle.bihash_steps.specs.Views.{nothing_held};
-ghost use Rattle.bihash_steps.specs.BucketSteps.{map_now};
 ghost use Rattle.bihash_steps.specs.Seats.{with_view};
-ghost use Rattle.bihash_table.specs.Answers.{IsUpdated};
+ghost use Rattle.bihash_table.specs.Promise.{IsUpdated};
 ghost use Rattle.bihash_table.specs.Shortage.{IsShortage};
 
 use crate::sessions::Sessions;
@@ -34,7 +33,7 @@ impl<S: Shape> Sessions<S> {
         ensures answered { IsUpdated (sizes_of S.Shape) caller.old.seat.view caller.new.seat.view
             (S.words_of key.now) (P.decision patch.now) result }
         ensures no_pages { (log2 left : ℕ) → result ≡ NoPages log2 left
-            → IsShortage ⟦<S as Shape>⟧ (map_now caller.new.seat.view (bucket_of (sizes_of S.Shape) (S.words_of key.now)))
+            → IsShortage ⟦<S as Shape>⟧ caller.new.seat.view (bucket_of (sizes_of S.Shape) (S.words_of key.now))
             key.now log2 left }
         ensures lawful { IsLawfulCaller (sizes_of S.Shape) caller.new.seat.view }
     {
@@ -57,7 +56,7 @@ impl<S: Shape> Sessions<S> {
         ensures answered { IsUpdated (sizes_of S.Shape) caller.old.seat.view caller.new.seat.view
             (S.words_of key.now) (λ _. Set value) result }
         ensures no_pages { (log2 left : ℕ) → result ≡ NoPages log2 left
-            → IsShortage ⟦<S as Shape>⟧ (map_now caller.new.seat.view (bucket_of (sizes_of S.Shape) (S.words_of key.now)))
+            → IsShortage ⟦<S as Shape>⟧ caller.new.seat.view (bucket_of (sizes_of S.Shape) (S.words_of key.now))
             key.now log2 left }
         ensures lawful { IsLawfulCaller (sizes_of S.Shape) caller.new.seat.view }
     {
@@ -79,7 +78,7 @@ impl<S: Shape> Sessions<S> {
         ensures answered { IsUpdated (sizes_of S.Shape) caller.old.seat.view caller.new.seat.view
             (S.words_of key.now) (set_if_absent value) result }
         ensures no_pages { (log2 left : ℕ) → result ≡ NoPages log2 left
-            → IsShortage ⟦<S as Shape>⟧ (map_now caller.new.seat.view (bucket_of (sizes_of S.Shape) (S.words_of key.now)))
+            → IsShortage ⟦<S as Shape>⟧ caller.new.seat.view (bucket_of (sizes_of S.Shape) (S.words_of key.now))
             key.now log2 left }
         ensures lawful { IsLawfulCaller (sizes_of S.Shape) caller.new.seat.view }
     {
@@ -95,7 +94,7 @@ impl<S: Shape> Sessions<S> {
         ensures answered { IsUpdated (sizes_of S.Shape) caller.old.seat.view caller.new.seat.view
             (S.words_of key.now) (set_if_present value) result }
         ensures no_pages { (log2 left : ℕ) → result ≡ NoPages log2 left
-            → IsShortage ⟦<S as Shape>⟧ (map_now caller.new.seat.view (bucket_of (sizes_of S.Shape) (S.words_of key.now)))
+            → IsShortage ⟦<S as Shape>⟧ caller.new.seat.view (bucket_of (sizes_of S.Shape) (S.words_of key.now))
             key.now log2 left }
         ensures lawful { IsLawfulCaller (sizes_of S.Shape) caller.new.seat.view }
     {
@@ -110,7 +109,7 @@ impl<S: Shape> Sessions<S> {
         ensures answered { IsUpdated (sizes_of S.Shape) caller.old.seat.view caller.new.seat.view
             (S.words_of key.now) (λ _. Remove) result }
         ensures no_pages { (log2 left : ℕ) → result ≡ NoPages log2 left
-            → IsShortage ⟦<S as Shape>⟧ (map_now caller.new.seat.view (bucket_of (sizes_of S.Shape) (S.words_of key.now)))
+            → IsShortage ⟦<S as Shape>⟧ caller.new.seat.view (bucket_of (sizes_of S.Shape) (S.words_of key.now))
             key.now log2 left }
         ensures lawful { IsLawfulCaller (sizes_of S.Shape) caller.new.seat.view }
     {

@@ -10,7 +10,7 @@ use Rattle.bihash_table.specs.Copying.{IsWanting}
 use Rattle.bihash_table.proofs.Entering.{looked_at}
 use Rattle.bihash_table.proofs.OpenPlaces.{word_tells}
 use Rattle.bihash_table.proofs.Replacing.{block_held, block_of, is_ready, locked_on, looked, may_enter, may_refuse, published, ready_same, same_through, seen_same, store_held, was_answered}
-use Rattle.bihash_table.proofs.Stores.{holds_old, left_answered, left_written, some_places, still_lawful, turned_away}
+use Rattle.bihash_table.proofs.Stores.{bears_noted, holds_old, left_answered, left_written, some_places, still_lawful, turned_away}
 use Rattle.bihash_table.proofs.grow.enter.Goals as goal
 
 pub returns-then-not-pool_lock-clause-contended : goal.returns-then-not-pool_lock-clause-contended
@@ -165,18 +165,21 @@ returns-in-Err-clause-no_pages g c = λ wanted left e.
     let locks = c.pool_lock.ensures.taken c.if-not-pool_lock.false in
     let store = store_held g.S.Shape c.args.seat.now c.pool_lock.new.caller c.pool_lock.ensures.same locks
     (ap (λ (h : Holdings). h.block) c.requires.lock.1.held) 0 c.args.log2 in
+    let key = g.S.Shape.words_of c.args.key.now in
+    let refused = was_answered c.pool_unlock.new.caller c.cancel.new.caller c.args.bucket key None
+    (Set c.args.value) (NoPages c.args.log2 c.in-Err.left) (looked_at c.args.seat.now.view locks.store)
+    (looked z c.args.seat.now c.pool_lock.new.caller c.take_block.new.seat c.pool_unlock.new.caller
+    c.pool_lock.ensures.same locks c.in-Err.ensures.refused.0 c.pool_unlock.ensures) c.cancel.ensures.view in
     let same : wanted ≡ c.args.log2 = cc in
     let few : c.in-Err.left ≡ left = cc in (
       same,
-      ap (λ (x : View). map_now x c.args.bucket)
-          (was_answered c.pool_unlock.new.caller c.cancel.new.caller c.args.bucket (g.S.Shape.words_of c.args.key.now) None
-          (Set c.args.value) (NoPages c.args.log2 c.in-Err.left) (looked_at c.args.seat.now.view locks.store)
-          (looked z c.args.seat.now c.pool_lock.new.caller c.take_block.new.seat c.pool_unlock.new.caller
-          c.pool_lock.ensures.same locks c.in-Err.ensures.refused.0 c.pool_unlock.ensures) c.cancel.ensures.view),
+      ap (λ (x : View). map_now x c.args.bucket) refused,
       (
         locks.store,
         subst (λ n. IsWanting z locks.store c.args.log2 n) few
             (c.in-Err.ensures.refused.1 (locked_on locks.store) store),
+        bears_noted c.args.seat.now.view c.cancel.new.caller.view c.args.bucket locks.store key None (Set c.args.value) c.args.log2
+            c.in-Err.left refused,
       ),
     )
 

@@ -1,6 +1,6 @@
 use Rattle.std.proofs.Common.{◌≤◌, ◌<◌, ◌∙◌, ◌^◌, None, Result, Ok, Err, IfOk, ap, arith, length, length-take, pow_mono, refl, subst, sym}
 use Rattle.std.specs.FinMap.{insert, len}
-use Rattle.bihash_words.specs.Maps.{Pairs, most_pairs}
+use Rattle.bihash_words.specs.Maps.{most_pairs}
 use Rattle.bihash_words.specs.Sizes.{sizes_of}
 use Rattle.bihash_words.specs.declared.patch.Change.TheVariants.{Set}
 use Rattle.bihash_words.specs.declared.patch.Reply.TheVariants.{Full}
@@ -200,9 +200,8 @@ returns-clause-no_pages g c =
     (Grow c.in-Grow.log2 c.in-Grow.linear) log2_at linear_at c.in-Grow.ensures.exact in
     weaker c.enter.result (λ reply told_of wanted left e.
     let w = told_of wanted left e in
-    subst (λ n. IsShortage g.S.Shape (map_now c.enter.new.seat.view b) c.args.key.now n left) (sym w.0)
-    (subst (λ (x : Pairs). IsShortage g.S.Shape x c.args.key.now c.in-Grow.log2 left)
-    (sym (w.1 ∙ ap (λ (s : CallerState). map_now s.view b) c.read_block.ensures.same))
+    subst (λ n. IsShortage g.S.Shape c.enter.new.seat.view b c.args.key.now n left) (sym w.0)
     (is_shortage g.S.Shape keys v b c.args.word l c.args.key.now lock c.requires.lock.2 c.requires.new ps are
-    c.in-Grow.log2 left c.in-Grow.linear w.2.0 plan w.2.1)))
+    c.enter.new.seat.view (w.1 ∙ ap (λ (s : CallerState). map_now s.view b) c.read_block.ensures.same)
+    c.in-Grow.log2 left c.in-Grow.linear w.2.0 plan w.2.1 w.2.2))
     c.enter.ensures.no_pages

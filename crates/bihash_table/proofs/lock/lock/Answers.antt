@@ -2,7 +2,7 @@ use Rattle.std.proofs.Common.{true≢false, length, refl, sym, ap, ◌∙◌, su
 use Rattle.bihash_steps.specs.BucketSteps.{open_on}
 use Rattle.bihash_steps.specs.Seats.{CallerState}
 use Rattle.bihash_steps.specs.declared.view.Holdings.{Holdings}
-use Rattle.bihash_table.specs.Answers.{IsTurnedAway}
+use Rattle.bihash_table.specs.Promise.{IsTurnedAway}
 use Rattle.bihash_table.proofs.Composed.{open_unlocked, open_lone, open_noted, sees_open, sees_locked, open_not_locked, locked_turns_away, open_turns_away, takes_after}
 use Rattle.bihash_words.specs.Sizes.{sizes_of}
 use Rattle.bihash_table.proofs.lock.lock.Goals as goal

@@ -4,9 +4,8 @@ use Rattle.bihash_words.specs.Sizes.{sizes_of}
 use Rattle.bihash_words.specs.declared.patch.Reply.TheVariants.{Kept, NoPages}
 use Rattle.bihash_words.specs.declared.patch.Change.{Change}
 use Rattle.bihash_steps.specs.Histories.{bounds_of, bucket_of}
-use Rattle.bihash_steps.specs.BucketSteps.{map_now}
 use Rattle.bihash_steps.specs.Seats.{CallerState}
-use Rattle.bihash_table.specs.Answers.{IsAnswered}
+use Rattle.bihash_table.specs.Promise.{IsAnswered}
 use Rattle.std.specs.FinMap.{get}
 use Rattle.bihash_table.specs.Locked.{HasLock}
 use Rattle.bihash_table.specs.Shortage.{IsShortage}
@@ -125,7 +124,7 @@ returns-in-None-clause-contended g c =
 pub returns-in-Some-find_pair-clause-no_pages : goal.returns-in-Some-find_pair-clause-no_pages
 returns-in-Some-find_pair-clause-no_pages g c =
     let home = bucket_of (sizes_of g.S.Shape) (g.S.Shape.words_of c.args.key.now) in
-    not_refused (IsShortage g.S.Shape (map_now c.change_pair.new.caller.view home) c.args.key.now)
+    not_refused (IsShortage g.S.Shape c.change_pair.new.caller.view home c.args.key.now)
     c.change_pair.result c.change_pair.ensures.paged
 
 pub returns-in-None-clause-no_pages : goal.returns-in-None-clause-no_pages
@@ -134,5 +133,5 @@ returns-in-None-clause-no_pages g c =
     let key = g.S.Shape.words_of c.args.key.now in
     let home = home_of z key _ _ c.bucket_of_hash-bucket.ensures.home c.hash-hash.ensures.hash in
     subst (λ (b : ℕ). IfOk c.change_absent.result (λ reply. (log2 left : ℕ) → reply ≡ NoPages log2 left
-    → IsShortage g.S.Shape (map_now c.change_absent.new.caller.seat.view b) c.args.key.now log2 left))
+    → IsShortage g.S.Shape c.change_absent.new.caller.seat.view b c.args.key.now log2 left))
     (sym home) c.change_absent.ensures.no_pages

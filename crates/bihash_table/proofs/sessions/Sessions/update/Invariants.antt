@@ -2,7 +2,7 @@ use Rattle.std.proofs.Common.{◌≡◌}
 use Rattle.bihash_words.specs.Sizes.{sizes_of}
 use Rattle.bihash_steps.specs.Histories.{bucket_of}
 use Rattle.bihash_steps.specs.Seats.{with_view}
-use Rattle.bihash_table.specs.Answers.{IsTurnedAway}
+use Rattle.bihash_table.specs.Promise.{IsTurnedAway}
 use Rattle.bihash_table.proofs.sessions.Sessions.update.Given as goal
 
 -- each try so far met another caller's lock

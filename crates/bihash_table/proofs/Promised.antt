@@ -1,0 +1,100 @@
+-- What a call leaves of its caller as one equation of views, and field by field.
+use Rattle.std.proofs.Common.{◌≡◌, ◌≤◌, ℕ, ◌+◌, true, List, length, Option, ap}
+use Rattle.bihash_words.specs.Maps.{Event}
+use Rattle.bihash_words.specs.Sizes.{Sizes}
+use Rattle.bihash_steps.specs.Histories.{IsPrefix, bucket_of}
+use Rattle.bihash_steps.specs.Callers.{known_at}
+use Rattle.bihash_steps.specs.Views.{nothing_held}
+use Rattle.bihash_steps.specs.BucketSteps.{learned, push_call}
+use Rattle.bihash_steps.specs.declared.view.Write.{Write}
+use Rattle.bihash_steps.specs.declared.view.PageStore.{PageStore}
+use Rattle.bihash_steps.specs.declared.view.View.{View}
+use Rattle.bihash_table.specs.Answers.{entry_of, own_writes, with_locks}
+use Rattle.bihash_table.specs.Promise.{IsAnswered, IsTurnedAway}
+
+-- the call was answered, as one equation
+pub record LeavesEntry (z : Sizes) (v w : View) (e : Event) : Type 0 where
+  pub history : List Write
+  pub begins : IsPrefix (known_at v.known (bucket_of z e.key)) history
+  pub locks : ℕ
+  pub noted : Option PageStore
+  pub is : w ≡ record (learned v (bucket_of z e.key) history) {
+    records = push_call (entry_of z (length history) e noted) (with_locks locks v.records);
+    holds = nothing_held;
+    notes = w.notes;
+  }
+  pub alone : v.lone ≡ true → length history
+      ≤ length (known_at v.known (bucket_of z e.key)) + own_writes e.reply
+
+-- the call met another caller's lock, as one equation
+pub record LeavesNone (z : Sizes) (v w : View) (b : ℕ) : Type 0 where
+  pub history : List Write
+  pub begins : IsPrefix (known_at v.known b) history
+  pub locks : ℕ
+  pub is : w ≡ record (learned v b history) {
+    records = with_locks locks v.records;
+    holds = nothing_held;
+    notes = w.notes;
+  }
+  pub alone : v.lone ≡ true → length history ≤ length (known_at v.known b)
+
+module _ (z : Sizes) (v w : View) where
+  pub answered_by : (e : Event) → LeavesEntry z v w e → IsAnswered z v w e
+  answered_by e a = record {
+    history = a.history;
+    begins = a.begins;
+    known = ap (λ (u : View). u.known) a.is;
+    locks = a.locks;
+    noted = a.noted;
+    records = ap (λ (u : View). u.records) a.is;
+    seen = ap (λ (u : View). u.seen) a.is;
+    lone = ap (λ (u : View). u.lone) a.is;
+    free = ap (λ (u : View). u.holds) a.is;
+    alone = a.alone;
+  }
+
+  pub answered_as : (e : Event) → IsAnswered z v w e → LeavesEntry z v w e
+  answered_as e a = record {
+    history = a.history;
+    begins = a.begins;
+    locks = a.locks;
+    noted = a.noted;
+    is = λ i. record {
+      records = a.records i;
+      known = a.known i;
+      seen = a.seen i;
+      lone = a.lone i;
+      holds = a.free i;
+      notes = w.notes;
+    };
+    alone = a.alone;
+  }
+
+  pub turned_away_by : (b : ℕ) → LeavesNone z v w b → IsTurnedAway z v w b
+  turned_away_by b a = record {
+    history = a.history;
+    begins = a.begins;
+    known = ap (λ (u : View). u.known) a.is;
+    locks = a.locks;
+    records = ap (λ (u : View). u.records) a.is;
+    seen = ap (λ (u : View). u.seen) a.is;
+    lone = ap (λ (u : View). u.lone) a.is;
+    free = ap (λ (u : View). u.holds) a.is;
+    alone = a.alone;
+  }
+
+  pub turned_away_as : (b : ℕ) → IsTurnedAway z v w b → LeavesNone z v w b
+  turned_away_as b a = record {
+    history = a.history;
+    begins = a.begins;
+    locks = a.locks;
+    is = λ i. record {
+      records = a.records i;
+      known = a.known i;
+      seen = a.seen i;
+      lone = a.lone i;
+      holds = a.free i;
+      notes = w.notes;
+    };
+    alone = a.alone;
+  }

@@ -1,0 +1,51 @@
+-- What a call of a shared table leaves of its caller: v is what the caller knew before the call, w what it
+-- knows behind it. Each line is a fact about one field; docs/DEFINITIONS.md explains the words.
+use Rattle.std.specs.Prelude.{◌≡◌, ◌≤◌, ℕ, ◌+◌, true, List, length, Option}
+use Rattle.bihash_words.specs.Maps.{Event}
+use Rattle.bihash_words.specs.Sizes.{Sizes}
+use Rattle.bihash_words.specs.declared.patch.Change.{Change}
+use Rattle.bihash_words.specs.declared.patch.Reply.{Reply}
+use Rattle.bihash_steps.specs.Histories.{IsPrefix, bucket_of}
+use Rattle.bihash_steps.specs.Callers.{known_at}
+use Rattle.bihash_steps.specs.Views.{nothing_held}
+use Rattle.bihash_steps.specs.BucketSteps.{learned, push_call}
+use Rattle.bihash_steps.specs.declared.view.Write.{Write}
+use Rattle.bihash_steps.specs.declared.view.PageStore.{PageStore}
+use Rattle.bihash_steps.specs.declared.view.View.{View}
+use Rattle.bihash_table.specs.Answers.{entry_of, own_writes, update_of, with_locks}
+
+-- The call was answered.
+pub record IsAnswered (z : Sizes) (v w : View) (e : Event) : Type 0 where
+  -- what is known now of the writes of the key's bucket continues what was known; of others the same is known
+  pub history : List Write
+  pub begins : IsPrefix (known_at v.known (bucket_of z e.key)) history
+  pub known : w.known ≡ (learned v (bucket_of z e.key) history).known
+  -- the acting record has this entry more, whose stamp is how many writes these are; no other record changed
+  pub locks : ℕ
+  pub noted : Option PageStore
+  pub records : w.records ≡ push_call (entry_of z (length history) e noted) (with_locks locks v.records)
+  -- the count that was seen and the note of a lone caller stay, and nothing is held
+  pub seen : w.seen ≡ v.seen
+  pub lone : w.lone ≡ v.lone
+  pub free : w.holds ≡ nothing_held
+  -- a lone caller learned of no write but its own
+  pub alone : v.lone ≡ true → length history
+      ≤ length (known_at v.known (bucket_of z e.key)) + own_writes e.reply
+
+-- The call met a lock of another caller: it has no entry, and more may be known of bucket b alone.
+pub record IsTurnedAway (z : Sizes) (v w : View) (b : ℕ) : Type 0 where
+  pub history : List Write
+  pub begins : IsPrefix (known_at v.known b) history
+  pub known : w.known ≡ (learned v b history).known
+  pub locks : ℕ
+  pub records : w.records ≡ with_locks locks v.records
+  pub seen : w.seen ≡ v.seen
+  pub lone : w.lone ≡ v.lone
+  pub free : w.holds ≡ nothing_held
+  pub alone : v.lone ≡ true → length history ≤ length (known_at v.known b)
+
+-- an update was answered so, on some value that was found
+pub record IsUpdated (z : Sizes) (v w : View) (key : List ℕ) (decision : Option ℕ → Change)
+    (reply : Reply) : Type 0 where
+  pub found : Option ℕ
+  pub answered : IsAnswered z v w (update_of key found decision reply)
