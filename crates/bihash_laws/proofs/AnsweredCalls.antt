@@ -20,6 +20,7 @@ use Rattle.bihash_steps.specs.declared.view.Known.{Known}
 use Rattle.bihash_steps.specs.declared.view.View.{View}
 use Rattle.bihash_steps.proofs.Prefixes.{prefix_below}
 use Rattle.bihash_steps.proofs.Lists.{at_end, within}
+use Rattle.bihash_steps.proofs.Pushed.{push-length}
 use Rattle.bihash_table.specs.Answers.{entry_of, own_writes, with_locks}
 use Rattle.bihash_laws.specs.Runs.{IsLastWrite, IsLawfulAnswer, LearnsOnlyOwn, IsOneWriter}
 use Rattle.bihash_table.proofs.Composed.{learned_length}
@@ -39,6 +40,10 @@ pushed_first : (c : Call) (locks : ℕ) (records : List Record) (r : Record) →
 pushed_first c locks [] r at = absurd (some-ne-none r (sym at))
 pushed_first c locks (x ∷ xs) r at = let same : x ≡ r = some-injective x r at in
     (record x { locks = locks; calls = x.calls ++ c ∷ [] }, refl, ap (λ (y : Record). y.number) same, ap (λ (y : Record). y.calls ++ c ∷ []) same)
+
+with_locks-length : (locks : ℕ) (records : List Record) → length (with_locks locks records) ≡ length records
+with_locks-length locks [] = refl
+with_locks-length locks (r ∷ rs) = refl
 
 pushed_others : (c : Call) (locks : ℕ) (records : List Record) (i : ℕ) → 1 ≤ i
     → get_elem? (push_call c (with_locks locks records)) i ≡ get_elem? records i
@@ -80,6 +85,11 @@ module _ (z : Sizes) (b : ℕ) (v w : View) (e : Event) (a : IsLawfulAnswer z b 
 
   writes_are : w.known.writes ≡ set v.known.writes home a.answered.history
   writes_are = ap (λ (k : Known). k.writes) a.answered.known
+
+  acts : 1 ≤ length v.records
+  acts = let after = a.lawful.acts in let records = ap length records_are in
+      let long = push-length entry (with_locks a.answered.locks v.records) in
+      let same = with_locks-length a.answered.locks v.records in omega arith
 
   acts_with : (r : Record) × (get_elem? v.records 0 ≡ some r) × (r.number ≡ acting v.records)
   acts_with = first_there v.records a.acts

@@ -1,9 +1,9 @@
 pub mod AnsweredCalls
 pub mod CommonHistories
-pub mod CommonOrders
-pub mod Linearizing
+pub mod CommonSerializations
 pub mod MapSteps
 pub mod Moments
 pub mod OneWriter
+pub mod Operations
 pub mod OwnCalls
-pub mod Turns
+pub mod Serializing

@@ -37,11 +37,6 @@ module _ {A : Type 0} where
       let here : p x ≡ q x = same 0 x refl in
       (λ i. cond (here i) (x ∷ rest i) (rest i))
 
-  pub filter_all : (p : A → Bool) (xs : List A) → ((i : ℕ) (x : A) → get_elem? xs i ≡ some x → p x ≡ true) → filter p xs ≡ xs
-  filter_all p [] passes = refl
-  filter_all p (x ∷ xs) passes = ap (λ (t : Bool). cond t (x ∷ filter p xs) (filter p xs)) (passes 0 x refl)
-      ∙ ap (λ (l : List A). x ∷ l) (filter_all p xs (λ i y at. passes (suc i) y at))
-
   pub filter_one : (p : A → Bool) (xs : List A) (k : ℕ) (d : A) → get_elem? xs k ≡ some d → p d ≡ true
       → ((i : ℕ) (x : A) → i ≢ k → get_elem? xs i ≡ some x → p x ≡ false) → filter p xs ≡ d ∷ []
   filter_one p [] k d at passes alone = absurd (some-ne-none d (sym at))

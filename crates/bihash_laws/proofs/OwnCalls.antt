@@ -116,17 +116,6 @@ module _ (z : Sizes) (b : ℕ) (opening : Pairs) (H : List Write) (by : ℕ) whe
         λ i. record { bucket = home i; stamp = stamp i; key = key i; found = found i; change = change i; reply = reply i; store = store i },
       )
 
-  -- and its write is a step
-  pub write_steps : (c : Call) (n : ℕ) (w : Write) → IsLegal z opening H by c → c.bucket ≡ b → is_changed c.reply ≡ true
-      → c.stamp ≡ n + 1 → get_elem? H n ≡ some w
-      → Step (bounds_of z) (after opening H n) n (event_of_write (after opening H n) w) (changed (after opening H n) w.key w.change)
-  write_steps c n w legal home wrote stamp at =
-      let m : Pairs = after opening H n in
-      let answer : IsAnswer z m n c = (answer_at c n legal wrote stamp).1 in
-      let leaves : answer.0 ≡ changed m c.key c.change = step_changes (bounds_of z) m answer.0 n (event_of c) answer.1 wrote in
-      subst (λ (x : Call). Step (bounds_of z) m n (event_of x) (changed m x.key x.change))
-      (is_call_of c n w legal home wrote stamp at).1 (subst (Step (bounds_of z) m n (event_of c)) leaves answer.1)
-
   -- the calls of a record, the history, and what they have to do with each other on bucket b
   pub record AreCalls (calls : List Call) : Type 0 where
     pub legal : (k : ℕ) (c : Call) → get_elem? calls k ≡ some c → c.bucket ≡ b → IsLegal z opening H by c

@@ -1,2 +1,2 @@
-pub mod Linearizations
 pub mod Runs
+pub mod Serializations

@@ -56,11 +56,10 @@ pub record IsCommonHistory (z : Sizes) (b : ℕ) (v w : View) (history : List Wr
 
 -- ---- One call
 
--- a call of a key of bucket b was answered to a caller that has a number, and is lawful then
+-- a call of a key of bucket b was answered to a caller that is lawful then
 pub record IsLawfulAnswer (z : Sizes) (b : ℕ) (v w : View) (e : Event) : Type 0 where
   pub home : bucket_of z e.key ≡ b
   pub answered : IsAnswered z v w e
-  pub acts : 1 ≤ length v.records
   pub lawful : IsLawfulCaller z w
 
 -- The event is the last write of this history, made under this number: it found what the map before it

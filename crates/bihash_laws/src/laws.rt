@@ -9,14 +9,15 @@ ghost use Rattle.bihash_words.specs.Maps.{Event};
 ghost use Rattle.bihash_words.specs.Sizes.{Sizes};
 ghost use Rattle.bihash_steps.specs.Words.{buckets};
 ghost use Rattle.bihash_steps.specs.Histories.{IsLegal, IsPrefix, is_changed};
-ghost use Rattle.bihash_steps.specs.Callers.{Agrees, HasMade, HasNumber, IsLawfulCaller, known_at, opening_at};
+ghost use Rattle.bihash_steps.specs.Callers.{Agrees, HasMadeAll, HasNumber, IsLawfulCaller, IsWhole, known_at, opening_at};
+ghost use Rattle.bihash_steps.specs.Steps.{HaveBearers};
 ghost use Rattle.bihash_steps.specs.Views.{first_view};
 ghost use Rattle.bihash_steps.specs.BucketSteps.{acting, map_now};
 ghost use Rattle.bihash_steps.specs.declared.view.Write.{Write};
 ghost use Rattle.bihash_steps.specs.declared.view.Record.{Record};
 ghost use Rattle.bihash_steps.specs.declared.view.View.{View};
 ghost use Rattle.bihash_table.specs.Answers.{entry_of};
-ghost use Rattle.bihash_laws.specs.Linearizations.{IsCommonLinearization, IsLinearization, KnowsOwn, Turn};
+ghost use Rattle.bihash_laws.specs.Serializations.{IsCalled, IsCommonSerialization, IsSerialization, Operation};
 ghost use Rattle.bihash_laws.specs.Runs.{IsCommonHistory, IsLastWrite, IsLawfulAnswer, LearnsOnlyOwn, IsOneWriter, IsRun, calls_on};
 
 /// To a caller each of whose known writes of a bucket was made under one number, the bucket is one bounded
@@ -31,23 +32,29 @@ pub fn one_writer_has_one_map()
 
 /// A lawful caller's calls on a bucket, and the writes of others that it knows there, stand in one sequential
 /// order: a run of one bounded map in which each of its records has its calls in their order.
-#[tactic(auto, using(crate::proofs::Linearizing::one_order))]
+#[tactic(auto, using(crate::proofs::Serializing::one_order))]
 pub fn calls_have_one_order()
-    ensures { (z : Sizes) (v : View) (b : ℕ) → IsLawfulCaller z v → b < buckets z
-        → 1 ≤ length v.records → (turns : List Turn)
-        × IsLinearization z b (opening_at v.known b) (known_at v.known b) v.records turns }
+    ensures { (z : Sizes) (v : View) (b : ℕ) → IsLawfulCaller z v → b < buckets z → (operations : List Operation)
+        × IsSerialization z b (opening_at v.known b) (known_at v.known b) v.records operations }
 {}
 
-/// A caller that made each write that it knows of a bucket has such an order with no call but its own. A lone
-/// caller did.
-#[tactic(auto, using(crate::proofs::Linearizing::whole_order))]
+/// A caller that made each write that it knows has such an order with no call but its own.
+#[tactic(auto, using(crate::proofs::Serializing::whole_order))]
 pub fn whole_callers_have_one_order()
-    ensures order { (z : Sizes) (v : View) (b : ℕ) → IsLawfulCaller z v → b < buckets z
-        → HasMade v.records (known_at v.known b) → (turns : List Turn)
-        × IsLinearization z b (opening_at v.known b) (known_at v.known b) v.records turns
-        × All (λ t. HasNumber v.records t.by) turns }
-    ensures lone { (z : Sizes) (v : View) (b : ℕ) → IsLawfulCaller z v → v.lone ≡ true → b < buckets z
-        → HasMade v.records (known_at v.known b) }
+    ensures { (z : Sizes) (v : View) (b : ℕ) → IsLawfulCaller z v → HasMadeAll z v → b < buckets z
+        → (operations : List Operation)
+        × IsSerialization z b (opening_at v.known b) (known_at v.known b) v.records operations
+        × All (λ t. HasNumber v.records t.by) operations }
+{}
+
+/// A caller that has each number up to the count of callers that it saw made each write that it knows, and so
+/// did a lone caller. Each of these writes is a call of one of its records, at its stamp.
+#[tactic(auto, using(crate::proofs::Serializing::whole_call, crate::proofs::Serializing::whole_made))]
+pub fn whole_callers_made_each_write()
+    ensures whole { (z : Sizes) (v : View) → IsWhole v.records v.seen → HaveBearers z v → HasMadeAll z v }
+    ensures lone { (z : Sizes) (v : View) → IsLawfulCaller z v → v.lone ≡ true → HasMadeAll z v }
+    ensures called { (z : Sizes) (v : View) (b n : ℕ) (w : Write) → IsLawfulCaller z v → HasMadeAll z v
+        → b < buckets z → get_elem? (known_at v.known b) n ≡ some w → IsCalled b n w v.records }
 {}
 
 /// Two lawful callers that agree have one history of each bucket: the longer of what they know.
@@ -57,15 +64,12 @@ pub fn agreeing_callers_share_a_history()
         → (history : List Write) × IsCommonHistory z b v w history }
 {}
 
-/// Two lawful callers that agree have one order of the calls of both on a bucket, if each knows of its own
-/// writes what the other knows of them. Callers that know the same do.
-#[tactic(auto, using(crate::proofs::CommonOrders::common_order, crate::proofs::CommonOrders::same_knows_own))]
+/// Two lawful callers that agree have one order of the calls of both on a bucket.
+#[tactic(auto, using(crate::proofs::CommonSerializations::common_order))]
 pub fn agreeing_callers_have_one_order()
-    ensures order { (z : Sizes) (v w : View) (b : ℕ) → IsLawfulCaller z v → IsLawfulCaller z w → Agrees v w
-        → b < buckets z → KnowsOwn b v w → KnowsOwn b w v
-        → 1 ≤ length v.records → 1 ≤ length w.records
-        → (history : List Write) × (turns : List Turn) × IsCommonLinearization z b v w history turns }
-    ensures own { (v w : View) (b : ℕ) → known_at v.known b ≡ known_at w.known b → KnowsOwn b v w }
+    ensures { (z : Sizes) (v w : View) (b : ℕ) → IsLawfulCaller z v → IsLawfulCaller z w → Agrees v w
+        → b < buckets z → (history : List Write) × (operations : List Operation)
+        × IsCommonSerialization z b v w history operations }
 {}
 
 /// An answered call is legal on what is known of its bucket afterwards, which continues what was known

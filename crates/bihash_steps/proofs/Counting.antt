@@ -10,7 +10,7 @@ use Rattle.atomic_table.specs.Table.{State, Act, keeps, Valid, stepped, carried_
 use Rattle.bihash_words.specs.Sizes.{Sizes}
 use Rattle.bihash_steps.specs.Words.{count_of, buckets}
 use Rattle.bihash_steps.specs.Histories.{IsPrefix}
-use Rattle.bihash_steps.specs.Callers.{IsWhole, known_writes, known_at, opening_in, IsConsistent, HasNumbers, Apart, Agrees}
+use Rattle.bihash_steps.specs.Callers.{IsWhole, known_writes, known_at, opening_in, IsConsistent, HasNumbers, Apart, Agrees, KnowsOwn}
 use Rattle.bihash_steps.specs.Buckets.{IsBucket}
 use Rattle.bihash_steps.specs.PageStores.{AreShort, HasCall, writes_in}
 use Rattle.bihash_steps.specs.Views.{empty_record, no_notes}
@@ -23,7 +23,7 @@ use Rattle.bihash_steps.specs.declared.view.Call.{Call}
 use Rattle.bihash_steps.specs.declared.view.Record.{Record}
 use Rattle.bihash_steps.specs.declared.view.Meeting.{Meeting}
 use Rattle.bihash_steps.specs.declared.view.View.{View}
-use Rattle.bihash_steps.proofs.KnownLists.{lawful_here}
+use Rattle.bihash_steps.proofs.KnownLists.{known_bearers, lawful_here, none_past}
 use Rattle.bihash_steps.proofs.Lists.{at_end, there}
 use Rattle.bihash_steps.proofs.Whole.{prefix_whole}
 use Rattle.bihash_steps.proofs.Prefixes.{one_begins, prefix_at}
@@ -73,12 +73,13 @@ module _ (z : Sizes) where
   known_sum known x (suc n) each =
       let before = known_sum known x n (λ b l. each b (omega arith)) in let last = ap length (each n (omega arith)) in omega arith
 
-  pub loads_count : (slots id : ℕ) (m : ViewOfSeat) → Allows (WordRule z) slots id m 0 (λ n. n) (TellsCount z m)
-  loads_count slots id m s r deep at fits =
+  pub loads_count : (slots id : ℕ) (m : ViewOfSeat) → 1 ≤ length m.0.records → Allows (WordRule z) slots id m 0 (λ n. n) (TellsCount z m)
+  loads_count slots id m acts s r deep at fits =
       let v = m.0 in
       let count : ℕ = count_of s.words in
       let ok = r.each_view id v at in
-      let good = counted_view s.words count r.table id v ok in (
+      let good = counted_view s.words count r.table id v ok in
+      let lawful = lawful_here z s r (counted v count) acts good.numbers good.informed good.lone in (
         counted v count,
         keeps,
         tt,
@@ -87,12 +88,14 @@ module _ (z : Sizes) where
           seat = refl;
           rises = ok.seen;
           few = r.few_callers;
-          lawful = lawful_here z s r (counted v count) good.numbers good.informed good.lone;
-          whole = good.lone;
-          bearers = λ b n w inside e. (r.each_bucket b inside).bearers n w
-              (prefix_at (known_at v.known b) (r.table.bucket b).history n w (ok.informed.begins b inside) e);
-          short = λ lone. subst (λ (n : ℕ). AreShort z n v.records)
-              (sym (known_sum v.known r.table.bucket (buckets z) (known_whole s r id v ok (good.lone lone)))) ok.short;
+          lawful = lawful;
+          bearers = λ b n w inside e. known_bearers z s r b inside v.known v.records ok.informed n w e;
+          whole = λ lone. record {
+            whole = good.lone lone;
+            made = lawful.made lone;
+            short = subst (λ (n : ℕ). AreShort z n v.records)
+                (sym (known_sum v.known r.table.bucket (buckets z) (known_whole s r id v ok (good.lone lone)))) ok.short;
+          };
         },
       )
 
@@ -118,11 +121,6 @@ module _ (z : Sizes) where
     meeting = tt;
   }
 
-  none_past : (xss : List (List Write)) (b : ℕ) → length xss ≤ b → get_or xss b [] ≡ []
-  none_past [] b l = refl
-  none_past (xs ∷ xss) zero l = absurd (omega arith)
-  none_past (xs ∷ xss) (suc b) l = none_past xss b (omega arith)
-
   consistent : (t : TableState) (y : Meeting) → HaveMet z t y → IsConsistent y.first y.second
   consistent t y met = (
     met.openings,
@@ -133,8 +131,9 @@ module _ (z : Sizes) where
         record { rest = known_at y.second b; whole = refl })),
   )
 
-  pub agrees_known : (slots id : ℕ) (m : ViewOfSeat) → Allows (WordRule z) slots id m 0 (λ n. n) (λ _. TellsAgreement z m)
-  agrees_known slots id m s r deep at fits =
+  pub agrees_known : (slots id : ℕ) (m : ViewOfSeat) → 1 ≤ length m.0.records
+      → Allows (WordRule z) slots id m 0 (λ n. n) (λ _. TellsAgreement z m)
+  agrees_known slots id m acts s r deep at fits =
       let v = m.0 in
       let ok = r.each_view id v at in (
         record v { notes = no_notes },
@@ -145,8 +144,9 @@ module _ (z : Sizes) where
         record {
           seat = refl;
           few = let l = few_numbers v.seen v.records ok.numbers in let a = ok.seen in let b = r.few_callers in omega arith;
-          lawful = lawful_here z s r (record v { notes = no_notes }) ok.numbers ok.informed ok.lone;
-          agree = λ y e. consistent r.table y (subst (HaveMetIf z r.table) e ok.meeting);
+          lawful = lawful_here z s r (record v { notes = no_notes }) acts ok.numbers ok.informed ok.lone;
+          agree = λ y e. let met : HaveMet z r.table y = subst (HaveMetIf z r.table) e ok.meeting in
+              (consistent r.table y met, met.own, met.other_own);
         },
       )
 
@@ -154,9 +154,15 @@ module _ (z : Sizes) where
   joined_agree : (v w : View) (m m' : ViewOfSeat) → m.0 ≡ joining v w → TellsAgreement z m m' → Agrees v w
   joined_agree v w m m' is told = record {
     apart = parts_apart m'.0.seen v.records w.records (subst (HasNumbers m'.0.seen) records told.lawful.numbers);
-    known = told.agree (record { first = v.known; second = w.known }) (ap (λ (u : View). u.notes.meeting) is);
+    known = met.0;
+    own = met.1;
+    other_own = met.2;
   }
     where
+      met : IsConsistent v.known w.known × KnowsOwn v.records v.known w.known × KnowsOwn w.records w.known v.known
+      met = told.agree (record { first = v.known; second = w.known; first_records = v.records; second_records = w.records })
+          (ap (λ (u : View). u.notes.meeting) is)
+
       records : m'.0.records ≡ v.records ++ w.records
       records = ap (λ (k : ViewOfSeat). k.0.records) told.seat ∙ ap (λ (u : View). u.records) is
 
@@ -286,7 +292,8 @@ module _ (z : Sizes) where
           not = λ ne. absurd (ne e);
           rises = ok.seen;
           few = fewer;
-          lawful = lawful_here z s r (numbered v count) good.numbers good.informed (λ h. absurd (true≢false (sym h)));
+          lawful = lawful_here z s r (numbered v count) (let n = length-append v.records (empty_record (count + 1) ∷ []) in omega arith)
+              good.numbers good.informed (λ h. absurd (true≢false (sym h)));
         },
       )
 
@@ -303,6 +310,6 @@ module _ (z : Sizes) where
           not = λ _. refl;
           rises = ok.seen;
           few = fewer;
-          lawful = lawful_here z s r (recounted v count) good.numbers good.informed good.lone;
+          lawful = lawful_here z s r (recounted v count) has_one good.numbers good.informed good.lone;
         },
       )

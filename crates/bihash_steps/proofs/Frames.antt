@@ -216,6 +216,8 @@ module _ (z : Sizes) (s : State (Unit {0}) View) (r : WordRule z s) (b id : ℕ)
     openings = h.openings;
     wide = h.wide;
     begin = λ c l. let p = h.begin c l in (begins_still (known_at y.first c) c p.0, begins_still (known_at y.second c) c p.1);
+    own = h.own;
+    other_own = h.other_own;
   }
 
   -- another bucket

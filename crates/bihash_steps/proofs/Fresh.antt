@@ -53,6 +53,7 @@ module _ (z : Sizes) where
 
   pub first_lawful : IsLawfulCaller z (first_view z)
   first_lawful = record {
+    acts = omega arith;
     numbers = record {
       range = λ i r e. let n = ap (λ (q : Record). q.number) (one_record i r e).1 in (omega arith, omega arith);
       once = λ i k r q ne e f. absurd (let a = (one_record i r e).0 in let b = (one_record k q f).0 in ne (omega arith));
@@ -62,7 +63,7 @@ module _ (z : Sizes) where
       rises = λ i r e a b c d lt f g. absurd (some-ne-none c (sym (ap (λ (q : Record). get_elem? q.calls a) (one_record i r e).1 ∙ f)));
       own = λ i b n r w e l f is. absurd (some-ne-none w (sym (ap (λ (h : List Write). get_elem? h n) (sym (none_known b l)) ∙ f)));
     };
-    lists = λ _ b l. subst (IsWriteList z b (opening_in [] b)) (sym (none_known b l)) (no_writes b);
+    lists = λ b l. subst (IsWriteList z b (opening_in [] b)) (sym (none_known b l)) (no_writes b);
     made = λ _ b l n w f. absurd (some-ne-none w (sym (ap (λ (h : List Write). get_elem? h n) (sym (none_known b l)) ∙ f)));
   }
 

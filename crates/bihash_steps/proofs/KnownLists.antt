@@ -1,14 +1,16 @@
 -- What a view knows of a bucket is a write list, and has each write under its numbers that another view knows.
-use Rattle.std.proofs.Common.{◌≡◌, ℕ, ◌<◌, ◌≤◌, true, List, length, set, arith, subst, sym}
-use mathlib.Core.Option.{some}
+use Rattle.std.proofs.Common.{◌≡◌, ℕ, zero, suc, ◌∙◌, ◌<◌, ◌≤◌, true, List, [], ◌∷◌, length, get_or, set, ap, arith, refl, subst, sym}
+use mathlib.Core.Logic.{dite}
+use native.Mathlib.Decide.{dec_lt}
+use mathlib.Core.Option.{some, some-ne-none}
 use lib.ListN.{get_elem?}
 use Rattle.atomic_table.specs.Table.{State}
 use Rattle.bihash_words.specs.Maps.{Pairs}
 use Rattle.bihash_words.specs.Sizes.{Sizes}
 use Rattle.bihash_steps.specs.Words.{buckets, count_of}
 use Rattle.bihash_steps.specs.Histories.{IsPrefix, IsWrite, IsWriteList}
-use Rattle.bihash_steps.specs.Callers.{HasNumber, HasNumbers, IsLawfulCaller, IsWhole, Openings, known_at, opening_at, opening_in}
-use Rattle.bihash_steps.specs.WordRule.{IsInformed, WordRule}
+use Rattle.bihash_steps.specs.Callers.{HasNumbers, IsLawfulCaller, IsWhole, KnowsOwn, Openings, known_at, opening_at, opening_in}
+use Rattle.bihash_steps.specs.WordRule.{IsInformed, TableState, WordRule}
 use Rattle.bihash_steps.specs.declared.view.Write.{Write}
 use Rattle.bihash_steps.specs.declared.view.Record.{Record}
 use Rattle.bihash_steps.specs.declared.view.Known.{Known}
@@ -38,31 +40,40 @@ module _ (z : Sizes) (s : State (Unit {0}) View) (r : WordRule z s) (b : ℕ) (i
       → get_elem? (known_at known b) n ≡ some w → (1 ≤ w.by) × (w.by ≤ count_of s.words)
   known_bearers known records ok n w at = (r.each_bucket b inside).bearers n w (prefix_at (known_at known b) (r.table.bucket b).history n w (ok.begins b inside) at)
 
-  pub knows_own : (known other : Known) (records others : List Record) → IsInformed z r.table known records
-      → IsInformed z r.table other others → (n : ℕ) (x : Write) → get_elem? (known_at other b) n ≡ some x → HasNumber records x.by
-      → get_elem? (known_at known b) n ≡ some x
-  knows_own known other records others ok ok' n x at by =
-      let H : List Write = (r.table.bucket b).history in
-      let there : get_elem? H n ≡ some x = prefix_at (known_at other b) H n x (ok'.begins b inside) at in
-      prefix_below (known_at known b) H n x (ok.begins b inside) (ok.own by.0 b n by.1 x by.2 inside there (sym by.3)) there
+pub none_past : (xss : List (List Write)) (b : ℕ) → length xss ≤ b → get_or xss b [] ≡ []
+none_past [] b l = refl
+none_past (xs ∷ xss) zero l = absurd (omega arith)
+none_past (xs ∷ xss) (suc b) l = none_past xss b (omega arith)
+
+-- a view knows each write under its numbers that another view knows
+pub knows_own : (z : Sizes) (t : TableState) (known other : Known) (records others : List Record) → IsInformed z t known records
+    → IsInformed z t other others → KnowsOwn records known other
+knows_own z t known other records others ok ok' b n x at by = dite (dec_lt b (buckets z))
+    (λ inside.
+    let H : List Write = (t.bucket b).history in
+    let there : get_elem? H n ≡ some x = prefix_at (known_at other b) H n x (ok'.begins b inside) at in
+    prefix_below (known_at known b) H n x (ok.begins b inside) (ok.own by.0 b n by.1 x by.2 inside there (sym by.3)) there)
+    (λ out. let none = none_past other.writes b (let wide = ok'.wide in omega arith) in
+    absurd (some-ne-none x (sym (ap (λ (xs : List Write). get_elem? xs n) (sym none) ∙ at))))
 
 -- a view that is informed of the table is a lawful caller's
-pub lawful_here : (z : Sizes) (s : State (Unit {0}) View) (r : WordRule z s) (v : View) → HasNumbers v.seen v.records
+pub lawful_here : (z : Sizes) (s : State (Unit {0}) View) (r : WordRule z s) (v : View) → 1 ≤ length v.records → HasNumbers v.seen v.records
     → IsInformed z r.table v.known v.records → (v.lone ≡ true → IsWhole v.records (count_of s.words)) → IsLawfulCaller z v
-lawful_here z s r v numbers ok whole = record {
+lawful_here z s r v acts numbers ok whole = record {
+  acts = acts;
   numbers = numbers;
   lawful = ok.lawful;
-  lists = λ has b inside. known_list z s r b inside v.known v.records ok has;
+  lists = λ b inside. known_list z s r b inside v.known v.records ok acts;
   made = λ lone b inside n w at. let by = known_bearers z s r b inside v.known v.records ok n w at in whole lone w.by by.0 by.1;
 }
 
--- the caller of each view is lawful
+-- the caller of each view that has a number is lawful
 pub lawful_at : (z : Sizes) (s : State (Unit {0}) View) → WordRule z s → (id : ℕ) (v : View) → get_elem? s.views id ≡ some v
-    → IsLawfulCaller z v
-lawful_at z s r id v at = let ok = r.each_view id v at in lawful_here z s r v ok.numbers ok.informed ok.lone
+    → 1 ≤ length v.records → IsLawfulCaller z v
+lawful_at z s r id v at acts = let ok = r.each_view id v at in lawful_here z s r v acts ok.numbers ok.informed ok.lone
 
 -- also that of a view that was just set
 pub lawful_set : (z : Sizes) (words : List ℕ) (s : State (Unit {0}) View) (id : ℕ) (v w : View) → get_elem? s.views id ≡ some v
-    → WordRule z record { words = words; homes = s.homes; views = set s.views id w } → IsLawfulCaller z w
-lawful_set z words s id v w at r =
-    lawful_at z record { words = words; homes = s.homes; views = set s.views id w } r id w (set_here s.views id w (within s.views id v at))
+    → 1 ≤ length w.records → WordRule z record { words = words; homes = s.homes; views = set s.views id w } → IsLawfulCaller z w
+lawful_set z words s id v w at acts r =
+    lawful_at z record { words = words; homes = s.homes; views = set s.views id w } r id w (set_here s.views id w (within s.views id v at)) acts

@@ -142,7 +142,8 @@ module _ (z : Sizes) where
                   (ap (λ (k : LockedBucket). k.was) (sym mine) ∙ ap (λ (c : ℕ). (r.table.bucket c).block) (sym same));
               whole = λ lone _. known_learned v b y.history (let wide = ok.informed.wide in omega arith)
                   ∙ sym (whole_known z s r id b v at lone inside);
-              lawful = lawful_set z (set s.words (bucket_at z b) word') s id v w at rule;
+              lawful = lawful_set z (set s.words (bucket_at z b) word') s id v w at
+                  (let n = counted-length v.records in omega arith) rule;
             },
           )
 
@@ -162,6 +163,6 @@ module _ (z : Sizes) where
                   ∙ (subst (StandsStillIf z s.words) noted (ok.still lone) ∙ sym is)));
               rests = λ e. absurd (ne e);
               whole = λ _ e. absurd (ne e);
-              lawful = lawful_here z s r (unnoted v) good.numbers good.informed good.lone;
+              lawful = lawful_here z s r (unnoted v) acts good.numbers good.informed good.lone;
             },
           )

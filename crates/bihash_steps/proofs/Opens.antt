@@ -220,7 +220,7 @@ module _ (z : Sizes) where
               valid = λ _. refl;
               not = λ ne. absurd (ne e);
               lone = λ _. e;
-              lawful = lawful_here z s r (validated v c) numbers informed (λ lone. push_whole (count_of s.words) c v.records (ok.lone lone));
+              lawful = lawful_here z s r (validated v c) (let n = push-length c v.records in omega arith) numbers informed (λ lone. push_whole (count_of s.words) c v.records (ok.lone lone));
             },
           )
 
@@ -237,6 +237,6 @@ module _ (z : Sizes) where
               not = λ _. refl;
               lone = λ lone. absurd (ne (ap (λ (n : ℕ). slice_index s.words (bucket_at z n)) (sym may.home)
                   ∙ (subst (StandsStillIf z s.words) may.noted (ok.still lone) ∙ sym may.stood)));
-              lawful = lawful_here z s r (unnoted v) ok.numbers ok.informed ok.lone;
+              lawful = lawful_here z s r (unnoted v) acts ok.numbers ok.informed ok.lone;
             },
           )

@@ -30,6 +30,7 @@ use Rattle.bihash_steps.proofs.Frames.{free_own, more_writes, store_keeps, store
 use Rattle.bihash_steps.proofs.Runs.{front_still, store_still}
 use Rattle.bihash_steps.proofs.Exchange.{passes}
 use Rattle.bihash_steps.proofs.Put.{put, put_here, put_else}
+use Rattle.bihash_steps.proofs.Pushed.{push-length}
 use Rattle.bihash_steps.proofs.Publish.{state_after, no_shorter, held_bucket, bucket_in, Settles, writes_word}
 
 -- ---- One write more
@@ -104,7 +105,8 @@ module _ (z : Sizes) where
     keeps,
     tt,
     rule,
-    record { seat = refl; lawful = lawful_set z (set s.words (bucket_at z b) n) s id v (replaced v c) at rule },
+    record { seat = refl; lawful = lawful_set z (set s.words (bucket_at z b) n) s id v (replaced v c) at
+        (let n = push-length c v.records in omega arith) rule },
   )
     where
       v : View

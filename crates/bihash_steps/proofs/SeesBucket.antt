@@ -164,7 +164,7 @@ module _ (z : Sizes) where
               lone = λ _ _. seen;
               whole = λ lone. known_learned v b x.history (let wide = ok.informed.wide in omega arith)
                   ∙ sym (whole_known z s r id b v at lone inside);
-              lawful = lawful_here z s r (seeing v b x) good.numbers good.informed good.lone;
+              lawful = lawful_here z s r (seeing v b x) acts good.numbers good.informed good.lone;
             },
           )
       go (Some j) held =
@@ -186,6 +186,6 @@ module _ (z : Sizes) where
               };
               lone = λ lone none. absurd (lone_finds_none z s r b inside id j v at lone none held);
               whole = λ _. refl;
-              lawful = lawful_here z s r (unnoted v) good.numbers good.informed good.lone;
+              lawful = lawful_here z s r (unnoted v) acts good.numbers good.informed good.lone;
             },
           )

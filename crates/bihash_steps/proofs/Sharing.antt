@@ -24,6 +24,7 @@ use Rattle.bihash_steps.specs.declared.view.View.{View}
 use Rattle.bihash_steps.proofs.Lists.{at_end, at_either, at_take, at_drop}
 use Rattle.bihash_steps.proofs.Prefixes.{prefix_refl}
 use Rattle.bihash_steps.proofs.Lawful.{IsPart, first_part, other_part, part_informed, part_lawful, part_numbers, both_informed, both_numbers}
+use Rattle.bihash_steps.proofs.KnownLists.{knows_own}
 use Rattle.bihash_steps.proofs.CountWord.{moved, AllApart, apart_back, apart_set, block_set, block_more, as_view}
 
 module _ (z : Sizes) where
@@ -33,12 +34,17 @@ module _ (z : Sizes) where
   cut_apart n seen rs has i k r q e f = let a = at_take n rs i r e in let less = a.0 in
       has.once i (n + k) r q (λ h. omega arith) a.1 (at_drop n rs k q f)
 
-  parts_lawful : (n : ℕ) (v : View) → IsLawfulCaller z v → IsLawfulCaller z (first_numbers n v) × IsLawfulCaller z (other_numbers n v)
+  parts_lawful : (n : ℕ) (v : View) → 1 ≤ n → n < length v.records → IsLawfulCaller z v → IsLawfulCaller z (first_numbers n v) × IsLawfulCaller z (other_numbers n v)
       × Agrees (first_numbers n v) (other_numbers n v)
-  parts_lawful n v law = (
-    record { numbers = numbers first; lawful = lawful first; lists = lists (take n v.records) few_first; made = λ h. absurd (true≢false (sym h)) },
-    record { numbers = numbers other; lawful = lawful other; lists = lists (drop n v.records) few_other; made = λ h. absurd (true≢false (sym h)) },
-    record { apart = cut_apart n v.seen v.records law.numbers; known = (refl, λ b. inl (prefix_refl (known_at v.known b))) },
+  parts_lawful n v one more law = (
+    record { acts = acts_first; numbers = numbers first; lawful = lawful first; lists = law.lists; made = λ h. absurd (true≢false (sym h)) },
+    record { acts = acts_other; numbers = numbers other; lawful = lawful other; lists = law.lists; made = λ h. absurd (true≢false (sym h)) },
+    record {
+      apart = cut_apart n v.seen v.records law.numbers;
+      known = (refl, λ b. inl (prefix_refl (known_at v.known b)));
+      own = λ b k w at by. at;
+      other_own = λ b k w at by. at;
+    },
   )
     where
       first : IsPart (take n v.records) v.records
@@ -53,21 +59,18 @@ module _ (z : Sizes) where
       lawful : {part : List Record} → IsPart part v.records → IsLawful z v.known part
       lawful {part} p = part_lawful z v.known part v.records p law.lawful
 
-      few_first : length (take n v.records) ≤ length v.records
-      few_first = simp length-take (omega arith)
+      acts_first : 1 ≤ length (take n v.records)
+      acts_first = simp length-take (omega arith)
 
-      few_other : length (drop n v.records) ≤ length v.records
-      few_other = simp length-drop (omega arith)
-
-      lists : (part : List Record) → length part ≤ length v.records → 1 ≤ length part → (b : ℕ) → b < buckets z
-          → IsWriteList z b (opening_at v.known b) (known_at v.known b)
-      lists part few has b inside = law.lists (omega arith) b inside
+      acts_other : 1 ≤ length (drop n v.records)
+      acts_other = simp length-drop (omega arith)
 
   -- both parts of a lawful caller are lawful, and agree
-  pub cut_lawful : (n : ℕ) (v left right : View) → left ≡ first_numbers n v → right ≡ other_numbers n v → IsLawfulCaller z v
-      → IsLawfulCaller z left × IsLawfulCaller z right × Agrees left right
-  cut_lawful n v left right e f law =
-      subst (λ (y : View × View). IsLawfulCaller z y.0 × IsLawfulCaller z y.1 × Agrees y.0 y.1) (λ i. (sym e i, sym f i)) (parts_lawful n v law)
+  pub cut_lawful : (n : ℕ) (v left right : View) → left ≡ first_numbers n v → right ≡ other_numbers n v → 1 ≤ n → n < length v.records
+      → IsLawfulCaller z v → IsLawfulCaller z left × IsLawfulCaller z right × Agrees left right
+  cut_lawful n v left right e f one more law =
+      subst (λ (y : View × View). IsLawfulCaller z y.0 × IsLawfulCaller z y.1 × Agrees y.0 y.1) (λ i. (sym e i, sym f i))
+      (parts_lawful n v one more law)
 
   -- a part w of the numbers of v, at the seat j', which has no lock and holds nothing
   part_view : (words : List ℕ) (count j j' : ℕ) (t : TableState) (v w : View) → IsPart w.records v.records → w.known ≡ v.known
@@ -186,6 +189,8 @@ module _ (z : Sizes) where
       openings = ok.informed.opening has_one ∙ sym (ok'.informed.opening has_other);
       wide = (ok.informed.wide, ok'.informed.wide);
       begin = λ b l. (ok.informed.begins b l, ok'.informed.begins b l);
+      own = knows_own z t v.known w.known v.records w.records ok.informed ok'.informed;
+      other_own = knows_own z t w.known v.known w.records v.records ok'.informed ok.informed;
     };
   }
 

@@ -101,7 +101,7 @@ module _ (z : Sizes) where
           same = λ n h. h;
           short = ok.short;
         },
-        record { seat = refl; lawful = lawful_here z s r (unlocked v) ok.numbers ok.informed ok.lone },
+        record { seat = refl; lawful = lawful_here z s r (unlocked v) (holder_acts z s r id v clean.lock at clean.held) ok.numbers ok.informed ok.lone },
       )
 
   -- a refusal bears what was noted of the page store, which bounds it
@@ -149,6 +149,7 @@ module _ (z : Sizes) where
         },
         record {
           seat = refl;
-          lawful = lawful_here z s r (answered v c) numbers informed (λ lone. push_whole (count_of s.words) c v.records (ok.lone lone));
+          lawful = lawful_here z s r (answered v c) (let n = push-length c v.records in
+              let some = holder_acts z s r id v l at may.clean.held in omega arith) numbers informed (λ lone. push_whole (count_of s.words) c v.records (ok.lone lone));
         },
       )

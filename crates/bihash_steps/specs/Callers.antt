@@ -66,14 +66,18 @@ HasNumber records n = (i : ℕ) × (r : Record) × (get_elem? records i ≡ some
 abbrev pub HasMade : List Record → List Write → Type 0
 HasMade records writes = (n : ℕ) (w : Write) → get_elem? writes n ≡ some w → HasNumber records w.by
 
--- A lawful caller. What it knows of a bucket, if it has a number, is a write list, and a lone caller made
--- each of these writes.
+-- it made each write that it knows
+abbrev pub HasMadeAll : Sizes → View → Type 0
+HasMadeAll z v = (b : ℕ) → b < buckets z → HasMade v.records (known_at v.known b)
+
+-- A lawful caller. It has a number, what it knows of a bucket is a write list, and a lone caller made each
+-- of these writes.
 pub record IsLawfulCaller (z : Sizes) (v : View) : Type 0 where
+  pub acts : 1 ≤ length v.records
   pub numbers : HasNumbers v.seen v.records
   pub lawful : IsLawful z v.known v.records
-  pub lists : 1 ≤ length v.records → (b : ℕ) → b < buckets z
-      → IsWriteList z b (opening_at v.known b) (known_at v.known b)
-  pub made : v.lone ≡ true → (b : ℕ) → b < buckets z → HasMade v.records (known_at v.known b)
+  pub lists : (b : ℕ) → b < buckets z → IsWriteList z b (opening_at v.known b) (known_at v.known b)
+  pub made : v.lone ≡ true → HasMadeAll z v
 
 -- a whole caller has every number up to the caller count
 abbrev pub IsWhole : List Record → ℕ → Type 0
@@ -89,15 +93,18 @@ abbrev pub IsConsistent : Known → Known → Type 0
 IsConsistent k m = (k.openings ≡ m.openings)
     × ((b : ℕ) → IsPrefix (known_at k b) (known_at m b) ⊎ IsPrefix (known_at m b) (known_at k b))
 
--- two callers agree: they share no number, and of each bucket the one knows a beginning of what the
--- other knows
+-- whatever another knows of the writes under a number of these records is known here
+abbrev pub KnowsOwn : List Record → Known → Known → Type 0
+KnowsOwn records known other = (b n : ℕ) (w : Write) → get_elem? (known_at other b) n ≡ some w
+    → HasNumber records w.by → get_elem? (known_at known b) n ≡ some w
+
+-- Two callers agree: they share no number, of each bucket the one knows a beginning of what the other
+-- knows, and neither lacks a write of its own that the other knows.
 pub record Agrees (v w : View) : Type 0 where
   pub apart : Apart v.records w.records
   pub known : IsConsistent v.known w.known
-
--- each known write was made under a number of the caller
-abbrev pub HasMadeAll : Sizes → View → Type 0
-HasMadeAll z v = (b n : ℕ) (w : Write) → b < buckets z → get_elem? (known_at v.known b) n ≡ some w → HasNumber v.records w.by
+  pub own : KnowsOwn v.records v.known w.known
+  pub other_own : KnowsOwn w.records w.known v.known
 
 -- how many writes are known of the first n buckets
 abbrev pub known_writes : Known → ℕ → ℕ

@@ -5,7 +5,7 @@ use mathlib.Core.Option.{some}
 use Rattle.atomic_table.specs.Table.{Me}
 use Rattle.bihash_words.specs.Sizes.{Sizes}
 use Rattle.bihash_steps.specs.Words.{buckets}
-use Rattle.bihash_steps.specs.Callers.{IsConsistent, IsLawfulCaller, IsWhole, known_at, known_writes}
+use Rattle.bihash_steps.specs.Callers.{HasMadeAll, IsConsistent, IsLawfulCaller, IsWhole, KnowsOwn, known_at, known_writes}
 use Rattle.bihash_steps.specs.PageStores.{AreShort}
 use Rattle.bihash_steps.specs.Views.{empty_record, nothing_known, nothing_held, no_notes}
 use Rattle.bihash_steps.specs.declared.view.Write.{Write}
@@ -25,15 +25,25 @@ ViewOfSeat = Me (Unit {0}) View
 abbrev pub counted : View → ℕ → View
 counted v count = record v { seen = count; lone = count == length v.records; notes = no_notes }
 
+-- each write that the caller knows bears a number from 1 to the count that it saw
+abbrev pub HaveBearers : Sizes → View → Type 0
+HaveBearers z v = (b n : ℕ) (w : Write) → b < buckets z → get_elem? (known_at v.known b) n ≡ some w
+    → (1 ≤ w.by) × (w.by ≤ v.seen)
+
+-- What a caller is told that has as many numbers as the count that it saw: it has each number up to it, made
+-- each write that it knows, and wherever its records tell of too few pages, its writes took the others.
+pub record IsToldWhole (z : Sizes) (v : View) : Type 0 where
+  pub whole : IsWhole v.records v.seen
+  pub made : HasMadeAll z v
+  pub short : AreShort z (known_writes v.known (buckets z)) v.records
+
 pub record TellsCount (z : Sizes) (m : ViewOfSeat) (found : ℕ) (m' : ViewOfSeat) : Type 0 where
   pub seat : m' ≡ (counted m.0 found, m.1)
   pub rises : m.0.seen ≤ found
   pub few : found ≤ z.callers
   pub lawful : IsLawfulCaller z m'.0
-  pub whole : m'.0.lone ≡ true → IsWhole m'.0.records found
-  pub bearers : (b n : ℕ) (w : Write) → b < buckets z → get_elem? (known_at m'.0.known b) n ≡ some w
-      → (1 ≤ w.by) × (w.by ≤ found)
-  pub short : m'.0.lone ≡ true → AreShort z (known_writes m'.0.known (buckets z)) m'.0.records
+  pub bearers : HaveBearers z m'.0
+  pub whole : m'.0.lone ≡ true → IsToldWhole z m'.0
 
 -- ---- An exchange of the caller count with the next
 
@@ -116,12 +126,12 @@ informed_by u v w = record u {
 abbrev pub joined : View → View → View
 joined v w = record (informed_by v v w) { records = v.records ++ w.records }
 
--- the same, with a note of what both knew
+-- the same, with a note of what both knew and did
 abbrev pub joining : View → View → View
 joining v w = record (joined v w) {
   notes = record no_notes {
     meeting = Some
-        (record { first = v.known; second = w.known });
+        (record { first = v.known; second = w.known; first_records = v.records; second_records = w.records });
   };
 }
 
@@ -142,3 +152,4 @@ pub record TellsAgreement (z : Sizes) (m m' : ViewOfSeat) : Type 0 where
   pub few : length m.0.records ≤ z.callers
   pub lawful : IsLawfulCaller z m'.0
   pub agree : (y : Meeting) → m.0.notes.meeting ≡ Some y → IsConsistent y.first y.second
+      × KnowsOwn y.first_records y.first y.second × KnowsOwn y.second_records y.second y.first

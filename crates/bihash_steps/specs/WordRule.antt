@@ -7,7 +7,7 @@ use Rattle.atomic_table.specs.Table.{State}
 use Rattle.bihash_words.specs.Sizes.{Sizes, IsSound}
 use Rattle.bihash_steps.specs.Words.{count_of, buckets, all_words}
 use Rattle.bihash_steps.specs.Histories.{IsPrefix}
-use Rattle.bihash_steps.specs.Callers.{Openings, known_at, opening_in, IsLawful, HasNumbers, IsWhole, Apart}
+use Rattle.bihash_steps.specs.Callers.{Openings, known_at, opening_in, IsLawful, HasNumbers, IsWhole, Apart, KnowsOwn}
 use Rattle.bihash_steps.specs.Blocks.{no_block}
 use Rattle.bihash_steps.specs.Partition.{IsPartition}
 use Rattle.bihash_steps.specs.Buckets.{BucketState, IsBucket, HoldsBucketIf, NotesLocks, IsOpenIf, StandsStillIf}
@@ -37,12 +37,14 @@ pub record IsInformed (z : Sizes) (t : TableState) (known : Known) (records : Li
   pub own : (i b n : ℕ) (r : Record) (w : Write) → get_elem? records i ≡ some r → b < buckets z
       → get_elem? (t.bucket b).history n ≡ some w → w.by ≡ r.number → n < length (known_at known b)
 
--- what two callers knew when they met is of one table, and begins its histories
+-- what two callers knew when they met is of one table, and begins its histories; each knew its own writes
 pub record HaveMet (z : Sizes) (t : TableState) (m : Meeting) : Type 0 where
   pub openings : m.first.openings ≡ m.second.openings
   pub wide : (length m.first.writes ≡ buckets z) × (length m.second.writes ≡ buckets z)
   pub begin : (b : ℕ) → b < buckets z → IsPrefix (known_at m.first b) (t.bucket b).history
       × IsPrefix (known_at m.second b) (t.bucket b).history
+  pub own : KnowsOwn m.first_records m.first m.second
+  pub other_own : KnowsOwn m.second_records m.second m.first
 
 abbrev pub HaveMetIf : Sizes → TableState → Option Meeting → Type 0
 HaveMetIf z t None = Unit {0}

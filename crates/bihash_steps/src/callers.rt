@@ -1,14 +1,9 @@
 //! Callers that are counted, split, joined and told of one another.
 ghost use Rattle.std.specs.Prelude.{◌≡◌, ◌≢◌, ℕ, ◌+◌, ◌<◌, ◌≤◌, true, false, length, IfOk, IfErr};
 ghost use Rattle.bihash_words.specs.Sizes.{sizes_of, IsSound};
-ghost use lib.ListN.{get_elem?};
-ghost use mathlib.Core.Option.{some};
-ghost use Rattle.bihash_steps.specs.declared.view.Write.{Write};
-ghost use Rattle.bihash_steps.specs.Words.{buckets};
-ghost use Rattle.bihash_steps.specs.Callers.{IsLawfulCaller, IsWhole, Agrees, known_at, known_writes};
-ghost use Rattle.bihash_steps.specs.PageStores.{AreShort};
+ghost use Rattle.bihash_steps.specs.Callers.{IsLawfulCaller, Agrees};
 ghost use Rattle.bihash_steps.specs.Views.{nothing_held};
-ghost use Rattle.bihash_steps.specs.Steps.{counted, numbered, recounted, first_numbers, other_numbers, parent, newcomer, IsRefused, informed_by, joined};
+ghost use Rattle.bihash_steps.specs.Steps.{HaveBearers, IsToldWhole, counted, numbered, recounted, first_numbers, other_numbers, parent, newcomer, IsRefused, informed_by, joined};
 ghost use Rattle.bihash_steps.specs.Seats.{with_view, stamp_of};
 
 use crate::faults::SplitFault;
@@ -31,11 +26,8 @@ impl<S: Shape> Row<S> {
         ensures rises { caller.old.view.seen ≤ result }
         ensures few { result ≤ S.CALLERS }
         ensures lawful { IsLawfulCaller (sizes_of S.Shape) caller.new.view }
-        ensures whole { caller.new.view.lone ≡ true → IsWhole caller.new.view.records result }
-        ensures bearers { (b n : ℕ) (w : Write) → b < buckets (sizes_of S.Shape)
-            → get_elem? (known_at caller.new.view.known b) n ≡ some w → (1 ≤ w.by) × (w.by ≤ result) }
-        ensures short { caller.new.view.lone ≡ true
-            → AreShort (sizes_of S.Shape) (known_writes caller.new.view.known (buckets (sizes_of S.Shape))) caller.new.view.records }
+        ensures bearers { HaveBearers (sizes_of S.Shape) caller.new.view }
+        ensures whole { caller.new.view.lone ≡ true → IsToldWhole (sizes_of S.Shape) caller.new.view }
     {
         self.table.shared.load::<Counts<S>>(&mut caller.seat, COUNT)
     }

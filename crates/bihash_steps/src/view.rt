@@ -101,10 +101,12 @@ pub struct Known {
     pub writes: LinkedList<LinkedList<Write>>,
 }
 
-/// What two callers knew when they met.
+/// What two callers knew when they met, and their records.
 pub struct Meeting {
     pub first: Known,
     pub second: Known,
+    pub first_records: LinkedList<Record>,
+    pub second_records: LinkedList<Record>,
 }
 
 /// What the caller noted: a bucket that it saw unlocked, the page store when it last opened the

@@ -1,15 +1,21 @@
 -- Locks that were taken and opened again.
-use Rattle.std.proofs.Common.{◌≡◌, ◌∙◌, ℕ, ◌+◌, List, [], get_or, set, set-set, None, sym, ap}
+use Rattle.std.proofs.Common.{◌≡◌, ◌∙◌, ℕ, zero, suc, ◌+◌, List, [], ◌∷◌, get_or, set, set-set, None, refl, sym, ap, subst}
+use mathlib.Core.Option.{some, some-ne-none, some-injective}
+use lib.ListN.{get_elem?}
 use lib.Seq.{set-get_or}
 use Rattle.bihash_words.specs.Sizes.{Sizes}
 use Rattle.bihash_steps.specs.Callers.{known_at}
+use Rattle.bihash_steps.specs.PageStores.{HasCall}
 use Rattle.bihash_steps.specs.Views.{nothing_held, no_notes}
+use Rattle.bihash_steps.specs.Steps.{HaveBearers, IsToldWhole}
 use Rattle.bihash_steps.specs.BucketSteps.{unlocked}
 use Rattle.bihash_steps.specs.declared.view.Write.{Write}
+use Rattle.bihash_steps.specs.declared.view.Call.{Call}
 use Rattle.bihash_steps.specs.declared.view.Record.{Record}
 use Rattle.bihash_steps.specs.declared.view.Known.{Known}
 use Rattle.bihash_steps.specs.declared.view.Holdings.{Holdings}
 use Rattle.bihash_steps.specs.declared.view.View.{View}
+use Rattle.bihash_steps.proofs.Pushed.{Renumbers, same_number, same_whole}
 use Rattle.bihash_table.specs.Answers.{locks_of, with_locks}
 use Rattle.bihash_table.specs.Locked.{IsLocked}
 use Rattle.bihash_table.specs.PairLists.{TookLocks}
@@ -50,3 +56,30 @@ module _ (z : Sizes) (v w : View) (b word : ℕ) where
           notes = no_notes;
         }) (ap (λ (h : Holdings). record h { bucket = None }) free ∙ sym free)));
   }
+
+-- ---- What a whole caller was told
+
+module _ (locks : ℕ) where
+  renumbered : (rs : List Record) → Renumbers (with_locks locks rs) rs
+  renumbered [] i r e = absurd (some-ne-none r (sym e))
+  renumbered (q ∷ qs) zero r e = (record q { locks = locks }, refl, ap (λ (x : Record). x.number) (some-injective q r e))
+  renumbered (q ∷ qs) (suc i) r e = (r, e, refl)
+
+  call_at : (rs : List Record) (i k : ℕ) (r : Record) (c : Call) → get_elem? (with_locks locks rs) i ≡ some r
+      → get_elem? r.calls k ≡ some c → HasCall rs c
+  call_at [] i k r c e f = absurd (some-ne-none r (sym e))
+  call_at (q ∷ qs) zero k r c e f = (0, k, q, refl, ap (λ (x : Record). get_elem? x.calls k) (some-injective _ r e) ∙ f)
+  call_at (q ∷ qs) (suc i) k r c e f = (suc i, k, r, e, f)
+
+pub took_told : (z : Sizes) (v w : View) → TookLocks v w → IsToldWhole z v → IsToldWhole z w
+took_told z v w t told =
+    let same = renumbered t.locks v.records in
+    let counted = with_locks t.locks v.records in
+    subst (IsToldWhole z) (sym t.is) record {
+      whole = same_whole counted v.records same v.seen told.whole;
+      made = λ b inside n x at. same_number counted v.records same x.by (told.made b inside n x at);
+      short = λ c h. told.short c (call_at t.locks v.records h.0 h.1 h.2 c h.3 h.4);
+    }
+
+pub took_bearers : (z : Sizes) (v w : View) → TookLocks v w → HaveBearers z v → HaveBearers z w
+took_bearers z v w t bearers = subst (HaveBearers z) (sym t.is) bearers

@@ -10,7 +10,7 @@ use Rattle.bihash_words.specs.declared.shape.Shape.{Ghosts}
 use Rattle.bihash_steps.specs.Words.{buckets}
 use Rattle.bihash_steps.specs.Histories.{after, bucket_of}
 use Rattle.bihash_steps.specs.Callers.{known_at, opening_at}
-use Rattle.bihash_steps.specs.Steps.{counted}
+use Rattle.bihash_steps.specs.Steps.{HaveBearers, IsToldWhole, counted}
 use Rattle.bihash_steps.specs.declared.view.Known.{Known}
 use Rattle.bihash_steps.specs.declared.view.View.{View}
 use Rattle.bihash_table.specs.Answers.{with_locks}
@@ -35,10 +35,19 @@ pub record ArePairsOf {A K : Type 0} (g : Ghosts A K) (known : Known) (ps : List
       → get (map_in known b) key ≡ Some value
       → (p : K × ℕ) × Contains ps p × (g.words_of p.0 ≡ key) × (p.1 ≡ value)
 
+-- The table was closed by a caller that had every number, and knew what that tells it.
+pub record WasWhole (z : Sizes) (v : View) : Type 0 where
+  pub count : ℕ
+  pub rises : v.seen ≤ count
+  pub all : count ≡ length v.records
+  pub told : IsToldWhole z (counted v count)
+  pub bearers : HaveBearers z (counted v count)
+
 -- Why a table was not closed, and what the caller knows then: there are more callers than it has numbers,
 -- or it has every number and memory was refused.
 abbrev pub IsCloseRefused : Sizes → View → CloseFault → View → Type 0
 IsCloseRefused z v Strangers w = (count : ℕ) × (v.seen ≤ count) × (length v.records < count)
-    × (w ≡ counted v count)
+    × (w ≡ counted v count) × HaveBearers z w
 IsCloseRefused z v Memory w = (count locks : ℕ) × (v.seen ≤ count) × (count ≡ length v.records)
     × (w ≡ record (counted v count) { records = with_locks locks v.records; notes = w.notes })
+    × IsToldWhole z w × HaveBearers z w

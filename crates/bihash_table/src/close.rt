@@ -12,7 +12,7 @@ ghost use Rattle.bihash_steps.specs.Views.{nothing_held};
 ghost use Rattle.bihash_steps.specs.Seats.{with_view};
 ghost use Rattle.bihash_steps.specs.declared.view.LockedBucket.{LockedBucket};
 ghost use Rattle.bihash_table.specs.Locked.{HasLock};
-ghost use Rattle.bihash_table.specs.Closing.{ArePairsOf, IsCloseRefused};
+ghost use Rattle.bihash_table.specs.Closing.{ArePairsOf, IsCloseRefused, WasWhole};
 ghost use Rattle.bihash_table.specs.PairLists.{ListsBuckets, IsPairAt, TookLocks};
 
 use crate::close_fault::CloseFault;
@@ -39,6 +39,7 @@ impl<S: Shape> Sessions<S> {
         requires own { caller.seat.row ≡ self.row }
         requires free { caller.seat.view.holds ≡ nothing_held }
         ensures pairs { IfOk result (λ ps. ArePairsOf ⟦<S as Shape>⟧ caller.seat.view.known ps.items) }
+        ensures whole { IfOk result (λ _. WasWhole (sizes_of S.Shape) caller.seat.view) }
         ensures refused { IfErr result (λ r. (r.1.row ≡ self.row)
             × (r.2.seat ≡ with_view caller.seat r.2.seat.view)
             × IsCloseRefused (sizes_of S.Shape) caller.seat.view r.0 r.2.seat.view) }

@@ -1,12 +1,10 @@
 //! The shared table, and its callers.
 ghost use Rattle.std.specs.Prelude.{◌≡◌, ◌<◌, ◌≤◌, ◌==◌, ℕ, true, length, IfOk, IfErr};
 ghost use Rattle.bihash_words.specs.Sizes.{sizes_of, IsSound};
-ghost use Rattle.bihash_steps.specs.Callers.{HasMadeAll, IsLawfulCaller, IsWhole, Agrees, known_writes};
-ghost use Rattle.bihash_steps.specs.PageStores.{AreShort};
-ghost use Rattle.bihash_steps.specs.Words.{buckets};
+ghost use Rattle.bihash_steps.specs.Callers.{IsLawfulCaller, Agrees};
 ghost use Rattle.bihash_steps.specs.Views.{first_view, nothing_held};
-ghost use Rattle.bihash_steps.specs.Steps.{counted, parent, newcomer, IsRefused, informed_by, joined};
-ghost use Rattle.bihash_steps.specs.Seats.{with_view};
+ghost use Rattle.bihash_steps.specs.Steps.{HaveBearers, IsToldWhole, counted, parent, newcomer, IsRefused, informed_by, joined};
+ghost use Rattle.bihash_steps.specs.Seats.{with_view, stamp_of};
 
 use bihash_steps::{Caller, CreateFault, Row, SplitFault, open_row};
 use bihash_words::Shape;
@@ -27,6 +25,14 @@ pub fn create<S: Shape>(alloc: Global) -> Result<(Sessions<S>, Caller<S>), Creat
 {
     let (row, caller) = open_row(alloc)?;
     Ok((Sessions { row }, caller))
+}
+
+/// The bucket and the stamp of the last answered call under the caller's acting number, refusals other than
+/// Contended included. `None` before the first.
+pub fn stamp<S: Shape>(caller: &Caller<S>) -> Option<(u64, u64)>
+    ensures { result ≡ stamp_of caller.now.seat.view.records }
+{
+    caller.seat.stamp()
 }
 
 impl<S: Shape> Sessions<S> {
@@ -79,16 +85,16 @@ impl<S: Shape> Sessions<S> {
         self.row.join(caller, other)
     }
 
-    /// Whether the caller has every number that was made. It is lone then, until a split of it succeeds.
+    /// Whether the caller has every number that was made. It is whole then, and lone until a split of it
+    /// succeeds.
     pub fn is_lone(&self, caller: &mut Caller<S>) -> bool
         requires own { caller.old.seat.row ≡ self.now.row }
         ensures counted { (count : ℕ) × (caller.old.seat.view.seen ≤ count)
             × (caller.new.seat ≡ with_view caller.old.seat (counted caller.old.seat.view count))
             × (result ≡ (count == length caller.old.seat.view.records)) }
         ensures lone { result ≡ caller.new.seat.view.lone }
-        ensures made { result ≡ true → HasMadeAll (sizes_of S.Shape) caller.new.seat.view }
-        ensures short { caller.new.seat.view.lone ≡ true → AreShort (sizes_of S.Shape)
-            (known_writes caller.new.seat.view.known (buckets (sizes_of S.Shape))) caller.new.seat.view.records }
+        ensures whole { result ≡ true → IsToldWhole (sizes_of S.Shape) caller.new.seat.view }
+        ensures bearers { HaveBearers (sizes_of S.Shape) caller.new.seat.view }
         ensures lawful { IsLawfulCaller (sizes_of S.Shape) caller.new.seat.view }
     {
         self.row.load_count(&mut caller.seat) == caller.seat.numbers()

@@ -4,7 +4,7 @@ ghost use Rattle.std.specs.Thread.{IsSync};
 ghost use Rattle.bihash_steps.specs.Views.{nothing_held};
 
 use crate::lock::lock;
-use crate::{Caller, CloseFault, Contended, Sessions, SplitFault, create};
+use crate::{Caller, CloseFault, Contended, Sessions, SplitFault, create, stamp};
 use bihash_steps::PoolWord;
 use bihash_words::{Add, Delete, Patch, Reply, Shape, Tiny, Touch};
 use std::sync::Wait;
@@ -165,7 +165,7 @@ fn first_split(rt: HostRuntime) -> Result<(), Fail> {
     for i in 0..5u32 {
         let reply = add(&table, &mut caller, &[u64::from(2 * i), 0], 100 + i)?;
         assert_eq!(rt; reply, Reply::Changed(None));
-        assert_eq!(rt; caller.seat.stamp(), Some((0, u64::from(i) + 1)));
+        assert_eq!(rt; stamp(&caller), Some((0, u64::from(i) + 1)));
     }
     let word = table.row.load_bucket(&mut caller.seat, 0);
     assert_eq!(rt; word.log2(), 1);
@@ -200,7 +200,7 @@ fn linear(rt: HostRuntime) -> Result<(), Fail> {
     assert_eq!(rt; (word.log2(), word.linear()), (1, true));
     assert!(rt; has(&table, caller, &[0, 8, 16, 24, 32])?);
     assert_eq!(rt; remove(&table, caller, &[8, 0])?, Reply::Changed(Some(8)));
-    assert_eq!(rt; caller.seat.stamp(), Some((0, 6)));
+    assert_eq!(rt; stamp(&caller), Some((0, 6)));
     assert!(rt; has(&table, caller, &[0, 16, 24, 32])?);
     assert_eq!(rt; search(&table, caller, &[8, 0])?, None);
     Ok(())
@@ -215,7 +215,7 @@ fn full(rt: HostRuntime) -> Result<(), Fail> {
     ];
     assert!(rt; fill(&table, caller, &keys)?);
     assert_eq!(rt; add(&table, caller, &[128, 0], 128)?, Reply::Full);
-    assert_eq!(rt; caller.seat.stamp(), Some((0, 16)));
+    assert_eq!(rt; stamp(&caller), Some((0, 16)));
     assert_eq!(rt; search(&table, caller, &[128, 0])?, None);
     assert!(rt; has(&table, caller, &keys)?);
     Ok(())
@@ -228,7 +228,7 @@ fn linear_at_the_limit(rt: HostRuntime) -> Result<(), Fail> {
     assert!(rt; fill(&table, caller, &[0, 4, 8, 12, 16, 24])?);
     let refused = add(&table, caller, &[32, 0], 32)?;
     assert_eq!(rt; refused, Reply::NoPages { log2: 2, left: 3 });
-    assert_eq!(rt; caller.seat.stamp(), Some((0, 6)));
+    assert_eq!(rt; stamp(&caller), Some((0, 6)));
     assert!(rt; has(&table, caller, &[0, 4, 8, 12, 16, 24])?);
     let (table, mut caller) = create::<Tiny<9, 1000>>(rt.alloc())?;
     let caller = &mut caller;
@@ -245,18 +245,18 @@ fn two_callers_without_a_meeting(rt: HostRuntime) -> Result<(), Fail> {
     let Ok((mut first, mut second)) = table.split(rt.alloc(), first) else {
         return Err("the split was refused")?;
     };
-    assert_eq!(rt; second.seat.stamp(), None);
+    assert_eq!(rt; stamp(&second), None);
     assert_eq!(rt; add(&table, &mut first, &[0, 0], 7)?, Reply::Changed(None));
-    assert_eq!(rt; first.seat.stamp(), Some((0, 1)));
+    assert_eq!(rt; stamp(&first), Some((0, 1)));
     assert_eq!(rt; search(&table, &mut second, &[0, 0])?, Some(7));
-    assert_eq!(rt; second.seat.stamp(), Some((0, 1)));
+    assert_eq!(rt; stamp(&second), Some((0, 1)));
     assert_eq!(rt;
         touch(&table, &mut second, &[0, 0], 8)?,
         Reply::Changed(Some(7))
     );
-    assert_eq!(rt; second.seat.stamp(), Some((0, 2)));
+    assert_eq!(rt; stamp(&second), Some((0, 2)));
     assert_eq!(rt; search(&table, &mut first, &[0, 0])?, Some(8));
-    assert_eq!(rt; first.seat.stamp(), Some((0, 2)));
+    assert_eq!(rt; stamp(&first), Some((0, 2)));
     let both = table.join(first, second);
     let Ok(pairs) = table.close(rt.alloc(), both) else {
         return Err("the table was not closed")?;
@@ -293,7 +293,7 @@ fn pages_used_up(rt: HostRuntime) -> Result<(), Fail> {
     let refused = add(&table, caller, &[8, 0], 8)?;
     assert_eq!(rt; refused, Reply::NoPages { log2: 1, left: 0 });
     assert_eq!(rt; add(&table, caller, &[1, 0], 9)?, Reply::Changed(None));
-    assert_eq!(rt; caller.seat.stamp(), Some((1, 3)));
+    assert_eq!(rt; stamp(&caller), Some((1, 3)));
     assert_eq!(rt; table.row.load_bucket(&mut caller.seat, 1).page(), 2);
     Ok(())
 }
@@ -306,13 +306,13 @@ fn worn(rt: HostRuntime) -> Result<(), Fail> {
     assert_eq!(rt; add(&table, caller, &[0, 0], 8)?, Reply::Changed(Some(7)));
     assert_eq!(rt; touch(&table, caller, &[0, 0], 9)?, Reply::Changed(Some(8)));
     assert_eq!(rt; add(&table, caller, &[0, 0], 10)?, Reply::Worn(Some(9)));
-    assert_eq!(rt; caller.seat.stamp(), Some((0, 3)));
+    assert_eq!(rt; stamp(&caller), Some((0, 3)));
     assert_eq!(rt; add(&table, caller, &[2, 0], 1)?, Reply::Worn(None));
     assert_eq!(rt; add(&table, caller, &[0, 0], 9)?, Reply::Kept(Some(9)));
     assert_eq!(rt; remove(&table, caller, &[4, 0])?, Reply::Kept(None));
     assert_eq!(rt; search(&table, caller, &[0, 0])?, Some(9));
     assert_eq!(rt; add(&table, caller, &[1, 0], 5)?, Reply::Changed(None));
-    assert_eq!(rt; caller.seat.stamp(), Some((1, 1)));
+    assert_eq!(rt; stamp(&caller), Some((1, 1)));
     Ok(())
 }
 
@@ -351,7 +351,7 @@ fn dropped_lock_holder(rt: HostRuntime) -> Result<(), Fail> {
         table.try_update(&mut first, &[0, 0], &Delete),
         Err(Contended)
     );
-    assert_eq!(rt; first.seat.stamp(), None);
+    assert_eq!(rt; stamp(&first), None);
     assert_eq!(rt; add(&table, &mut first, &[1, 0], 3)?, Reply::Changed(None));
     let Err((fault, _, _)) = table.close(rt.alloc(), first) else {
         return Err("a table was closed under a stranger")?;
@@ -371,7 +371,7 @@ fn two_writers(rt: HostRuntime) -> Result<(), Fail> {
     assert!(rt; all_changed);
     assert_eq!(rt; search(&table, &mut both, &[0, 0])?, Some(1000));
     assert_eq!(rt; search(&table, &mut both, &[2, 0])?, Some(1000));
-    assert_eq!(rt; both.seat.stamp(), Some((0, 2000)));
+    assert_eq!(rt; stamp(&both), Some((0, 2000)));
     Ok(())
 }
 

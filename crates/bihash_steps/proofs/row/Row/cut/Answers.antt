@@ -1,7 +1,8 @@
-use Rattle.std.proofs.Common.{rules, ap, sym, subst, ◌∙◌}
+use Rattle.std.proofs.Common.{rules, ap, arith, length, sym, subst, ◌∙◌}
 use Rattle.bihash_steps.specs.Callers.{IsLawfulCaller}
 use Rattle.bihash_steps.specs.Seats.{CallerState}
 use Rattle.bihash_steps.specs.Steps.{ViewOfSeat}
+use Rattle.bihash_steps.specs.declared.view.View.{View}
 use Rattle.bihash_steps.proofs.CountWord.{some_words}
 use Rattle.bihash_steps.proofs.Sharing.{cut_lawful, splits_numbers}
 use Rattle.bihash_steps.proofs.row.Row.cut.Goals as goal
@@ -19,4 +20,6 @@ returns-clause-lawful g c law =
     let first = λ (m : ViewOfSeat). m.0 in
     let same = ap (λ (k : CallerState). k.view) c.caller.view_is in
     cut_lawful _ _ c.caller.inside.seat.me.0 _ _ (ap first c.split_seat-seat.ensures.2) (ap first c.split_seat-seat.ensures.4)
+    (let kept = c.requires.kept in let one = c.requires.some in omega arith)
+    (let kept = c.requires.kept in let less = c.requires.less in let long = ap (λ (v : View). length v.records) same in omega arith)
     (subst (IsLawfulCaller _) (sym same) law)

@@ -1,7 +1,9 @@
-use Rattle.std.proofs.Common.{rules, ap, ◌∙◌, arith}
+use Rattle.std.proofs.Common.{rules, ap, ◌∙◌, arith, length, length-append}
 use Rattle.bihash_steps.specs.Seats.{CallerState}
+use Rattle.bihash_steps.specs.Steps.{ViewOfSeat}
 use Rattle.bihash_steps.proofs.CountWord.{some_words}
 use Rattle.bihash_steps.proofs.Counting.{agrees_known, met_agree}
+use Rattle.bihash_steps.proofs.SeatCounts.{can_act}
 use Rattle.bihash_steps.proofs.Sharing.{joins_numbers}
 use Rattle.bihash_steps.proofs.row.Row.take_in.Goals as goal
 
@@ -18,7 +20,11 @@ join_seat-requires g c = (
 )
 
 pub load-requires : goal.load-requires
-load-requires g c = (search rules, rw c.self.invariant.0.wide (some_words _), agrees_known _ _ _ _)
+load-requires g c =
+    let joined = ap (λ (m : ViewOfSeat). length m.0.records) c.join_seat.ensures.2 in
+    let both = length-append c.caller.inside.seat.me.0.records c.other.inside.seat.me.0.records in
+    let acts = can_act _ _ c.caller.invariant.1 in
+    (search rules, rw c.self.invariant.0.wide (some_words _), agrees_known _ _ _ _ (omega arith))
 
 pub returns-clause-agree : goal.returns-clause-agree
 returns-clause-agree g c =

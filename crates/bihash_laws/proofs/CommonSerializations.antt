@@ -13,10 +13,10 @@ use Rattle.bihash_steps.specs.declared.view.Record.{Record}
 use Rattle.bihash_steps.specs.declared.view.View.{View}
 use Rattle.bihash_steps.proofs.Lists.{at_either}
 use Rattle.bihash_laws.specs.Runs.{IsCommonHistory}
-use Rattle.bihash_laws.specs.Linearizations.{IsCommonLinearization, KnowsOwn, Turn}
+use Rattle.bihash_laws.specs.Serializations.{IsCommonSerialization, Operation}
 use Rattle.bihash_laws.proofs.CommonHistories.{common_history}
-use Rattle.bihash_laws.proofs.Linearizing.{AreLawful, linearized, turns}
-use Rattle.bihash_laws.proofs.Turns.{BearOnce}
+use Rattle.bihash_laws.proofs.Serializing.{AreLawful, serialized, operations}
+use Rattle.bihash_laws.proofs.Operations.{BearOnce}
 
 -- what holds of each element of two lists holds of each of both
 in_both : {A : Type 0} (P : A → Type 0) (xs ys : List A) → ((i : ℕ) (x : A) → get_elem? xs i ≡ some x → P x)
@@ -35,8 +35,8 @@ once_both rs qs first second apart i k r q other at_i at_k = go (at_either rs qs
     go (inr a) (inl b) = λ same. apart k a.0 q r b a.2 (sym same)
     go (inr a) (inr b) = second a.0 b.0 r q (λ same. other (let p = a.1 in let s = b.1 in omega arith)) a.2 b.2
 
-module _ (z : Sizes) (v w : View) (b : ℕ) (one : IsLawfulCaller z v) (two : IsLawfulCaller z w) (agree : Agrees v w) (inside : b < buckets z)
-    (mine : KnowsOwn b v w) (yours : KnowsOwn b w v) (acts : 1 ≤ length v.records) (other_acts : 1 ≤ length w.records) where
+module _ (z : Sizes) (v w : View) (b : ℕ) (one : IsLawfulCaller z v) (two : IsLawfulCaller z w) (agree : Agrees v w)
+    (inside : b < buckets z) where
   module _ (H : List Write) (common : IsCommonHistory z b v w H) where
     opening : Pairs
     opening = opening_at v.known b
@@ -44,9 +44,9 @@ module _ (z : Sizes) (v w : View) (b : ℕ) (one : IsLawfulCaller z v) (two : Is
     -- the history is a write list
     its_writes : IsWriteList z b (opening_at v.known b) H
     its_writes = elim common.known [
-      | inl is ↦ subst (IsWriteList z b (opening_at v.known b)) (sym is) (one.lists acts b inside)
+      | inl is ↦ subst (IsWriteList z b (opening_at v.known b)) (sym is) (one.lists b inside)
       | inr is ↦ subst (IsWriteList z b (opening_at v.known b)) (sym is)
-          (subst (λ (m : Pairs). IsWriteList z b m (known_at w.known b)) (sym common.opening) (two.lists other_acts b inside))
+          (subst (λ (m : Pairs). IsWriteList z b m (known_at w.known b)) (sym common.opening) (two.lists b inside))
     ]
 
     -- the writes of the history that either made are calls of its record
@@ -54,13 +54,13 @@ module _ (z : Sizes) (v w : View) (b : ℕ) (one : IsLawfulCaller z v) (two : Is
         → HasWrite r.calls b (n + 1)
     own i n r x at_i at by = one.lawful.own i b n r x at_i inside (elim common.known [
       | inl is ↦ sym (ap (λ (l : List Write). get_elem? l n) is) ∙ at
-      | inr is ↦ mine n x (sym (ap (λ (l : List Write). get_elem? l n) is) ∙ at) (i, r, at_i, sym by)
+      | inr is ↦ agree.own b n x (sym (ap (λ (l : List Write). get_elem? l n) is) ∙ at) (i, r, at_i, sym by)
     ]) by
 
     other_own : (i n : ℕ) (r : Record) (x : Write) → get_elem? w.records i ≡ some r → get_elem? H n ≡ some x → x.by ≡ r.number
         → HasWrite r.calls b (n + 1)
     other_own i n r x at_i at by = two.lawful.own i b n r x at_i inside (elim common.known [
-      | inl is ↦ yours n x (sym (ap (λ (l : List Write). get_elem? l n) is) ∙ at) (i, r, at_i, sym by)
+      | inl is ↦ agree.other_own b n x (sym (ap (λ (l : List Write). get_elem? l n) is) ∙ at) (i, r, at_i, sym by)
       | inr is ↦ sym (ap (λ (l : List Write). get_elem? l n) is) ∙ at
     ]) by
 
@@ -77,21 +77,16 @@ module _ (z : Sizes) (v w : View) (b : ℕ) (one : IsLawfulCaller z v) (two : Is
       steps = λ n x at. (its_writes.each n x at).changes;
     }
 
-  pub common_order_at : (history : List Write) × (turns : List Turn) × IsCommonLinearization z b v w history turns
+  pub common_order_at : (history : List Write) × (operations : List Operation) × IsCommonSerialization z b v w history operations
   common_order_at = let h = common_history z v w one two agree b in (
     h.0,
-    turns z b (opening_at v.known b) h.0 (v.records ++ w.records),
+    operations z b (opening_at v.known b) h.0 (v.records ++ w.records),
     record {
       common = h.1;
-      order = linearized z b (opening_at v.known b) h.0 (v.records ++ w.records) (both_lawful h.0 h.1);
+      serial = serialized z b (opening_at v.known b) h.0 (v.records ++ w.records) (both_lawful h.0 h.1);
     },
   )
 
 pub common_order : (z : Sizes) (v w : View) (b : ℕ) → IsLawfulCaller z v → IsLawfulCaller z w → Agrees v w → b < buckets z
-    → KnowsOwn b v w → KnowsOwn b w v → 1 ≤ length v.records → 1 ≤ length w.records
-    → (history : List Write) × (turns : List Turn) × IsCommonLinearization z b v w history turns
-common_order z v w b one two agree inside mine yours acts other_acts = common_order_at z v w b one two agree inside mine yours acts other_acts
-
--- a caller knows of its own writes what another knows that knows the same
-pub same_knows_own : (v w : View) (b : ℕ) → known_at v.known b ≡ known_at w.known b → KnowsOwn b v w
-same_knows_own v w b same n x at by = ap (λ (l : List Write). get_elem? l n) same ∙ at
+    → (history : List Write) × (operations : List Operation) × IsCommonSerialization z b v w history operations
+common_order = common_order_at

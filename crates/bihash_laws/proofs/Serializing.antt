@@ -10,17 +10,18 @@ use Rattle.bihash_words.specs.Maps.{Pairs, Step, changed}
 use Rattle.bihash_words.specs.Sizes.{Sizes}
 use Rattle.bihash_steps.specs.Words.{buckets}
 use Rattle.bihash_steps.specs.Histories.{IsAnswer, IsLegal, after, bounds_of, event_of, event_of_write, is_changed, write_of}
-use Rattle.bihash_steps.specs.Callers.{HasMade, HasNumber, HasWrite, IsLawfulCaller, Rises, known_at, opening_at}
+use Rattle.bihash_steps.specs.Callers.{HasMade, HasMadeAll, HasNumber, HasWrite, IsLawfulCaller, IsWhole, Rises, known_at, opening_at}
+use Rattle.bihash_steps.specs.Steps.{HaveBearers}
 use Rattle.bihash_steps.specs.declared.view.Write.{Write}
 use Rattle.bihash_steps.specs.declared.view.Call.{Call}
 use Rattle.bihash_steps.specs.declared.view.Record.{Record}
 use Rattle.bihash_steps.specs.declared.view.View.{View}
 use Rattle.bihash_laws.specs.Runs.{AreLegal, IsRun, calls_on, writes_behind}
-use Rattle.bihash_laws.specs.Linearizations.{AreStamped, IsLinearization, Turn, calls_by, calls_in, writes_in}
+use Rattle.bihash_laws.specs.Serializations.{AreStamped, IsCalled, IsSerialization, Operation, calls_by, calls_in, writes_in}
 use Rattle.bihash_laws.proofs.MapSteps.{after_next, step_leaves}
 use Rattle.bihash_laws.proofs.Moments.{at_moment, by_moments, from_moment}
-use Rattle.bihash_laws.proofs.OwnCalls.{AreCalls, Kind, call_of, elsewhere, have_moments, in_order, kind, moment, none_later, own_write, read, write, write_steps}
-use Rattle.bihash_laws.proofs.Turns.{BearOnce, calls_by-append, calls_by-cons, calls_by-turns_at, turn, turns_at, turns_each}
+use Rattle.bihash_laws.proofs.OwnCalls.{AreCalls, Kind, call_of, elsewhere, have_moments, in_order, is_call_of, kind, moment, none_later, own_write, read, write}
+use Rattle.bihash_laws.proofs.Operations.{BearOnce, calls_by-append, calls_by-cons, calls_by-operations_at, operation, operations_at, operations_each}
 
 -- Records whose calls on bucket b are lawful on this history, each write of which is a step.
 pub record AreLawful (z : Sizes) (b : ℕ) (opening : Pairs) (H : List Write) (records : List Record) : Type 0 where
@@ -33,16 +34,16 @@ pub record AreLawful (z : Sizes) (b : ℕ) (opening : Pairs) (H : List Write) (r
       (changed (after opening H n) w.key w.change)
 
 module _ (z : Sizes) (b : ℕ) (opening : Pairs) (H : List Write) (records : List Record) where
-  -- ---- The turns
+  -- ---- The operations
 
   -- each of these writes, which stand behind n others, with what was read behind it
-  abbrev pub writes_and_reads : ℕ → Pairs → List Write → List Turn
+  abbrev pub writes_and_reads : ℕ → Pairs → List Write → List Operation
   writes_and_reads n m [] = []
-  writes_and_reads n m (w ∷ ws) = turn w.by (call_of b n m w)
-      ∷ (turns_at b (2 * (n + 1) + 1) records ++ writes_and_reads (n + 1) (changed m w.key w.change) ws)
+  writes_and_reads n m (w ∷ ws) = operation w.by (call_of b n m w)
+      ∷ (operations_at b (2 * (n + 1) + 1) records ++ writes_and_reads (n + 1) (changed m w.key w.change) ws)
 
-  abbrev pub turns : List Turn
-  turns = turns_at b 1 records ++ writes_and_reads 0 opening H
+  abbrev pub operations : List Operation
+  operations = operations_at b 1 records ++ writes_and_reads 0 opening H
 
   -- these writes are what is left of the history behind n writes, that left the map m
   record AreLeft (n : ℕ) (m : Pairs) (ws : List Write) : Type 0 where
@@ -62,29 +63,29 @@ module _ (z : Sizes) (b : ℕ) (opening : Pairs) (H : List Write) (records : Lis
 
   -- ---- They are a run
 
-  abbrev pub IsHere : Turn → Type 0
+  abbrev pub IsHere : Operation → Type 0
   IsHere t = t.call.bucket ≡ b
 
-  -- a turn that is a record's or a write of the history
-  abbrev pub IsOurs : Turn → Type 0
+  -- a operation that is a record's or a write of the history
+  abbrev pub IsOurs : Operation → Type 0
   IsOurs t = HasNumber records t.by ⊎ ((is_changed t.call.reply ≡ true) × (n : ℕ) × (get_elem? H n ≡ some (write_of t.by t.call)))
 
-  record IsReadAt (n : ℕ) (t : Turn) : Type 0 where
+  record IsReadAt (n : ℕ) (t : Operation) : Type 0 where
     kept : is_changed t.call.reply ≡ false
     answer : IsAnswer z (after opening H n) n t.call
     stamp : t.call.stamp ≡ n
     home : t.call.bucket ≡ b
     ours : HasNumber records t.by
 
-  -- what is to be shown of the turns behind n writes that left the map m
-  pub record AreGood (n : ℕ) (m : Pairs) (ws : List Write) (ts : List Turn) : Type 0 where
+  -- what is to be shown of the operations behind n writes that left the map m
+  pub record AreGood (n : ℕ) (m : Pairs) (ws : List Write) (ts : List Operation) : Type 0 where
     pub run : IsRun z m n (calls_in ts) (after opening H (length H)) (length H)
     pub writes : writes_in ts ≡ ws
     pub stamps : AreStamped n (calls_in ts)
     pub home : All IsHere ts
     pub ours : All IsOurs ts
 
-  one_read : (n : ℕ) (m : Pairs) (ws : List Write) (t : Turn) (ts : List Turn) → m ≡ after opening H n → IsReadAt n t
+  one_read : (n : ℕ) (m : Pairs) (ws : List Write) (t : Operation) (ts : List Operation) → m ≡ after opening H n → IsReadAt n t
       → AreGood n m ws ts → AreGood n m ws (t ∷ ts)
   one_read n m ws t ts is reads good = record {
     run = (
@@ -93,7 +94,7 @@ module _ (z : Sizes) (b : ℕ) (opening : Pairs) (H : List Write) (records : Lis
       subst (λ (p : Pairs). IsRun z p (writes_behind n t.call) (calls_in ts) last (length H)) (sym leaves)
           (subst (λ (k : ℕ). IsRun z m k (calls_in ts) last (length H)) (sym count) good.run),
     );
-    writes = ap (λ (s : Bool). map (λ (x : Turn). write_of x.by x.call) (cond s (t ∷ W) W)) reads.kept ∙ good.writes;
+    writes = ap (λ (s : Bool). map (λ (x : Operation). write_of x.by x.call) (cond s (t ∷ W) W)) reads.kept ∙ good.writes;
     stamps = (reads.stamp ∙ sym count, subst (λ (k : ℕ). AreStamped k (calls_in ts)) (sym count) good.stamps);
     home = All-cons IsHere t ts reads.home good.home;
     ours = All-cons IsOurs t ts (inl reads.ours) good.ours;
@@ -102,7 +103,7 @@ module _ (z : Sizes) (b : ℕ) (opening : Pairs) (H : List Write) (records : Lis
       last : Pairs
       last = after opening H (length H)
 
-      W : List Turn
+      W : List Operation
       W = filter (λ x. is_changed x.call.reply) ts
 
       answer : IsAnswer z m n t.call
@@ -114,22 +115,22 @@ module _ (z : Sizes) (b : ℕ) (opening : Pairs) (H : List Write) (records : Lis
       count : writes_behind n t.call ≡ n
       count = ap (λ (s : Bool). cond s (n + 1) n) reads.kept
 
-  reads_good : (n : ℕ) (m : Pairs) (ws : List Write) (ts us : List Turn) → m ≡ after opening H n → All (IsReadAt n) ts
+  reads_good : (n : ℕ) (m : Pairs) (ws : List Write) (ts us : List Operation) → m ≡ after opening H n → All (IsReadAt n) ts
       → AreGood n m ws us → AreGood n m ws (ts ++ us)
   reads_good n m ws [] us is reads good = good
   reads_good n m ws (t ∷ ts) us is reads good = one_read n m ws t (ts ++ us) is (All-head (IsReadAt n) t ts reads)
       (reads_good n m ws ts us is (All-tail (IsReadAt n) t ts reads) good)
 
   module _ (law : AreLawful z b opening H records) where
-    reads_at : (n : ℕ) → All (IsReadAt n) (turns_at b (2 * n + 1) records)
-    reads_at n = turns_each (IsReadAt n) b (2 * n + 1) records (λ i j r c at_i at_j test.
+    reads_at : (n : ℕ) → All (IsReadAt n) (operations_at b (2 * n + 1) records)
+    reads_at n = operations_each (IsReadAt n) b (2 * n + 1) records (λ i j r c at_i at_j test.
         go i j r c at_i at_j (elim (eqb_tells (moment b c) (2 * n + 1)) [
           | inl (same, h) ↦ h
           | inr (other, h) ↦ absurd (true≢false (sym test ∙ other))
         ]) (kind b c))
       where
         go : (i j : ℕ) (r : Record) (c : Call) → get_elem? records i ≡ some r → get_elem? r.calls j ≡ some c
-            → moment b c ≡ 2 * n + 1 → Kind b c → IsReadAt n (turn r.number c)
+            → moment b c ≡ 2 * n + 1 → Kind b c → IsReadAt n (operation r.number c)
         go i j r c at_i at_j is (elsewhere other its) = absurd (omega arith)
         go i j r c at_i at_j is (write home wrote its) = absurd (omega arith)
         go i j r c at_i at_j is (read home kept its) = let stamp : c.stamp ≡ n = omega arith in record {
@@ -140,8 +141,8 @@ module _ (z : Sizes) (b : ℕ) (opening : Pairs) (H : List Write) (records : Lis
           ours = (i, r, at_i, refl);
         }
 
-    one_write : (n : ℕ) (m : Pairs) (w : Write) (ws : List Write) (ts : List Turn) → m ≡ after opening H n → get_elem? H n ≡ some w
-        → AreGood (n + 1) (changed m w.key w.change) ws ts → AreGood n m (w ∷ ws) (turn w.by (call_of b n m w) ∷ ts)
+    one_write : (n : ℕ) (m : Pairs) (w : Write) (ws : List Write) (ts : List Operation) → m ≡ after opening H n → get_elem? H n ≡ some w
+        → AreGood (n + 1) (changed m w.key w.change) ws ts → AreGood n m (w ∷ ws) (operation w.by (call_of b n m w) ∷ ts)
     one_write n m w ws ts is at good = record {
       run = (
         changed m w.key w.change,
@@ -150,8 +151,8 @@ module _ (z : Sizes) (b : ℕ) (opening : Pairs) (H : List Write) (records : Lis
       );
       writes = ap (λ (x : List Write). w ∷ x) good.writes;
       stamps = (refl, good.stamps);
-      home = All-cons IsHere (turn w.by (call_of b n m w)) ts refl good.home;
-      ours = All-cons IsOurs (turn w.by (call_of b n m w)) ts (inr (refl, n, at)) good.ours;
+      home = All-cons IsHere (operation w.by (call_of b n m w)) ts refl good.home;
+      ours = All-cons IsOurs (operation w.by (call_of b n m w)) ts (inr (refl, n, at)) good.ours;
     }
 
     rest_good : (n : ℕ) (m : Pairs) (ws : List Write) → AreLeft n m ws → AreGood n m ws (writes_and_reads n m ws)
@@ -163,8 +164,8 @@ module _ (z : Sizes) (b : ℕ) (opening : Pairs) (H : List Write) (records : Lis
       ours = All-nil IsOurs;
     }
     rest_good n m (w ∷ ws) left = let then = next n m w ws left in let p : Pairs = changed m w.key w.change in
-        one_write n m w ws (turns_at b (2 * (n + 1) + 1) records ++ writes_and_reads (n + 1) p ws) left.map (first n m w ws left)
-        (reads_good (n + 1) p ws (turns_at b (2 * (n + 1) + 1) records) (writes_and_reads (n + 1) p ws) then.map (reads_at (n + 1))
+        one_write n m w ws (operations_at b (2 * (n + 1) + 1) records ++ writes_and_reads (n + 1) p ws) left.map (first n m w ws left)
+        (reads_good (n + 1) p ws (operations_at b (2 * (n + 1) + 1) records) (writes_and_reads (n + 1) p ws) then.map (reads_at (n + 1))
         (rest_good (n + 1) p ws then))
 
     all_left : AreLeft 0 opening H
@@ -174,8 +175,8 @@ module _ (z : Sizes) (b : ℕ) (opening : Pairs) (H : List Write) (records : Lis
       each = λ k w at. let place : 0 + k ≡ k = omega arith in ap (get_elem? H) place ∙ at;
     }
 
-    pub all_good : AreGood 0 opening H turns
-    all_good = reads_good 0 opening H (turns_at b 1 records) (writes_and_reads 0 opening H) refl (reads_at 0) (rest_good 0 opening H all_left)
+    pub all_good : AreGood 0 opening H operations
+    all_good = reads_good 0 opening H (operations_at b 1 records) (writes_and_reads 0 opening H) refl (reads_at 0) (rest_good 0 opening H all_left)
 
     -- ---- Each record has its calls
 
@@ -201,83 +202,103 @@ module _ (z : Sizes) (b : ℕ) (opening : Pairs) (H : List Write) (records : Lis
           sym (ap from_it (sym all) ∙ none_later z b opening H r.number r.calls (calls_of i r at))
       its_rest n m (w ∷ ws) left =
           let then = next n m w ws left in let p : Pairs = changed m w.key w.change in
-          let reads : List Turn = turns_at b (2 * (n + 1) + 1) records in let others : List Turn = writes_and_reads (n + 1) p ws in
+          let reads : List Operation = operations_at b (2 * (n + 1) + 1) records in let others : List Operation = writes_and_reads (n + 1) p ws in
           let here : cond (eqb w.by r.number) (call_of b n m w ∷ []) [] ≡ at_it (2 * n + 2) =
           ap (λ (q : Pairs). cond (eqb w.by r.number) (call_of b n q w ∷ []) []) left.map
           ∙ sym (own_write z b opening H r.number r.calls (calls_of i r at) n w (first n m w ws left)) in
           let three : 2 * (n + 1) + 1 ≡ 2 * n + 2 + 1 = omega arith in
           let four : 2 * (n + 1) + 2 ≡ 2 * n + 2 + 1 + 1 = omega arith in
-          calls_by-cons r.number (turn w.by (call_of b n m w)) (reads ++ others)
+          calls_by-cons r.number (operation w.by (call_of b n m w)) (reads ++ others)
           ∙ (ap (λ (cs : List Call). cond (eqb w.by r.number) (call_of b n m w ∷ []) [] ++ cs) (calls_by-append r.number reads others)
-          ∙ ((λ j. here j ++ ((calls_by-turns_at b (2 * (n + 1) + 1) records i r law.once at ∙ ap at_it three) j
+          ∙ ((λ j. here j ++ ((calls_by-operations_at b (2 * (n + 1) + 1) records i r law.once at ∙ ap at_it three) j
           ++ (its_rest (n + 1) p ws then ∙ ap from_it four) j))
           ∙ sym (parts (2 * n + 2) (omega arith) ∙ ap (λ (cs : List Call). at_it (2 * n + 2) ++ cs) (parts (2 * n + 2 + 1) (omega arith)))))
 
-      pub its_calls : calls_by r.number turns ≡ calls_on b r.calls
-      its_calls = calls_by-append r.number (turns_at b 1 records) (writes_and_reads 0 opening H)
-          ∙ ((λ j. calls_by-turns_at b 1 records i r law.once at j ++ its_rest 0 opening H all_left j)
+      pub its_calls : calls_by r.number operations ≡ calls_on b r.calls
+      its_calls = calls_by-append r.number (operations_at b 1 records) (writes_and_reads 0 opening H)
+          ∙ ((λ j. calls_by-operations_at b 1 records i r law.once at j ++ its_rest 0 opening H all_left j)
           ∙ sym (have_moments z b opening H r.number r.calls (calls_of i r at) ∙ parts 1 (omega arith)))
 
     -- ---- The order
 
-    pub linearized : IsLinearization z b opening H records turns
-    linearized = record {
+    pub serialized : IsSerialization z b opening H records operations
+    serialized = record {
       run = all_good.run;
       writes = all_good.writes;
       stamps = all_good.stamps;
       home = all_good.home;
       order = its_calls;
       others = All-weaker IsOurs (λ t. HasNumber records t.by ⊎ (is_changed t.call.reply ≡ true))
-          (λ t ours. elim ours [ inl own ↦ inl own | inr other ↦ inr other.0 ]) turns all_good.ours;
+          (λ t ours. elim ours [ inl own ↦ inl own | inr other ↦ inr other.0 ]) operations all_good.ours;
     }
 
-    -- where the records made each write, each turn is theirs
-    pub none_else : ((n : ℕ) (w : Write) → get_elem? H n ≡ some w → HasNumber records w.by) → All (λ t. HasNumber records t.by) turns
+    -- where the records made each write, each operation is theirs
+    pub none_else : ((n : ℕ) (w : Write) → get_elem? H n ≡ some w → HasNumber records w.by) → All (λ t. HasNumber records t.by) operations
     none_else made = All-weaker IsOurs (λ t. HasNumber records t.by)
-        (λ t ours. elim ours [ inl own ↦ own | inr other ↦ made other.1 (write_of t.by t.call) other.2 ]) turns all_good.ours
+        (λ t ours. elim ours [ inl own ↦ own | inr other ↦ made other.1 (write_of t.by t.call) other.2 ]) operations all_good.ours
 
 -- ---- One caller
 
 module _ (z : Sizes) (v : View) (b : ℕ) (caller : IsLawfulCaller z v) (inside : b < buckets z) where
+  opening : Pairs
+  opening = opening_at v.known b
+
+  H : List Write
+  H = known_at v.known b
+
   legal_there : AreLegal z b (opening_at v.known b) (known_at v.known b) v.records
   legal_there i k r c at_i at_k home = subst (λ (n : ℕ). IsLegal z (opening_at v.known n) (known_at v.known n) r.number c) home
       (caller.lawful.legal i k r c at_i at_k)
 
-  lawful_there : ((n : ℕ) (w : Write) → get_elem? (known_at v.known b) n ≡ some w
-      → Step (bounds_of z) (after (opening_at v.known b) (known_at v.known b) n) n
-      (event_of_write (after (opening_at v.known b) (known_at v.known b) n) w)
-      (changed (after (opening_at v.known b) (known_at v.known b) n) w.key w.change))
-      → AreLawful z b (opening_at v.known b) (known_at v.known b) v.records
-  lawful_there steps = record {
+  lawful_there : AreLawful z b (opening_at v.known b) (known_at v.known b) v.records
+  lawful_there = record {
     legal = legal_there;
     rises = caller.lawful.rises;
     own = λ i n r w at_i at_n mine. caller.lawful.own i b n r w at_i inside at_n mine;
     once = caller.numbers.once;
-    steps = steps;
+    steps = λ n w at. ((caller.lists b inside).each n w at).changes;
   }
 
+  pub one_order_at : (operations : List Operation) × IsSerialization z b (opening_at v.known b) (known_at v.known b) v.records operations
+  one_order_at = (operations z b opening H v.records, serialized z b opening H v.records lawful_there)
+
+  pub whole_order_at : HasMade v.records (known_at v.known b)
+      → (operations : List Operation) × IsSerialization z b (opening_at v.known b) (known_at v.known b) v.records operations
+      × All (λ t. HasNumber v.records t.by) operations
+  whole_order_at made =
+      (operations z b opening H v.records, serialized z b opening H v.records lawful_there, none_else z b opening H v.records lawful_there made)
+
+  -- a write of one of its records is a call of it, at its stamp
+  pub called_at : (n : ℕ) (w : Write) → get_elem? (known_at v.known b) n ≡ some w → HasNumber v.records w.by → IsCalled b n w v.records
+  called_at n w at by =
+      let h = caller.lawful.own by.0 b n by.1 w by.2 inside at (sym by.3) in
+      let legal = legal_there by.0 h.0 by.1 h.1 by.2 h.2 h.3 in
+      record {
+        at = by.0;
+        record_at = by.1;
+        stands = by.2;
+        place = h.0;
+        call = h.1;
+        called = h.2;
+        bucket = h.3;
+        changed = h.4;
+        stamp = h.5;
+        write = (is_call_of z b opening H by.1.number h.1 n w legal h.3 h.4 h.5 at).0;
+      }
+
 pub one_order : (z : Sizes) (v : View) (b : ℕ) → IsLawfulCaller z v → b < buckets z
-    → 1 ≤ length v.records
-    → (turns : List Turn) × IsLinearization z b (opening_at v.known b) (known_at v.known b) v.records turns
-one_order z v b caller inside has =
-    let law = lawful_there z v b caller inside (λ n w at. ((caller.lists has b inside).each n w at).changes) in
-    (turns z b (opening_at v.known b) (known_at v.known b) v.records, linearized z b (opening_at v.known b) (known_at v.known b) v.records law)
+    → (operations : List Operation) × IsSerialization z b (opening_at v.known b) (known_at v.known b) v.records operations
+one_order = one_order_at
 
-pub whole_order : (z : Sizes) (v : View) (b : ℕ) → IsLawfulCaller z v → b < buckets z → HasMade v.records (known_at v.known b)
-    → (turns : List Turn) × IsLinearization z b (opening_at v.known b) (known_at v.known b) v.records turns
-    × All (λ t. HasNumber v.records t.by) turns
-whole_order z v b caller inside made =
-    (turns z b opening H v.records, linearized z b opening H v.records law, none_else z b opening H v.records law made)
-  where
-    opening : Pairs
-    opening = opening_at v.known b
+pub whole_order : (z : Sizes) (v : View) (b : ℕ) → IsLawfulCaller z v → HasMadeAll z v → b < buckets z
+    → (operations : List Operation) × IsSerialization z b (opening_at v.known b) (known_at v.known b) v.records operations
+    × All (λ t. HasNumber v.records t.by) operations
+whole_order z v b caller made inside = whole_order_at z v b caller inside (made b inside)
 
-    H : List Write
-    H = known_at v.known b
+pub whole_call : (z : Sizes) (v : View) (b n : ℕ) (w : Write) → IsLawfulCaller z v → HasMadeAll z v → b < buckets z
+    → get_elem? (known_at v.known b) n ≡ some w → IsCalled b n w v.records
+whole_call z v b n w caller made inside at = called_at z v b caller inside n w at (made b inside n w at)
 
-    law : AreLawful z b (opening_at v.known b) (known_at v.known b) v.records
-    law = lawful_there z v b caller inside (λ n w at.
-        let by = made n w at in
-        let h = caller.lawful.own by.0 b n by.1 w by.2 inside at (sym by.3) in
-        write_steps z b (opening_at v.known b) (known_at v.known b) by.1.number h.1 n w
-        (legal_there z v b caller inside by.0 h.0 by.1 h.1 by.2 h.2 h.3) h.3 h.4 h.5 at)
+-- a caller that has each number up to the count that it saw made each write that it knows
+pub whole_made : (z : Sizes) (v : View) → IsWhole v.records v.seen → HaveBearers z v → HasMadeAll z v
+whole_made z v whole bearers b inside n w at = let by = bearers b n w inside at in whole w.by by.0 by.1
