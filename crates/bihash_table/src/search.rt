@@ -39,7 +39,15 @@ impl<S: Shape> Sessions<S> {
         };
         let found = find_value(&self.row, &mut caller.seat, word, hash, key);
         let seat = &mut caller.seat;
-        if !self.row.validate(seat, bucket, word, key, found, Change::Keep, Reply::Kept(found)) {
+        if !self.row.validate(
+            seat,
+            bucket,
+            word,
+            key,
+            found,
+            Change::Keep,
+            Reply::Kept(found),
+        ) {
             return Err(Contended);
         }
         Ok(found)

@@ -62,7 +62,10 @@ impl<S: Shape> Sessions<S> {
         if is_idle(change, found) {
             let reply = Reply::Kept(found);
             let seat = &mut caller.seat;
-            if !self.row.validate(seat, bucket, word, key, found, change, reply) {
+            if !self
+                .row
+                .validate(seat, bucket, word, key, found, change, reply)
+            {
                 return Err(Contended);
             }
             return Ok(reply);

@@ -26,9 +26,12 @@ returns-clause-map g c = λ won. let h = c.requires.open in
     (c.lock_from.ensures.rests won h.block.open_bucket h.block.noted h.bucket (open_word_is (sizes_of g.S.Shape) _ _ _ h))
 
 pub returns-clause-rests : goal.returns-clause-rests
-returns-clause-rests g c = λ won. let h = c.requires.open in (h.block.open_bucket, h.block.noted,
-    reads_rest (sizes_of g.S.Shape) _ _ _ _ h (c.lock_from.ensures.taken won)
-    (c.lock_from.ensures.rests won h.block.open_bucket h.block.noted h.bucket (open_word_is (sizes_of g.S.Shape) _ _ _ h)))
+returns-clause-rests g c = λ won. let h = c.requires.open in (
+  h.block.open_bucket,
+  h.block.noted,
+  reads_rest (sizes_of g.S.Shape) _ _ _ _ h (c.lock_from.ensures.taken won)
+      (c.lock_from.ensures.rests won h.block.open_bucket h.block.noted h.bucket (open_word_is (sizes_of g.S.Shape) _ _ _ h)),
+)
 
 pub returns-clause-turned_away : goal.returns-clause-turned_away
 returns-clause-turned_away g c = λ lost. not_taken (sizes_of g.S.Shape) _ _ _ c.requires.open.held (c.lock_from.ensures.not lost)
