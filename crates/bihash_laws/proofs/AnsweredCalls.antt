@@ -92,7 +92,7 @@ module _ (z : Sizes) (b : ℕ) (v w : View) (e : Event) (a : IsLawfulAnswer z b 
       let same = with_locks-length a.answered.locks v.records in omega arith
 
   acts_with : (r : Record) × (get_elem? v.records 0 ≡ some r) × (r.number ≡ acting v.records)
-  acts_with = first_there v.records a.acts
+  acts_with = first_there v.records acts
 
   left_with : (r : Record) → get_elem? v.records 0 ≡ some r
       → (q : Record) × (get_elem? w.records 0 ≡ some q) × (q.number ≡ r.number) × (q.calls ≡ r.calls ++ entry ∷ [])

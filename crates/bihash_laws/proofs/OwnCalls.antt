@@ -7,18 +7,17 @@ use Rattle.std.proofs.lemmas.Bool.{cases_lt}
 use lib.Dec.{eqb, leb}
 use mathlib.Core.Option.{some, some-injective}
 use lib.ListN.{get_elem?}
-use Rattle.bihash_words.specs.Maps.{Answers, Bounds, Crowded, Entering, Event, Exhausted, Pairs, Present, Step, changed, effect_of, most_pairs, row_with}
+use Rattle.bihash_words.specs.Maps.{Answers, Bounds, Crowded, Entering, Event, Exhausted, Pairs, Present, Step, effect_of, most_pairs, row_with}
 use Rattle.bihash_words.specs.Sizes.{Sizes}
 use Rattle.bihash_words.specs.declared.patch.Change.{Change}
 use Rattle.bihash_words.specs.declared.patch.Change.TheVariants.{Keep, Set, Remove}
 use Rattle.bihash_words.specs.declared.patch.Reply.{Reply}
 use Rattle.bihash_words.specs.declared.patch.Reply.TheVariants.{Changed}
-use Rattle.bihash_steps.specs.Histories.{IsAnswer, IsLegal, after, bounds_of, event_of, event_of_write, is_changed, store_of, write_of}
+use Rattle.bihash_steps.specs.Histories.{IsAnswer, IsLegal, after, bounds_of, event_of, is_changed, store_of, write_of}
 use Rattle.bihash_steps.specs.Callers.{HasWrite, Rises}
 use Rattle.bihash_steps.specs.declared.view.Write.{Write}
 use Rattle.bihash_steps.specs.declared.view.Call.{Call}
 use Rattle.bihash_laws.specs.Runs.{calls_on}
-use Rattle.bihash_laws.proofs.MapSteps.{step_changes}
 use Rattle.bihash_laws.proofs.Moments.{AreOrdered, at_moment, filter_none, filter_one, filter_same, from_moment, eqb-true, eqb-false, leb-true, leb-false}
 
 -- ---- What a changing call answers

@@ -240,10 +240,10 @@ module _ (z : Sizes) (b : ℕ) (opening : Pairs) (H : List Write) (records : Lis
 -- ---- One caller
 
 module _ (z : Sizes) (v : View) (b : ℕ) (caller : IsLawfulCaller z v) (inside : b < buckets z) where
-  opening : Pairs
+  abbrev opening : Pairs
   opening = opening_at v.known b
 
-  H : List Write
+  abbrev H : List Write
   H = known_at v.known b
 
   legal_there : AreLegal z b (opening_at v.known b) (known_at v.known b) v.records
