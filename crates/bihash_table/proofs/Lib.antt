@@ -30,10 +30,12 @@ pub mod Replacing
 pub mod SameCallers
 pub mod Seeing
 pub mod Searching
+pub mod Sights
 pub mod Sorting
 pub mod Stores
 pub mod Storing
 pub mod TakenLocks
+pub mod Tries
 pub mod Turns
 pub mod Updated
 pub mod Versions

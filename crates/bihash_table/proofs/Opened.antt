@@ -256,10 +256,10 @@ not_taken z v w b free is = let notes = ap (λ (x : View). x.notes) is in record
 
 module _ (z : Sizes) (v w : View) (b word : ℕ) (h : HasOpen z v b word) (t : TakesLock z v b word w)
     (rests : (l : LockedBucket) → w.holds.bucket ≡ Some l → RestsOn h.block.open_bucket l) where
-  abbrev lock_taken : LockedBucket
+  abbrev pub lock_taken : LockedBucket
   lock_taken = locked_on b (length t.history) t.extent t.block
 
-  rests_here : RestsOn h.block.open_bucket lock_taken
+  pub rests_here : RestsOn h.block.open_bucket lock_taken
   rests_here = rests lock_taken (ap (λ (x : View). x.holds.bucket) t.is)
 
   few_known : length t.history ≤ length (known_at v.known b)
@@ -267,6 +267,9 @@ module _ (z : Sizes) (v w : View) (b word : ℕ) (h : HasOpen z v b word) (t : T
 
   now_known : known_at w.known b ≡ t.history
   now_known = ap (λ (x : View). known_at x.known b) t.is ∙ known_learned v b t.history t.found.listed
+
+  pub same_known : known_at w.known b ≡ known_at v.known b
+  same_known = now_known ∙ sym (prefix_whole (known_at v.known b) t.history t.found.begins few_known)
 
   now_opening : opening_at w.known b ≡ opening_at v.known b
   now_opening = ap (λ (x : View). opening_at x.known b) t.is

@@ -8,5 +8,7 @@ pub mod PairLists
 pub mod Places
 pub mod Runs
 pub mod Scans
+pub mod Seen
 pub mod Shortage
 pub mod Stores
+pub mod Tries
