@@ -11,7 +11,7 @@ use Rattle.bihash_steps.specs.declared.view.Extent.{Extent}
 use Rattle.bihash_steps.specs.declared.view.View.{View}
 use Rattle.bihash_table.specs.Places.{HasPairOf}
 use Rattle.bihash_table.specs.Scans.{AreOpenTo}
-use Rattle.bihash_table.specs.OpenReads.{NotesBlock, Saw, LastWordTells, AreMarks, IsValueAt, IsValueAmong}
+use Rattle.bihash_table.specs.OpenReads.{NotesBlock, Saw, LastWordTells, AreMarks, IsValueAt, IsPairAmong}
 use Rattle.bihash_table.proofs.OpenPlaces.{absent_in}
 use Rattle.bihash_table.proofs.PlaceReads.{SameTo, word_of_key, all_same}
 use Rattle.bihash_table.proofs.Seeing.{saw_as, saw_both, saw_then, note_extent}
@@ -95,12 +95,12 @@ module _ (z : Sizes) (key : List ℕ) (first : ℕ) (marks : Bool × Bool × Boo
     )) before now
 
     pub value_there : (value from to : ℕ) → Saw v w (λ e block. LastWordTells z e block key place mark → IsValueAt z e block key place (Some value))
-        → Saw u w (λ e block. IsValueAmong z e block key from to (Some value))
+        → Saw u w (λ e block. IsPairAmong z e block key from to (Some value))
     value_there value from to now = saw_then u v w (λ o noted seen here. let h = here (marked o.extent o.block seen.0) in (place, h.0, h.1)) before now
 
     pub value_last : (r : Option ℕ) (from to : ℕ) → from ≡ first → to ≡ first + (k + 1)
         → Saw v w (λ e block. LastWordTells z e block key place mark → IsValueAt z e block key place r)
-        → Saw u w (λ e block. IsValueAmong z e block key from to r)
+        → Saw u w (λ e block. IsPairAmong z e block key from to r)
     value_last (Some value) from to is end now = value_there value from to now
     value_last None from to is end now = saw_then u v w (λ o noted seen here i low high.
         none_next o.extent o.block place k at seen.1 (here (marked o.extent o.block seen.0)) i (omega arith) (omega arith)) before now
@@ -110,7 +110,7 @@ module _ (z : Sizes) (key : List ℕ) (first : ℕ) (marks : Bool × Bool × Boo
 
 -- where no mark is set, the pair isn't in the page
 pub no_marks : (z : Sizes) (key : List ℕ) (first from to : ℕ) (a b c d : Bool) (u v : View) → ((a || b) || c) || d ≡ false → from ≡ first → to ≡ first + 4
-    → Saw u v (λ e block. AreMarks z e block key first (a, b, c, d)) → Saw u v (λ e block. IsValueAmong z e block key from to None)
+    → Saw u v (λ e block. AreMarks z e block key first (a, b, c, d)) → Saw u v (λ e block. IsPairAmong z e block key from to None)
 no_marks z key first from to true b c d u v none is end s = absurd (true≢false none)
 no_marks z key first from to false true c d u v none is end s = absurd (true≢false none)
 no_marks z key first from to false false true d u v none is end s = absurd (true≢false none)
@@ -138,13 +138,13 @@ module _ (z : Sizes) (key : List ℕ) where
   IsValueOf found e block = (m : Pairs) → IsBlockOf z e block m → found ≡ get m key
 
   module _ (u v w : View) (from middle to : ℕ) (before : Saw u v (NoneAmong from middle)) where
-    pub none_among : Saw v w (λ e block. IsValueAmong z e block key middle to None) → Saw u w (NoneAmong from to)
+    pub none_among : Saw v w (λ e block. IsPairAmong z e block key middle to None) → Saw u w (NoneAmong from to)
     none_among now = saw_then u v w (λ o noted seen here i low high. elim (cases_lt i middle) [
       | inl less ↦ seen i low less
       | inr more ↦ here i more high
     ]) before now
 
-    pub value_among : (value : ℕ) → Saw v w (λ e block. IsValueAmong z e block key middle to (Some value)) → Saw u w (IsValueOf (Some value))
+    pub value_among : (value : ℕ) → Saw v w (λ e block. IsPairAmong z e block key middle to (Some value)) → Saw u w (IsValueOf (Some value))
     value_among value now = saw_then u v w (λ o noted seen here m ok. ap Some here.2
         ∙ (sym (ok.mapped here.0 here.1.pair) ∙ ap (get m) here.1.stands)) before now
 

@@ -10,10 +10,13 @@ mod grow;
 mod laws;
 mod lock;
 mod pages;
+mod places;
 mod reads;
 mod scan;
 mod search;
 mod sessions;
+mod site;
+mod snapshot;
 mod update;
 mod wait;
 

@@ -22,10 +22,11 @@ ghost use Rattle.bihash_table.specs.Shortage.{IsShortage};
 use crate::change::{fill, keep, overwrite, refuse, remove};
 use crate::contended::Contended;
 use crate::grow::enter_larger;
-use crate::lock::{bucket_of_hash, lock_seen, look};
-use crate::reads::find_value;
+use crate::lock::{lock_seen, look};
+use crate::reads;
 use crate::scan::{find_free, find_pair, load_value};
 use crate::sessions::Sessions;
+use crate::site::Site;
 use bihash_steps::{Caller, CallerSeat, Row};
 use bihash_words::{BucketWord, Change, Patch, Reply, Shape};
 
@@ -52,12 +53,12 @@ impl<S: Shape> Sessions<S> {
         ensures lawful { IsLawfulCaller (sizes_of S.Shape) caller.new.seat.view }
     {
         self.row.is_sound();
-        let hash = S::hash(key);
-        let bucket = bucket_of_hash::<S>(hash);
+        let site = Site::of(key);
+        let bucket = site.bucket;
         let Some(word) = look(&self.row, &mut caller.seat, bucket) else {
             return Err(Contended);
         };
-        let found = find_value(&self.row, &mut caller.seat, word, hash, key);
+        let found = reads::find_pair(&self.row, &mut caller.seat, word, &site).map(|pair| pair.1);
         let change = patch.decide(found);
         if is_idle(change, found) {
             let reply = Reply::Kept(found);
