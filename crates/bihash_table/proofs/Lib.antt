@@ -9,6 +9,7 @@ pub mod Copies
 pub mod Count
 pub mod Decisions
 pub mod Entering
+pub mod Growing
 pub mod Homes
 pub mod KeyOrders
 pub mod Linearizing
@@ -29,7 +30,6 @@ pub mod Released
 pub mod Replacing
 pub mod SameCallers
 pub mod Seeing
-pub mod Searching
 pub mod Sights
 pub mod Sorting
 pub mod Stores
@@ -37,5 +37,4 @@ pub mod Storing
 pub mod TakenLocks
 pub mod Tries
 pub mod Turns
-pub mod Updated
 pub mod Versions
