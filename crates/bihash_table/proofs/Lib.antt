@@ -6,6 +6,7 @@ pub mod Copies
 pub mod Count
 pub mod Decisions
 pub mod Entering
+pub mod Growing
 pub mod Homes
 pub mod KeyOrders
 pub mod LookedAt
@@ -22,10 +23,10 @@ pub mod Released
 pub mod Replacing
 pub mod SameCallers
 pub mod Seeing
-pub mod Searching
+pub mod Sights
 pub mod Sorting
 pub mod Stores
 pub mod Storing
 pub mod TakenLocks
-pub mod Updated
+pub mod Tries
 pub mod Versions

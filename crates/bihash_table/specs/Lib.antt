@@ -7,5 +7,7 @@ pub mod PairLists
 pub mod Places
 pub mod Promise
 pub mod Scans
+pub mod Seen
 pub mod Shortage
 pub mod Stores
+pub mod Tries

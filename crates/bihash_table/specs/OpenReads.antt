@@ -1,11 +1,11 @@
 -- A bucket that a caller saw without its lock, and what words of its block tell that were read since.
-use Rattle.std.specs.Prelude.{◌≡◌, ℕ, ◌+◌, ◌-◌, ◌*◌, ◌^◌, ◌<◌, ◌≤◌, Bool, true, false, List, length, slice_index, Option, Some, None}
+use Rattle.std.specs.Prelude.{◌≡◌, ◌≢◌, ℕ, ◌+◌, ◌-◌, ◌*◌, ◌^◌, ◌<◌, ◌≤◌, Bool, true, false, List, length, slice_index, Option, Some, None}
 use Rattle.bihash_words.specs.Sizes.{Sizes}
 use Rattle.bihash_words.specs.Words.{Fits, packed}
 use Rattle.bihash_steps.specs.Words.{buckets, block_words, place_words}
 use Rattle.bihash_steps.specs.Histories.{IsPrefix}
 use Rattle.bihash_steps.specs.Callers.{known_at}
-use Rattle.bihash_steps.specs.Blocks.{IsBlockOf, value_in}
+use Rattle.bihash_steps.specs.Blocks.{HasPair, IsBlockOf, value_in}
 use Rattle.bihash_steps.specs.Buckets.{Reads, word_of}
 use Rattle.bihash_steps.specs.Views.{nothing_held}
 use Rattle.bihash_steps.specs.BucketSteps.{learned, map_now, reading}
@@ -14,7 +14,7 @@ use Rattle.bihash_steps.specs.declared.view.Extent.{Extent}
 use Rattle.bihash_steps.specs.declared.view.Notes.{Notes}
 use Rattle.bihash_steps.specs.declared.view.OpenBucket.{OpenBucket}
 use Rattle.bihash_steps.specs.declared.view.View.{View}
-use Rattle.bihash_table.specs.Places.{HasPairOf}
+use Rattle.bihash_table.specs.Places.{HasPairOf, IsFreeFor, IsOpenTo, IsCrowdedFor}
 
 -- The caller noted an open bucket whose unlocked word was this one, and so a block with this extent. Its
 -- words may be loaded, whatever became of them.
@@ -37,6 +37,7 @@ pub record HasOpen (z : Sizes) (v : View) (b word : ℕ) : Type 0 where
   pub block : NotesBlock z v word extent
   pub bucket : block.open_bucket.bucket ≡ b
   pub version : block.open_bucket.version ≡ length (known_at v.known b)
+  pub short : length (known_at v.known b) ≤ z.limit
   pub pairs : IsBlockOf z extent block.open_bucket.block (map_now v b)
 
 -- the bucket was seen from the view v
@@ -74,7 +75,27 @@ abbrev pub IsValueAt : Sizes → Extent → List ℕ → List ℕ → ℕ → Op
 IsValueAt z e block key i (Some value) = HasPairOf z e block key i × (value ≡ value_in z block i)
 IsValueAt z e block key i None = HasPairOf z e block key i → ⊥
 
--- what a look at the places from one to before another found
-abbrev pub IsValueAmong : Sizes → Extent → List ℕ → List ℕ → ℕ → ℕ → Option ℕ → Type 0
-IsValueAmong z e block key from to (Some value) = (i : ℕ) × HasPairOf z e block key i × (value ≡ value_in z block i)
-IsValueAmong z e block key from to None = (i : ℕ) → from ≤ i → i < to → HasPairOf z e block key i → ⊥
+-- what a look at the places from one to before another found: where the key's pair stands, with its value
+abbrev pub IsPairAmong : Sizes → Extent → List ℕ → List ℕ → ℕ → ℕ → Option (ℕ × ℕ) → Type 0
+IsPairAmong z e block key from to (Some pair) = HasPairOf z e block key pair.0 × (pair.1 ≡ value_in z block pair.0)
+IsPairAmong z e block key from to None = (i : ℕ) → from ≤ i → i < to → HasPairOf z e block key i → ⊥
+
+-- the same of all places that are open to the key
+abbrev pub IsPairIn : Sizes → Extent → List ℕ → List ℕ → Option (ℕ × ℕ) → Type 0
+IsPairIn z e block key (Some pair) = HasPairOf z e block key pair.0 × (pair.1 ≡ value_in z block pair.0)
+IsPairIn z e block key None = (i : ℕ) → IsOpenTo z e key i → HasPairOf z e block key i → ⊥
+
+-- the value that a look for a pair found
+abbrev pub value_of : Option (ℕ × ℕ) → Option ℕ
+value_of None = None
+value_of (Some pair) = Some pair.1
+
+-- what a look for a free place found: the first one that is open to the key, or that there is none
+abbrev pub IsFirstFreeIn : Sizes → Extent → List ℕ → List ℕ → Option ℕ → Type 0
+IsFirstFreeIn z e block key (Some i) = IsFreeFor z e block key i × ((k : ℕ) → k < i → IsFreeFor z e block key k → ⊥)
+IsFirstFreeIn z e block key None = IsCrowdedFor z e block key
+
+-- whether a pair stands at another place than i
+abbrev pub OtherPairTells : Sizes → Extent → List ℕ → ℕ → Bool → Type 0
+OtherPairTells z e block i true = (k : ℕ) × (k ≢ i) × HasPair z e block k
+OtherPairTells z e block i false = (k : ℕ) → HasPair z e block k → k ≡ i

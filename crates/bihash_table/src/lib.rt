@@ -9,10 +9,13 @@ mod contended;
 mod grow;
 mod lock;
 mod pages;
+mod places;
 mod reads;
 mod scan;
 mod search;
 mod sessions;
+mod site;
+mod snapshot;
 mod update;
 mod wait;
 

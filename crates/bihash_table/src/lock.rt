@@ -1,5 +1,5 @@
 //! The bucket of a key, and its lock.
-ghost use Rattle.std.specs.Prelude.{◌≡◌, ◌%◌, ◌<◌, length, true, false, Some, IfSome, IfNone, is_some};
+ghost use Rattle.std.specs.Prelude.{◌≡◌, ◌%◌, ◌<◌, length, true, false, IfSome, IfNone, is_some};
 ghost use Rattle.bihash_words.specs.Sizes.{sizes_of, IsSound};
 ghost use Rattle.bihash_steps.specs.Words.{buckets};
 ghost use Rattle.bihash_steps.specs.Histories.{bucket_of};
@@ -9,9 +9,7 @@ ghost use Rattle.bihash_steps.specs.Seats.{with_view};
 ghost use Rattle.bihash_table.specs.Promise.{IsTurnedAway};
 ghost use Rattle.bihash_table.specs.Locked.{IsLocked};
 ghost use Rattle.bihash_table.specs.OpenReads.{HasOpen, IsOpened};
-ghost use Rattle.bihash_steps.specs.Buckets.{Reads};
-ghost use Rattle.bihash_steps.specs.BucketSteps.{map_now};
-ghost use Rattle.bihash_steps.specs.declared.view.OpenBucket.{OpenBucket};
+ghost use Rattle.bihash_table.specs.Seen.{LocksSeen};
 
 use bihash_steps::{CallerSeat, Row};
 use bihash_words::{BucketWord, Shape};
@@ -72,24 +70,21 @@ pub(crate) fn lock<S: Shape>(
     Some(word)
 }
 
-/// Locks an open bucket, whose block may have been read since it was seen, from the word that it was seen
-/// with. What the words that were read tell of the block holds then.
+/// Locks a bucket that was seen, from the word that it was seen with. What was read of its block since holds
+/// then.
 pub(crate) fn lock_seen<S: Shape>(
     row: &Row<S>,
-    caller: &mut CallerSeat<S>,
+    seat: &mut CallerSeat<S>,
     bucket: usize,
     word: BucketWord,
 ) -> bool
-    requires own { caller.old.row ≡ row.now }
-    requires open { HasOpen (sizes_of S.Shape) caller.old.view bucket word }
-    ensures same { caller.new ≡ with_view caller.old caller.new.view }
-    ensures locked { result ≡ true → IsLocked (sizes_of S.Shape) caller.old.view caller.new.view bucket word }
-    ensures map { result ≡ true → map_now caller.new.view bucket ≡ map_now caller.old.view bucket }
-    ensures rests { result ≡ true → (o : OpenBucket) × (caller.old.view.notes.open_bucket ≡ Some o)
-        × Reads o.reads o.block }
-    ensures turned_away { result ≡ false → IsTurnedAway (sizes_of S.Shape) caller.old.view caller.new.view bucket }
-    ensures lone { caller.old.view.lone ≡ true → result ≡ true }
-    ensures lawful { IsLawfulCaller (sizes_of S.Shape) caller.new.view }
+    requires own { seat.old.row ≡ row.now }
+    requires seen { HasOpen (sizes_of S.Shape) seat.old.view bucket word }
+    ensures same { seat.new ≡ with_view seat.old seat.new.view }
+    ensures locked { result ≡ true → LocksSeen (sizes_of S.Shape) seat.old.view seat.new.view bucket word }
+    ensures turned_away { result ≡ false → IsTurnedAway (sizes_of S.Shape) seat.old.view seat.new.view bucket }
+    ensures lone { seat.old.view.lone ≡ true → result ≡ true }
+    ensures lawful { IsLawfulCaller (sizes_of S.Shape) seat.new.view }
 {
-    row.lock_from(caller, bucket, word)
+    row.lock_from(seat, bucket, word)
 }

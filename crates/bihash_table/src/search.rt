@@ -9,9 +9,10 @@ ghost use Rattle.bihash_table.specs.Answers.{locks_of, search_of};
 ghost use Rattle.bihash_table.specs.Promise.{IsAnswered, IsTurnedAway};
 
 use crate::contended::Contended;
-use crate::lock::{bucket_of_hash, look};
-use crate::reads::find_value;
+use crate::lock::look;
+use crate::reads::find_pair;
 use crate::sessions::Sessions;
+use crate::site::Site;
 use bihash_steps::Caller;
 use bihash_words::{Change, Reply, Shape};
 use crossbeam_utils::Backoff;
@@ -32,22 +33,14 @@ impl<S: Shape> Sessions<S> {
         ensures lawful { IsLawfulCaller (sizes_of S.Shape) caller.new.seat.view }
     {
         self.row.is_sound();
-        let hash = S::hash(key);
-        let bucket = bucket_of_hash::<S>(hash);
-        let Some(word) = look(&self.row, &mut caller.seat, bucket) else {
+        let site = Site::of(key);
+        let seat = &mut caller.seat;
+        let Some(word) = look(&self.row, seat, site.bucket) else {
             return Err(Contended);
         };
-        let found = find_value(&self.row, &mut caller.seat, word, hash, key);
-        let seat = &mut caller.seat;
-        if !self.row.validate(
-            seat,
-            bucket,
-            word,
-            key,
-            found,
-            Change::Keep,
-            Reply::Kept(found),
-        ) {
+        let found = find_pair(&self.row, seat, word, &site).map(|pair| pair.1);
+        let reply = Reply::Kept(found);
+        if !self.row.validate(seat, site.bucket, word, key, found, Change::Keep, reply) {
             return Err(Contended);
         }
         Ok(found)

@@ -26,5 +26,5 @@ has_last-d-requires-clause-open g c = let o = c.requires.open in let room = o.2 
 )
 
 pub returns-clause-saw : goal.returns-clause-saw
-returns-clause-saw g c = all_marks (sizes_of g.S.Shape) (g.S.Shape.words_of c.args.key.now) c.args.first _ _ _ _ _ _ _ _ _
+returns-clause-saw g c = all_marks (sizes_of g.S.Shape) (g.S.Shape.words_of c.args.site.now.key.now) c.args.first _ _ _ _ _ _ _ _ _
     c.has_last-a.ensures.saw c.has_last-b.ensures.saw c.has_last-c.ensures.saw c.has_last-d.ensures.saw

@@ -8,6 +8,6 @@ use Rattle.bihash_table.proofs.reads.value_at.Given as goal
 -- the words so far are those of the key
 abbrev pub invariant-loop-i : goal.invariant-loop-i
 invariant-loop-i g l = record {
-  same : l.caller ≡ with_view l.initial.caller l.caller.view;
-  words : Saw l.initial.caller.view l.caller.view (λ _ block. SameTo (sizes_of g.S.Shape) block l.place (g.S.Shape.words_of l.key) l.i);
+  same : l.seat ≡ with_view l.initial.seat l.seat.view;
+  words : Saw l.initial.seat.view l.seat.view (λ _ block. SameTo (sizes_of g.S.Shape) block l.place (g.S.Shape.words_of l.site.key) l.i);
 }

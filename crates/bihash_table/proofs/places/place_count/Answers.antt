@@ -1,7 +1,7 @@
 use Rattle.std.proofs.Common.{◌∙◌, ◌≤◌, ◌*◌, ◌^◌, ap, arith, pow_mono, sym}
 use Rattle.bihash_words.specs.Sizes.{sizes_of}
 use Rattle.bihash_table.proofs.Stores.{log2_is, no_places, page_is, some_places}
-use Rattle.bihash_table.proofs.grow.place_count.Goals as goal
+use Rattle.bihash_table.proofs.places.place_count.Goals as goal
 
 pub returns-then-page-eq0-clause-count : goal.returns-then-page-eq0-clause-count
 returns-then-page-eq0-clause-count g c = λ e told. no_places e.page e.log2

@@ -2,10 +2,10 @@ use Rattle.std.proofs.Common.{refl, ◌+◌, ◌*◌, ℕ, arith}
 use Rattle.bihash_words.specs.Sizes.{sizes_of}
 use Rattle.bihash_table.proofs.LookedAt.{no_marks, none_yet, none_more, value_there, value_last}
 use Rattle.bihash_table.proofs.Seeing.{still_noted}
-use Rattle.bihash_table.proofs.reads.value_in_page.Goals as goal
+use Rattle.bihash_table.proofs.reads.pair_in_page.Goals as goal
 
 pub returns-then-not-a-b-clause-saw : goal.returns-then-not-a-b-clause-saw
-returns-then-not-a-b-clause-saw g c = no_marks (sizes_of g.S.Shape) (g.S.Shape.words_of c.args.key.now) (4 * c.args.page) _ _ _ _ _ _ _ _
+returns-then-not-a-b-clause-saw g c = no_marks (sizes_of g.S.Shape) (g.S.Shape.words_of c.args.site.now.key.now) (4 * c.args.page) _ _ _ _ _ _ _ _
     c.if-not-a-b.true refl (omega arith) c.marks-a.ensures.saw
 
 pub value_where-requires-clause-open : goal.value_where-requires-clause-open
@@ -15,7 +15,7 @@ value_where-requires-clause-open g c = let o = c.requires.open in let room = o.2
 pub returns-in-Some-clause-saw : goal.returns-in-Some-clause-saw
 returns-in-Some-clause-saw g c =
     let z = sizes_of g.S.Shape in
-    let key = g.S.Shape.words_of c.args.key.now in
+    let key = g.S.Shape.words_of c.args.site.now.key.now in
     let first : ℕ = 4 * c.args.page in
     let m = c.marks-a.result in
     value_there z key first m _ _ _ first 0 m.0 (omega arith) (λ e block a. a.0)
@@ -32,7 +32,7 @@ value_where-requires-2-clause-open g c = let o = c.requires.open in let room = o
 pub returns-in-Some-value_where-clause-saw : goal.returns-in-Some-value_where-clause-saw
 returns-in-Some-value_where-clause-saw g c =
     let z = sizes_of g.S.Shape in
-    let key = g.S.Shape.words_of c.args.key.now in
+    let key = g.S.Shape.words_of c.args.site.now.key.now in
     let first : ℕ = 4 * c.args.page in
     let m = c.marks-a.result in
     value_there z key first m _ _ _ (first + 1) 1 m.1 (omega arith) (λ e block a. a.1)
@@ -51,7 +51,7 @@ value_where-requires-3-clause-open g c = let o = c.requires.open in let room = o
 pub returns-in-Some-value_where-2-clause-saw : goal.returns-in-Some-value_where-2-clause-saw
 returns-in-Some-value_where-2-clause-saw g c =
     let z = sizes_of g.S.Shape in
-    let key = g.S.Shape.words_of c.args.key.now in
+    let key = g.S.Shape.words_of c.args.site.now.key.now in
     let first : ℕ = 4 * c.args.page in
     let m = c.marks-a.result in
     value_there z key first m _ _ _ (first + 2) 2 m.2 (omega arith) (λ e block a. a.2)
@@ -72,7 +72,7 @@ value_where-requires-4-clause-open g c = let o = c.requires.open in let room = o
 pub returns-clause-saw : goal.returns-clause-saw
 returns-clause-saw g c =
     let z = sizes_of g.S.Shape in
-    let key = g.S.Shape.words_of c.args.key.now in
+    let key = g.S.Shape.words_of c.args.site.now.key.now in
     let first : ℕ = 4 * c.args.page in
     let m = c.marks-a.result in
     value_last z key first m _ _ _ (first + 3) 3 m.3 (omega arith) (λ e block a. a.3)

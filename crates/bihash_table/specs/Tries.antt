@@ -1,0 +1,39 @@
+-- What one try of an update leaves of its caller.
+use Rattle.std.specs.Prelude.{◌≡◌, ℕ, Bool, true, false, List, Option, Result, IfOk, IfErr, is_ok}
+use Rattle.bihash_words.specs.Maps.{Event}
+use Rattle.bihash_words.specs.Sizes.{sizes_of}
+use Rattle.bihash_words.specs.declared.shape.Shape.{Ghosts}
+use Rattle.bihash_words.specs.declared.patch.Change.{Change}
+use Rattle.bihash_words.specs.declared.patch.Reply.{Reply}
+use Rattle.bihash_words.specs.declared.patch.Reply.TheVariants.{Kept, Changed, Worn, Full, NoPages}
+use Rattle.bihash_steps.specs.Callers.{IsLawfulCaller}
+use Rattle.bihash_steps.specs.Seats.{CallerState, with_view}
+use Rattle.bihash_table.specs.Answers.{locks_of}
+use Rattle.bihash_table.specs.Promise.{IsAnswered, IsTurnedAway}
+use Rattle.bihash_table.specs.Shortage.{IsShortage}
+use Rattle.bihash_table.specs.declared.contended.Contended.{Contended}
+
+-- whether a reply is given without the lock of the bucket
+abbrev pub is_without_lock : Reply → Bool
+is_without_lock (Kept found) = true
+is_without_lock (Changed found) = false
+is_without_lock (Worn found) = true
+is_without_lock Full = true
+is_without_lock (NoPages log2 left) = false
+
+-- what was found at a key, what was decided on it, and the reply
+abbrev pub event : List ℕ → Option ℕ → Change → Reply → Event
+event key found change reply = record { key = key; found = found; change = change; reply = reply }
+
+-- One try of an update, on a value that was found and what was decided on it: it was answered, or it met
+-- another caller's lock. A lone caller meets none.
+pub record Tried {A K : Type 0} (g : Ghosts A K) (s t : CallerState) (b : ℕ) (key : K) (found : Option ℕ)
+    (change : Change) (r : Result Reply Contended) : Type 0 where
+  pub same : t ≡ with_view s t.view
+  pub answered : IfOk r (λ reply. IsAnswered (sizes_of g) s.view t.view (event (g.words_of key) found change reply))
+  pub no_pages : IfOk r (λ reply. (log2 left : ℕ) → reply ≡ NoPages log2 left
+      → IsShortage g t.view b key log2 left)
+  pub no_lock : IfOk r (λ reply. is_without_lock reply ≡ true → locks_of t.view.records ≡ locks_of s.view.records)
+  pub contended : IfErr r (λ _. IsTurnedAway (sizes_of g) s.view t.view b)
+  pub lone : s.view.lone ≡ true → is_ok r ≡ true
+  pub lawful : IsLawfulCaller (sizes_of g) t.view

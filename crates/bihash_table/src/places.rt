@@ -1,0 +1,44 @@
+//! The places of a block: how many it has, and what marks a free one.
+ghost use Rattle.std.specs.Prelude.{◌≡◌, ◌*◌, ◌^◌, ◌≤◌};
+ghost use Rattle.bihash_words.specs.Sizes.{IsSound, sizes_of};
+ghost use Rattle.bihash_steps.specs.Blocks.{places};
+ghost use Rattle.bihash_steps.specs.declared.view.Extent.{Extent};
+ghost use Rattle.bihash_table.specs.Scans.{IsWordOf};
+
+use bihash_words::{BucketWord, Shape};
+
+/// The value of a free place, which no stored value has.
+pub(crate) const FREE: u64 = u64::MAX;
+
+/// How many places a page has.
+pub(crate) const PAGE_PLACES: usize = 4;
+
+/// How many pages a block has.
+pub(crate) fn page_count(log2: u64) -> usize
+    requires { log2 ≤ 24 }
+    ensures count { result ≡ 2 ^ log2 }
+    ensures few { result ≤ 2 ^ 24 }
+{
+    1usize << log2
+}
+
+/// How many places a block of `2^log2` pages has.
+pub(crate) fn places_of(log2: u64) -> usize
+    requires { log2 ≤ 24 }
+    ensures { result ≡ 4 * 2 ^ log2 }
+{
+    4usize << log2
+}
+
+/// How many places the block of a bucket has whose word is this.
+pub(crate) fn place_count<S: Shape>(word: BucketWord) -> usize
+    requires shape { IsSound (sizes_of S.Shape) }
+    requires word { (e : Extent) × IsWordOf (sizes_of S.Shape) word e }
+    ensures count { (e : Extent) → IsWordOf (sizes_of S.Shape) word e → result ≡ places e.page e.log2 }
+    ensures few { result ≤ 4 * 2 ^ S.MAX_LOG2 }
+{
+    if word.page() == 0 {
+        return 0;
+    }
+    places_of(word.log2())
+}
