@@ -6,15 +6,16 @@ use Rattle.std.specs.FinMap.{get}
 use Rattle.bihash_words.specs.Sizes.{Sizes}
 use Rattle.bihash_words.specs.Maps.{Pairs}
 use Rattle.bihash_steps.specs.Words.{place_words, block_words}
-use Rattle.bihash_steps.specs.Blocks.{places, value_in, free, IsBlockOf}
+use Rattle.bihash_steps.specs.Blocks.{HasPair, places, page_of, value_in, free, IsBlockOf}
 use Rattle.bihash_steps.specs.declared.view.Extent.{Extent}
+use Rattle.bihash_steps.specs.declared.view.OpenBucket.{OpenBucket}
 use Rattle.bihash_steps.specs.declared.view.View.{View}
 use Rattle.bihash_table.specs.Places.{HasPairOf}
 use Rattle.bihash_table.specs.Scans.{AreOpenTo}
-use Rattle.bihash_table.specs.OpenReads.{NotesBlock, Saw, LastWordTells, AreMarks, IsValueAt, IsPairAmong}
-use Rattle.bihash_table.proofs.OpenPlaces.{absent_in}
+use Rattle.bihash_table.specs.Seen.{IsValueOf}
+use Rattle.bihash_table.specs.OpenReads.{NotesBlock, Saw, LastWordTells, AreMarks, IsValueAt, IsPairAmong, IsPairIn, IsFirstFreeIn, OtherPairTells, value_of}
 use Rattle.bihash_table.proofs.PlaceReads.{SameTo, word_of_key, all_same}
-use Rattle.bihash_table.proofs.Seeing.{saw_as, saw_both, saw_then, note_extent}
+use Rattle.bihash_table.proofs.Seeing.{saw_as, saw_both, saw_nothing, saw_then, note_extent}
 
 module _ (z : Sizes) (e : Extent) (block key : List ℕ) (i : ℕ) where
   -- a word of the place of a pair is that of its key
@@ -94,16 +95,15 @@ module _ (z : Sizes) (key : List ℕ) (first : ℕ) (marks : Bool × Bool × Boo
       none_next o.extent o.block place k at seen.1 (here (marked o.extent o.block seen.0)),
     )) before now
 
-    pub value_there : (value from to : ℕ) → Saw v w (λ e block. LastWordTells z e block key place mark → IsValueAt z e block key place (Some value))
-        → Saw u w (λ e block. IsPairAmong z e block key from to (Some value))
-    value_there value from to now = saw_then u v w (λ o noted seen here. let h = here (marked o.extent o.block seen.0) in (place, h.0, h.1)) before now
+    pub pair_there : (value from to : ℕ) → Saw v w (λ e block. LastWordTells z e block key place mark → IsValueAt z e block key place (Some value))
+        → Saw u w (λ e block. IsPairAmong z e block key from to (Some (place, value)))
+    pair_there value from to = saw_then u v w (λ o noted seen here. here (marked o.extent o.block seen.0)) before
 
-    pub value_last : (r : Option ℕ) (from to : ℕ) → from ≡ first → to ≡ first + (k + 1)
-        → Saw v w (λ e block. LastWordTells z e block key place mark → IsValueAt z e block key place r)
-        → Saw u w (λ e block. IsPairAmong z e block key from to r)
-    value_last (Some value) from to is end now = value_there value from to now
-    value_last None from to is end now = saw_then u v w (λ o noted seen here i low high.
-        none_next o.extent o.block place k at seen.1 (here (marked o.extent o.block seen.0)) i (omega arith) (omega arith)) before now
+    pub none_there : (from to : ℕ) → from ≡ first → to ≡ first + (k + 1)
+        → Saw v w (λ e block. LastWordTells z e block key place mark → IsValueAt z e block key place None)
+        → Saw u w (λ e block. IsPairAmong z e block key from to None)
+    none_there from to is end = saw_then u v w (λ o noted seen here i low high.
+        none_next o.extent o.block place k at seen.1 (here (marked o.extent o.block seen.0)) i (omega arith) (omega arith)) before
 
   pub none_yet : (u v : View) → Saw u v (λ e block. AreMarks z e block key first marks) → Saw u v (NoneTo 0)
   none_yet u v = saw_as u v (λ o noted seen. (seen, λ i low high. absurd (omega arith)))
@@ -134,9 +134,6 @@ module _ (z : Sizes) (key : List ℕ) where
   abbrev pub NoneAmong : ℕ → ℕ → Extent → List ℕ → Type 0
   NoneAmong from to e block = (i : ℕ) → from ≤ i → i < to → HasPairOf z e block key i → ⊥
 
-  abbrev pub IsValueOf : Option ℕ → Extent → List ℕ → Type 0
-  IsValueOf found e block = (m : Pairs) → IsBlockOf z e block m → found ≡ get m key
-
   module _ (u v w : View) (from middle to : ℕ) (before : Saw u v (NoneAmong from middle)) where
     pub none_among : Saw v w (λ e block. IsPairAmong z e block key middle to None) → Saw u w (NoneAmong from to)
     none_among now = saw_then u v w (λ o noted seen here i low high. elim (cases_lt i middle) [
@@ -144,12 +141,112 @@ module _ (z : Sizes) (key : List ℕ) where
       | inr more ↦ here i more high
     ]) before now
 
-    pub value_among : (value : ℕ) → Saw v w (λ e block. IsPairAmong z e block key middle to (Some value)) → Saw u w (IsValueOf (Some value))
-    value_among value now = saw_then u v w (λ o noted seen here m ok. ap Some here.2
-        ∙ (sym (ok.mapped here.0 here.1.pair) ∙ ap (get m) here.1.stands)) before now
+    pub pair_among : (pair : ℕ × ℕ) → Saw v w (λ e block. IsPairAmong z e block key middle to (Some pair))
+        → Saw u w (λ e block. IsPairIn z e block key (Some pair))
+    pair_among pair now = saw_then u v w (λ o noted seen here. here) before now
+
+  -- the places that are open to the key are those from one to before another
+  pub open_there : (u : View) (word from to : ℕ) (e : Extent) (o : OpenBucket) → NotesBlock z u word e → u.notes.open_bucket ≡ Some o
+      → AreOpenTo z e key from to → AreOpenTo z o.extent key from to
+  open_there u word from to e o h noted = subst (λ (x : Extent). AreOpenTo z x key from to) (sym (note_extent z u word e o h noted))
 
   pub absent_among : (u v : View) (word from to end : ℕ) (e : Extent) → NotesBlock z u word e → AreOpenTo z e key from to → to ≤ end
-      → Saw u v (NoneAmong from end) → Saw u v (IsValueOf None)
-  absent_among u v word from to end e h open_to all = saw_as u v (λ o noted none m ok.
-      sym (absent_in z o.extent o.block key from to (subst (λ (x : Extent). AreOpenTo z x key from to) (sym (note_extent z u word e o h noted)) open_to)
-      m ok (λ i low high. none i low (omega arith))))
+      → Saw u v (NoneAmong from end) → Saw u v (λ e block. IsPairIn z e block key None)
+  absent_among u v word from to end e h open_to all = saw_as u v (λ o noted none i reached pair.
+      let among = ((open_there u word from to e o h noted open_to).exact i pair.pair.0).1 reached in
+      none i among.0 (let high = among.1 in omega arith) pair)
+
+-- ---- Free places, and other pairs
+
+module _ (z : Sizes) where
+  -- the value word of a place was read
+  pub saw_value : (v w : View) (i n words : ℕ) → words ≡ z.key_words → Saw v w (λ _ block. n ≡ slice_index block (i * place_words z + words))
+      → Saw v w (λ _ block. n ≡ value_in z block i)
+  saw_value v w i n words is = saw_as v w (λ o noted seen. seen ∙ ap (λ (k : ℕ). slice_index o.block (i * place_words z + k)) is)
+
+  -- no place is free from one to before another
+  abbrev pub NoneFree : ℕ → ℕ → Extent → List ℕ → Type 0
+  NoneFree from to e block = (i : ℕ) → from ≤ i → i < to → value_in z block i ≡ free → ⊥
+
+  pub none_free_yet : (from to : ℕ) (v : View) → to ≤ from → Saw v v (NoneFree from to)
+  none_free_yet from to v is = saw_nothing v (λ e block i low high. absurd (omega arith))
+
+  module _ (u v w : View) (from at n : ℕ) (before : Saw u v (NoneFree from at)) (now : Saw v w (λ _ block. n ≡ value_in z block at)) where
+    pub none_free_more : n ≢ free → Saw u w (NoneFree from (at + 1))
+    none_free_more taken = saw_then {Q = λ _ block. n ≡ value_in z block at} u v w (λ o noted seen here i low high is. elim (cases_lt i at) [
+      | inl less ↦ seen i low less is
+      | inr not ↦ let same : at ≡ i = omega arith in taken (here ∙ (ap (value_in z o.block) same ∙ is))
+    ]) before now
+
+    pub first_free : (key : List ℕ) (word to : ℕ) (e : Extent) → NotesBlock z u word e → AreOpenTo z e key from to → from ≤ at → at < to → n ≡ free
+        → Saw u w (λ e block. IsFirstFreeIn z e block key (Some at))
+    first_free key word to e h open_to low high is = saw_then u v w (λ o noted seen here.
+        let there = open_there z key u word from to e o h noted open_to in
+        let room = there.within in
+        let inside : at < places o.extent.page o.extent.log2 = omega arith in (
+          record { inside = inside; free = sym here ∙ is; reached = (there.exact at inside).0 (low, high) },
+          λ k less h. seen k ((there.exact k h.inside).1 h.reached).0 less h.free,
+        )) before now
+
+  pub all_taken : (u v : View) (key : List ℕ) (word from to end : ℕ) (e : Extent) → NotesBlock z u word e → AreOpenTo z e key from to → to ≤ end
+      → Saw u v (NoneFree from end) → Saw u v (λ e block. IsFirstFreeIn z e block key None)
+  all_taken u v key word from to end e h open_to all = saw_as u v (λ o noted none i there.
+      let among = ((open_there z key u word from to e o h noted open_to).exact i there.inside).1 there.reached in
+      none i among.0 (let high = among.1 in omega arith) there.free)
+
+  -- no place before another has a pair, but place i
+  abbrev pub NoOther : ℕ → ℕ → Extent → List ℕ → Type 0
+  NoOther i to e block = (k : ℕ) → k < to → HasPair z e block k → k ≡ i
+
+  pub no_other_yet : (i : ℕ) (v : View) → Saw v v (NoOther i 0)
+  no_other_yet i v = saw_nothing v (λ e block k low. absurd (omega arith))
+
+  pub no_other_here : (i at : ℕ) (u v : View) → at ≡ i → Saw u v (NoOther i at) → Saw u v (NoOther i (at + 1))
+  no_other_here i at u v is = saw_as u v (λ o noted seen k low pair. elim (cases_lt k at) [
+    | inl less ↦ seen k less pair
+    | inr not ↦ omega arith
+  ])
+
+  module _ (u v w : View) (i at n : ℕ) (before : Saw u v (NoOther i at)) (now : Saw v w (λ _ block. n ≡ value_in z block at)) where
+    pub no_other_free : n ≡ free → Saw u w (NoOther i (at + 1))
+    no_other_free is = saw_then {Q = λ _ block. n ≡ value_in z block at} u v w (λ o noted seen here k low pair. elim (cases_lt k at) [
+      | inl less ↦ seen k less pair
+      | inr not ↦ let same : k ≡ at = omega arith in absurd (pair.1 (ap (value_in z o.block) same ∙ (sym here ∙ is)))
+    ]) before now
+
+    pub other_there : (word : ℕ) (e : Extent) → NotesBlock z u word e → at < places e.page e.log2 → at ≢ i → n ≢ free
+        → Saw u w (λ e block. OtherPairTells z e block i true)
+    other_there word e h inside differ taken = saw_then u v w (λ o noted seen here. (
+      at,
+      differ,
+      (subst (λ (x : Extent). at < places x.page x.log2) (sym (note_extent z u word e o h noted)) inside, λ is. taken (here ∙ is)),
+    )) before now
+
+  pub no_other : (u v : View) (i word to : ℕ) (e : Extent) → NotesBlock z u word e → places e.page e.log2 ≤ to → Saw u v (NoOther i to)
+      → Saw u v (λ e block. OtherPairTells z e block i false)
+  no_other u v i word to e h all = saw_as u v (λ o noted seen k pair. seen k
+      (let room : places o.extent.page o.extent.log2 ≤ to = subst (λ (x : Extent). places x.page x.log2 ≤ to) (sym (note_extent z u word e o h noted)) all in
+      let inside = pair.0 in omega arith) pair)
+
+-- what a look for a pair found tells the map of a lawful block
+pub pair_value : (z : Sizes) (e : Extent) (block key : List ℕ) (m : Pairs) (found : Option (ℕ × ℕ)) → IsPairIn z e block key found → IsBlockOf z e block m
+    → value_of found ≡ get m key
+pair_value z e block key m (Some pair) told ok = ap Some told.1 ∙ (sym (ok.mapped pair.0 told.0.pair) ∙ ap (get m) told.0.stands)
+pair_value z e block key m None told ok = go (get m key) refl
+  where
+    go : (found : Option ℕ) → get m key ≡ found → None ≡ found
+    go None is = refl
+    go (Some value) is =
+        let at = ok.found key value is in
+        let pair : HasPairOf z e block key at.0 = record { pair = at.1; stands = at.2 } in
+        absurd (told at.0 (λ linear. ap (page_of z e.log2) (sym at.2) ∙ ok.paged linear at.0 at.1) pair)
+
+pub saw_value_of : (z : Sizes) (key : List ℕ) (u v : View) (pair : Option (ℕ × ℕ)) (found : Option ℕ) → found ≡ value_of pair
+    → Saw u v (λ e block. IsPairIn z e block key pair) → Saw u v (IsValueOf z key found)
+saw_value_of z key u v pair found is = saw_as u v (λ o noted seen m ok. is ∙ pair_value z o.extent o.block key m pair seen ok)
+
+-- the same, where the key is named otherwise
+pub saw_value_at : (z : Sizes) (k key : List ℕ) (u v : View) (pair : Option (ℕ × ℕ)) (found : Option ℕ) → k ≡ key → found ≡ value_of pair
+    → Saw u v (λ e block. IsPairIn z e block k pair) → Saw u v (IsValueOf z key found)
+saw_value_at z k key u v pair found same is s =
+    saw_value_of z key u v pair found is (subst (λ (q : List ℕ). Saw u v (λ e block. IsPairIn z e block q pair)) same s)

@@ -58,7 +58,8 @@ impl<S: Shape> Sessions<S> {
         let Some(word) = look(&self.row, &mut caller.seat, bucket) else {
             return Err(Contended);
         };
-        let found = reads::find_pair(&self.row, &mut caller.seat, word, &site).map(|pair| pair.1);
+        let pair = reads::find_pair(&self.row, &mut caller.seat, word, &site);
+        let found = reads::value_found(pair);
         let change = patch.decide(found);
         if is_idle(change, found) {
             let reply = Reply::Kept(found);
