@@ -9,13 +9,11 @@ use Rattle.bihash_words.specs.Sizes.{Sizes, sizes_of}
 use Rattle.bihash_words.specs.declared.shape.Shape.{Ghosts}
 use Rattle.bihash_steps.specs.Words.{block_words, place_words}
 use Rattle.bihash_steps.specs.Blocks.{key_in, places, value_in}
-use Rattle.bihash_steps.specs.BucketSteps.{IsLockedWord}
 use Rattle.bihash_steps.specs.StoreSteps.{IsHeldWord, holding, stored_at}
 use Rattle.bihash_steps.specs.Seats.{CallerState, with_view}
-use Rattle.bihash_steps.specs.declared.view.LockedBucket.{LockedBucket}
 use Rattle.bihash_steps.specs.declared.view.HeldBlock.{HeldBlock}
 use Rattle.bihash_steps.specs.declared.view.View.{View}
-use Rattle.bihash_table.specs.Copying.{HasBlock, LocksBlock, with_words}
+use Rattle.bihash_table.specs.Copying.{HasBlock, with_words}
 use Rattle.bihash_table.specs.Places.{ArePlaces}
 use Rattle.bihash_table.proofs.PlaceReads.{all_same, place_inside, word_of_key}
 
@@ -37,23 +35,7 @@ same_place_key z page log2 block other place size long inside same =
     all_same z other (key_in z block place) place page log2 (long ∙ size) inside counted
     (λ k below. same k (omega arith) ∙ sym (word_of_key z block (key_in z block place) place k below))
 
--- ---- A block that is locked
-
-pub same_lock : {z : Sizes} {v : View} {page page' : ℕ} {l k : LockedBucket}
-    → LocksBlock z v page l → LocksBlock z v page' k → l ≡ k
-same_lock {l = l} {k = k} a b = same_Some l k (sym a.held ∙ b.held)
-
-pub locked_word : (z : Sizes) (v : View) (page place words k : ℕ) (l : LockedBucket)
-    → LocksBlock z v page l → place < places page l.extent.log2 → words ≡ z.key_words → k ≤ words
-    → IsLockedWord z v page (place * (words + 1) + k)
-locked_word z v page place words k l lock inside is few = record {
-  lock = l;
-  held = lock.held;
-  first = lock.first;
-  near = lock.near;
-  inside = subst (λ n. place * (n + 1) + k < block_words z page l.extent.log2) (sym is)
-      (place_inside z page l.extent.log2 place k inside (omega arith));
-}
+-- ---- A block that is read
 
 -- one more word was read
 pub read_more : (block words : List ℕ) (first i word : ℕ)
@@ -65,22 +47,6 @@ read_more block words first i word inside before is k less = ⊎_elim
     ∙ is ∙ ap (λ n. slice_index block (first + n)) (sym here))
     (λ (there : k ≢ i). get_or-set_other words i k word 0 there ∙ before k (omega arith))
     (cases_eq k i)
-
--- the key of a place, by the words that were read
-pub key_of_read : {A K : Type 0} (g : Ghosts A K) → ((w : List ℕ) → length w ≡ g.WORDS → g.words_of (g.key_of w) ≡ w)
-    → (v : View) (page place words count i end : ℕ) (read : List ℕ) (l : LockedBucket) (key : K)
-    → LocksBlock (sizes_of g) v page l → place < places page l.extent.log2
-    → words ≡ g.WORDS → count ≡ g.WORDS → end ≡ g.WORDS → end ≤ i → g.WORDS ≤ length read
-    → ((k : ℕ) → k < i → slice_index read k ≡ slice_index l.now (place * (words + 1) + k))
-    → key ≡ g.key_of (take count read)
-    → key_in (sizes_of g) l.now place ≡ g.words_of key
-key_of_read g law v page place words count i end read l key lock inside is same all past long each key_is =
-    let z : Sizes = sizes_of g in
-    let counted : length (take count read) ≡ g.WORDS = omega (arith, length-take count read) in
-    all_same z l.now (take count read) place page l.extent.log2 lock.size inside counted (λ k below.
-    sym (get_or-take count read k 0 (omega arith) ∙ each k (omega arith)
-    ∙ ap (λ n. slice_index l.now (place * (n + 1) + k)) is))
-    ∙ sym (law (take count read) counted) ∙ ap g.words_of (sym key_is)
 
 -- what stands at a place afterwards was set or stood there
 get_after : {X : Type 0} (xs : List X) (i j : ℕ) (x y : X)
@@ -126,17 +92,6 @@ read_place_more {K = K} g ps i block pair inside so_far key_is value_is = record
       (λ (here : (j ≡ i) × (pair ≡ p)). ap (value_in (sizes_of g) block) here.0 ∙ value_is ∙ ap (λ q. q.1) here.1)
       (λ (there : (j ≢ i) × (slice_get ps j ≡ Some p)). so_far.value j p (omega (arith, less, there.0)) there.1)
       (get_after ps i j pair p inside at);
-}
-
--- all places of the block were read
-pub all_read : {A K : Type 0} (g : Ghosts A K) (v : View) (page i : ℕ) (ps : List (K × ℕ)) (l : LockedBucket)
-    → LocksBlock (sizes_of g) v page l → length ps ≡ places page l.extent.log2 → length ps ≤ i
-    → AreRead g ps i l.now → ArePlaces g ps l.now
-all_read g v page i ps l lock count past read = record {
-  count = lock.size ∙ words_counted (sizes_of g) page l.extent.log2
-      ∙ ap (λ n. n * place_words (sizes_of g)) (sym count);
-  key = λ j p at. read.key j p (omega (arith, slice_get_within ps j p at)) at;
-  value = λ j p at. read.value j p (omega (arith, slice_get_within ps j p at)) at;
 }
 
 -- ---- A block that is held

@@ -10,6 +10,7 @@ pub mod Copies
 pub mod Count
 pub mod Decisions
 pub mod Entering
+pub mod Growing
 pub mod Homes
 pub mod KeyOrders
 pub mod Linearizing
@@ -30,7 +31,6 @@ pub mod Released
 pub mod Replacing
 pub mod SameCallers
 pub mod Seeing
-pub mod Searching
 pub mod Sights
 pub mod Snapshots
 pub mod Sorting
@@ -39,5 +39,4 @@ pub mod Storing
 pub mod TakenLocks
 pub mod Tries
 pub mod Turns
-pub mod Updated
 pub mod Versions

@@ -15,6 +15,7 @@ use Rattle.bihash_steps.specs.Blocks.{IsBlockOf}
 use Rattle.bihash_steps.specs.Buckets.{Reads, word_of, open_word}
 use Rattle.bihash_steps.specs.Views.{nothing_held, no_notes}
 use Rattle.bihash_steps.specs.BucketSteps.{learned, open_on, locked_on, push_call, map_now, SeesOpen, TakesLock, RestsOn, reading, read_more, MayValidate, validated, call_of, unnoted}
+use Rattle.bihash_steps.specs.declared.view.Write.{Write}
 use Rattle.bihash_steps.specs.declared.view.Call.{Call}
 use Rattle.bihash_steps.specs.declared.view.Record.{Record}
 use Rattle.bihash_steps.specs.declared.view.Extent.{Extent}
@@ -30,7 +31,7 @@ use Rattle.bihash_table.specs.Answers.{IsAnswered, IsTurnedAway, entry_of, locks
 use Rattle.bihash_table.specs.Locked.{IsLocked}
 use Rattle.bihash_table.specs.OpenReads.{HasOpen, IsOpened, Saw}
 use Rattle.bihash_table.proofs.Composed.{IsAhead}
-use Rattle.bihash_table.proofs.LookedAt.{IsValueOf}
+use Rattle.bihash_table.specs.Seen.{IsValueOf}
 use Rattle.bihash_table.proofs.Released.{with_locks-locks_of}
 use Rattle.bihash_table.proofs.Seeing.{notes_more, read_first}
 
@@ -71,6 +72,7 @@ module _ (z : Sizes) (v u : View) (b word : ℕ) (inside : b < buckets z) (free 
       };
       bucket = refl;
       version = ap length (sym known_is);
+      short = subst (λ (h : List Write). length h ≤ z.limit) (sym known_is) s.found.writes.short;
       pairs = subst (IsBlockOf z s.extent s.block) (sym map_is) s.found.pairs;
     };
   }
@@ -99,6 +101,7 @@ module _ (z : Sizes) (v : View) (x y : View) (b word : ℕ) (s : IsOpened z v x 
     block = notes_more z x word s.has.extent t.more s.has.block;
     bucket = s.has.bucket;
     version = s.has.version;
+    short = s.has.short;
     pairs = s.has.pairs;
   }
 
@@ -262,19 +265,19 @@ module _ (z : Sizes) (v w : View) (b word : ℕ) (h : HasOpen z v b word) (t : T
   pub rests_here : RestsOn h.block.open_bucket lock_taken
   rests_here = rests lock_taken (ap (λ (x : View). x.holds.bucket) t.is)
 
-  few_known : length t.history ≤ length (known_at v.known b)
+  pub few_known : length t.history ≤ length (known_at v.known b)
   few_known = let a = rests_here.version in let c = h.version in omega arith
 
-  now_known : known_at w.known b ≡ t.history
+  pub now_known : known_at w.known b ≡ t.history
   now_known = ap (λ (x : View). known_at x.known b) t.is ∙ known_learned v b t.history t.found.listed
 
   pub same_known : known_at w.known b ≡ known_at v.known b
   same_known = now_known ∙ sym (prefix_whole (known_at v.known b) t.history t.found.begins few_known)
 
-  now_opening : opening_at w.known b ≡ opening_at v.known b
+  pub now_opening : opening_at w.known b ≡ opening_at v.known b
   now_opening = ap (λ (x : View). opening_at x.known b) t.is
 
-  now_map : map_now w b ≡ after (opening_at v.known b) t.history (length t.history)
+  pub now_map : map_now w b ≡ after (opening_at v.known b) t.history (length t.history)
   now_map = λ i. after (now_opening i) (now_known i) (length (now_known i))
 
   -- the map is the one from before the lock
@@ -285,7 +288,7 @@ module _ (z : Sizes) (v w : View) (b word : ℕ) (h : HasOpen z v b word) (t : T
   pub reads_rest : Reads h.block.open_bucket.reads h.block.open_bucket.block
   reads_rest = subst (Reads h.block.open_bucket.reads) rests_here.block rests_here.reads
 
-  pub locked_behind : IsLocked z v w b word
+  abbrev pub locked_behind : IsLocked z v w b word
   locked_behind = record {
     history = t.history;
     begins = t.found.begins;

@@ -1,4 +1,4 @@
--- What a plan on the places of a locked block says of its bucket, for a new key that finds no place in it.
+-- What a plan on the places of a block says of its bucket, for a new key that finds no place in it.
 use Rattle.std.proofs.Common.{◌≡◌, ◌∙◌, ◌<◌, ◌≤◌, ◌+◌, ◌*◌, ◌^◌, ◌⊎◌, ◌∷◌, ℕ, Bool, true, false, List, [], None, ap, arith, get_or, inl, inr, length, length-take, pow_pos, refl, subst, sym, take, ⊎_elim}
 use Rattle.std.specs.FinMap.{get, len}
 use Rattle.std.proofs.lemmas.Option.{slice_get-get_or}
@@ -14,28 +14,14 @@ use Rattle.bihash_plan.specs.declared.outcome.Plan.TheVariants.{Full, Grow, InPl
 use Rattle.bihash_plan.proofs.Places.{free_at, free_inside}
 use Rattle.bihash_steps.specs.Words.{block_words}
 use Rattle.bihash_steps.specs.Histories.{bounds_of}
-use Rattle.bihash_steps.specs.Blocks.{free, places, value_in}
-use Rattle.bihash_steps.specs.BucketSteps.{map_now}
-use Rattle.bihash_steps.specs.declared.view.Holdings.{Holdings}
-use Rattle.bihash_steps.specs.declared.view.LockedBucket.{LockedBucket}
+use Rattle.bihash_steps.specs.Blocks.{IsBlockOf, free, places, value_in}
+use Rattle.bihash_steps.specs.declared.view.Extent.{Extent}
 use Rattle.bihash_steps.specs.declared.view.PageStore.{PageStore}
-use Rattle.bihash_steps.specs.declared.view.View.{View}
-use Rattle.bihash_table.specs.Copying.{IsWanting, LocksBlock}
-use Rattle.bihash_table.specs.Locked.{HasLock}
+use Rattle.bihash_table.specs.Copying.{IsWanting}
 use Rattle.bihash_table.specs.Places.{ArePlaces, IsCrowdedFor}
 use Rattle.bihash_table.specs.Shortage.{HoldMap, IsShortage}
 use Rattle.bihash_table.proofs.Bridge.{AreKeyWords, AreKeysOf, are_keys, count_places, hold_map, lawful_places}
 use Rattle.bihash_table.proofs.Count.{few_pairs, few_places, full_block}
-
--- the lock is on the block that begins at this page
-pub locks_block : (z : Sizes) (v : View) (b word page : ℕ) (l : LockedBucket)
-    → HasLock z v b word l → page ≡ l.extent.page → LocksBlock z v page l
-locks_block z v b word page l lock is = record {
-  held = ap (λ (h : Holdings). h.bucket) lock.held;
-  first = sym is;
-  near = subst (λ n. n + 2 ^ l.extent.log2 ≤ z.pages + 1) (sym is) lock.near;
-  size = subst (λ n. length l.now ≡ block_words z n l.extent.log2) (sym is) lock.size;
-}
 
 -- as many places are read as the block has
 pub places_read : {X : Type 0} (page first log2 count most : ℕ) (xs : List X)
@@ -69,116 +55,113 @@ grows paging log2 linear (p ∷ ps) key size true g =
       | inr same ↦ inr (inr same.1.2)
     ]
 
-module _ {A K : Type 0} (g : Ghosts A K) (keys : AreKeyWords g) (v : View) (b word : ℕ) (l : LockedBucket) (key : K)
-    (lock : HasLock (sizes_of g) v b word l)
-    (crowded : IsCrowdedFor (sizes_of g) l.extent l.now (g.words_of key))
-    (absent : get (map_now v b) (g.words_of key) ≡ None) (ps : List (K × ℕ)) (are : ArePlaces g ps l.now) where
-  m : Pairs
-  m = map_now v b
+module _ {A K : Type 0} (g : Ghosts A K) (keys : AreKeyWords g) (e : Extent) (block : List ℕ) (m : Pairs) (key : K)
+    (size : length block ≡ block_words (sizes_of g) e.page e.log2) (held : IsBlockOf (sizes_of g) e block m)
+    (crowded : IsCrowdedFor (sizes_of g) e block (g.words_of key))
+    (absent : get m (g.words_of key) ≡ None) (ps : List (K × ℕ)) (are : ArePlaces g ps block) where
+  count : length ps ≡ places e.page e.log2
+  count = count_places g e.page e.log2 block ps size are
 
-  count : length ps ≡ places l.extent.page l.extent.log2
-  count = count_places g l.extent.page l.extent.log2 l.now ps lock.size are
+  pub lawful : IsLawfulBlock (paging_of g) e.log2 e.linear ps
+  lawful = lawful_places g keys e block ps m size held are
 
-  pub lawful : IsLawfulBlock (paging_of g) l.extent.log2 l.extent.linear ps
-  lawful = lawful_places g keys l.extent l.now ps (map_now v b) lock.size lock.pairs are
+  pub hold : HoldMap g ps m
+  hold = hold_map g keys e block ps m size held are
 
-  pub hold : HoldMap g ps (map_now v b)
-  hold = hold_map g keys l.extent l.now ps (map_now v b) lock.size lock.pairs are
-
-  pub of_keys : AreKeysOf g (map_now v b)
-  of_keys = are_keys g l.extent l.now ps (map_now v b) key lock.size lock.pairs are
+  pub of_keys : AreKeysOf g m
+  of_keys = are_keys g e block ps m key size held are
 
   -- the plan was made on the fields that the word tells
-  pub planned : (log2 : ℕ) (linear : Bool) (plan : Plan) → log2 ≡ l.extent.log2 → linear ≡ l.extent.linear
+  pub planned : (log2 : ℕ) (linear : Bool) (plan : Plan) → log2 ≡ e.log2 → linear ≡ e.linear
       → (IsLawfulBlock (paging_of g) log2 linear ps → IsPlan (paging_of g) log2 linear ps key plan)
-      → IsPlan (paging_of g) l.extent.log2 l.extent.linear ps key plan
+      → IsPlan (paging_of g) e.log2 e.linear ps key plan
   planned log2 linear plan log2_at linear_at exact =
       subst (λ (x : ℕ × Bool). IsLawfulBlock (paging_of g) x.0 x.1 ps → IsPlan (paging_of g) x.0 x.1 ps key plan)
       (λ i. (log2_at i, linear_at i)) exact lawful
 
   -- the value of a free place
-  free_value : (i : ℕ) → IsFree ps i → value_in (sizes_of g) l.now i ≡ free
+  free_value : (i : ℕ) → IsFree ps i → value_in (sizes_of g) block i ≡ free
   free_value i vacant = are.value i (vacant.key, free) vacant.at
 
-  free_inside_block : (i : ℕ) → IsFree ps i → i < places l.extent.page l.extent.log2
+  free_inside_block : (i : ℕ) → IsFree ps i → i < places e.page e.log2
   free_inside_block i vacant = omega (arith, free_inside vacant, count)
 
-  not_placed : (i : ℕ) → IsPlan (paging_of g) l.extent.log2 l.extent.linear ps key (InPlace i) → ⊥
+  not_placed : (i : ℕ) → IsPlan (paging_of g) e.log2 e.linear ps key (InPlace i) → ⊥
   not_placed i plan = ⊎_elim
       (λ (had : HasKey ps key i). (let clash = sym absent ∙ hold.mapped key i had in let c : ⊥ = cc in c))
       (λ first. crowded i (record {
         inside = free_inside_block i first.1.vacant;
         free = free_value i first.1.vacant;
-        reached = λ plain. sym (subst (λ x. IsOpen x (page_of (paging_of g) l.extent.log2 key) i) plain first.1.reached);
+        reached = λ plain. sym (subst (λ y. IsOpen y (page_of (paging_of g) e.log2 key) i) plain first.1.reached);
       }))
       plan
 
-  none_free : IsPlan (paging_of g) l.extent.log2 l.extent.linear ps key Full → (i : ℕ) → IsFree ps i → ⊥
+  none_free : IsPlan (paging_of g) e.log2 e.linear ps key Full → (i : ℕ) → IsFree ps i → ⊥
   none_free plan i vacant =
-      let e = exhausted (paging_of g) l.extent.log2 l.extent.linear ps key plan.2 in
-      elim l.extent.linear as (λ x. l.extent.linear ≡ x → ⊥) [
-        | true ↦ λ is. plan.1 i (subst (λ x. IsOpen x (page_of (paging_of g) l.extent.log2 key) i) (sym is) tt) vacant
-        | false ↦ λ is. e.1 (e.0, is, (i, vacant))
+      let x = exhausted (paging_of g) e.log2 e.linear ps key plan.2 in
+      elim e.linear as (λ y. e.linear ≡ y → ⊥) [
+        | true ↦ λ is. plan.1 i (subst (λ y. IsOpen y (page_of (paging_of g) e.log2 key) i) (sym is) tt) vacant
+        | false ↦ λ is. x.1 (x.0, is, (i, vacant))
       ] refl
 
-  full : IsPlan (paging_of g) l.extent.log2 l.extent.linear ps key Full
-      → most_pairs (bounds_of (sizes_of g)) ≤ len (map_now v b)
+  full : IsPlan (paging_of g) e.log2 e.linear ps key Full
+      → most_pairs (bounds_of (sizes_of g)) ≤ len m
   full plan =
-      let e = exhausted (paging_of g) l.extent.log2 l.extent.linear ps key plan.2 in
-      let above = e.0 in
-      let some = e.2 in
-      let all : len (map_now v b) ≡ places l.extent.page l.extent.log2 =
-      full_block (sizes_of g) l.extent l.now (map_now v b) lock.pairs (λ i inside vacant.
+      let x = exhausted (paging_of g) e.log2 e.linear ps key plan.2 in
+      let above = x.0 in
+      let some = x.2 in
+      let all : len m ≡ places e.page e.log2 =
+      full_block (sizes_of g) e block m held (λ i inside vacant.
       let d : K × ℕ = (key, 0) in
       let within : i < length ps = omega (arith, count) in
       none_free plan i (free_at ps i d within (sym (are.value i (get_or ps i d) (slice_get-get_or ps i d within)) ∙ vacant))) in
-      let greatest : l.extent.log2 ≡ g.MAX_LOG2 = omega (arith, lawful.small) in
-      let same : 2 ^ l.extent.log2 ≡ 2 ^ g.MAX_LOG2 = ap (λ n. 2 ^ n) greatest in
+      let greatest : e.log2 ≡ g.MAX_LOG2 = omega (arith, lawful.small) in
+      let same : 2 ^ e.log2 ≡ 2 ^ g.MAX_LOG2 = ap (λ n. 2 ^ n) greatest in
       ⊎_elim
       (λ (none : length ps ≡ 0). absurd (omega arith))
-      (λ (whole : length ps ≡ 4 * 2 ^ l.extent.log2). omega (arith, all, count, whole, same))
+      (λ (whole : length ps ≡ 4 * 2 ^ e.log2). omega (arith, all, count, whole, same))
       lawful.sized
 
   -- a plan that isn't a larger block says that the bucket has as many pairs as it can
-  pub is_full : (plan : Plan) → IsPlan (paging_of g) l.extent.log2 l.extent.linear ps key plan
+  pub is_full : (plan : Plan) → IsPlan (paging_of g) e.log2 e.linear ps key plan
       → ((log2 : ℕ) (linear : Bool) → plan ≡ Grow log2 linear → ⊥)
-      → most_pairs (bounds_of (sizes_of g)) ≤ len (map_now v b)
+      → most_pairs (bounds_of (sizes_of g)) ≤ len m
   is_full (InPlace i) plan other = absurd (not_placed i plan)
   is_full (Grow log2 linear) plan other = absurd (other log2 linear refl)
   is_full Full plan other = full plan
 
   -- a larger block says that there is room
   pub has_room : (log2 : ℕ) (linear : Bool)
-      → IsPlan (paging_of g) l.extent.log2 l.extent.linear ps key (Grow log2 linear)
-      → len (map_now v b) < most_pairs (bounds_of (sizes_of g))
+      → IsPlan (paging_of g) e.log2 e.linear ps key (Grow log2 linear)
+      → len m < most_pairs (bounds_of (sizes_of g))
   has_room log2 linear plan = ⊎_elim
       (λ (none : length ps ≡ 0).
-      let all : len (map_now v b) ≡ places l.extent.page l.extent.log2 =
-      full_block (sizes_of g) l.extent l.now (map_now v b) lock.pairs (λ i inside. absurd (omega (arith, count))) in
+      let all : len m ≡ places e.page e.log2 =
+      full_block (sizes_of g) e block m held (λ i inside. absurd (omega (arith, count))) in
       omega (arith, all, count, pow_pos g.MAX_LOG2))
-      (λ (more : (l.extent.log2 < g.MAX_LOG2) ⊎ ((i : ℕ) × IsFree ps i)). ⊎_elim
-      (λ (below : l.extent.log2 < g.MAX_LOG2). few_places (sizes_of g) l.extent l.now (map_now v b) lock.pairs below)
-      (λ (vacant : (i : ℕ) × IsFree ps i). few_pairs (sizes_of g) l.extent l.now (map_now v b) vacant.0 lock.pairs
+      (λ (more : (e.log2 < g.MAX_LOG2) ⊎ ((i : ℕ) × IsFree ps i)). ⊎_elim
+      (λ (below : e.log2 < g.MAX_LOG2). few_places (sizes_of g) e block m held below)
+      (λ (vacant : (i : ℕ) × IsFree ps i). few_pairs (sizes_of g) e block m vacant.0 held
       (free_inside_block vacant.0 vacant.1) (free_value vacant.0 vacant.1)) more)
-      (grows (paging_of g) l.extent.log2 l.extent.linear ps key log2 linear plan.2)
+      (grows (paging_of g) e.log2 e.linear ps key log2 linear plan.2)
 
   pub is_named : (log2 : ℕ) (linear : Bool)
-      → IsPlan (paging_of g) l.extent.log2 l.extent.linear ps key (Grow log2 linear)
+      → IsPlan (paging_of g) e.log2 e.linear ps key (Grow log2 linear)
       → IsNamed (paging_of g) ps key log2 linear
   is_named log2 linear plan = record {
-    was_log2 = l.extent.log2;
-    was_linear = l.extent.linear;
+    was_log2 = e.log2;
+    was_linear = e.linear;
     lawful = lawful;
     plan = plan;
   }
 
   pub is_shortage : (log2 left : ℕ) (linear : Bool) (store : PageStore)
-      → IsPlan (paging_of g) l.extent.log2 l.extent.linear ps key (Grow log2 linear)
-      → IsWanting (sizes_of g) store log2 left → IsShortage g (map_now v b) key log2 left
+      → IsPlan (paging_of g) e.log2 e.linear ps key (Grow log2 linear)
+      → IsWanting (sizes_of g) store log2 left → IsShortage g m key log2 left
   is_shortage log2 left linear store plan wanting = record {
     places = ps;
-    was_log2 = l.extent.log2;
-    was_linear = l.extent.linear;
+    was_log2 = e.log2;
+    was_linear = e.linear;
     linear = linear;
     lawful = lawful;
     map = hold;

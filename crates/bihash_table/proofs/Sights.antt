@@ -1,5 +1,5 @@
 -- A bucket that was seen without its lock: what reads add to it, its lock, and answers without the lock.
-use Rattle.std.proofs.Common.{◌≡◌, ◌∙◌, ◌×◌, ℕ, ◌+◌, ◌^◌, ◌<◌, ◌≤◌, true, false, List, [], ◌∷◌, ◌++◌, length, set, refl, sym, ap, subst, arith, Option, Some}
+use Rattle.std.proofs.Common.{◌≡◌, ◌∙◌, ℕ, ◌+◌, ◌^◌, ◌<◌, ◌≤◌, true, false, List, [], ◌∷◌, ◌++◌, length, le_refl, set, refl, sym, ap, subst, arith, Option, Some}
 use lib.Seq.{set-get_or}
 use Rattle.bihash_words.specs.Maps.{Pairs, Event, Step}
 use Rattle.bihash_words.specs.Sizes.{Sizes}
@@ -34,7 +34,7 @@ use Rattle.bihash_table.proofs.Seeing.{notes_more, read_first, read_last}
 -- ---- More reads
 
 -- the bucket is seen behind reads too
-open_more : (z : Sizes) (x : View) (b word : ℕ) (more : List (ℕ × ℕ)) → HasOpen z x b word → HasOpen z (reading x more) b word
+abbrev open_more : (z : Sizes) (x : View) (b word : ℕ) (more : List (ℕ × ℕ)) → HasOpen z x b word → HasOpen z (reading x more) b word
 open_more z x b word more h = record {
   inside = h.inside;
   held = h.held;
@@ -42,6 +42,7 @@ open_more z x b word more h = record {
   block = notes_more z x word h.extent more h.block;
   bucket = h.bucket;
   version = h.version;
+  short = h.short;
   pairs = h.pairs;
 }
 
@@ -68,6 +69,29 @@ module _ (z : Sizes) (x y : View) (b word : ℕ) {Q : Extent → List ℕ → Ty
 pub seen_as : (z : Sizes) (y : View) (b word : ℕ) {P Q : Extent → List ℕ → Type 0} → (h : HasSeen z y b word P)
     → (P h.seen.extent h.seen.block.open_bucket.block → Q h.seen.extent h.seen.block.open_bucket.block) → HasSeen z y b word Q
 seen_as z y b word h more = record { seen = h.seen; told = λ reads. more (h.told reads) }
+
+-- ---- What reads leave
+
+module _ (v y : View) (b : ℕ) {Q : Extent → List ℕ → Type 0} (s : Saw v y Q) where
+  pub saw_known : known_at y.known b ≡ known_at v.known b
+  saw_known = ap (λ (u : View). known_at u.known b) s.is
+
+  pub saw_records : y.records ≡ v.records
+  saw_records = ap (λ (u : View). u.records) s.is
+
+  pub saw_ahead : IsAhead v y b
+  saw_ahead = let same = sym s.is in record {
+    history = known_at v.known b;
+    begins = prefix_refl (known_at v.known b);
+    locks = locks_of v.records;
+    is = s.is ∙ (λ i. record v {
+      records = sym (with_locks-locks_of v.records) i;
+      known = record v.known { writes = sym (set-get_or v.known.writes b []) i };
+      holds = (same i).holds;
+      notes = (same i).notes;
+    });
+    alone = λ _. le_refl (length (known_at v.known b));
+  }
 
 -- the view behind the reads is ahead of the one before the look
 pub seen_ahead : (z : Sizes) (v x y : View) (b word : ℕ) {Q : Extent → List ℕ → Type 0} → IsOpened z v x b word → Saw x y Q → IsAhead v y b

@@ -7,18 +7,10 @@ use Rattle.bihash_steps.specs.Views.{no_notes, nothing_held}
 use Rattle.bihash_steps.specs.StoreSteps.{TakesBlock, grown, holding, old_block, unlisted}
 use Rattle.bihash_steps.specs.Seats.{CallerState, with_view}
 use Rattle.bihash_steps.specs.declared.view.Extent.{Extent}
-use Rattle.bihash_steps.specs.declared.view.LockedBucket.{LockedBucket}
 use Rattle.bihash_steps.specs.declared.view.LockedStore.{LockedStore}
 use Rattle.bihash_steps.specs.declared.view.HeldBlock.{HeldBlock}
 use Rattle.bihash_steps.specs.declared.view.PageStore.{PageStore}
 use Rattle.bihash_steps.specs.declared.view.View.{View}
-
--- the caller has locked the block of these words, which begins at this page
-pub record LocksBlock (z : Sizes) (v : View) (page : ℕ) (l : LockedBucket) : Type 0 where
-  pub held : v.holds.bucket ≡ Some l
-  pub first : l.extent.page ≡ page
-  pub near : page + 2 ^ l.extent.log2 ≤ z.pages + 1
-  pub size : length l.now ≡ block_words z page l.extent.log2
 
 -- the caller holds this block, which begins at this page, and has no note
 pub record HasBlock (z : Sizes) (v : View) (page : ℕ) (h : HeldBlock) : Type 0 where

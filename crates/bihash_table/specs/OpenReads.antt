@@ -37,6 +37,7 @@ pub record HasOpen (z : Sizes) (v : View) (b word : ℕ) : Type 0 where
   pub block : NotesBlock z v word extent
   pub bucket : block.open_bucket.bucket ≡ b
   pub version : block.open_bucket.version ≡ length (known_at v.known b)
+  pub short : length (known_at v.known b) ≤ z.limit
   pub pairs : IsBlockOf z extent block.open_bucket.block (map_now v b)
 
 -- the bucket was seen from the view v

@@ -1,8 +1,9 @@
 -- A bucket that was seen without its lock, with what was read of it, and its lock behind that.
-use Rattle.std.specs.Prelude.{◌≡◌, ℕ, List, Option, Some}
-use Rattle.std.specs.FinMap.{get}
-use Rattle.bihash_words.specs.Maps.{Pairs}
+use Rattle.std.specs.Prelude.{◌≡◌, ◌≤◌, ℕ, List, Option, None, Some}
+use Rattle.std.specs.FinMap.{get, len}
+use Rattle.bihash_words.specs.Maps.{Pairs, most_pairs}
 use Rattle.bihash_words.specs.Sizes.{Sizes}
+use Rattle.bihash_steps.specs.Histories.{bounds_of}
 use Rattle.bihash_steps.specs.Callers.{known_at}
 use Rattle.bihash_steps.specs.Blocks.{IsBlockOf}
 use Rattle.bihash_steps.specs.Buckets.{Reads}
@@ -11,7 +12,8 @@ use Rattle.bihash_steps.specs.declared.view.Extent.{Extent}
 use Rattle.bihash_steps.specs.declared.view.OpenBucket.{OpenBucket}
 use Rattle.bihash_steps.specs.declared.view.View.{View}
 use Rattle.bihash_table.specs.Locked.{IsLocked}
-use Rattle.bihash_table.specs.OpenReads.{HasOpen}
+use Rattle.bihash_table.specs.OpenReads.{HasOpen, IsPairIn}
+use Rattle.bihash_table.specs.Places.{IsCrowdedFor}
 
 -- The caller saw bucket b without its lock, and read words of its block since. What they tell of the block
 -- holds on the condition that they are its words.
@@ -22,6 +24,14 @@ pub record HasSeen (z : Sizes) (v : View) (b word : ℕ) (tells : Extent → Lis
 -- what was found at the key is what the map has there
 abbrev pub IsValueOf : Sizes → List ℕ → Option ℕ → Extent → List ℕ → Type 0
 IsValueOf z key found e block = (m : Pairs) → IsBlockOf z e block m → found ≡ get m key
+
+-- the key is new, and no free place is open to it
+abbrev pub IsNewAndCrowded : Sizes → List ℕ → Extent → List ℕ → Type 0
+IsNewAndCrowded z key e block = IsPairIn z e block key None × IsCrowdedFor z e block key
+
+-- the key is new, and the bucket holds as many pairs as it may
+abbrev pub IsFullFor : Sizes → List ℕ → Extent → List ℕ → Type 0
+IsFullFor z key e block = (m : Pairs) → IsBlockOf z e block m → (get m key ≡ None) × (most_pairs (bounds_of z) ≤ len m)
 
 -- The lock was taken where the bucket was seen: nobody wrote since, and the words that were read are those
 -- of the block.

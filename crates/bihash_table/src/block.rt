@@ -1,65 +1,15 @@
-//! Copies of a block: from its words to places of keys and values, and back.
+//! Places of keys and values that are written into a block.
 ghost use Rattle.std.specs.Prelude.{◌≡◌, ◌<◌, ◌+◌, ◌*◌, ℕ, List, length, slice_index};
 ghost use Rattle.bihash_words.specs.Sizes.{sizes_of, IsSound};
 ghost use Rattle.bihash_steps.specs.Words.{place_words};
 ghost use Rattle.bihash_steps.specs.Blocks.{places, key_in, value_in};
 ghost use Rattle.bihash_steps.specs.Seats.{with_view};
-ghost use Rattle.bihash_steps.specs.declared.view.LockedBucket.{LockedBucket};
 ghost use Rattle.bihash_steps.specs.declared.view.HeldBlock.{HeldBlock};
-ghost use Rattle.bihash_table.specs.Copying.{LocksBlock, HasBlock, with_words};
+ghost use Rattle.bihash_table.specs.Copying.{HasBlock, with_words};
 ghost use Rattle.bihash_table.specs.Places.{ArePlaces};
 
 use bihash_steps::{CallerSeat, Row};
 use bihash_words::Shape;
-
-/// The most words of a key.
-const MOST_WORDS: usize = 8;
-
-/// Reads the block that the caller has locked, which begins at this page.
-pub(crate) fn read_block<S: Shape>(
-    row: &Row<S>,
-    seat: &mut CallerSeat<S>,
-    page: u64,
-    out: &mut [(S::Key, u64)],
-)
-    requires own { seat.old.row ≡ row.now }
-    requires shape { IsSound (sizes_of S.Shape) }
-    requires lock { (l : LockedBucket) × LocksBlock (sizes_of S.Shape) seat.old.view page l
-        × (length out.old ≡ places page l.extent.log2) }
-    ensures same { seat.new ≡ seat.old }
-    ensures all { (l : LockedBucket) → LocksBlock (sizes_of S.Shape) seat.old.view page l
-        → ArePlaces ⟦<S as Shape>⟧ out.new l.now }
-{
-    for place in 0..out.len() {
-        out[place] = read_place(row, seat, page, place);
-    }
-}
-
-/// The key and the value of a place of the block that the caller has locked.
-fn read_place<S: Shape>(
-    row: &Row<S>,
-    seat: &mut CallerSeat<S>,
-    page: u64,
-    place: usize,
-) -> (S::Key, u64)
-    requires own { seat.old.row ≡ row.now }
-    requires shape { IsSound (sizes_of S.Shape) }
-    requires lock { (l : LockedBucket) × LocksBlock (sizes_of S.Shape) seat.old.view page l
-        × (place < places page l.extent.log2) }
-    ensures same { seat.new ≡ seat.old }
-    ensures key { (l : LockedBucket) → LocksBlock (sizes_of S.Shape) seat.old.view page l
-        → key_in (sizes_of S.Shape) l.now place ≡ S.words_of result.0 }
-    ensures value { (l : LockedBucket) → LocksBlock (sizes_of S.Shape) seat.old.view page l
-        → value_in (sizes_of S.Shape) l.now place ≡ result.1 }
-{
-    let first = place * (S::WORDS + 1);
-    let mut words = [0u64; MOST_WORDS];
-    for i in 0..S::WORDS {
-        words[i] = row.load_locked(seat, page, first + i);
-    }
-    let value = row.load_locked(seat, page, first + S::WORDS);
-    (S::key(&words[..S::WORDS]), value)
-}
 
 /// Writes places into the block that the caller holds, which begins at this page and has as many.
 pub(crate) fn write_block<S: Shape>(

@@ -1,82 +1,103 @@
 //! Changes that a bucket's block has room for, and answers that leave it.
-ghost use Rattle.std.specs.Prelude.{◌≡◌, ◌≢◌, ◌<◌, ◌≤◌, ◌+◌, ◌*◌, true, false, ℕ, length, None, Option, Some, IfOk, IfErr, is_ok};
+ghost use Rattle.std.specs.Prelude.{◌≡◌, ◌≢◌, ◌<◌, ◌≤◌, ◌+◌, ◌*◌, length, None, Some, IfOk};
 ghost use Rattle.std.specs.FinMap.{get};
 ghost use Rattle.bihash_words.specs.Maps.{effect_of};
 ghost use Rattle.bihash_words.specs.Patches.{free_mark};
 ghost use Rattle.bihash_words.specs.Sizes.{sizes_of};
 ghost use Rattle.bihash_words.specs.declared.patch.Change.TheVariants.{Keep, Set, Remove};
-ghost use Rattle.bihash_words.specs.declared.patch.Reply.TheVariants.{Kept, Changed, Worn};
+ghost use Rattle.bihash_words.specs.declared.patch.Reply.TheVariants.{Kept, Changed, Worn, Full};
 ghost use Rattle.bihash_steps.specs.Words.{place_words};
 ghost use Rattle.bihash_steps.specs.Histories.{bucket_of};
-ghost use Rattle.bihash_steps.specs.Blocks.{HasPair, places, value_in};
+ghost use Rattle.bihash_steps.specs.Blocks.{places, value_in};
 ghost use Rattle.bihash_steps.specs.Callers.{IsLawfulCaller, known_at};
 ghost use Rattle.bihash_steps.specs.BucketSteps.{map_now, relocked, stored_in};
 ghost use Rattle.bihash_steps.specs.declared.view.LockedBucket.{LockedBucket};
 ghost use Rattle.bihash_steps.specs.Seats.{with_view};
-ghost use Rattle.bihash_table.specs.Answers.{IsAnswered, IsTurnedAway};
+ghost use Rattle.bihash_table.specs.Answers.{IsAnswered};
 ghost use Rattle.bihash_table.specs.Locked.{HasLock};
+ghost use Rattle.bihash_table.specs.OpenReads.{IsPairIn};
 ghost use Rattle.bihash_table.specs.Places.{HasPairOf, IsFreeFor};
+ghost use Rattle.bihash_table.specs.Seen.{HasSeen, IsFullFor, IsValueOf};
 ghost use Rattle.bihash_table.specs.Stores.{HasOtherPair, HasStored, HoldsPlace};
+ghost use Rattle.bihash_table.specs.Tries.{Tried};
 
 use crate::contended::Contended;
 use crate::grow::remove_last;
-use crate::scan::{FREE, PAGE_PLACES, load_value, page_count};
+use crate::lock::lock_seen;
+use crate::places::FREE;
+use crate::reads::has_other_pair;
+use crate::site::Site;
 use bihash_steps::{CallerSeat, Row};
 use bihash_words::{BucketWord, Change, Reply, Shape};
 
-/// Answers that nothing is to be changed, and opens the lock.
+/// Answers that nothing is to be changed, where the bucket still has the word that was seen.
 pub(crate) fn keep<S: Shape>(
     row: &Row<S>,
-    caller: &mut CallerSeat<S>,
-    bucket: usize,
+    seat: &mut CallerSeat<S>,
     word: BucketWord,
-    key: &S::Key,
+    site: &Site<'_, S>,
     found: Option<u64>,
     change: Change,
-) -> Reply
-    requires own { caller.old.row ≡ row.now }
-    requires lock { (l : LockedBucket) × HasLock (sizes_of S.Shape) caller.old.view bucket word l }
-    requires home { bucket_of (sizes_of S.Shape) (S.words_of key.now) ≡ bucket }
-    requires counted { length (S.words_of key.now) ≡ S.WORDS }
-    requires found { found ≡ get (map_now caller.old.view bucket) (S.words_of key.now) }
+) -> Result<Reply, Contended>
+    requires own { seat.old.row ≡ row.now }
+    requires seen { HasSeen (sizes_of S.Shape) seat.old.view site.now.bucket word
+        (IsValueOf (sizes_of S.Shape) (S.words_of site.now.key.now) found) }
     requires idle { effect_of change found ≡ Keep }
-    ensures same { caller.new ≡ with_view caller.old caller.new.view }
-    ensures kept { result ≡ Kept found }
-    ensures answered { IsAnswered (sizes_of S.Shape) caller.old.view caller.new.view
-        (record { key = S.words_of key.now; found = found; change = change; reply = result }) }
-    ensures lawful { IsLawfulCaller (sizes_of S.Shape) caller.new.view }
+    ensures kept { IfOk result (λ reply. reply ≡ Kept found) }
+    ensures tried { Tried ⟦<S as Shape>⟧ seat.old seat.new site.now.bucket site.now.key.now found change result }
 {
     let reply = Reply::Kept(found);
-    row.cancel(caller, bucket, word, key, found, change, reply);
-    reply
+    if !row.validate(seat, site.bucket, word, site.key, found, change, reply) {
+        return Err(Contended);
+    }
+    Ok(reply)
 }
 
-/// Answers that a change was wanted where the version is used up, and opens the lock.
+/// Answers that a change was wanted where the version is used up, where the bucket still has the word that
+/// was seen.
 pub(crate) fn refuse<S: Shape>(
     row: &Row<S>,
-    caller: &mut CallerSeat<S>,
-    bucket: usize,
+    seat: &mut CallerSeat<S>,
     word: BucketWord,
-    key: &S::Key,
+    site: &Site<'_, S>,
     found: Option<u64>,
     change: Change,
-) -> Reply
-    requires own { caller.old.row ≡ row.now }
-    requires lock { (l : LockedBucket) × HasLock (sizes_of S.Shape) caller.old.view bucket word l }
-    requires home { bucket_of (sizes_of S.Shape) (S.words_of key.now) ≡ bucket }
-    requires counted { length (S.words_of key.now) ≡ S.WORDS }
-    requires found { found ≡ get (map_now caller.old.view bucket) (S.words_of key.now) }
+) -> Result<Reply, Contended>
+    requires own { seat.old.row ≡ row.now }
+    requires seen { HasSeen (sizes_of S.Shape) seat.old.view site.now.bucket word
+        (IsValueOf (sizes_of S.Shape) (S.words_of site.now.key.now) found) }
     requires wanted { effect_of change found ≢ Keep }
-    requires worn { length (known_at caller.old.view.known bucket) ≡ S.LIMIT }
-    ensures same { caller.new ≡ with_view caller.old caller.new.view }
-    ensures refused { result ≡ Worn found }
-    ensures answered { IsAnswered (sizes_of S.Shape) caller.old.view caller.new.view
-        (record { key = S.words_of key.now; found = found; change = change; reply = result }) }
-    ensures lawful { IsLawfulCaller (sizes_of S.Shape) caller.new.view }
+    requires worn { length (known_at seat.old.view.known site.now.bucket) ≡ S.LIMIT }
+    ensures refused { IfOk result (λ reply. reply ≡ Worn found) }
+    ensures tried { Tried ⟦<S as Shape>⟧ seat.old seat.new site.now.bucket site.now.key.now found change result }
 {
     let reply = Reply::Worn(found);
-    row.cancel(caller, bucket, word, key, found, change, reply);
-    reply
+    if !row.validate(seat, site.bucket, word, site.key, found, change, reply) {
+        return Err(Contended);
+    }
+    Ok(reply)
+}
+
+/// Answers that the bucket has no room for a new key, where it still has the word that was seen.
+pub(crate) fn crowd<S: Shape>(
+    row: &Row<S>,
+    seat: &mut CallerSeat<S>,
+    word: BucketWord,
+    site: &Site<'_, S>,
+    value: u64,
+) -> Result<Reply, Contended>
+    requires own { seat.old.row ≡ row.now }
+    requires seen { HasSeen (sizes_of S.Shape) seat.old.view site.now.bucket word
+        (IsFullFor (sizes_of S.Shape) (S.words_of site.now.key.now)) }
+    requires unworn { length (known_at seat.old.view.known site.now.bucket) < S.LIMIT }
+    ensures full { IfOk result (λ reply. reply ≡ Full) }
+    ensures tried { Tried ⟦<S as Shape>⟧ seat.old seat.new site.now.bucket site.now.key.now None (Set value) result }
+{
+    let reply = Reply::Full;
+    if !row.validate(seat, site.bucket, word, site.key, None, Change::Set(value), reply) {
+        return Err(Contended);
+    }
+    Ok(reply)
 }
 
 /// Gives the pair at a place another value.
@@ -140,35 +161,36 @@ pub(crate) fn fill<S: Shape>(
     Reply::Changed(None)
 }
 
-/// Removes the pair at a place. With the last pair the block goes too.
+/// Removes the key's pair. With the last pair the block goes too.
 pub(crate) fn remove<S: Shape>(
     row: &Row<S>,
-    caller: &mut CallerSeat<S>,
-    bucket: usize,
+    seat: &mut CallerSeat<S>,
     word: BucketWord,
-    key: &S::Key,
-    place: usize,
-    found: u64,
+    site: &Site<'_, S>,
+    pair: (usize, u64),
 ) -> Result<Reply, Contended>
-    requires own { caller.old.row ≡ row.now }
-    requires lock { (l : LockedBucket) × HasLock (sizes_of S.Shape) caller.old.view bucket word l
-        × HasPairOf (sizes_of S.Shape) l.extent l.now (S.words_of key.now) place
-        × (value_in (sizes_of S.Shape) l.now place ≡ found) }
-    requires home { bucket_of (sizes_of S.Shape) (S.words_of key.now) ≡ bucket }
-    requires counted { length (S.words_of key.now) ≡ S.WORDS }
-    requires unworn { length (known_at caller.old.view.known bucket) < S.LIMIT }
-    ensures same { caller.new ≡ with_view caller.old caller.new.view }
-    ensures changed { IfOk result (λ reply. reply ≡ Changed (Some found)) }
-    ensures answered { IfOk result (λ reply. IsAnswered (sizes_of S.Shape) caller.old.view caller.new.view
-        (record { key = S.words_of key.now; found = Some found; change = Remove; reply = reply })) }
-    ensures contended { IfErr result (λ _. IsTurnedAway (sizes_of S.Shape) caller.old.view caller.new.view bucket) }
-    ensures lone { caller.old.view.lone ≡ true → is_ok result ≡ true }
-    ensures lawful { IsLawfulCaller (sizes_of S.Shape) caller.new.view }
+    requires own { seat.old.row ≡ row.now }
+    requires seen { HasSeen (sizes_of S.Shape) seat.old.view site.now.bucket word
+        (λ e block. IsPairIn (sizes_of S.Shape) e block (S.words_of site.now.key.now) (Some pair)) }
+    requires unworn { length (known_at seat.old.view.known site.now.bucket) < S.LIMIT }
+    ensures { Tried ⟦<S as Shape>⟧ seat.old seat.new site.now.bucket site.now.key.now (Some pair.1) Remove result }
 {
-    if !has_other_pair(row, caller, bucket, word, place) {
-        return remove_last(row, caller, bucket, word, key, found);
+    let other = has_other_pair(row, seat, word, pair.0);
+    if !lock_seen(row, seat, site.bucket, word) {
+        return Err(Contended);
     }
-    Ok(vacate(row, caller, bucket, word, key, place, found))
+    if !other {
+        return remove_last(row, seat, site.bucket, word, site.key, pair.1);
+    }
+    Ok(vacate(
+        row,
+        seat,
+        site.bucket,
+        word,
+        site.key,
+        pair.0,
+        pair.1,
+    ))
 }
 
 // Frees the place of a pair, where another pair is left.
@@ -238,30 +260,4 @@ fn store_word<S: Shape>(
 {
     row.is_sound();
     row.store_locked(caller, word.page(), place * (S::WORDS + 1) + i, value);
-}
-
-// Whether a pair stands at another place of the block that the caller has locked.
-fn has_other_pair<S: Shape>(
-    row: &Row<S>,
-    caller: &mut CallerSeat<S>,
-    bucket: usize,
-    word: BucketWord,
-    place: usize,
-) -> bool
-    requires own { caller.old.row ≡ row.now }
-    requires lock { (l : LockedBucket) × HasLock (sizes_of S.Shape) caller.old.view bucket word l
-        × (place < places l.extent.page l.extent.log2) }
-    ensures same { caller.new ≡ caller.old }
-    ensures other { result ≡ true → (l : LockedBucket) → HasLock (sizes_of S.Shape) caller.old.view bucket word l
-        → HasOtherPair (sizes_of S.Shape) l place }
-    ensures alone { result ≡ false → (l : LockedBucket) → HasLock (sizes_of S.Shape) caller.old.view bucket word l
-        → (k : ℕ) → HasPair (sizes_of S.Shape) l.extent l.now k → k ≡ place }
-{
-    row.is_sound();
-    for k in 0..PAGE_PLACES * page_count(word.log2()) {
-        if k != place && load_value(row, caller, bucket, word, k) != FREE {
-            return true;
-        }
-    }
-    false
 }

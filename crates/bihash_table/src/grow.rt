@@ -1,5 +1,5 @@
 //! Changes that give a bucket another block, or none.
-ghost use Rattle.std.specs.Prelude.{◌≡◌, ◌≢◌, ◌<◌, ◌≤◌, ◌*◌, ◌^◌, true, ℕ, List, length, None, Some, IfOk, IfErr, is_ok};
+ghost use Rattle.std.specs.Prelude.{◌≡◌, ◌≢◌, ◌<◌, ◌≤◌, ◌*◌, ◌^◌, true, false, ℕ, List, length, None, Some, IfOk, IfErr, is_ok};
 ghost use Rattle.std.specs.FinMap.{get, insert, len};
 ghost use Rattle.bihash_words.specs.Maps.{most_pairs};
 ghost use Rattle.bihash_words.specs.Patches.{free_mark};
@@ -18,119 +18,79 @@ ghost use Rattle.bihash_steps.specs.Seats.{with_view};
 ghost use Rattle.bihash_table.specs.Answers.{IsAnswered, IsTurnedAway};
 ghost use Rattle.bihash_table.specs.Copying.{GivenBack, HoldsOld, IsWanting, Released};
 ghost use Rattle.bihash_table.specs.Locked.{HasLock};
-ghost use Rattle.bihash_table.specs.Places.{ArePlaces, HasPairOf, IsCrowdedFor};
+ghost use Rattle.bihash_table.specs.Places.{ArePlaces, HasPairOf};
 ghost use Rattle.bihash_table.specs.Scans.{IsWordOf};
-ghost use Rattle.bihash_table.specs.Shortage.{IsShortage};
+ghost use Rattle.bihash_table.specs.Seen.{HasSeen, IsNewAndCrowded};
+ghost use Rattle.bihash_table.specs.Tries.{Tried, is_without_lock};
 
-use crate::block::{read_block, write_block};
+use crate::block::write_block;
+use crate::change::crowd;
 use crate::contended::Contended;
+use crate::lock::lock_seen;
 use crate::pages::{give_back, take_block};
+use crate::places::{place_count, places_of};
+use crate::site::Site;
+use crate::snapshot::read_block;
 use bihash_plan::{Plan, lay, plan};
 use bihash_steps::view::Extent;
 use bihash_steps::{Caller, CallerSeat, Row};
 use bihash_words::{BucketWord, Change, Reply, Shape};
 
-/// Enters a new pair that finds no place in the locked block: the block grows, or the call is refused.
+/// Enters a new pair that finds no place in the block that was seen: the block grows, or the call is
+/// refused.
 pub(crate) fn enter_larger<S: Shape>(
     row: &Row<S>,
     caller: &mut Caller<S>,
-    bucket: usize,
     word: BucketWord,
-    key: &S::Key,
+    site: &Site<'_, S>,
     value: u64,
 ) -> Result<Reply, Contended>
     requires own { caller.old.seat.row ≡ row.now }
-    requires lock { (l : LockedBucket) × HasLock (sizes_of S.Shape) caller.old.seat.view bucket word l
-        × IsCrowdedFor (sizes_of S.Shape) l.extent l.now (S.words_of key.now) }
-    requires home { bucket_of (sizes_of S.Shape) (S.words_of key.now) ≡ bucket }
-    requires counted { length (S.words_of key.now) ≡ S.WORDS }
-    requires unworn { length (known_at caller.old.seat.view.known bucket) < S.LIMIT }
-    requires new { get (map_now caller.old.seat.view bucket) (S.words_of key.now) ≡ None }
+    requires seen { HasSeen (sizes_of S.Shape) caller.old.seat.view site.now.bucket word
+        (IsNewAndCrowded (sizes_of S.Shape) (S.words_of site.now.key.now)) }
+    requires unworn { length (known_at caller.old.seat.view.known site.now.bucket) < S.LIMIT }
     requires storable { value ≢ free_mark }
-    ensures same { caller.new.seat ≡ with_view caller.old.seat caller.new.seat.view }
-    ensures answered { IfOk result (λ reply. IsAnswered (sizes_of S.Shape) caller.old.seat.view caller.new.seat.view
-        (record { key = S.words_of key.now; found = None; change = Set value; reply = reply })) }
-    ensures no_pages { IfOk result (λ reply. (log2 left : ℕ) → reply ≡ NoPages log2 left
-        → IsShortage ⟦<S as Shape>⟧ (map_now caller.new.seat.view bucket) key.now log2 left) }
-    ensures contended { IfErr result (λ _. IsTurnedAway (sizes_of S.Shape) caller.old.seat.view caller.new.seat.view bucket) }
-    ensures lone { caller.old.seat.view.lone ≡ true → is_ok result ≡ true }
-    ensures lawful { IsLawfulCaller (sizes_of S.Shape) caller.new.seat.view }
+    ensures { Tried ⟦<S as Shape>⟧ caller.old.seat caller.new.seat site.now.bucket site.now.key.now None (Set value)
+        result }
 {
+    let seat = &mut caller.seat;
     let scratch = &mut caller.scratch;
-    enter_as_planned(
-        row,
-        &mut caller.seat,
-        bucket,
-        word,
-        key,
-        value,
-        &mut scratch.old_places,
-        &mut scratch.new_places,
-    )
+    let old = &mut scratch.old_places;
+    let new = &mut scratch.new_places;
+    enter_as_planned(row, seat, word, site, value, old, new)
 }
 
 /// The same, with room for all pairs of a bucket twice: as they stand, and as they will stand.
 fn enter_as_planned<S: Shape>(
     row: &Row<S>,
     seat: &mut CallerSeat<S>,
-    bucket: usize,
     word: BucketWord,
-    key: &S::Key,
+    site: &Site<'_, S>,
     value: u64,
     old: &mut [(S::Key, u64)],
     new: &mut [(S::Key, u64)],
 ) -> Result<Reply, Contended>
     requires own { seat.old.row ≡ row.now }
-    requires lock { (l : LockedBucket) × HasLock (sizes_of S.Shape) seat.old.view bucket word l
-        × IsCrowdedFor (sizes_of S.Shape) l.extent l.now (S.words_of key.now) }
-    requires home { bucket_of (sizes_of S.Shape) (S.words_of key.now) ≡ bucket }
-    requires counted { length (S.words_of key.now) ≡ S.WORDS }
-    requires unworn { length (known_at seat.old.view.known bucket) < S.LIMIT }
-    requires new { get (map_now seat.old.view bucket) (S.words_of key.now) ≡ None }
+    requires seen { HasSeen (sizes_of S.Shape) seat.old.view site.now.bucket word
+        (IsNewAndCrowded (sizes_of S.Shape) (S.words_of site.now.key.now)) }
+    requires unworn { length (known_at seat.old.view.known site.now.bucket) < S.LIMIT }
     requires storable { value ≢ free_mark }
     requires old_room { length old.old ≡ 4 * 2 ^ S.MAX_LOG2 }
     requires new_room { length new.old ≡ 4 * 2 ^ S.MAX_LOG2 }
-    ensures same { seat.new ≡ with_view seat.old seat.new.view }
-    ensures answered { IfOk result (λ reply. IsAnswered (sizes_of S.Shape) seat.old.view seat.new.view
-        (record { key = S.words_of key.now; found = None; change = Set value; reply = reply })) }
-    ensures no_pages { IfOk result (λ reply. (log2 left : ℕ) → reply ≡ NoPages log2 left
-        → IsShortage ⟦<S as Shape>⟧ (map_now seat.new.view bucket) key.now log2 left) }
-    ensures contended { IfErr result (λ _. IsTurnedAway (sizes_of S.Shape) seat.old.view seat.new.view bucket) }
-    ensures lone { seat.old.view.lone ≡ true → is_ok result ≡ true }
-    ensures lawful { IsLawfulCaller (sizes_of S.Shape) seat.new.view }
+    ensures { Tried ⟦<S as Shape>⟧ seat.old seat.new site.now.bucket site.now.key.now None (Set value) result }
 {
     row.is_sound();
     let old = &mut old[..place_count::<S>(word)];
-    read_block(row, seat, word.page(), old);
-    let Plan::Grow { log2, linear } = plan::<S>(old, word.log2(), word.linear(), key) else {
-        let full = Reply::Full;
-        row.cancel(seat, bucket, word, key, None, Change::Set(value), full);
-        return Ok(full);
+    read_block(row, seat, word, old);
+    let Plan::Grow { log2, linear } = plan::<S>(old, word.log2(), word.linear(), site.key) else {
+        return crowd(row, seat, word, site, value);
     };
     let new = &mut new[..places_of(log2)];
-    lay::<S>(old, key, value, log2, linear, new);
-    enter(row, seat, bucket, word, key, value, log2, linear, new)
-}
-
-/// How many places the block of a bucket has whose word is this.
-fn place_count<S: Shape>(word: BucketWord) -> usize
-    requires shape { IsSound (sizes_of S.Shape) }
-    requires word { (e : Extent) × IsWordOf (sizes_of S.Shape) word e }
-    ensures count { (e : Extent) → IsWordOf (sizes_of S.Shape) word e → result ≡ places e.page e.log2 }
-    ensures few { result ≤ 4 * 2 ^ S.MAX_LOG2 }
-{
-    if word.page() == 0 {
-        return 0;
+    lay::<S>(old, site.key, value, log2, linear, new);
+    if !lock_seen(row, seat, site.bucket, word) {
+        return Err(Contended);
     }
-    places_of(word.log2())
-}
-
-/// How many places a block of `2^log2` pages has.
-fn places_of(log2: u64) -> usize
-    requires { log2 ≤ 24 }
-    ensures { result ≡ 4 * 2 ^ log2 }
-{
-    4usize << log2
+    enter(row, seat, site.bucket, word, site.key, value, log2, linear, new)
 }
 
 /// Gives the bucket a block of `2^log2` pages, in which its pairs and the new one are laid out.
@@ -162,6 +122,7 @@ fn enter<S: Shape>(
     ensures same { seat.new ≡ with_view seat.old seat.new.view }
     ensures answered { IfOk result (λ reply. IsAnswered (sizes_of S.Shape) seat.old.view seat.new.view
         (record { key = S.words_of key.now; found = None; change = Set value; reply = reply })) }
+    ensures paid { IfOk result (λ reply. is_without_lock reply ≡ false) }
     ensures no_pages { IfOk result (λ reply. (wanted left : ℕ) → reply ≡ NoPages wanted left → (wanted ≡ log2)
         × (map_now seat.new.view bucket ≡ map_now seat.old.view bucket)
         × ((store : PageStore) × IsWanting (sizes_of S.Shape) store log2 left)) }

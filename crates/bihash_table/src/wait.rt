@@ -1,5 +1,5 @@
 //! Updates that wait for their turn: one of any decision, and the four fixed ones.
-ghost use Rattle.std.specs.Prelude.{◌≡◌, ◌≢◌, ℕ};
+ghost use Rattle.std.specs.Prelude.{◌≡◌, ◌≢◌, ℕ, true};
 ghost use Rattle.bihash_words.specs.Sizes.{sizes_of};
 ghost use Rattle.bihash_words.specs.Patches.{free_mark, set_if_absent, set_if_present};
 ghost use Rattle.bihash_words.specs.declared.patch.Change.TheVariants.{Set, Remove};
@@ -9,8 +9,9 @@ ghost use Rattle.bihash_steps.specs.Callers.{IsLawfulCaller};
 ghost use Rattle.bihash_steps.specs.Views.{nothing_held};
 ghost use Rattle.bihash_steps.specs.BucketSteps.{map_now};
 ghost use Rattle.bihash_steps.specs.Seats.{with_view};
-ghost use Rattle.bihash_table.specs.Answers.{IsUpdated};
+ghost use Rattle.bihash_table.specs.Answers.{IsUpdated, locks_of};
 ghost use Rattle.bihash_table.specs.Shortage.{IsShortage};
+ghost use Rattle.bihash_table.specs.Tries.{is_without_lock};
 
 use crate::sessions::Sessions;
 use bihash_steps::Caller;
@@ -33,6 +34,8 @@ impl<S: Shape> Sessions<S> {
         ensures same { caller.new.seat ≡ with_view caller.old.seat caller.new.seat.view }
         ensures answered { IsUpdated (sizes_of S.Shape) caller.old.seat.view caller.new.seat.view
             (S.words_of key.now) (P.decision patch.now) result }
+        ensures no_lock { caller.old.seat.view.lone ≡ true → is_without_lock result ≡ true
+            → locks_of caller.new.seat.view.records ≡ locks_of caller.old.seat.view.records }
         ensures no_pages { (log2 left : ℕ) → result ≡ NoPages log2 left
             → IsShortage ⟦<S as Shape>⟧ (map_now caller.new.seat.view (bucket_of (sizes_of S.Shape) (S.words_of key.now)))
             key.now log2 left }

@@ -1,113 +1,74 @@
-use Rattle.std.proofs.Common.{◌≤◌, ◌<◌, ◌∙◌, ◌^◌, None, Result, Ok, Err, IfOk, ap, arith, length, length-take, pow_mono, refl, subst, sym}
-use Rattle.std.specs.FinMap.{insert, len}
-use Rattle.bihash_words.specs.Maps.{Pairs, most_pairs}
+use Rattle.std.proofs.Common.{◌≡◌, ◌≤◌, ◌<◌, ◌∙◌, ◌^◌, ℕ, List, None, Result, Ok, Err, IfOk, ap, arith, length, length-take, pow_mono, refl, subst, sym, true≢false}
+use Rattle.bihash_words.specs.Maps.{Pairs}
 use Rattle.bihash_words.specs.Sizes.{sizes_of}
 use Rattle.bihash_words.specs.declared.patch.Change.TheVariants.{Set}
-use Rattle.bihash_words.specs.declared.patch.Reply.TheVariants.{Full}
 use Rattle.bihash_plan.specs.declared.outcome.Plan.TheVariants.{Grow}
-use Rattle.bihash_steps.specs.Histories.{bounds_of}
-use Rattle.bihash_steps.specs.Blocks.{IsBlockOf, places}
-use Rattle.bihash_steps.specs.BucketSteps.{MayAnswer, call_of, map_now}
-use Rattle.bihash_steps.specs.Seats.{CallerState, with_view}
+use Rattle.bihash_steps.specs.Blocks.{places}
+use Rattle.bihash_steps.specs.BucketSteps.{map_now}
+use Rattle.bihash_steps.specs.declared.view.Write.{Write}
 use Rattle.bihash_table.specs.Shortage.{IsShortage}
-use Rattle.bihash_table.proofs.Bridge.{AreKeyWords, block_of_rehash, extent_of, sized}
-use Rattle.bihash_table.proofs.Entering.{may_crowd}
-use Rattle.bihash_table.proofs.OpenPlaces.{word_tells}
-use Rattle.bihash_table.proofs.Planning.{has_room, hold, is_full, is_named, is_shortage, locks_block, of_keys, places_read, planned}
-use Rattle.bihash_table.proofs.Released.{answered_from_lock}
-use Rattle.bihash_table.proofs.Replacing.{seen_same, was_answered}
-use Rattle.bihash_table.proofs.Stores.{linear_is, log2_is, page_is}
+use Rattle.bihash_table.proofs.Bridge.{AreKeyWords, sized}
+use Rattle.bihash_table.proofs.Growing.{absent_there, full_seen, laid_there, room_there, short_there}
+use Rattle.bihash_table.proofs.Seeing.{word_notes}
+use Rattle.bihash_table.proofs.Sights.{saw_known, seen_more}
+use Rattle.bihash_table.proofs.Stores.{log2_is, page_is}
+use Rattle.bihash_table.proofs.Planning.{places_read}
+use Rattle.bihash_table.proofs.Tries.{tried_away, tried_locked, tried_saw}
 use Rattle.bihash_table.proofs.grow.enter_as_planned.Goals as goal
 
-pub read_block-requires-clause-lock : goal.read_block-requires-clause-lock
-read_block-requires-clause-lock g c =
+pub read_block-requires-clause-open : goal.read_block-requires-clause-open
+read_block-requires-clause-open g c =
     let z = sizes_of g.S.Shape in
     let v = c.args.seat.now.view in
-    let b = c.args.bucket in
-    let l = c.requires.lock.0 in
-    let lock = c.requires.lock.1 in
-    let told = word_tells z v b c.args.word l lock in
-    let page_at = page_is z c.args.word l.extent told c.page.result c.page.ensures in (
-      l,
-      locks_block z v b c.args.word c.page.result l lock page_at,
-      places_read c.page.result l.extent.page l.extent.log2 c.place_count.result _ c.args.old.now page_at
-          (c.place_count.ensures.count l.extent told) c.place_count.ensures.few c.requires.old_room,
-    )
+    let h = c.requires.seen.seen in
+    let e = h.extent in
+    let tells = word_notes z v c.args.word e h.block in
+    (e, h.block, places_read e.page e.page e.log2 c.place_count.result _ c.args.old.now refl
+    (c.place_count.ensures.count e tells) c.place_count.ensures.few c.requires.old_room)
 
 pub plan-requires-clause-small : goal.plan-requires-clause-small
 plan-requires-clause-small g c =
     let z = sizes_of g.S.Shape in
     let v = c.args.seat.now.view in
-    let b = c.args.bucket in
-    let l = c.requires.lock.0 in
-    let lock = c.requires.lock.1 in
-    let told = word_tells z v b c.args.word l lock in
-    omega (arith, told.small, log2_is z c.args.word l.extent told c.log2.result c.log2.ensures)
+    let h = c.requires.seen.seen in
+    let e = h.extent in
+    let tells = word_notes z v c.args.word e h.block in
+    omega (arith, tells.small, log2_is z c.args.word e tells c.log2.result c.log2.ensures)
 
 pub plan-requires-clause-sized : goal.plan-requires-clause-sized
 plan-requires-clause-sized g c =
     let z = sizes_of g.S.Shape in
     let v = c.args.seat.now.view in
-    let b = c.args.bucket in
-    let l = c.requires.lock.0 in
-    let lock = c.requires.lock.1 in
-    let told = word_tells z v b c.args.word l lock in
-    let page_at = page_is z c.args.word l.extent told c.page.result c.page.ensures in
-    let log2_at = log2_is z c.args.word l.extent told c.log2.result c.log2.ensures in
-    sized c.page.result c.log2.result (length c.read_block.new.out) (c.read_block.auto.out
-    ∙ places_read c.page.result l.extent.page l.extent.log2 c.place_count.result _ c.args.old.now page_at
-    (c.place_count.ensures.count l.extent told) c.place_count.ensures.few c.requires.old_room
-    ∙ ap (places c.page.result) (sym log2_at))
+    let h = c.requires.seen.seen in
+    let e = h.extent in
+    let tells = word_notes z v c.args.word e h.block in
+    let log2_at = log2_is z c.args.word e tells c.log2.result c.log2.ensures in
+    sized e.page c.log2.result (length c.read_block.new.out) (c.read_block.ensures.sized
+    ∙ places_read e.page e.page e.log2 c.place_count.result _ c.args.old.now refl
+    (c.place_count.ensures.count e tells) c.place_count.ensures.few c.requires.old_room
+    ∙ ap (places e.page) (sym log2_at))
 
-pub cancel-requires : goal.cancel-requires
-cancel-requires g c =
+pub crowd-requires-clause-seen : goal.crowd-requires-clause-seen
+crowd-requires-clause-seen g c =
     let z = sizes_of g.S.Shape in
-    let v = c.args.seat.now.view in
-    let b = c.args.bucket in
-    let l = c.requires.lock.0 in
-    let lock = c.requires.lock.1 in
-    let told = word_tells z v b c.args.word l lock in
-    let page_at = page_is z c.args.word l.extent told c.page.result c.page.ensures in
-    let log2_at = log2_is z c.args.word l.extent told c.log2.result c.log2.ensures in
-    let linear_at = linear_is z c.args.word l.extent told c.linear.result c.linear.ensures in
-    let ps = c.read_block.new.out in
-    let are = c.read_block.ensures.all l (locks_block z v b c.args.word c.page.result l lock page_at) in
+    let site = c.args.site.now in
+    let b = site.bucket in
+    let y = c.read_block.new.seat in
+    let h = seen_more z c.args.seat.now.view y.view b c.args.word c.read_block.ensures.saw c.requires.seen in
     let keys : AreKeyWords g.S.Shape = record { law = g.met.S.Shape.key_of_words } in
-    let plan = planned g.S.Shape keys v b c.args.word l c.args.key.now lock c.requires.lock.2 c.requires.new ps are c.log2.result c.linear.result
-    c.plan.result log2_at linear_at c.plan.ensures.exact in
-    record {
-      own = ap (λ (s : CallerState). s.row) c.read_block.ensures.same ∙ c.requires.own;
-      inside = lock.inside;
-      may = subst (λ (s : CallerState). MayAnswer z s.view b c.args.word
-          (call_of s.view b 0 (g.S.Shape.words_of c.args.key.now) None (Set c.args.value) Full))
-          (sym c.read_block.ensures.same)
-          (may_crowd z v b c.args.word l (g.S.Shape.words_of c.args.key.now) lock
-          (record { long = c.requires.counted; home = c.requires.home }) c.requires.unworn c.args.value
-          (is_full g.S.Shape keys v b c.args.word l c.args.key.now lock
-          c.requires.lock.2 c.requires.new ps are c.plan.result plan c.in_default.not-Grow) c.requires.new);
-    }
+    full_seen g.S.Shape keys y.view b c.args.word site.key.now c.read_block.new.out h c.log2.result c.linear.result
+    c.log2.ensures c.linear.ensures c.plan.result c.plan.ensures.exact c.in_default.not-Grow
+
+pub crowd-requires-clause-unworn : goal.crowd-requires-clause-unworn
+crowd-requires-clause-unworn g c =
+    subst (λ (l : List Write). length l < g.S.Shape.LIMIT)
+    (sym (saw_known c.args.seat.now.view c.read_block.new.seat.view c.args.site.now.bucket c.read_block.ensures.saw)) c.requires.unworn
 
 pub returns-in_default : goal.returns-in_default
 returns-in_default g c =
-    let z = sizes_of g.S.Shape in
-    let v = c.args.seat.now.view in
-    let b = c.args.bucket in
-    let l = c.requires.lock.0 in
-    let lock = c.requires.lock.1 in
-    let told = word_tells z v b c.args.word l lock in
-    record {
-      same = seen_same c.read_block.new.seat c.cancel.new.caller c.cancel.ensures.view
-          ∙ ap (λ (s : CallerState). with_view s c.cancel.new.caller.view) c.read_block.ensures.same;
-      answered = answered_from_lock z v c.cancel.new.caller.view b c.args.word l
-          (record { key = g.S.Shape.words_of c.args.key.now; found = None; change = Set c.args.value; reply = Full })
-          lock c.requires.home
-          (was_answered c.read_block.new.seat c.cancel.new.caller b (g.S.Shape.words_of c.args.key.now) None
-          (Set c.args.value) Full v (ap (λ (s : CallerState). s.view) c.read_block.ensures.same) c.cancel.ensures.view);
-      no_pages = λ log2 left e. absurd (let clash : ⊥ = cc in clash);
-      contended = tt;
-      lone = λ _. refl;
-      lawful = c.cancel.ensures.lawful;
-    }
+    let site = c.args.site.now in
+    tried_saw g.S.Shape c.args.seat.now c.read_block.new.seat c.crowd.new.seat site.bucket site.key.now None (Set c.args.value)
+    c.read_block.ensures.same c.read_block.ensures.saw (sym site.home) c.crowd.result c.crowd.ensures.tried
 
 pub slice_bounds-new-end : goal.slice_bounds-new-end
 slice_bounds-new-end g c =
@@ -127,24 +88,67 @@ lay-requires-clause-sized g c =
     let few : 2 ^ c.in-Grow.log2 ≤ 2 ^ g.S.Shape.MAX_LOG2 = pow_mono small in
     omega (arith, c.places_of.ensures, c.requires.new_room, length-take c.places_of.result c.args.new.now)
 
+pub lock_seen-requires-clause-seen : goal.lock_seen-requires-clause-seen
+lock_seen-requires-clause-seen g c =
+    let z = sizes_of g.S.Shape in
+    let site = c.args.site.now in
+    let b = site.bucket in
+    let y = c.read_block.new.seat in
+    let h = seen_more z c.args.seat.now.view y.view b c.args.word c.read_block.ensures.saw c.requires.seen in
+    h.seen
+
+pub returns-then-not-lock_seen : goal.returns-then-not-lock_seen
+returns-then-not-lock_seen g c =
+    let site = c.args.site.now in
+    tried_saw g.S.Shape c.args.seat.now c.read_block.new.seat c.lock_seen.new.seat site.bucket site.key.now None (Set c.args.value)
+    c.read_block.ensures.same c.read_block.ensures.saw (sym site.home) (Err _)
+    (tried_away g.S.Shape c.read_block.new.seat c.lock_seen.new.seat site.bucket site.key.now None (Set c.args.value) _
+    c.lock_seen.ensures.same (c.lock_seen.ensures.turned_away c.if-not-lock_seen.true)
+    (λ lone. true≢false (sym (c.lock_seen.ensures.lone lone) ∙ c.if-not-lock_seen.true)) c.lock_seen.ensures.lawful)
+
+pub enter-requires-clause-lock : goal.enter-requires-clause-lock
+enter-requires-clause-lock g c =
+    let k = c.lock_seen.ensures.locked c.if-not-lock_seen.false in (k.locked.lock, k.locked.has)
+
+pub enter-requires-clause-home : goal.enter-requires-clause-home
+enter-requires-clause-home g c = sym c.args.site.now.home
+
+pub enter-requires-clause-counted : goal.enter-requires-clause-counted
+enter-requires-clause-counted g c = c.args.site.now.counted
+
+pub enter-requires-clause-unworn : goal.enter-requires-clause-unworn
+enter-requires-clause-unworn g c =
+    let k = c.lock_seen.ensures.locked c.if-not-lock_seen.false in
+    subst (λ (l : List Write). length l < g.S.Shape.LIMIT)
+    (sym (k.known ∙ saw_known c.args.seat.now.view c.read_block.new.seat.view c.args.site.now.bucket c.read_block.ensures.saw))
+    c.requires.unworn
+
+pub enter-requires-clause-new : goal.enter-requires-clause-new
+enter-requires-clause-new g c =
+    let z = sizes_of g.S.Shape in
+    let site = c.args.site.now in
+    let b = site.bucket in
+    let y = c.read_block.new.seat in
+    let h = seen_more z c.args.seat.now.view y.view b c.args.word c.read_block.ensures.saw c.requires.seen in
+    let k = c.lock_seen.ensures.locked c.if-not-lock_seen.false in
+    let keys : AreKeyWords g.S.Shape = record { law = g.met.S.Shape.key_of_words } in
+    let u = c.lock_seen.new.seat in
+    absent_there g.S.Shape keys y.view b c.args.word site.key.now c.read_block.new.out h c.log2.result c.linear.result
+    c.log2.ensures c.linear.ensures (Grow c.in-Grow.log2 c.in-Grow.linear) c.in-Grow.ensures.exact u.view k
+
 pub enter-requires-clause-room : goal.enter-requires-clause-room
 enter-requires-clause-room g c =
     let z = sizes_of g.S.Shape in
-    let v = c.args.seat.now.view in
-    let b = c.args.bucket in
-    let l = c.requires.lock.0 in
-    let lock = c.requires.lock.1 in
-    let told = word_tells z v b c.args.word l lock in
-    let page_at = page_is z c.args.word l.extent told c.page.result c.page.ensures in
-    let log2_at = log2_is z c.args.word l.extent told c.log2.result c.log2.ensures in
-    let linear_at = linear_is z c.args.word l.extent told c.linear.result c.linear.ensures in
-    let ps = c.read_block.new.out in
-    let are = c.read_block.ensures.all l (locks_block z v b c.args.word c.page.result l lock page_at) in
+    let site = c.args.site.now in
+    let b = site.bucket in
+    let y = c.read_block.new.seat in
+    let h = seen_more z c.args.seat.now.view y.view b c.args.word c.read_block.ensures.saw c.requires.seen in
+    let k = c.lock_seen.ensures.locked c.if-not-lock_seen.false in
     let keys : AreKeyWords g.S.Shape = record { law = g.met.S.Shape.key_of_words } in
-    let plan = planned g.S.Shape keys v b c.args.word l c.args.key.now lock c.requires.lock.2 c.requires.new ps are c.log2.result c.linear.result
-    (Grow c.in-Grow.log2 c.in-Grow.linear) log2_at linear_at c.in-Grow.ensures.exact in
-    subst (λ (s : CallerState). len (map_now s.view b) < most_pairs (bounds_of z)) (sym c.read_block.ensures.same)
-    (has_room g.S.Shape keys v b c.args.word l c.args.key.now lock c.requires.lock.2 c.requires.new ps are c.in-Grow.log2 c.in-Grow.linear plan)
+    let u = c.lock_seen.new.seat in
+    room_there g.S.Shape keys y.view b c.args.word site.key.now c.read_block.new.out h c.log2.result c.linear.result
+    c.log2.ensures c.linear.ensures (Grow c.in-Grow.log2 c.in-Grow.linear) c.in-Grow.ensures.exact u.view k
+    c.in-Grow.log2 c.in-Grow.linear refl
 
 pub enter-requires-clause-sized : goal.enter-requires-clause-sized
 enter-requires-clause-sized g c =
@@ -153,56 +157,44 @@ enter-requires-clause-sized g c =
     omega (arith, c.lay.auto.out, c.places_of.ensures, c.requires.new_room, length-take c.places_of.result c.args.new.now)
 
 pub enter-requires-clause-laid : goal.enter-requires-clause-laid
-enter-requires-clause-laid g c = λ page words some there.
+enter-requires-clause-laid g c =
     let z = sizes_of g.S.Shape in
-    let v = c.args.seat.now.view in
-    let b = c.args.bucket in
-    let l = c.requires.lock.0 in
-    let lock = c.requires.lock.1 in
-    let told = word_tells z v b c.args.word l lock in
-    let page_at = page_is z c.args.word l.extent told c.page.result c.page.ensures in
-    let log2_at = log2_is z c.args.word l.extent told c.log2.result c.log2.ensures in
-    let linear_at = linear_is z c.args.word l.extent told c.linear.result c.linear.ensures in
-    let ps = c.read_block.new.out in
-    let are = c.read_block.ensures.all l (locks_block z v b c.args.word c.page.result l lock page_at) in
+    let site = c.args.site.now in
+    let b = site.bucket in
+    let y = c.read_block.new.seat in
+    let h = seen_more z c.args.seat.now.view y.view b c.args.word c.read_block.ensures.saw c.requires.seen in
+    let k = c.lock_seen.ensures.locked c.if-not-lock_seen.false in
     let keys : AreKeyWords g.S.Shape = record { law = g.met.S.Shape.key_of_words } in
-    let plan = planned g.S.Shape keys v b c.args.word l c.args.key.now lock c.requires.lock.2 c.requires.new ps are c.log2.result c.linear.result
-    (Grow c.in-Grow.log2 c.in-Grow.linear) log2_at linear_at c.in-Grow.ensures.exact in
-    subst (λ (s : CallerState). IsBlockOf z (extent_of page c.in-Grow.log2 c.in-Grow.linear) words
-    (insert (map_now s.view b) (g.S.Shape.words_of c.args.key.now) c.args.value)) (sym c.read_block.ensures.same)
-    (block_of_rehash g.S.Shape keys page c.in-Grow.log2 c.in-Grow.linear ps c.args.key.now c.args.value (map_now v b)
-    c.lay.new.out words some
-    (hold g.S.Shape keys v b c.args.word l c.args.key.now lock c.requires.lock.2 c.requires.new ps are)
-    (of_keys g.S.Shape keys v b c.args.word l c.args.key.now lock c.requires.lock.2 c.requires.new ps are)
-    c.requires.new
-    (c.lay.ensures (is_named g.S.Shape keys v b c.args.word l c.args.key.now lock c.requires.lock.2 c.requires.new ps are
-    c.in-Grow.log2 c.in-Grow.linear plan) c.requires.storable) there)
+    let u = c.lock_seen.new.seat in
+    laid_there g.S.Shape keys y.view b c.args.word site.key.now c.read_block.new.out h c.log2.result c.linear.result
+    c.log2.ensures c.linear.ensures (Grow c.in-Grow.log2 c.in-Grow.linear) c.in-Grow.ensures.exact u.view k
+    c.in-Grow.log2 c.in-Grow.linear refl c.args.value c.lay.new.out c.requires.storable c.lay.ensures
 
 weaker : {T E : Type 0} {P Q : T → Type 0} (r : Result T E) → ((x : T) → P x → Q x) → IfOk r P → IfOk r Q
 weaker (Ok x) more h = more x h
 weaker (Err e) more h = tt
 
-pub returns-clause-no_pages : goal.returns-clause-no_pages
-returns-clause-no_pages g c =
+pub returns : goal.returns
+returns g c =
     let z = sizes_of g.S.Shape in
-    let v = c.args.seat.now.view in
-    let b = c.args.bucket in
-    let l = c.requires.lock.0 in
-    let lock = c.requires.lock.1 in
-    let told = word_tells z v b c.args.word l lock in
-    let page_at = page_is z c.args.word l.extent told c.page.result c.page.ensures in
-    let log2_at = log2_is z c.args.word l.extent told c.log2.result c.log2.ensures in
-    let linear_at = linear_is z c.args.word l.extent told c.linear.result c.linear.ensures in
-    let ps = c.read_block.new.out in
-    let are = c.read_block.ensures.all l (locks_block z v b c.args.word c.page.result l lock page_at) in
+    let site = c.args.site.now in
+    let b = site.bucket in
+    let y = c.read_block.new.seat in
+    let h = seen_more z c.args.seat.now.view y.view b c.args.word c.read_block.ensures.saw c.requires.seen in
+    let k = c.lock_seen.ensures.locked c.if-not-lock_seen.false in
     let keys : AreKeyWords g.S.Shape = record { law = g.met.S.Shape.key_of_words } in
-    let plan = planned g.S.Shape keys v b c.args.word l c.args.key.now lock c.requires.lock.2 c.requires.new ps are c.log2.result c.linear.result
-    (Grow c.in-Grow.log2 c.in-Grow.linear) log2_at linear_at c.in-Grow.ensures.exact in
-    weaker c.enter.result (λ reply told_of wanted left e.
+    let u = c.lock_seen.new.seat in
+    let t = c.enter.new.seat in
+    let home = sym site.home in
+    tried_saw g.S.Shape c.args.seat.now y t b site.key.now None (Set c.args.value)
+    c.read_block.ensures.same c.read_block.ensures.saw home c.enter.result
+    (tried_locked g.S.Shape y u t b c.args.word site.key.now None (Set c.args.value) c.lock_seen.ensures.same k home
+    c.enter.ensures.same c.enter.ensures.lawful c.enter.result c.enter.ensures.answered
+    (weaker c.enter.result (λ reply told_of wanted left e.
     let w = told_of wanted left e in
-    subst (λ n. IsShortage g.S.Shape (map_now c.enter.new.seat.view b) c.args.key.now n left) (sym w.0)
-    (subst (λ (x : Pairs). IsShortage g.S.Shape x c.args.key.now c.in-Grow.log2 left)
-    (sym (w.1 ∙ ap (λ (s : CallerState). map_now s.view b) c.read_block.ensures.same))
-    (is_shortage g.S.Shape keys v b c.args.word l c.args.key.now lock c.requires.lock.2 c.requires.new ps are
-    c.in-Grow.log2 left c.in-Grow.linear w.2.0 plan w.2.1)))
-    c.enter.ensures.no_pages
+    subst (λ (n : ℕ). IsShortage g.S.Shape (map_now t.view b) site.key.now n left) (sym w.0)
+    (subst (λ (m : Pairs). IsShortage g.S.Shape m site.key.now c.in-Grow.log2 left) (sym w.1)
+    (short_there g.S.Shape keys y.view b c.args.word site.key.now c.read_block.new.out h c.log2.result c.linear.result
+    c.log2.ensures c.linear.ensures (Grow c.in-Grow.log2 c.in-Grow.linear) c.in-Grow.ensures.exact u.view k
+    c.in-Grow.log2 c.in-Grow.linear refl left w.2.0 w.2.1))) c.enter.ensures.no_pages)
+    c.enter.ensures.paid c.enter.ensures.contended c.enter.ensures.lone)

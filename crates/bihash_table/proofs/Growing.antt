@@ -1,0 +1,94 @@
+-- A larger block that was planned and laid out from what was read of a bucket: what it is without the lock, and
+-- behind it.
+use Rattle.std.proofs.Common.{◌≡◌, ◌≢◌, ◌∙◌, ◌<◌, ◌≤◌, ℕ, Bool, List, Option, None, subst, sym, length}
+use Rattle.std.specs.FinMap.{get, insert, len}
+use Rattle.bihash_words.specs.declared.shape.Shape.{Ghosts}
+use Rattle.bihash_words.specs.Maps.{most_pairs}
+use Rattle.bihash_words.specs.Patches.{free_mark}
+use Rattle.bihash_words.specs.Sizes.{sizes_of}
+use Rattle.bihash_words.specs.Words.{Bucket, Fits, packed}
+use Rattle.bihash_plan.specs.Blocks.{IsLawfulBlock}
+use Rattle.bihash_plan.specs.Layouts.{IsNamed, IsRehash}
+use Rattle.bihash_plan.specs.Pages.{paging_of}
+use Rattle.bihash_plan.specs.Plans.{IsPlan}
+use Rattle.bihash_plan.specs.declared.outcome.Plan.{Plan}
+use Rattle.bihash_plan.specs.declared.outcome.Plan.TheVariants.{Grow}
+use Rattle.bihash_steps.specs.Histories.{bounds_of}
+use Rattle.bihash_steps.specs.Blocks.{IsBlockOf}
+use Rattle.bihash_steps.specs.BucketSteps.{map_now}
+use Rattle.bihash_steps.specs.declared.view.Extent.{Extent}
+use Rattle.bihash_steps.specs.declared.view.LockedBucket.{LockedBucket}
+use Rattle.bihash_steps.specs.declared.view.PageStore.{PageStore}
+use Rattle.bihash_steps.specs.declared.view.View.{View}
+use Rattle.bihash_table.specs.Copying.{IsWanting}
+use Rattle.bihash_table.specs.Locked.{HasLock}
+use Rattle.bihash_table.specs.Places.{ArePlaces}
+use Rattle.bihash_table.specs.Seen.{HasSeen, IsFullFor, IsNewAndCrowded, LocksSeen}
+use Rattle.bihash_table.specs.Shortage.{IsShortage}
+use Rattle.bihash_table.proofs.Bridge.{AreKeyWords, block_of_rehash, extent_of}
+use Rattle.bihash_table.proofs.LookedAt.{pair_value}
+use Rattle.bihash_table.proofs.OpenPlaces.{word_tells}
+use Rattle.bihash_table.proofs.Planning.{has_room, hold, is_full, is_named, is_shortage, of_keys, planned}
+use Rattle.bihash_table.proofs.Seeing.{word_notes}
+use Rattle.bihash_table.proofs.Sights.{seen_as, told_locked}
+use Rattle.bihash_table.proofs.Stores.{linear_is, log2_is}
+
+module _ {A K : Type 0} (g : Ghosts A K) (keys : AreKeyWords g) (v : View) (b word : ℕ) (key : K) (ps : List (K × ℕ))
+    (h : HasSeen (sizes_of g) v b word (λ e block. IsNewAndCrowded (sizes_of g) (g.words_of key) e block × ArePlaces g ps block))
+    (log2 : ℕ) (linear : Bool) (log2_told : (x : Bucket) → Fits x → word ≡ packed x → log2 ≡ x.log2)
+    (linear_told : (x : Bucket) → Fits x → word ≡ packed x → linear ≡ x.linear)
+    (plan : Plan) (exact : IsLawfulBlock (paging_of g) log2 linear ps → IsPlan (paging_of g) log2 linear ps key plan) where
+  -- a plan that isn't a larger block
+  pub full_seen : ((size : ℕ) (mark : Bool) → plan ≡ Grow size mark → ⊥) → HasSeen (sizes_of g) v b word (IsFullFor (sizes_of g) (g.words_of key))
+  full_seen other = let z = sizes_of g in let e = h.seen.extent in let block = h.seen.block.open_bucket.block in
+      let tells = word_notes z v word e h.seen.block in
+      seen_as z v b word h (λ told m pairs.
+      let absent : get m (g.words_of key) ≡ None = sym (pair_value z e block (g.words_of key) m None told.0.0 pairs) in (
+        absent,
+        is_full g keys e block m key h.seen.block.size pairs told.0.1 absent ps told.1 plan
+            (planned g keys e block m key h.seen.block.size pairs told.0.1 absent ps told.1 log2 linear plan
+            (log2_is z word e tells log2 log2_told) (linear_is z word e tells linear linear_told) exact) other,
+      ))
+
+  -- ---- Behind the lock
+
+  module _ (u : View) (k : LocksSeen (sizes_of g) v u b word) where
+    lock : LockedBucket
+    lock = k.locked.lock
+
+    has : HasLock (sizes_of g) u b word k.locked.lock
+    has = k.locked.has
+
+    told : IsNewAndCrowded (sizes_of g) (g.words_of key) k.locked.lock.extent k.locked.lock.now × ArePlaces g ps k.locked.lock.now
+    told = told_locked (sizes_of g) v u b word h k
+
+    pub absent_there : get (map_now u b) (g.words_of key) ≡ None
+    absent_there = sym (pair_value (sizes_of g) k.locked.lock.extent k.locked.lock.now (g.words_of key) (map_now u b) None told.0.0 has.pairs)
+
+    module _ (size : ℕ) (mark : Bool) (is : plan ≡ Grow size mark) where
+      named : IsPlan (paging_of g) k.locked.lock.extent.log2 k.locked.lock.extent.linear ps key (Grow size mark)
+      named = let z = sizes_of g in let e = k.locked.lock.extent in let tells = word_tells z u b word k.locked.lock has in
+          subst (λ (p : Plan). IsPlan (paging_of g) e.log2 e.linear ps key p) is
+          (planned g keys e k.locked.lock.now (map_now u b) key has.size has.pairs told.0.1 absent_there ps told.1 log2 linear plan
+          (log2_is z word e tells log2 log2_told) (linear_is z word e tells linear linear_told) exact)
+
+      pub room_there : len (map_now u b) < most_pairs (bounds_of (sizes_of g))
+      room_there = has_room g keys k.locked.lock.extent k.locked.lock.now (map_now u b) key has.size has.pairs told.0.1 absent_there ps told.1
+          size mark named
+
+      pub laid_there : (value : ℕ) (new : List (K × ℕ)) → value ≢ free_mark
+          → (IsNamed (paging_of g) ps key size mark → value ≢ free_mark → IsRehash (paging_of g) size mark ps key value new)
+          → (page : ℕ) (words : List ℕ) → 1 ≤ page → ArePlaces g new words
+          → IsBlockOf (sizes_of g) (extent_of page size mark) words (insert (map_now u b) (g.words_of key) value)
+      laid_there value new storable lays page words some there =
+          let e = k.locked.lock.extent in let block = k.locked.lock.now in let m = map_now u b in
+          block_of_rehash g keys page size mark ps key value m new words some
+          (hold g keys e block m key has.size has.pairs told.0.1 absent_there ps told.1)
+          (of_keys g keys e block m key has.size has.pairs told.0.1 absent_there ps told.1)
+          absent_there
+          (lays (is_named g keys e block m key has.size has.pairs told.0.1 absent_there ps told.1 size mark named) storable) there
+
+      pub short_there : (left : ℕ) (store : PageStore) → IsWanting (sizes_of g) store size left → IsShortage g (map_now u b) key size left
+      short_there left store wanting =
+          is_shortage g keys k.locked.lock.extent k.locked.lock.now (map_now u b) key has.size has.pairs told.0.1 absent_there ps told.1
+          size left mark store named wanting

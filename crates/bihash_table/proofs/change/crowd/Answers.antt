@@ -1,0 +1,38 @@
+use Rattle.std.proofs.Common.{◌∙◌, length, None, refl, sym, true≢false}
+use Rattle.bihash_words.specs.Sizes.{sizes_of}
+use Rattle.bihash_words.specs.declared.patch.Change.TheVariants.{Set}
+use Rattle.bihash_words.specs.declared.patch.Reply.TheVariants.{Full}
+use Rattle.bihash_steps.specs.Callers.{known_at}
+use Rattle.bihash_steps.specs.BucketSteps.{map_now}
+use Rattle.bihash_steps.specs.Histories.{bounds_of}
+use Rattle.bihash_table.specs.Tries.{event}
+use Rattle.bihash_table.proofs.Entering.{crowds}
+use Rattle.bihash_table.proofs.Sights.{seen_answer}
+use Rattle.bihash_table.proofs.Tries.{tried_invalid, tried_valid}
+use Rattle.bihash_table.proofs.change.crowd.Goals as goal
+
+pub validate-requires-clause-inside : goal.validate-requires-clause-inside
+validate-requires-clause-inside g c = c.requires.seen.seen.inside
+
+pub validate-requires-clause-may : goal.validate-requires-clause-may
+validate-requires-clause-may g c =
+    let z = sizes_of g.S.Shape in
+    let v = c.args.seat.now.view in
+    let site = c.args.site.now in
+    let key = g.S.Shape.words_of site.key.now in
+    let h = c.requires.seen in
+    seen_answer z v site.bucket c.args.word h (event key None (Set c.args.value) Full)
+    (record { long = site.counted; home = sym site.home }) refl (λ log2 left e. absurd cc)
+    (λ told. let full = told (map_now v site.bucket) h.seen.pairs in
+    (map_now v site.bucket, crowds (bounds_of z) (map_now v site.bucket) (length (known_at v.known site.bucket)) key
+    c.args.value c.requires.unworn full.1 full.0))
+
+pub returns-then-not-validate-clause-tried : goal.returns-then-not-validate-clause-tried
+returns-then-not-validate-clause-tried g c = tried_invalid g.S.Shape _ _ _ _ _ _ _ c.requires.seen c.validate.ensures.lawful _
+    (c.validate.ensures.not c.if-not-validate.true)
+    (λ lone. true≢false (sym (c.validate.ensures.lone lone) ∙ c.if-not-validate.true))
+
+pub returns-clause-tried : goal.returns-clause-tried
+returns-clause-tried g c = tried_valid g.S.Shape _ _ _ _ _ _ _ c.requires.seen c.validate.ensures.lawful
+    Full (c.validate.ensures.valid c.if-not-validate.false) (sym c.args.site.now.home)
+    (λ log2 left e. absurd cc)
