@@ -1,6 +1,7 @@
 pub mod Blocks
 pub mod Bridge
 pub mod Changes
+pub mod Closings
 pub mod Composed
 pub mod Copies
 pub mod Count
@@ -24,6 +25,7 @@ pub mod Replacing
 pub mod SameCallers
 pub mod Seeing
 pub mod Sights
+pub mod Snapshots
 pub mod Sorting
 pub mod Stores
 pub mod Storing

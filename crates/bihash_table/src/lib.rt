@@ -11,7 +11,6 @@ mod lock;
 mod pages;
 mod places;
 mod reads;
-mod scan;
 mod search;
 mod sessions;
 mod site;

@@ -22,7 +22,7 @@ use crate::change::{fill, keep, overwrite, refuse, remove};
 use crate::contended::Contended;
 use crate::grow::enter_larger;
 use crate::lock::{lock_seen, look};
-use crate::reads::{find_free, find_pair};
+use crate::reads::{find_free, find_pair, value_found};
 use crate::sessions::Sessions;
 use crate::site::Site;
 use bihash_steps::{Caller, CallerSeat, Row};
@@ -62,16 +62,6 @@ impl<S: Shape> Sessions<S> {
         let found = value_found(pair);
         let change = patch.decide(found);
         make(&self.row, caller, word, &site, pair, change)
-    }
-}
-
-// The value of a pair that was found.
-fn value_found(pair: Option<(usize, u64)>) -> Option<u64>
-    ensures { result ≡ value_of pair }
-{
-    match pair {
-        Some((_, value)) => Some(value),
-        None => None,
     }
 }
 
