@@ -1,9 +1,12 @@
 pub mod CommandLemmas
+pub mod DecisionLaws
 pub mod Holding
+pub mod InputLaws
 pub mod InputLemmas
 pub mod JudgingLemmas
 pub mod Mirrors
 pub mod NumberLemmas
+pub mod OutcomeLemmas
 pub mod Reading
 pub mod Rehashes
 pub mod RunLemmas

@@ -12,7 +12,7 @@ use Rattle.racl_cli.specs.Inputs.{IsContent, IsInput, Parts, most_bytes}
 use Rattle.racl_cli.proofs.InputLemmas.{one_input}
 
 -- content stands for one capture
-one_content : (form : Form) (content one other : List ℕ) → IsContent form content one → IsContent form content other → one ≡ other
+pub one_content : (form : Form) (content one other : List ℕ) → IsContent form content one → IsContent form content other → one ≡ other
 one_content Binary content one other p q = p ∙ sym q
 one_content Hexadecimal content one other p q = cc
 

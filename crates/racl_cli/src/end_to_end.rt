@@ -1,13 +1,11 @@
 //! One run of the filter, from the bytes of an input to the report.
-ghost use Rattle.std.specs.Prelude.{◌≡◌, ◌≢◌, ◌+◌, ◌-◌, ◌<◌, ◌≤◌, ◌^◌, ◌⊎◌, ◌↔◌, Err, IfOk, IfErr, IfSome, length};
-ghost use Rattle.std.specs.Io.KnownBytes.{Appends};
+ghost use Rattle.std.specs.Prelude.{◌≡◌, ◌≢◌, ◌+◌, ◌-◌, ◌<◌, ◌≤◌, ◌^◌, ◌⊎◌, ◌↔◌, Err, IfOk, IfErr, IfSome, MatchResult};
 ghost use Rattle.acl_policy.specs.Policies.{policy_facts};
 ghost use Rattle.racl_cli.specs.declared.fault.Fault.{Fault};
 ghost use Rattle.racl_cli.specs.declared.fault.Fault.TheVariants.{Memory};
 ghost use Rattle.racl_cli.specs.Faults.{IsFaultOfBytes, IsFaultOfCapture, IsFaultOfContent, IsInputFault, IsDeviceFault, Refuses, RefusesRead};
 ghost use Rattle.racl_cli.specs.Inputs.{parts_of};
-ghost use Rattle.racl_cli.specs.Reports.{report_of, totals_of};
-ghost use Rattle.racl_cli.specs.Runs.{FiltersCapture, FiltersContent, FiltersInput, Outcome, Tells};
+ghost use Rattle.racl_cli.specs.Runs.{Accepts, FiltersCapture, FiltersContent, FiltersInput, HasOutcome, HasRun, Outcome, Reported, Tells};
 
 use crate::content::decoded;
 use crate::device::{Sink, Source};
@@ -30,6 +28,7 @@ fn report_capture(
 ) -> Result<Report, Fault>
     ensures ok { IfOk result (λ report. (outcome : Outcome) × FiltersCapture times.now (policy_facts policy.now) capture.now outcome × Tells outcome report) }
     ensures fault { IfErr result (λ fault. fault ≢ Memory → IsFaultOfCapture capture.now fault) }
+    ensures accepts { (outcome : Outcome) → FiltersCapture times.now (policy_facts policy.now) capture.now outcome → Accepts outcome result }
     ensures refuses { (fault : Fault) → IsFaultOfCapture capture.now fault → Refuses fault result }
 {
     let capture = read_capture(alloc, capture)?;
@@ -47,6 +46,7 @@ fn report_content(
 ) -> Result<Report, Fault>
     ensures ok { IfOk result (λ report. (outcome : Outcome) × FiltersContent times.now (policy_facts policy.now) form content.now outcome × Tells outcome report) }
     ensures fault { IfErr result (λ fault. fault ≢ Memory → IsFaultOfContent form content.now fault) }
+    ensures accepts { (outcome : Outcome) → FiltersContent times.now (policy_facts policy.now) form content.now outcome → Accepts outcome result }
     ensures refuses { (fault : Fault) → IsFaultOfContent form content.now fault → Refuses fault result }
 {
     match form {
@@ -62,6 +62,7 @@ fn report_content(
 fn report_input(alloc: Global, times: &Timeouts, bytes: &[u8]) -> Result<Report, Fault>
     ensures ok { IfOk result (λ report. (outcome : Outcome) × FiltersInput times.now bytes.now outcome × Tells outcome report) }
     ensures fault { IfErr result (λ fault. fault ≢ Memory → IsFaultOfBytes bytes.now fault) }
+    ensures accepts { (outcome : Outcome) → FiltersInput times.now bytes.now outcome → Accepts outcome result }
     ensures refuses { (fault : Fault) → IsFaultOfBytes bytes.now fault → Refuses fault result }
 {
     let Some(input) = parts(bytes) else {
@@ -84,10 +85,12 @@ pub fn run<R: Source, W: Sink>(
     requires writer { W.failures writer.old < 2 ^ 64 - 1 }
 
     // What was written is the report on what was read.
-    ensures ok { IfOk result (λ totals. IfSome (R.bytes reader.old) (λ bytes. (outcome : Outcome)
-        × FiltersInput options.now.times bytes outcome
-        × Appends (W.bytes writer.old) (W.bytes writer.new) (report_of outcome.verdicts outcome.truncated)
-        × (totals ≡ totals_of outcome.verdicts outcome.truncated))) }
+    ensures ok { IfOk result (HasRun options.now.times (R.bytes reader.old) (W.bytes writer.old) (W.bytes writer.new)) }
+
+    // An input that is right is answered by its report, or memory ran out or a device failed.
+    ensures accepts { IfSome (R.bytes reader.old) (λ bytes. (outcome : Outcome)
+        → HasOutcome options.now.times bytes outcome
+        → MatchResult result (Reported outcome (W.bytes writer.old) (W.bytes writer.new)) IsDeviceFault) }
 
     // A fault of the input is answered where its cause stands first, and then nothing else of the input.
     ensures fault { IfErr result (λ fault. IsDeviceFault fault ⊎ IfSome (R.bytes reader.old) (λ bytes. IsInputFault bytes fault)) }
@@ -97,6 +100,7 @@ pub fn run<R: Source, W: Sink>(
     ensures read { (result ≡ Err Fault.Read) ↔ (R.failures reader.new ≡ R.failures reader.old + 1) }
     ensures sound { result ≢ Err Fault.Read → R.failures reader.new ≡ R.failures reader.old }
     ensures write { (result ≡ Err Fault.Write) ↔ (W.failures writer.new ≡ W.failures writer.old + 1) }
+    ensures steady { result ≢ Err Fault.Write → W.failures writer.new ≡ W.failures writer.old }
     ensures unwritten { IfErr result (λ fault. fault ≢ Fault.Write → writer.new ≡ writer.old) }
 {
     let bytes = read_input(alloc, reader)?;

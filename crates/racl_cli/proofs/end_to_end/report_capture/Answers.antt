@@ -1,4 +1,9 @@
+use Rattle.std.proofs.Common.{ap}
+use Rattle.std.proofs.lemmas.Result.{err_from_is_err_and}
+use Rattle.packet_view.specs.Captures.{end_of}
+use Rattle.racl_cli.specs.Faults.{capture_fault}
 use Rattle.racl_cli.specs.Runs.{Outcome}
+use Rattle.racl_cli.proofs.OutcomeLemmas.{told}
 use Rattle.racl_cli.proofs.end_to_end.report_capture.Goals as goal
 
 pub returns-clause-ok : goal.returns-clause-ok
@@ -8,3 +13,16 @@ returns-clause-ok c =
       record { packets = _; records = c.in_ok-capture.ensures.ok; verdicts = rw c.deref.ensures.value at c.in_ok-verdicts.ensures },
       record { text = rw c.deref-2.ensures.value at c.in_ok-report.ensures.text; totals = rw c.deref-2.ensures.value at c.in_ok-report.ensures.totals },
     )
+
+pub returns-in_err-capture-clause-accepts : goal.returns-in_err-capture-clause-accepts
+returns-in_err-capture-clause-accepts c = λ outcome filters.
+    let p = err_from_is_err_and c.from_residual.result c.from_residual.ensures.1 in
+    rw (p.1, p.2) (ap capture_fault (c.in_err-capture.ensures.accepts filters.packets (end_of outcome.truncated) filters.records))
+
+pub returns-clause-accepts : goal.returns-clause-accepts
+returns-clause-accepts c = λ outcome filters.
+    told _ _ _ _ c.in_ok-capture.capture.truncated c.in_ok-verdicts.verdicts.items c.in_ok-report.report outcome filters
+    (c.in_ok-capture.ensures.accepts filters.packets (end_of outcome.truncated) filters.records)
+    (rw c.deref.ensures.value at c.in_ok-verdicts.ensures)
+    (rw c.deref-2.ensures.value at c.in_ok-report.ensures.text)
+    (rw c.deref-2.ensures.value at c.in_ok-report.ensures.totals)

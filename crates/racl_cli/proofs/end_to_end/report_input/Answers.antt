@@ -1,6 +1,9 @@
-use Rattle.std.proofs.Common.{sym, inl, inr}
+use Rattle.std.proofs.Common.{sym, ap, subst, inl, inr}
 use Rattle.std.proofs.lemmas.Result.{IfErr-weaker, err_from_is_err_and}
 use Rattle.racl_cli.proofs.RunLemmas.{fault_of_known_parts, fault_without_parts, fault_of_wrong_policy, fault_of_right_policy}
+use Rattle.racl_cli.specs.Faults.{policy_fault}
+use Rattle.racl_cli.specs.Runs.{FiltersContent}
+use Rattle.racl_cli.proofs.OutcomeLemmas.{filters_of_known_parts}
 use Rattle.racl_cli.proofs.end_to_end.report_input.Goals as goal
 
 pub returns-in_default-clause-refuses : goal.returns-in_default-clause-refuses
@@ -19,3 +22,18 @@ pub returns-clause-refuses : goal.returns-clause-refuses
 returns-clause-refuses c = λ fault of.
     c.report_content.ensures.refuses fault
     (fault_of_right_policy _ fault c.in_ok-policy.ensures.refuses (fault_of_known_parts _ _ fault c.in-Some.ensures.some of))
+
+pub returns-in_default-clause-accepts : goal.returns-in_default-clause-accepts
+returns-in_default-clause-accepts c = λ outcome filters. absurd (c.in_default.ensures.none filters.parts filters.parted)
+
+pub returns-in_err-policy-clause-accepts : goal.returns-in_err-policy-clause-accepts
+returns-in_err-policy-clause-accepts c = λ outcome filters.
+    let p = err_from_is_err_and c.from_residual.result c.from_residual.ensures.1 in
+    let known = filters_of_known_parts _ _ _ outcome c.in-Some.ensures.some filters in
+    rw (p.1, p.2) (ap policy_fault (c.in_err-policy.ensures.accepts known.policy known.says))
+
+pub returns-clause-accepts : goal.returns-clause-accepts
+returns-clause-accepts c = λ outcome filters.
+    let known = filters_of_known_parts _ _ _ outcome c.in-Some.ensures.some filters in
+    c.report_content.ensures.accepts outcome
+    (subst (λ policy. FiltersContent c.args.times.now policy c.in-Some.input.form c.in-Some.input.content.now outcome) (sym (c.in_ok-policy.ensures.accepts known.policy known.says)) known.filters)

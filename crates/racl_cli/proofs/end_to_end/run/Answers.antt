@@ -1,6 +1,8 @@
-use Rattle.std.proofs.Common.{inl, inr}
+use Rattle.std.proofs.Common.{sym, subst, inl, inr}
 use Rattle.std.proofs.lemmas.Result.{err_from_is_err_and}
 use Rattle.racl_cli.proofs.RunLemmas.{device_or, excluded_by_input, fault_of_input, read_bytes}
+use Rattle.racl_cli.specs.Faults.{IsDeviceFault}
+use Rattle.racl_cli.proofs.OutcomeLemmas.{at_outcomes}
 use Rattle.racl_cli.proofs.end_to_end.run.Goals as goal
 
 pub returns-in_err-report-clause-fault : goal.returns-in_err-report-clause-fault
@@ -24,3 +26,9 @@ pub returns-clause-refuses : goal.returns-clause-refuses
 returns-clause-refuses g c =
     let read = read_bytes _ _ _ _ c.in_ok-bytes.ensures.whole c.deref.ensures.value c.deref.ensures.len c.in_ok-bytes.ensures.few in
     excluded_by_input _ _ _ read c.in_ok-report.ensures.refuses
+
+pub returns-in_err-report-clause-accepts : goal.returns-in_err-report-clause-accepts
+returns-in_err-report-clause-accepts g c =
+    let p = err_from_is_err_and c.from_residual-in_err-report.result c.from_residual-in_err-report.ensures.1 in
+    let read = read_bytes _ _ _ _ c.in_ok-bytes.ensures.whole c.deref.ensures.value c.deref.ensures.len c.in_ok-bytes.ensures.few in
+    rw (p.1, p.2) (at_outcomes _ _ _ _ read (λ outcome filters. subst IsDeviceFault (sym (c.in_err-report.ensures.accepts outcome filters)) tt))

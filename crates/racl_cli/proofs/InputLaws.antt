@@ -1,0 +1,297 @@
+-- All bytes are an input of one outcome or have one fault.
+use Rattle.std.proofs.Common.{◌≡◌, ◌<◌, ◌∙◌, ◌⊎◌, ℕ, zero, suc, Bool, true, false, List, [], ◌∷◌, ◌++◌, length, Result, Ok, Err, refl, sym, ap, ap₂, subst, inl, inr, arith}
+use Rattle.std.proofs.lemmas.Bool.{cases_eq, cases_lt}
+use Rattle.std.proofs.lemmas.List.{length-append}
+use Rattle.hex.specs.Hex.{decode_of}
+use Rattle.hex.proofs.HexLemmas.{decode_of-ok}
+use Rattle.packet_view.specs.Bytes.{AreBytes}
+use Rattle.packet_view.specs.Captures.{End, IsCapture, Seen, Truncated, Whole, end_of}
+use Rattle.packet_view.specs.FrameSteps.{view_of}
+use Rattle.packet_view.specs.Frames as frames
+use Rattle.packet_view.specs.Frames.{View}
+use Rattle.packet_view.proofs.CutLemmas as captures
+use Rattle.packet_view.proofs.FrameLemmas.{view_shown}
+use Rattle.packet_view.proofs.ReadingLemmas.{one_fault, some_reading}
+use Rattle.acl_policy.specs.Policies.{PolicyFacts, rules_of}
+use Rattle.acl_policy.proofs.ReadingLaws as policies
+use Rattle.acl_policy.proofs.TextLaws as texts
+use Rattle.std.specs.Str.Lines.{lines}
+use Rattle.session_state.specs.declared.timeouts.Timeouts.{Timeouts}
+use Rattle.racl_cli.specs.declared.fault.Fault.{Fault}
+use Rattle.racl_cli.specs.declared.fault.Fault.TheVariants.{TooLarge, NoCapture, Hex}
+use Rattle.racl_cli.specs.declared.input.Form.{Form}
+use Rattle.racl_cli.specs.declared.input.Form.TheVariants.{Binary, Hexadecimal}
+use Rattle.racl_cli.specs.declared.verdict.Verdict.TheVariants as verdict
+use Rattle.racl_cli.specs.Faults.{IsFaultOfBytes, IsFaultOfCapture, IsFaultOfContent, IsFaultOfParts, IsInputFault, capture_fault, policy_fault}
+use Rattle.racl_cli.specs.Filters.{AreReadings, AreVerdicts, Framed, IsReadingOf, Reading, Ruled, one_thread_verdicts}
+use Rattle.racl_cli.specs.Inputs.{IsContent, IsFirstLine, IsInput, IsMarked, IsMarker, HasNoFeed, Parts, digits_of, joined, most_bytes, word_of}
+use Rattle.racl_cli.specs.Runs.{FiltersCapture, FiltersContent, FiltersInput, HasOutcome, Outcome}
+use Rattle.racl_cli.proofs.DecisionLaws.{some_decision}
+use Rattle.racl_cli.proofs.InputLemmas.{IsFront, front_grows, front_of_all, no_input}
+use Rattle.racl_cli.proofs.OutcomeLemmas.{FiltersParts, filters_of_known_content, filters_of_known_parts, one_truncated, one_verdicts}
+use Rattle.racl_cli.proofs.RunLemmas.{fault_of_known_content, fault_of_known_parts}
+
+-- ---- bytes within bytes
+
+bytes_behind : (front rest : List ℕ) → AreBytes (front ++ rest) → AreBytes rest
+bytes_behind [] rest fit = fit
+bytes_behind (b ∷ front) rest fit = bytes_behind front rest (λ place. fit (suc place))
+
+no_bytes : AreBytes []
+no_bytes place = omega arith
+
+bytes_marked : (form : Form) (content marked : List ℕ) → AreBytes marked → IsMarked form content marked → AreBytes content
+bytes_marked form content marked fit (inl (line, marker, same)) = λ place. bytes_behind line (10 ∷ content) (subst AreBytes same fit) (suc place)
+bytes_marked form content marked fit (inr (same, none)) = subst AreBytes (sym none) no_bytes
+
+bytes_of_content : (bytes : List ℕ) (parts : Parts) → AreBytes bytes → IsInput bytes parts → AreBytes parts.content
+bytes_of_content bytes parts fit is = bytes_marked parts.form parts.content is.marked (bytes_behind parts.policy is.marked (subst AreBytes is.parted fit)) is.content
+
+bytes_of_capture : (form : Form) (content capture : List ℕ) → AreBytes content → IsContent form content capture → AreBytes capture
+bytes_of_capture Binary content capture fit is = subst AreBytes (sym is) fit
+bytes_of_capture Hexadecimal content capture fit is = (decode_of-ok (digits_of content) capture is).3
+
+-- ---- one outcome
+
+one_outcome_of_capture : (times : Timeouts) (policy : PolicyFacts) (capture : List ℕ) (one other : Outcome) → AreBytes capture
+    → FiltersCapture times policy capture one → FiltersCapture times policy capture other → one ≡ other
+one_outcome_of_capture times policy capture one other fit a b =
+    let both = captures.one_reading capture a.packets b.packets (end_of one.truncated) (end_of other.truncated) fit a.records b.records in
+    let verdicts = one_verdicts times policy b.packets one.verdicts other.verdicts (subst (λ p. AreVerdicts times policy p one.verdicts) both.0 a.verdicts) b.verdicts in
+    ap₂ (λ v t. let outcome : Outcome = record { verdicts = v; truncated = t } in outcome) verdicts (one_truncated one.truncated other.truncated both.1)
+
+one_outcome_of_parts : (times : Timeouts) (parts : Parts) (one other : Outcome) → AreBytes parts.content
+    → FiltersParts times parts one → FiltersParts times parts other → one ≡ other
+one_outcome_of_parts times parts one other fit a b =
+    let policy = texts.one_policy (lines parts.policy) a.policy b.policy a.says.1 b.says.1 in
+    let moved = subst (λ p. FiltersContent times p parts.form parts.content one) policy a.filters in
+    let capture = b.filters.capture in
+    one_outcome_of_capture times b.policy capture one other (bytes_of_capture parts.form parts.content capture fit b.filters.spelt)
+    (filters_of_known_content times b.policy parts.form parts.content capture one b.filters.spelt moved) b.filters.filters
+
+pub one_outcome : (times : Timeouts) (bytes : List ℕ) (one other : Outcome) → AreBytes bytes → HasOutcome times bytes one → HasOutcome times bytes other → one ≡ other
+one_outcome times bytes one other fit a b =
+    let parts = b.filters.parts in
+    one_outcome_of_parts times parts one other (bytes_of_content bytes parts fit b.filters.parted)
+    (filters_of_known_parts times bytes parts one b.filters.parted a.filters) (filters_of_known_parts times bytes parts other b.filters.parted b.filters)
+
+-- ---- one fault
+
+one_fault_of_capture : (capture : List ℕ) (one other : Fault) → AreBytes capture → IsFaultOfCapture capture one → IsFaultOfCapture capture other → one ≡ other
+one_fault_of_capture capture one other fit (cause, is, same) (cause', is', same') =
+    same ∙ ap capture_fault (one_fault capture fit cause cause' is is') ∙ sym same'
+
+one_fault_of_content : (form : Form) (content : List ℕ) (one other : Fault) → AreBytes content → IsFaultOfContent form content one → IsFaultOfContent form content other → one ≡ other
+one_fault_of_content form content one other fit (inl (same, none)) (inl (same', none')) = same ∙ sym same'
+one_fault_of_content form content one other fit (inl (same, none)) (inr (capture, spelt, of)) = absurd (none capture spelt)
+one_fault_of_content form content one other fit (inr (capture, spelt, of)) second =
+    one_fault_of_capture capture one other (bytes_of_capture form content capture fit spelt) of (fault_of_known_content form content capture other spelt second)
+
+one_fault_of_parts : (parts : Parts) (one other : Fault) → AreBytes parts.content → IsFaultOfParts parts one → IsFaultOfParts parts other → one ≡ other
+one_fault_of_parts parts one other fit (inl (cause, is, same)) (inl (cause', is', same')) =
+    same ∙ ap policy_fault (texts.one_fault parts.policy cause cause' is is') ∙ sym same'
+one_fault_of_parts parts one other fit (inl (cause, is, same)) (inr (policy, says, of)) = absurd (texts.policy_or_fault parts.policy policy cause says is)
+one_fault_of_parts parts one other fit (inr (policy, says, of)) (inl (cause, is, same)) = absurd (texts.policy_or_fault parts.policy policy cause says is)
+one_fault_of_parts parts one other fit (inr (policy, says, of)) (inr (policy', says', of')) = one_fault_of_content parts.form parts.content one other fit of of'
+
+one_fault_of_bytes : (bytes : List ℕ) (one other : Fault) → AreBytes bytes → IsFaultOfBytes bytes one → IsFaultOfBytes bytes other → one ≡ other
+one_fault_of_bytes bytes one other fit (inl (same, none)) (inl (same', none')) = same ∙ sym same'
+one_fault_of_bytes bytes one other fit (inl (same, none)) (inr (parts, is, of)) = absurd (none parts is)
+one_fault_of_bytes bytes one other fit (inr (parts, is, of)) second =
+    one_fault_of_parts parts one other (bytes_of_content bytes parts fit is) of (fault_of_known_parts bytes parts other is second)
+
+pub one_fault_of_input : (bytes : List ℕ) (one other : Fault) → AreBytes bytes → IsInputFault bytes one → IsInputFault bytes other → one ≡ other
+one_fault_of_input bytes one other fit (inl (same, many)) (inl (same', many')) = same ∙ sym same'
+one_fault_of_input bytes one other fit (inl (same, many)) (inr (few, of)) = absurd (omega (arith, few, many))
+one_fault_of_input bytes one other fit (inr (few, of)) (inl (same, many)) = absurd (omega (arith, few, many))
+one_fault_of_input bytes one other fit (inr (few, of)) (inr (few', of')) = one_fault_of_bytes bytes one other fit of of'
+
+-- ---- an outcome or a fault, and not both
+
+no_fault_of_content : (times : Timeouts) (policy : PolicyFacts) (form : Form) (content : List ℕ) (outcome : Outcome) (fault : Fault) → AreBytes content
+    → FiltersContent times policy form content outcome → IsFaultOfContent form content fault → ⊥
+no_fault_of_content times policy form content outcome fault fit filters of =
+    let found = fault_of_known_content form content filters.capture fault filters.spelt of in
+    captures.no_fault_too filters.capture filters.filters.packets (end_of outcome.truncated) found.0
+    (bytes_of_capture form content filters.capture fit filters.spelt) filters.filters.records found.1
+
+no_fault_of_parts : (times : Timeouts) (parts : Parts) (outcome : Outcome) (fault : Fault) → AreBytes parts.content
+    → FiltersParts times parts outcome → IsFaultOfParts parts fault → ⊥
+no_fault_of_parts times parts outcome fault fit filters (inl (cause, is, same)) = texts.policy_or_fault parts.policy filters.policy cause filters.says is
+no_fault_of_parts times parts outcome fault fit filters (inr (policy, says, of)) = no_fault_of_content times filters.policy parts.form parts.content outcome fault fit filters.filters of
+
+pub no_fault_too : (times : Timeouts) (bytes : List ℕ) (outcome : Outcome) (fault : Fault) → AreBytes bytes → HasOutcome times bytes outcome → IsInputFault bytes fault → ⊥
+no_fault_too times bytes outcome fault fit has (inl (same, many)) = let few = has.few in omega (arith, few, many)
+no_fault_too times bytes outcome fault fit has (inr (few, of)) =
+    let parts = has.filters.parts in
+    no_fault_of_parts times parts outcome fault (bytes_of_content bytes parts fit has.filters.parted)
+    (filters_of_known_parts times bytes parts outcome has.filters.parted has.filters) (fault_of_known_parts bytes parts fault has.filters.parted of)
+
+-- ---- verdicts on all packets
+
+reading_of : (policy : PolicyFacts) (moment : ℕ) (view : View) → (reading : Reading) × IsReadingOf policy moment view reading
+reading_of policy moment frames.NotIp = (Framed verdict.NotIp, refl)
+reading_of policy moment frames.Malformed = (Framed verdict.Malformed, refl)
+reading_of policy moment frames.Short = (Framed verdict.Short, refl)
+reading_of policy moment (frames.Ip direction tuple) =
+    let decision = some_decision (rules_of direction policy) tuple in
+    (Ruled moment tuple decision.0, (decision.0, decision.1, refl))
+
+readings_of : (policy : PolicyFacts) (packets : List Seen) → (readings : List Reading) × AreReadings policy packets readings
+readings_of policy [] = ([], tt)
+readings_of policy (packet ∷ packets) =
+    let view = view_of packet.frame policy.own in
+    let first = reading_of policy packet.moment view in
+    let more = readings_of policy packets in
+    (first.0 ∷ more.0, ((view, view_shown packet.frame policy.own, first.1), more.1))
+
+outcome_of_capture : (times : Timeouts) (policy : PolicyFacts) (capture : List ℕ) (packets : List Seen) (truncated : Bool) → IsCapture capture packets (end_of truncated)
+    → (outcome : Outcome) × FiltersCapture times policy capture outcome
+outcome_of_capture times policy capture packets truncated is =
+    let readings = readings_of policy packets in
+    let outcome : Outcome = record { verdicts = one_thread_verdicts times readings.0; truncated = truncated } in
+    (outcome, record { packets = packets; records = is; verdicts = (readings.0, readings.1, refl) })
+
+outcome_at_end : (times : Timeouts) (policy : PolicyFacts) (capture : List ℕ) (packets : List Seen) (end : End) → IsCapture capture packets end
+    → (outcome : Outcome) × FiltersCapture times policy capture outcome
+outcome_at_end times policy capture packets Whole is = outcome_of_capture times policy capture packets false is
+outcome_at_end times policy capture packets Truncated is = outcome_of_capture times policy capture packets true is
+
+outcome_or_fault_of_capture : (times : Timeouts) (policy : PolicyFacts) (capture : List ℕ)
+    → ((outcome : Outcome) × FiltersCapture times policy capture outcome) ⊎ ((fault : Fault) × IsFaultOfCapture capture fault)
+outcome_or_fault_of_capture times policy capture =
+    elim (some_reading capture) [
+      | inl is ↦ inl (outcome_at_end times policy capture is.0 is.1 is.2)
+      | inr found ↦ inr (capture_fault found.0, (found.0, found.1, refl))
+    ]
+
+-- ---- the capture of a content
+
+decoded : (content : List ℕ) (result : Result (List ℕ) _) → decode_of (digits_of content) ≡ result
+    → ((capture : List ℕ) × IsContent Hexadecimal content capture) ⊎ ((capture : List ℕ) → IsContent Hexadecimal content capture → ⊥)
+decoded content (Ok capture) same = inl (capture, same)
+decoded content (Err error) same = inr (λ capture is. cc)
+
+capture_or_none : (form : Form) (content : List ℕ) → ((capture : List ℕ) × IsContent form content capture) ⊎ ((capture : List ℕ) → IsContent form content capture → ⊥)
+capture_or_none Binary content = inl (content, refl)
+capture_or_none Hexadecimal content = decoded content (decode_of (digits_of content)) refl
+
+outcome_or_fault_of_content : (times : Timeouts) (policy : PolicyFacts) (form : Form) (content : List ℕ)
+    → ((outcome : Outcome) × FiltersContent times policy form content outcome) ⊎ ((fault : Fault) × IsFaultOfContent form content fault)
+outcome_or_fault_of_content times policy form content =
+    elim (capture_or_none form content) [
+      | inl is ↦ elim (outcome_or_fault_of_capture times policy is.0) [
+        | inl has ↦ inl (has.0, record { capture = is.0; spelt = is.1; filters = has.1 })
+        | inr found ↦ inr (found.0, inr (is.0, is.1, found.1))
+      ]
+      | inr none ↦ inr (Hex, inl (refl, none))
+    ]
+
+outcome_or_fault_of_parts : (times : Timeouts) (parts : Parts) → ((outcome : Outcome) × FiltersParts times parts outcome) ⊎ ((fault : Fault) × IsFaultOfParts parts fault)
+outcome_or_fault_of_parts times parts =
+    elim (policies.some_reading parts.policy) [
+      | inl says ↦ elim (outcome_or_fault_of_content times says.0 parts.form parts.content) [
+        | inl has ↦ inl (has.0, record { policy = says.0; says = says.1; filters = has.1 })
+        | inr found ↦ inr (found.0, inr (says.0, says.1, found.1))
+      ]
+      | inr found ↦ inr (policy_fault found.0, inl (found.0, found.1, refl))
+    ]
+
+-- ---- the parts of all bytes
+
+same_text : (a b : List ℕ) → (a ≡ b) ⊎ (a ≡ b → ⊥)
+same_text [] [] = inl refl
+same_text [] (d ∷ b) = inr (λ same. cc)
+same_text (c ∷ a) [] = inr (λ same. cc)
+same_text (c ∷ a) (d ∷ b) =
+    elim (cases_eq c d) [
+      | inl head ↦ elim (same_text a b) [
+        | inl tail ↦ inl (ap₂ (λ h t. h ∷ t) head tail)
+        | inr other ↦ inr (λ same. let tails : a ≡ b = cc in other tails)
+      ]
+      | inr other ↦ inr (λ same. let heads : c ≡ d = cc in other heads)
+    ]
+
+marks : (form : Form) (line : List ℕ) → IsMarker form line ⊎ (IsMarker form line → ⊥)
+marks form line =
+    elim (same_text line (word_of form)) [
+      | inl same ↦ inl (inl same)
+      | inr other ↦ elim (same_text line (word_of form ++ 13 ∷ [])) [
+        | inl same ↦ inl (inr same)
+        | inr another ↦ inr (λ marker. elim marker [ inl same ↦ other same | inr same ↦ another same ])
+      ]
+    ]
+
+in_one_form : (Holds : Form → Type 0) → ((form : Form) → Holds form ⊎ (Holds form → ⊥)) → ((form : Form) × Holds form) ⊎ ((form : Form) → Holds form → ⊥)
+in_one_form Holds test =
+    elim (test Binary) [
+      | inl binary ↦ inl (Binary, binary)
+      | inr not_binary ↦ elim (test Hexadecimal) [
+        | inl hexadecimal ↦ inl (Hexadecimal, hexadecimal)
+        | inr not_hexadecimal ↦ inr (in_none Holds not_binary not_hexadecimal)
+      ]
+    ]
+  where
+    in_none : (Holds : Form → Type 0) → (Holds Binary → ⊥) → (Holds Hexadecimal → ⊥) → (form : Form) → Holds form → ⊥
+    in_none Holds fails fails' Binary holds = fails holds
+    in_none Holds fails fails' Hexadecimal holds = fails' holds
+
+-- the first line, or there is no line feed
+record FirstLine (bytes : List ℕ) : Type 0 where
+  pub line : List ℕ
+  pub after : List ℕ
+  pub is : IsFirstLine bytes line after
+
+first_line : (bytes : List ℕ) → FirstLine bytes ⊎ HasNoFeed bytes
+first_line [] = inr tt
+first_line (b ∷ bytes) =
+    elim (cases_eq b 10) [
+      | inl feed ↦ inl (record { line = []; after = bytes; is = record { whole = tt; parted = ap (λ c. c ∷ bytes) feed } })
+      | inr other ↦ elim (first_line bytes) [
+        | inl first ↦ inl (record { line = b ∷ first.line; after = first.after; is = record { whole = (other, first.is.whole); parted = ap (λ r. b ∷ r) first.is.parted } })
+        | inr none ↦ inr (other, none)
+      ]
+    ]
+
+parts_of_front : (bytes rest content : List ℕ) (form : Form) → IsFront bytes rest → IsMarked form content rest → (parts : Parts) × IsInput bytes parts
+parts_of_front bytes rest content form front marked =
+    let parts : Parts = record { policy = joined front.lines; form = form; content = content } in
+    (parts, record { lines = front.lines; plain = front.plain; policy = refl; marked = rest; parted = front.parted; content = marked })
+
+-- the parts, or none are there, where what stands before the rest are lines that are no markers
+parts_behind : (fuel : ℕ) (bytes rest : List ℕ) → length rest < fuel → IsFront bytes rest
+    → ((parts : Parts) × IsInput bytes parts) ⊎ ((parts : Parts) → IsInput bytes parts → ⊥)
+parts_behind zero bytes rest short front = absurd (omega (arith, short))
+parts_behind (suc fuel) bytes rest short front =
+    elim (first_line rest) [
+      | inl first ↦ elim (in_one_form (λ form. IsMarker form first.line) (λ form. marks form first.line)) [
+        | inl marker ↦ inl (parts_of_front bytes rest first.after marker.0 front (inl (first.line, marker.1, first.is.parted)))
+        | inr unmarked ↦
+            let shorter : length first.after < fuel = omega (arith, short, ap length first.is.parted, length-append first.line (10 ∷ first.after)) in
+            parts_behind fuel bytes first.after shorter (front_grows bytes rest first.line first.after front first.is unmarked)
+      ]
+      | inr none ↦ elim (in_one_form (λ form. rest ≡ word_of form) (λ form. same_text rest (word_of form))) [
+        | inl word ↦ inl (parts_of_front bytes rest [] word.0 front (inr (word.1, refl)))
+        | inr unmarked ↦ inr (no_input bytes rest front none unmarked)
+      ]
+    ]
+
+outcome_or_fault_of_bytes : (times : Timeouts) (bytes : List ℕ) → ((outcome : Outcome) × FiltersInput times bytes outcome) ⊎ ((fault : Fault) × IsFaultOfBytes bytes fault)
+outcome_or_fault_of_bytes times bytes =
+    elim (parts_behind (suc (length bytes)) bytes bytes (omega arith) (front_of_all bytes)) [
+      | inl is ↦ elim (outcome_or_fault_of_parts times is.0) [
+        | inl has ↦ inl (has.0, record { parts = is.0; parted = is.1; policy = has.1.policy; says = has.1.says; filters = has.1.filters })
+        | inr found ↦ inr (found.0, inr (is.0, is.1, found.1))
+      ]
+      | inr none ↦ inr (NoCapture, inl (refl, none))
+    ]
+
+pub outcome_or_fault : (times : Timeouts) (bytes : List ℕ) → ((outcome : Outcome) × HasOutcome times bytes outcome) ⊎ ((fault : Fault) × IsInputFault bytes fault)
+outcome_or_fault times bytes =
+    elim (cases_lt most_bytes (length bytes)) [
+      | inl many ↦ inr (TooLarge, inl (refl, many))
+      | inr few ↦ elim (outcome_or_fault_of_bytes times bytes) [
+        | inl has ↦ inl (has.0, record { few = few; filters = has.1 })
+        | inr found ↦ inr (found.0, inr (few, found.1))
+      ]
+    ]
