@@ -1,6 +1,6 @@
 -- What stands at the front of records is what the tests find there, and nothing else.
 use Rattle.std.proofs.Common.{◌≡◌, ◌∙◌, ◌≤◌, ℕ, List, [], ◌∷◌, ◌++◌, length, take, drop, nat_lt, ◌==◌, ◌-◌, ◌+◌, refl, sym, ap, subst, inl, inr, arith, lit≤}
-use Rattle.std.proofs.lemmas.List.{drop-drop, drop-append-le, drop_at, length-append, length-take-le, take-append-drop, take_at, nil_from_length}
+use Rattle.std.proofs.lemmas.List.{drop-drop, drop-append-le, drop_at, length-append, length-take-le, take-append-drop, take_at, take_rest, nil_from_length}
 use Rattle.std.proofs.lemmas.Grind.{common_steps}
 use Rattle.std.proofs.lemmas.Bool.{cond_both, eqb-true, ltb-true, ltb-false}
 use Rattle.std.proofs.lemmas.Bool.Decides.{nat_tests}
@@ -45,6 +45,22 @@ spelt_is_found order header frame rest moment r =
     let left : drop (16 + kept_length order bytes) bytes ≡ rest =
     sym (drop-drop (kept_length order bytes) 16 bytes) ∙ ap (drop (kept_length order bytes)) behind ∙ drop_at frame rest (kept_length order bytes) (sym kept) in
     let is_found = found order bytes (omega arith) (omega (arith, r.limit)) (omega arith) in
+    cc
+
+number_behind : (order : Order) (place width : ℕ) (bytes : List ℕ) → number_from order 0 width (drop place bytes) ≡ number_from order place width bytes
+number_behind Little place width bytes = refl
+number_behind Big place width bytes = refl
+
+-- a record that is cut out of the bytes is found
+pub cut_out : (order : Order) (bytes : List ℕ) (kept moment : ℕ) → 16 ≤ length bytes → kept ≡ number_from order 0 4 (take (length bytes - 8) (drop 8 bytes))
+    → kept ≤ kept_limit → kept ≤ length bytes - 16 → moment ≡ number_from order 0 4 bytes
+    → Record (record { moment = moment; frame = take (16 + kept - 16) (drop 16 bytes) }) (take (length bytes - (16 + kept)) (drop (16 + kept) bytes))
+    ≡ part_of order bytes
+cut_out order bytes kept moment long said limit fits seconds =
+    let same : kept ≡ kept_length order bytes = said ∙ ap (number_from order 0 4) (take_rest bytes 8) ∙ number_behind order 8 4 bytes in
+    let size : 16 + kept - 16 ≡ kept = omega arith in
+    let behind : take (length bytes - (16 + kept)) (drop (16 + kept) bytes) ≡ drop (16 + kept) bytes = take_rest bytes (16 + kept) in
+    let is_found = found order bytes long (omega arith) (omega arith) in
     cc
 
 pub part_only : (order : Order) (bytes : List ℕ) (part : Part) → IsPart order bytes part → part ≡ part_of order bytes

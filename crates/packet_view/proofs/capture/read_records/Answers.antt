@@ -22,3 +22,9 @@ returns-in_err-push-in-Whole c =
     let packet : Seen = record { moment = c.in-Whole.moment; frame = c.in-Whole.frame.now } in
     rw refused (first_record c.args.order packet c.in-Whole.behind.now c.args.bytes.now (map seen c.records.packets.items) c.records.rest.now c.records.invariant
     c.in-Whole.ensures.shown)
+
+pub returns-in-End : goal.returns-in-End
+returns-in-End c = (c.records.rest.now, c.records.invariant, c.in-End.ensures.shown)
+
+pub returns-in-Truncated : goal.returns-in-Truncated
+returns-in-Truncated c = (c.records.rest.now, c.records.invariant, c.in-Truncated.ensures.shown)
