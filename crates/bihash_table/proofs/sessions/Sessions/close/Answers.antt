@@ -36,7 +36,7 @@ returns-in-Err-clause-refused g c =
     let all : count ≡ length v.records = c.if-load_count-numbers.false ∙ (c.numbers.ensures.count ∙ ap (λ (u : View). length u.records) is) in
     let lone : c.load_count.new.caller.view.lone ≡ true = ap (λ (u : View). u.lone) is ∙ eq-eqb count (length v.records) all in
     let t = c.read_all.ensures.took in
-    let w = c.read_all.new.caller.view in (
+    let w = c.read_all.new.seat.view in (
       refl,
       c.read_all.ensures.same ∙ ap (λ (s : CallerState). with_view s w) c.load_count.ensures.view,
       (
