@@ -1,22 +1,37 @@
-//! The worked rows of the shared table, each call with one try, and threads that write at once.
-ghost use Rattle.std.specs.Prelude.{◌≡◌, ℕ, IfOk};
-ghost use Rattle.std.specs.Thread.{IsSync};
+//! The shared table: worked rows with one try a call, searches that take no lock, threads, calls that wait, and
+//! tables that end.
+ghost use Rattle.std.specs.Prelude.{◌≡◌, IfOk};
+ghost use Rattle.bihash_words.specs.Sizes.{sizes_of, IsSound};
 ghost use Rattle.bihash_steps.specs.Views.{nothing_held};
 
-use crate::lock::{lock_seen, look};
-use crate::{Caller, CloseFault, Contended, Sessions, SplitFault, create, stamp};
+use crate::{Caller, Sessions, create};
 use bihash_steps::PoolWord;
 use bihash_words::{Add, Delete, Patch, Reply, Shape, Tiny, Touch};
-use std::sync::Wait;
+use std::alloc::Global;
 use std::test::Fail;
-use std::thread::{Threads, join};
 
 mod closing;
+mod one_caller;
+mod open_reads;
+mod several_callers;
+mod threads;
+mod waiting;
 
-// Eight pages; 1000 writes to a bucket, and 5000.
+// Eight pages, and 1000 writes to a bucket.
 type Eight = Tiny<8, 1000>;
 
-type Deep = Tiny<8, 5000>;
+// A new table and two callers. A refusal fails the test.
+fn two_callers<S: Shape>(alloc: Global) -> Result<(Sessions<S>, Caller<S>, Caller<S>), Fail>
+    requires sound { IsSound (sizes_of S.Shape) }
+    ensures own { IfOk result (λ r. (r.1.seat.row ≡ r.0.row) × (r.2.seat.row ≡ r.0.row)) }
+    ensures free { IfOk result (λ r. (r.1.seat.view.holds ≡ nothing_held) × (r.2.seat.view.holds ≡ nothing_held)) }
+{
+    let (table, first) = create::<S>(alloc)?;
+    match table.split(alloc, first) {
+        Ok((first, second)) => Ok((table, first, second)),
+        Err((fault, _)) => Err(fault)?,
+    }
+}
 
 // One try of an update. A refusal fails the test.
 fn update<S: Shape, P: Patch>(
@@ -157,270 +172,4 @@ fn has<const P: u64>(
         all_found &= search(table, caller, &[key, 0])? == Some(key);
     }
     Ok(all_found)
-}
-
-#[test]
-fn first_split(rt: HostRuntime) -> Result<(), Fail> {
-    let (table, mut caller) = create::<Eight>(rt.alloc())?;
-    for i in 0..5u32 {
-        let reply = add(&table, &mut caller, &[u64::from(2 * i), 0], 100 + i)?;
-        assert_eq!(rt; reply, Reply::Changed(None));
-        assert_eq!(rt; stamp(&caller), Some((0, u64::from(i) + 1)));
-    }
-    let word = table.row.load_bucket(&mut caller.seat, 0);
-    assert_eq!(rt; word.log2(), 1);
-    assert!(rt; !word.linear());
-    // Page 1 is free, and five pages were never used.
-    assert_eq!(rt; pages(&table, &mut caller)?, (1, 3));
-    for key in 0..5u32 {
-        let found = search(&table, &mut caller, &[u64::from(2 * key), 0])?;
-        assert_eq!(rt; found, Some(100 + u64::from(key)));
-    }
-    Ok(())
-}
-
-#[test]
-fn second_split(rt: HostRuntime) -> Result<(), Fail> {
-    let (table, mut caller) = create::<Eight>(rt.alloc())?;
-    let caller = &mut caller;
-    assert!(rt; fill(&table, caller, &[0, 4, 8, 12, 16])?);
-    let word = table.row.load_bucket(&mut caller.seat, 0);
-    assert_eq!(rt; (word.log2(), word.linear()), (2, false));
-    assert_eq!(rt; pages(&table, caller)?, (1, 5));
-    assert!(rt; has(&table, caller, &[0, 4, 8, 12, 16])?);
-    Ok(())
-}
-
-#[test]
-fn linear(rt: HostRuntime) -> Result<(), Fail> {
-    let (table, mut caller) = create::<Eight>(rt.alloc())?;
-    let caller = &mut caller;
-    assert!(rt; fill(&table, caller, &[0, 8, 16, 24, 32])?);
-    let word = table.row.load_bucket(&mut caller.seat, 0);
-    assert_eq!(rt; (word.log2(), word.linear()), (1, true));
-    assert!(rt; has(&table, caller, &[0, 8, 16, 24, 32])?);
-    assert_eq!(rt; remove(&table, caller, &[8, 0])?, Reply::Changed(Some(8)));
-    assert_eq!(rt; stamp(&caller), Some((0, 6)));
-    assert!(rt; has(&table, caller, &[0, 16, 24, 32])?);
-    assert_eq!(rt; search(&table, caller, &[8, 0])?, None);
-    Ok(())
-}
-
-#[test]
-fn full(rt: HostRuntime) -> Result<(), Fail> {
-    let (table, mut caller) = create::<Eight>(rt.alloc())?;
-    let caller = &mut caller;
-    let keys = [
-        0, 8, 16, 24, 32, 40, 48, 56, 64, 72, 80, 88, 96, 104, 112, 120,
-    ];
-    assert!(rt; fill(&table, caller, &keys)?);
-    assert_eq!(rt; add(&table, caller, &[128, 0], 128)?, Reply::Full);
-    assert_eq!(rt; stamp(&caller), Some((0, 16)));
-    assert_eq!(rt; search(&table, caller, &[128, 0])?, None);
-    assert!(rt; has(&table, caller, &keys)?);
-    Ok(())
-}
-
-#[test]
-fn linear_at_the_limit(rt: HostRuntime) -> Result<(), Fail> {
-    let (table, mut caller) = create::<Eight>(rt.alloc())?;
-    let caller = &mut caller;
-    assert!(rt; fill(&table, caller, &[0, 4, 8, 12, 16, 24])?);
-    let refused = add(&table, caller, &[32, 0], 32)?;
-    assert_eq!(rt; refused, Reply::NoPages { log2: 2, left: 3 });
-    assert_eq!(rt; stamp(&caller), Some((0, 6)));
-    assert!(rt; has(&table, caller, &[0, 4, 8, 12, 16, 24])?);
-    let (table, mut caller) = create::<Tiny<9, 1000>>(rt.alloc())?;
-    let caller = &mut caller;
-    assert!(rt; fill(&table, caller, &[0, 4, 8, 12, 16, 24, 32])?);
-    let word = table.row.load_bucket(&mut caller.seat, 0);
-    assert_eq!(rt; (word.log2(), word.linear()), (2, true));
-    assert!(rt; has(&table, caller, &[0, 4, 8, 12, 16, 24, 32])?);
-    Ok(())
-}
-
-#[test]
-fn two_callers_without_a_meeting(rt: HostRuntime) -> Result<(), Fail> {
-    let (table, first) = create::<Eight>(rt.alloc())?;
-    let Ok((mut first, mut second)) = table.split(rt.alloc(), first) else {
-        return Err("the split was refused")?;
-    };
-    assert_eq!(rt; stamp(&second), None);
-    assert_eq!(rt; add(&table, &mut first, &[0, 0], 7)?, Reply::Changed(None));
-    assert_eq!(rt; stamp(&first), Some((0, 1)));
-    assert_eq!(rt; search(&table, &mut second, &[0, 0])?, Some(7));
-    assert_eq!(rt; stamp(&second), Some((0, 1)));
-    assert_eq!(rt;
-        touch(&table, &mut second, &[0, 0], 8)?,
-        Reply::Changed(Some(7))
-    );
-    assert_eq!(rt; stamp(&second), Some((0, 2)));
-    assert_eq!(rt; search(&table, &mut first, &[0, 0])?, Some(8));
-    assert_eq!(rt; stamp(&first), Some((0, 2)));
-    let both = table.join(first, second);
-    let Ok(pairs) = table.close(rt.alloc(), both) else {
-        return Err("the table was not closed")?;
-    };
-    assert_eq!(rt; pairs.as_slice(), [([0, 0], 8)].as_slice());
-    Ok(())
-}
-
-// As many splits as a table may have succeed at once, each behind the other, and no further one.
-#[test]
-fn all_callers_split(rt: HostRuntime) -> Result<(), Fail> {
-    let (table, mut caller) = create::<Eight>(rt.alloc())?;
-    'splits: for _ in 1..64u32 {
-        let Ok((old, _)) = table.split(rt.alloc(), caller) else {
-            return Err("a split was refused")?;
-        };
-        caller = old;
-    }
-    let Err((fault, _)) = table.split(rt.alloc(), caller) else {
-        return Err("a sixty-fifth caller was made")?;
-    };
-    assert_eq!(rt; fault, SplitFault::Numbers);
-    Ok(())
-}
-
-#[test]
-fn pages_used_up(rt: HostRuntime) -> Result<(), Fail> {
-    let (table, mut caller) = create::<Tiny<2, 1000>>(rt.alloc())?;
-    let caller = &mut caller;
-    assert!(rt; fill(&table, caller, &[0, 2, 4, 6, 1])?);
-    assert_eq!(rt; table.row.load_bucket(&mut caller.seat, 1).page(), 2);
-    assert_eq!(rt; remove(&table, caller, &[1, 0])?, Reply::Changed(Some(1)));
-    assert_eq!(rt; table.row.load_bucket(&mut caller.seat, 1).page(), 0);
-    let refused = add(&table, caller, &[8, 0], 8)?;
-    assert_eq!(rt; refused, Reply::NoPages { log2: 1, left: 0 });
-    assert_eq!(rt; add(&table, caller, &[1, 0], 9)?, Reply::Changed(None));
-    assert_eq!(rt; stamp(&caller), Some((1, 3)));
-    assert_eq!(rt; table.row.load_bucket(&mut caller.seat, 1).page(), 2);
-    Ok(())
-}
-
-#[test]
-fn worn(rt: HostRuntime) -> Result<(), Fail> {
-    let (table, mut caller) = create::<Tiny<8, 3>>(rt.alloc())?;
-    let caller = &mut caller;
-    assert_eq!(rt; add(&table, caller, &[0, 0], 7)?, Reply::Changed(None));
-    assert_eq!(rt; add(&table, caller, &[0, 0], 8)?, Reply::Changed(Some(7)));
-    assert_eq!(rt; touch(&table, caller, &[0, 0], 9)?, Reply::Changed(Some(8)));
-    assert_eq!(rt; add(&table, caller, &[0, 0], 10)?, Reply::Worn(Some(9)));
-    assert_eq!(rt; stamp(&caller), Some((0, 3)));
-    assert_eq!(rt; add(&table, caller, &[2, 0], 1)?, Reply::Worn(None));
-    assert_eq!(rt; add(&table, caller, &[0, 0], 9)?, Reply::Kept(Some(9)));
-    assert_eq!(rt; remove(&table, caller, &[4, 0])?, Reply::Kept(None));
-    assert_eq!(rt; search(&table, caller, &[0, 0])?, Some(9));
-    assert_eq!(rt; add(&table, caller, &[1, 0], 5)?, Reply::Changed(None));
-    assert_eq!(rt; stamp(&caller), Some((1, 1)));
-    Ok(())
-}
-
-#[test]
-fn close(rt: HostRuntime) -> Result<(), Fail> {
-    let (table, first) = create::<Eight>(rt.alloc())?;
-    let Ok((mut first, second)) = table.split(rt.alloc(), first) else {
-        return Err("the split was refused")?;
-    };
-    assert_eq!(rt; add(&table, &mut first, &[2, 0], 5)?, Reply::Changed(None));
-    assert!(rt; !table.is_lone(&mut first));
-    let Err((fault, table, first)) = table.close(rt.alloc(), first) else {
-        return Err("a table was closed under a stranger")?;
-    };
-    assert_eq!(rt; fault, CloseFault::Strangers);
-    let mut both = table.join(first, second);
-    assert!(rt; table.is_lone(&mut both));
-    let Ok(pairs) = table.close(rt.alloc(), both) else {
-        return Err("the table was not closed")?;
-    };
-    assert_eq!(rt; pairs.as_slice(), [([2, 0], 5)].as_slice());
-    Ok(())
-}
-
-// A caller that has a bucket's lock and is dropped holds up that bucket alone.
-#[test]
-fn dropped_lock_holder(rt: HostRuntime) -> Result<(), Fail> {
-    let (table, first) = create::<Eight>(rt.alloc())?;
-    let Ok((mut first, mut second)) = table.split(rt.alloc(), first) else {
-        return Err("the split was refused")?;
-    };
-    let seat = &mut second.seat;
-    let Some(word) = look(&table.row, seat, 0) else {
-        return Err("a bucket is locked")?;
-    };
-    assert!(rt; lock_seen(&table.row, seat, 0, word));
-    drop(second);
-    assert_eq!(rt; table.try_search(&mut first, &[0, 0]), Err(Contended));
-    assert_eq!(rt;
-        table.try_update(&mut first, &[0, 0], &Delete),
-        Err(Contended)
-    );
-    assert_eq!(rt; stamp(&first), None);
-    assert_eq!(rt; add(&table, &mut first, &[1, 0], 3)?, Reply::Changed(None));
-    let Err((fault, _, _)) = table.close(rt.alloc(), first) else {
-        return Err("a table was closed under a stranger")?;
-    };
-    assert_eq!(rt; fault, CloseFault::Strangers);
-    Ok(())
-}
-
-// Each of two threads writes a key of one bucket a thousand times.
-#[test]
-fn two_writers(rt: HostRuntime) -> Result<(), Fail> {
-    let (table, first) = create::<Deep>(rt.alloc())?;
-    let Ok((first, second)) = table.split(rt.alloc(), first) else {
-        return Err("the split was refused")?;
-    };
-    let (mut both, all_changed) = write_both(&rt, &table, first, second);
-    assert!(rt; all_changed);
-    assert_eq!(rt; search(&table, &mut both, &[0, 0])?, Some(1000));
-    assert_eq!(rt; search(&table, &mut both, &[2, 0])?, Some(1000));
-    assert_eq!(rt; stamp(&both), Some((0, 2000)));
-    Ok(())
-}
-
-// Two callers at once, joined behind their writes, and whether each write changed the table.
-fn write_both<R: Threads + Wait + Sync>(
-    rt: &R,
-    table: &Sessions<Deep>,
-    first: Caller<Deep>,
-    second: Caller<Deep>,
-) -> (Caller<Deep>, bool)
-    requires own { (first.seat.row ≡ table.now.row) × (second.seat.row ≡ table.now.row) }
-    requires free { (first.seat.view.holds ≡ nothing_held) × (second.seat.view.holds ≡ nothing_held) }
-    ensures own { result.0.seat.row ≡ table.now.row }
-    ensures free { result.0.seat.view.holds ≡ nothing_held }
-{
-    let (one, two) = join(
-        rt,
-        || -> (Caller<Deep>, bool)
-            requires { IsSync R.row × (first.seat.row ≡ table.now.row) × (first.seat.view.holds ≡ nothing_held) }
-            ensures { (result.0.seat.row ≡ table.entry.now.row) × (result.0.seat.view.holds ≡ nothing_held) }
-        { write_thousand(table, rt, first, 0) },
-        || -> (Caller<Deep>, bool)
-            requires { IsSync R.row × (second.seat.row ≡ table.now.row) × (second.seat.view.holds ≡ nothing_held) }
-            ensures { (result.0.seat.row ≡ table.entry.now.row) × (result.0.seat.view.holds ≡ nothing_held) }
-        { write_thousand(table, rt, second, 2) },
-    );
-    (table.join(one.0, two.0), one.1 && two.1)
-}
-
-// The caller, and whether each of a thousand writes changed the table.
-fn write_thousand<R: Wait>(
-    table: &Sessions<Deep>,
-    rt: &R,
-    mut caller: Caller<Deep>,
-    key: u64,
-) -> (Caller<Deep>, bool)
-    requires own { caller.seat.row ≡ table.now.row }
-    requires free { caller.seat.view.holds ≡ nothing_held }
-    ensures own { result.0.seat.row ≡ table.now.row }
-    ensures free { result.0.seat.view.holds ≡ nothing_held }
-{
-    let mut all_changed = true;
-    for value in 1..1001u32 {
-        let reply = table.add(rt, &mut caller, &[key, 0], u64::from(value));
-        all_changed &= matches!(reply, Reply::Changed(_));
-    }
-    (caller, all_changed)
 }

@@ -17,19 +17,35 @@ fn an_empty_table_closes_without_pairs(rt: HostRuntime) -> Result<(), Fail> {
 #[test]
 fn pairs_come_in_the_order_of_their_words(rt: HostRuntime) -> Result<(), Fail> {
     let (table, mut caller) = create::<Small>(rt.alloc())?;
-    for i in 0..11u64 {
-        table.add(&rt, &mut caller, &[(i * 7) % 11 / 2, (i * 5) % 11], i);
+    let added: [([u64; 2], u32); 9] = [
+        ([2, 1], 1),
+        ([256, 0], 2),
+        ([1, 1 << 63], 3),
+        ([1, 2], 4),
+        ([0, u64::MAX], 5),
+        ([u64::MAX, 0], 6),
+        ([1, 256], 7),
+        ([0, 3], 8),
+        ([1, 1], 9),
+    ];
+    for (key, value) in added {
+        table.add(&rt, &mut caller, &key, u64::from(value));
     }
-    table.remove(&rt, &mut caller, &[0, 0]);
-    match table.close(rt.alloc(), caller) {
-        Ok(pairs) => {
-            assert_eq!(rt; pairs.len(), 10);
-            for i in 1..pairs.len() {
-                assert!(rt; pairs[i - 1].0 < pairs[i].0);
-            }
-        }
-        Err(_) => assert!(rt; false),
-    }
+    table.remove(&rt, &mut caller, &[1, 2]);
+    let Ok(pairs) = table.close(rt.alloc(), caller) else {
+        return Err("the table was not closed")?;
+    };
+    let sorted = [
+        ([0, 3], 8),
+        ([0, u64::MAX], 5),
+        ([1, 1], 9),
+        ([1, 256], 7),
+        ([1, 1 << 63], 3),
+        ([2, 1], 1),
+        ([256, 0], 2),
+        ([u64::MAX, 0], 6),
+    ];
+    assert_eq!(rt; pairs.as_slice(), sorted.as_slice());
     Ok(())
 }
 
