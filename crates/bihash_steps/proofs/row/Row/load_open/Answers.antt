@@ -1,4 +1,4 @@
-use Rattle.std.proofs.Common.{rules, refl, []  , ◌∷◌}
+use Rattle.std.proofs.Common.{rules, refl, [], ◌∷◌}
 use Rattle.bihash_words.specs.Sizes.{sizes_of}
 use Rattle.bihash_steps.specs.BucketSteps.{IsOpenWord, reading}
 use Rattle.bihash_steps.proofs.Addresses.{loads_open_at}
