@@ -1,5 +1,5 @@
 -- Steps on the caller count: a load, a load behind a join, and the exchange by which a caller takes the next number.
-use Rattle.std.proofs.Common.{◌≡◌, ◌≢◌, ℕ, zero, suc, ◌+◌, ◌<◌, ◌≤◌, eqb, Bool, true≢false, List, [], ◌∷◌, ◌++◌, length, set, get_or, refl, sym, ap, ◌∙◌, subst, inl, inr, arith, le_refl, length-set, length-append, get_or-set_same, get_or-set_other, eq-eqb, ne_eqb}
+use Rattle.std.proofs.Common.{◌≡◌, ◌≢◌, ℕ, zero, suc, ◌+◌, ◌<◌, ◌≤◌, eqb, Bool, true≢false, List, [], ◌∷◌, ◌++◌, length, set, refl, sym, ap, ◌∙◌, subst, inl, inr, arith, le_refl, length-set, length-append, get_or-set_same, get_or-set_other, eq-eqb, ne_eqb}
 use mathlib.Core.Logic.{dite}
 use mathlib.Core.Option.{some, some-ne-none}
 use native.Mathlib.Decide.{ℕ_discrete, dec_lt}
@@ -26,7 +26,7 @@ use Rattle.bihash_steps.specs.declared.view.View.{View}
 use Rattle.bihash_steps.proofs.KnownLists.{known_bearers, lawful_here, none_past}
 use Rattle.bihash_steps.proofs.Lists.{at_end, there}
 use Rattle.bihash_steps.proofs.Whole.{prefix_whole}
-use Rattle.bihash_steps.proofs.Prefixes.{one_begins, prefix_at}
+use Rattle.bihash_steps.proofs.Prefixes.{one_begins}
 use Rattle.bihash_steps.proofs.Numbers.{few_numbers, whole_by_count}
 use Rattle.bihash_steps.proofs.Lawful.{more_informed, more_numbers, parts_apart, wider}
 use Rattle.bihash_steps.proofs.CountWord.{SameButCount, still_lock, still_pool, still_block, one_moved, stays, some_words, others_apart, not_lone}

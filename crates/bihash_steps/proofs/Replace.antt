@@ -105,8 +105,11 @@ module _ (z : Sizes) where
     keeps,
     tt,
     rule,
-    record { seat = refl; lawful = lawful_set z (set s.words (bucket_at z b) n) s id v (replaced v c) at
-        (let n = push-length c v.records in omega arith) rule },
+    record {
+      seat = refl;
+      lawful = lawful_set z (set s.words (bucket_at z b) n) s id v (replaced v c) at
+          (let n = push-length c v.records in omega arith) rule;
+    },
   )
     where
       v : View

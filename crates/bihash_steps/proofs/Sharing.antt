@@ -9,8 +9,7 @@ use Rattle.atomic_table.specs.Table.{State, Splits, Joins}
 use Rattle.atomic_table.proofs.Lists.{at_set}
 use Rattle.bihash_words.specs.Sizes.{Sizes}
 use Rattle.bihash_steps.specs.Words.{count_of, buckets}
-use Rattle.bihash_steps.specs.Histories.{IsWriteList}
-use Rattle.bihash_steps.specs.Callers.{known_at, opening_at, HasNumbers, IsLawful, IsLawfulCaller, Apart, Agrees}
+use Rattle.bihash_steps.specs.Callers.{known_at, HasNumbers, IsLawful, IsLawfulCaller, Apart, Agrees}
 use Rattle.bihash_steps.specs.Buckets.{HoldsBucketIf}
 use Rattle.bihash_steps.specs.PageStores.{HoldsStoreIf, HoldsBlockIf, run_in}
 use Rattle.bihash_steps.specs.Views.{nothing_held, no_notes}

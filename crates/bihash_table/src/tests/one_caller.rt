@@ -45,7 +45,7 @@ fn linear(rt: HostRuntime) -> Result<(), Fail> {
     assert_eq!(rt; (word.log2(), word.linear()), (1, true));
     assert!(rt; has(&table, caller, &[0, 8, 16, 24, 32])?);
     assert_eq!(rt; remove(&table, caller, &[8, 0])?, Reply::Changed(Some(8)));
-    assert_eq!(rt; stamp(&caller), Some((0, 6)));
+    assert_eq!(rt; stamp(caller), Some((0, 6)));
     assert!(rt; has(&table, caller, &[0, 16, 24, 32])?);
     assert_eq!(rt; search(&table, caller, &[8, 0])?, None);
     Ok(())
@@ -60,7 +60,7 @@ fn full(rt: HostRuntime) -> Result<(), Fail> {
     ];
     assert!(rt; fill(&table, caller, &keys)?);
     assert_eq!(rt; add(&table, caller, &[128, 0], 128)?, Reply::Full);
-    assert_eq!(rt; stamp(&caller), Some((0, 16)));
+    assert_eq!(rt; stamp(caller), Some((0, 16)));
     assert_eq!(rt; search(&table, caller, &[128, 0])?, None);
     assert!(rt; has(&table, caller, &keys)?);
     Ok(())
@@ -73,7 +73,7 @@ fn linear_at_the_limit(rt: HostRuntime) -> Result<(), Fail> {
     assert!(rt; fill(&table, caller, &[0, 4, 8, 12, 16, 24])?);
     let refused = add(&table, caller, &[32, 0], 32)?;
     assert_eq!(rt; refused, Reply::NoPages { log2: 2, left: 3 });
-    assert_eq!(rt; stamp(&caller), Some((0, 6)));
+    assert_eq!(rt; stamp(caller), Some((0, 6)));
     assert!(rt; has(&table, caller, &[0, 4, 8, 12, 16, 24])?);
     let (table, mut caller) = create::<Tiny<9, 1000>>(rt.alloc())?;
     let caller = &mut caller;
@@ -95,7 +95,7 @@ fn pages_used_up(rt: HostRuntime) -> Result<(), Fail> {
     let refused = add(&table, caller, &[8, 0], 8)?;
     assert_eq!(rt; refused, Reply::NoPages { log2: 1, left: 0 });
     assert_eq!(rt; add(&table, caller, &[1, 0], 9)?, Reply::Changed(None));
-    assert_eq!(rt; stamp(&caller), Some((1, 3)));
+    assert_eq!(rt; stamp(caller), Some((1, 3)));
     assert_eq!(rt; table.row.load_bucket(&mut caller.seat, 1).page(), 2);
     Ok(())
 }
@@ -108,12 +108,12 @@ fn worn(rt: HostRuntime) -> Result<(), Fail> {
     assert_eq!(rt; add(&table, caller, &[0, 0], 8)?, Reply::Changed(Some(7)));
     assert_eq!(rt; touch(&table, caller, &[0, 0], 9)?, Reply::Changed(Some(8)));
     assert_eq!(rt; add(&table, caller, &[0, 0], 10)?, Reply::Worn(Some(9)));
-    assert_eq!(rt; stamp(&caller), Some((0, 3)));
+    assert_eq!(rt; stamp(caller), Some((0, 3)));
     assert_eq!(rt; add(&table, caller, &[2, 0], 1)?, Reply::Worn(None));
     assert_eq!(rt; add(&table, caller, &[0, 0], 9)?, Reply::Kept(Some(9)));
     assert_eq!(rt; remove(&table, caller, &[4, 0])?, Reply::Kept(None));
     assert_eq!(rt; search(&table, caller, &[0, 0])?, Some(9));
     assert_eq!(rt; add(&table, caller, &[1, 0], 5)?, Reply::Changed(None));
-    assert_eq!(rt; stamp(&caller), Some((1, 1)));
+    assert_eq!(rt; stamp(caller), Some((1, 1)));
     Ok(())
 }

@@ -13,26 +13,26 @@ fn fixed_calls(rt: HostRuntime) -> Result<(), Fail> {
     let caller = &mut caller;
     let (key, absent) = ([0, 0], [2, 0]);
     assert_eq!(rt; table.touch(&rt, caller, &key, 6), Reply::Kept(None));
-    assert_eq!(rt; stamp(&caller), Some((0, 0)));
+    assert_eq!(rt; stamp(caller), Some((0, 0)));
     assert_eq!(rt;
         table.add_if_absent(&rt, caller, &key, 7),
         Reply::Changed(None)
     );
-    assert_eq!(rt; stamp(&caller), Some((0, 1)));
+    assert_eq!(rt; stamp(caller), Some((0, 1)));
     assert_eq!(rt;
         table.add_if_absent(&rt, caller, &key, 8),
         Reply::Kept(Some(7))
     );
-    assert_eq!(rt; stamp(&caller), Some((0, 1)));
+    assert_eq!(rt; stamp(caller), Some((0, 1)));
     assert_eq!(rt; table.touch(&rt, caller, &key, 9), Reply::Changed(Some(7)));
-    assert_eq!(rt; stamp(&caller), Some((0, 2)));
+    assert_eq!(rt; stamp(caller), Some((0, 2)));
     assert_eq!(rt; table.touch(&rt, caller, &absent, 9), Reply::Kept(None));
     assert_eq!(rt; table.search(&rt, caller, &key), Some(9));
     assert_eq!(rt; table.search(&rt, caller, &absent), None);
     assert_eq!(rt; table.remove(&rt, caller, &absent), Reply::Kept(None));
-    assert_eq!(rt; stamp(&caller), Some((0, 2)));
+    assert_eq!(rt; stamp(caller), Some((0, 2)));
     assert_eq!(rt; table.remove(&rt, caller, &key), Reply::Changed(Some(9)));
-    assert_eq!(rt; stamp(&caller), Some((0, 3)));
+    assert_eq!(rt; stamp(caller), Some((0, 3)));
     assert_eq!(rt; table.search(&rt, caller, &key), None);
     Ok(())
 }
@@ -77,7 +77,7 @@ fn updates_by_each_fixed_patch(rt: HostRuntime) -> Result<(), Fail> {
         Reply::Changed(None)
     );
     assert_eq!(rt; table.search(&rt, caller, &key), Some(4));
-    assert_eq!(rt; stamp(&caller), Some((1, 5)));
+    assert_eq!(rt; stamp(caller), Some((1, 5)));
     Ok(())
 }
 
