@@ -3,7 +3,8 @@ use Rattle.bihash_words.specs.Sizes.{sizes_of}
 use Rattle.bihash_steps.specs.Seats.{CallerState}
 use Rattle.bihash_steps.specs.BucketSteps.{map_now}
 use Rattle.bihash_steps.specs.declared.view.View.{View}
-use Rattle.bihash_table.specs.Answers.{IsAnswered, locks_of, search_of}
+use Rattle.bihash_table.specs.Answers.{locks_of, search_of}
+use Rattle.bihash_table.specs.Promise.{IsAnswered}
 use Rattle.bihash_table.proofs.Composed.{ahead_answered, ahead_turned_away}
 use Rattle.bihash_table.proofs.Opened.{is_read, lost_at, not_taken}
 use Rattle.bihash_table.proofs.Sights.{answer_locks, answer_seen, seen_ahead, seen_answer, seen_first, seen_records}
