@@ -1,5 +1,5 @@
 -- Runs of a bounded map, one after another.
-use Rattle.std.proofs.Common.{◌≡◌, ◌+◌, ◌++◌, ℕ, List, [], ◌∷◌, refl, subst, sym}
+use Rattle.std.proofs.Common.{◌+◌, ◌++◌, ℕ, List, [], ◌∷◌, refl, subst, sym}
 use Rattle.bihash_words.specs.Maps.{Bounds, Event, Pairs, Step}
 use Rattle.bihash_words.specs.Runs.{IsRun, writes_of}
 

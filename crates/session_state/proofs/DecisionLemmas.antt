@@ -5,6 +5,7 @@ use Rattle.std.proofs.lemmas.Option.{cond_some, none-some, option_and_then_some}
 use Rattle.std.specs.Prelude.{option_and_then}
 use Rattle.bihash_words.specs.declared.patch.Change.{Change}
 use Rattle.bihash_words.specs.declared.patch.Change.TheVariants.{Set}
+use Rattle.bihash_words.specs.Patches.{IsStorable}
 use Rattle.session_state.proofs.SessionLemmas.{session_of_word, word_of_session}
 use Rattle.session_state.specs.Decisions.{HasNoneLive, IsDecision, IsLiveFor, PatchFacts, decision_at, decision_of, if_live, live_session, passed_session, removal_of, started_session}
 use Rattle.session_state.specs.Sessions.{SessionFacts, live_until, session_of, session_word}
@@ -40,7 +41,7 @@ where_none packet old None same none = refl
 where_none packet old (Some session) same none = absurd (none session (live_found packet old session same))
 
 -- the decision where no session is live
-abbrev without_live : PatchFacts → Option ℕ → Bool → Change
+abbrev pub without_live : PatchFacts → Option ℕ → Bool → Change
 without_live packet old reflects =
     if reflects then Set (session_word (started_session packet)) else removal_of old
 
@@ -56,7 +57,7 @@ at_live : (packet : PatchFacts) (old : Option ℕ) (session : SessionFacts) → 
 at_live packet old session live = ap (decision_at packet old) (live_only packet old session live)
 
 -- the decision that is computed is the packet's
-pub decided : (packet : PatchFacts) (old : Option ℕ) (change : Change) → change ≡ decision_of packet old
+decided : (packet : PatchFacts) (old : Option ℕ) (change : Change) → change ≡ decision_of packet old
     → IsDecision packet old change
 decided packet old change same = record {
   passes = λ session live. same ∙ at_live packet old session live;
@@ -79,6 +80,21 @@ by_found packet old change (Some session) same h =
     h.passes session live ∙ sym (at_live packet old session live)
 
 -- a packet decides nothing else
-pub decided_only : (packet : PatchFacts) (old : Option ℕ) (change : Change) → IsDecision packet old change
+decided_only : (packet : PatchFacts) (old : Option ℕ) (change : Change) → IsDecision packet old change
     → change ≡ decision_of packet old
 decided_only packet old change h = by_found packet old change (live_session packet old) refl h
+
+-- what is promised of the decision that is computed
+pub told : (packet : PatchFacts) (old : Option ℕ) (change : Change) → change ≡ decision_of packet old
+    → IsStorable change → record {
+      decision : change ≡ decision_of packet old;
+      storable : IsStorable change;
+      rule : IsDecision packet old change;
+      only : (other : Change) → IsDecision packet old other → other ≡ change;
+    }
+told packet old change same storable = record {
+  decision = same;
+  storable = storable;
+  rule = decided packet old change same;
+  only = λ other h. decided_only packet old other h ∙ sym same;
+}

@@ -1,9 +1,10 @@
 -- A session and its word give each other back.
-use Rattle.std.proofs.Common.{◌≡◌, ◌∙◌, ◌<◌, ◌+◌, ◌*◌, ◌/◌, ◌%◌, ◌^◌, ℕ, Bool, true, false, ap, ap₂, arith, sym, subst, refl, inl, inr, Some, None, if◌then◌else◌, ◌==◌, ◌&&◌, nat_lt}
+use Rattle.std.proofs.Common.{◌≡◌, ◌≢◌, ◌∙◌, ◌≤◌, ◌<◌, ◌+◌, ◌*◌, ◌/◌, ◌%◌, ◌^◌, ℕ, Bool, true, false, ap, ap₂, arith, sym, subst, refl, inl, inr, Some, None, if◌then◌else◌, ◌==◌, ◌&&◌, nat_lt}
 use Rattle.std.proofs.lemmas.Bool.{eq-eqb, eqb-true, ltb-true}
 use Rattle.std.proofs.lemmas.Bool.Decides.{eqb_tells}
 use Rattle.std.proofs.lemmas.Nat.{and_le_r}
 use Rattle.std.proofs.lemmas.Option.{cond_some}
+use Rattle.bihash_words.specs.Patches.{free_mark}
 use Rattle.session_state.specs.Flags.{IsKept, kept_flags}
 use Rattle.session_state.specs.Sessions.{IsSession, SessionFacts, fields_of_word, is_session_word, session_of, session_word}
 
@@ -71,6 +72,16 @@ is_word session fits =
     small && ((kept_flags s.first_flags == s.first_flags) && (kept_flags s.second_flags == s.second_flags)) in
     ap₂ test (ap (λ k. nat_lt k 2) kind ∙ small_bit session.tcp) (fields_of_session session fits)
     ∙ ap₂ (λ a b. true && (a && b)) (eq-eqb _ _ fits.first) (eq-eqb _ _ fits.second)
+
+bit_fits : (tcp : Bool) → (if tcp then 1 else 0) ≤ 1
+bit_fits true = omega arith
+bit_fits false = omega arith
+
+-- the word of a session is no mark of a free place
+pub word_is_storable : (session : SessionFacts) → IsSession session → session_word session ≢ free_mark
+word_is_storable session fits free =
+    omega (arith, fits.moment, flags_fit session.first_flags fits.first, flags_fit session.second_flags fits.second,
+    bit_fits session.tcp, free)
 
 -- a session is the session of its word
 pub session_of_word : (session : SessionFacts) → IsSession session → session_of (session_word session) ≡ Some session

@@ -47,7 +47,6 @@ impl Patch for PacketPatch {
 
     ghost decision = { λ patch old. decision_of (patch_facts patch) old };
 
-    #[tactic(auto, using(crate::proofs::DecisionLemmas::decided, crate::proofs::DecisionLemmas::decided_only))]
     fn decide(&self, old: Option<u64>) -> Change
         ensures decision { result ≡ decision_of (patch_facts self.now) old }
         ensures storable { IsStorable result }
