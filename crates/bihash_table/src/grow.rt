@@ -91,7 +91,17 @@ fn enter_as_planned<S: Shape>(
     if !lock_seen(row, seat, site.bucket, word) {
         return Err(Contended);
     }
-    enter(row, seat, site.bucket, word, site.key, value, log2, linear, new)
+    enter(
+        row,
+        seat,
+        site.bucket,
+        word,
+        site.key,
+        value,
+        log2,
+        linear,
+        new,
+    )
 }
 
 /// Gives the bucket a block of `2^log2` pages, in which its pairs and the new one are laid out.

@@ -178,15 +178,7 @@ fn enter_new<S: Shape>(
             if !lock_seen(row, seat, site.bucket, word) {
                 return Err(Contended);
             }
-            Ok(fill(
-                row,
-                seat,
-                site.bucket,
-                word,
-                site.key,
-                place,
-                value,
-            ))
+            Ok(fill(row, seat, site.bucket, word, site.key, place, value))
         }
         None => enter_larger(row, caller, word, site, value),
     }
