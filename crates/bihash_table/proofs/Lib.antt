@@ -2,6 +2,7 @@ pub mod AnsweredCalls
 pub mod Blocks
 pub mod Bridge
 pub mod Changes
+pub mod Closings
 pub mod CommonHistories
 pub mod CommonOrders
 pub mod Composed
@@ -31,6 +32,7 @@ pub mod Replacing
 pub mod SameCallers
 pub mod Seeing
 pub mod Sights
+pub mod Snapshots
 pub mod Sorting
 pub mod Stores
 pub mod Storing

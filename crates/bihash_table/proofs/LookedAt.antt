@@ -173,7 +173,7 @@ module _ (z : Sizes) where
 
   module _ (u v w : View) (from at n : ℕ) (before : Saw u v (NoneFree from at)) (now : Saw v w (λ _ block. n ≡ value_in z block at)) where
     pub none_free_more : n ≢ free → Saw u w (NoneFree from (at + 1))
-    none_free_more taken = saw_then u v w (λ o noted seen here i low high is. elim (cases_lt i at) [
+    none_free_more taken = saw_then {Q = λ _ block. n ≡ value_in z block at} u v w (λ o noted seen here i low high is. elim (cases_lt i at) [
       | inl less ↦ seen i low less is
       | inr not ↦ let same : at ≡ i = omega arith in taken (here ∙ (ap (value_in z o.block) same ∙ is))
     ]) before now
@@ -209,7 +209,7 @@ module _ (z : Sizes) where
 
   module _ (u v w : View) (i at n : ℕ) (before : Saw u v (NoOther i at)) (now : Saw v w (λ _ block. n ≡ value_in z block at)) where
     pub no_other_free : n ≡ free → Saw u w (NoOther i (at + 1))
-    no_other_free is = saw_then u v w (λ o noted seen here k low pair. elim (cases_lt k at) [
+    no_other_free is = saw_then {Q = λ _ block. n ≡ value_in z block at} u v w (λ o noted seen here k low pair. elim (cases_lt k at) [
       | inl less ↦ seen k less pair
       | inr not ↦ let same : k ≡ at = omega arith in absurd (pair.1 (ap (value_in z o.block) same ∙ (sym here ∙ is)))
     ]) before now
@@ -219,8 +219,7 @@ module _ (z : Sizes) where
     other_there word e h inside differ taken = saw_then u v w (λ o noted seen here. (
       at,
       differ,
-      subst (λ (x : Extent). at < places x.page x.log2) (sym (note_extent z u word e o h noted)) inside,
-      λ is. taken (here ∙ is),
+      (subst (λ (x : Extent). at < places x.page x.log2) (sym (note_extent z u word e o h noted)) inside, λ is. taken (here ∙ is)),
     )) before now
 
   pub no_other : (u v : View) (i word to : ℕ) (e : Extent) → NotesBlock z u word e → places e.page e.log2 ≤ to → Saw u v (NoOther i to)

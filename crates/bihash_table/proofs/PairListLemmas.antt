@@ -1,4 +1,4 @@
--- Lists of pairs: what one more pair makes of them, and what the places of a locked block do.
+-- Lists of pairs: what one more pair makes of them, and what the places of a block do.
 use Rattle.std.proofs.Common.{◌≡◌, ◌∙◌, ◌⊎◌, ℕ, ◌+◌, ◌<◌, Bool, false, List, [], ◌∷◌, ◌++◌, length, get_or, arith, sym, ap, subst, inl, inr, Option, Some}
 use lib.ListN.{length-map}
 use Rattle.std.proofs.lemmas.Bool.{cases_lt}
@@ -21,11 +21,9 @@ use Rattle.bihash_steps.specs.Histories.{bucket_of}
 use Rattle.bihash_steps.specs.Callers.{known_at, opening_at}
 use Rattle.bihash_steps.specs.Blocks.{HasPair, free, key_in, places, value_in}
 use Rattle.bihash_steps.specs.declared.view.Known.{Known}
-use Rattle.bihash_steps.specs.declared.view.LockedBucket.{LockedBucket}
-use Rattle.bihash_steps.specs.declared.view.View.{View}
+use Rattle.bihash_steps.specs.declared.view.Extent.{Extent}
 use Rattle.bihash_table.specs.Closing.{ArePairsOf, keys_of, map_in}
-use Rattle.bihash_table.specs.Locked.{HasLock}
-use Rattle.bihash_table.specs.PairLists.{InBucketsBelow, InPart, InPlacesBelow, IsPairAt, ListsBuckets, ListsPairs}
+use Rattle.bihash_table.specs.PairLists.{InBucketsBelow, InPart, InPlacesBelow, IsBlockIn, IsPairAt, ListsBuckets, ListsPairs}
 use Rattle.bihash_table.proofs.Homes.{key_home}
 use Rattle.bihash_table.proofs.Sorting.{sorted_strictly}
 
@@ -90,16 +88,16 @@ module _ {A K : Type 0} (g : Ghosts A K) where
         (no_other ps has p (get_or ps i p) l new (Contains-get_or ps i p inside))));
   }
 
-  -- ---- The places of a locked block
+  -- ---- The places of a block
 
-  module _ (v : View) (b : ℕ) (l : LockedBucket) where
-    pub part_none : (ps : List (K × ℕ)) → ListsPairs g ps (InBucketsBelow sizes v.known b)
-        → ListsPairs g ps (InPart sizes v.known b l 0)
-    part_none ps = lists_same ps (InBucketsBelow sizes v.known b) (InPart sizes v.known b l 0)
+  module _ (known : Known) (b : ℕ) (e : Extent) (block : List ℕ) where
+    pub part_none : (ps : List (K × ℕ)) → ListsPairs g ps (InBucketsBelow sizes known b)
+        → ListsPairs g ps (InPart sizes known b e block 0)
+    part_none ps = lists_same ps (InBucketsBelow sizes known b) (InPart sizes known b e block 0)
         (λ key value h. inl h) (λ key value h. elim h [ inl low ↦ low | inr here ↦ absurd (let no = here.below in omega arith) ])
 
-    further : (n : ℕ) (key : List ℕ) (value : ℕ) → InPlacesBelow sizes l.extent l.now n key value
-        → InPlacesBelow sizes l.extent l.now (n + 1) key value
+    further : (n : ℕ) (key : List ℕ) (value : ℕ) → InPlacesBelow sizes e block n key value
+        → InPlacesBelow sizes e block (n + 1) key value
     further n key value here = record {
       place = here.place;
       below = let low = here.below in omega arith;
@@ -109,47 +107,47 @@ module _ {A K : Type 0} (g : Ghosts A K) where
     }
 
     -- below n, or at n
-    before : (n : ℕ) (key : List ℕ) (value : ℕ) → InPlacesBelow sizes l.extent l.now (n + 1) key value
-        → InPlacesBelow sizes l.extent l.now n key value ⊎ ((here : InPlacesBelow sizes l.extent l.now (n + 1) key value) × (here.place ≡ n))
+    before : (n : ℕ) (key : List ℕ) (value : ℕ) → InPlacesBelow sizes e block (n + 1) key value
+        → InPlacesBelow sizes e block n key value ⊎ ((here : InPlacesBelow sizes e block (n + 1) key value) × (here.place ≡ n))
     before n key value here = elim (cases_lt here.place n) [
       | inl low ↦ inl (record { place = here.place; below = low; pair = here.pair; stands = here.stands; has = here.has })
       | inr high ↦ inr (here, let low = here.below in omega arith)
     ]
 
-    pub part_free : (n : ℕ) (ps : List (K × ℕ)) → value_in sizes l.now n ≡ free
-        → ListsPairs g ps (InPart sizes v.known b l n) → ListsPairs g ps (InPart sizes v.known b l (n + 1))
-    part_free n ps empty = lists_same ps (InPart sizes v.known b l n) (InPart sizes v.known b l (n + 1))
+    pub part_free : (n : ℕ) (ps : List (K × ℕ)) → value_in sizes block n ≡ free
+        → ListsPairs g ps (InPart sizes known b e block n) → ListsPairs g ps (InPart sizes known b e block (n + 1))
+    part_free n ps empty = lists_same ps (InPart sizes known b e block n) (InPart sizes known b e block (n + 1))
         (λ key value h. elim h [ inl low ↦ inl low | inr here ↦ inr (further n key value here) ])
         (λ key value h. elim h [
           | inl low ↦ inl low
           | inr here ↦ elim (before n key value here) [
             | inl low ↦ inr low
-            | inr (at, is) ↦ absurd (at.pair.1 (ap (value_in sizes l.now) is ∙ empty))
+            | inr (at, is) ↦ absurd (at.pair.1 (ap (value_in sizes block) is ∙ empty))
           ]
         ])
 
-    module _ (word : ℕ) (has : HasLock sizes v b word l) where
-      here_home : (key : List ℕ) (value : ℕ) → get (map_in v.known b) key ≡ Some value → bucket_of sizes key ≡ b
-      here_home key value h = key_home sizes b (opening_at v.known b) (known_at v.known b) key value has.writes h
+    module _ (has : IsBlockIn sizes known b e block) where
+      here_home : (key : List ℕ) (value : ℕ) → get (map_in known b) key ≡ Some value → bucket_of sizes key ≡ b
+      here_home key value h = key_home sizes b (opening_at known b) (known_at known b) key value has.writes h
 
-      at_place : (i : ℕ) (key : List ℕ) → HasPair sizes l.extent l.now i → key_in sizes l.now i ≡ key
-          → get (map_in v.known b) key ≡ Some (value_in sizes l.now i)
+      at_place : (i : ℕ) (key : List ℕ) → HasPair sizes e block i → key_in sizes block i ≡ key
+          → get (map_in known b) key ≡ Some (value_in sizes block i)
       at_place i key pair stands =
-          subst (λ (k : List ℕ). get (map_in v.known b) k ≡ Some (value_in sizes l.now i)) stands (has.pairs.mapped i pair)
+          subst (λ (k : List ℕ). get (map_in known b) k ≡ Some (value_in sizes block i)) stands (has.pairs.mapped i pair)
 
       -- no pair so far has the key of the next place
-      is_new : (n : ℕ) (p : K × ℕ) → IsPairAt g sizes l.extent l.now n p → (value : ℕ)
-          → InPart sizes v.known b l n (g.words_of p.0) value → ⊥
+      is_new : (n : ℕ) (p : K × ℕ) → IsPairAt g sizes e block n p → (value : ℕ)
+          → InPart sizes known b e block n (g.words_of p.0) value → ⊥
       is_new n p at value (inl low) =
-          let here = here_home (g.words_of p.0) (value_in sizes l.now n) (at_place n (g.words_of p.0) at.pair (sym at.key)) in
+          let here = here_home (g.words_of p.0) (value_in sizes block n) (at_place n (g.words_of p.0) at.pair (sym at.key)) in
           let other = low.0 in omega arith
       is_new n p at value (inr here) =
           let same = has.pairs.once here.place n here.pair at.pair (here.stands ∙ at.key) in let low = here.below in omega arith
 
-      pub part_more : (n : ℕ) (p : K × ℕ) (ps : List (K × ℕ)) → IsPairAt g sizes l.extent l.now n p
-          → ListsPairs g ps (InPart sizes v.known b l n) → ListsPairs g (ps ++ p ∷ []) (InPart sizes v.known b l (n + 1))
+      pub part_more : (n : ℕ) (p : K × ℕ) (ps : List (K × ℕ)) → IsPairAt g sizes e block n p
+          → ListsPairs g ps (InPart sizes known b e block n) → ListsPairs g (ps ++ p ∷ []) (InPart sizes known b e block (n + 1))
       part_more n p ps at so_far =
-          lists_same (ps ++ p ∷ []) (With p (InPart sizes v.known b l n)) (InPart sizes v.known b l (n + 1))
+          lists_same (ps ++ p ∷ []) (With p (InPart sizes known b e block n)) (InPart sizes known b e block (n + 1))
           (λ key value h. elim h [
             | inl (inl low) ↦ inl low
             | inl (inr here) ↦ inr (further n key value here)
@@ -166,19 +164,19 @@ module _ {A K : Type 0} (g : Ghosts A K) where
             | inr here ↦ elim (before n key value here) [
               | inl low ↦ inl (inr low)
               | inr (late, is) ↦ inr (
-                at.key ∙ (ap (key_in sizes l.now) (sym is) ∙ late.stands),
-                at.value ∙ (ap (value_in sizes l.now) (sym is) ∙ late.has),
+                at.key ∙ (ap (key_in sizes block) (sym is) ∙ late.stands),
+                at.value ∙ (ap (value_in sizes block) (sym is) ∙ late.has),
               )
             ]
           ])
-          (lists_more ps (InPart sizes v.known b l n) p so_far (is_new n p at))
+          (lists_more ps (InPart sizes known b e block n) p so_far (is_new n p at))
 
       -- all places of the block give the bucket
-      pub part_all : (ps : List (K × ℕ)) → ((c : ℕ) (key : List ℕ) (value : ℕ) → c < b → get (map_in v.known c) key ≡ Some value
-          → bucket_of sizes key ≡ c) → ListsPairs g ps (InPart sizes v.known b l (places l.extent.page l.extent.log2))
-          → ListsBuckets g v.known (b + 1) ps
+      pub part_all : (ps : List (K × ℕ)) → ((c : ℕ) (key : List ℕ) (value : ℕ) → c < b → get (map_in known c) key ≡ Some value
+          → bucket_of sizes key ≡ c) → ListsPairs g ps (InPart sizes known b e block (places e.page e.log2))
+          → ListsBuckets g known (b + 1) ps
       part_all ps homes so_far = record {
-        pairs = lists_same ps (InPart sizes v.known b l (places l.extent.page l.extent.log2)) (InBucketsBelow sizes v.known (b + 1))
+        pairs = lists_same ps (InPart sizes known b e block (places e.page e.log2)) (InBucketsBelow sizes known (b + 1))
             (λ key value h. elim h [
               | inl low ↦ (let l = low.0 in omega arith, low.1)
               | inr here ↦ in_bucket key value (at_place here.place key here.pair here.stands ∙ ap Some here.has)
@@ -186,22 +184,22 @@ module _ {A K : Type 0} (g : Ghosts A K) where
             (λ key value h. elim (cases_lt (bucket_of sizes key) b) [
               | inl low ↦ inl (low, h.1)
               | inr high ↦ inr (in_place key value (let l = h.0 in let is : bucket_of sizes key ≡ b = omega arith in
-                  subst (λ (c : ℕ). get (map_in v.known c) key ≡ Some value) is h.1))
+                  subst (λ (c : ℕ). get (map_in known c) key ≡ Some value) is h.1))
             ])
             so_far;
         home = λ c key value low h. elim (cases_lt c b) [
           | inl less ↦ homes c key value less h
           | inr high ↦ let is : c ≡ b = omega arith in
-              here_home key value (subst (λ (n : ℕ). get (map_in v.known n) key ≡ Some value) is h) ∙ sym is
+              here_home key value (subst (λ (n : ℕ). get (map_in known n) key ≡ Some value) is h) ∙ sym is
         ];
       }
         where
-          in_bucket : (key : List ℕ) (value : ℕ) → get (map_in v.known b) key ≡ Some value → InBucketsBelow sizes v.known (b + 1) key value
+          in_bucket : (key : List ℕ) (value : ℕ) → get (map_in known b) key ≡ Some value → InBucketsBelow sizes known (b + 1) key value
           in_bucket key value h = let home = here_home key value h in
-              (omega arith, subst (λ (c : ℕ). get (map_in v.known c) key ≡ Some value) (sym home) h)
+              (omega arith, subst (λ (c : ℕ). get (map_in known c) key ≡ Some value) (sym home) h)
 
-          in_place : (key : List ℕ) (value : ℕ) → get (map_in v.known b) key ≡ Some value
-              → InPlacesBelow sizes l.extent l.now (places l.extent.page l.extent.log2) key value
+          in_place : (key : List ℕ) (value : ℕ) → get (map_in known b) key ≡ Some value
+              → InPlacesBelow sizes e block (places e.page e.log2) key value
           in_place key value h = let found = has.pairs.found key value h in record {
             place = found.0;
             below = found.1.0;

@@ -30,7 +30,7 @@ learned_same writes b h same =
     ∙ (ap (λ (x : List Write). set writes b x) same ∙ set-get_or writes b []))
 
 module _ (z : Sizes) (v w : View) (b word : ℕ) where
-  locked_known : IsLocked z v w b word → known_at w.known b ≡ known_at v.known b → w.known ≡ v.known
+  pub locked_known : IsLocked z v w b word → known_at w.known b ≡ known_at v.known b → w.known ≡ v.known
   locked_known s whole =
       let is : w.known ≡ record v.known { writes = set v.known.writes b s.history } = ap (λ (x : View). x.known) s.is in
       is ∙ ap (λ (ws : List (List Write)). record v.known { writes = ws })

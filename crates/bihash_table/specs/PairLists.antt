@@ -1,16 +1,16 @@
 -- Lists of the pairs that were read so far.
-use Rattle.std.specs.Prelude.{◌≡◌, ℕ, ◌⊎◌, ◌<◌, List, Contains, Some}
+use Rattle.std.specs.Prelude.{◌≡◌, ℕ, ◌+◌, ◌⊎◌, ◌<◌, List, Contains, Some}
 use Rattle.std.specs.FinMap.{get}
 use Rattle.std.specs.List.{IsDistinct}
 use Rattle.std.specs.Ordering.{eq_by_cmp, nat_cmp}
 use Rattle.std.specs.Cmp.Lexicographic.{slice_cmp}
 use Rattle.bihash_words.specs.Sizes.{Sizes, sizes_of}
 use Rattle.bihash_words.specs.declared.shape.Shape.{Ghosts}
-use Rattle.bihash_steps.specs.Histories.{bucket_of}
-use Rattle.bihash_steps.specs.Blocks.{key_in, value_in, HasPair}
+use Rattle.bihash_steps.specs.Histories.{IsWriteList, bucket_of}
+use Rattle.bihash_steps.specs.Callers.{known_at, opening_at}
+use Rattle.bihash_steps.specs.Blocks.{key_in, value_in, HasPair, IsBlockOf}
 use Rattle.bihash_steps.specs.declared.view.Extent.{Extent}
 use Rattle.bihash_steps.specs.declared.view.Known.{Known}
-use Rattle.bihash_steps.specs.declared.view.LockedBucket.{LockedBucket}
 use Rattle.bihash_steps.specs.declared.view.View.{View}
 use Rattle.bihash_table.specs.Answers.{with_locks}
 use Rattle.bihash_table.specs.Closing.{keys_of, map_in}
@@ -41,8 +41,23 @@ pub record InPlacesBelow (z : Sizes) (e : Extent) (block : List ℕ) (n : ℕ) (
   pub has : value_in z block place ≡ value
 
 -- those of the buckets below b, and those of the places below n of the block of b
-abbrev pub InPart : Sizes → Known → ℕ → LockedBucket → ℕ → List ℕ → ℕ → Type 0
-InPart z known b l n key value = InBucketsBelow z known b key value ⊎ InPlacesBelow z l.extent l.now n key value
+abbrev pub InPart : Sizes → Known → ℕ → Extent → List ℕ → ℕ → List ℕ → ℕ → Type 0
+InPart z known b e block n key value = InBucketsBelow z known b key value ⊎ InPlacesBelow z e block n key value
+
+-- the block of bucket b, as far as its writes are known
+pub record IsBlockIn (z : Sizes) (known : Known) (b : ℕ) (e : Extent) (block : List ℕ) : Type 0 where
+  pub pairs : IsBlockOf z e block (map_in known b)
+  pub writes : IsWriteList z b (opening_at known b) (known_at known b)
+
+-- To a list of the pairs of the buckets before that of the block, those of its places below n were added.
+abbrev pub AddsPlaces : {A K : Type 0} → Ghosts A K → ℕ → Extent → List ℕ → List (K × ℕ) → List (K × ℕ) → Type 0
+AddsPlaces g n e block old new = (known : Known) (b : ℕ) → IsBlockIn (sizes_of g) known b e block → ListsBuckets g known b old
+    → ListsPairs g new (InPart (sizes_of g) known b e block n)
+
+-- all of them were added
+abbrev pub AddsBlock : {A K : Type 0} → Ghosts A K → Extent → List ℕ → List (K × ℕ) → List (K × ℕ) → Type 0
+AddsBlock g e block old new = (known : Known) (b : ℕ) → IsBlockIn (sizes_of g) known b e block → ListsBuckets g known b old
+    → ListsBuckets g known (b + 1) new
 
 -- the pair stands at this place of a block
 pub record IsPairAt {A K : Type 0} (g : Ghosts A K) (z : Sizes) (e : Extent) (block : List ℕ) (place : ℕ) (p : K × ℕ) : Type 0 where

@@ -1,31 +1,27 @@
 //! The end of a table: all its pairs, in the order of their keys.
-ghost use Rattle.std.specs.Prelude.{◌≡◌, ◌+◌, ◌<◌, ◌≤◌, true, IfOk, IfErr, IfSome, IfNone, IsPermutation};
+ghost use Rattle.std.specs.Prelude.{◌≡◌, ◌+◌, ◌<◌, ◌≤◌, List, ℕ, true, IfOk, IfErr, IsPermutation};
 ghost use Rattle.std.specs.Ordering.{is_lt, nat_cmp};
 ghost use Rattle.std.specs.Cmp.Lexicographic.{slice_cmp};
 ghost use Rattle.std.specs.List.Sorted.{IsSortedBy};
 ghost use Rattle.bihash_words.specs.Sizes.{sizes_of};
-ghost use Rattle.bihash_words.specs.Words.{Bucket, Fits, packed};
 ghost use Rattle.bihash_steps.specs.Words.{buckets};
-ghost use Rattle.bihash_steps.specs.Blocks.{places, key_in, value_in, free};
 ghost use Rattle.bihash_steps.specs.Callers.{IsLawfulCaller};
 ghost use Rattle.bihash_steps.specs.Views.{nothing_held};
 ghost use Rattle.bihash_steps.specs.Seats.{with_view};
-ghost use Rattle.bihash_steps.specs.declared.view.LockedBucket.{LockedBucket};
-ghost use Rattle.bihash_table.specs.Locked.{HasLock};
+ghost use Rattle.bihash_steps.specs.declared.view.Extent.{Extent};
+ghost use Rattle.bihash_table.specs.OpenReads.{NotesBlock, Saw};
 ghost use Rattle.bihash_table.specs.Closing.{ArePairsOf, IsCloseRefused};
-ghost use Rattle.bihash_table.specs.PairLists.{ListsBuckets, IsPairAt, TookLocks};
+ghost use Rattle.bihash_table.specs.PairLists.{AddsBlock, ListsBuckets, TookLocks};
 
 use crate::close_fault::CloseFault;
-use crate::lock::lock;
-use crate::scan::{FREE, PAGE_PLACES, load_value, load_word};
+use crate::lock::{lock_seen, look};
+use crate::places::{FREE, place_count};
 use crate::sessions::Sessions;
+use crate::snapshot::read_place;
 use bihash_steps::{Caller, CallerSeat, Row};
 use bihash_words::{BucketWord, Shape};
 use std::alloc::{AllocError, Global};
 use std::cmp::Ordering;
-
-// The most words of a key.
-const MOST_WORDS: usize = 8;
 
 impl<S: Shape> Sessions<S> {
     /// The pairs of the table, which ends, sorted by the words of their keys, first word first.
@@ -61,129 +57,76 @@ impl<S: Shape> Sessions<S> {
 /// The pairs of all buckets, one bucket after the other.
 fn read_all<S: Shape>(
     row: &Row<S>,
-    caller: &mut CallerSeat<S>,
+    seat: &mut CallerSeat<S>,
     alloc: Global,
 ) -> Result<Vec<(S::Key, u64)>, AllocError>
-    requires own { caller.old.row ≡ row.now }
-    requires free { caller.old.view.holds ≡ nothing_held }
-    requires lone { caller.old.view.lone ≡ true }
-    requires lawful { IsLawfulCaller (sizes_of S.Shape) caller.old.view }
-    ensures same { caller.new ≡ with_view caller.old caller.new.view }
-    ensures took { TookLocks caller.old.view caller.new.view }
-    ensures lawful { IsLawfulCaller (sizes_of S.Shape) caller.new.view }
-    ensures pairs { IfOk result (λ ps. ListsBuckets ⟦<S as Shape>⟧ caller.old.view.known (buckets (sizes_of S.Shape)) ps.items) }
+    requires own { seat.old.row ≡ row.now }
+    requires free { seat.old.view.holds ≡ nothing_held }
+    requires lone { seat.old.view.lone ≡ true }
+    requires lawful { IsLawfulCaller (sizes_of S.Shape) seat.old.view }
+    ensures same { seat.new ≡ with_view seat.old seat.new.view }
+    ensures took { TookLocks seat.old.view seat.new.view }
+    ensures lawful { IsLawfulCaller (sizes_of S.Shape) seat.new.view }
+    ensures pairs { IfOk result (λ ps. ListsBuckets ⟦<S as Shape>⟧ seat.old.view.known (buckets (sizes_of S.Shape)) ps.items) }
 {
     row.is_sound();
     let mut pairs = Vec::new(alloc);
     for bucket in 0..(1usize << S::LOG2_BUCKETS) {
-        read_bucket(row, caller, bucket, &mut pairs)?;
+        read_bucket(row, seat, bucket, &mut pairs)?;
     }
     Ok(pairs)
 }
 
-/// Adds the pairs of a bucket, whose lock is taken and opened again.
+/// Adds the pairs of a bucket. A lone caller finds it as it saw it, and its lock tells so.
 fn read_bucket<S: Shape>(
     row: &Row<S>,
-    caller: &mut CallerSeat<S>,
+    seat: &mut CallerSeat<S>,
     bucket: usize,
     pairs: &mut Vec<(S::Key, u64)>,
 ) -> Result<(), AllocError>
-    requires own { caller.old.row ≡ row.now }
-    requires free { caller.old.view.holds ≡ nothing_held }
-    requires lone { caller.old.view.lone ≡ true }
+    requires own { seat.old.row ≡ row.now }
+    requires free { seat.old.view.holds ≡ nothing_held }
+    requires lone { seat.old.view.lone ≡ true }
     requires inside { bucket < buckets (sizes_of S.Shape) }
-    requires pairs { ListsBuckets ⟦<S as Shape>⟧ caller.old.view.known bucket pairs.old.items }
-    ensures same { caller.new ≡ with_view caller.old caller.new.view }
-    ensures took { TookLocks caller.old.view caller.new.view }
-    ensures lawful { IsLawfulCaller (sizes_of S.Shape) caller.new.view }
-    ensures pairs { IfOk result (λ _. ListsBuckets ⟦<S as Shape>⟧ caller.old.view.known (bucket + 1) pairs.new.items) }
+    requires pairs { ListsBuckets ⟦<S as Shape>⟧ seat.old.view.known bucket pairs.old.items }
+    ensures same { seat.new ≡ with_view seat.old seat.new.view }
+    ensures took { TookLocks seat.old.view seat.new.view }
+    ensures lawful { IsLawfulCaller (sizes_of S.Shape) seat.new.view }
+    ensures pairs { IfOk result (λ _. ListsBuckets ⟦<S as Shape>⟧ seat.old.view.known (bucket + 1) pairs.new.items) }
 {
-    let Some(word) = lock(row, caller, bucket) else {
+    let Some(word) = look(row, seat, bucket) else {
         unreachable!()
     };
-    let read = read_places(row, caller, bucket, word, pairs);
-    row.release(caller, bucket, word);
+    let read = read_pairs(row, seat, word, pairs);
+    if !lock_seen(row, seat, bucket, word) {
+        unreachable!()
+    }
+    row.release(seat, bucket, word);
     read
 }
 
-/// Adds the pairs of the block that the caller has locked.
-fn read_places<S: Shape>(
+/// Adds the pairs of the open bucket's block.
+fn read_pairs<S: Shape>(
     row: &Row<S>,
-    caller: &mut CallerSeat<S>,
-    bucket: usize,
+    seat: &mut CallerSeat<S>,
     word: BucketWord,
     pairs: &mut Vec<(S::Key, u64)>,
 ) -> Result<(), AllocError>
-    requires own { caller.old.row ≡ row.now }
-    requires lock { (l : LockedBucket) × HasLock (sizes_of S.Shape) caller.old.view bucket word l }
-    requires pairs { ListsBuckets ⟦<S as Shape>⟧ caller.old.view.known bucket pairs.old.items }
-    ensures same { caller.new ≡ caller.old }
-    ensures pairs { IfOk result (λ _. ListsBuckets ⟦<S as Shape>⟧ caller.old.view.known (bucket + 1) pairs.new.items) }
-{
-    for place in 0..place_count(word) {
-        if let Some(pair) = read_place(row, caller, bucket, word, place) {
-            pairs.push(pair)?;
-        }
-    }
-    Ok(())
-}
-
-/// How many places the block of a bucket has.
-fn place_count(word: BucketWord) -> usize
-    requires { (x : Bucket) × Fits x × (word ≡ packed x) }
-    ensures { (x : Bucket) → Fits x → word ≡ packed x → result ≡ places x.page x.log2 }
-{
-    if word.page() == 0 {
-        return 0;
-    }
-    PAGE_PLACES << word.log2()
-}
-
-/// The pair at a place of the block that the caller has locked, None where the place is free.
-fn read_place<S: Shape>(
-    row: &Row<S>,
-    caller: &mut CallerSeat<S>,
-    bucket: usize,
-    word: BucketWord,
-    place: usize,
-) -> Option<(S::Key, u64)>
-    requires own { caller.old.row ≡ row.now }
-    requires lock { (l : LockedBucket) × HasLock (sizes_of S.Shape) caller.old.view bucket word l
-        × (place < places l.extent.page l.extent.log2) }
-    ensures same { caller.new ≡ caller.old }
-    ensures pair { IfSome result (λ p. (l : LockedBucket) → HasLock (sizes_of S.Shape) caller.old.view bucket word l
-        → IsPairAt ⟦<S as Shape>⟧ (sizes_of S.Shape) l.extent l.now place p) }
-    ensures free { IfNone result ((l : LockedBucket) → HasLock (sizes_of S.Shape) caller.old.view bucket word l
-        → value_in (sizes_of S.Shape) l.now place ≡ free) }
-{
-    let value = load_value(row, caller, bucket, word, place);
-    if value == FREE {
-        return None;
-    }
-    Some((read_key(row, caller, bucket, word, place), value))
-}
-
-/// The key at a place of the block that the caller has locked.
-fn read_key<S: Shape>(
-    row: &Row<S>,
-    caller: &mut CallerSeat<S>,
-    bucket: usize,
-    word: BucketWord,
-    place: usize,
-) -> S::Key
-    requires own { caller.old.row ≡ row.now }
-    requires lock { (l : LockedBucket) × HasLock (sizes_of S.Shape) caller.old.view bucket word l
-        × (place < places l.extent.page l.extent.log2) }
-    ensures same { caller.new ≡ caller.old }
-    ensures key { (l : LockedBucket) → HasLock (sizes_of S.Shape) caller.old.view bucket word l
-        → S.words_of result ≡ key_in (sizes_of S.Shape) l.now place }
+    requires own { seat.old.row ≡ row.now }
+    requires open { (e : Extent) × NotesBlock (sizes_of S.Shape) seat.old.view word e }
+    ensures same { seat.new ≡ with_view seat.old seat.new.view }
+    ensures saw { Saw seat.old.view seat.new.view (λ e block.
+        IfOk result (λ _. AddsBlock ⟦<S as Shape>⟧ e block pairs.old.items pairs.new.items)) }
 {
     row.is_sound();
-    let mut words = [0u64; MOST_WORDS];
-    for k in 0..S::WORDS {
-        words[k] = load_word(row, caller, bucket, word, place, k);
+    for place in 0..place_count::<S>(word) {
+        let pair = read_place(row, seat, word, place);
+        if pair.1 == FREE {
+            continue;
+        }
+        pairs.push(pair)?;
     }
-    S::key(&words[..S::WORDS])
+    Ok(())
 }
 
 /// Sorts pairs by the words of their keys, in place.

@@ -12,7 +12,6 @@ mod lock;
 mod pages;
 mod places;
 mod reads;
-mod scan;
 mod search;
 mod sessions;
 mod site;

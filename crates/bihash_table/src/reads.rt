@@ -7,7 +7,7 @@ ghost use Rattle.bihash_steps.specs.Blocks.{places};
 ghost use Rattle.bihash_steps.specs.Seats.{with_view};
 ghost use Rattle.bihash_steps.specs.declared.view.Extent.{Extent};
 ghost use Rattle.bihash_table.specs.Scans.{IsWordOf, AreOpenTo};
-ghost use Rattle.bihash_table.specs.OpenReads.{NotesBlock, Saw, LastWordTells, AreMarks, IsValueAt, IsPairAmong, IsPairIn, IsFirstFreeIn, OtherPairTells};
+ghost use Rattle.bihash_table.specs.OpenReads.{NotesBlock, Saw, LastWordTells, AreMarks, IsValueAt, IsPairAmong, IsPairIn, IsFirstFreeIn, OtherPairTells, value_of};
 
 use crate::places::{FREE, PAGE_PLACES, page_count, place_count};
 use crate::site::Site;
@@ -36,6 +36,14 @@ pub(crate) fn find_pair<S: Shape>(
         }
     }
     None
+}
+
+/// The value of the pair that was found.
+pub(crate) fn value_found(pair: Option<(usize, u64)>) -> Option<u64>
+    ensures { result ≡ value_of pair }
+{
+    let (_, value) = pair?;
+    Some(value)
 }
 
 /// The first free place that is open to the key in the block of the open bucket.
@@ -109,6 +117,7 @@ pub(crate) fn load_word<S: Shape>(
 fn open_pages<S: Shape>(word: BucketWord, site: &Site<'_, S>) -> (usize, usize)
     requires sound { IsSound (sizes_of S.Shape) }
     requires block { (e : Extent) × IsWordOf (sizes_of S.Shape) word e }
+    ensures order { result.0 ≤ result.1 }
     ensures few { result.1 ≤ 2 ^ 24 }
     ensures pages { (e : Extent) → IsWordOf (sizes_of S.Shape) word e
         → AreOpenTo (sizes_of S.Shape) e (S.words_of site.now.key.now) (4 * result.0) (4 * result.1) }
@@ -153,8 +162,10 @@ fn pair_in_page<S: Shape>(
     if let Some(value) = value_where(row, seat, word, first + 2, c, site) {
         return Some((first + 2, value));
     }
-    let value = value_where(row, seat, word, first + 3, d, site)?;
-    Some((first + 3, value))
+    if let Some(value) = value_where(row, seat, word, first + 3, d, site) {
+        return Some((first + 3, value));
+    }
+    None
 }
 
 // At which of the four places of a page the last word of the key stands.

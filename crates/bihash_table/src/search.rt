@@ -9,7 +9,7 @@ ghost use Rattle.bihash_table.specs.Answers.{IsAnswered, IsTurnedAway, locks_of,
 
 use crate::contended::Contended;
 use crate::lock::look;
-use crate::reads::find_pair;
+use crate::reads::{find_pair, value_found};
 use crate::sessions::Sessions;
 use crate::site::Site;
 use bihash_steps::Caller;
@@ -37,7 +37,8 @@ impl<S: Shape> Sessions<S> {
         let Some(word) = look(&self.row, seat, site.bucket) else {
             return Err(Contended);
         };
-        let found = find_pair(&self.row, seat, word, &site).map(|pair| pair.1);
+        let pair = find_pair(&self.row, seat, word, &site);
+        let found = value_found(pair);
         let reply = Reply::Kept(found);
         if !self.row.validate(seat, site.bucket, word, key, found, Change::Keep, reply) {
             return Err(Contended);

@@ -33,6 +33,8 @@ impl<'k, S: Shape> Site<'k, S> {
     pub(crate) fn of(key: &'k S::Key) -> Site<'k, S>
         requires { IsSound (sizes_of S.Shape) }
         ensures key { result.key.now ≡ key.now }
+        ensures home { bucket_of (sizes_of S.Shape) (S.words_of key.now) ≡ result.bucket }
+        ensures counted { length (S.words_of key.now) ≡ S.WORDS }
         ensures inside { result.bucket < buckets (sizes_of S.Shape) }
     {
         let hash = S::hash(key);

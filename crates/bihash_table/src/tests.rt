@@ -3,7 +3,7 @@ ghost use Rattle.std.specs.Prelude.{◌≡◌, ℕ, IfOk};
 ghost use Rattle.std.specs.Thread.{IsSync};
 ghost use Rattle.bihash_steps.specs.Views.{nothing_held};
 
-use crate::lock::lock;
+use crate::lock::{lock_seen, look};
 use crate::{Caller, CloseFault, Contended, Sessions, SplitFault, create};
 use bihash_steps::PoolWord;
 use bihash_words::{Add, Delete, Patch, Reply, Shape, Tiny, Touch};
@@ -344,7 +344,11 @@ fn dropped_lock_holder(rt: HostRuntime) -> Result<(), Fail> {
     let Ok((mut first, mut second)) = table.split(rt.alloc(), first) else {
         return Err("the split was refused")?;
     };
-    assert!(rt; lock(&table.row, &mut second.seat, 0).is_some());
+    let seat = &mut second.seat;
+    let Some(word) = look(&table.row, seat, 0) else {
+        return Err("a bucket is locked")?;
+    };
+    assert!(rt; lock_seen(&table.row, seat, 0, word));
     drop(second);
     assert_eq!(rt; table.try_search(&mut first, &[0, 0]), Err(Contended));
     assert_eq!(rt;

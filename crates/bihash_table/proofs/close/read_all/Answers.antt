@@ -7,10 +7,10 @@ use Rattle.bihash_table.proofs.close.read_all.Goals as goal
 pub loop-bucket-init : goal.loop-bucket-init
 loop-bucket-init g c = record {
   same = refl;
-  took = took_none c.args.caller.now.view;
+  took = took_none c.args.seat.now.view;
   lawful = c.requires.lawful;
-  pairs = subst (ListsBuckets g.S.Shape c.args.caller.now.view.known 0) (sym c.new-pairs.ensures.items)
-      (buckets_none g.S.Shape c.args.caller.now.view.known);
+  pairs = subst (ListsBuckets g.S.Shape c.args.seat.now.view.known 0) (sym c.new-pairs.ensures.items)
+      (buckets_none g.S.Shape c.args.seat.now.view.known);
 }
 
 pub returns-clause-pairs : goal.returns-clause-pairs
@@ -23,5 +23,5 @@ returns-clause-pairs g c =
     let end = c.loop-bucket-test.false in
     let n : ℕ = 2 ^ c.LOG2_BUCKETS.result in
     let all : c.loop-bucket.bucket ≡ n = omega arith in
-    subst (λ (m : ℕ). ListsBuckets g.S.Shape c.args.caller.now.view.known m c.loop-bucket.pairs.items)
+    subst (λ (m : ℕ). ListsBuckets g.S.Shape c.args.seat.now.view.known m c.loop-bucket.pairs.items)
     (all ∙ ap (λ (k : ℕ). 2 ^ k) log2) c.loop-bucket.invariant.pairs

@@ -8,8 +8,8 @@ use Rattle.bihash_table.proofs.close.read_all.Given as goal
 
 abbrev pub invariant-loop-bucket : goal.invariant-loop-bucket
 invariant-loop-bucket g l = record {
-  same : l.caller ≡ with_view l.initial.caller l.caller.view;
-  took : TookLocks l.initial.caller.view l.caller.view;
-  lawful : IsLawfulCaller (sizes_of g.S.Shape) l.caller.view;
-  pairs : ListsBuckets g.S.Shape l.initial.caller.view.known l.bucket l.pairs.items;
+  same : l.seat ≡ with_view l.initial.seat l.seat.view;
+  took : TookLocks l.initial.seat.view l.seat.view;
+  lawful : IsLawfulCaller (sizes_of g.S.Shape) l.seat.view;
+  pairs : ListsBuckets g.S.Shape l.initial.seat.view.known l.bucket l.pairs.items;
 }

@@ -1,15 +1,26 @@
-use Rattle.std.proofs.Common.{◌≡◌, ◌∙◌, sym, ap, subst}
+use Rattle.std.proofs.Common.{◌≡◌, sym, ap, subst}
 use Rattle.bihash_words.specs.Sizes.{sizes_of}
 use Rattle.bihash_steps.specs.BucketSteps.{unlocked}
 use Rattle.bihash_steps.specs.Seats.{CallerState}
 use Rattle.bihash_table.specs.PairLists.{TookLocks}
-use Rattle.bihash_table.proofs.TakenLocks.{took_lock}
+use Rattle.bihash_table.proofs.Sights.{seen_first}
+use Rattle.bihash_table.proofs.Closings.{took_read, bucket_if_ok}
 use Rattle.bihash_table.proofs.close.read_bucket.Goals as goal
+
+pub read_pairs-read-requires-clause-open : goal.read_pairs-read-requires-clause-open
+read_pairs-read-requires-clause-open g c = (c.in-Some.ensures.opened.has.extent, c.in-Some.ensures.opened.has.block)
+
+pub lock_seen-requires-clause-seen : goal.lock_seen-requires-clause-seen
+lock_seen-requires-clause-seen g c =
+    (seen_first (sizes_of g.S.Shape) _ _ _ _ c.read_pairs-read.ensures.saw c.in-Some.ensures.opened.has).seen
 
 pub returns-clause-took : goal.returns-clause-took
 returns-clause-took g c =
-    let v = c.args.caller.now.view in
-    let is : c.release.new.caller.view ≡ unlocked c.lock.new.caller.view =
-    ap (λ (s : CallerState). s.view) c.release.ensures.view ∙ ap (λ (s : CallerState). unlocked s.view) c.read_places-read.ensures.same in
-    subst (TookLocks v) (sym is) (took_lock (sizes_of g.S.Shape) v c.lock.new.caller.view c.args.bucket _ c.requires.free c.in-Some.ensures.locked
-    (c.lock.ensures.whole c.requires.lone))
+    let v = c.args.seat.now.view in
+    let is : c.release.new.caller.view ≡ unlocked c.lock_seen.new.seat.view = ap (λ (s : CallerState). s.view) c.release.ensures.view in
+    subst (TookLocks v) (sym is) (took_read (sizes_of g.S.Shape) v _ _ _ _ _ c.requires.lone c.in-Some.ensures.opened
+    c.read_pairs-read.ensures.saw (c.lock_seen.ensures.locked c.if-not-lock_seen.false) c.requires.free)
+
+pub returns-clause-pairs : goal.returns-clause-pairs
+returns-clause-pairs g c = bucket_if_ok g.S.Shape c.args.seat.now.view _ _ _ _ _ _ _ c.read_pairs-read.result c.requires.lone c.in-Some.ensures.opened
+    c.read_pairs-read.ensures.saw (c.lock_seen.ensures.locked c.if-not-lock_seen.false) c.requires.pairs

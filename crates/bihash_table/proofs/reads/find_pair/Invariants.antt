@@ -9,5 +9,5 @@ use Rattle.bihash_table.proofs.reads.find_pair.Given as goal
 abbrev pub invariant-loop-page : goal.invariant-loop-page
 invariant-loop-page g l = record {
   same : l.seat ≡ with_view l.initial.seat l.seat.view;
-  none_yet : Saw l.initial.seat.view l.seat.view (NoneAmong (sizes_of g.S.Shape) (g.S.Shape.words_of l.site.key) (4 * l.from) (4 * l.page));
+  none_yet : Saw l.initial.seat.view l.seat.view (NoneAmong (sizes_of g.S.Shape) (g.S.Shape.words_of l.site.key.now) (4 * l.from) (4 * l.page));
 }

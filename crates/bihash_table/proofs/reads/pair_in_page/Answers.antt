@@ -1,6 +1,6 @@
 use Rattle.std.proofs.Common.{refl, ◌+◌, ◌*◌, ℕ, arith}
 use Rattle.bihash_words.specs.Sizes.{sizes_of}
-use Rattle.bihash_table.proofs.LookedAt.{no_marks, none_yet, none_more, value_there, value_last}
+use Rattle.bihash_table.proofs.LookedAt.{no_marks, none_yet, none_more, pair_there, none_there}
 use Rattle.bihash_table.proofs.Seeing.{still_noted}
 use Rattle.bihash_table.proofs.reads.pair_in_page.Goals as goal
 
@@ -18,7 +18,7 @@ returns-in-Some-clause-saw g c =
     let key = g.S.Shape.words_of c.args.site.now.key.now in
     let first : ℕ = 4 * c.args.page in
     let m = c.marks-a.result in
-    value_there z key first m _ _ _ first 0 m.0 (omega arith) (λ e block a. a.0)
+    pair_there z key first m _ _ _ first 0 m.0 (omega arith) (λ e block a. a.0)
     (none_yet z key first m _ _ c.marks-a.ensures.saw) c.in-Some.value first (4 * (c.args.page + 1)) c.in-Some.ensures.saw
 
 pub value_where-requires-2-clause-open : goal.value_where-requires-2-clause-open
@@ -32,7 +32,7 @@ returns-in-Some-value_where-clause-saw g c =
     let key = g.S.Shape.words_of c.args.site.now.key.now in
     let first : ℕ = 4 * c.args.page in
     let m = c.marks-a.result in
-    value_there z key first m _ _ _ (first + 1) 1 m.1 (omega arith) (λ e block a. a.1)
+    pair_there z key first m _ _ _ (first + 1) 1 m.1 (omega arith) (λ e block a. a.1)
     (none_more z key first m _ _ _ first 0 m.0 (omega arith) (λ e block a. a.0)
     (none_yet z key first m _ _ c.marks-a.ensures.saw) c.in_default.ensures.saw) c.in-Some-value_where.value first (4 * (c.args.page + 1)) c.in-Some-value_where.ensures.saw
 
@@ -48,7 +48,7 @@ returns-in-Some-value_where-2-clause-saw g c =
     let key = g.S.Shape.words_of c.args.site.now.key.now in
     let first : ℕ = 4 * c.args.page in
     let m = c.marks-a.result in
-    value_there z key first m _ _ _ (first + 2) 2 m.2 (omega arith) (λ e block a. a.2)
+    pair_there z key first m _ _ _ (first + 2) 2 m.2 (omega arith) (λ e block a. a.2)
     (none_more z key first m _ _ _ (first + 1) 1 m.1 (omega arith) (λ e block a. a.1)
     (none_more z key first m _ _ _ first 0 m.0 (omega arith) (λ e block a. a.0)
     (none_yet z key first m _ _ c.marks-a.ensures.saw) c.in_default.ensures.saw) c.in_default-value_where.ensures.saw) c.in-Some-value_where-2.value first (4 * (c.args.page + 1)) c.in-Some-value_where-2.ensures.saw
@@ -60,14 +60,26 @@ value_where-requires-4-clause-open g c = let o = c.requires.open in let room = o
     (still_noted (sizes_of g.S.Shape) _ _ _ _ c.in_default.ensures.saw
     (still_noted (sizes_of g.S.Shape) _ _ _ _ c.marks-a.ensures.saw o.1))), omega arith)
 
+pub returns-in-Some-value_where-3-clause-saw : goal.returns-in-Some-value_where-3-clause-saw
+returns-in-Some-value_where-3-clause-saw g c =
+    let z = sizes_of g.S.Shape in
+    let key = g.S.Shape.words_of c.args.site.now.key.now in
+    let first : ℕ = 4 * c.args.page in
+    let m = c.marks-a.result in
+    pair_there z key first m _ _ _ (first + 3) 3 m.3 (omega arith) (λ e block a. a.3)
+    (none_more z key first m _ _ _ (first + 2) 2 m.2 (omega arith) (λ e block a. a.2)
+    (none_more z key first m _ _ _ (first + 1) 1 m.1 (omega arith) (λ e block a. a.1)
+    (none_more z key first m _ _ _ first 0 m.0 (omega arith) (λ e block a. a.0)
+    (none_yet z key first m _ _ c.marks-a.ensures.saw) c.in_default.ensures.saw) c.in_default-value_where.ensures.saw) c.in_default-value_where-2.ensures.saw) c.in-Some-value_where-3.value first (4 * (c.args.page + 1)) c.in-Some-value_where-3.ensures.saw
+
 pub returns-clause-saw : goal.returns-clause-saw
 returns-clause-saw g c =
     let z = sizes_of g.S.Shape in
     let key = g.S.Shape.words_of c.args.site.now.key.now in
     let first : ℕ = 4 * c.args.page in
     let m = c.marks-a.result in
-    value_last z key first m _ _ _ (first + 3) 3 m.3 (omega arith) (λ e block a. a.3)
+    none_there z key first m _ _ _ (first + 3) 3 m.3 (omega arith) (λ e block a. a.3)
     (none_more z key first m _ _ _ (first + 2) 2 m.2 (omega arith) (λ e block a. a.2)
     (none_more z key first m _ _ _ (first + 1) 1 m.1 (omega arith) (λ e block a. a.1)
     (none_more z key first m _ _ _ first 0 m.0 (omega arith) (λ e block a. a.0)
-    (none_yet z key first m _ _ c.marks-a.ensures.saw) c.in_default.ensures.saw) c.in_default-value_where.ensures.saw) c.in_default-value_where-2.ensures.saw) _ first (4 * (c.args.page + 1)) refl (omega arith) c.value_where-4.ensures.saw
+    (none_yet z key first m _ _ c.marks-a.ensures.saw) c.in_default.ensures.saw) c.in_default-value_where.ensures.saw) c.in_default-value_where-2.ensures.saw) first (4 * (c.args.page + 1)) refl (omega arith) c.in_default-value_where-3.ensures.saw

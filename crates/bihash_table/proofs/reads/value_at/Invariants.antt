@@ -9,5 +9,5 @@ use Rattle.bihash_table.proofs.reads.value_at.Given as goal
 abbrev pub invariant-loop-i : goal.invariant-loop-i
 invariant-loop-i g l = record {
   same : l.seat ≡ with_view l.initial.seat l.seat.view;
-  words : Saw l.initial.seat.view l.seat.view (λ _ block. SameTo (sizes_of g.S.Shape) block l.place (g.S.Shape.words_of l.site.key) l.i);
+  words : Saw l.initial.seat.view l.seat.view (λ _ block. SameTo (sizes_of g.S.Shape) block l.place (g.S.Shape.words_of l.site.key.now) l.i);
 }

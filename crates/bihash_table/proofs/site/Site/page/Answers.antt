@@ -9,4 +9,4 @@ returns-clause-inside g c =
     let some_page = pow_pos c.args.log2 in
     let pages : ℕ = 1 * 2 ^ c.args.log2 % 18446744073709551616 in
     let is : 0 < pages = omega arith in
-    let low : c.args.hash / 2 ^ c.LOG2_BUCKETS.result % pages < pages = mod-lt (c.args.hash / 2 ^ c.LOG2_BUCKETS.result) is in omega arith
+    let low : c.args.self.now.page_bits % pages < pages = mod-lt c.args.self.now.page_bits is in omega arith
