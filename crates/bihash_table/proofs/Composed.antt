@@ -142,14 +142,6 @@ module _ (z : Sizes) (v u w : View) where
       → IsUpdated z u w key decision reply → IsUpdated z v w key decision reply
   ahead_updated b key decision reply home s t = record { found = t.found; answered = ahead_answered b _ home s t.answered }
 
-  -- ---- What was locked and then answered was answered
-
-  pub locked_answered : (b word : ℕ) (e : Event) → bucket_of z e.key ≡ b → IsLocked z v u b word → IsAnswered z u w e → IsAnswered z v w e
-  locked_answered b word e home s = ahead_answered b e home (locked_ahead z v u b word s)
-
-  pub locked_turned_away : (b word : ℕ) → IsLocked z v u b word → IsTurnedAway z u w b → IsTurnedAway z v w b
-  locked_turned_away b word s = ahead_turned_away b (locked_ahead z v u b word s)
-
   -- ---- What was turned away, and tried again
 
   pub again_turned_away : (b : ℕ) → IsTurnedAway z v u b → IsTurnedAway z u w b → IsTurnedAway z v w b
@@ -183,15 +175,6 @@ abbrev pub TellsLocked : ℕ → Bool → Type 0
 TellsLocked word locked = (x : Bucket) → Fits x → word ≡ packed x → locked ≡ x.locked
 
 module _ (z : Sizes) (v u : View) (b word : ℕ) where
-  pub open_unlocked : SeesOpen z v b word u → (x : Bucket) × Fits x × (word ≡ packed x) × (x.locked ≡ false)
-  open_unlocked s = (word_of s.extent false (length s.history), s.found.fits, s.found.stood, refl)
-
-  pub open_lone : SeesOpen z v b word u → v.lone ≡ true → u.lone ≡ true
-  open_lone s lone = ap (λ (x : View). x.lone) s.is ∙ lone
-
-  pub open_noted : (s : SeesOpen z v b word u) → u.notes.open_bucket ≡ Some (open_on b (length s.history) s.extent s.block)
-  open_noted s = ap (λ (x : View). x.notes.open_bucket) s.is
-
   pub sees_open : (locked : Bool) → TellsLocked word locked → locked ≡ false → SeesOpen z v b word u ⊎ SeesLocked v word u
       → SeesOpen z v b word u
   sees_open locked tells is s = elim s [
@@ -222,67 +205,3 @@ module _ (z : Sizes) (v u : View) (b word : ℕ) where
     });
     alone = λ _. le_refl (length (known_at v.known b));
   }
-
-module _ (z : Sizes) (v u w : View) (b word : ℕ) (inside : b < buckets z) (free : v.holds ≡ nothing_held) (s : SeesOpen z v b word u)
-    (seen : v.lone ≡ true → known_at u.known b ≡ known_at v.known b) where
-  -- what was seen is what is known behind it
-  seen_is : known_at u.known b ≡ s.history
-  seen_is = ap (λ (x : View). known_at x.known b) s.is ∙ get_or-set_same v.known.writes b s.history [] s.found.listed
-
-  pub open_turns_away : w ≡ unnoted u → IsTurnedAway z v w b
-  open_turns_away is = let notes = ap (λ (x : View). x.notes) is in record {
-    history = s.history;
-    begins = s.found.begins;
-    locks = locks_of v.records;
-    is = is ∙ (ap unnoted s.is ∙ (λ i. record (learned v b s.history) {
-      records = sym (with_locks-locks_of v.records) i;
-      holds = free i;
-      notes = sym notes i;
-    }));
-    alone = λ lone. let same = ap length (seen lone) in let whole = ap length seen_is in omega arith;
-  }
-
-  module _ (t : TakesLock z u b word w) (held : u.lone ≡ true → known_at w.known b ≡ known_at u.known b) where
-    abbrev taken : LockedBucket
-    taken = locked_on b (length t.history) t.extent t.block
-
-    known_is : known_at w.known b ≡ t.history
-    known_is = ap (λ (x : View). known_at x.known b) t.is ∙ get_or-set_same u.known.writes b t.history [] t.found.listed
-
-    opening_is : opening_at w.known b ≡ opening_at u.known b
-    opening_is = ap (λ (x : View). opening_at x.known b) t.is
-
-    map_is : map_now w b ≡ after (opening_at u.known b) t.history (length t.history)
-    map_is = λ i. after (opening_is i) (known_is i) (length (known_is i))
-
-    nothing_before : u.holds ≡ nothing_held
-    nothing_before = ap (λ (x : View). x.holds) s.is ∙ free
-
-    has_lock : HasLock z w b word taken
-    has_lock = record {
-      inside = inside;
-      held = ap (λ (x : View). x.holds) t.is ∙ ap (λ (h : Holdings). record h { bucket = Some taken }) nothing_before;
-      bucket = refl;
-      version = ap length (sym known_is);
-      fits = t.found.fits;
-      stood = t.found.stood;
-      clean = refl;
-      near = t.found.near;
-      size = t.found.size;
-      pairs = subst (IsBlockOf z t.extent t.block) (sym map_is) t.found.pairs;
-      writes = subst (IsWriteList z b (opening_at w.known b)) (sym known_is)
-          (subst (λ (m : Pairs). IsWriteList z b m t.history) (sym opening_is) t.found.writes);
-    }
-
-    pub takes_after : IsLocked z v w b word
-    takes_after = record {
-      history = t.history;
-      begins = prefix_through v.known.writes b s.history t.history s.found.begins
-          (subst (λ (x : View). IsPrefix (known_at x.known b) t.history) s.is t.found.begins);
-      lock = taken;
-      is = t.is ∙ (ap (λ (x : View). locking (learned x b t.history) taken) s.is
-          ∙ (λ i. locking (record v { known = record v.known { writes = set-set v.known.writes b s.history t.history i } }) taken));
-      alone = λ lone. let whole = ap length known_is in let same = ap length (held (ap (λ (x : View). x.lone) s.is ∙ lone)) in
-          let before = ap length (seen lone) in omega arith;
-      has = has_lock;
-    }
