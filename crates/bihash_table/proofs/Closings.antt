@@ -57,7 +57,7 @@ module _ {A K : Type 0} (g : Ghosts A K) where
       → Saw u v (λ e block. AddsPlaces g n e block old ps) → Saw u v (λ e block. AddsBlock g e block old ps)
   added_all u v n word old ps e h all = saw_as u v (λ o noted seen known b has lists.
       let end : n ≡ places o.extent.page o.extent.log2 =
-          all ∙ ap (λ (x : Extent). places x.page x.log2) (sym (note_extent (sizes_of g) u word e o h noted)) in
+      all ∙ ap (λ (x : Extent). places x.page x.log2) (sym (note_extent (sizes_of g) u word e o h noted)) in
       part_all g known b o.extent o.block has ps lists.home
       (subst (λ (m : ℕ). ListsPairs g ps (InPart (sizes_of g) known b o.extent o.block m)) end (seen known b has lists)))
 

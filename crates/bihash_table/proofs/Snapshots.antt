@@ -60,7 +60,7 @@ module _ {A K : Type 0} (g : Ghosts A K) where
   all_places ps i word u v e h count past = saw_as u v (λ o noted read. record {
     count =
         let there : length ps ≡ places o.extent.page o.extent.log2 =
-            subst (λ (x : Extent). length ps ≡ places x.page x.log2) (sym (note_extent (sizes_of g) u word e o h noted)) count in
+        subst (λ (x : Extent). length ps ≡ places x.page x.log2) (sym (note_extent (sizes_of g) u word e o h noted)) count in
         note_size (sizes_of g) u word e o h noted ∙ words_counted (sizes_of g) o.extent.page o.extent.log2
         ∙ ap (λ (n : ℕ). n * place_words (sizes_of g)) (sym there);
     key = λ j p at. read.key j p (omega (arith, slice_get_within ps j p at)) at;

@@ -46,7 +46,15 @@ pub(crate) fn keep<S: Shape>(
     ensures tried { Tried ⟦<S as Shape>⟧ seat.old seat.new seen.now.site.bucket seen.now.site.key.now found change result }
 {
     let reply = Reply::Kept(found);
-    if !row.validate(seat, seen.site.bucket, seen.word, seen.site.key, found, change, reply) {
+    if !row.validate(
+        seat,
+        seen.site.bucket,
+        seen.word,
+        seen.site.key,
+        found,
+        change,
+        reply,
+    ) {
         return Err(Contended);
     }
     Ok(reply)
@@ -70,7 +78,15 @@ pub(crate) fn refuse<S: Shape>(
     ensures tried { Tried ⟦<S as Shape>⟧ seat.old seat.new seen.now.site.bucket seen.now.site.key.now found change result }
 {
     let reply = Reply::Worn(found);
-    if !row.validate(seat, seen.site.bucket, seen.word, seen.site.key, found, change, reply) {
+    if !row.validate(
+        seat,
+        seen.site.bucket,
+        seen.word,
+        seen.site.key,
+        found,
+        change,
+        reply,
+    ) {
         return Err(Contended);
     }
     Ok(reply)
@@ -91,7 +107,15 @@ pub(crate) fn crowd<S: Shape>(
     ensures tried { Tried ⟦<S as Shape>⟧ seat.old seat.new seen.now.site.bucket seen.now.site.key.now None (Set value) result }
 {
     let reply = Reply::Full;
-    if !row.validate(seat, seen.site.bucket, seen.word, seen.site.key, None, Change::Set(value), reply) {
+    if !row.validate(
+        seat,
+        seen.site.bucket,
+        seen.word,
+        seen.site.key,
+        None,
+        Change::Set(value),
+        reply,
+    ) {
         return Err(Contended);
     }
     Ok(reply)
@@ -176,7 +200,14 @@ pub(crate) fn remove<S: Shape>(
         return Err(Contended);
     }
     if !other {
-        return remove_last(row, seat, seen.site.bucket, seen.word, seen.site.key, pair.1);
+        return remove_last(
+            row,
+            seat,
+            seen.site.bucket,
+            seen.word,
+            seen.site.key,
+            pair.1,
+        );
     }
     Ok(vacate(
         row,

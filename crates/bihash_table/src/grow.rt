@@ -80,9 +80,12 @@ fn enter_as_planned<S: Shape>(
     row.is_sound();
     let old = &mut old[..place_count::<S>(seen.word)];
     read_block(row, seat, seen.word, old);
-    let Plan::Grow { log2, linear } =
-        plan::<S>(old, seen.word.log2(), seen.word.linear(), seen.site.key)
-    else {
+    let Plan::Grow { log2, linear } = plan::<S>(
+        old,
+        seen.word.log2(),
+        seen.word.linear(),
+        seen.site.key,
+    ) else {
         return crowd(row, seat, seen, value);
     };
     let new = &mut new[..places_of(log2)];

@@ -23,9 +23,11 @@ validate-requires-clause-may g c =
     let h = c.requires.seen in
     seen_answer z v site.bucket c.args.seen.now.word h (event key None (Set c.args.value) Full)
     (record { long = site.counted; home = sym site.home }) refl (λ log2 left e. absurd cc)
-    (λ told. let full = told (map_now v site.bucket) h.seen.pairs in
-    (map_now v site.bucket, crowds (bounds_of z) (map_now v site.bucket) (length (known_at v.known site.bucket)) key
-    c.args.value c.requires.unworn full.1 full.0))
+    (λ told. let full = told (map_now v site.bucket) h.seen.pairs in (
+      map_now v site.bucket,
+      crowds (bounds_of z) (map_now v site.bucket) (length (known_at v.known site.bucket)) key
+          c.args.value c.requires.unworn full.1 full.0,
+    ))
 
 pub returns-then-not-validate-clause-tried : goal.returns-then-not-validate-clause-tried
 returns-then-not-validate-clause-tried g c = tried_invalid g.S.Shape _ _ _ _ _ _ _ c.requires.seen c.validate.ensures.lawful _

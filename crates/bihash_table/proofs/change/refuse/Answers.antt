@@ -22,8 +22,11 @@ validate-requires-clause-may g c =
     let h = c.requires.seen in
     seen_answer z v site.bucket c.args.seen.now.word h (event key c.args.found c.args.change (Worn c.args.found))
     (record { long = site.counted; home = sym site.home }) refl (λ log2 left e. absurd cc)
-    (λ told. (map_now v site.bucket, worn_step (bounds_of z) (map_now v site.bucket) (length (known_at v.known site.bucket)) key
-    c.args.found c.args.change (told (map_now v site.bucket) h.seen.pairs) c.requires.wanted c.requires.worn))
+    (λ told. (
+      map_now v site.bucket,
+      worn_step (bounds_of z) (map_now v site.bucket) (length (known_at v.known site.bucket)) key
+          c.args.found c.args.change (told (map_now v site.bucket) h.seen.pairs) c.requires.wanted c.requires.worn,
+    ))
 
 pub returns-then-not-validate-clause-tried : goal.returns-then-not-validate-clause-tried
 returns-then-not-validate-clause-tried g c = tried_invalid g.S.Shape _ _ _ _ _ _ _ c.requires.seen c.validate.ensures.lawful _

@@ -25,9 +25,14 @@ remove_last-requires-clause-lock g c =
     let z = sizes_of g.S.Shape in
     let k = c.lock_seen.ensures.locked c.if-not-lock_seen.false in
     let l = k.locked.lock in
-    let told = told_locked z _ _ _ _ (seen_more z _ _ _ _ c.has_other_pair-other.ensures.saw c.requires.seen) k in
-    (l, c.args.pair.0, k.locked.has, told.0.0, sym told.0.1,
-    subst (λ (t : Bool). OtherPairTells z l.extent l.now c.args.pair.0 t) c.if-not-other.true told.1)
+    let told = told_locked z _ _ _ _ (seen_more z _ _ _ _ c.has_other_pair-other.ensures.saw c.requires.seen) k in (
+      l,
+      c.args.pair.0,
+      k.locked.has,
+      told.0.0,
+      sym told.0.1,
+      subst (λ (t : Bool). OtherPairTells z l.extent l.now c.args.pair.0 t) c.if-not-other.true told.1,
+    )
 
 pub remove_last-requires-clause-home : goal.remove_last-requires-clause-home
 remove_last-requires-clause-home g c = sym c.args.seen.now.site.home

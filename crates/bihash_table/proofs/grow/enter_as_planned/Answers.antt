@@ -22,9 +22,12 @@ read_block-requires-clause-open g c =
     let v = c.args.seat.now.view in
     let h = c.requires.seen.seen in
     let e = h.extent in
-    let tells = word_notes z v c.args.seen.now.word e h.block in
-    (e, h.block, places_read e.page e.page e.log2 c.place_count.result _ c.args.old.now refl
-    (c.place_count.ensures.count e tells) c.place_count.ensures.few c.requires.old_room)
+    let tells = word_notes z v c.args.seen.now.word e h.block in (
+      e,
+      h.block,
+      places_read e.page e.page e.log2 c.place_count.result _ c.args.old.now refl
+          (c.place_count.ensures.count e tells) c.place_count.ensures.few c.requires.old_room,
+    )
 
 pub plan-requires-clause-small : goal.plan-requires-clause-small
 plan-requires-clause-small g c =

@@ -9,15 +9,21 @@ has_last-b-requires-clause-open g c = let o = c.requires.open in let room = o.2 
     (o.0, still_noted (sizes_of g.S.Shape) _ _ _ _ c.has_last-a.ensures.saw o.1, omega arith)
 
 pub has_last-c-requires-clause-open : goal.has_last-c-requires-clause-open
-has_last-c-requires-clause-open g c = let o = c.requires.open in let room = o.2 in
-    (o.0, still_noted (sizes_of g.S.Shape) _ _ _ _ c.has_last-b.ensures.saw
-    (still_noted (sizes_of g.S.Shape) _ _ _ _ c.has_last-a.ensures.saw o.1), omega arith)
+has_last-c-requires-clause-open g c = let o = c.requires.open in let room = o.2 in (
+  o.0,
+  still_noted (sizes_of g.S.Shape) _ _ _ _ c.has_last-b.ensures.saw
+      (still_noted (sizes_of g.S.Shape) _ _ _ _ c.has_last-a.ensures.saw o.1),
+  omega arith,
+)
 
 pub has_last-d-requires-clause-open : goal.has_last-d-requires-clause-open
-has_last-d-requires-clause-open g c = let o = c.requires.open in let room = o.2 in
-    (o.0, still_noted (sizes_of g.S.Shape) _ _ _ _ c.has_last-c.ensures.saw
-    (still_noted (sizes_of g.S.Shape) _ _ _ _ c.has_last-b.ensures.saw
-    (still_noted (sizes_of g.S.Shape) _ _ _ _ c.has_last-a.ensures.saw o.1)), omega arith)
+has_last-d-requires-clause-open g c = let o = c.requires.open in let room = o.2 in (
+  o.0,
+  still_noted (sizes_of g.S.Shape) _ _ _ _ c.has_last-c.ensures.saw
+      (still_noted (sizes_of g.S.Shape) _ _ _ _ c.has_last-b.ensures.saw
+      (still_noted (sizes_of g.S.Shape) _ _ _ _ c.has_last-a.ensures.saw o.1)),
+  omega arith,
+)
 
 pub returns-clause-saw : goal.returns-clause-saw
 returns-clause-saw g c = all_marks (sizes_of g.S.Shape) (g.S.Shape.words_of c.args.site.now.key.now) c.args.first _ _ _ _ _ _ _ _ _

@@ -22,9 +22,12 @@ returns-in-Some-clause-saw g c =
     (none_yet z key first m _ _ c.marks-a.ensures.saw) c.in-Some.value first (4 * (c.args.page + 1)) c.in-Some.ensures.saw
 
 pub value_where-requires-2-clause-open : goal.value_where-requires-2-clause-open
-value_where-requires-2-clause-open g c = let o = c.requires.open in let room = o.2 in
-    (o.0, still_noted (sizes_of g.S.Shape) _ _ _ _ c.in_default.ensures.saw
-    (still_noted (sizes_of g.S.Shape) _ _ _ _ c.marks-a.ensures.saw o.1), omega arith)
+value_where-requires-2-clause-open g c = let o = c.requires.open in let room = o.2 in (
+  o.0,
+  still_noted (sizes_of g.S.Shape) _ _ _ _ c.in_default.ensures.saw
+      (still_noted (sizes_of g.S.Shape) _ _ _ _ c.marks-a.ensures.saw o.1),
+  omega arith,
+)
 
 pub returns-in-Some-value_where-clause-saw : goal.returns-in-Some-value_where-clause-saw
 returns-in-Some-value_where-clause-saw g c =
@@ -37,10 +40,13 @@ returns-in-Some-value_where-clause-saw g c =
     (none_yet z key first m _ _ c.marks-a.ensures.saw) c.in_default.ensures.saw) c.in-Some-value_where.value first (4 * (c.args.page + 1)) c.in-Some-value_where.ensures.saw
 
 pub value_where-requires-3-clause-open : goal.value_where-requires-3-clause-open
-value_where-requires-3-clause-open g c = let o = c.requires.open in let room = o.2 in
-    (o.0, still_noted (sizes_of g.S.Shape) _ _ _ _ c.in_default-value_where.ensures.saw
-    (still_noted (sizes_of g.S.Shape) _ _ _ _ c.in_default.ensures.saw
-    (still_noted (sizes_of g.S.Shape) _ _ _ _ c.marks-a.ensures.saw o.1)), omega arith)
+value_where-requires-3-clause-open g c = let o = c.requires.open in let room = o.2 in (
+  o.0,
+  still_noted (sizes_of g.S.Shape) _ _ _ _ c.in_default-value_where.ensures.saw
+      (still_noted (sizes_of g.S.Shape) _ _ _ _ c.in_default.ensures.saw
+      (still_noted (sizes_of g.S.Shape) _ _ _ _ c.marks-a.ensures.saw o.1)),
+  omega arith,
+)
 
 pub returns-in-Some-value_where-2-clause-saw : goal.returns-in-Some-value_where-2-clause-saw
 returns-in-Some-value_where-2-clause-saw g c =
@@ -54,11 +60,14 @@ returns-in-Some-value_where-2-clause-saw g c =
     (none_yet z key first m _ _ c.marks-a.ensures.saw) c.in_default.ensures.saw) c.in_default-value_where.ensures.saw) c.in-Some-value_where-2.value first (4 * (c.args.page + 1)) c.in-Some-value_where-2.ensures.saw
 
 pub value_where-requires-4-clause-open : goal.value_where-requires-4-clause-open
-value_where-requires-4-clause-open g c = let o = c.requires.open in let room = o.2 in
-    (o.0, still_noted (sizes_of g.S.Shape) _ _ _ _ c.in_default-value_where-2.ensures.saw
-    (still_noted (sizes_of g.S.Shape) _ _ _ _ c.in_default-value_where.ensures.saw
-    (still_noted (sizes_of g.S.Shape) _ _ _ _ c.in_default.ensures.saw
-    (still_noted (sizes_of g.S.Shape) _ _ _ _ c.marks-a.ensures.saw o.1))), omega arith)
+value_where-requires-4-clause-open g c = let o = c.requires.open in let room = o.2 in (
+  o.0,
+  still_noted (sizes_of g.S.Shape) _ _ _ _ c.in_default-value_where-2.ensures.saw
+      (still_noted (sizes_of g.S.Shape) _ _ _ _ c.in_default-value_where.ensures.saw
+      (still_noted (sizes_of g.S.Shape) _ _ _ _ c.in_default.ensures.saw
+      (still_noted (sizes_of g.S.Shape) _ _ _ _ c.marks-a.ensures.saw o.1))),
+  omega arith,
+)
 
 pub returns-in-Some-value_where-3-clause-saw : goal.returns-in-Some-value_where-3-clause-saw
 returns-in-Some-value_where-3-clause-saw g c =
