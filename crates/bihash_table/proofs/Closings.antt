@@ -1,5 +1,5 @@
 -- The pairs of a bucket's block, read by a lone caller and added to a list place by place.
-use Rattle.std.proofs.Common.{◌≡◌, ◌≢◌, ◌∙◌, ◌+◌, ◌<◌, ℕ, true, List, [], ◌∷◌, ◌++◌, set, refl, sym, ap, subst, Result, Ok, Err}
+use Rattle.std.proofs.Common.{◌≡◌, ◌≢◌, ◌∙◌, ◌+◌, ◌<◌, ℕ, true, List, [], ◌∷◌, ◌++◌, set, sym, ap, subst, Result, Ok, Err}
 use Rattle.std.specs.Prelude.{IfOk, IsErrAnd}
 use lib.Seq.{set-get_or}
 use Rattle.bihash_words.specs.Sizes.{Sizes, sizes_of}
@@ -20,6 +20,7 @@ use Rattle.bihash_table.specs.OpenReads.{IsOpened, NotesBlock, Saw}
 use Rattle.bihash_table.specs.PairLists.{AddsBlock, AddsPlaces, InPart, IsBlockIn, ListsBuckets, ListsPairs, TookLocks}
 use Rattle.bihash_table.specs.Seen.{LocksSeen}
 use Rattle.bihash_table.proofs.PairListLemmas.{part_all, part_free, part_more, part_none}
+use Rattle.bihash_table.proofs.Composed.{with_locks_twice}
 use Rattle.bihash_table.proofs.Released.{with_locks-locks_of}
 use Rattle.bihash_table.proofs.Sights.{seen_first, told_locked}
 use Rattle.bihash_table.proofs.TakenLocks.{locked_known, took_lock}
@@ -68,10 +69,6 @@ took_notes v w notes is = record {
   locks = locks_of v.records;
   is = is ∙ (λ i. record v { records = sym (with_locks-locks_of v.records) i; notes = sym (ap (λ (x : View). x.notes) is) i });
 }
-
-with_locks_twice : (n m : ℕ) (records : List Record) → with_locks n (with_locks m records) ≡ with_locks n records
-with_locks_twice n m [] = refl
-with_locks_twice n m (r ∷ rs) = refl
 
 took_both : (u v w : View) → TookLocks u v → TookLocks v w → TookLocks u w
 took_both u v w s t = record {

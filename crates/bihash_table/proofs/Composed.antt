@@ -1,26 +1,22 @@
 -- What was learned of a bucket before a lock or an answer: from the first view on it is one call.
 use lib.Seq.{set-get_or}
-use Rattle.std.proofs.Common.{◌≡◌, ◌⊎◌, ℕ, zero, suc, ◌+◌, ◌<◌, ◌≤◌, Bool, true, false, true≢false, List, [], ◌∷◌, ◌++◌, length, get_or, set, set-set, get_or-set_same, append_assoc, refl, sym, ap, ◌∙◌, subst, arith, le_refl, Option, Some, inl, inr}
-use Rattle.bihash_words.specs.Maps.{Pairs, Event}
+use Rattle.std.proofs.Common.{◌≡◌, ◌⊎◌, ℕ, zero, suc, ◌+◌, ◌≤◌, Bool, true, false, true≢false, List, [], ◌∷◌, ◌++◌, length, get_or, set, set-set, append_assoc, refl, sym, ap, ◌∙◌, subst, arith, le_refl, Option, inl, inr}
+use Rattle.bihash_words.specs.Maps.{Event}
 use Rattle.bihash_words.specs.Sizes.{Sizes}
 use Rattle.bihash_words.specs.Words.{Bucket, Fits, packed}
 use Rattle.bihash_words.specs.declared.patch.Change.{Change}
 use Rattle.bihash_words.specs.declared.patch.Reply.{Reply}
-use Rattle.bihash_steps.specs.Words.{buckets}
-use Rattle.bihash_steps.specs.Histories.{IsPrefix, IsWriteList, bucket_of, after}
-use Rattle.bihash_steps.specs.Callers.{known_at, opening_at}
-use Rattle.bihash_steps.specs.Blocks.{IsBlockOf}
+use Rattle.bihash_steps.specs.Histories.{IsPrefix, bucket_of}
+use Rattle.bihash_steps.specs.Callers.{known_at}
 use Rattle.bihash_steps.specs.Buckets.{word_of}
 use Rattle.bihash_steps.specs.Views.{nothing_held}
-use Rattle.bihash_steps.specs.BucketSteps.{learned, unnoted, lock_counted, locked_on, locking, open_on, push_call, map_now, SeesOpen, SeesLocked, TakesLock}
+use Rattle.bihash_steps.specs.BucketSteps.{learned, lock_counted, push_call, SeesOpen, SeesLocked}
 use Rattle.bihash_steps.specs.declared.view.Write.{Write}
 use Rattle.bihash_steps.specs.declared.view.Record.{Record}
-use Rattle.bihash_steps.specs.declared.view.Holdings.{Holdings}
-use Rattle.bihash_steps.specs.declared.view.LockedBucket.{LockedBucket}
 use Rattle.bihash_steps.specs.declared.view.View.{View}
 use Rattle.bihash_steps.proofs.Prefixes.{prefix_refl}
 use Rattle.bihash_table.specs.Answers.{locks_of, with_locks, entry_of, IsAnswered, IsTurnedAway, IsUpdated, own_writes}
-use Rattle.bihash_table.specs.Locked.{HasLock, IsLocked}
+use Rattle.bihash_table.specs.Locked.{IsLocked}
 use Rattle.bihash_table.proofs.Released.{with_locks-locks_of}
 
 -- ---- Lock counts

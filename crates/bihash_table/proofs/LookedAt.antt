@@ -12,7 +12,6 @@ use Rattle.bihash_steps.specs.declared.view.OpenBucket.{OpenBucket}
 use Rattle.bihash_steps.specs.declared.view.View.{View}
 use Rattle.bihash_table.specs.Places.{HasPairOf}
 use Rattle.bihash_table.specs.Scans.{AreOpenTo}
-use Rattle.bihash_table.specs.Seen.{IsValueOf}
 use Rattle.bihash_table.specs.OpenReads.{NotesBlock, Saw, LastWordTells, AreMarks, IsValueAt, IsPairAmong, IsPairIn, IsFirstFreeIn, OtherPairTells, value_of}
 use Rattle.bihash_table.proofs.PlaceReads.{SameTo, word_of_key, all_same}
 use Rattle.bihash_table.proofs.Seeing.{saw_as, saw_both, saw_nothing, saw_then, note_extent}
@@ -240,13 +239,3 @@ pair_value z e block key m None told ok = go (get m key) refl
         let at = ok.found key value is in
         let pair : HasPairOf z e block key at.0 = record { pair = at.1; stands = at.2 } in
         absurd (told at.0 (λ linear. ap (page_of z e.log2) (sym at.2) ∙ ok.paged linear at.0 at.1) pair)
-
-pub saw_value_of : (z : Sizes) (key : List ℕ) (u v : View) (pair : Option (ℕ × ℕ)) (found : Option ℕ) → found ≡ value_of pair
-    → Saw u v (λ e block. IsPairIn z e block key pair) → Saw u v (IsValueOf z key found)
-saw_value_of z key u v pair found is = saw_as u v (λ o noted seen m ok. is ∙ pair_value z o.extent o.block key m pair seen ok)
-
--- the same, where the key is named otherwise
-pub saw_value_at : (z : Sizes) (k key : List ℕ) (u v : View) (pair : Option (ℕ × ℕ)) (found : Option ℕ) → k ≡ key → found ≡ value_of pair
-    → Saw u v (λ e block. IsPairIn z e block k pair) → Saw u v (IsValueOf z key found)
-saw_value_at z k key u v pair found same is s =
-    saw_value_of z key u v pair found is (subst (λ (q : List ℕ). Saw u v (λ e block. IsPairIn z e block q pair)) same s)

@@ -1,15 +1,11 @@
 -- The places of a block that are open to a key, and what a search of them leaves out.
-use Rattle.std.proofs.Common.{◌≡◌, ◌≢◌, ℕ, zero, suc, ◌+◌, ◌*◌, ◌/◌, ◌%◌, ◌^◌, ◌<◌, ◌≤◌, true, false, true≢false, List, Option, Some, None, IfNone, pow_mono, mod-lt, pow_pos, refl, sym, ap, ◌∙◌, subst, arith}
+use Rattle.std.proofs.Common.{◌≡◌, ◌≢◌, ℕ, zero, suc, ◌+◌, ◌*◌, ◌/◌, ◌%◌, ◌^◌, ◌<◌, ◌≤◌, true, false, true≢false, List, pow_mono, mod-lt, pow_pos, refl, sym, ap, ◌∙◌, subst, arith}
 use Rattle.bihash_words.specs.Sizes.{Sizes, IsSound}
-use Rattle.std.specs.FinMap.{get}
-use Rattle.bihash_words.specs.Maps.{Pairs}
-use Rattle.bihash_steps.specs.Blocks.{places, page_of, IsBlockOf}
-use Rattle.bihash_steps.specs.BucketSteps.{map_now}
+use Rattle.bihash_steps.specs.Blocks.{places, page_of}
 use Rattle.bihash_steps.specs.declared.view.Extent.{Extent}
 use Rattle.bihash_steps.specs.declared.view.LockedBucket.{LockedBucket}
 use Rattle.bihash_steps.specs.declared.view.View.{View}
 use Rattle.bihash_table.specs.Locked.{HasLock}
-use Rattle.bihash_table.specs.Places.{HasPairOf}
 use Rattle.bihash_table.specs.Scans.{IsWordOf, AreOpenTo}
 
 some_places : (page log2 : ℕ) → page ≢ 0 → places page log2 ≡ 4 * 2 ^ log2
@@ -50,34 +46,6 @@ module _ (z : Sizes) (e : Extent) (key : List ℕ) where
   one_page_open page log2 some linear same is = let up : 4 * page + 4 ≡ 4 * (page + 1) = omega arith in
       subst (AreOpenTo z e key (4 * page)) up
       (page_open page some linear (is ∙ ap (λ (n : ℕ). z.hash key / 2 ^ z.log2_buckets % 2 ^ n) same))
-
--- ---- What was not found is not there
-
-module _ (z : Sizes) (e : Extent) (block key : List ℕ) (from to : ℕ) (open_to : AreOpenTo z e key from to) where
-  -- the pair of a key stands at a place that is open to it
-  pair_among : (m : Pairs) (i : ℕ) → IsBlockOf z e block m → HasPairOf z e block key i → (from ≤ i) × (i < to)
-  pair_among m i ok h = (open_to.exact i h.pair.0).1
-      (λ linear. ap (page_of z e.log2) (sym h.stands) ∙ ok.paged linear i h.pair)
-
-  pub absent_in : (m : Pairs) → IsBlockOf z e block m → ((i : ℕ) → from ≤ i → i < to → HasPairOf z e block key i → ⊥)
-      → get m key ≡ None
-  absent_in m ok not_there = go (get m key) refl
-    where
-      go : (found : Option ℕ) → get m key ≡ found → found ≡ None
-      go None is = refl
-      go (Some value) is =
-          let at = ok.found key value is in
-          let pair : HasPairOf z e block key at.0 = record { pair = at.1; stands = at.2 } in
-          let among = pair_among m at.0 ok pair in absurd (not_there at.0 among.0 among.1 pair)
-
--- a key that a search of the places open to it did not find is not in the map of the locked bucket
-pub absent : (z : Sizes) (v : View) (b word : ℕ) (key : List ℕ) (from to : ℕ) (r : Option ℕ) (l : LockedBucket) → HasLock z v b word l
-    → AreOpenTo z l.extent key from to
-    → IfNone r ((k : LockedBucket) → HasLock z v b word k → (i : ℕ) → from ≤ i → i < to → HasPairOf z k.extent k.now key i → ⊥)
-    → IfNone r (get (map_now v b) key ≡ None)
-absent z v b word key from to (Some i) l h open_to not_there = tt
-absent z v b word key from to None l h open_to not_there =
-    absent_in z l.extent l.now key from to open_to (map_now v b) h.pairs (not_there l h)
 
 -- the word of a locked bucket tells its block
 pub word_tells : (z : Sizes) (v : View) (b word : ℕ) (l : LockedBucket) → HasLock z v b word l → IsWordOf z word l.extent

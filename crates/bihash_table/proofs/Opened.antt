@@ -1,39 +1,29 @@
--- A bucket that was seen without its lock, and its lock behind that.
-use Rattle.std.proofs.Common.{◌≡◌, ◌∙◌, ℕ, ◌+◌, ◌%◌, ◌^◌, ◌<◌, ◌≤◌, true, false, List, [], ◌∷◌, ◌++◌, length, le_refl, refl, sym, ap, subst, arith, Option, Some}
+-- Calls without a lock: what was seen of the bucket, what its answer leaves of the caller, and the lock behind it.
+use Rattle.std.proofs.Common.{◌≡◌, ◌∙◌, ℕ, ◌<◌, ◌≤◌, true, false, List, [], length, le_refl, refl, sym, ap, subst, arith, Option, Some}
 use lib.Seq.{set-get_or}
 use Rattle.std.specs.FinMap.{get}
-use Rattle.bihash_words.specs.Maps.{Pairs, Event, Step}
+use Rattle.bihash_words.specs.Maps.{Pairs, Step}
 use Rattle.bihash_words.specs.Sizes.{Sizes}
-use Rattle.bihash_words.specs.Words.{Fits, packed}
-use Rattle.bihash_words.specs.declared.patch.Change.{Change}
-use Rattle.bihash_words.specs.declared.patch.Reply.{Reply}
-use Rattle.bihash_words.specs.declared.patch.Reply.TheVariants.{NoPages}
+use Rattle.bihash_words.specs.Words.{packed}
 use Rattle.bihash_steps.specs.Words.{buckets}
-use Rattle.bihash_steps.specs.Histories.{IsPrefix, IsKeyOf, IsWriteList, after, bounds_of, bucket_of, is_changed}
+use Rattle.bihash_steps.specs.Histories.{IsWriteList, after, bounds_of, bucket_of}
 use Rattle.bihash_steps.specs.Callers.{known_at, opening_at}
 use Rattle.bihash_steps.specs.Blocks.{IsBlockOf}
 use Rattle.bihash_steps.specs.Buckets.{Reads, word_of, open_word}
 use Rattle.bihash_steps.specs.Views.{nothing_held, no_notes}
-use Rattle.bihash_steps.specs.BucketSteps.{learned, open_on, locked_on, push_call, map_now, SeesOpen, TakesLock, RestsOn, reading, read_more, MayValidate, validated, call_of, unnoted}
+use Rattle.bihash_steps.specs.BucketSteps.{open_on, locked_on, map_now, SeesOpen, TakesLock, RestsOn, unnoted}
 use Rattle.bihash_steps.specs.declared.view.Write.{Write}
-use Rattle.bihash_steps.specs.declared.view.Call.{Call}
-use Rattle.bihash_steps.specs.declared.view.Record.{Record}
 use Rattle.bihash_steps.specs.declared.view.Extent.{Extent}
 use Rattle.bihash_steps.specs.declared.view.Holdings.{Holdings}
-use Rattle.bihash_steps.specs.declared.view.Notes.{Notes}
 use Rattle.bihash_steps.specs.declared.view.LockedBucket.{LockedBucket}
-use Rattle.bihash_steps.specs.declared.view.OpenBucket.{OpenBucket}
 use Rattle.bihash_steps.specs.declared.view.View.{View}
 use Rattle.bihash_steps.proofs.Informed.{known_learned}
 use Rattle.bihash_steps.proofs.Prefixes.{prefix_refl}
 use Rattle.bihash_steps.proofs.Whole.{prefix_whole}
-use Rattle.bihash_table.specs.Answers.{IsAnswered, IsTurnedAway, entry_of, locks_of, own_writes, search_of}
+use Rattle.bihash_table.specs.Answers.{IsTurnedAway, locks_of, search_of}
 use Rattle.bihash_table.specs.Locked.{IsLocked}
-use Rattle.bihash_table.specs.OpenReads.{HasOpen, IsOpened, Saw}
-use Rattle.bihash_table.proofs.Composed.{IsAhead}
-use Rattle.bihash_table.specs.Seen.{IsValueOf}
+use Rattle.bihash_table.specs.OpenReads.{HasOpen, IsOpened}
 use Rattle.bihash_table.proofs.Released.{with_locks-locks_of}
-use Rattle.bihash_table.proofs.Seeing.{notes_more, read_first}
 
 -- ---- A bucket that was seen without its lock
 
@@ -80,7 +70,7 @@ module _ (z : Sizes) (v u : View) (b word : ℕ) (inside : b < buckets z) (free 
 pub lost_at : (z : Sizes) (key : List ℕ) (v w : View) (b : ℕ) → bucket_of z key ≡ b → IsTurnedAway z v w b → IsTurnedAway z v w (bucket_of z key)
 lost_at z key v w b home away = subst (IsTurnedAway z v w) (sym home) away
 
--- a search is the answer of a map, and no write
+-- a search is a call that leaves the map
 pub is_read : (z : Sizes) (key : List ℕ) (found : Option ℕ) (m : Pairs) (n : ℕ) → found ≡ get m key
     → (m' : Pairs) × Step (bounds_of z) m n (search_of key found) m'
 is_read z key found m n is = (m, record { found = is; answers = (refl, refl) })

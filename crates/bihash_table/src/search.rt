@@ -40,10 +40,15 @@ impl<S: Shape> Sessions<S> {
         let pair = find_pair(&self.row, seat, word, &site);
         let found = value_found(pair);
         let reply = Reply::Kept(found);
-        if !self
-            .row
-            .validate(seat, site.bucket, word, key, found, Change::Keep, reply)
-        {
+        if !self.row.validate(
+            seat,
+            site.bucket,
+            word,
+            site.key,
+            found,
+            Change::Keep,
+            reply,
+        ) {
             return Err(Contended);
         }
         Ok(found)
