@@ -26,7 +26,7 @@ use crate::grow::remove_last;
 use crate::lock::lock_seen;
 use crate::places::FREE;
 use crate::reads::has_other_pair;
-use crate::site::Site;
+use crate::site::Seen;
 use bihash_steps::{CallerSeat, Row};
 use bihash_words::{BucketWord, Change, Reply, Shape};
 
@@ -34,20 +34,27 @@ use bihash_words::{BucketWord, Change, Reply, Shape};
 pub(crate) fn keep<S: Shape>(
     row: &Row<S>,
     seat: &mut CallerSeat<S>,
-    word: BucketWord,
-    site: &Site<'_, S>,
+    seen: &Seen<'_, S>,
     found: Option<u64>,
     change: Change,
 ) -> Result<Reply, Contended>
     requires own { seat.old.row ≡ row.now }
-    requires seen { HasSeen (sizes_of S.Shape) seat.old.view site.now.bucket word
-        (IsValueOf (sizes_of S.Shape) (S.words_of site.now.key.now) found) }
+    requires seen { HasSeen (sizes_of S.Shape) seat.old.view seen.now.site.bucket seen.now.word
+        (IsValueOf (sizes_of S.Shape) (S.words_of seen.now.site.key.now) found) }
     requires idle { effect_of change found ≡ Keep }
     ensures kept { IfOk result (λ reply. reply ≡ Kept found) }
-    ensures tried { Tried ⟦<S as Shape>⟧ seat.old seat.new site.now.bucket site.now.key.now found change result }
+    ensures tried { Tried ⟦<S as Shape>⟧ seat.old seat.new seen.now.site.bucket seen.now.site.key.now found change result }
 {
     let reply = Reply::Kept(found);
-    if !row.validate(seat, site.bucket, word, site.key, found, change, reply) {
+    if !row.validate(
+        seat,
+        seen.site.bucket,
+        seen.word,
+        seen.site.key,
+        found,
+        change,
+        reply,
+    ) {
         return Err(Contended);
     }
     Ok(reply)
@@ -58,21 +65,28 @@ pub(crate) fn keep<S: Shape>(
 pub(crate) fn refuse<S: Shape>(
     row: &Row<S>,
     seat: &mut CallerSeat<S>,
-    word: BucketWord,
-    site: &Site<'_, S>,
+    seen: &Seen<'_, S>,
     found: Option<u64>,
     change: Change,
 ) -> Result<Reply, Contended>
     requires own { seat.old.row ≡ row.now }
-    requires seen { HasSeen (sizes_of S.Shape) seat.old.view site.now.bucket word
-        (IsValueOf (sizes_of S.Shape) (S.words_of site.now.key.now) found) }
+    requires seen { HasSeen (sizes_of S.Shape) seat.old.view seen.now.site.bucket seen.now.word
+        (IsValueOf (sizes_of S.Shape) (S.words_of seen.now.site.key.now) found) }
     requires wanted { effect_of change found ≢ Keep }
-    requires worn { length (known_at seat.old.view.known site.now.bucket) ≡ S.LIMIT }
+    requires worn { length (known_at seat.old.view.known seen.now.site.bucket) ≡ S.LIMIT }
     ensures refused { IfOk result (λ reply. reply ≡ Worn found) }
-    ensures tried { Tried ⟦<S as Shape>⟧ seat.old seat.new site.now.bucket site.now.key.now found change result }
+    ensures tried { Tried ⟦<S as Shape>⟧ seat.old seat.new seen.now.site.bucket seen.now.site.key.now found change result }
 {
     let reply = Reply::Worn(found);
-    if !row.validate(seat, site.bucket, word, site.key, found, change, reply) {
+    if !row.validate(
+        seat,
+        seen.site.bucket,
+        seen.word,
+        seen.site.key,
+        found,
+        change,
+        reply,
+    ) {
         return Err(Contended);
     }
     Ok(reply)
@@ -82,19 +96,26 @@ pub(crate) fn refuse<S: Shape>(
 pub(crate) fn crowd<S: Shape>(
     row: &Row<S>,
     seat: &mut CallerSeat<S>,
-    word: BucketWord,
-    site: &Site<'_, S>,
+    seen: &Seen<'_, S>,
     value: u64,
 ) -> Result<Reply, Contended>
     requires own { seat.old.row ≡ row.now }
-    requires seen { HasSeen (sizes_of S.Shape) seat.old.view site.now.bucket word
-        (IsFullFor (sizes_of S.Shape) (S.words_of site.now.key.now)) }
-    requires unworn { length (known_at seat.old.view.known site.now.bucket) < S.LIMIT }
+    requires seen { HasSeen (sizes_of S.Shape) seat.old.view seen.now.site.bucket seen.now.word
+        (IsFullFor (sizes_of S.Shape) (S.words_of seen.now.site.key.now)) }
+    requires unworn { length (known_at seat.old.view.known seen.now.site.bucket) < S.LIMIT }
     ensures full { IfOk result (λ reply. reply ≡ Full) }
-    ensures tried { Tried ⟦<S as Shape>⟧ seat.old seat.new site.now.bucket site.now.key.now None (Set value) result }
+    ensures tried { Tried ⟦<S as Shape>⟧ seat.old seat.new seen.now.site.bucket seen.now.site.key.now None (Set value) result }
 {
     let reply = Reply::Full;
-    if !row.validate(seat, site.bucket, word, site.key, None, Change::Set(value), reply) {
+    if !row.validate(
+        seat,
+        seen.site.bucket,
+        seen.word,
+        seen.site.key,
+        None,
+        Change::Set(value),
+        reply,
+    ) {
         return Err(Contended);
     }
     Ok(reply)
@@ -165,29 +186,35 @@ pub(crate) fn fill<S: Shape>(
 pub(crate) fn remove<S: Shape>(
     row: &Row<S>,
     seat: &mut CallerSeat<S>,
-    word: BucketWord,
-    site: &Site<'_, S>,
+    seen: &Seen<'_, S>,
     pair: (usize, u64),
 ) -> Result<Reply, Contended>
     requires own { seat.old.row ≡ row.now }
-    requires seen { HasSeen (sizes_of S.Shape) seat.old.view site.now.bucket word
-        (λ e block. IsPairIn (sizes_of S.Shape) e block (S.words_of site.now.key.now) (Some pair)) }
-    requires unworn { length (known_at seat.old.view.known site.now.bucket) < S.LIMIT }
-    ensures { Tried ⟦<S as Shape>⟧ seat.old seat.new site.now.bucket site.now.key.now (Some pair.1) Remove result }
+    requires seen { HasSeen (sizes_of S.Shape) seat.old.view seen.now.site.bucket seen.now.word
+        (λ e block. IsPairIn (sizes_of S.Shape) e block (S.words_of seen.now.site.key.now) (Some pair)) }
+    requires unworn { length (known_at seat.old.view.known seen.now.site.bucket) < S.LIMIT }
+    ensures { Tried ⟦<S as Shape>⟧ seat.old seat.new seen.now.site.bucket seen.now.site.key.now (Some pair.1) Remove result }
 {
-    let other = has_other_pair(row, seat, word, pair.0);
-    if !lock_seen(row, seat, site.bucket, word) {
+    let other = has_other_pair(row, seat, seen.word, pair.0);
+    if !lock_seen(row, seat, seen.site.bucket, seen.word) {
         return Err(Contended);
     }
     if !other {
-        return remove_last(row, seat, site.bucket, word, site.key, pair.1);
+        return remove_last(
+            row,
+            seat,
+            seen.site.bucket,
+            seen.word,
+            seen.site.key,
+            pair.1,
+        );
     }
     Ok(vacate(
         row,
         seat,
-        site.bucket,
-        word,
-        site.key,
+        seen.site.bucket,
+        seen.word,
+        seen.site.key,
         pair.0,
         pair.1,
     ))

@@ -30,7 +30,7 @@ use crate::contended::Contended;
 use crate::lock::lock_seen;
 use crate::pages::{give_back, take_block};
 use crate::places::{place_count, places_of};
-use crate::site::Site;
+use crate::site::Seen;
 use crate::snapshot::read_block;
 use bihash_plan::{Plan, lay, plan};
 use bihash_steps::view::Extent;
@@ -42,61 +42,64 @@ use bihash_words::{BucketWord, Change, Reply, Shape};
 pub(crate) fn enter_larger<S: Shape>(
     row: &Row<S>,
     caller: &mut Caller<S>,
-    word: BucketWord,
-    site: &Site<'_, S>,
+    seen: &Seen<'_, S>,
     value: u64,
 ) -> Result<Reply, Contended>
     requires own { caller.old.seat.row ≡ row.now }
-    requires seen { HasSeen (sizes_of S.Shape) caller.old.seat.view site.now.bucket word
-        (IsNewAndCrowded (sizes_of S.Shape) (S.words_of site.now.key.now)) }
-    requires unworn { length (known_at caller.old.seat.view.known site.now.bucket) < S.LIMIT }
+    requires seen { HasSeen (sizes_of S.Shape) caller.old.seat.view seen.now.site.bucket seen.now.word
+        (IsNewAndCrowded (sizes_of S.Shape) (S.words_of seen.now.site.key.now)) }
+    requires unworn { length (known_at caller.old.seat.view.known seen.now.site.bucket) < S.LIMIT }
     requires storable { value ≢ free_mark }
-    ensures { Tried ⟦<S as Shape>⟧ caller.old.seat caller.new.seat site.now.bucket site.now.key.now None (Set value)
+    ensures { Tried ⟦<S as Shape>⟧ caller.old.seat caller.new.seat seen.now.site.bucket seen.now.site.key.now None (Set value)
         result }
 {
     let seat = &mut caller.seat;
     let scratch = &mut caller.scratch;
     let old = &mut scratch.old_places;
     let new = &mut scratch.new_places;
-    enter_as_planned(row, seat, word, site, value, old, new)
+    enter_as_planned(row, seat, seen, value, old, new)
 }
 
 /// The same, with room for all pairs of a bucket twice: as they stand, and as they will stand.
 fn enter_as_planned<S: Shape>(
     row: &Row<S>,
     seat: &mut CallerSeat<S>,
-    word: BucketWord,
-    site: &Site<'_, S>,
+    seen: &Seen<'_, S>,
     value: u64,
     old: &mut [(S::Key, u64)],
     new: &mut [(S::Key, u64)],
 ) -> Result<Reply, Contended>
     requires own { seat.old.row ≡ row.now }
-    requires seen { HasSeen (sizes_of S.Shape) seat.old.view site.now.bucket word
-        (IsNewAndCrowded (sizes_of S.Shape) (S.words_of site.now.key.now)) }
-    requires unworn { length (known_at seat.old.view.known site.now.bucket) < S.LIMIT }
+    requires seen { HasSeen (sizes_of S.Shape) seat.old.view seen.now.site.bucket seen.now.word
+        (IsNewAndCrowded (sizes_of S.Shape) (S.words_of seen.now.site.key.now)) }
+    requires unworn { length (known_at seat.old.view.known seen.now.site.bucket) < S.LIMIT }
     requires storable { value ≢ free_mark }
     requires old_room { length old.old ≡ 4 * 2 ^ S.MAX_LOG2 }
     requires new_room { length new.old ≡ 4 * 2 ^ S.MAX_LOG2 }
-    ensures { Tried ⟦<S as Shape>⟧ seat.old seat.new site.now.bucket site.now.key.now None (Set value) result }
+    ensures { Tried ⟦<S as Shape>⟧ seat.old seat.new seen.now.site.bucket seen.now.site.key.now None (Set value) result }
 {
     row.is_sound();
-    let old = &mut old[..place_count::<S>(word)];
-    read_block(row, seat, word, old);
-    let Plan::Grow { log2, linear } = plan::<S>(old, word.log2(), word.linear(), site.key) else {
-        return crowd(row, seat, word, site, value);
+    let old = &mut old[..place_count::<S>(seen.word)];
+    read_block(row, seat, seen.word, old);
+    let Plan::Grow { log2, linear } = plan::<S>(
+        old,
+        seen.word.log2(),
+        seen.word.linear(),
+        seen.site.key,
+    ) else {
+        return crowd(row, seat, seen, value);
     };
     let new = &mut new[..places_of(log2)];
-    lay::<S>(old, site.key, value, log2, linear, new);
-    if !lock_seen(row, seat, site.bucket, word) {
+    lay::<S>(old, seen.site.key, value, log2, linear, new);
+    if !lock_seen(row, seat, seen.site.bucket, seen.word) {
         return Err(Contended);
     }
     enter(
         row,
         seat,
-        site.bucket,
-        word,
-        site.key,
+        seen.site.bucket,
+        seen.word,
+        seen.site.key,
         value,
         log2,
         linear,

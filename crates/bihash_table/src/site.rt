@@ -5,7 +5,7 @@ ghost use Rattle.bihash_steps.specs.Words.{buckets};
 ghost use Rattle.bihash_steps.specs.Histories.{bucket_of};
 ghost use Rattle.bihash_steps.specs.Blocks.{page_of};
 
-use bihash_words::Shape;
+use bihash_words::{BucketWord, Shape};
 
 /// A key with what its hash and its words tell: the bucket, the bits behind those that name it, which
 /// name the page, and the last word. A call makes it once.
@@ -19,6 +19,13 @@ pub(crate) struct Site<'k, S: Shape> {
     ghost paged: { page_bits ≡ S.hash_of_words (S.words_of key.now) / 2 ^ S.LOG2_BUCKETS },
     ghost ends: { last ≡ slice_index (S.words_of key.now) (S.WORDS - 1) },
     ghost counted: { length (S.words_of key.now) ≡ S.WORDS },
+}
+
+/// A bucket that was seen without its lock, for a key: the word that it was seen with.
+#[derive(Drop)]
+pub(crate) struct Seen<'k, S: Shape> {
+    pub(crate) word: BucketWord,
+    pub(crate) site: Site<'k, S>,
 }
 
 impl<'k, S: Shape> Site<'k, S> {

@@ -24,7 +24,7 @@ use crate::grow::enter_larger;
 use crate::lock::{lock_seen, look};
 use crate::reads::{find_free, find_pair, value_found};
 use crate::sessions::Sessions;
-use crate::site::Site;
+use crate::site::{Seen, Site};
 use bihash_steps::{Caller, CallerSeat, Row};
 use bihash_words::{BucketWord, Change, Patch, Reply, Shape};
 
@@ -61,7 +61,8 @@ impl<S: Shape> Sessions<S> {
         let pair = find_pair(&self.row, &mut caller.seat, word, &site);
         let found = value_found(pair);
         let change = patch.decide(found);
-        make(&self.row, caller, word, &site, pair, change)
+        let seen = Seen { word, site };
+        make(&self.row, caller, &seen, pair, change)
     }
 }
 
@@ -69,29 +70,28 @@ impl<S: Shape> Sessions<S> {
 fn make<S: Shape>(
     row: &Row<S>,
     caller: &mut Caller<S>,
-    word: BucketWord,
-    site: &Site<'_, S>,
+    seen: &Seen<'_, S>,
     pair: Option<(usize, u64)>,
     change: Change,
 ) -> Result<Reply, Contended>
     requires own { caller.old.seat.row ≡ row.now }
-    requires seen { HasSeen (sizes_of S.Shape) caller.old.seat.view site.now.bucket word
-        (λ e block. IsPairIn (sizes_of S.Shape) e block (S.words_of site.now.key.now) pair) }
+    requires seen { HasSeen (sizes_of S.Shape) caller.old.seat.view seen.now.site.bucket seen.now.word
+        (λ e block. IsPairIn (sizes_of S.Shape) e block (S.words_of seen.now.site.key.now) pair) }
     requires storable { IsStorable change }
-    ensures { Tried ⟦<S as Shape>⟧ caller.old.seat caller.new.seat site.now.bucket site.now.key.now (value_of pair)
+    ensures { Tried ⟦<S as Shape>⟧ caller.old.seat caller.new.seat seen.now.site.bucket seen.now.site.key.now (value_of pair)
         change result }
 {
     let found = value_found(pair);
     let seat = &mut caller.seat;
     if is_idle(change, found) {
-        return keep(row, seat, word, site, found, change);
+        return keep(row, seat, seen, found, change);
     }
-    if is_worn::<S>(word) {
-        return refuse(row, seat, word, site, found, change);
+    if is_worn::<S>(seen.word) {
+        return refuse(row, seat, seen, found, change);
     }
     match pair {
-        Some(held) => change_pair(row, seat, word, site, held, change),
-        None => enter_new(row, caller, word, site, change),
+        Some(held) => change_pair(row, seat, seen, held, change),
+        None => enter_new(row, caller, seen, change),
     }
 }
 
@@ -119,36 +119,35 @@ fn is_worn<S: Shape>(word: BucketWord) -> bool
 fn change_pair<S: Shape>(
     row: &Row<S>,
     seat: &mut CallerSeat<S>,
-    word: BucketWord,
-    site: &Site<'_, S>,
+    seen: &Seen<'_, S>,
     pair: (usize, u64),
     change: Change,
 ) -> Result<Reply, Contended>
     requires own { seat.old.row ≡ row.now }
-    requires seen { HasSeen (sizes_of S.Shape) seat.old.view site.now.bucket word
-        (λ e block. IsPairIn (sizes_of S.Shape) e block (S.words_of site.now.key.now) (Some pair)) }
-    requires unworn { length (known_at seat.old.view.known site.now.bucket) < S.LIMIT }
+    requires seen { HasSeen (sizes_of S.Shape) seat.old.view seen.now.site.bucket seen.now.word
+        (λ e block. IsPairIn (sizes_of S.Shape) e block (S.words_of seen.now.site.key.now) (Some pair)) }
+    requires unworn { length (known_at seat.old.view.known seen.now.site.bucket) < S.LIMIT }
     requires wanted { effect_of change (Some pair.1) ≢ Keep }
     requires storable { IsStorable change }
-    ensures { Tried ⟦<S as Shape>⟧ seat.old seat.new site.now.bucket site.now.key.now (Some pair.1) change result }
+    ensures { Tried ⟦<S as Shape>⟧ seat.old seat.new seen.now.site.bucket seen.now.site.key.now (Some pair.1) change result }
 {
     match change {
         Change::Set(value) => {
-            if !lock_seen(row, seat, site.bucket, word) {
+            if !lock_seen(row, seat, seen.site.bucket, seen.word) {
                 return Err(Contended);
             }
             Ok(overwrite(
                 row,
                 seat,
-                site.bucket,
-                word,
-                site.key,
+                seen.site.bucket,
+                seen.word,
+                seen.site.key,
                 pair.0,
                 pair.1,
                 value,
             ))
         }
-        Change::Remove => remove(row, seat, word, site, pair),
+        Change::Remove => remove(row, seat, seen, pair),
         Change::Keep => unreachable!(),
     }
 }
@@ -157,29 +156,36 @@ fn change_pair<S: Shape>(
 fn enter_new<S: Shape>(
     row: &Row<S>,
     caller: &mut Caller<S>,
-    word: BucketWord,
-    site: &Site<'_, S>,
+    seen: &Seen<'_, S>,
     change: Change,
 ) -> Result<Reply, Contended>
     requires own { caller.old.seat.row ≡ row.now }
-    requires seen { HasSeen (sizes_of S.Shape) caller.old.seat.view site.now.bucket word
-        (λ e block. IsPairIn (sizes_of S.Shape) e block (S.words_of site.now.key.now) None) }
-    requires unworn { length (known_at caller.old.seat.view.known site.now.bucket) < S.LIMIT }
+    requires seen { HasSeen (sizes_of S.Shape) caller.old.seat.view seen.now.site.bucket seen.now.word
+        (λ e block. IsPairIn (sizes_of S.Shape) e block (S.words_of seen.now.site.key.now) None) }
+    requires unworn { length (known_at caller.old.seat.view.known seen.now.site.bucket) < S.LIMIT }
     requires wanted { effect_of change None ≢ Keep }
     requires storable { IsStorable change }
-    ensures { Tried ⟦<S as Shape>⟧ caller.old.seat caller.new.seat site.now.bucket site.now.key.now None change result }
+    ensures { Tried ⟦<S as Shape>⟧ caller.old.seat caller.new.seat seen.now.site.bucket seen.now.site.key.now None change result }
 {
     let Change::Set(value) = change else {
         unreachable!();
     };
     let seat = &mut caller.seat;
-    match find_free(row, seat, word, site) {
+    match find_free(row, seat, seen.word, &seen.site) {
         Some(place) => {
-            if !lock_seen(row, seat, site.bucket, word) {
+            if !lock_seen(row, seat, seen.site.bucket, seen.word) {
                 return Err(Contended);
             }
-            Ok(fill(row, seat, site.bucket, word, site.key, place, value))
+            Ok(fill(
+                row,
+                seat,
+                seen.site.bucket,
+                seen.word,
+                seen.site.key,
+                place,
+                value,
+            ))
         }
-        None => enter_larger(row, caller, word, site, value),
+        None => enter_larger(row, caller, seen, value),
     }
 }

@@ -60,6 +60,8 @@ impl<S: Shape> Sessions<S> {
         ensures same { caller.new.seat ≡ with_view caller.old.seat caller.new.seat.view }
         ensures answered { IsUpdated (sizes_of S.Shape) caller.old.seat.view caller.new.seat.view
             (S.words_of key.now) (λ _. Set value) result }
+        ensures no_lock { caller.old.seat.view.lone ≡ true → is_without_lock result ≡ true
+            → locks_of caller.new.seat.view.records ≡ locks_of caller.old.seat.view.records }
         ensures no_pages { (log2 left : ℕ) → result ≡ NoPages log2 left
             → IsShortage ⟦<S as Shape>⟧ caller.new.seat.view (bucket_of (sizes_of S.Shape) (S.words_of key.now))
             key.now log2 left }
@@ -82,6 +84,8 @@ impl<S: Shape> Sessions<S> {
         ensures same { caller.new.seat ≡ with_view caller.old.seat caller.new.seat.view }
         ensures answered { IsUpdated (sizes_of S.Shape) caller.old.seat.view caller.new.seat.view
             (S.words_of key.now) (set_if_absent value) result }
+        ensures no_lock { caller.old.seat.view.lone ≡ true → is_without_lock result ≡ true
+            → locks_of caller.new.seat.view.records ≡ locks_of caller.old.seat.view.records }
         ensures no_pages { (log2 left : ℕ) → result ≡ NoPages log2 left
             → IsShortage ⟦<S as Shape>⟧ caller.new.seat.view (bucket_of (sizes_of S.Shape) (S.words_of key.now))
             key.now log2 left }
@@ -98,6 +102,8 @@ impl<S: Shape> Sessions<S> {
         ensures same { caller.new.seat ≡ with_view caller.old.seat caller.new.seat.view }
         ensures answered { IsUpdated (sizes_of S.Shape) caller.old.seat.view caller.new.seat.view
             (S.words_of key.now) (set_if_present value) result }
+        ensures no_lock { caller.old.seat.view.lone ≡ true → is_without_lock result ≡ true
+            → locks_of caller.new.seat.view.records ≡ locks_of caller.old.seat.view.records }
         ensures no_pages { (log2 left : ℕ) → result ≡ NoPages log2 left
             → IsShortage ⟦<S as Shape>⟧ caller.new.seat.view (bucket_of (sizes_of S.Shape) (S.words_of key.now))
             key.now log2 left }
@@ -113,6 +119,8 @@ impl<S: Shape> Sessions<S> {
         ensures same { caller.new.seat ≡ with_view caller.old.seat caller.new.seat.view }
         ensures answered { IsUpdated (sizes_of S.Shape) caller.old.seat.view caller.new.seat.view
             (S.words_of key.now) (λ _. Remove) result }
+        ensures no_lock { caller.old.seat.view.lone ≡ true → is_without_lock result ≡ true
+            → locks_of caller.new.seat.view.records ≡ locks_of caller.old.seat.view.records }
         ensures no_pages { (log2 left : ℕ) → result ≡ NoPages log2 left
             → IsShortage ⟦<S as Shape>⟧ caller.new.seat.view (bucket_of (sizes_of S.Shape) (S.words_of key.now))
             key.now log2 left }

@@ -17,13 +17,16 @@ pub validate-requires-clause-may : goal.validate-requires-clause-may
 validate-requires-clause-may g c =
     let z = sizes_of g.S.Shape in
     let v = c.args.seat.now.view in
-    let site = c.args.site.now in
+    let site = c.args.seen.now.site in
     let key = g.S.Shape.words_of site.key.now in
     let h = c.requires.seen in
-    seen_answer z v site.bucket c.args.word h (event key c.args.found c.args.change (Kept c.args.found))
+    seen_answer z v site.bucket c.args.seen.now.word h (event key c.args.found c.args.change (Kept c.args.found))
     (record { long = site.counted; home = sym site.home }) refl (λ log2 left e. absurd cc)
-    (λ told. (map_now v site.bucket, kept_step (bounds_of z) (map_now v site.bucket) (length (known_at v.known site.bucket)) key
-    c.args.found c.args.change (told (map_now v site.bucket) h.seen.pairs) c.requires.idle))
+    (λ told. (
+      map_now v site.bucket,
+      kept_step (bounds_of z) (map_now v site.bucket) (length (known_at v.known site.bucket)) key
+          c.args.found c.args.change (told (map_now v site.bucket) h.seen.pairs) c.requires.idle,
+    ))
 
 pub returns-then-not-validate-clause-tried : goal.returns-then-not-validate-clause-tried
 returns-then-not-validate-clause-tried g c = tried_invalid g.S.Shape _ _ _ _ _ _ _ c.requires.seen c.validate.ensures.lawful _
@@ -32,5 +35,5 @@ returns-then-not-validate-clause-tried g c = tried_invalid g.S.Shape _ _ _ _ _ _
 
 pub returns-clause-tried : goal.returns-clause-tried
 returns-clause-tried g c = tried_valid g.S.Shape _ _ _ _ _ _ _ c.requires.seen c.validate.ensures.lawful
-    (Kept c.args.found) (c.validate.ensures.valid c.if-not-validate.false) (sym c.args.site.now.home)
+    (Kept c.args.found) (c.validate.ensures.valid c.if-not-validate.false) (sym c.args.seen.now.site.home)
     (λ log2 left e. absurd cc)

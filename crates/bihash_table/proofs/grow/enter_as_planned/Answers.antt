@@ -22,9 +22,12 @@ read_block-requires-clause-open g c =
     let v = c.args.seat.now.view in
     let h = c.requires.seen.seen in
     let e = h.extent in
-    let tells = word_notes z v c.args.word e h.block in
-    (e, h.block, places_read e.page e.page e.log2 c.place_count.result _ c.args.old.now refl
-    (c.place_count.ensures.count e tells) c.place_count.ensures.few c.requires.old_room)
+    let tells = word_notes z v c.args.seen.now.word e h.block in (
+      e,
+      h.block,
+      places_read e.page e.page e.log2 c.place_count.result _ c.args.old.now refl
+          (c.place_count.ensures.count e tells) c.place_count.ensures.few c.requires.old_room,
+    )
 
 pub plan-requires-clause-small : goal.plan-requires-clause-small
 plan-requires-clause-small g c =
@@ -32,8 +35,8 @@ plan-requires-clause-small g c =
     let v = c.args.seat.now.view in
     let h = c.requires.seen.seen in
     let e = h.extent in
-    let tells = word_notes z v c.args.word e h.block in
-    omega (arith, tells.small, log2_is z c.args.word e tells c.log2.result c.log2.ensures)
+    let tells = word_notes z v c.args.seen.now.word e h.block in
+    omega (arith, tells.small, log2_is z c.args.seen.now.word e tells c.log2.result c.log2.ensures)
 
 pub plan-requires-clause-sized : goal.plan-requires-clause-sized
 plan-requires-clause-sized g c =
@@ -41,8 +44,8 @@ plan-requires-clause-sized g c =
     let v = c.args.seat.now.view in
     let h = c.requires.seen.seen in
     let e = h.extent in
-    let tells = word_notes z v c.args.word e h.block in
-    let log2_at = log2_is z c.args.word e tells c.log2.result c.log2.ensures in
+    let tells = word_notes z v c.args.seen.now.word e h.block in
+    let log2_at = log2_is z c.args.seen.now.word e tells c.log2.result c.log2.ensures in
     sized e.page c.log2.result (length c.read_block.new.out) (c.read_block.ensures.sized
     ∙ places_read e.page e.page e.log2 c.place_count.result _ c.args.old.now refl
     (c.place_count.ensures.count e tells) c.place_count.ensures.few c.requires.old_room
@@ -51,22 +54,22 @@ plan-requires-clause-sized g c =
 pub crowd-requires-clause-seen : goal.crowd-requires-clause-seen
 crowd-requires-clause-seen g c =
     let z = sizes_of g.S.Shape in
-    let site = c.args.site.now in
+    let site = c.args.seen.now.site in
     let b = site.bucket in
     let y = c.read_block.new.seat in
-    let h = seen_more z c.args.seat.now.view y.view b c.args.word c.read_block.ensures.saw c.requires.seen in
+    let h = seen_more z c.args.seat.now.view y.view b c.args.seen.now.word c.read_block.ensures.saw c.requires.seen in
     let keys : AreKeyWords g.S.Shape = record { law = g.met.S.Shape.key_of_words } in
-    full_seen g.S.Shape keys y.view b c.args.word site.key.now c.read_block.new.out h c.log2.result c.linear.result
+    full_seen g.S.Shape keys y.view b c.args.seen.now.word site.key.now c.read_block.new.out h c.log2.result c.linear.result
     c.log2.ensures c.linear.ensures c.plan.result c.plan.ensures.exact c.in_default.not-Grow
 
 pub crowd-requires-clause-unworn : goal.crowd-requires-clause-unworn
 crowd-requires-clause-unworn g c =
     subst (λ (l : List Write). length l < g.S.Shape.LIMIT)
-    (sym (saw_known c.args.seat.now.view c.read_block.new.seat.view c.args.site.now.bucket c.read_block.ensures.saw)) c.requires.unworn
+    (sym (saw_known c.args.seat.now.view c.read_block.new.seat.view c.args.seen.now.site.bucket c.read_block.ensures.saw)) c.requires.unworn
 
 pub returns-in_default : goal.returns-in_default
 returns-in_default g c =
-    let site = c.args.site.now in
+    let site = c.args.seen.now.site in
     tried_saw g.S.Shape c.args.seat.now c.read_block.new.seat c.crowd.new.seat site.bucket site.key.now None (Set c.args.value)
     c.read_block.ensures.same c.read_block.ensures.saw (sym site.home) c.crowd.result c.crowd.ensures.tried
 
@@ -91,15 +94,15 @@ lay-requires-clause-sized g c =
 pub lock_seen-requires-clause-seen : goal.lock_seen-requires-clause-seen
 lock_seen-requires-clause-seen g c =
     let z = sizes_of g.S.Shape in
-    let site = c.args.site.now in
+    let site = c.args.seen.now.site in
     let b = site.bucket in
     let y = c.read_block.new.seat in
-    let h = seen_more z c.args.seat.now.view y.view b c.args.word c.read_block.ensures.saw c.requires.seen in
+    let h = seen_more z c.args.seat.now.view y.view b c.args.seen.now.word c.read_block.ensures.saw c.requires.seen in
     h.seen
 
 pub returns-then-not-lock_seen : goal.returns-then-not-lock_seen
 returns-then-not-lock_seen g c =
-    let site = c.args.site.now in
+    let site = c.args.seen.now.site in
     tried_saw g.S.Shape c.args.seat.now c.read_block.new.seat c.lock_seen.new.seat site.bucket site.key.now None (Set c.args.value)
     c.read_block.ensures.same c.read_block.ensures.saw (sym site.home) (Err _)
     (tried_away g.S.Shape c.read_block.new.seat c.lock_seen.new.seat site.bucket site.key.now None (Set c.args.value) _
@@ -111,42 +114,42 @@ enter-requires-clause-lock g c =
     let k = c.lock_seen.ensures.locked c.if-not-lock_seen.false in (k.locked.lock, k.locked.has)
 
 pub enter-requires-clause-home : goal.enter-requires-clause-home
-enter-requires-clause-home g c = sym c.args.site.now.home
+enter-requires-clause-home g c = sym c.args.seen.now.site.home
 
 pub enter-requires-clause-counted : goal.enter-requires-clause-counted
-enter-requires-clause-counted g c = c.args.site.now.counted
+enter-requires-clause-counted g c = c.args.seen.now.site.counted
 
 pub enter-requires-clause-unworn : goal.enter-requires-clause-unworn
 enter-requires-clause-unworn g c =
     let k = c.lock_seen.ensures.locked c.if-not-lock_seen.false in
     subst (λ (l : List Write). length l < g.S.Shape.LIMIT)
-    (sym (k.known ∙ saw_known c.args.seat.now.view c.read_block.new.seat.view c.args.site.now.bucket c.read_block.ensures.saw))
+    (sym (k.known ∙ saw_known c.args.seat.now.view c.read_block.new.seat.view c.args.seen.now.site.bucket c.read_block.ensures.saw))
     c.requires.unworn
 
 pub enter-requires-clause-new : goal.enter-requires-clause-new
 enter-requires-clause-new g c =
     let z = sizes_of g.S.Shape in
-    let site = c.args.site.now in
+    let site = c.args.seen.now.site in
     let b = site.bucket in
     let y = c.read_block.new.seat in
-    let h = seen_more z c.args.seat.now.view y.view b c.args.word c.read_block.ensures.saw c.requires.seen in
+    let h = seen_more z c.args.seat.now.view y.view b c.args.seen.now.word c.read_block.ensures.saw c.requires.seen in
     let k = c.lock_seen.ensures.locked c.if-not-lock_seen.false in
     let keys : AreKeyWords g.S.Shape = record { law = g.met.S.Shape.key_of_words } in
     let u = c.lock_seen.new.seat in
-    absent_there g.S.Shape keys y.view b c.args.word site.key.now c.read_block.new.out h c.log2.result c.linear.result
+    absent_there g.S.Shape keys y.view b c.args.seen.now.word site.key.now c.read_block.new.out h c.log2.result c.linear.result
     c.log2.ensures c.linear.ensures (Grow c.in-Grow.log2 c.in-Grow.linear) c.in-Grow.ensures.exact u.view k
 
 pub enter-requires-clause-room : goal.enter-requires-clause-room
 enter-requires-clause-room g c =
     let z = sizes_of g.S.Shape in
-    let site = c.args.site.now in
+    let site = c.args.seen.now.site in
     let b = site.bucket in
     let y = c.read_block.new.seat in
-    let h = seen_more z c.args.seat.now.view y.view b c.args.word c.read_block.ensures.saw c.requires.seen in
+    let h = seen_more z c.args.seat.now.view y.view b c.args.seen.now.word c.read_block.ensures.saw c.requires.seen in
     let k = c.lock_seen.ensures.locked c.if-not-lock_seen.false in
     let keys : AreKeyWords g.S.Shape = record { law = g.met.S.Shape.key_of_words } in
     let u = c.lock_seen.new.seat in
-    room_there g.S.Shape keys y.view b c.args.word site.key.now c.read_block.new.out h c.log2.result c.linear.result
+    room_there g.S.Shape keys y.view b c.args.seen.now.word site.key.now c.read_block.new.out h c.log2.result c.linear.result
     c.log2.ensures c.linear.ensures (Grow c.in-Grow.log2 c.in-Grow.linear) c.in-Grow.ensures.exact u.view k
     c.in-Grow.log2 c.in-Grow.linear refl
 
@@ -159,14 +162,14 @@ enter-requires-clause-sized g c =
 pub enter-requires-clause-laid : goal.enter-requires-clause-laid
 enter-requires-clause-laid g c =
     let z = sizes_of g.S.Shape in
-    let site = c.args.site.now in
+    let site = c.args.seen.now.site in
     let b = site.bucket in
     let y = c.read_block.new.seat in
-    let h = seen_more z c.args.seat.now.view y.view b c.args.word c.read_block.ensures.saw c.requires.seen in
+    let h = seen_more z c.args.seat.now.view y.view b c.args.seen.now.word c.read_block.ensures.saw c.requires.seen in
     let k = c.lock_seen.ensures.locked c.if-not-lock_seen.false in
     let keys : AreKeyWords g.S.Shape = record { law = g.met.S.Shape.key_of_words } in
     let u = c.lock_seen.new.seat in
-    laid_there g.S.Shape keys y.view b c.args.word site.key.now c.read_block.new.out h c.log2.result c.linear.result
+    laid_there g.S.Shape keys y.view b c.args.seen.now.word site.key.now c.read_block.new.out h c.log2.result c.linear.result
     c.log2.ensures c.linear.ensures (Grow c.in-Grow.log2 c.in-Grow.linear) c.in-Grow.ensures.exact u.view k
     c.in-Grow.log2 c.in-Grow.linear refl c.args.value c.lay.new.out c.requires.storable c.lay.ensures
 
@@ -177,10 +180,10 @@ weaker (Err e) more h = tt
 pub returns : goal.returns
 returns g c =
     let z = sizes_of g.S.Shape in
-    let site = c.args.site.now in
+    let site = c.args.seen.now.site in
     let b = site.bucket in
     let y = c.read_block.new.seat in
-    let h = seen_more z c.args.seat.now.view y.view b c.args.word c.read_block.ensures.saw c.requires.seen in
+    let h = seen_more z c.args.seat.now.view y.view b c.args.seen.now.word c.read_block.ensures.saw c.requires.seen in
     let k = c.lock_seen.ensures.locked c.if-not-lock_seen.false in
     let keys : AreKeyWords g.S.Shape = record { law = g.met.S.Shape.key_of_words } in
     let u = c.lock_seen.new.seat in
@@ -188,12 +191,12 @@ returns g c =
     let home = sym site.home in
     tried_saw g.S.Shape c.args.seat.now y t b site.key.now None (Set c.args.value)
     c.read_block.ensures.same c.read_block.ensures.saw home c.enter.result
-    (tried_locked g.S.Shape y u t b c.args.word site.key.now None (Set c.args.value) c.lock_seen.ensures.same k home
+    (tried_locked g.S.Shape y u t b c.args.seen.now.word site.key.now None (Set c.args.value) c.lock_seen.ensures.same k home
     c.enter.ensures.same c.enter.ensures.lawful c.enter.result c.enter.ensures.answered
     (weaker c.enter.result (λ reply told_of wanted left e.
     let w = told_of wanted left e in
     subst (λ (n : ℕ). IsShortage g.S.Shape t.view b site.key.now n left) (sym w.0)
-    (short_there g.S.Shape keys y.view b c.args.word site.key.now c.read_block.new.out h c.log2.result c.linear.result
+    (short_there g.S.Shape keys y.view b c.args.seen.now.word site.key.now c.read_block.new.out h c.log2.result c.linear.result
     c.log2.ensures c.linear.ensures (Grow c.in-Grow.log2 c.in-Grow.linear) c.in-Grow.ensures.exact u.view k
     c.in-Grow.log2 c.in-Grow.linear refl t.view w.1 left w.2.0 w.2.1 w.2.2)) c.enter.ensures.no_pages)
     c.enter.ensures.paid c.enter.ensures.contended c.enter.ensures.lone)

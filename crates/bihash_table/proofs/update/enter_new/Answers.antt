@@ -16,7 +16,7 @@ pub lock_seen-requires-clause-seen : goal.lock_seen-requires-clause-seen
 lock_seen-requires-clause-seen g c = (seen_more (sizes_of g.S.Shape) _ _ _ _ c.in-Some.ensures.saw c.requires.seen).seen
 
 pub returns-then-not-lock_seen : goal.returns-then-not-lock_seen
-returns-then-not-lock_seen g c = let site = c.args.site.now in
+returns-then-not-lock_seen g c = let site = c.args.seen.now.site in
     tried_saw g.S.Shape c.args.caller.now.seat c.find_free.new.seat c.lock_seen.new.seat site.bucket site.key.now None c.args.change
     c.find_free.ensures.same c.in-Some.ensures.saw (sym site.home) (Err _)
     (tried_away g.S.Shape _ _ _ _ _ _ _ c.lock_seen.ensures.same (c.lock_seen.ensures.turned_away c.if-not-lock_seen.true)
@@ -29,33 +29,33 @@ fill-requires-clause-lock g c =
     (k.locked.lock, k.locked.has, told.1.0)
 
 pub fill-requires-clause-home : goal.fill-requires-clause-home
-fill-requires-clause-home g c = sym c.args.site.now.home
+fill-requires-clause-home g c = sym c.args.seen.now.site.home
 
 pub fill-requires-clause-counted : goal.fill-requires-clause-counted
-fill-requires-clause-counted g c = c.args.site.now.counted
+fill-requires-clause-counted g c = c.args.seen.now.site.counted
 
 pub fill-requires-clause-unworn : goal.fill-requires-clause-unworn
 fill-requires-clause-unworn g c = let k = c.lock_seen.ensures.locked c.if-not-lock_seen.false in
     subst (λ (l : List Write). length l < g.S.Shape.LIMIT)
-    (sym (k.known ∙ saw_known c.args.caller.now.seat.view c.find_free.new.seat.view c.args.site.now.bucket c.in-Some.ensures.saw)) c.requires.unworn
+    (sym (k.known ∙ saw_known c.args.caller.now.seat.view c.find_free.new.seat.view c.args.seen.now.site.bucket c.in-Some.ensures.saw)) c.requires.unworn
 
 pub fill-requires-clause-new : goal.fill-requires-clause-new
 fill-requires-clause-new g c =
     let z = sizes_of g.S.Shape in
     let k = c.lock_seen.ensures.locked c.if-not-lock_seen.false in
     let told = told_locked z _ _ _ _ (seen_more z _ _ _ _ c.in-Some.ensures.saw c.requires.seen) k in
-    sym (pair_value z k.locked.lock.extent k.locked.lock.now (g.S.Shape.words_of c.args.site.now.key.now) _ None told.0 k.locked.has.pairs)
+    sym (pair_value z k.locked.lock.extent k.locked.lock.now (g.S.Shape.words_of c.args.seen.now.site.key.now) _ None told.0 k.locked.has.pairs)
 
 pub fill-requires-clause-storable : goal.fill-requires-clause-storable
 fill-requires-clause-storable g c = subst IsStorable c.in-Set.is c.requires.storable
 
 pub returns-else-not-lock_seen : goal.returns-else-not-lock_seen
-returns-else-not-lock_seen g c = let site = c.args.site.now in
+returns-else-not-lock_seen g c = let site = c.args.seen.now.site in
     subst (λ (d : Change). Tried g.S.Shape c.args.caller.now.seat c.fill.new.caller site.bucket site.key.now None d (Ok c.fill.result))
     (sym c.in-Set.is)
     (tried_saw g.S.Shape c.args.caller.now.seat c.find_free.new.seat c.fill.new.caller site.bucket site.key.now None _
     c.find_free.ensures.same c.in-Some.ensures.saw (sym site.home) (Ok c.fill.result)
-    (tried_write g.S.Shape c.find_free.new.seat c.lock_seen.new.seat c.fill.new.caller site.bucket c.args.word site.key.now _ _
+    (tried_write g.S.Shape c.find_free.new.seat c.lock_seen.new.seat c.fill.new.caller site.bucket c.args.seen.now.word site.key.now _ _
     c.lock_seen.ensures.same (c.lock_seen.ensures.locked c.if-not-lock_seen.false) (sym site.home) c.fill.ensures.same
     c.fill.ensures.lawful c.fill.result c.fill.ensures.changed c.fill.ensures.answered))
 
@@ -65,13 +65,13 @@ enter_larger-requires-clause-seen g c = seen_more (sizes_of g.S.Shape) _ _ _ _ c
 pub enter_larger-requires-clause-unworn : goal.enter_larger-requires-clause-unworn
 enter_larger-requires-clause-unworn g c =
     subst (λ (l : List Write). length l < g.S.Shape.LIMIT)
-    (sym (saw_known c.args.caller.now.seat.view c.find_free.new.seat.view c.args.site.now.bucket c.in-None.ensures.saw)) c.requires.unworn
+    (sym (saw_known c.args.caller.now.seat.view c.find_free.new.seat.view c.args.seen.now.site.bucket c.in-None.ensures.saw)) c.requires.unworn
 
 pub enter_larger-requires-clause-storable : goal.enter_larger-requires-clause-storable
 enter_larger-requires-clause-storable g c = subst IsStorable c.in-Set.is c.requires.storable
 
 pub returns-in-None : goal.returns-in-None
-returns-in-None g c = let site = c.args.site.now in
+returns-in-None g c = let site = c.args.seen.now.site in
     subst (λ (d : Change). Tried g.S.Shape c.args.caller.now.seat c.enter_larger.new.caller.seat site.bucket site.key.now None d
     c.enter_larger.result) (sym c.in-Set.is)
     (tried_saw g.S.Shape c.args.caller.now.seat c.find_free.new.seat c.enter_larger.new.caller.seat site.bucket site.key.now None _
