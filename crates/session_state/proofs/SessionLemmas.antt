@@ -80,8 +80,14 @@ bit_fits false = omega arith
 -- the word of a session is no mark of a free place
 pub word_is_storable : (session : SessionFacts) → IsSession session → session_word session ≢ free_mark
 word_is_storable session fits free =
-    omega (arith, fits.moment, flags_fit session.first_flags fits.first, flags_fit session.second_flags fits.second,
-    bit_fits session.tcp, free)
+    omega (
+      arith,
+      fits.moment,
+      flags_fit session.first_flags fits.first,
+      flags_fit session.second_flags fits.second,
+      bit_fits session.tcp,
+      free,
+    )
 
 -- a session is the session of its word
 pub session_of_word : (session : SessionFacts) → IsSession session → session_of (session_word session) ≡ Some session
