@@ -1,7 +1,13 @@
-//! The shared table in plain Rust, without proofs: what `bench/measure_tables` compares with. It has the
-//! same layout, the same locks and the same growth, and makes the same calls as `bench/tables.program`.
-//! Built with `--cfg ordered`, each atomic step is sequentially consistent, as in the proved table.
-//! With the argument `open`, searches take no lock: they read the bucket word once more behind the pair.
+//! The shared table in plain Rust, without proofs: what `bench/measure_tables` compares with. It has the same layout,
+//! the same locks, the same growth and the same answers, and makes the same calls as `bench/tables.program`.
+//!
+//! It is what one would write by hand for this design. The hash is computed once a call. A search takes no lock: it
+//! reads the bucket's word, the places of one page, and the word again. An update reads and decides in the same way and
+//! then locks the bucket from the word that it saw, so that it looks for the key once. The places are looked at one after
+//! the other, and the first word that differs ends the look at a place. Atomic steps have the weakest order that is
+//! right: acquire and release at the locks, relaxed at the words of the pages, and a fence where a relaxed step needs
+//! one. Built with `--cfg ordered`, each step is sequentially consistent, as in the proved table. Built with
+//! `--cfg masked`, a search compares the last word of the four keys of a page before it branches, as the proved one does.
 
 use std::hint::spin_loop;
 use std::sync::atomic::{AtomicU64, Ordering, fence};
@@ -12,8 +18,9 @@ const FREE: u64 = u64::MAX;
 const PAGE_PLACES: usize = 4;
 const MAX_LOG2: u64 = 6;
 const LOCK: u64 = 1 << 30;
+const LIMIT: u64 = (1 << 33) - 1;
 
-const CALLS: u64 = 8_000_000;
+const CALLS: u64 = 4_000_000;
 const ABSENT: u64 = 1 << 40;
 const OWN_KEYS: u64 = 512;
 
@@ -29,6 +36,14 @@ const ACQUIRE: Ordering = Ordering::SeqCst;
 const RELEASE: Ordering = Ordering::SeqCst;
 #[cfg(ordered)]
 const RELAXED: Ordering = Ordering::SeqCst;
+
+/// A fence for relaxed steps. Sequentially consistent ones need none.
+#[inline(always)]
+fn order(fence_of: Ordering) {
+    if cfg!(not(ordered)) {
+        fence(fence_of);
+    }
+}
 
 fn mix(z: u64) -> u64 {
     let z = (z ^ (z >> 30)).wrapping_mul(0xbf58476d1ce4e5b9);
@@ -70,6 +85,10 @@ impl Word {
         if self.page() == 0 { 0 } else { PAGE_PLACES << self.log2() }
     }
 
+    fn locked(self) -> bool {
+        self.0 & LOCK != 0
+    }
+
     fn next(self) -> Word {
         Word(self.0 + (1 << 31))
     }
@@ -77,8 +96,9 @@ impl Word {
 
 #[derive(Clone, Copy, PartialEq)]
 enum Reply {
-    Kept,
+    Kept(Option<u64>),
     Changed(Option<u64>),
+    Worn(Option<u64>),
     Full,
     NoPages,
 }
@@ -134,18 +154,37 @@ impl<const W: usize, const B: u64> Table<W, B> {
         }
     }
 
+    /// A bucket's word, once it isn't locked.
     #[inline(always)]
-    fn lock(&self, bucket: usize) -> Word {
-        let at = &self.buckets[bucket];
+    fn look(&self, bucket: usize) -> Word {
         loop {
-            let word = at.load(RELAXED);
-            if word & LOCK == 0
-                && at.compare_exchange(word, word | LOCK, ACQUIRE, RELAXED).is_ok()
-            {
-                return Word(word);
+            let word = Word(self.buckets[bucket].load(ACQUIRE));
+            if !word.locked() {
+                return word;
             }
             spin_loop();
         }
+    }
+
+    /// Whether the bucket still has this word, so that what was read since is its block's.
+    #[inline(always)]
+    fn validate(&self, caller: &mut Caller<W>, bucket: usize, word: Word) -> bool {
+        order(ACQUIRE);
+        let still = self.buckets[bucket].load(RELAXED) == word.0;
+        if still {
+            caller.stamp = (bucket as u64, word.version());
+        }
+        still
+    }
+
+    /// Locks a bucket that still has this word.
+    #[inline(always)]
+    fn lock(&self, bucket: usize, word: Word) -> bool {
+        let at = &self.buckets[bucket];
+        let locked = at.compare_exchange(word.0, word.0 | LOCK, ACQUIRE, RELAXED).is_ok();
+        // Who reads a word that is stored from here on finds the lock afterwards.
+        order(RELEASE);
+        locked
     }
 
     #[inline(always)]
@@ -170,49 +209,51 @@ impl<const W: usize, const B: u64> Table<W, B> {
     }
 
     /// The place of the key's pair, and its value.
+    #[cfg(not(masked))]
     #[inline(always)]
     fn find<'a>(&'a self, word: Word, hash: u64, key: &[u64; W]) -> Option<(&'a [AtomicU64], u64)> {
-        for place in self.open(word, hash).chunks_exact(Self::PLACE) {
-            let mut same = true;
-            for i in 0..W {
-                if place[i].load(RELAXED) != key[i] {
-                    same = false;
-                    break;
-                }
+        self.open(word, hash).chunks_exact(Self::PLACE).find_map(|place| Self::value_at(place, key, W))
+    }
+
+    /// The same, page by page, with one branch where no key of a page ends with the same word.
+    #[cfg(masked)]
+    #[inline(always)]
+    fn find<'a>(&'a self, word: Word, hash: u64, key: &[u64; W]) -> Option<(&'a [AtomicU64], u64)> {
+        for page in self.open(word, hash).chunks_exact(Self::PAGE) {
+            let ends: [bool; PAGE_PLACES] =
+                std::array::from_fn(|i| page[i * Self::PLACE + W - 1].load(RELAXED) == key[W - 1]);
+            if !(ends[0] | ends[1] | ends[2] | ends[3]) {
+                continue;
             }
-            if same {
-                let value = place[W].load(RELAXED);
-                if value != FREE {
-                    return Some((place, value));
+            for (place, _) in page.chunks_exact(Self::PLACE).zip(ends).filter(|(_, ends)| *ends) {
+                if let Some(pair) = Self::value_at(place, key, W - 1) {
+                    return Some(pair);
                 }
             }
         }
         None
     }
 
+    /// A place and its value, where the place has a pair and its first words are those of the key.
+    #[inline(always)]
+    fn value_at<'a>(place: &'a [AtomicU64], key: &[u64; W], words: usize) -> Option<(&'a [AtomicU64], u64)> {
+        for i in 0..words {
+            if place[i].load(RELAXED) != key[i] {
+                return None;
+            }
+        }
+        let value = place[W].load(RELAXED);
+        (value != FREE).then_some((place, value))
+    }
+
     fn search(&self, caller: &mut Caller<W>, key: &[u64; W]) -> Option<u64> {
         let hash = hash(key);
         let bucket = hash as usize & ((1 << B) - 1);
-        let word = self.lock(bucket);
-        let found = self.find(word, hash, key).map(|(_, value)| value);
-        self.unlock(caller, bucket, word);
-        found
-    }
-
-    /// The same without a lock.
-    fn open_search(&self, caller: &mut Caller<W>, key: &[u64; W]) -> Option<u64> {
-        let hash = hash(key);
-        let bucket = hash as usize & ((1 << B) - 1);
-        let at = &self.buckets[bucket];
         loop {
-            let word = at.load(ACQUIRE);
-            if word & LOCK == 0 {
-                let found = self.find(Word(word), hash, key).map(|(_, value)| value);
-                fence(ACQUIRE);
-                if at.load(RELAXED) == word {
-                    caller.stamp = (bucket as u64, Word(word).version());
-                    return found;
-                }
+            let word = self.look(bucket);
+            let found = self.find(word, hash, key).map(|(_, value)| value);
+            if self.validate(caller, bucket, word) {
+                return found;
             }
             spin_loop();
         }
@@ -221,54 +262,73 @@ impl<const W: usize, const B: u64> Table<W, B> {
     fn update(&self, caller: &mut Caller<W>, key: &[u64; W], change: Change) -> Reply {
         let hash = hash(key);
         let bucket = hash as usize & ((1 << B) - 1);
-        let word = self.lock(bucket);
-        match (change, self.find(word, hash, key)) {
-            (Change::Set(value), Some((place, found))) => {
-                if value == found {
-                    self.unlock(caller, bucket, word);
-                    return Reply::Kept;
+        loop {
+            let word = self.look(bucket);
+            let pair = self.find(word, hash, key);
+            let found = pair.map(|(_, value)| value);
+            let refusal = match (change, found) {
+                (Change::Set(value), Some(old)) if value == old => Some(Reply::Kept(found)),
+                (Change::Remove, None) => Some(Reply::Kept(None)),
+                _ if word.version() == LIMIT => Some(Reply::Worn(found)),
+                _ => None,
+            };
+            if let Some(reply) = refusal {
+                if self.validate(caller, bucket, word) {
+                    return reply;
+                }
+            } else if self.lock(bucket, word) {
+                return match (change, pair) {
+                    (Change::Set(value), None) => self.enter(caller, bucket, word, hash, key, value),
+                    (Change::Set(value), Some((place, _))) => {
+                        place[W].store(value, RELAXED);
+                        self.unlock(caller, bucket, word.next());
+                        Reply::Changed(found)
+                    }
+                    (Change::Remove, pair) => self.remove(caller, bucket, word, pair),
+                };
+            }
+            spin_loop();
+        }
+    }
+
+    /// Adds a pair whose key has none, under the lock.
+    #[inline(always)]
+    fn enter(&self, caller: &mut Caller<W>, bucket: usize, word: Word, hash: u64, key: &[u64; W], value: u64) -> Reply {
+        for place in self.open(word, hash).chunks_exact(Self::PLACE) {
+            if place[W].load(RELAXED) == FREE {
+                for i in 0..W {
+                    place[i].store(key[i], RELAXED);
                 }
                 place[W].store(value, RELAXED);
                 self.unlock(caller, bucket, word.next());
-                Reply::Changed(Some(found))
-            }
-            (Change::Set(value), None) => {
-                for place in self.open(word, hash).chunks_exact(Self::PLACE) {
-                    if place[W].load(RELAXED) == FREE {
-                        for i in 0..W {
-                            place[i].store(key[i], RELAXED);
-                        }
-                        place[W].store(value, RELAXED);
-                        self.unlock(caller, bucket, word.next());
-                        return Reply::Changed(None);
-                    }
-                }
-                self.grow(caller, bucket, word, key, value)
-            }
-            (Change::Remove, Some((place, found))) => {
-                let first = (word.page() - 1) as usize * Self::PAGE;
-                let all = &self.pages[first..first + (Self::PAGE << word.log2())];
-                let own = place.as_ptr();
-                let others = all.chunks_exact(Self::PLACE).any(|other| {
-                    other.as_ptr() != own && other[W].load(RELAXED) != FREE
-                });
-                if others {
-                    place[W].store(FREE, RELAXED);
-                    self.unlock(caller, bucket, word.next());
-                } else {
-                    self.lock_store();
-                    let none = Word::pack(0, 0, false, word.version() + 1);
-                    self.unlock(caller, bucket, none);
-                    self.give_back(word.log2(), word.page());
-                    self.lock.store(0, RELEASE);
-                }
-                Reply::Changed(Some(found))
-            }
-            (Change::Remove, None) => {
-                self.unlock(caller, bucket, word);
-                Reply::Kept
+                return Reply::Changed(None);
             }
         }
+        self.grow(caller, bucket, word, key, value)
+    }
+
+    /// Removes a pair, under the lock. Where it was the bucket's last one, its block goes.
+    #[inline(always)]
+    fn remove(&self, caller: &mut Caller<W>, bucket: usize, word: Word, pair: Option<(&[AtomicU64], u64)>) -> Reply {
+        let Some((place, found)) = pair else {
+            return Reply::Kept(None);
+        };
+        let first = (word.page() - 1) as usize * Self::PAGE;
+        let all = &self.pages[first..first + (Self::PAGE << word.log2())];
+        let own = place.as_ptr();
+        let others = all
+            .chunks_exact(Self::PLACE)
+            .any(|other| other.as_ptr() != own && other[W].load(RELAXED) != FREE);
+        if others {
+            place[W].store(FREE, RELAXED);
+            self.unlock(caller, bucket, word.next());
+        } else {
+            self.lock_store();
+            self.unlock(caller, bucket, Word::pack(0, 0, false, word.version() + 1));
+            self.give_back(word.log2(), word.page());
+            self.lock.store(0, RELEASE);
+        }
+        Reply::Changed(Some(found))
     }
 
     #[inline(never)]
@@ -303,6 +363,8 @@ impl<const W: usize, const B: u64> Table<W, B> {
                 *free = *pair;
             }
         }
+        // Who reads a word of a block that its bucket no longer has finds that bucket's word changed afterwards.
+        order(RELEASE);
         let first = (page - 1) as usize * Self::PAGE;
         let block = &self.pages[first..first + (Self::PAGE << log2)];
         for (place, pair) in block.chunks_exact(Self::PLACE).zip(&caller.new) {
@@ -407,17 +469,8 @@ const MISSES: u8 = 1;
 const OVERWRITES: u8 = 2;
 const CHURN: u8 = 3;
 
-#[inline(always)]
-fn search<const W: usize, const B: u64, const OPEN: bool>(
-    table: &Table<W, B>,
-    caller: &mut Caller<W>,
-    key: &[u64; W],
-) -> bool {
-    if OPEN { table.open_search(caller, key) } else { table.search(caller, key) }.is_some()
-}
-
 #[inline(never)]
-fn work<const W: usize, const B: u64, const MIX: u8, const OPEN: bool>(
+fn work<const W: usize, const B: u64, const MIX: u8>(
     table: &Table<W, B>,
     caller: &mut Caller<W>,
     pairs: u64,
@@ -434,9 +487,9 @@ where
         random = random.wrapping_mul(6364136223846793005).wrapping_add(1442695040888963407);
         let stored = (random >> 33).wrapping_mul(pairs) >> 31;
         let hit = if MIX == HITS || MIX == OVERWRITES && index % 20 != 0 {
-            search::<W, B, OPEN>(table, caller, &Keys::numbered(stored))
+            table.search(caller, &Keys::numbered(stored)).is_some()
         } else if MIX == MISSES {
-            search::<W, B, OPEN>(table, caller, &Keys::numbered(stored.wrapping_add(ABSENT)))
+            table.search(caller, &Keys::numbered(stored.wrapping_add(ABSENT))).is_some()
         } else if MIX == OVERWRITES {
             let change = Change::Set(index);
             matches!(table.update(caller, &Keys::numbered(stored), change), Reply::Changed(Some(_)))
@@ -455,7 +508,7 @@ where
     found
 }
 
-fn lines<const W: usize, const B: u64, const MIX: u8, const OPEN: bool>(
+fn line<const W: usize, const B: u64, const MIX: u8>(
     table: &Table<W, B>,
     callers: &mut [Caller<W>],
     pairs: u64,
@@ -464,26 +517,23 @@ fn lines<const W: usize, const B: u64, const MIX: u8, const OPEN: bool>(
 ) where
     Keys: Numbered<W>,
 {
-    for threads in [1, 2, 4] {
-        let calls = CALLS / threads as u64;
-        let start = Instant::now();
-        let found: u64 = if threads == 1 {
-            work::<W, B, MIX, OPEN>(table, &mut callers[0], pairs, calls, 0)
-        } else {
-            thread::scope(|scope| {
-                let run = |(i, caller)| {
-                    scope.spawn(move || work::<W, B, MIX, OPEN>(table, caller, pairs, calls, i as u64))
-                };
-                let running: Vec<_> = callers[..threads].iter_mut().enumerate().map(run).collect();
-                running.into_iter().map(|each| each.join().unwrap()).sum()
-            })
+    let threads = callers.len();
+    let calls = CALLS / threads as u64;
+    let start = Instant::now();
+    let found: u64 = thread::scope(|scope| {
+        let (first, others) = callers.split_first_mut().unwrap();
+        let run = |(i, caller)| {
+            scope.spawn(move || work::<W, B, MIX>(table, caller, pairs, calls, i as u64 + 1))
         };
-        let took = start.elapsed().as_micros();
-        println!("{name} {pairs} {threads} {mix} {calls} {took} {found}");
-    }
+        let running: Vec<_> = others.iter_mut().enumerate().map(run).collect();
+        let found = work::<W, B, MIX>(table, first, pairs, calls, 0);
+        running.into_iter().map(|each| each.join().unwrap()).sum::<u64>() + found
+    });
+    let took = start.elapsed().as_micros();
+    println!("{name} {pairs} {mix} {threads} {calls} {took} {found}");
 }
 
-fn table<const W: usize, const B: u64, const OPEN: bool>(page_count: u64, pairs: u64, name: &str)
+fn table<const W: usize, const B: u64>(page_count: u64, pairs: u64, most_threads: usize, name: &str)
 where
     Keys: Numbered<W>,
 {
@@ -494,26 +544,24 @@ where
         table.update(&mut callers[0], &key, Change::Set(*number)) != Reply::Changed(None)
     });
     let pairs = refused.unwrap_or(pairs);
-    lines::<W, B, HITS, OPEN>(&table, &mut callers, pairs, name, "hit");
-    lines::<W, B, MISSES, OPEN>(&table, &mut callers, pairs, name, "absent");
-    lines::<W, B, OVERWRITES, OPEN>(&table, &mut callers, pairs, name, "overwrite");
-    lines::<W, B, CHURN, OPEN>(&table, &mut callers, pairs, name, "churn");
+    for threads in 1..=most_threads {
+        line::<W, B, HITS>(&table, &mut callers[..threads], pairs, name, "hit");
+    }
+    line::<W, B, MISSES>(&table, &mut callers[..1], pairs, name, "absent");
+    line::<W, B, OVERWRITES>(&table, &mut callers[..1], pairs, name, "overwrite");
+    line::<W, B, CHURN>(&table, &mut callers[..1], pairs, name, "churn");
 }
 
 fn main() {
-    let open = std::env::args().nth(1).is_some_and(|word| word == "open");
-    for pairs in [4096, 10000] {
-        if open {
-            table::<2, 12, true>(16384, pairs, "16_8");
-        } else {
-            table::<2, 12, false>(16384, pairs, "16_8");
+    match std::env::args().nth(1).as_deref() {
+        Some("16_8") => {
+            table::<2, 12>(16384, 4096, 1, "16_8");
+            table::<2, 12>(16384, 10000, 4, "16_8");
         }
-    }
-    for pairs in [4096, 10000] {
-        if open {
-            table::<5, 10, true>(4096, pairs, "40_8");
-        } else {
-            table::<5, 10, false>(4096, pairs, "40_8");
+        Some("40_8") => {
+            table::<5, 10>(4096, 4096, 1, "40_8");
+            table::<5, 10>(4096, 10000, 4, "40_8");
         }
+        _ => eprintln!("name the bytes of a key and of a value: 16_8 or 40_8"),
     }
 }

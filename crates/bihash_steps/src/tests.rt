@@ -35,17 +35,30 @@ fn rows_of_both_flow_shapes_open(rt: HostRuntime) -> Result<(), Fail> {
     Ok(())
 }
 
+// Numbers stay with the caller that has them, until one caller takes in the other. Each sees the count that was made.
 #[test]
 fn callers_split_meet_and_join(rt: HostRuntime) -> Result<(), Fail> {
     let (row, mut first) = open_row::<Small>(rt.alloc())?;
     assert_eq!(rt; row.load_count(&mut first.seat), 1);
+    assert_eq!(rt; first.seat.numbers(), 1);
     let (first, mut second) = split(rt.alloc(), &row, first)?;
     assert_eq!(rt; row.load_count(&mut second.seat), 2);
+    assert_eq!(rt; (first.seat.numbers(), second.seat.numbers()), (1, 1));
+    let (second, third) = split(rt.alloc(), &row, second)?;
     let (first, second) = row.meet(first, second);
-    let both = row.join(first, second);
-    let (mut both, mut third) = split(rt.alloc(), &row, both)?;
-    assert_eq!(rt; row.load_count(&mut both.seat), 3);
-    assert_eq!(rt; row.load_count(&mut third.seat), 3);
+    assert_eq!(rt; (first.seat.numbers(), second.seat.numbers()), (1, 1));
+    assert_eq!(rt; (first.seat.stamp(), second.seat.stamp()), (None, None));
+    let two = row.join(second, third);
+    assert_eq!(rt; two.seat.numbers(), 2);
+    let (first, two) = row.meet(first, two);
+    assert_eq!(rt; (first.seat.numbers(), two.seat.numbers()), (1, 2));
+    let mut all = row.join(first, two);
+    assert_eq!(rt; row.load_count(&mut all.seat), 3);
+    assert_eq!(rt; all.seat.numbers(), 3);
+    let (mut all, mut fourth) = split(rt.alloc(), &row, all)?;
+    assert_eq!(rt; (all.seat.numbers(), fourth.seat.numbers()), (3, 1));
+    assert_eq!(rt; row.load_count(&mut all.seat), 4);
+    assert_eq!(rt; row.load_count(&mut fourth.seat), 4);
     Ok(())
 }
 
