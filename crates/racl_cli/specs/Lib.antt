@@ -7,7 +7,6 @@ pub mod Filters
 pub mod Held
 pub mod Inputs
 pub mod Judging
-pub mod Messages
 pub mod Reports
 pub mod Runs
 pub mod Settings

@@ -1,8 +1,8 @@
 //! How the program ends: what it says on standard error, and its exit status.
-ghost use Rattle.std.specs.Prelude.{◌≡◌, ◌≢◌, None, Some, option_map};
+ghost use Rattle.std.specs.Prelude.{◌≡◌, ◌≢◌, None, Some};
 ghost use Rattle.clap.specs.Words.{kind_of};
 ghost use Rattle.std.specs.IoError.{error_kind};
-ghost use Rattle.racl_cli.specs.Endings.{message_text, said_after};
+ghost use Rattle.racl_cli.specs.Endings.{said_after};
 ghost use Rattle.racl_cli.specs.Statuses.{status_of};
 ghost use Rattle.racl_cli.specs.declared.fault.Fault.TheVariants.{Memory, Write};
 
@@ -29,7 +29,7 @@ pub fn status(outcome: &Result<Totals, Fault>) -> u8
 /// The end of a run: after a report nothing is said, and a fault is told.
 pub fn ending(outcome: &Result<Totals, Fault>) -> Ending
     ensures status { result.status ≡ status_of outcome.now }
-    ensures said { option_map message_text result.message ≡ said_after outcome.now }
+    ensures said { result.message ≡ said_after outcome.now }
 {
     let message = match outcome {
         Ok(_) => None,

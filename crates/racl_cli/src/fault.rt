@@ -5,56 +5,41 @@ ghost use Rattle.racl_cli.specs.declared.fault.Fault.TheVariants.{Memory};
 use acl_policy::PolicyFault;
 use packet_view::CaptureFault;
 use std::alloc::{AllocError, AllocFailed};
-use std::error::Error;
-use std::fmt;
+use thiserror::Error;
 
 /// Why no report was made, in the order in which the causes are looked for; lines and records
 /// are counted from 1.
-#[derive(Clone, Copy, Debug, PartialEq, Eq)]
+#[derive(Clone, Copy, Debug, PartialEq, Eq, Error)]
 pub enum Fault {
+    #[error("no memory")]
     Memory,
+    #[error("read failed")]
     Read,
+    #[error("input over 67108864 bytes")]
     TooLarge,
+    #[error("no pcap or hex line")]
     NoCapture,
+    #[error("policy is not UTF-8")]
     NotUtf8,
+    #[error("policy line {0} is wrong")]
     BadLine(u64),
+    #[error("policy line {0} is one rule too many")]
     TooMany(u64),
+    #[error("bad hexadecimal")]
     Hex,
+    #[error("capture header is short")]
     Short,
+    #[error("not a pcap capture")]
     Magic,
+    #[error("capture version is not 2")]
     Version,
+    #[error("capture is not Ethernet")]
     LinkType,
+    #[error("record {0} is too long")]
     LongRecord(u64),
+    #[error("write failed")]
     Write,
 }
-
-impl fmt::Display for Fault {
-    ghost use Rattle.std.specs.Prelude.{Some};
-    ghost use Rattle.racl_cli.specs.Messages.{fault_text};
-
-    ghost output = { λ fault. Some (fault_text fault) };
-
-    fn fmt<W: fmt::Write>(&self, f: &mut fmt::Formatter<W>) -> fmt::Result {
-        match self {
-            Fault::Memory => f.write_str("no memory"),
-            Fault::Read => f.write_str("read failed"),
-            Fault::TooLarge => f.write_str("input over 67108864 bytes"),
-            Fault::NoCapture => f.write_str("no pcap or hex line"),
-            Fault::NotUtf8 => f.write_str("policy is not UTF-8"),
-            Fault::BadLine(number) => write!(f, "policy line {number} is wrong"),
-            Fault::TooMany(number) => write!(f, "policy line {number} is one rule too many"),
-            Fault::Hex => f.write_str("bad hexadecimal"),
-            Fault::Short => f.write_str("capture header is short"),
-            Fault::Magic => f.write_str("not a pcap capture"),
-            Fault::Version => f.write_str("capture version is not 2"),
-            Fault::LinkType => f.write_str("capture is not Ethernet"),
-            Fault::LongRecord(number) => write!(f, "record {number} is too long"),
-            Fault::Write => f.write_str("write failed"),
-        }
-    }
-}
-
-impl Error for Fault {}
 
 impl From<AllocError> for Fault {
     ghost from_gives = { λ _ e. e ≡ Memory };

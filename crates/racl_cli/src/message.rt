@@ -1,28 +1,16 @@
 //! What the program says where it makes no report.
 
 use crate::fault::Fault;
-use std::fmt;
+use thiserror::Error;
 
 /// What is said on standard error: `racl: ` and the cause.
-#[derive(Clone, Copy, Debug, PartialEq, Eq)]
+#[derive(Clone, Copy, Debug, PartialEq, Eq, Error)]
 pub enum Message {
+    #[error("racl: {0}")]
     Fault(Fault),
     /// A word of the command line is not UTF-8.
+    #[error("racl: a word is not UTF-8")]
     WordNotUtf8,
-}
-
-impl fmt::Display for Message {
-    ghost use Rattle.std.specs.Prelude.{Some};
-    ghost use Rattle.racl_cli.specs.Endings.{message_text};
-
-    ghost output = { λ message. Some (message_text message) };
-
-    fn fmt<W: fmt::Write>(&self, f: &mut fmt::Formatter<W>) -> fmt::Result {
-        match self {
-            Message::Fault(fault) => write!(f, "racl: {fault}"),
-            Message::WordNotUtf8 => f.write_str("racl: a word is not UTF-8"),
-        }
-    }
 }
 
 /// How the program ends.
