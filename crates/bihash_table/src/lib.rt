@@ -22,6 +22,3 @@ pub use bihash_steps::{Caller, CallerSeat, CreateFault, SplitFault};
 pub use close_fault::CloseFault;
 pub use contended::Contended;
 pub use sessions::{Sessions, create, stamp};
-
-#[cfg(test)]
-mod tests;

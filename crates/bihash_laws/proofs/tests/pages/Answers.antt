@@ -1,0 +1,22 @@
+use Rattle.std.proofs.Common.{arith, ap, ◌∙◌, None}
+use Rattle.bihash_steps.specs.Seats.{CallerState}
+use Rattle.bihash_steps.specs.declared.view.View.{View}
+use Rattle.bihash_laws.proofs.tests.pages.Goals as goal
+
+pub pool_load-returned-requires-clause-locked : goal.pool_load-returned-requires-clause-locked
+pool_load-returned-requires-clause-locked g c =
+    let t = c.pool_lock.ensures.taken c.if-not-pool_lock.false in
+    (record { store = t.store; listed = None }, ap (λ (v : View). v.holds.store) t.is, omega arith)
+
+pub pool_load-used-requires-clause-locked : goal.pool_load-used-requires-clause-locked
+pool_load-used-requires-clause-locked g c =
+    let t = c.pool_lock.ensures.taken c.if-not-pool_lock.false in
+    let same = ap (λ (k : CallerState). k.view.holds.store) c.pool_load-returned.ensures.same in
+    (record { store = t.store; listed = None }, same ∙ ap (λ (v : View). v.holds.store) t.is, tt)
+
+pub pool_unlock-requires-clause-settled : goal.pool_unlock-requires-clause-settled
+pool_unlock-requires-clause-settled g c =
+    let t = c.pool_lock.ensures.taken c.if-not-pool_lock.false in
+    let same = ap (λ (k : CallerState). k.view.holds.store)
+    (c.pool_load-used.ensures.same ∙ c.pool_load-returned.ensures.same) in
+    (record { store = t.store; listed = None }, same ∙ ap (λ (v : View). v.holds.store) t.is, t.settled)
