@@ -1,0 +1,39 @@
+-- Which worker a packet is dealt to (this project's profile).
+use Rattle.std.specs.Prelude.{ℕ, ◌%◌, Option, Some, None}
+use Rattle.packet_view.specs.Frames as frames
+use Rattle.session_state.specs.declared.flow.Flow.{Flow}
+use Rattle.session_state.specs.Flows.{flow_of}
+use Rattle.flow_filter.specs.Readings.{Framed, Reading, Ruled}
+use Rattle.flow_filter.specs.OneThread.{Layout, home_of}
+use Rattle.flow_dealing.specs.declared.dealing.Dealing.{Dealing}
+use Rattle.flow_dealing.specs.declared.dealing.Dealing.TheVariants.{Round, Bucket}
+
+-- what packets are dealt by, to how many workers
+pub record Deal : Type 0 where
+  pub layout : Layout
+  pub dealing : Dealing
+  pub workers : ℕ
+
+-- by bucket, the worker of a packet with this flow, or with none
+abbrev pub worker_by_bucket : Layout → ℕ → Option Flow → ℕ
+worker_by_bucket l workers None = 0
+worker_by_bucket l workers (Some flow) = (home_of l flow.key).bucket % workers
+
+abbrev pub worker_by : Dealing → Layout → ℕ → ℕ → Option Flow → ℕ
+worker_by Round l workers number flow = number % workers
+worker_by Bucket l workers number flow = worker_by_bucket l workers flow
+
+-- the worker of the packet with this number, from 0, and this flow, or none
+abbrev pub worker_of : Deal → ℕ → Option Flow → ℕ
+worker_of d number flow = worker_by d.dealing d.layout d.workers number flow
+
+-- the flow of a packet
+abbrev pub flow_in : Reading → Option Flow
+flow_in (Framed verdict) = None
+flow_in (Ruled moment tuple ruling) = flow_of tuple
+
+abbrev pub flow_shown : frames.View → Option Flow
+flow_shown frames.NotIp = None
+flow_shown frames.Malformed = None
+flow_shown frames.Short = None
+flow_shown (frames.Ip direction tuple) = flow_of tuple

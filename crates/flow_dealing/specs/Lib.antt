@@ -1,0 +1,4 @@
+pub mod Dealings
+pub mod Runs
+pub mod Traces
+pub mod Views

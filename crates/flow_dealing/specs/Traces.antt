@@ -1,0 +1,104 @@
+-- What one worker did: an item for each packet that was dealt to it.
+use Rattle.std.specs.Prelude.{◌≡◌, ℕ, ◌+◌, ◌==◌, ◌++◌, if◌then◌else◌, List, [], ◌∷◌, length, map, Option, Some, None, option_map, All, drop, slice_get}
+use Rattle.std.specs.List.{AllZip}
+use lib.ListN.{get_elem?}
+use mathlib.Core.Option.{some}
+use Rattle.packet_view.specs.Captures.{Seen}
+use Rattle.packet_view.specs.Frames as frames
+use Rattle.packet_view.specs.Frames.{IsFrame}
+use Rattle.packet_view.specs.declared.tuple.Mac.{Mac}
+use Rattle.packet_view.specs.declared.tuple.Family.{Family}
+use Rattle.packet_view.specs.declared.tuple.Family.TheVariants.{V4, V6}
+use Rattle.acl_policy.specs.Policies.{PolicyFacts}
+use Rattle.bihash_steps.specs.Histories.{event_of}
+use Rattle.bihash_steps.specs.declared.view.Call.{Call}
+use Rattle.bihash_steps.specs.declared.view.Record.{Record}
+use Rattle.bihash_steps.specs.declared.view.View.{View}
+use Rattle.session_state.specs.declared.timeouts.Timeouts.{Timeouts}
+use Rattle.flow_filter.specs.declared.verdict.Verdict.{Verdict}
+use Rattle.flow_filter.specs.Readings.{IsReading, Reading}
+use Rattle.flow_filter.specs.Updates.{Update, update_of}
+use Rattle.flow_filter.specs.Judged.{IsAsked, Judged, verdict_on}
+use Rattle.flow_filter.specs.OneThread.{Layout, family_of, home_of, same_family}
+use Rattle.flow_dealing.specs.Views.{Views}
+use Rattle.flow_dealing.specs.Dealings.{Deal, flow_in, flow_shown, worker_of}
+
+-- a packet by its number, from 0, its reading, and the call that it made
+pub record Item : Type 0 where
+  pub packet : ℕ
+  pub reading : Reading
+  pub call : Option Call
+
+abbrev pub judged_of : Item → Judged
+judged_of i = record { reading = i.reading; event = option_map event_of i.call }
+
+abbrev pub verdict_in : Timeouts → Item → Verdict
+verdict_in times i = verdict_on times (judged_of i)
+
+-- the call is one on the bucket of the update's key
+abbrev pub IsCallAt : Layout → Option Update → Option Call → Type 0
+IsCallAt l None call = Unit {0}
+IsCallAt l (Some u) None = Unit {0}
+IsCallAt l (Some u) (Some c) = c.bucket ≡ (home_of l u.key).bucket
+
+-- the packet asked once, on the bucket of its flow's key, where it has a flow
+pub record IsItem (l : Layout) (times : Timeouts) (i : Item) : Type 0 where
+  pub asked : IsAsked times (judged_of i)
+  pub placed : IsCallAt l (update_of times i.reading) i.call
+
+-- the item is of a packet of this worker, and has its reading
+pub record IsItemOf (d : Deal) (worker : ℕ) (policy : PolicyFacts) (packets : List Seen) (i : Item) : Type 0 where
+  pub packet : Seen
+  pub there : slice_get packets i.packet ≡ Some packet
+  pub read : IsReading policy packet i.reading
+  pub dealt : worker_of d i.packet (flow_in i.reading) ≡ worker
+
+abbrev pub call_in : Family → Option Update → Option Call → List Call → List Call
+call_in family None call calls = calls
+call_in family (Some u) None calls = calls
+call_in family (Some u) (Some c) calls = if same_family family (family_of u.key) then c ∷ calls else calls
+
+-- the calls on one family's table, in the order of the items
+abbrev pub calls_in : Timeouts → Family → List Item → List Call
+calls_in times family [] = []
+calls_in times family (i ∷ is) = call_in family (update_of times i.reading) i.call (calls_in times family is)
+
+-- what each packet's frame turns out to be
+abbrev pub AreViews : Option Mac → List Seen → List frames.View → Type 0
+AreViews own packets views = AllZip (λ packet view. IsFrame packet.frame own view) packets views
+
+-- the numbers of a worker's packets, from a number on
+unfoldable pub numbers_from : Deal → ℕ → ℕ → List frames.View → List ℕ
+numbers_from d worker at [] = []
+numbers_from d worker at (view ∷ views) =
+    if worker_of d at (flow_shown view) == worker then at ∷ numbers_from d worker (at + 1) views
+    else numbers_from d worker (at + 1) views
+
+abbrev pub numbers_of : List Item → List ℕ
+numbers_of is = map (λ i. i.packet) is
+
+-- the verdict of each item beside its packet's number
+abbrev pub verdict_pairs : Timeouts → List Item → List (ℕ × Verdict)
+verdict_pairs times is = map (λ i. (i.packet, verdict_in times i)) is
+
+-- the items are those of a worker's packets, all of them, in the order of the packets
+pub record IsTrace (d : Deal) (times : Timeouts) (worker : ℕ) (policy : PolicyFacts) (packets : List Seen)
+    (trace : List Item) : Type 0 where
+  pub items : All (IsItem d.layout times) trace
+  pub of : All (IsItemOf d worker policy packets) trace
+  pub dealt : (views : List frames.View) → AreViews policy.own packets views → numbers_of trace ≡ numbers_from d worker 0 views
+
+-- the record has the calls of this trace
+abbrev pub HasCalls : Timeouts → Family → List Item → Record → Type 0
+HasCalls times family trace r = r.calls ≡ calls_in times family trace
+
+-- the records are those of the workers in their order, of a table whose buckets began empty
+pub record HaveTraces (times : Timeouts) (family : Family) (traces : List (List Item)) (v : View) : Type 0 where
+  pub records : AllZip (HasCalls times family) traces v.records
+  pub openings : v.known.openings ≡ []
+
+-- each packet's verdict stands at its place
+pub record ArePlaced (times : Timeouts) (packets : List Seen) (traces : List (List Item)) (verdicts : List Verdict) : Type 0 where
+  pub count : length verdicts ≡ length packets
+  pub each : (w : ℕ) (trace : List Item) → get_elem? traces w ≡ some trace → (k : ℕ) (i : Item) → get_elem? trace k ≡ some i
+      → get_elem? verdicts i.packet ≡ some (verdict_in times i)

@@ -1,0 +1,49 @@
+-- A packet with what came of it (this project's profile).
+use Rattle.std.specs.Prelude.{◌≡◌, ℕ, List, map, Option, Some, None, All}
+use Rattle.bihash_words.specs.Maps.{Event}
+use Rattle.session_state.specs.declared.timeouts.Timeouts.{Timeouts}
+use Rattle.session_state.specs.Decisions.{decision_of}
+use Rattle.flow_filter.specs.declared.verdict.Verdict.{Verdict}
+use Rattle.flow_filter.specs.Readings.{Framed, Reading, Ruled, Ruling}
+use Rattle.flow_filter.specs.Updates.{Update, update_of, words_of}
+use Rattle.flow_filter.specs.Verdicts.{verdict_of, verdict_of_rules}
+
+-- a packet's reading, and its one event on the bounded map of its flow's bucket; none where it has no flow
+pub record Judged : Type 0 where
+  pub reading : Reading
+  pub event : Option Event
+
+-- the event has the key of the flow, and the change is what the packet decides on the value that was found
+pub record IsEventOf (u : Update) (e : Event) : Type 0 where
+  pub key : e.key ≡ words_of u.key
+  pub change : e.change ≡ decision_of u.patch e.found
+
+abbrev pub IsAskedBy : Option Update → Option Event → Type 0
+IsAskedBy None event = event ≡ None
+IsAskedBy (Some u) event = (e : Event) × (event ≡ Some e) × IsEventOf u e
+
+-- the packet's one event is that of its update, and a packet without a flow has none
+abbrev pub IsAsked : Timeouts → Judged → Type 0
+IsAsked times j = IsAskedBy (update_of times j.reading) j.event
+
+abbrev pub AreAsked : Timeouts → List Judged → Type 0
+AreAsked times js = All (IsAsked times) js
+
+-- the verdict of the rules alone, where the packet has no flow, or by its event
+abbrev pub verdict_by_event : Ruling → Option Update → Option Event → Verdict
+verdict_by_event ruling None event = verdict_of_rules ruling
+verdict_by_event ruling (Some u) None = verdict_of_rules ruling
+verdict_by_event ruling (Some u) (Some e) = verdict_of u.patch ruling e.found e.reply
+
+abbrev pub verdict_with : Timeouts → Reading → Option Event → Verdict
+verdict_with times (Framed verdict) event = verdict
+verdict_with times (Ruled moment tuple ruling) event = verdict_by_event ruling (update_of times (Ruled moment tuple ruling)) event
+
+abbrev pub verdict_on : Timeouts → Judged → Verdict
+verdict_on times j = verdict_with times j.reading j.event
+
+abbrev pub verdicts_on : Timeouts → List Judged → List Verdict
+verdicts_on times js = map (verdict_on times) js
+
+abbrev pub readings_of : List Judged → List Reading
+readings_of js = map (λ j. j.reading) js

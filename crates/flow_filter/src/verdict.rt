@@ -1,0 +1,48 @@
+//! What becomes of a packet.
+ghost use Rattle.std.specs.Prelude.{◌≡◌};
+ghost use Rattle.flow_filter.specs.Verdicts;
+
+/// What becomes of a packet; rules of a direction are numbered from 1.
+#[derive(Clone, Copy, Debug, PartialEq, Eq)]
+pub enum Verdict {
+    /// A live session lets it through.
+    Session,
+    /// A reflecting rule lets it through and enters a session.
+    Reflect(usize),
+    /// A rule lets it through.
+    Permit(usize),
+    /// A rule drops it.
+    Deny(usize),
+    /// No rule matches, so it is dropped.
+    ByDefault,
+    /// The session's bucket takes no more writes.
+    Worn,
+    /// The session's bucket has no place left.
+    Full,
+    /// The session table has no pages left.
+    NoPages,
+    /// The frame carries no IP packet, and passes.
+    NotIp,
+    /// The frame breaks the form of its headers.
+    Malformed,
+    /// The packet ends within its transport header.
+    Short,
+}
+
+impl Verdict {
+    /// Whether the packet goes through.
+    pub fn passes(self) -> bool
+        ensures { result ≡ Verdicts.passes self }
+    {
+        match self {
+            Verdict::Session | Verdict::Reflect(_) | Verdict::Permit(_) | Verdict::NotIp => true,
+            Verdict::Deny(_)
+            | Verdict::ByDefault
+            | Verdict::Worn
+            | Verdict::Full
+            | Verdict::NoPages
+            | Verdict::Malformed
+            | Verdict::Short => false,
+        }
+    }
+}

@@ -1,0 +1,32 @@
+-- What callers of both families' tables know, and what is always said of them together.
+use Rattle.std.specs.Prelude.{◌≡◌}
+use Rattle.bihash_words.specs.Sizes.{IsSound, sizes_of}
+use Rattle.bihash_words.specs.declared.shape.Shape.{Ghosts}
+use Rattle.bihash_steps.specs.Callers.{IsLawfulCaller}
+use Rattle.bihash_steps.specs.Seats.{with_view}
+use Rattle.bihash_steps.specs.Views.{nothing_held}
+use Rattle.flow_filter.specs.OneThread.{IsFlowLayout, layout_of}
+use Rattle.flow_workers.specs.declared.tables.Tables.{Tables}
+use Rattle.flow_workers.specs.declared.tables.Callers.{Callers}
+use Rattle.flow_dealing.specs.Views.{Views}
+
+abbrev pub views_of : {A B K L : Type 0} (ga : Ghosts A K) (gb : Ghosts B L) → Callers A B K L ga gb → Views
+views_of ga gb callers = record { four = callers.four.seat.view; six = callers.six.seat.view }
+
+-- the shapes are sound, and their keys are those of flows
+pub record AreShapes {A B K L : Type 0} (ga : Ghosts A K) (gb : Ghosts B L) : Type 0 where
+  pub four : IsSound (sizes_of ga)
+  pub six : IsSound (sizes_of gb)
+  pub keys : IsFlowLayout (layout_of ga gb)
+
+-- the callers are lawful, belong to these tables, and hold no lock and no block
+pub record AreIdle {A B K L : Type 0} (ga : Ghosts A K) (gb : Ghosts B L) (tables : Tables A B K L)
+    (callers : Callers A B K L ga gb) : Type 0 where
+  pub own : (callers.four.seat.row ≡ tables.four.row) × (callers.six.seat.row ≡ tables.six.row)
+  pub free : (callers.four.seat.view.holds ≡ nothing_held) × (callers.six.seat.view.holds ≡ nothing_held)
+  pub lawful : IsLawfulCaller (sizes_of ga) callers.four.seat.view × IsLawfulCaller (sizes_of gb) callers.six.seat.view
+
+-- the callers are those of before, but for what they know
+pub record AreSame {A B K L : Type 0} (ga : Ghosts A K) (gb : Ghosts B L) (old new : Callers A B K L ga gb) : Type 0 where
+  pub four : new.four.seat ≡ with_view old.four.seat new.four.seat.view
+  pub six : new.six.seat ≡ with_view old.six.seat new.six.seat.view

@@ -1,0 +1,10 @@
+//! Packets judged by many workers over session tables that they share.
+#![tactic(auto)]
+
+mod gate;
+mod tables;
+
+pub use flow_dealing::Dealing;
+pub use flow_filter::{Filter, Verdict};
+pub use gate::Gate;
+pub use tables::{Callers, Tables};
