@@ -50,17 +50,15 @@ pub struct LazyPatch<'a, D: HasRuling> {
 }
 
 impl<'a, D: HasRuling> LazyPatch<'a, D> {
-    ghost use Rattle.acl_policy.specs.Policies.{rules_of};
     ghost use Rattle.flow_filter.specs.Filters.{policy_in};
+    ghost use Rattle.flow_filter.specs.PacketFlows.{IsRulingOn, update_by};
     ghost use Rattle.flow_filter.specs.Verdicts.{verdict_of};
-    ghost use Rattle.flow_filter.specs.Updates.{update_in};
     ghost use Rattle.flow_filter.specs.LazyPatches.{facts_of};
     ghost use Rattle.bihash_words.specs.Maps.{found_by};
 
     pub fn new(filter: &ReadyFilter<'a>, packet: PacketFlow<'a>) -> LazyPatch<'a, D>
-        requires { IsDecision (rules_of packet.direction (policy_in filter.now)) (facts packet.tuple.now) D.ruling }
-        ensures { facts_of ⟦<D as HasRuling>⟧ result ≡ (update_in filter.now.times packet.entry.moment
-            (facts packet.entry.tuple.now) D.ruling packet.entry.flow).patch }
+        requires { IsRulingOn (policy_in filter.now) packet D.ruling }
+        ensures { facts_of ⟦<D as HasRuling>⟧ result ≡ (update_by filter.now.times packet.entry D.ruling).patch }
     {
         LazyPatch {
             times: filter.times,

@@ -3,7 +3,7 @@ ghost use Rattle.std.specs.Prelude.{◌≡◌, ◌&&◌};
 ghost use Rattle.packet_view.specs.Tuples.{facts};
 ghost use Rattle.session_state.specs.Decisions.{patch_facts};
 ghost use Rattle.flow_filter.specs.Updates;
-ghost use Rattle.flow_filter.specs.Updates.{update_in};
+ghost use Rattle.flow_filter.specs.PacketFlows.{update_by};
 
 use crate::packet_flow::PacketFlow;
 use acl_policy::Action;
@@ -31,13 +31,13 @@ fn reflects(ruling: Option<(usize, Action)>) -> bool
     matches!(ruling, Some((_, Action::Reflect)))
 }
 
+/// What the packet does to its flow's session, where the rules say this of it.
 pub fn patch_of(
     times: &Timeouts,
     packet: &PacketFlow<'_>,
     ruling: Option<(usize, Action)>,
 ) -> PacketPatch
-    ensures { patch_facts result
-        ≡ (update_in times.now packet.now.moment (facts packet.now.tuple.now) ruling packet.now.flow).patch }
+    ensures { patch_facts result ≡ (update_by times.now packet.now ruling).patch }
 {
     PacketPatch {
         moment: packet.moment,

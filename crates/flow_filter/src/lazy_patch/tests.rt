@@ -1,9 +1,7 @@
 //! A packet's update with the rules that are asked late.
 ghost use Rattle.std.specs.Prelude.{◌≡◌};
-ghost use Rattle.packet_view.specs.Tuples.{facts};
-ghost use Rattle.acl_policy.specs.Matching.{IsDecision};
-ghost use Rattle.acl_policy.specs.Policies.{rules_of};
 ghost use Rattle.flow_filter.specs.Filters.{policy_in};
+ghost use Rattle.flow_filter.specs.PacketFlows.{IsRulingOn};
 
 use super::{HasRuling, LazyPatch};
 use crate::filter::ReadyFilter;
@@ -51,7 +49,7 @@ fn udp() -> Tuple {
 }
 
 /// What came of a packet that found this value, and whether the rules were asked for it.
-#[derive(Debug, PartialEq, Eq)]
+#[derive(Clone, Copy, Debug, PartialEq, Eq)]
 struct Outcome {
     change: Change,
     asked: bool,
@@ -64,7 +62,7 @@ fn outcome_as<D: HasRuling>(
     reply: Reply,
     found: Option<u64>,
 ) -> Outcome
-    requires { IsDecision (rules_of packet.direction (policy_in filter.now)) (facts packet.tuple.now) D.ruling }
+    requires { IsRulingOn (policy_in filter.now) packet D.ruling }
 {
     let patch = LazyPatch::<D>::new(filter, packet);
     let change = patch.decide(found);
@@ -78,7 +76,7 @@ fn outcome_as<D: HasRuling>(
     }
 }
 
-fn outcome(
+fn outcome_of(
     filter: &ReadyFilter<'_>,
     packet: PacketFlow<'_>,
     reply: Reply,
@@ -98,13 +96,13 @@ fn udp_outcome(action: Action, moment: u32, reply: Reply, found: Option<u64>) ->
     };
     let tuple = udp();
     let packet = PacketFlow::find(moment, Direction::Inbound, &tuple)?;
-    Some(outcome(&filter, packet, reply, found))
+    Some(outcome_of(&filter, packet, reply, found))
 }
 
 #[test]
-fn packet_of_a_live_session_asks_no_rules() {
+fn packet_of_a_live_session_asks_no_rules(rt: HostRuntime) {
     let found = Some(LAST_AT_1000);
-    assert_eq!(
+    assert_eq!(rt;
         udp_outcome(Action::Deny, 1600, Reply::Changed(found), found),
         Some(Outcome {
             change: Change::Set(1600),
@@ -115,9 +113,9 @@ fn packet_of_a_live_session_asks_no_rules() {
 }
 
 #[test]
-fn rules_are_asked_where_the_session_has_expired() {
+fn rules_are_asked_where_the_session_has_expired(rt: HostRuntime) {
     let found = Some(LAST_AT_1000);
-    assert_eq!(
+    assert_eq!(rt;
         udp_outcome(Action::Deny, 1601, Reply::Changed(found), found),
         Some(Outcome {
             change: Change::Remove,
@@ -128,8 +126,8 @@ fn rules_are_asked_where_the_session_has_expired() {
 }
 
 #[test]
-fn reflecting_rule_enters_a_session() {
-    assert_eq!(
+fn reflecting_rule_enters_a_session(rt: HostRuntime) {
+    assert_eq!(rt;
         udp_outcome(Action::Reflect, 7, Reply::Changed(None), None),
         Some(Outcome {
             change: Change::Set(7),
