@@ -1,1 +1,3 @@
 pub mod Merging
+pub mod PacketCalls
+pub mod Places

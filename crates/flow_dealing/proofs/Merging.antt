@@ -33,6 +33,7 @@ use Rattle.flow_dealing.specs.Views.{Views, view_in}
 use Rattle.flow_dealing.specs.Dealings.{Deal, flow_in, flow_shown, worker_by, worker_of}
 use Rattle.flow_dealing.specs.Traces.{AreGathered, ArePlaced, AreTraces, AreViews, HasCalls, IsItem, IsItemOf, IsTrace, Item, call_in, calls_in, judged_of, numbers_from, numbers_of, verdict_in}
 use Rattle.flow_dealing.specs.Runs.{AreJudged, add_in, events_by}
+use Rattle.flow_dealing.proofs.Places.{all_at, all_from, zip_count}
 
 -- ---- Lists that are dealt
 
@@ -62,7 +63,7 @@ pub events_by-cons : (d : Deal) (times : Timeouts) (family : Family) (w n : ℕ)
 unfolding events_by
 events_by-cons d times family w n j js = refl
 
-events_by-nil : (d : Deal) (times : Timeouts) (family : Family) (w n : ℕ) → events_by d times family w n [] ≡ []
+pub events_by-nil : (d : Deal) (times : Timeouts) (family : Family) (w n : ℕ) → events_by d times family w n [] ≡ []
 unfolding events_by
 events_by-nil d times family w n = refl
 
@@ -261,12 +262,6 @@ trace_of times family (t ∷ ts) [] w r all at = absurd (some-ne-none r (sym at)
 trace_of times family (t ∷ ts) (x ∷ xs) zero r all at = (t, refl, subst (HasCalls times family t) (some-injective x r at) all.0)
 trace_of times family (t ∷ ts) (x ∷ xs) (suc w) r all at = trace_of times family ts xs w r all.1 at
 
-zip_count : {X Y : Type 0} (R : X → Y → Type 0) (xs : List X) (ys : List Y) → AllZip R xs ys → length xs ≡ length ys
-zip_count R [] [] all = refl
-zip_count R [] (y ∷ ys) all = absurd all
-zip_count R (x ∷ xs) [] all = absurd all
-zip_count R (x ∷ xs) (y ∷ ys) all = ap suc (zip_count R xs ys all.1)
-
 -- a list whose elements stand at their places
 same_list : (times : Timeouts) (is : List Item) (verdicts : List Verdict) → length verdicts ≡ length is
     → ((k : ℕ) (i : Item) → get_elem? is k ≡ some i → get_elem? verdicts k ≡ some (verdict_in times i))
@@ -276,15 +271,6 @@ same_list times [] (v ∷ vs) count each = absurd (omega arith)
 same_list times (i ∷ is) [] count each = absurd (omega arith)
 same_list times (i ∷ is) (v ∷ vs) count each =
     (λ k. some-injective v (verdict_in times i) (each 0 i refl) k ∷ same_list times is vs (omega arith) (λ k j at. each (suc k) j at) k)
-
-all_at : {X : Type 0} (P : X → Type 0) (xs : List X) (k : ℕ) (x : X) → All P xs → get_elem? xs k ≡ some x → P x
-all_at P [] k x all at = absurd (some-ne-none x (sym at))
-all_at P (y ∷ ys) zero x all at = subst P (some-injective y x at) (All-head P y ys all)
-all_at P (y ∷ ys) (suc k) x all at = all_at P ys k x (All-tail P y ys all) at
-
-all_from : {X : Type 0} (P : X → Type 0) (xs : List X) → ((k : ℕ) (x : X) → get_elem? xs k ≡ some x → P x) → All P xs
-all_from P [] each = All-nil P
-all_from P (x ∷ xs) each = All-cons P x xs (each 0 x refl) (all_from P xs (λ k y at. each (suc k) y at))
 
 -- what is known of the items of one worker's trace
 own_items : (d : Deal) (times : Timeouts) (policy : PolicyFacts) (packets : List Seen) (traces : List (List Item)) (verdicts : List Verdict)
