@@ -4,6 +4,7 @@
 mod gate;
 mod run_fault;
 mod tables;
+mod updates;
 
 pub use flow_dealing::Dealing;
 pub use flow_filter::{Filter, Verdict};
