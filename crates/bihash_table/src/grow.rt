@@ -32,7 +32,7 @@ use crate::pages::{give_back, take_block};
 use crate::places::{place_count, places_of};
 use crate::site::Seen;
 use crate::snapshot::read_block;
-use bihash_plan::{Plan, lay, plan};
+use bihash_plan::{Plan, larger, lay};
 use bihash_steps::view::Extent;
 use bihash_steps::{Caller, CallerSeat, Row};
 use bihash_words::{BucketWord, Change, Reply, Shape};
@@ -81,7 +81,7 @@ fn enter_as_planned<S: Shape>(
     row.is_sound();
     let old = &mut old[..place_count::<S>(seen.word)];
     read_block(row, seat, seen.word, old);
-    let Plan::Grow { log2, linear } = plan::<S>(
+    let Plan::Grow { log2, linear } = larger::<S>(
         old,
         seen.word.log2(),
         seen.word.linear(),
@@ -151,8 +151,8 @@ fn enter<S: Shape>(
     match take_block(row, seat, log2) {
         Ok(page) => {
             write_block(row, seat, page, block);
-            let larger = Extent { page, log2, linear };
-            row.publish_block(seat, bucket, word, larger, key, None, Change::Set(value));
+            let extent = Extent { page, log2, linear };
+            row.publish_block(seat, bucket, word, extent, key, None, Change::Set(value));
             leave_store(row, seat, word);
             Ok(Reply::Changed(None))
         }

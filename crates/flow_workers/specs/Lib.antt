@@ -1,2 +1,4 @@
 pub mod Callers
 pub mod Judging
+pub mod Preparing
+pub mod ViewedPackets

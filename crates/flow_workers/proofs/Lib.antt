@@ -1,0 +1,2 @@
+pub mod AnsweredUpdates
+pub mod JudgedPackets
