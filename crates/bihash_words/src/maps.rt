@@ -2,7 +2,10 @@
 ghost use Rattle.std.specs.Prelude.{◌≡◌, ◌≢◌, ◌<◌, ◌≤◌, ◌++◌, ℕ, List, Option};
 ghost use Rattle.std.specs.FinMap.{get, len};
 ghost use Rattle.bihash_words.specs.Maps.{Bounds, Event, Pairs, Step, found_by, most_pairs};
+ghost use Rattle.bihash_words.specs.Refusals.{IsNoRefusal};
 ghost use Rattle.bihash_words.specs.Runs.{IsRun};
+ghost use Rattle.bihash_words.specs.declared.patch.Change.{Change};
+ghost use Rattle.bihash_words.specs.declared.patch.Reply.{Reply};
 ghost use Rattle.bihash_words.specs.declared.patch.Change.TheVariants.{Keep};
 ghost use Rattle.bihash_words.specs.declared.patch.Reply.TheVariants.{Changed, Full, Kept};
 
@@ -48,4 +51,15 @@ pub fn runs_join_and_part()
     ensures parted { (b : Bounds) (m last : Pairs) (w n : ℕ) (before after : List Event)
         → IsRun b m w (before ++ after) last n
         → (middle : Pairs) × (v : ℕ) × IsRun b m w before middle v × IsRun b middle v after last n }
+{}
+
+/// A call that decides by what it finds has one answer where pages don't run out, and leaves one map.
+#[tactic(auto, using(crate::proofs::CallLemmas::some_call, crate::proofs::CallLemmas::one_call))]
+pub fn each_call_has_one_answer()
+    ensures some { (b : Bounds) (m : Pairs) (w : ℕ) (key : List ℕ) (decision : Option ℕ → Change)
+        → (reply : Reply) × (n : Pairs) × IsNoRefusal reply
+        × Step b m w (record { key = key; found = get m key; change = decision (get m key); reply = reply }) n }
+    ensures one { (b : Bounds) (m n o : Pairs) (w : ℕ) (decision : Option ℕ → Change) (e f : Event)
+        → e.key ≡ f.key → e.change ≡ decision e.found → f.change ≡ decision f.found
+        → IsNoRefusal e.reply → IsNoRefusal f.reply → Step b m w e n → Step b m w f o → (e ≡ f) × (n ≡ o) }
 {}
