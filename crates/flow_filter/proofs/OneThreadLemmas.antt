@@ -10,10 +10,14 @@ use Rattle.bihash_words.specs.Runs.{IsRun, writes_of}
 use Rattle.bihash_words.proofs.CallLemmas.{one_call, some_call}
 use Rattle.session_state.specs.declared.timeouts.Timeouts.{Timeouts}
 use Rattle.session_state.specs.Decisions.{decision_of}
-use Rattle.flow_filter.specs.Readings.{Reading}
+use Rattle.packet_view.specs.Captures.{Seen}
+use Rattle.acl_policy.specs.Policies.{PolicyFacts}
+use Rattle.flow_filter.specs.declared.verdict.Verdict.{Verdict}
+use Rattle.flow_filter.specs.Readings.{AreReadings, Reading}
 use Rattle.flow_filter.specs.Updates.{Update, update_of, words_of}
-use Rattle.flow_filter.specs.Judged.{AreAsked, IsAsked, IsAskedBy, IsEventOf, Judged, readings_of}
-use Rattle.flow_filter.specs.OneThread.{HasPages, Home, IsHome, Layout, add_event, bounds_in, events_at, home_of, same_home}
+use Rattle.flow_filter.specs.Judged.{AreAsked, IsAsked, IsAskedBy, IsEventOf, Judged, readings_of, verdicts_on}
+use Rattle.flow_filter.specs.OneThread.{AreVerdicts, HasPages, Home, IsHome, IsOneThread, Layout, nothing, add_event, bounds_in, events_at, home_of, same_home}
+use Rattle.flow_filter.proofs.ReadingLemmas.{one_readings, some_readings}
 use Rattle.flow_filter.proofs.HomeLemmas.{homes_are_one, is_home, same_as_itself}
 
 -- the bucket has this afterwards, and the others what they had
@@ -73,13 +77,16 @@ Thread l times maps counts readings = (js : List Judged) × (readings_of js ≡ 
 -- one more packet, which has no update
 one_unasked : (l : Layout) (times : Timeouts) (maps : Home → Pairs) (counts : Home → ℕ) (reading : Reading) (readings : List Reading)
     → update_of times reading ≡ None → Thread l times maps counts readings → Thread l times maps counts (reading ∷ readings)
-one_unasked l times maps counts reading readings none (js, same, thread) =
-    (record { reading = reading; event = None } ∷ js, ap (λ rs. reading ∷ rs) same, record {
-      asked = All-cons (IsAsked times) (record { reading = reading; event = None }) js (subst (λ u. IsAskedBy u None) (sym none) refl) thread.asked;
-      runs = λ home is. subst (λ u. Runs (bounds_in l home.family) (maps home) (counts home)
+one_unasked l times maps counts reading readings none (js, same, thread) = (
+  record { reading = reading; event = None } ∷ js,
+  ap (λ rs. reading ∷ rs) same,
+  record {
+    asked = All-cons (IsAsked times) (record { reading = reading; event = None }) js (subst (λ u. IsAskedBy u None) (sym none) refl) thread.asked;
+    runs = λ home is. subst (λ u. Runs (bounds_in l home.family) (maps home) (counts home)
         (add_event l home u None (events_at l times home js))) (sym none) (thread.runs home is);
-      paged = All-cons HasPages (record { reading = reading; event = None }) js (λ e is. let f : ⊥ = cc in absurd f) thread.paged;
-    })
+    paged = All-cons HasPages (record { reading = reading; event = None }) js (λ e is. let f : ⊥ = cc in absurd f) thread.paged;
+  },
+)
 
 -- one more packet with this update and this event
 one_asked : (l : Layout) (times : Timeouts) (maps : Home → Pairs) (counts : Home → ℕ) (reading : Reading) (readings : List Reading)
@@ -87,14 +94,17 @@ one_asked : (l : Layout) (times : Timeouts) (maps : Home → Pairs) (counts : Ho
     → Step (bounds_in l (home_of l u.key).family) (maps (home_of l u.key)) (counts (home_of l u.key)) e n
     → Thread l times (maps_behind maps (home_of l u.key) n) (counts_behind counts (home_of l u.key) e) readings
     → Thread l times maps counts (reading ∷ readings)
-one_asked l times maps counts reading readings u e n is of paged step (js, same, thread) =
-    (record { reading = reading; event = Some e } ∷ js, ap (λ rs. reading ∷ rs) same, record {
-      asked = All-cons (IsAsked times) (record { reading = reading; event = Some e }) js (subst (λ u. IsAskedBy u (Some e)) (sym is) (e, refl, of)) thread.asked;
-      runs = λ home at. subst (λ u. Runs (bounds_in l home.family) (maps home) (counts home)
+one_asked l times maps counts reading readings u e n is of paged step (js, same, thread) = (
+  record { reading = reading; event = Some e } ∷ js,
+  ap (λ rs. reading ∷ rs) same,
+  record {
+    asked = All-cons (IsAsked times) (record { reading = reading; event = Some e }) js (subst (λ u. IsAskedBy u (Some e)) (sym is) (e, refl, of)) thread.asked;
+    runs = λ home at. subst (λ u. Runs (bounds_in l home.family) (maps home) (counts home)
         (add_event l home u (Some e) (events_at l times home js))) (sym is)
         (before_run l home (home_of l u.key) maps counts n e (events_at l times home js) step (thread.runs home at));
-      paged = All-cons HasPages (record { reading = reading; event = Some e }) js (λ f at. subst (λ (f : Event). IsNoRefusal f.reply) (let s : e ≡ f = cc in s) paged) thread.paged;
-    })
+    paged = All-cons HasPages (record { reading = reading; event = Some e }) js (λ f at. subst (λ (f : Event). IsNoRefusal f.reply) (let s : e ≡ f = cc in s) paged) thread.paged;
+  },
+)
 
 one_more : (l : Layout) (times : Timeouts) (maps : Home → Pairs) (counts : Home → ℕ) (reading : Reading) (readings : List Reading)
     → ((maps : Home → Pairs) (counts : Home → ℕ) → Thread l times maps counts readings)
@@ -104,8 +114,12 @@ one_more l times maps counts reading readings rest None none =
 one_more l times maps counts reading readings rest (Some u) is =
     let at = home_of l u.key in
     let (reply, n, paged, step) = some_call (bounds_in l at.family) (maps at) (counts at) (words_of u.key) (decision_of u.patch) in
-    let e : Event = record { key = words_of u.key; found = get (maps at) (words_of u.key);
-      change = decision_of u.patch (get (maps at) (words_of u.key)); reply = reply } in
+    let e : Event = record {
+      key = words_of u.key;
+      found = get (maps at) (words_of u.key);
+      change = decision_of u.patch (get (maps at) (words_of u.key));
+      reply = reply;
+    } in
     one_asked l times maps counts reading readings u e n is (record { key = refl; change = refl }) paged step
     (rest (maps_behind maps at n) (counts_behind counts at e))
 
@@ -161,12 +175,14 @@ first_asked l times maps counts u j js is thread =
 first_unasked : (l : Layout) (times : Timeouts) (maps : Home → Pairs) (counts : Home → ℕ) (j : Judged) (js : List Judged)
     → update_of times j.reading ≡ None → IsThread l times maps counts (j ∷ js) → (j.event ≡ None) × IsThread l times maps counts js
 first_unasked l times maps counts j js none thread =
-    let at : j.event ≡ None = subst (λ u. IsAskedBy u j.event) none (All-head (IsAsked times) j js thread.asked) in
-    (at, record {
-      asked = All-tail (IsAsked times) j js thread.asked;
-      runs = λ h in_table. subst (Runs (bounds_in l h.family) (maps h) (counts h)) (events_are l times h None None j js none at) (thread.runs h in_table);
-      paged = All-tail HasPages j js thread.paged;
-    })
+    let at : j.event ≡ None = subst (λ u. IsAskedBy u j.event) none (All-head (IsAsked times) j js thread.asked) in (
+      at,
+      record {
+        asked = All-tail (IsAsked times) j js thread.asked;
+        runs = λ h in_table. subst (Runs (bounds_in l h.family) (maps h) (counts h)) (events_are l times h None None j js none at) (thread.runs h in_table);
+        paged = All-tail HasPages j js thread.paged;
+      },
+    )
 
 same_judged : (j k : Judged) → j.reading ≡ k.reading → j.event ≡ k.event → j ≡ k
 same_judged j k readings events = ap₂ (λ r e. record { reading = r; event = e }) readings events
@@ -203,3 +219,35 @@ one_thread l times (j ∷ js) (k ∷ ks) maps counts same one two =
     let rest : readings_of js ≡ readings_of ks = cc in
     one_by_update l times maps counts j k js ks here (update_of times j.reading) refl
     (λ maps counts. one_thread l times js ks maps counts rest) one two
+
+of_one_thread : (l : Layout) (times : Timeouts) (opening : Home → Pairs) (js : List Judged) → IsOneThread l times opening js
+    → IsThread l times opening (λ home. 0) js
+of_one_thread l times opening js is = record { asked = is.asked; runs = is.runs; paged = is.paged }
+
+-- the same of the one-thread filter
+pub some_judged : (l : Layout) (times : Timeouts) (opening : Home → Pairs) (readings : List Reading)
+    → (js : List Judged) × (readings_of js ≡ readings) × IsOneThread l times opening js
+some_judged l times opening readings =
+    let (js, same, is) = some_thread l times readings opening (λ home. 0) in
+    (js, same, record { asked = is.asked; runs = is.runs; paged = is.paged })
+
+pub one_judged : (l : Layout) (times : Timeouts) (opening : Home → Pairs) (js ks : List Judged) → readings_of js ≡ readings_of ks
+    → IsOneThread l times opening js → IsOneThread l times opening ks → js ≡ ks
+one_judged l times opening js ks same one two =
+    one_thread l times js ks opening (λ home. 0) same (of_one_thread l times opening js one) (of_one_thread l times opening ks two)
+
+-- the packets of a capture have verdicts
+pub some_verdicts : (l : Layout) (times : Timeouts) (policy : PolicyFacts) (packets : List Seen)
+    → (verdicts : List Verdict) × AreVerdicts l times policy packets verdicts
+some_verdicts l times policy packets =
+    let (readings, are) = some_readings policy packets in
+    let (js, same, is) = some_judged l times nothing readings in
+    (verdicts_on times js, record { judged = js; read = subst (AreReadings policy packets) (sym same) are; one_thread = is; said = refl })
+
+-- and one list of them
+pub one_verdicts : (l : Layout) (times : Timeouts) (policy : PolicyFacts) (packets : List Seen) (a b : List Verdict)
+    → AreVerdicts l times policy packets a → AreVerdicts l times policy packets b → a ≡ b
+one_verdicts l times policy packets a b one two =
+    let same = one_judged l times nothing one.judged two.judged
+    (one_readings policy packets (readings_of one.judged) (readings_of two.judged) one.read two.read) one.one_thread two.one_thread in
+    one.said ∙ ap (verdicts_on times) same ∙ sym two.said
