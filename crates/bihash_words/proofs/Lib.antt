@@ -2,3 +2,4 @@ pub mod CallLemmas
 pub mod MapLemmas
 pub mod MapValues
 pub mod RunLemmas
+pub mod SetLemmas
