@@ -1,1 +1,4 @@
+pub mod HomeLemmas
+pub mod OneThreadLemmas
+pub mod ReadingLemmas
 pub mod Rulings

@@ -2,6 +2,7 @@
 #![tactic(auto)]
 
 mod filter;
+mod laws;
 mod lazy_patch;
 mod packet_flow;
 mod ruleset;
@@ -10,6 +11,9 @@ mod verdict;
 mod verdicts;
 
 pub use filter::{Filter, ReadyFilter};
+pub use laws::{
+    each_capture_has_one_list_of_verdicts, each_list_is_judged_once, each_packet_has_one_reading,
+};
 pub use lazy_patch::{HasRuling, LazyPatch};
 pub use packet_flow::PacketFlow;
 pub use ruleset::Ruleset;
