@@ -44,13 +44,13 @@ module _ {X : Type 0} where
         | inr (is, other) ↦ absurd (other last.3)
       ]) in
       let rest = at_least label n (filter test xs) (λ k few.
-          let h = has k (omega arith) in
-          let label_is : label h.1 ≡ k = h.3 in
-          let j = kept_there test xs h.0 h.1 h.2 (elim (eqb_tells (label h.1) n) [
-            | inl (is, same) ↦ absurd (omega arith)
-            | inr (is, other) ↦ ap not is
-          ]) in
-          (j.0, h.1, j.1, h.3)) in
+      let h = has k (omega arith) in
+      let label_is : label h.1 ≡ k = h.3 in
+      let j = kept_there test xs h.0 h.1 h.2 (elim (eqb_tells (label h.1) n) [
+        | inl (is, same) ↦ absurd (omega arith)
+        | inr (is, other) ↦ ap not is
+      ]) in
+      (j.0, h.1, j.1, h.3)) in
       omega arith
 
 -- the sum of f from w on, of n numbers

@@ -1,10 +1,11 @@
 -- So few packets of a family's flows that its pages can't run out.
-use Rattle.std.proofs.Common.{◌≡◌, ◌≢◌, ◌∙◌, ◌+◌, ◌-◌, ◌*◌, ◌^◌, ◌<◌, ◌≤◌, ℕ, zero, suc, Bool, true, false, cond, count_by, List, [], ◌∷◌, ◌++◌, length, map, Option, Some, None, ap, refl, sym, subst, arith, inl, inr, length-append}
+use Rattle.std.proofs.Common.{◌≡◌, ◌≢◌, ◌∙◌, ◌+◌, ◌-◌, ◌*◌, ◌^◌, ◌<◌, ◌≤◌, ℕ, zero, suc, Bool, true, false, cond, List, [], ◌∷◌, ◌++◌, length, Option, Some, None, ap, refl, sym, subst, arith, inl, inr, length-append}
 use Rattle.std.specs.Prelude.{if◌then◌else◌, ◌==◌, option_map}
 use Rattle.std.specs.List.{All}
 use Rattle.std.proofs.Math.Nat.{mul-le-mul_right, pow-le-pow_right}
 use Rattle.std.proofs.lemmas.Bool.{cases_lt}
 use Rattle.std.proofs.lemmas.List.{length-map}
+use Rattle.std.proofs.lemmas.List.Elements.{All-map}
 use Rattle.std.proofs.lemmas.List.Sums.{sum_by-cons}
 use lib.ListN.{get_elem?}
 use mathlib.Core.Option.{some, some-ne-none, some-injective}
@@ -15,9 +16,8 @@ use Rattle.bihash_words.specs.Maps.{Event}
 use Rattle.bihash_words.specs.Sizes.{Sizes}
 use Rattle.bihash_words.specs.declared.patch.Reply.TheVariants as reply
 use Rattle.bihash_steps.specs.Words.{buckets}
-use Rattle.bihash_steps.specs.Histories.{bounds_of, event_of, is_changed}
+use Rattle.bihash_steps.specs.Histories.{event_of, is_changed}
 use Rattle.bihash_steps.specs.Callers.{HasMadeAll, HasWrite, IsLawfulCaller, known_at, known_writes}
-use Rattle.bihash_steps.specs.PageStores.{HasCall}
 use Rattle.bihash_steps.specs.declared.view.Call.{Call}
 use Rattle.bihash_steps.specs.declared.view.Known.{Known}
 use Rattle.bihash_steps.specs.declared.view.Record.{Record}
@@ -27,18 +27,19 @@ use Rattle.session_state.specs.declared.flow.Flow.{Flow}
 use Rattle.session_state.specs.declared.timeouts.Timeouts.{Timeouts}
 use Rattle.session_state.specs.Flows.{flow_of}
 use Rattle.flow_filter.specs.declared.verdict.Verdict.{Verdict}
-use Rattle.flow_filter.specs.Readings.{Framed, Reading, Ruled}
+use Rattle.flow_filter.specs.declared.verdict.Verdict.TheVariants.{NoPages}
+use Rattle.flow_filter.specs.Readings.{AreReadings, Framed, IsReading, Reading, Ruled}
 use Rattle.flow_filter.specs.Updates.{Update, update_in, update_of}
-use Rattle.flow_filter.specs.Judged.{Judged}
-use Rattle.flow_filter.specs.OneThread.{family_of, same_family, sizes_in}
+use Rattle.flow_filter.specs.Judged.{IsAsked, Judged, readings_of, verdict_on}
+use Rattle.flow_filter.specs.OneThread.{HasPages, IsNoRefusal, family_of, same_family, sizes_in}
 use Rattle.flow_dealing.specs.Views.{view_in}
 use Rattle.flow_dealing.specs.Dealings.{Deal, flow_in, worker_of}
-use Rattle.flow_dealing.specs.Runs.{AreFew, AreJudged, AreRecorded, HasPagesIn, add_in, events_by, is_in, keyed}
+use Rattle.flow_dealing.specs.Runs.{AreFew, AreJudged, AreRecorded, HasPagesIn, HavePages, add_in, events_by, is_in, keyed}
 use Rattle.flow_dealing.proofs.Counting.{IsLabelled, at_least, sum_at, sum_one, sum_zero}
 use Rattle.flow_dealing.proofs.Merging.{events_by-cons, events_by-nil}
-use Rattle.flow_dealing.proofs.PacketCalls.{call_of_packet, same_family_sound}
-use Rattle.flow_dealing.proofs.Places.{all_from, at_front}
-use Rattle.flow_dealing.proofs.Refusals.{wants}
+use Rattle.flow_dealing.proofs.PacketCalls.{IsFlowEvent, asked_flow, call_of_packet, same_family_refl, same_family_sound}
+use Rattle.flow_dealing.proofs.Places.{after_map, all_at, all_from, at_front}
+use Rattle.flow_dealing.proofs.Refusals.{paged_is_told, wants}
 
 -- ---- All calls of a caller
 
@@ -78,6 +79,13 @@ place known (suc b) k few = elim (cases_lt k (known_writes known b)) [
 abbrev label : Known → Call → ℕ
 label known c = cond (is_changed c.reply) (known_writes known c.bucket + c.stamp) 0
 
+label_of_write : (known : Known) (c : Call) (b n m : ℕ) → is_changed c.reply ≡ true → c.bucket ≡ b → c.stamp ≡ n + 1
+    → m ≡ known_writes known b + n → label known c ≡ suc m
+label_of_write known c b n m wrote at_bucket stamp is =
+    let first : known_writes known c.bucket ≡ known_writes known b = ap (known_writes known) at_bucket in
+    let all : known_writes known c.bucket + c.stamp ≡ suc m = omega arith in
+    ap (λ t. cond t (known_writes known c.bucket + c.stamp) 0) wrote ∙ all
+
 -- a caller that made all that it knows made more calls than it knows writes, where one of them wrote nothing
 more_calls : (z : Sizes) (v : View) (i k : ℕ) (r : Record) (c : Call) → IsLawfulCaller z v → HasMadeAll z v → get_elem? v.records i ≡ some r
     → get_elem? r.calls k ≡ some c → is_changed c.reply ≡ false → known_writes v.known (buckets z) + 1 ≤ length (all_calls v.records)
@@ -93,10 +101,7 @@ more_calls z v i k r c caller made at_i at_k kept =
         let by = made b inside n w.0 w.1 in
         let has : HasWrite by.1.calls b (n + 1) = caller.lawful.own by.0 b n by.1 w.0 by.2 inside w.1 (sym by.3) in
         let p = in_all v.records by.0 has.0 by.1 has.1 by.2 has.2 in
-        let d : Call = has.1 in
-        let at_bucket : known_writes v.known d.bucket ≡ known_writes v.known b = ap (known_writes v.known) has.3 in
-        let stamp : d.stamp ≡ n + 1 = has.5 in
-        (p.0, d, p.1, ap (λ t. cond t (known_writes v.known d.bucket + d.stamp) 0) has.4 ∙ omega arith)
+        (p.0, has.1, p.1, label_of_write v.known has.1 b n m has.4 has.3 has.5 is)
 
 -- ---- The calls of all workers are no more than the packets with a flow of the family
 
@@ -148,8 +153,8 @@ module _ (d : Deal) (times : Timeouts) (family : Family) where
   no_more_calls : (js : List Judged) (v : View) → AreRecorded d times family js v → length (all_calls v.records) ≤ keyed times family js
   no_more_calls js v recorded =
       let all = how_many v.records 0 (its_count 0 js) (λ i r at.
-          let e : 0 + i ≡ i = omega arith in
-          sym (length-map r.calls event_of) ∙ (ap length (recorded.each i r at) ∙ ap (its_count 0 js) (sym e))) in
+      let e : 0 + i ≡ i = omega arith in
+      sym (length-map r.calls event_of) ∙ (ap length (recorded.each i r at) ∙ ap (its_count 0 js) (sym e))) in
       let few = no_more_events 0 (length v.records) 0 js in
       omega arith
 
@@ -164,6 +169,13 @@ module _ (d : Deal) (times : Timeouts) (family : Family) where
       go None clash = let f : ⊥ = cc in absurd f
       go (Some flow) same = (flow, refl, sym (same_family_sound family (family_of flow.key) same))
 
+inside_flow : (times : Timeouts) (reading : Reading) (flow : Flow) → flow_in reading ≡ Some flow
+    → is_in (family_of flow.key) (update_of times reading) ≡ true
+inside_flow times (Framed said) flow has = let f : ⊥ = cc in absurd f
+inside_flow times (Ruled moment tuple ruling) flow has =
+    ap (λ f. is_in (family_of flow.key) (option_map (update_in times moment tuple ruling) f)) has ∙ same_family_refl (family_of flow.key)
+
+-- with so few packets of a family none of them is refused for want of pages
 pub pages_for_few : (d : Deal) (times : Timeouts) (policy : PolicyFacts) (packets : List Seen) (verdicts : List Verdict)
     (are : AreJudged d times policy packets verdicts) (family : Family) → AreFew d.layout times family are.judged
     → All (HasPagesIn times family) are.judged
@@ -183,3 +195,32 @@ pages_for_few d times policy packets verdicts are family few = all_from (HasPage
     let left_few : left < 2 ^ log2 = want.few in
     let enough : (writes + 1) * 2 ^ M ≤ keyed times family are.judged * 2 ^ M = mul-le-mul_right (2 ^ M) (omega arith) in
     omega (arith, few, taken))
+
+-- with so few packets of both families no verdict says that pages were wanting
+pub verdicts_for_few : (d : Deal) (times : Timeouts) (policy : PolicyFacts) (packets : List Seen) (verdicts : List Verdict)
+    (are : AreJudged d times policy packets verdicts) → ((family : Family) → AreFew d.layout times family are.judged) → HavePages verdicts
+verdicts_for_few d times policy packets verdicts are few =
+    subst HavePages (sym are.said) (All-map (λ v. v ≢ NoPages) (verdict_on times) are.judged
+    (all_from (λ j. verdict_on times j ≢ NoPages) are.judged (λ k j at.
+    let p = packet_of (readings_of are.judged) packets k j.reading are.read (after_map (λ (i : Judged). i.reading) are.judged k j at) in
+    paged_is_told times policy p.0 j p.1 (λ e its. has_pages k j at e its))))
+  where
+    packet_of : (readings : List Reading) (ps : List Seen) (k : ℕ) (reading : Reading) → AreReadings policy ps readings
+        → get_elem? readings k ≡ some reading → (packet : Seen) × IsReading policy packet reading
+    packet_of [] [] k reading read at = absurd (some-ne-none reading (sym at))
+    packet_of [] (p ∷ ps) k reading read at = absurd read
+    packet_of (r ∷ rs) [] k reading read at = absurd read
+    packet_of (r ∷ rs) (p ∷ ps) zero reading read at = (p, subst (IsReading policy p) (some-injective r reading at) read.0)
+    packet_of (r ∷ rs) (p ∷ ps) (suc k) reading read at = packet_of rs ps k reading read.1 at
+
+    has_pages : (k : ℕ) (j : Judged) → get_elem? are.judged k ≡ some j → HasPages j
+    has_pages k j at e its = go (flow_in j.reading) refl
+      where
+        go : (f : Option Flow) → flow_in j.reading ≡ f → IsNoRefusal e.reply
+        go None is =
+            let none : j.event ≡ None = subst (λ f. IsFlowEvent f j.event) is (asked_flow times j (all_at (IsAsked times) are.judged k j are.asked at)) in
+            let clash = sym none ∙ its in let f : ⊥ = cc in absurd f
+        go (Some flow) is =
+            all_at (HasPagesIn times (family_of flow.key)) are.judged k j
+            (pages_for_few d times policy packets verdicts are (family_of flow.key) (few (family_of flow.key))) at
+            (inside_flow times j.reading flow is) e its
