@@ -19,7 +19,7 @@ use Rattle.flow_filter.specs.OneThread.{Layout}
 use Rattle.flow_dealing.specs.Views.{Views}
 use Rattle.flow_workers.specs.declared.viewed_packet.ViewedPacket.{ViewedPacket}
 use Rattle.flow_workers.specs.Judging.{IsAway, IsEntered, IsEnteredBy, IsJudged, IsRefused, told}
-use Rattle.flow_workers.specs.Preparing.{IsRulingOn, reading_with}
+use Rattle.flow_workers.specs.Preparing.{IsRuling, reading_with}
 use Rattle.flow_workers.specs.ViewedPackets.{IsViewed}
 
 -- what the rules say of a packet, where they are asked
@@ -29,13 +29,13 @@ ruling_on policy frames.Malformed = None
 ruling_on policy frames.Short = None
 ruling_on policy (frames.Ip direction tuple) = (some_decision (rules_of direction policy) tuple).0
 
-pub is_ruling_on : (policy : PolicyFacts) (view : View) → IsRulingOn policy view (ruling_on policy view)
-is_ruling_on policy frames.NotIp = tt
-is_ruling_on policy frames.Malformed = tt
-is_ruling_on policy frames.Short = tt
-is_ruling_on policy (frames.Ip direction tuple) = (some_decision (rules_of direction policy) tuple).1
+pub is_ruling : (policy : PolicyFacts) (view : View) → IsRuling policy view (ruling_on policy view)
+is_ruling policy frames.NotIp = tt
+is_ruling policy frames.Malformed = tt
+is_ruling policy frames.Short = tt
+is_ruling policy (frames.Ip direction tuple) = (some_decision (rules_of direction policy) tuple).1
 
-reading_of : (policy : PolicyFacts) (moment : ℕ) (view : View) (ruling : Ruling) → IsRulingOn policy view ruling
+reading_of : (policy : PolicyFacts) (moment : ℕ) (view : View) (ruling : Ruling) → IsRuling policy view ruling
     → IsReadingOf policy moment view (reading_with moment view ruling)
 reading_of policy moment frames.NotIp ruling is = refl
 reading_of policy moment frames.Malformed ruling is = refl
@@ -45,7 +45,7 @@ reading_of policy moment (frames.Ip direction tuple) ruling is = (ruling, is, re
 -- a packet that was viewed, under what the rules say of it
 pub record IsRuled (policy : PolicyFacts) (s : Seen) (p : ViewedPacket) (ruling : Ruling) : Type 0 where
   pub seen : IsViewed policy.own s p
-  pub ruled : IsRulingOn policy (viewed p.frame) ruling
+  pub ruled : IsRuling policy (viewed p.frame) ruling
 
 abbrev pub reading_in : ViewedPacket → Ruling → Reading
 reading_in p ruling = reading_with p.moment (viewed p.frame) ruling
