@@ -1,5 +1,5 @@
 -- A packet that was prepared under what the rules say of it is judged by its verdict alone, or by the reply to its update.
-use Rattle.std.proofs.Common.{◌≡◌, ◌∙◌, ℕ, Option, Some, None, ap, refl, sym, subst}
+use Rattle.std.proofs.Common.{◌≡◌, ◌∙◌, ℕ, Some, None, ap, refl, sym, subst}
 use Rattle.packet_view.specs.Captures.{Seen}
 use Rattle.packet_view.specs.Frames as frames
 use Rattle.packet_view.specs.Frames.{IsFrame, View, viewed}
@@ -7,14 +7,13 @@ use Rattle.acl_policy.specs.Policies.{PolicyFacts, rules_of}
 use Rattle.acl_policy.proofs.DecisionLaws.{some_decision}
 use Rattle.bihash_words.specs.Maps.{Event, found_by}
 use Rattle.bihash_words.specs.declared.patch.Reply.{Reply}
-use Rattle.session_state.specs.declared.flow.FlowKey.{FlowKey}
 use Rattle.session_state.specs.declared.timeouts.Timeouts.{Timeouts}
-use Rattle.session_state.specs.Decisions.{PatchFacts, decision_of}
+use Rattle.session_state.specs.Decisions.{decision_of}
 use Rattle.flow_filter.specs.declared.verdict.Verdict.{Verdict}
-use Rattle.flow_filter.specs.Readings.{Framed, IsReading, IsReadingOf, Reading, Ruled, Ruling}
+use Rattle.flow_filter.specs.Readings.{IsReading, IsReadingOf, Reading, Ruling}
 use Rattle.flow_filter.specs.Updates.{Update, update_of, words_of}
 use Rattle.flow_filter.specs.Verdicts.{verdict_of}
-use Rattle.flow_filter.specs.Judged.{IsAskedBy, IsEventOf, Judged, verdict_by_event, verdict_with}
+use Rattle.flow_filter.specs.Judged.{IsAskedBy, verdict_by_event, verdict_with}
 use Rattle.flow_filter.specs.OneThread.{Layout}
 use Rattle.flow_dealing.specs.Views.{Views}
 use Rattle.flow_workers.specs.declared.viewed_packet.ViewedPacket.{ViewedPacket}
@@ -52,9 +51,12 @@ reading_in p ruling = reading_with p.moment (viewed p.frame) ruling
 
 reads : (policy : PolicyFacts) (s : Seen) (p : ViewedPacket) (ruling : Ruling) → IsRuled policy s p ruling
     → IsReading policy s (reading_in p ruling)
-reads policy s p ruling is = (viewed p.frame, is.seen.1,
+reads policy s p ruling is = (
+  viewed p.frame,
+  is.seen.1,
   subst (λ moment. IsReadingOf policy moment (viewed p.frame) (reading_in p ruling)) (sym is.seen.0)
-  (reading_of policy p.moment (viewed p.frame) ruling is.ruled))
+      (reading_of policy p.moment (viewed p.frame) ruling is.ruled),
+)
 
 pub settled : (l : Layout) (times : Timeouts) (policy : PolicyFacts) (s : Seen) (p : ViewedPacket) (ruling : Ruling) (v : Views) (verdict : Verdict)
     → IsRuled policy s p ruling

@@ -9,6 +9,7 @@ use flow_filter::{Filter, Verdict};
 use packet_view::Packet;
 use session_state::Timeouts;
 use std::alloc::Global;
+use std::process::Abort;
 use std::test::Fail;
 
 // Frames from this address go out, and 10.0.0.1 may ask name servers and gets their answers.
@@ -33,24 +34,27 @@ fn request(server: u8) -> [u8; 42] {
     ]
 }
 
-// The verdict on a request, by one try.
-fn ask<A: Shape, B: Shape>(
+// Each request is to get its verdict, by one try: the moment, n of the server, and the verdict.
+fn ask_all<A: Shape, B: Shape, R: Abort>(
+    rt: &R,
     filter: &Filter,
     tables: &Tables<A, B>,
     callers: &mut Callers<A, B>,
-    moment: u32,
-    server: u8,
-) -> Result<Verdict, Fail>
+    rows: &[(u32, u8, Verdict)],
+) -> Result<(), Fail>
     requires shapes { AreShapes ⟦<A as Shape>⟧ ⟦<B as Shape>⟧ }
     requires idle { AreIdle ⟦<A as Shape>⟧ ⟦<B as Shape>⟧ tables.now callers.old }
-    ensures idle { AreIdle ⟦<A as Shape>⟧ ⟦<B as Shape>⟧ tables.now callers.new }
 {
-    let frame = request(server);
-    let packet = Packet {
-        moment,
-        frame: &frame,
-    };
-    Ok(try_judge(filter, tables, callers, &packet)?)
+    for (moment, server, verdict) in rows {
+        let frame = request(*server);
+        let packet = Packet {
+            moment: *moment,
+            frame: &frame,
+        };
+        let found = try_judge(filter, tables, callers, &packet)?;
+        assert_eq!(rt; found, *verdict, "at {moment} to {server}");
+    }
+    Ok(())
 }
 
 #[test]
@@ -61,38 +65,34 @@ fn worn_bucket_under_the_filter(rt: HostRuntime) -> Result<(), Fail> {
         (100, 2, Verdict::Reflect(1)),
         (101, 2, Verdict::Session),
         (102, 2, Verdict::Session),
-        // The bucket takes no fourth write, and the session lives as it was.
+        // The bucket takes no fourth write, and the session stays as it was.
         (103, 2, Verdict::Session),
         (103, 4, Verdict::Worn),
         (103, 3, Verdict::Reflect(1)),
         (702, 2, Verdict::Session),
         (703, 2, Verdict::Worn),
     ];
-    for (moment, server, verdict) in rows {
-        let found = ask(&filter, &tables, &mut callers, moment, server)?;
-        assert_eq!(rt; found, verdict, "at {moment} to {server}");
-    }
-    Ok(())
+    ask_all(&rt, &filter, &tables, &mut callers, &rows)
 }
 
 #[test]
 fn full_and_no_pages_under_the_filter(rt: HostRuntime) -> Result<(), Fail> {
     let filter = filter_of(rt.alloc(), NAMES)?;
     let (tables, mut callers) = create_tables::<Tiny<8, 1000>, ShapeV6>(rt.alloc())?;
-    for i in 1..=16u8 {
-        let found = ask(&filter, &tables, &mut callers, 100, 8 * i)?;
-        assert_eq!(rt; found, Verdict::Reflect(1), "to {}", 8 * i);
+    let mut rows = [(100, 136, Verdict::Full); 17];
+    for i in 0..16u8 {
+        rows[usize::from(i)] = (100, 8 * i + 8, Verdict::Reflect(1));
     }
-    let found = ask(&filter, &tables, &mut callers, 100, 136)?;
-    assert_eq!(rt; found, Verdict::Full);
+    ask_all(&rt, &filter, &tables, &mut callers, &rows)?;
     let (tables, mut callers) = create_tables::<Tiny<2, 1000>, ShapeV6>(rt.alloc())?;
-    for server in [2, 4, 6, 8] {
-        let found = ask(&filter, &tables, &mut callers, 100, server)?;
-        assert_eq!(rt; found, Verdict::Reflect(1), "to {server}");
-    }
-    let found = ask(&filter, &tables, &mut callers, 100, 10)?;
-    assert_eq!(rt; found, Verdict::NoPages);
-    Ok(())
+    let rows = [
+        (100, 2, Verdict::Reflect(1)),
+        (100, 4, Verdict::Reflect(1)),
+        (100, 6, Verdict::Reflect(1)),
+        (100, 8, Verdict::Reflect(1)),
+        (100, 10, Verdict::NoPages),
+    ];
+    ask_all(&rt, &filter, &tables, &mut callers, &rows)
 }
 
 // UDP over IPv6 between 2001:db8::1 port 1000 and 2001:db8::2 port 53: the request, or its answer.
@@ -104,9 +104,68 @@ fn over_six(is_request: bool) -> [u8; 62] {
         ([0, 53], [0x03, 0xe8])
     };
     [
-        2, 0, 0, 0, 0, to, 2, 0, 0, 0, 0, from, 0x86, 0xdd, 0x60, 0, 0, 0, 0, 8, 17, 64, 0x20,
-        0x01, 0x0d, 0xb8, 0, 0, 0, 0, 0, 0, 0, 0, 0, 0, 0, from, 0x20, 0x01, 0x0d, 0xb8, 0, 0, 0,
-        0, 0, 0, 0, 0, 0, 0, 0, to, from_port[0], from_port[1], to_port[0], to_port[1], 0, 8, 0, 0,
+        2,
+        0,
+        0,
+        0,
+        0,
+        to,
+        2,
+        0,
+        0,
+        0,
+        0,
+        from,
+        0x86,
+        0xdd,
+        0x60,
+        0,
+        0,
+        0,
+        0,
+        8,
+        17,
+        64,
+        0x20,
+        0x01,
+        0x0d,
+        0xb8,
+        0,
+        0,
+        0,
+        0,
+        0,
+        0,
+        0,
+        0,
+        0,
+        0,
+        0,
+        from,
+        0x20,
+        0x01,
+        0x0d,
+        0xb8,
+        0,
+        0,
+        0,
+        0,
+        0,
+        0,
+        0,
+        0,
+        0,
+        0,
+        0,
+        to,
+        from_port[0],
+        from_port[1],
+        to_port[0],
+        to_port[1],
+        0,
+        8,
+        0,
+        0,
     ]
 }
 
@@ -120,19 +179,39 @@ fn both_families(rt: HostRuntime) -> Result<(), Fail> {
         out permit+reflect ipv6 any any udp\n",
     )?;
     let (tables, mut callers) = create_tables::<Tiny<8, 3>, ShapeV6>(rt.alloc())?;
-    let (four, asked, answered) = (request(2), over_six(true), over_six(false));
-    let rows: [(&[u8], Verdict); 6] = [
-        (&answered, Verdict::ByDefault),
-        (&four, Verdict::Reflect(1)),
-        (&answered, Verdict::ByDefault),
-        (&asked, Verdict::Reflect(3)),
-        (&answered, Verdict::Session),
-        (&four, Verdict::Session),
-    ];
-    for (frame, verdict) in rows {
-        let packet = Packet { moment: 100, frame };
-        let found = judge(&rt, &filter, &tables, &mut callers, &packet);
-        assert_eq!(rt; found, verdict);
-    }
+    let callers = &mut callers;
+    let (four, six, answer) = (request(2), over_six(true), over_six(false));
+    let four = Packet {
+        moment: 100,
+        frame: &four,
+    };
+    let six = Packet {
+        moment: 100,
+        frame: &six,
+    };
+    let answer = Packet {
+        moment: 100,
+        frame: &answer,
+    };
+    assert_eq!(rt;
+        judge(&rt, &filter, &tables, callers, &four),
+        Verdict::Reflect(1)
+    );
+    assert_eq!(rt;
+        judge(&rt, &filter, &tables, callers, &answer),
+        Verdict::ByDefault
+    );
+    assert_eq!(rt;
+        judge(&rt, &filter, &tables, callers, &six),
+        Verdict::Reflect(3)
+    );
+    assert_eq!(rt;
+        judge(&rt, &filter, &tables, callers, &answer),
+        Verdict::Session
+    );
+    assert_eq!(rt;
+        judge(&rt, &filter, &tables, callers, &four),
+        Verdict::Session
+    );
     Ok(())
 }
