@@ -7,7 +7,7 @@ ghost use Rattle.flow_filter.specs.Filters.{policy_in};
 ghost use Rattle.flow_filter.specs.OneThread.{layout_of};
 ghost use Rattle.flow_workers.specs.Callers.{AreIdle, AreSame, AreShapes, views_of};
 ghost use Rattle.flow_workers.specs.Judging.{IsJudged, IsRefused};
-ghost use Rattle.flow_workers.specs.Preparing.{IsRulingOn};
+ghost use Rattle.flow_workers.specs.Preparing.{IsRuling};
 ghost use Rattle.flow_workers.specs.ViewedPackets.{IsViewed};
 
 use crate::prepared::Prepared;
@@ -30,7 +30,7 @@ fn try_judge_as<A: Shape, B: Shape, D: HasRuling>(
 ) -> Result<Verdict, Contended>
     requires shapes { AreShapes ⟦<A as Shape>⟧ ⟦<B as Shape>⟧ }
     requires idle { AreIdle ⟦<A as Shape>⟧ ⟦<B as Shape>⟧ tables.now callers.old }
-    requires ruling { IsRulingOn (policy_in filter.now) (viewed packet.now.frame) D.ruling }
+    requires ruling { IsRuling (policy_in filter.now) (viewed packet.now.frame) D.ruling }
     ensures same { AreSame ⟦<A as Shape>⟧ ⟦<B as Shape>⟧ callers.old callers.new }
     ensures idle { AreIdle ⟦<A as Shape>⟧ ⟦<B as Shape>⟧ tables.now callers.new }
     ensures judged { IfOk result (λ verdict. (s : Seen) → IsViewed filter.now.own s packet.now
@@ -61,7 +61,7 @@ fn judge_as<A: Shape, B: Shape, D: HasRuling, R: Wait>(
 ) -> Verdict
     requires shapes { AreShapes ⟦<A as Shape>⟧ ⟦<B as Shape>⟧ }
     requires idle { AreIdle ⟦<A as Shape>⟧ ⟦<B as Shape>⟧ tables.now callers.old }
-    requires ruling { IsRulingOn (policy_in filter.now) (viewed packet.now.frame) D.ruling }
+    requires ruling { IsRuling (policy_in filter.now) (viewed packet.now.frame) D.ruling }
     ensures same { AreSame ⟦<A as Shape>⟧ ⟦<B as Shape>⟧ callers.old callers.new }
     ensures idle { AreIdle ⟦<A as Shape>⟧ ⟦<B as Shape>⟧ tables.now callers.new }
     ensures judged { (s : Seen) → IsViewed filter.now.own s packet.now
