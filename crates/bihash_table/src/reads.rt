@@ -16,6 +16,7 @@ use bihash_words::{BucketWord, Shape};
 
 /// The place of the key's pair in the block of the open bucket, and its value. In a block that isn't
 /// linear the four places of one page are looked at.
+#[inline]
 pub(crate) fn find_pair<S: Shape>(
     row: &Row<S>,
     seat: &mut CallerSeat<S>,
@@ -188,7 +189,9 @@ fn first_mark(marks: (bool, bool, bool, bool)) -> usize
     }
 }
 
-// The place and the value of the key's pair among the places of a page that are marked, in their order.
+// The place and the value of the key's pair among the places of a page that are marked, in their order. Few
+// calls come here.
+#[inline(never)]
 fn pair_at_marks<S: Shape>(
     row: &Row<S>,
     seat: &mut CallerSeat<S>,

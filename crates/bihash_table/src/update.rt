@@ -136,16 +136,7 @@ fn change_pair<S: Shape>(
             if !lock_seen(row, seat, seen.site.bucket, seen.word) {
                 return Err(Contended);
             }
-            Ok(overwrite(
-                row,
-                seat,
-                seen.site.bucket,
-                seen.word,
-                seen.site.key,
-                pair.0,
-                pair.1,
-                value,
-            ))
+            Ok(overwrite(row, seat, seen, pair, value))
         }
         Change::Remove => remove(row, seat, seen, pair),
         Change::Keep => unreachable!(),
@@ -176,15 +167,7 @@ fn enter_new<S: Shape>(
             if !lock_seen(row, seat, seen.site.bucket, seen.word) {
                 return Err(Contended);
             }
-            Ok(fill(
-                row,
-                seat,
-                seen.site.bucket,
-                seen.word,
-                seen.site.key,
-                place,
-                value,
-            ))
+            Ok(fill(row, seat, seen, place, value))
         }
         None => enter_larger(row, caller, seen, value),
     }
