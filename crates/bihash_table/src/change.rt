@@ -7,7 +7,6 @@ ghost use Rattle.bihash_words.specs.Sizes.{sizes_of};
 ghost use Rattle.bihash_words.specs.declared.patch.Change.TheVariants.{Keep, Set, Remove};
 ghost use Rattle.bihash_words.specs.declared.patch.Reply.TheVariants.{Kept, Changed, Worn, Full};
 ghost use Rattle.bihash_steps.specs.Words.{place_words};
-ghost use Rattle.bihash_steps.specs.Histories.{bucket_of};
 ghost use Rattle.bihash_steps.specs.Blocks.{places, value_in};
 ghost use Rattle.bihash_steps.specs.Callers.{IsLawfulCaller, known_at};
 ghost use Rattle.bihash_steps.specs.BucketSteps.{map_now, relocked, stored_in};

@@ -6,7 +6,7 @@ ghost use Rattle.bihash_words.specs.Patches.{free_mark};
 ghost use Rattle.bihash_words.specs.Sizes.{IsSound, sizes_of};
 ghost use Rattle.bihash_words.specs.declared.patch.Change.TheVariants.{Set, Remove};
 ghost use Rattle.bihash_words.specs.declared.patch.Reply.TheVariants.{Changed, NoPages};
-ghost use Rattle.bihash_steps.specs.Histories.{bounds_of, bucket_of};
+ghost use Rattle.bihash_steps.specs.Histories.{bounds_of};
 ghost use Rattle.bihash_steps.specs.Blocks.{HasPair, IsBlockOf, places, value_in};
 ghost use Rattle.bihash_steps.specs.Callers.{IsLawfulCaller, known_at};
 ghost use Rattle.bihash_steps.specs.BucketSteps.{map_now};

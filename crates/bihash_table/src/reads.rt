@@ -1,6 +1,6 @@
 //! Searches of the block of an open bucket. What they find holds on the condition that the words they
 //! load are the block's, which a step on the bucket's word tells afterwards.
-ghost use Rattle.std.specs.Prelude.{◌≡◌, ℕ, ◌+◌, ◌-◌, ◌*◌, ◌/◌, ◌%◌, ◌^◌, ◌<◌, ◌≤◌, List, length, true, false, ◌≢◌, slice_index};
+ghost use Rattle.std.specs.Prelude.{◌≡◌, ◌+◌, ◌-◌, ◌*◌, ◌/◌, ◌^◌, ◌<◌, ◌≤◌, true, false, ◌≢◌, slice_index};
 ghost use Rattle.bihash_words.specs.Sizes.{IsSound, sizes_of};
 ghost use Rattle.bihash_steps.specs.Words.{place_words};
 ghost use Rattle.bihash_steps.specs.Blocks.{places};

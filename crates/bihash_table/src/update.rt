@@ -1,7 +1,7 @@
 //! Updates, one try each.
 ghost use Rattle.std.specs.Prelude.{◌≡◌, ◌≢◌, ◌==◌, ◌<◌, true, false, ℕ, length, None, Option, Some, IfOk, IfErr, is_ok};
 ghost use Rattle.bihash_words.specs.Maps.{effect_of};
-ghost use Rattle.bihash_words.specs.Patches.{IsStorable, free_mark};
+ghost use Rattle.bihash_words.specs.Patches.{IsStorable};
 ghost use Rattle.bihash_words.specs.Sizes.{sizes_of};
 ghost use Rattle.bihash_words.specs.Words.{Bucket, Fits, packed};
 ghost use Rattle.bihash_words.specs.declared.patch.Change.TheVariants.{Keep, Set};
@@ -9,7 +9,6 @@ ghost use Rattle.bihash_words.specs.declared.patch.Reply.TheVariants.{NoPages};
 ghost use Rattle.bihash_steps.specs.Histories.{bucket_of};
 ghost use Rattle.bihash_steps.specs.Callers.{IsLawfulCaller, known_at};
 ghost use Rattle.bihash_steps.specs.Views.{nothing_held};
-ghost use Rattle.bihash_steps.specs.BucketSteps.{map_now};
 ghost use Rattle.bihash_steps.specs.Seats.{with_view};
 ghost use Rattle.bihash_table.specs.Answers.{locks_of};
 ghost use Rattle.bihash_table.specs.Promise.{IsUpdated, IsTurnedAway};
