@@ -1,0 +1,4 @@
+pub mod ColumnLemmas
+pub mod RangeLemmas
+pub mod SieveLemmas
+pub mod TurnLemmas
