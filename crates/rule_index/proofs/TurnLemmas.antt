@@ -68,18 +68,19 @@ sum_at_next count width old rows rule row sums short within =
 -- no bit before the first row, and each from there to the last
 between : (count width : ℕ) (old rows : List ℕ) (rule first last : ℕ) → Sums count width old rows → rule / 64 < width → TurnsAt count width old rule first last → first ≤ last
     → (row : ℕ) → row < count → row ≤ last → (row < first → bit_in width rows row rule ≡ 0) × (first ≤ row → bit_in width rows row rule ≡ 1)
-between count width old rows rule first last sums short turns rising zero within early =
-    ( λ below. sum_at_first count width old rows rule sums short ∙ turns.still 0 within (λ same. absurd (omega (arith, same, below))) (λ same. absurd (omega (arith, same)))
-    , λ reached. let here : first ≡ 0 = omega arith in
-      sum_at_first count width old rows rule sums short ∙ subst (λ (r : ℕ). bit_in width old r rule ≡ 1) here turns.begins)
+between count width old rows rule first last sums short turns rising zero within early = (
+  λ below. sum_at_first count width old rows rule sums short ∙ turns.still 0 within (λ same. absurd (omega (arith, same, below))) (λ same. absurd (omega (arith, same))),
+  λ reached. let here : first ≡ 0 = omega arith in
+      sum_at_first count width old rows rule sums short ∙ subst (λ (r : ℕ). bit_in width old r rule ≡ 1) here turns.begins,
+)
 between count width old rows rule first last sums short turns rising (suc row) within early =
     let before = between count width old rows rule first last sums short turns rising row (omega arith) (omega arith) in
-    let sum = sum_at_next count width old rows rule row sums short within in
-    ( λ below.
-      let none : bit_in width old (suc row) rule ≡ 0 = turns.still (suc row) within (λ same. absurd (omega (arith, same, below))) (λ same. absurd (omega (arith, same, early))) in
-      let clear : bit_in width rows row rule ≡ 0 = before.0 (omega arith) in
-      sum ∙ omega (arith, none, clear)
-    , λ reached. elim (cases_eq (suc row) first) [
+    let sum = sum_at_next count width old rows rule row sums short within in (
+      λ below.
+          let none : bit_in width old (suc row) rule ≡ 0 = turns.still (suc row) within (λ same. absurd (omega (arith, same, below))) (λ same. absurd (omega (arith, same, early))) in
+          let clear : bit_in width rows row rule ≡ 0 = before.0 (omega arith) in
+          sum ∙ omega (arith, none, clear),
+      λ reached. elim (cases_eq (suc row) first) [
         | inl same ↦
             let one : bit_in width old (suc row) rule ≡ 1 = subst (λ (r : ℕ). bit_in width old r rule ≡ 1) (sym same) turns.begins in
             let clear : bit_in width rows row rule ≡ 0 = before.0 (omega arith) in
@@ -88,7 +89,8 @@ between count width old rows rule first last sums short turns rising (suc row) w
             let none : bit_in width old (suc row) rule ≡ 0 = turns.still (suc row) within apart (λ same. absurd (omega (arith, same, early))) in
             let set : bit_in width rows row rule ≡ 1 = before.1 (omega (arith, apart, reached)) in
             sum ∙ omega (arith, none, set)
-      ])
+      ],
+    )
 
 -- a range has its bit in each row that it may be in
 pub range_filled : (starts : List ℕ) (width : ℕ) (old rows : List ℕ) (rule row x : ℕ) (range : ℕ × ℕ) → Sums (length starts) width old rows → rule / 64 < width

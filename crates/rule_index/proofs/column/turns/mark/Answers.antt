@@ -21,10 +21,10 @@ returns-then-behind-starts-clause-turns c =
       begin = c.place.ensures;
       ending = c.place-behind.ensures;
       turns = turns_set (length c.args.starts.now) c.args.width c.set_bit.new.rows c.set_bit-then-behind-starts.new.rows c.args.rule c.place.result c.place-behind.result
-      c.set_bit.ensures.set
-      (λ row within apart. c.set_bit.ensures.others row c.args.rule c.requires.rule (inl apart) ∙ c.requires.clear row within)
-      c.set_bit-then-behind-starts.ensures.set
-      (λ row behind. c.set_bit-then-behind-starts.ensures.others row c.args.rule c.requires.rule (inl behind));
+          c.set_bit.ensures.set
+          (λ row within apart. c.set_bit.ensures.others row c.args.rule c.requires.rule (inl apart) ∙ c.requires.clear row within)
+          c.set_bit-then-behind-starts.ensures.set
+          (λ row behind. c.set_bit-then-behind-starts.ensures.others row c.args.rule c.requires.rule (inl behind));
     }
 
 pub returns-else-behind-starts-clause-turns : goal.returns-else-behind-starts-clause-turns
