@@ -66,7 +66,7 @@ sum_at_next count width old rows rule row sums short within =
     ap (λ (w : ℕ). bit_at w (rule % 64)) word ∙ bit_at_xor (slice_index old (suc row * width + rule / 64)) (slice_index rows (row * width + rule / 64)) (rule % 64)
 
 -- no bit before the first row, and each from there to the last
-between : (count width : ℕ) (old rows : List ℕ) (rule first last : ℕ) → Sums count width old rows → rule / 64 < width → TurnsAt count width old rule first last → first ≤ last
+pub between : (count width : ℕ) (old rows : List ℕ) (rule first last : ℕ) → Sums count width old rows → rule / 64 < width → TurnsAt count width old rule first last → first ≤ last
     → (row : ℕ) → row < count → row ≤ last → (row < first → bit_in width rows row rule ≡ 0) × (first ≤ row → bit_in width rows row rule ≡ 1)
 between count width old rows rule first last sums short turns rising zero within early = (
   λ below. sum_at_first count width old rows rule sums short ∙ turns.still 0 within (λ same. absurd (omega (arith, same, below))) (λ same. absurd (omega (arith, same))),

@@ -7,6 +7,10 @@ use Rattle.acl_policy.specs.Matching.{Matches}
 use Rattle.rule_index.specs.Rows.{bit_in}
 use Rattle.acl_policy.specs.Rules.{RuleFacts}
 
+-- Each rule that asks for no flags has its bit in each row.
+abbrev pub HaveFree : List RuleFacts → ℕ → List ℕ → Type 0
+HaveFree rules width rows = (k x : ℕ) (rule : RuleFacts) → slice_get rules k ≡ Some rule → rule.mask ≡ 0 → x < 256 → bit_in width rows x k ≡ 1
+
 -- Each rule has its bit in the row of the flags of each packet that it matches.
 pub record SievesFlags (rules : List RuleFacts) (column : FlagRows) : Type 0 where
   pub width : column.width ≡ length rules / 64 + 1

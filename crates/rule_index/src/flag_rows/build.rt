@@ -1,15 +1,15 @@
 //! Rows for flags, made of rules and read at a value.
-ghost use Rattle.std.specs.Prelude.{◌≡◌, ◌≤◌, ◌<◌, ◌*◌, ◌/◌, ℕ, IfOk, IfSome, IsTrue, List, Some, length, map, slice_get};
+ghost use Rattle.std.specs.Prelude.{◌≡◌, ◌≢◌, ◌≤◌, ◌<◌, ◌*◌, ◌/◌, ℕ, IfOk, IfSome, IsTrue, List, Some, length, map, slice_get};
 ghost use Rattle.acl_policy.specs.Matching.{Matches};
 ghost use Rattle.acl_policy.specs.Rules.{RuleFacts, rule_facts};
 ghost use Rattle.packet_view.specs.Tuples.{Facts};
-ghost use Rattle.rule_index.specs.FlagBits.{SievesFlags};
+ghost use Rattle.rule_index.specs.FlagBits.{HaveFree, SievesFlags};
 ghost use Rattle.rule_index.specs.Flagged.{IsFlagsOf};
 ghost use Rattle.rule_index.specs.Rows.{bit_in};
 ghost use Rattle.rule_index.specs.Sieves.{Sifts};
 
 use super::FlagRows;
-use crate::bits::{set_bit, words_for};
+use crate::bits::{accumulate, set_bit, words_for};
 use acl_policy::Rule;
 use std::alloc::{AllocError, Global};
 
@@ -36,17 +36,52 @@ fn mark_flags(rows: &mut [u64], width: usize, place: usize, rule: &Rule)
     }
 }
 
-/// Sets the bit of each rule in the row of each value that it may match.
-fn mark_all_flags(rows: &mut [u64], width: usize, rules: &[Rule])
+/// Sets the bit of each rule that asks for no flags in the first row.
+fn mark_free(rows: &mut [u64], width: usize, rules: &[Rule])
     requires rows { length rows.now ≡ 256 * width }
     requires width { length rules.now ≤ 64 * width }
+    requires clear { (row k : ℕ) → bit_in width rows.now row k ≡ 0 }
+    ensures len { length rows.new ≡ length rows.old }
+    ensures first { (k : ℕ) (rule : RuleFacts) → slice_get (map rule_facts rules.now) k ≡ Some rule → rule.mask ≡ 0 → bit_in width rows.new 0 k ≡ 1 }
+    ensures still { (row k : ℕ) → k / 64 < width → row ≢ 0 → bit_in width rows.new row k ≡ 0 }
+{
+    for (place, rule) in rules.iter().enumerate() {
+        if rule.mask != 0 {
+            continue;
+        }
+        set_bit(rows, width, 0, place);
+    }
+}
+
+/// Sets the bit of each other rule in the row of each value that it may match.
+fn mark_asking(rows: &mut [u64], width: usize, rules: &[Rule])
+    requires rows { length rows.now ≡ 256 * width }
+    requires width { length rules.now ≤ 64 * width }
+    requires free { HaveFree (map rule_facts rules.now) width rows.now }
     ensures len { length rows.new ≡ length rows.old }
     ensures marked { (k x : ℕ) (rule : RuleFacts) (tuple : Facts) → slice_get (map rule_facts rules.now) k ≡ Some rule → x < 256
         → IsFlagsOf tuple.fields x → Matches rule tuple → bit_in width rows.new x k ≡ 1 }
 {
     for (place, rule) in rules.iter().enumerate() {
+        if rule.mask == 0 {
+            continue;
+        }
         mark_flags(rows, width, place, rule);
     }
+}
+
+/// Gives rows without any bit the bit of each rule in the row of each value that it may match.
+fn fill(rows: &mut [u64], width: usize, rules: &[Rule])
+    requires rows { length rows.now ≡ 256 * width }
+    requires width { length rules.now < 64 * width }
+    requires clear { (row k : ℕ) → bit_in width rows.now row k ≡ 0 }
+    ensures len { length rows.new ≡ length rows.old }
+    ensures marked { (k x : ℕ) (rule : RuleFacts) (tuple : Facts) → slice_get (map rule_facts rules.now) k ≡ Some rule → x < 256
+        → IsFlagsOf tuple.fields x → Matches rule tuple → bit_in width rows.new x k ≡ 1 }
+{
+    mark_free(rows, width, rules);
+    accumulate(rows, width);
+    mark_asking(rows, width, rules);
 }
 
 impl FlagRows {
@@ -59,7 +94,7 @@ impl FlagRows {
             return Err(AllocError);
         };
         let mut rows = Vec::from_elem(alloc, 0u64, words)?;
-        mark_all_flags(&mut rows, width, rules);
+        fill(&mut rows, width, rules);
         Ok(FlagRows { width, rows })
     }
 

@@ -11,6 +11,6 @@ returns c =
       width = c.words_for-width.ensures ∙ ap (λ (n : ℕ). n / 64 + 1) (sym (length-map c.args.rules.now rule_facts));
       held = λ k x rule tuple read within at matches.
           subst (λ (rows : List ℕ). bit_in c.words_for-width.result rows x k ≡ 1)
-          (sym (written_over c.mark_all_flags.new.rows c.in_ok-rows.rows.items c.in_ok-rows.rows.len (omega arith)))
-          (c.mark_all_flags.ensures.marked k x rule tuple read within at matches);
+          (sym (written_over c.fill.new.rows c.in_ok-rows.rows.items c.in_ok-rows.rows.len (omega arith)))
+          (c.fill.ensures.marked k x rule tuple read within at matches);
     }
