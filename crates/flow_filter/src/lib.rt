@@ -5,6 +5,7 @@ mod filter;
 mod laws;
 mod lazy_patch;
 mod packet_flow;
+mod prepared_rules;
 mod ruleset;
 mod update;
 mod verdict;
@@ -16,6 +17,7 @@ pub use laws::{
 };
 pub use lazy_patch::{HasRuling, LazyPatch};
 pub use packet_flow::PacketFlow;
+pub use prepared_rules::PreparedRules;
 pub use ruleset::Ruleset;
 pub use verdict::Verdict;
 pub use verdicts::verdict_of_rules;
