@@ -1,4 +1,5 @@
 pub mod HomeLemmas
 pub mod OneThreadLemmas
+pub mod PassingLemmas
 pub mod ReadingLemmas
 pub mod Rulings

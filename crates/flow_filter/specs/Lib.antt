@@ -3,6 +3,7 @@ pub mod Judged
 pub mod LazyPatches
 pub mod OneThread
 pub mod PacketFlows
+pub mod Passing
 pub mod Readings
 pub mod Rulesets
 pub mod Updates
