@@ -1,3 +1,4 @@
+pub mod Deciders
 pub mod Filters
 pub mod Judged
 pub mod LazyPatches

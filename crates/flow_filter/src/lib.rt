@@ -1,6 +1,7 @@
 //! What becomes of a packet: its reading by the rules, the one update that it makes of a session table, and the verdict.
 #![tactic(auto)]
 
+mod decider;
 mod filter;
 mod laws;
 mod lazy_patch;
