@@ -21,7 +21,7 @@ use Rattle.flow_filter.proofs.ReadingLemmas.{one_readings, some_readings}
 use Rattle.flow_filter.proofs.HomeLemmas.{homes_are_one, is_home, same_as_itself}
 
 -- the bucket has this afterwards, and the others what they had
-abbrev with : {X : Type 0} → (Home → X) → Home → X → Home → X
+abbrev pub with : {X : Type 0} → (Home → X) → Home → X → Home → X
 with of at x home = if same_home home at then x else of home
 
 -- the events are a run of a map
@@ -142,7 +142,7 @@ record IsFirst (l : Layout) (times : Timeouts) (maps : Home → Pairs) (counts :
   pub behind : IsThread l times (maps_behind maps (home_of l u.key) left) (counts_behind counts (home_of l u.key) event) js
 
 -- the events on a bucket begin with the packet's where its key is of it
-events_are : (l : Layout) (times : Timeouts) (home : Home) (u : Option Update) (e : Option Event) (j : Judged) (js : List Judged)
+pub events_are : (l : Layout) (times : Timeouts) (home : Home) (u : Option Update) (e : Option Event) (j : Judged) (js : List Judged)
     → update_of times j.reading ≡ u → j.event ≡ e
     → events_at l times home (j ∷ js) ≡ add_event l home u e (events_at l times home js)
 events_are l times home u e j js is at = ap₂ (λ u e. add_event l home u e (events_at l times home js)) is at

@@ -1,8 +1,10 @@
+pub mod Deciders
 pub mod Filters
 pub mod Judged
 pub mod LazyPatches
 pub mod OneThread
 pub mod PacketFlows
+pub mod Passing
 pub mod PreparedRules
 pub mod Readings
 pub mod Rulesets

@@ -1,15 +1,19 @@
 //! What follows of the definitions, for all packets at once.
 //!
 //! The functions do nothing: their contracts are the laws.
-ghost use Rattle.std.specs.Prelude.{◌≡◌, List};
+ghost use Rattle.std.specs.Prelude.{◌≡◌, ◌⊎◌, ◌↔◌, ◌++◌, ℕ, true, List, [], ◌∷◌, Option, Some, None};
 ghost use Rattle.packet_view.specs.Captures.{Seen};
+ghost use Rattle.packet_view.specs.Tuples.{Facts};
 ghost use Rattle.acl_policy.specs.Policies.{PolicyFacts};
-ghost use Rattle.bihash_words.specs.Maps.{Pairs};
+ghost use Rattle.bihash_words.specs.Maps.{Bounds, Event, Pairs, Step};
 ghost use Rattle.session_state.specs.declared.timeouts.Timeouts.{Timeouts};
 ghost use Rattle.flow_filter.specs.declared.verdict.Verdict.{Verdict};
-ghost use Rattle.flow_filter.specs.Judged.{Judged, readings_of};
-ghost use Rattle.flow_filter.specs.OneThread.{AreVerdicts, Home, IsOneThread, Layout};
-ghost use Rattle.flow_filter.specs.Readings.{AreReadings, IsReading, Reading};
+ghost use Rattle.flow_filter.specs.Judged.{IsEventOf, Judged, readings_of, verdict_on, verdict_with};
+ghost use Rattle.flow_filter.specs.OneThread.{AreVerdicts, Home, IsOneThread, Layout, home_of};
+ghost use Rattle.flow_filter.specs.Passing.{HoldsLive, IsPermitting, Leave, LetsThrough};
+ghost use Rattle.flow_filter.specs.Readings.{AreReadings, IsReading, Reading, Ruled, Ruling};
+ghost use Rattle.flow_filter.specs.Updates.{Update, update_of};
+ghost use Rattle.flow_filter.specs.Verdicts.{passes};
 
 /// A policy reads each packet, and in one way.
 #[tactic(auto, using(crate::proofs::ReadingLemmas::some_reading, crate::proofs::ReadingLemmas::one_reading, crate::proofs::ReadingLemmas::some_readings, crate::proofs::ReadingLemmas::one_readings))]
@@ -41,4 +45,25 @@ pub fn each_capture_has_one_list_of_verdicts()
         → (verdicts : List Verdict) × AreVerdicts l times policy packets verdicts }
     ensures one { (l : Layout) (times : Timeouts) (policy : PolicyFacts) (packets : List Seen) (a b : List Verdict)
         → AreVerdicts l times policy packets a → AreVerdicts l times policy packets b → a ≡ b }
+{}
+
+/// A packet passes exactly where a session of its flow is live in its bucket, or the first rule that matches
+/// lets it through: it permits, or it reflects and the session is there that the packet may start. A packet
+/// without a flow passes exactly where that rule permits or reflects.
+pub fn packets_pass_by_rule_or_session()
+    ensures flow { (times : Timeouts) (moment : ℕ) (tuple : Facts) (ruling : Ruling) (u : Update) (b : Bounds)
+        (m n : Pairs) (w : ℕ) (e : Event) → update_of times (Ruled moment tuple ruling) ≡ Some u
+        → IsEventOf u e → Step b m w e n → (passes (verdict_with times (Ruled moment tuple ruling) (Some e)) ≡ true)
+        ↔ (HoldsLive u m ⊎ LetsThrough u n ruling) }
+    ensures no_flow { (times : Timeouts) (moment : ℕ) (tuple : Facts) (ruling : Ruling) (event : Option Event)
+        → update_of times (Ruled moment tuple ruling) ≡ None
+        → (passes (verdict_with times (Ruled moment tuple ruling) event) ≡ true) ↔ IsPermitting ruling }
+
+    // What the bucket holds is what the packets before it left there.
+    ensures in_order { (l : Layout) (times : Timeouts) (opening : Home → Pairs) (before after : List Judged)
+        (j : Judged) (moment : ℕ) (tuple : Facts) (ruling : Ruling) (u : Update)
+        → IsOneThread l times opening (before ++ j ∷ after) → j.reading ≡ Ruled moment tuple ruling
+        → update_of times j.reading ≡ Some u → (m n : Pairs) × Leave l times opening before (home_of l u.key) m
+        × Leave l times opening (before ++ j ∷ []) (home_of l u.key) n
+        × ((passes (verdict_on times j) ≡ true) ↔ (HoldsLive u m ⊎ LetsThrough u n ruling)) }
 {}
