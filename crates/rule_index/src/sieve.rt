@@ -1,9 +1,9 @@
 //! The first rule that matches, among those that rows of bits leave.
-ghost use Rattle.std.specs.Prelude.{◌≤◌, ◌*◌, ◌+◌, map, length, MatchOption};
+ghost use Rattle.std.specs.Prelude.{◌≤◌, ◌*◌, ◌+◌, List, map, length, MatchOption};
 ghost use Rattle.acl_policy.specs.Matching.{Decides, IsDecision};
-ghost use Rattle.acl_policy.specs.Rules.{rule_facts};
-ghost use Rattle.packet_view.specs.Tuples.{facts};
-ghost use Rattle.rule_index.specs.Candidates.{AllSift};
+ghost use Rattle.acl_policy.specs.Rules.{RuleFacts, rule_facts};
+ghost use Rattle.packet_view.specs.Tuples.{Facts, facts};
+ghost use Rattle.rule_index.specs.Candidates.{AllSift, AreLong};
 ghost use Rattle.rule_index.specs.Sieves.{KeepsMatches, MatchesAt, NoneBefore, NotAt};
 
 use crate::candidates::Candidates;
@@ -44,16 +44,25 @@ fn first_in(rules: &[Rule], tuple: &Tuple, from: usize, word: u64) -> Option<(us
     None
 }
 
+/// The word of the intersection of the rows. The addresses, which rules differ in most, come first.
+fn word_of(rows: &Candidates<'_>, i: usize) -> u64
+    requires { AreLong rows.now (i + 1) }
+    ensures { (rules : List RuleFacts) (tuple : Facts) → AllSift rules tuple rows.now → KeepsMatches rules tuple (i * 64) result }
+{
+    let addresses = rows.source[i] & rows.dest[i];
+    if addresses == 0 {
+        return 0;
+    }
+    addresses & rows.protocol[i] & rows.first[i] & rows.second[i] & rows.flags[i]
+}
+
 /// The first rule that matches, where each of the packet's rows has the bit of each rule that does.
 pub fn first_of(rules: &[Rule], tuple: &Tuple, rows: &Candidates<'_>) -> Option<(usize, Action)>
     requires { AllSift (map rule_facts rules.now) (facts tuple.now) rows.now }
     ensures { IsDecision (map rule_facts rules.now) (facts tuple.now) result }
 {
     for i in 0..rows.source.len() {
-        let addresses = rows.source[i] & rows.dest[i];
-        let fields = rows.first[i] & rows.second[i] & rows.flags[i];
-        let word = addresses & rows.protocol[i] & fields;
-        if let Some(found) = first_in(rules, tuple, i * 64, word) {
+        if let Some(found) = first_in(rules, tuple, i * 64, word_of(rows, i)) {
             return Some(found);
         }
     }
