@@ -3,11 +3,13 @@ ghost use Rattle.std.specs.Prelude.{◌≡◌, true, IfOk, IfErr, is_ok};
 ghost use Rattle.packet_view.specs.Captures.{Seen, seen};
 ghost use Rattle.packet_view.specs.Frames.{viewed};
 ghost use Rattle.acl_policy.specs.Policies.{policy_facts};
+ghost use Rattle.flow_filter.specs.declared.verdict.Verdict.TheVariants.{NoPages};
 ghost use Rattle.flow_filter.specs.Filters.{policy_in};
 ghost use Rattle.flow_filter.specs.OneThread.{layout_of};
 ghost use Rattle.flow_workers.specs.Callers.{AreIdle, AreSame, AreShapes, views_of};
 ghost use Rattle.flow_workers.specs.Judging.{IsJudged, IsRefused};
-ghost use Rattle.flow_workers.specs.Preparing.{IsRulingOn};
+ghost use Rattle.flow_workers.specs.Preparing.{IsRuling};
+ghost use Rattle.flow_workers.specs.Shortages.{IsShort};
 ghost use Rattle.flow_workers.specs.ViewedPackets.{IsViewed};
 
 use crate::prepared::Prepared;
@@ -30,12 +32,14 @@ fn try_judge_as<A: Shape, B: Shape, D: HasRuling>(
 ) -> Result<Verdict, Contended>
     requires shapes { AreShapes ⟦<A as Shape>⟧ ⟦<B as Shape>⟧ }
     requires idle { AreIdle ⟦<A as Shape>⟧ ⟦<B as Shape>⟧ tables.now callers.old }
-    requires ruling { IsRulingOn (policy_in filter.now) (viewed packet.now.frame) D.ruling }
+    requires ruling { IsRuling (policy_in filter.now) (viewed packet.now.frame) D.ruling }
     ensures same { AreSame ⟦<A as Shape>⟧ ⟦<B as Shape>⟧ callers.old callers.new }
     ensures idle { AreIdle ⟦<A as Shape>⟧ ⟦<B as Shape>⟧ tables.now callers.new }
     ensures judged { IfOk result (λ verdict. (s : Seen) → IsViewed filter.now.own s packet.now
         → IsJudged (layout_of ⟦<A as Shape>⟧ ⟦<B as Shape>⟧) filter.now.times (policy_in filter.now) s
         (views_of ⟦<A as Shape>⟧ ⟦<B as Shape>⟧ callers.old) (views_of ⟦<A as Shape>⟧ ⟦<B as Shape>⟧ callers.new) verdict) }
+    ensures no_pages { IfOk result (λ verdict. (s : Seen) → IsViewed filter.now.own s packet.now → verdict ≡ NoPages
+        → IsShort ⟦<A as Shape>⟧ ⟦<B as Shape>⟧ filter.now.own s (views_of ⟦<A as Shape>⟧ ⟦<B as Shape>⟧ callers.new)) }
     ensures refused { IfErr result (λ _. (s : Seen) → IsViewed filter.now.own s packet.now
         → IsRefused (layout_of ⟦<A as Shape>⟧ ⟦<B as Shape>⟧) filter.now.times (policy_in filter.now) s
         (views_of ⟦<A as Shape>⟧ ⟦<B as Shape>⟧ callers.old) (views_of ⟦<A as Shape>⟧ ⟦<B as Shape>⟧ callers.new)) }
@@ -61,12 +65,14 @@ fn judge_as<A: Shape, B: Shape, D: HasRuling, R: Wait>(
 ) -> Verdict
     requires shapes { AreShapes ⟦<A as Shape>⟧ ⟦<B as Shape>⟧ }
     requires idle { AreIdle ⟦<A as Shape>⟧ ⟦<B as Shape>⟧ tables.now callers.old }
-    requires ruling { IsRulingOn (policy_in filter.now) (viewed packet.now.frame) D.ruling }
+    requires ruling { IsRuling (policy_in filter.now) (viewed packet.now.frame) D.ruling }
     ensures same { AreSame ⟦<A as Shape>⟧ ⟦<B as Shape>⟧ callers.old callers.new }
     ensures idle { AreIdle ⟦<A as Shape>⟧ ⟦<B as Shape>⟧ tables.now callers.new }
     ensures judged { (s : Seen) → IsViewed filter.now.own s packet.now
         → IsJudged (layout_of ⟦<A as Shape>⟧ ⟦<B as Shape>⟧) filter.now.times (policy_in filter.now) s
         (views_of ⟦<A as Shape>⟧ ⟦<B as Shape>⟧ callers.old) (views_of ⟦<A as Shape>⟧ ⟦<B as Shape>⟧ callers.new) result }
+    ensures no_pages { (s : Seen) → IsViewed filter.now.own s packet.now → result ≡ NoPages
+        → IsShort ⟦<A as Shape>⟧ ⟦<B as Shape>⟧ filter.now.own s (views_of ⟦<A as Shape>⟧ ⟦<B as Shape>⟧ callers.new) }
 {
     match Prepared::<D>::new(filter, packet) {
         Prepared::Settled(verdict) => verdict,
@@ -92,6 +98,8 @@ pub fn judge_viewed<A: Shape, B: Shape, R: Wait>(
     ensures judged { (s : Seen) → IsViewed filter.now.own s packet.now
         → IsJudged (layout_of ⟦<A as Shape>⟧ ⟦<B as Shape>⟧) filter.now.times (policy_in filter.now) s
         (views_of ⟦<A as Shape>⟧ ⟦<B as Shape>⟧ callers.old) (views_of ⟦<A as Shape>⟧ ⟦<B as Shape>⟧ callers.new) result }
+    ensures no_pages { (s : Seen) → IsViewed filter.now.own s packet.now → result ≡ NoPages
+        → IsShort ⟦<A as Shape>⟧ ⟦<B as Shape>⟧ filter.now.own s (views_of ⟦<A as Shape>⟧ ⟦<B as Shape>⟧ callers.new) }
 {
     judge_as::<A, B, Brand, R>(rt, filter, tables, callers, packet)
 }
@@ -110,6 +118,8 @@ pub fn judge<A: Shape, B: Shape, R: Wait>(
     ensures idle { AreIdle ⟦<A as Shape>⟧ ⟦<B as Shape>⟧ tables.now callers.new }
     ensures judged { IsJudged (layout_of ⟦<A as Shape>⟧ ⟦<B as Shape>⟧) filter.now.times (policy_facts filter.now.policy)
         (seen packet.now) (views_of ⟦<A as Shape>⟧ ⟦<B as Shape>⟧ callers.old) (views_of ⟦<A as Shape>⟧ ⟦<B as Shape>⟧ callers.new) result }
+    ensures no_pages { result ≡ NoPages
+        → IsShort ⟦<A as Shape>⟧ ⟦<B as Shape>⟧ filter.now.policy.own (seen packet.now) (views_of ⟦<A as Shape>⟧ ⟦<B as Shape>⟧ callers.new) }
 {
     let filter = filter.ready();
     let packet = ViewedPacket::new(packet, filter.own);
@@ -131,6 +141,8 @@ pub fn try_judge<A: Shape, B: Shape>(
     ensures judged { IfOk result (λ verdict. IsJudged (layout_of ⟦<A as Shape>⟧ ⟦<B as Shape>⟧) filter.now.times
         (policy_facts filter.now.policy) (seen packet.now)
         (views_of ⟦<A as Shape>⟧ ⟦<B as Shape>⟧ callers.old) (views_of ⟦<A as Shape>⟧ ⟦<B as Shape>⟧ callers.new) verdict) }
+    ensures no_pages { IfOk result (λ verdict. verdict ≡ NoPages
+        → IsShort ⟦<A as Shape>⟧ ⟦<B as Shape>⟧ filter.now.policy.own (seen packet.now) (views_of ⟦<A as Shape>⟧ ⟦<B as Shape>⟧ callers.new)) }
     ensures refused { IfErr result (λ _. IsRefused (layout_of ⟦<A as Shape>⟧ ⟦<B as Shape>⟧) filter.now.times
         (policy_facts filter.now.policy) (seen packet.now)
         (views_of ⟦<A as Shape>⟧ ⟦<B as Shape>⟧ callers.old) (views_of ⟦<A as Shape>⟧ ⟦<B as Shape>⟧ callers.new)) }

@@ -15,3 +15,6 @@ pub use gate::Gate;
 pub use judging::{judge, try_judge};
 pub use run_fault::RunFault;
 pub use tables::{Callers, Tables, create_tables};
+
+#[cfg(test)]
+mod tests;
