@@ -21,3 +21,6 @@ pub use packet_flow::PacketFlow;
 pub use ruleset::Ruleset;
 pub use verdict::Verdict;
 pub use verdicts::verdict_of_rules;
+
+#[cfg(test)]
+mod tests;
