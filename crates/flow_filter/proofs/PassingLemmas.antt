@@ -1,10 +1,9 @@
 -- A packet goes through exactly where a rule lets it through or its session is live.
-use Rattle.std.proofs.Common.{◌≡◌, ◌⊎◌, ◌∙◌, ◌&&◌, ◌+◌, ℕ, Bool, true, false, Option, Some, None, ap, sym, refl, subst, inl, inr}
+use Rattle.std.proofs.Common.{◌≡◌, ◌⊎◌, ◌∙◌, ◌+◌, ℕ, Bool, true, false, Option, Some, None, ap, sym, refl, subst, inl, inr}
 use Rattle.std.specs.FinMap.{get}
 use Rattle.std.specs.Prelude.{◌↔◌, if◌then◌else◌, is_some, option_map}
 use Rattle.std.proofs.lemmas.Bool.{and_parts}
 use Rattle.packet_view.specs.Tuples.{Facts}
-use Rattle.acl_policy.specs.declared.rule.Action.{Action}
 use Rattle.acl_policy.specs.declared.rule.Action.TheVariants.{Deny, Permit, Reflect}
 use Rattle.bihash_words.specs.Maps.{Bounds, Event, Pairs, Step}
 use Rattle.bihash_words.specs.declared.patch.Change.TheVariants.{Set}
