@@ -5,4 +5,5 @@ pub mod FlagBits
 pub mod Flagged
 pub mod Indexes
 pub mod Rows
+pub mod Rulesets
 pub mod Sieves
