@@ -1,13 +1,13 @@
 //! Searches of the block of an open bucket. What they find holds on the condition that the words they
 //! load are the block's, which a step on the bucket's word tells afterwards.
-ghost use Rattle.std.specs.Prelude.{◌≡◌, ℕ, ◌+◌, ◌-◌, ◌*◌, ◌/◌, ◌%◌, ◌^◌, ◌<◌, ◌≤◌, List, length, true, slice_index};
+ghost use Rattle.std.specs.Prelude.{◌≡◌, ◌+◌, ◌-◌, ◌*◌, ◌/◌, ◌^◌, ◌<◌, ◌≤◌, true, false, ◌≢◌, slice_index};
 ghost use Rattle.bihash_words.specs.Sizes.{IsSound, sizes_of};
 ghost use Rattle.bihash_steps.specs.Words.{place_words};
 ghost use Rattle.bihash_steps.specs.Blocks.{places};
 ghost use Rattle.bihash_steps.specs.Seats.{with_view};
 ghost use Rattle.bihash_steps.specs.declared.view.Extent.{Extent};
 ghost use Rattle.bihash_table.specs.Scans.{IsWordOf, AreOpenTo};
-ghost use Rattle.bihash_table.specs.OpenReads.{NotesBlock, Saw, LastWordTells, AreMarks, IsValueAt, IsPairAmong, IsPairIn, IsFirstFreeIn, OtherPairTells, value_of};
+ghost use Rattle.bihash_table.specs.OpenReads.{NotesBlock, Saw, LastWordTells, AreMarks, mark_at, IsValueAt, IsPairAmong, IsPairIn, IsFirstFreeIn, OtherPairTells, value_of};
 
 use crate::places::{FREE, PAGE_PLACES, page_count, place_count};
 use crate::site::Site;
@@ -16,6 +16,7 @@ use bihash_words::{BucketWord, Shape};
 
 /// The place of the key's pair in the block of the open bucket, and its value. In a block that isn't
 /// linear the four places of one page are looked at.
+#[inline]
 pub(crate) fn find_pair<S: Shape>(
     row: &Row<S>,
     seat: &mut CallerSeat<S>,
@@ -132,7 +133,8 @@ fn open_pages<S: Shape>(word: BucketWord, site: &Site<'_, S>) -> (usize, usize)
     (page, page + 1)
 }
 
-// The place and the value of the key's pair among the four places of a page.
+// The place and the value of the key's pair among the four places of a page. The first place where the
+// last word of the key stands is looked at without a branch for each place.
 fn pair_in_page<S: Shape>(
     row: &Row<S>,
     seat: &mut CallerSeat<S>,
@@ -149,10 +151,64 @@ fn pair_in_page<S: Shape>(
         IsPairAmong (sizes_of S.Shape) e block (S.words_of site.now.key.now) (4 * page) (4 * (page + 1)) result) }
 {
     let first = PAGE_PLACES * page;
-    let (a, b, c, d) = marks(row, seat, word, first, site);
-    if !(a | b | c | d) {
+    let marks = marks(row, seat, word, first, site);
+    if set_marks(marks) == 0 {
         return None;
     }
+    let place = first + first_mark(marks);
+    if let Some(value) = value_at(row, seat, word, place, site) {
+        return Some((place, value));
+    }
+    pair_at_marks(row, seat, word, first, marks, site)
+}
+
+// How many of four marks are set. A sum of them is compared without a branch for each.
+fn set_marks(marks: (bool, bool, bool, bool)) -> u64
+    ensures few { result ≤ 4 }
+    ensures none { result ≡ 0 → marks ≡ (false, false, false, false) }
+    ensures some { marks ≡ (false, false, false, false) → result ≡ 0 }
+{
+    let (a, b, c, d) = marks;
+    u64::from(a) + u64::from(b) + u64::from(c) + u64::from(d)
+}
+
+// Which of four marks is set, where one is: the first.
+fn first_mark(marks: (bool, bool, bool, bool)) -> usize
+    ensures inside { result < 4 }
+    ensures set { marks ≢ (false, false, false, false) → mark_at marks result ≡ true }
+{
+    let (a, b, c, _) = marks;
+    if a {
+        0
+    } else if b {
+        1
+    } else if c {
+        2
+    } else {
+        3
+    }
+}
+
+// The place and the value of the key's pair among the places of a page that are marked, in their order. Few
+// calls come here.
+#[inline(never)]
+fn pair_at_marks<S: Shape>(
+    row: &Row<S>,
+    seat: &mut CallerSeat<S>,
+    word: BucketWord,
+    first: usize,
+    marks: (bool, bool, bool, bool),
+    site: &Site<'_, S>,
+) -> Option<(usize, u64)>
+    requires own { seat.old.row ≡ row.now }
+    requires open { (e : Extent) × NotesBlock (sizes_of S.Shape) seat.old.view word e × (first + 4 ≤ places e.page e.log2) }
+    requires few { first < 2 ^ 26 }
+    ensures same { seat.new ≡ with_view seat.old seat.new.view }
+    ensures saw { Saw seat.old.view seat.new.view (λ e block.
+        AreMarks (sizes_of S.Shape) e block (S.words_of site.now.key.now) first marks
+        → IsPairAmong (sizes_of S.Shape) e block (S.words_of site.now.key.now) first (first + 4) result) }
+{
+    let (a, b, c, d) = marks;
     if let Some(value) = value_where(row, seat, word, first, a, site) {
         return Some((first, value));
     }

@@ -1,2 +1,5 @@
 pub mod Callers
 pub mod Judging
+pub mod Preparing
+pub mod Shortages
+pub mod ViewedPackets

@@ -2,9 +2,19 @@
 #![tactic(auto)]
 
 mod gate;
+mod judging;
+mod prepared;
+mod run_fault;
 mod tables;
+mod updates;
+mod viewed_packet;
 
 pub use flow_dealing::Dealing;
 pub use flow_filter::{Filter, Verdict};
 pub use gate::Gate;
-pub use tables::{Callers, Tables};
+pub use judging::{judge, try_judge};
+pub use run_fault::RunFault;
+pub use tables::{Callers, Tables, create_tables};
+
+#[cfg(test)]
+mod tests;

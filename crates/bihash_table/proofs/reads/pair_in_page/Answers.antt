@@ -1,94 +1,31 @@
-use Rattle.std.proofs.Common.{refl, ◌+◌, ◌*◌, ℕ, arith}
+use Rattle.std.proofs.Common.{◌≡◌, ◌≢◌, ◌∙◌, ◌+◌, ◌*◌, ℕ, arith, refl, sym, ap}
 use Rattle.bihash_words.specs.Sizes.{sizes_of}
-use Rattle.bihash_table.proofs.LookedAt.{no_marks, none_yet, none_more, pair_there, none_there}
+use Rattle.bihash_table.proofs.LookedAt.{no_marks, pair_marked, among_marks}
 use Rattle.bihash_table.proofs.Seeing.{still_noted}
 use Rattle.bihash_table.proofs.reads.pair_in_page.Goals as goal
 
-pub returns-then-not-a-b-clause-saw : goal.returns-then-not-a-b-clause-saw
-returns-then-not-a-b-clause-saw g c = no_marks (sizes_of g.S.Shape) (g.S.Shape.words_of c.args.site.now.key.now) (4 * c.args.page) _ _ _ _ _ _ _ _
-    c.if-not-a-b.true refl (omega arith) c.marks-a.ensures.saw
+pub returns-then-set_marks-eq0-clause-saw : goal.returns-then-set_marks-eq0-clause-saw
+returns-then-set_marks-eq0-clause-saw g c = no_marks (sizes_of g.S.Shape) (g.S.Shape.words_of c.args.site.now.key.now) (4 * c.args.page) _ _ _ _ _
+    (c.set_marks.ensures.none c.if-set_marks-eq0.true) refl (omega arith) c.marks-marks.ensures.saw
 
-pub value_where-requires-clause-open : goal.value_where-requires-clause-open
-value_where-requires-clause-open g c = let o = c.requires.open in let room = o.2 in
-    (o.0, still_noted (sizes_of g.S.Shape) _ _ _ _ c.marks-a.ensures.saw o.1, omega arith)
+pub value_at-requires-clause-open : goal.value_at-requires-clause-open
+value_at-requires-clause-open g c = let o = c.requires.open in let room = o.2 in let low = c.first_mark.ensures.inside in
+    (o.0, still_noted (sizes_of g.S.Shape) _ _ _ _ c.marks-marks.ensures.saw o.1, omega arith)
 
 pub returns-in-Some-clause-saw : goal.returns-in-Some-clause-saw
-returns-in-Some-clause-saw g c =
-    let z = sizes_of g.S.Shape in
-    let key = g.S.Shape.words_of c.args.site.now.key.now in
-    let first : ℕ = 4 * c.args.page in
-    let m = c.marks-a.result in
-    pair_there z key first m _ _ _ first 0 m.0 (omega arith) (λ e block a. a.0)
-    (none_yet z key first m _ _ c.marks-a.ensures.saw) c.in-Some.value first (4 * (c.args.page + 1)) c.in-Some.ensures.saw
+returns-in-Some-clause-saw g c = pair_marked (sizes_of g.S.Shape) (g.S.Shape.words_of c.args.site.now.key.now) (4 * c.args.page) c.first_mark.result _ 0 0 _
+    c.marks-marks.result _ _ _ c.first_mark.ensures.inside
+    (c.first_mark.ensures.set (λ none. c.if-set_marks-eq0.false (c.set_marks.ensures.some none))) refl c.marks-marks.ensures.saw c.in-Some.ensures.saw
 
-pub value_where-requires-2-clause-open : goal.value_where-requires-2-clause-open
-value_where-requires-2-clause-open g c = let o = c.requires.open in let room = o.2 in (
+pub pair_at_marks-requires-clause-open : goal.pair_at_marks-requires-clause-open
+pair_at_marks-requires-clause-open g c = let o = c.requires.open in let room = o.2 in (
   o.0,
   still_noted (sizes_of g.S.Shape) _ _ _ _ c.in_default.ensures.saw
-      (still_noted (sizes_of g.S.Shape) _ _ _ _ c.marks-a.ensures.saw o.1),
+      (still_noted (sizes_of g.S.Shape) _ _ _ _ c.marks-marks.ensures.saw o.1),
   omega arith,
 )
-
-pub returns-in-Some-value_where-clause-saw : goal.returns-in-Some-value_where-clause-saw
-returns-in-Some-value_where-clause-saw g c =
-    let z = sizes_of g.S.Shape in
-    let key = g.S.Shape.words_of c.args.site.now.key.now in
-    let first : ℕ = 4 * c.args.page in
-    let m = c.marks-a.result in
-    pair_there z key first m _ _ _ (first + 1) 1 m.1 (omega arith) (λ e block a. a.1)
-    (none_more z key first m _ _ _ first 0 m.0 (omega arith) (λ e block a. a.0)
-    (none_yet z key first m _ _ c.marks-a.ensures.saw) c.in_default.ensures.saw) c.in-Some-value_where.value first (4 * (c.args.page + 1)) c.in-Some-value_where.ensures.saw
-
-pub value_where-requires-3-clause-open : goal.value_where-requires-3-clause-open
-value_where-requires-3-clause-open g c = let o = c.requires.open in let room = o.2 in (
-  o.0,
-  still_noted (sizes_of g.S.Shape) _ _ _ _ c.in_default-value_where.ensures.saw
-      (still_noted (sizes_of g.S.Shape) _ _ _ _ c.in_default.ensures.saw
-      (still_noted (sizes_of g.S.Shape) _ _ _ _ c.marks-a.ensures.saw o.1)),
-  omega arith,
-)
-
-pub returns-in-Some-value_where-2-clause-saw : goal.returns-in-Some-value_where-2-clause-saw
-returns-in-Some-value_where-2-clause-saw g c =
-    let z = sizes_of g.S.Shape in
-    let key = g.S.Shape.words_of c.args.site.now.key.now in
-    let first : ℕ = 4 * c.args.page in
-    let m = c.marks-a.result in
-    pair_there z key first m _ _ _ (first + 2) 2 m.2 (omega arith) (λ e block a. a.2)
-    (none_more z key first m _ _ _ (first + 1) 1 m.1 (omega arith) (λ e block a. a.1)
-    (none_more z key first m _ _ _ first 0 m.0 (omega arith) (λ e block a. a.0)
-    (none_yet z key first m _ _ c.marks-a.ensures.saw) c.in_default.ensures.saw) c.in_default-value_where.ensures.saw) c.in-Some-value_where-2.value first (4 * (c.args.page + 1)) c.in-Some-value_where-2.ensures.saw
-
-pub value_where-requires-4-clause-open : goal.value_where-requires-4-clause-open
-value_where-requires-4-clause-open g c = let o = c.requires.open in let room = o.2 in (
-  o.0,
-  still_noted (sizes_of g.S.Shape) _ _ _ _ c.in_default-value_where-2.ensures.saw
-      (still_noted (sizes_of g.S.Shape) _ _ _ _ c.in_default-value_where.ensures.saw
-      (still_noted (sizes_of g.S.Shape) _ _ _ _ c.in_default.ensures.saw
-      (still_noted (sizes_of g.S.Shape) _ _ _ _ c.marks-a.ensures.saw o.1))),
-  omega arith,
-)
-
-pub returns-in-Some-value_where-3-clause-saw : goal.returns-in-Some-value_where-3-clause-saw
-returns-in-Some-value_where-3-clause-saw g c =
-    let z = sizes_of g.S.Shape in
-    let key = g.S.Shape.words_of c.args.site.now.key.now in
-    let first : ℕ = 4 * c.args.page in
-    let m = c.marks-a.result in
-    pair_there z key first m _ _ _ (first + 3) 3 m.3 (omega arith) (λ e block a. a.3)
-    (none_more z key first m _ _ _ (first + 2) 2 m.2 (omega arith) (λ e block a. a.2)
-    (none_more z key first m _ _ _ (first + 1) 1 m.1 (omega arith) (λ e block a. a.1)
-    (none_more z key first m _ _ _ first 0 m.0 (omega arith) (λ e block a. a.0)
-    (none_yet z key first m _ _ c.marks-a.ensures.saw) c.in_default.ensures.saw) c.in_default-value_where.ensures.saw) c.in_default-value_where-2.ensures.saw) c.in-Some-value_where-3.value first (4 * (c.args.page + 1)) c.in-Some-value_where-3.ensures.saw
 
 pub returns-clause-saw : goal.returns-clause-saw
-returns-clause-saw g c =
-    let z = sizes_of g.S.Shape in
-    let key = g.S.Shape.words_of c.args.site.now.key.now in
-    let first : ℕ = 4 * c.args.page in
-    let m = c.marks-a.result in
-    none_there z key first m _ _ _ (first + 3) 3 m.3 (omega arith) (λ e block a. a.3)
-    (none_more z key first m _ _ _ (first + 2) 2 m.2 (omega arith) (λ e block a. a.2)
-    (none_more z key first m _ _ _ (first + 1) 1 m.1 (omega arith) (λ e block a. a.1)
-    (none_more z key first m _ _ _ first 0 m.0 (omega arith) (λ e block a. a.0)
-    (none_yet z key first m _ _ c.marks-a.ensures.saw) c.in_default.ensures.saw) c.in_default-value_where.ensures.saw) c.in_default-value_where-2.ensures.saw) first (4 * (c.args.page + 1)) refl (omega arith) c.in_default-value_where-3.ensures.saw
+returns-clause-saw g c = among_marks (sizes_of g.S.Shape) (g.S.Shape.words_of c.args.site.now.key.now) (4 * c.args.page) (4 * c.args.page)
+    (4 * (c.args.page + 1)) c.marks-marks.result c.pair_at_marks.result _ _ _ _ _ refl (omega arith) c.marks-marks.ensures.saw c.in_default.ensures.saw
+    c.pair_at_marks.ensures.saw

@@ -1,0 +1,3 @@
+pub mod AnsweredUpdates
+pub mod JudgedPackets
+pub mod ShortPackets
