@@ -5,5 +5,4 @@ pub mod FlagBits
 pub mod Flagged
 pub mod Indexes
 pub mod Rows
-pub mod Rulesets
 pub mod Sieves

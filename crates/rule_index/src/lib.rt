@@ -13,12 +13,10 @@ mod dimension;
 mod flag_rows;
 mod index;
 mod ranges;
-mod ruleset;
 mod sieve;
 #[cfg(test)]
 mod tests;
 mod worth;
 
 pub use index::RuleIndex;
-pub use ruleset::Ruleset;
 pub use worth::worth_preparing;

@@ -1,7 +1,7 @@
 //! Prepared rules at the edges of prefixes, ranges and fields, beside the same rules one by one.
 ghost use Rattle.std.specs.Prelude.{◌≤◌};
 
-use crate::{RuleIndex, Ruleset, worth_preparing};
+use crate::{RuleIndex, worth_preparing};
 use acl_policy::{Action, Rule};
 use packet_view::{Family, Fields, Tuple};
 
@@ -297,22 +297,4 @@ fn worth(rt: HostRuntime) {
     assert!(rt; worth_preparing(65, 1_000_000));
     assert!(rt; !worth_preparing(4096, 4548));
     assert!(rt; worth_preparing(4096, 4549));
-}
-
-/// Rules answer alike, one by one and prepared.
-#[test]
-fn either_way(rt: HostRuntime) {
-    let rules = [
-        ipv4(Action::Deny, (0x0a000002, 32), (0, 0), any_of(1)),
-        ipv4(Action::Reflect, (0, 0), (0x0a000000, 8), any_of(17)),
-    ];
-    let index = RuleIndex::new(rt.alloc(), &rules).expect(&rt, "memory");
-    for ruleset in [Ruleset::new(&rules), Ruleset::prepared(&index)] {
-        assert_eq!(rt; ruleset.first_match(&icmp4(8, 0)), Some((0, Action::Deny)));
-        assert_eq!(rt;
-            ruleset.first_match(&udp4(1, 2)),
-            Some((1, Action::Reflect))
-        );
-        assert_eq!(rt; ruleset.first_match(&fragment4(6)), None);
-    }
 }
