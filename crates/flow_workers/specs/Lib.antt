@@ -2,4 +2,5 @@ pub mod Callers
 pub mod Judging
 pub mod Preparing
 pub mod Shortages
+pub mod Verdicts
 pub mod ViewedPackets
