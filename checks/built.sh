@@ -1,9 +1,9 @@
 # Whether the program is built of the sources that stand here: read by the launcher, racl, and by the gate, with `top`
 # set to the top of the checkout.
 #
-# A record beside the program says of which sources it was built, by which toolchain, and which program that is. Contents
-# decide, never times: files that were copied or unpacked may bear any time. Where each size, inode and time, that of the
-# last change of the file's entry among them, is as it was when the contents were compared, they aren't read again.
+# A record beside the program says of which sources it was built, by which toolchain, and which program that is.
+# Contents decide, never times: files that were copied or unpacked may bear any time. Where each size, inode and time,
+# also that of the inode's last change, is as it was when the contents were compared, they aren't read again.
 
 program=$top/crates/racl/out/racl
 record=$program.record
@@ -48,6 +48,6 @@ is_built() {
     now=$(states)
     [ "$(sources_digest)" = "$sources" ] && [ "$(sha256sum <"$program")" = "$built" ] || return 1
     # (a checkout that can't be written to has its contents compared each time)
-    { printf '%s\n' "$now" >"$unchanged.$$" && mv -f "$unchanged.$$" "$unchanged"; } 2>/dev/null || rm -f "$unchanged.$$" 2>/dev/null
+    (printf '%s\n' "$now" >"$unchanged.$$" && mv -f "$unchanged.$$" "$unchanged") 2>/dev/null
     return 0
 }

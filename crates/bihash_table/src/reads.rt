@@ -1,6 +1,6 @@
 //! Searches of the block of an open bucket. What they find holds on the condition that the words they
 //! load are the block's, which a step on the bucket's word tells afterwards.
-ghost use Rattle.std.specs.Prelude.{◌≡◌, ℕ, ◌+◌, ◌-◌, ◌*◌, ◌/◌, ◌%◌, ◌^◌, ◌<◌, ◌≤◌, List, length, true, false, ◌≢◌, slice_index};
+ghost use Rattle.std.specs.Prelude.{◌≡◌, ◌+◌, ◌-◌, ◌*◌, ◌/◌, ◌^◌, ◌<◌, ◌≤◌, true, false, ◌≢◌, slice_index};
 ghost use Rattle.bihash_words.specs.Sizes.{IsSound, sizes_of};
 ghost use Rattle.bihash_steps.specs.Words.{place_words};
 ghost use Rattle.bihash_steps.specs.Blocks.{places};
@@ -16,6 +16,7 @@ use bihash_words::{BucketWord, Shape};
 
 /// The place of the key's pair in the block of the open bucket, and its value. In a block that isn't
 /// linear the four places of one page are looked at.
+#[inline]
 pub(crate) fn find_pair<S: Shape>(
     row: &Row<S>,
     seat: &mut CallerSeat<S>,
@@ -188,7 +189,9 @@ fn first_mark(marks: (bool, bool, bool, bool)) -> usize
     }
 }
 
-// The place and the value of the key's pair among the places of a page that are marked, in their order.
+// The place and the value of the key's pair among the places of a page that are marked, in their order. Few
+// calls come here.
+#[inline(never)]
 fn pair_at_marks<S: Shape>(
     row: &Row<S>,
     seat: &mut CallerSeat<S>,

@@ -90,8 +90,8 @@ fn udp_outcome(action: Action, moment: u32, reply: Reply, found: Option<u64>) ->
     let rules = [udp_rule(action)];
     let filter = ReadyFilter {
         own: None,
-        inbound: Ruleset::new(&rules),
-        outbound: Ruleset::new(&[]),
+        inbound: Ruleset::Listed(&rules),
+        outbound: Ruleset::Listed(&[]),
         times: TIMES,
     };
     let tuple = udp();

@@ -113,12 +113,6 @@ pub enter-requires-clause-lock : goal.enter-requires-clause-lock
 enter-requires-clause-lock g c =
     let k = c.lock_seen.ensures.locked c.if-not-lock_seen.false in (k.locked.lock, k.locked.has)
 
-pub enter-requires-clause-home : goal.enter-requires-clause-home
-enter-requires-clause-home g c = sym c.args.seen.now.site.home
-
-pub enter-requires-clause-counted : goal.enter-requires-clause-counted
-enter-requires-clause-counted g c = c.args.seen.now.site.counted
-
 pub enter-requires-clause-unworn : goal.enter-requires-clause-unworn
 enter-requires-clause-unworn g c =
     let k = c.lock_seen.ensures.locked c.if-not-lock_seen.false in
