@@ -1,5 +1,5 @@
 -- What is read at a place of a list of rules.
-use Rattle.std.proofs.Common.{◌≡◌, ◌<◌, ◌∙◌, ℕ, List, Some, map, refl, subst, sym, length}
+use Rattle.std.proofs.Common.{◌≡◌, ◌∙◌, ℕ, List, Some, map, subst, sym}
 use Rattle.std.specs.Prelude.{slice_get}
 use Rattle.acl_policy.specs.declared.rule.Rule.{Rule}
 use Rattle.acl_policy.specs.Rules.{RuleFacts, rule_facts}

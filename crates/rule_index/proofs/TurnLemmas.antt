@@ -1,6 +1,6 @@
 -- Bits that turn at two rows, and the rows that they give.
-use Rattle.std.proofs.Common.{◌≡◌, ◌≢◌, ◌⊎◌, ◌≤◌, ◌<◌, ℕ, ◌+◌, ◌-◌, ◌*◌, ◌/◌, ◌%◌, List, length, arith, inl, inr, refl, ap, ◌∙◌, sym, get_or, subst, zero, suc}
-use Rattle.std.proofs.lemmas.Bool.{cases_eq, cases_lt, cases_order}
+use Rattle.std.proofs.Common.{◌≡◌, ◌≢◌, ◌≤◌, ◌<◌, ℕ, ◌+◌, ◌-◌, ◌*◌, ◌/◌, ◌%◌, List, length, arith, inl, inr, ap, ◌∙◌, sym, subst, zero, suc}
+use Rattle.std.proofs.lemmas.Bool.{cases_eq, cases_lt}
 use Rattle.std.proofs.lemmas.Nat.Bits.{bit_at_xor}
 use Rattle.std.specs.Prelude.{bit_xor, slice_index}
 use Rattle.std.specs.Int.{bit_at}

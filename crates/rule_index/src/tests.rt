@@ -1,8 +1,8 @@
 //! Prepared rules at the edges of prefixes, ranges and fields, beside the same rules one by one.
-ghost use Rattle.std.specs.Prelude.{◌≤◌, ◌<◌};
+ghost use Rattle.std.specs.Prelude.{◌≤◌};
 
 use crate::{RuleIndex, worth_preparing};
-use acl_policy::{Action, Rule, first_match};
+use acl_policy::{Action, Rule};
 use packet_view::{Family, Fields, Tuple};
 
 mod alike;

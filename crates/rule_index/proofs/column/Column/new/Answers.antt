@@ -1,4 +1,4 @@
-use Rattle.std.proofs.Common.{arith, ◌≡◌, ℕ, List, length, subst, sym}
+use Rattle.std.proofs.Common.{arith, ◌≡◌, ℕ, List, subst, sym}
 use Rattle.rule_index.specs.Rows.{bit_in, IsPlace}
 use Rattle.rule_index.proofs.ColumnLemmas.{written_over}
 use Rattle.rule_index.proofs.column.Column.new.Goals as goal

@@ -1,4 +1,4 @@
-use Rattle.std.proofs.Common.{arith, ◌≡◌, ◌∙◌, ◌+◌, ◌*◌, ◌/◌, ◌<◌, length, inl, inr}
+use Rattle.std.proofs.Common.{arith, ◌∙◌, ◌+◌, ◌/◌, length, inl}
 use Rattle.rule_index.proofs.ColumnLemmas.{cell_within}
 use Rattle.rule_index.proofs.TurnLemmas.{turns_set}
 use Rattle.rule_index.proofs.column.turns.mark.Goals as goal

@@ -1,4 +1,4 @@
-use Rattle.std.proofs.Common.{arith, ◌≡◌, ◌∙◌, ℕ, ◌+◌, ◌/◌, List, ap, length, subst, sym}
+use Rattle.std.proofs.Common.{arith, ◌≡◌, ◌∙◌, ℕ, ◌+◌, ◌/◌, List, ap, subst, sym}
 use Rattle.std.proofs.lemmas.List.{length-map}
 use Rattle.rule_index.specs.Rows.{bit_in}
 use Rattle.acl_policy.specs.Rules.{rule_facts}

@@ -1,4 +1,4 @@
-use Rattle.std.proofs.Common.{arith, ◌≡◌, ◌≤◌, ◌<◌, ◌/◌, length, map}
+use Rattle.std.proofs.Common.{arith, ◌≤◌, ◌<◌, ◌/◌, length, map}
 use Rattle.std.proofs.lemmas.List.{length-map}
 use Rattle.std.proofs.lemmas.Option.{slice_get_within}
 use Rattle.acl_policy.specs.Rules.{rule_facts}

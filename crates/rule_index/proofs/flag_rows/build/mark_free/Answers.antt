@@ -1,11 +1,9 @@
-use Rattle.std.proofs.Common.{arith, ◌≡◌, ◌<◌, ◌/◌, ◌∙◌, ℕ, length, inl, inr, map, refl, ap, sym, subst, Some}
-use Rattle.std.specs.Prelude.{slice_get}
+use Rattle.std.proofs.Common.{arith, ◌≡◌, ◌<◌, ◌/◌, ◌∙◌, ℕ, length, inl, inr, map, refl, ap, sym, subst}
 use Rattle.std.proofs.lemmas.Bool.{cases_eq}
 use Rattle.std.proofs.lemmas.List.{length-map}
 use Rattle.std.proofs.lemmas.Option.{slice_get_read, slice_get_within}
 use Rattle.acl_policy.specs.Rules.{RuleFacts, rule_facts}
 use Rattle.rule_index.specs.Rows.{bit_in}
-use Rattle.rule_index.proofs.ColumnLemmas.{bits_kept}
 use Rattle.rule_index.proofs.RuleLemmas.{facts_there}
 use Rattle.rule_index.proofs.flag_rows.build.mark_free.Goals as goal
 

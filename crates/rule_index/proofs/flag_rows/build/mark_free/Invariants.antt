@@ -1,4 +1,4 @@
-use Rattle.std.proofs.Common.{◌≡◌, ◌≢◌, ◌≤◌, ◌<◌, ◌*◌, ◌/◌, ℕ, length, map, Some}
+use Rattle.std.proofs.Common.{◌≡◌, ◌≢◌, ◌<◌, ◌*◌, ◌/◌, ℕ, length, map, Some}
 use Rattle.std.specs.Prelude.{slice_get}
 use Rattle.acl_policy.specs.Rules.{RuleFacts, rule_facts}
 use Rattle.rule_index.specs.Rows.{bit_in}
