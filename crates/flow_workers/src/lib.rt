@@ -2,6 +2,7 @@
 #![tactic(auto)]
 
 mod gate;
+mod numbers;
 mod run_fault;
 mod tables;
 
