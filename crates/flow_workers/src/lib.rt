@@ -4,7 +4,12 @@
 mod gate;
 mod numbers;
 mod run_fault;
+mod share;
 mod tables;
+mod task;
+mod turn;
+mod wait;
+mod work;
 
 pub use flow_dealing::Dealing;
 pub use flow_filter::{Filter, Verdict};
