@@ -265,3 +265,18 @@ pub seen_at : (packets : List Packet) (at : ℕ) (d : Packet) → at < length pa
 seen_at [] at d inside = absurd (omega arith)
 seen_at (p ∷ ps) zero d inside = refl
 seen_at (p ∷ ps) (suc at) d inside = seen_at ps at d (omega arith)
+
+-- behind all packets nothing is left to look at
+no_views : (own : Option Mac) (packets : List Seen) (views : List frames.View) → AreViews own packets views → drop (length packets) views ≡ []
+no_views own [] [] all = refl
+no_views own [] (view ∷ views) all = absurd all
+no_views own (p ∷ ps) [] all = absurd all
+no_views own (p ∷ ps) (view ∷ views) all = no_views own ps views all.1
+
+pub all_looked_at : (run : RunFacts) (w : ℕ) (v u : Views) (verdicts : List Verdict) (numbers : List ℕ)
+    (work : IsWork run w (length run.packets) v u verdicts numbers) (views : List frames.View) → AreViews run.policy.own run.packets views
+    → numbers_of work.trace ≡ numbers_from run.deal w 0 views
+all_looked_at run w v u verdicts numbers work views all =
+    sym (ap (λ vs. numbers_of work.trace ++ numbers_from run.deal w (length run.packets) vs) (no_views run.policy.own run.packets views all)
+    ∙ (ap (λ ns. numbers_of work.trace ++ ns) (no_numbers run.deal w (length run.packets)) ∙ append-nil (numbers_of work.trace)))
+    ∙ work.dealt views all

@@ -10,6 +10,7 @@ mod task;
 mod turn;
 mod wait;
 mod work;
+mod workers;
 
 pub use flow_dealing::Dealing;
 pub use flow_filter::{Filter, Verdict};
