@@ -1,0 +1,6 @@
+pub mod Merging
+pub mod OneOwner
+pub mod OneReport
+pub mod PacketCalls
+pub mod Places
+pub mod Refusals
