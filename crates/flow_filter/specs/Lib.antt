@@ -1,5 +1,9 @@
+pub mod Filters
 pub mod Judged
+pub mod LazyPatches
 pub mod OneThread
+pub mod PacketFlows
 pub mod Readings
+pub mod Rulesets
 pub mod Updates
 pub mod Verdicts

@@ -2,9 +2,16 @@
 #![tactic(auto)]
 
 mod filter;
-mod rules;
+mod lazy_patch;
+mod packet_flow;
+mod ruleset;
+mod update;
 mod verdict;
+mod verdicts;
 
-pub use filter::Filter;
-pub use rules::{patch_of, ruling_on, verdict_of, verdict_of_rules};
+pub use filter::{Filter, ReadyFilter};
+pub use lazy_patch::{HasRuling, LazyPatch};
+pub use packet_flow::PacketFlow;
+pub use ruleset::Ruleset;
 pub use verdict::Verdict;
+pub use verdicts::verdict_of_rules;
