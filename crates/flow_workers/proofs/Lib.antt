@@ -1,3 +1,5 @@
+pub mod AnsweredUpdates
+pub mod JudgedPackets
 pub mod NumberLemmas
 pub mod TurnLemmas
 pub mod WorkSteps

@@ -1,8 +1,8 @@
 -- What a worker is given, and what it gives back.
 use Rattle.std.specs.Prelude.{◌<◌, length, map}
 use Rattle.packet_view.specs.Captures.{seen}
-use Rattle.acl_policy.specs.Policies.{policy_facts}
 use Rattle.bihash_words.specs.declared.shape.Shape.{Ghosts}
+use Rattle.flow_filter.specs.Filters.{policy_in}
 use Rattle.flow_filter.specs.OneThread.{layout_of}
 use Rattle.flow_workers.specs.declared.share.Job.{Job}
 use Rattle.flow_workers.specs.declared.share.Run.{Run}
@@ -13,8 +13,8 @@ use Rattle.flow_workers.specs.Work.{IsWork, RunFacts}
 abbrev pub run_facts : {A B R G K L : Type 0} (ga : Ghosts A K) (gb : Ghosts B L) → Run A B R G K L → RunFacts
 run_facts ga gb run = record {
   deal = record { layout = layout_of ga gb; dealing = run.dealing; workers = run.workers };
-  times = run.filter.now.times;
-  policy = policy_facts run.filter.now.policy;
+  times = run.filter.times;
+  policy = policy_in run.filter;
   packets = map seen run.packets.now;
 }
 

@@ -2,18 +2,22 @@
 #![tactic(auto)]
 
 mod gate;
+mod judging;
 mod numbers;
+mod prepared;
 mod run_fault;
 mod share;
 mod tables;
 mod task;
 mod turn;
-mod wait;
+mod updates;
+mod viewed_packet;
 mod work;
 mod workers;
 
 pub use flow_dealing::Dealing;
 pub use flow_filter::{Filter, Verdict};
 pub use gate::Gate;
+pub use judging::{judge, try_judge};
 pub use run_fault::RunFault;
 pub use tables::{Callers, Tables, create_tables};

@@ -3,7 +3,7 @@ use crate::gate::Gate;
 use crate::tables::{Callers, Tables};
 use bihash_words::Shape;
 use flow_dealing::Dealing;
-use flow_filter::{Filter, Verdict};
+use flow_filter::{ReadyFilter, Verdict};
 use packet_view::Packet;
 use std::alloc::Global;
 use std::sync::Wait;
@@ -13,7 +13,7 @@ use std::sync::Wait;
 pub struct Run<'t, 'a, A: Shape, B: Shape, R: Wait, G: Gate> {
     pub rt: &'t R,
     pub gate: &'t G,
-    pub filter: &'a Filter,
+    pub filter: ReadyFilter<'a>,
     pub tables: &'t Tables<A, B>,
     pub packets: &'a [Packet<'a>],
     pub dealing: Dealing,

@@ -1,46 +1,36 @@
 //! One worker: each packet that is dealt to it is judged, in the order of the file.
 ghost use Rattle.std.specs.Prelude.{◌≡◌, ◌<◌, ◌++◌, ◌∷◌, [], false, IfOk};
-ghost use Rattle.packet_view.specs.Frames.{viewed};
 ghost use Rattle.flow_filter.specs.OneThread.{layout_of};
-ghost use Rattle.flow_dealing.specs.Dealings.{flow_shown, worker_by};
+ghost use Rattle.flow_dealing.specs.Dealings.{worker_by};
 ghost use Rattle.flow_workers.specs.Callers.{AreShapes};
 ghost use Rattle.flow_workers.specs.Jobs.{CanWork, IsShareOf};
 
 use crate::gate::Gate;
-use crate::share::{Job, Run, Said, Share};
-use crate::wait::judge_frame;
+use crate::judging::judge_viewed;
+use crate::share::{Job, Said, Share};
+use crate::viewed_packet::ViewedPacket;
 use bihash_words::Shape;
 use flow_dealing::{Dealing, worker_of};
 use flow_filter::Verdict;
-use packet_view::{Frame, view};
-use session_state::{Flow, orient};
+use session_state::Flow;
 use std::alloc::{AllocError, Global};
 use std::sync::Wait;
-
-fn flow_of(frame: &Frame) -> Option<Flow>
-    ensures { result ≡ flow_shown (viewed frame.now) }
-{
-    match frame {
-        Frame::Ip(_, tuple) => orient(tuple),
-        _ => None,
-    }
-}
 
 // Who judges the packet with this number. A worker that is alone has all packets, whatever their buckets.
 fn dealt_to<A: Shape, B: Shape>(
     dealing: Dealing,
     workers: usize,
     number: usize,
-    frame: &Frame,
+    flow: Option<Flow>,
 ) -> usize
     requires shapes { AreShapes ⟦<A as Shape>⟧ ⟦<B as Shape>⟧ }
     requires some { 0 < workers }
-    ensures { result ≡ worker_by dealing (layout_of ⟦<A as Shape>⟧ ⟦<B as Shape>⟧) workers number (flow_shown (viewed frame.now)) }
+    ensures { result ≡ worker_by dealing (layout_of ⟦<A as Shape>⟧ ⟦<B as Shape>⟧) workers number flow }
 {
     if workers == 1 {
         return 0;
     }
-    worker_of::<A, B>(dealing, workers, number, flow_of(frame))
+    worker_of::<A, B>(dealing, workers, number, flow)
 }
 
 fn say(said: &mut Said, alone: bool, number: usize, verdict: Verdict) -> Result<(), AllocError>
@@ -82,12 +72,12 @@ pub fn work<'t, 'a, A: Shape, B: Shape, R: Wait, G: Gate>(
     } = job;
     let mut said = nothing_said(alloc, run.workers, run.packets.len())?;
     for (at, packet) in run.packets.iter().enumerate() {
-        let frame = view(packet.frame, run.filter.policy.own);
-        if dealt_to::<A, B>(run.dealing, run.workers, at, &frame) != worker {
+        let viewed = ViewedPacket::new(packet, run.filter.own);
+        if dealt_to::<A, B>(run.dealing, run.workers, at, viewed.flow) != worker {
             continue;
         }
         run.gate.before(worker, at);
-        let verdict = judge_frame(run.rt, run.filter, run.tables, &mut callers, packet, frame);
+        let verdict = judge_viewed(run.rt, &run.filter, run.tables, &mut callers, &viewed);
         run.gate.after(worker, at);
         say(&mut said, run.workers == 1, at, verdict)?;
     }
