@@ -1,5 +1,6 @@
 pub mod AnsweredUpdates
 pub mod JudgedPackets
 pub mod NumberLemmas
+pub mod PartLemmas
 pub mod TurnLemmas
 pub mod WorkSteps

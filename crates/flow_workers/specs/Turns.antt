@@ -1,9 +1,11 @@
 -- What becomes of workers.
-use Rattle.std.specs.Prelude.{◌≡◌, ℕ, List, [], ◌∷◌, IfOk}
+use Rattle.std.specs.Prelude.{◌≡◌, ℕ, List, [], ◌∷◌, map, IfOk, Ok}
 use Rattle.packet_view.specs.declared.tuple.Family.TheVariants.{V4, V6}
 use Rattle.bihash_words.specs.declared.shape.Shape.{Ghosts}
 use Rattle.flow_dealing.specs.Traces.{HaveTraces, IsTrace, Item}
+use Rattle.bihash_steps.specs.declared.row.Caller.{Caller}
 use Rattle.flow_workers.specs.declared.share.Job.{Job}
+use Rattle.flow_workers.specs.declared.share.Said.{Said}
 use Rattle.flow_workers.specs.declared.share.Share.{Share}
 use Rattle.flow_workers.specs.declared.tables.Tables.{Tables}
 use Rattle.flow_workers.specs.declared.turn.Turn.{Turn}
@@ -48,3 +50,16 @@ pub record IsDone {A B K L : Type 0} (ga : Ghosts A K) (gb : Ghosts B L) (tables
 abbrev pub IsOver : {A B R G K L : Type 0} (ga : Ghosts A K) (gb : Ghosts B L) → Tables A B K L → RunFacts → ℕ → Turn A B R G K L ga gb → Type 0
 IsOver ga gb tables run w (Ahead job) = ⊥
 IsOver ga gb tables run w (Over done) = IfOk done (IsDone ga gb tables run w)
+
+abbrev pub IsPast : {A B R G K L : Type 0} (ga : Ghosts A K) (gb : Ghosts B L) → Turn A B R G K L ga gb → Type 0
+IsPast ga gb (Ahead job) = ⊥
+IsPast ga gb (Over done) = Unit {0}
+
+-- each of these turns ended with a share, and these are the parts of the shares
+pub record ArePartsOf {A B R G K L : Type 0} (ga : Ghosts A K) (gb : Ghosts B L) (turns : List (Turn A B R G K L ga gb))
+    (fours : List (Caller A K ga)) (sixes : List (Caller B L gb)) (saids : List Said) : Type 0 where
+  pub shares : List (Share A B K L ga gb)
+  pub past : turns ≡ map (λ s. Over (Ok s)) shares
+  pub four : fours ≡ map (λ (s : Share A B K L ga gb). s.callers.four) shares
+  pub six : sixes ≡ map (λ (s : Share A B K L ga gb). s.callers.six) shares
+  pub said : saids ≡ map (λ (s : Share A B K L ga gb). s.said) shares

@@ -4,6 +4,8 @@
 mod gate;
 mod judging;
 mod numbers;
+mod parts;
+mod placing;
 mod prepared;
 mod run_fault;
 mod share;

@@ -1,6 +1,7 @@
 //! What a worker is given, and what it gives back.
 use crate::gate::Gate;
 use crate::tables::{Callers, Tables};
+use bihash_table::Caller;
 use bihash_words::Shape;
 use flow_dealing::Dealing;
 use flow_filter::{ReadyFilter, Verdict};
@@ -42,4 +43,12 @@ pub struct Said {
 pub struct Share<A: Shape, B: Shape> {
     pub callers: Callers<A, B>,
     pub said: Said,
+}
+
+/// What all workers give back, each list in the workers' order.
+#[derive(Drop)]
+pub struct Parts<A: Shape, B: Shape> {
+    pub four: Vec<Caller<A>>,
+    pub six: Vec<Caller<B>>,
+    pub said: Vec<Said>,
 }
