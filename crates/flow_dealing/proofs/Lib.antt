@@ -1,3 +1,5 @@
+pub mod Counting
+pub mod FewPackets
 pub mod Merging
 pub mod OneOwner
 pub mod OneReport

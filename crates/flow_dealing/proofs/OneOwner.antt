@@ -1,8 +1,8 @@
 -- Where each bucket has one worker, the packets' events on a bucket are a run of its map, in the order of the file.
-use Rattle.std.proofs.Common.{◌≡◌, ◌≢◌, ◌⊎◌, ◌∙◌, ◌+◌, ◌<◌, ◌%◌, ℕ, zero, suc, Bool, true, false, cond, List, [], ◌∷◌, length, map, Option, Some, None, ap, ap₂, refl, sym, subst, arith, inl, inr}
+use Rattle.std.proofs.Common.{◌≡◌, ◌≢◌, ◌⊎◌, ◌∙◌, ◌+◌, ◌<◌, ◌%◌, ℕ, suc, Bool, true, false, cond, List, [], ◌∷◌, length, map, Option, Some, None, ap, ap₂, refl, sym, subst, arith, inl, inr}
 use Rattle.std.specs.Prelude.{if◌then◌else◌, ◌==◌, ◌&&◌}
 use Rattle.std.specs.FinMap.{empty}
-use Rattle.std.specs.List.{All, filter}
+use Rattle.std.specs.List.{filter}
 use Rattle.std.proofs.Math.Nat.{mod-lt}
 use Rattle.std.proofs.lemmas.Bool.Decides.{eqb_tells}
 use Rattle.std.proofs.lemmas.List.Elements.{All-head, All-tail}
@@ -10,33 +10,30 @@ use lib.ListN.{get_elem?}
 use mathlib.Core.Option.{some, some-injective}
 use Rattle.packet_view.specs.declared.tuple.Family.{Family}
 use Rattle.bihash_words.specs.Maps.{Event, Pairs}
-use Rattle.bihash_words.specs.Runs as events
-use Rattle.bihash_words.specs.Runs.{writes_of}
+use Rattle.bihash_words.specs.Runs.{IsRun}
 use Rattle.bihash_words.specs.Sizes.{Sizes, bucket_of}
-use Rattle.bihash_words.specs.declared.patch.Reply.{Reply}
-use Rattle.bihash_words.specs.declared.patch.Reply.TheVariants.{Kept, Changed, Worn, Full, NoPages}
 use Rattle.bihash_steps.specs.Words.{buckets}
-use Rattle.bihash_steps.specs.Histories.{bounds_of, event_of, is_changed}
+use Rattle.bihash_steps.specs.Histories.{bounds_of, event_of}
 use Rattle.bihash_steps.specs.Callers.{HasWrite, known_at, opening_at, opening_in}
 use Rattle.bihash_steps.specs.BucketSteps.{map_now}
 use Rattle.bihash_steps.specs.declared.view.Call.{Call}
 use Rattle.bihash_steps.specs.declared.view.Record.{Record}
 use Rattle.bihash_steps.specs.declared.view.View.{View}
 use Rattle.bihash_steps.proofs.Lists.{there}
-use Rattle.bihash_laws.specs.Runs.{IsOneWriter, IsRun, calls_on}
+use Rattle.bihash_laws.specs.Runs.{IsOneWriter, calls_on}
 use Rattle.bihash_laws.proofs.OneWriter.{one_map}
 use Rattle.session_state.specs.declared.flow.Flow.{Flow}
 use Rattle.session_state.specs.declared.timeouts.Timeouts.{Timeouts}
 use Rattle.flow_filter.specs.Updates.{words_of}
 use Rattle.flow_filter.specs.Judged.{AreAsked, IsAsked, Judged}
-use Rattle.flow_filter.specs.OneThread.{Home, bounds_in, events_at, family_of, home_of, same_family, same_home, sizes_in}
+use Rattle.flow_filter.specs.OneThread.{Home, bounds_in, events_at, family_of, home_of, same_family, sizes_in}
 use Rattle.flow_dealing.specs.declared.dealing.Dealing.{Dealing}
 use Rattle.flow_dealing.specs.declared.dealing.Dealing.TheVariants.{Bucket}
 use Rattle.flow_dealing.specs.Dealings.{Deal, flow_in, worker_by, worker_of}
 use Rattle.flow_dealing.specs.Runs.{AreRecorded, events_by}
 use Rattle.flow_dealing.proofs.Merging.{events_by-nil, worker_few}
 use Rattle.flow_dealing.proofs.Places.{after_map}
-use Rattle.flow_dealing.proofs.PacketCalls.{IsFlowEvent, add_event-flow, add_flow, add_flow_at, asked_flow, events_by-flow, packet_of_event, same_family_refl, same_family_sound, some_worker}
+use Rattle.flow_dealing.proofs.PacketCalls.{IsFlowEvent, add_event-flow, add_flow, add_flow_at, asked_flow, events_by-flow, packet_of_event, same_family_sound, some_worker}
 use Rattle.flow_dealing.proofs.Refusals.{legal_call}
 
 -- ---- The worker of a bucket
@@ -79,24 +76,6 @@ on_bucket z b (c ∷ cs) home = go (c.bucket == b)
     go : (t : Bool) → map event_of (cond t (c ∷ calls_on b cs) (calls_on b cs)) ≡ cond t (event_of c ∷ map event_of (calls_on b cs)) (map event_of (calls_on b cs))
     go true = refl
     go false = refl
-
--- a run of calls is one of their events
-counts : (r : Reply) (n : ℕ) → cond (is_changed r) (n + 1) n ≡ n + writes_of r
-counts (Kept found) n = omega arith
-counts (Changed found) n = refl
-counts (Worn found) n = omega arith
-counts Full n = omega arith
-counts (NoPages log2 left) n = omega arith
-
-run_of_events : (z : Sizes) (m last : Pairs) (n writes : ℕ) (calls : List Call) → IsRun z m n calls last writes
-    → events.IsRun (bounds_of z) m n (map event_of calls) last writes
-run_of_events z m last n writes [] run = run
-run_of_events z m last n writes (c ∷ cs) run = (
-  run.0,
-  run.1,
-  subst (λ k. events.IsRun (bounds_of z) run.0 k (map event_of cs) last writes) (counts c.reply n)
-      (run_of_events z run.0 last (cond (is_changed c.reply) (n + 1) n) writes cs run.2),
-)
 
 module _ (d : Deal) (times : Timeouts) (family : Family) (b w : ℕ)
     (own : IsOwner d (record { family = family; bucket = b }) w) where
@@ -194,7 +173,7 @@ module _ (d : Deal) (times : Timeouts) (family : Family) (b w : ℕ)
         sym m.3 ∙ ap (λ (y : Record). y.number) same
 
     pub runs_at : (last : Pairs) × (writes : ℕ)
-        × events.IsRun (bounds_in d.layout family) empty 0 (events_at d.layout times home js) last writes
+        × IsRun (bounds_in d.layout family) empty 0 (events_at d.layout times home js) last writes
     runs_at =
         let r = there v.records w (let few = own.few in let count = recorded.count in omega arith) in
         let run = one_map z v w b r.0 recorded.lawful r.1 inside (one_writer r.0 r.1) in
@@ -204,7 +183,6 @@ module _ (d : Deal) (times : Timeouts) (family : Family) (b w : ℕ)
         let start : opening_at v.known b ≡ empty = ap (λ openings. opening_in openings b) recorded.openings in (
           map_now v b,
           length (known_at v.known b),
-          subst (λ es. events.IsRun (bounds_of z) empty 0 es (map_now v b) (length (known_at v.known b))) its
-              (subst (λ m. events.IsRun (bounds_of z) m 0 (map event_of (calls_on b r.0.calls)) (map_now v b) (length (known_at v.known b))) start
-              (run_of_events z (opening_at v.known b) (map_now v b) 0 (length (known_at v.known b)) (calls_on b r.0.calls) run)),
+          subst (λ es. IsRun (bounds_of z) empty 0 es (map_now v b) (length (known_at v.known b))) its
+              (subst (λ m. IsRun (bounds_of z) m 0 (map event_of (calls_on b r.0.calls)) (map_now v b) (length (known_at v.known b))) start run),
         )

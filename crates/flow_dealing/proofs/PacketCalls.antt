@@ -1,12 +1,10 @@
 -- The call of each packet, and the packet of each call.
-use Rattle.std.proofs.Common.{◌≡◌, ◌≢◌, ◌∙◌, ◌+◌, ◌<◌, ℕ, zero, suc, Bool, true, false, cond, List, [], ◌∷◌, length, map, Option, Some, None, ap, ap₂, refl, sym, subst, arith, inl, inr}
-use Rattle.std.specs.Prelude.{if◌then◌else◌, ◌==◌, ◌&&◌, option_map}
-use Rattle.std.specs.List.{All}
+use Rattle.std.proofs.Common.{◌≡◌, ◌∙◌, ◌+◌, ◌<◌, ℕ, zero, suc, Bool, true, false, cond, List, [], ◌∷◌, Option, Some, None, ap, ap₂, refl, sym, subst, arith, inl, inr}
+use Rattle.std.specs.Prelude.{if◌then◌else◌, ◌==◌, option_map}
 use Rattle.std.proofs.lemmas.Bool.Decides.{eqb_tells}
 use Rattle.std.proofs.lemmas.List.Elements.{All-head, All-tail}
 use lib.ListN.{get_elem?}
 use mathlib.Core.Option.{some, some-ne-none, some-injective}
-use Rattle.packet_view.specs.Tuples.{Facts}
 use Rattle.packet_view.specs.declared.tuple.Family.{Family}
 use Rattle.packet_view.specs.declared.tuple.Family.TheVariants.{V4, V6}
 use Rattle.bihash_words.specs.Maps.{Event}
@@ -18,14 +16,14 @@ use Rattle.bihash_steps.proofs.Lists.{there}
 use Rattle.session_state.specs.declared.flow.Flow.{Flow}
 use Rattle.session_state.specs.declared.timeouts.Timeouts.{Timeouts}
 use Rattle.session_state.specs.Flows.{flow_of}
-use Rattle.flow_filter.specs.Readings.{Framed, Reading, Ruled, Ruling}
+use Rattle.flow_filter.specs.Readings.{Framed, Reading, Ruled}
 use Rattle.flow_filter.specs.Updates.{update_in, update_of, words_of}
 use Rattle.flow_filter.specs.Judged.{AreAsked, IsAsked, IsAskedBy, Judged}
 use Rattle.flow_filter.specs.OneThread.{Home, Layout, add_event, family_of, home_of, same_family, same_home}
 use Rattle.flow_dealing.specs.Dealings.{Deal, flow_in, worker_of}
 use Rattle.flow_dealing.specs.Runs.{AreRecorded, add_in, events_by}
 use Rattle.flow_dealing.proofs.Merging.{events_by-cons, events_by-nil, worker_few}
-use Rattle.flow_dealing.proofs.Places.{all_at, before_map}
+use Rattle.flow_dealing.proofs.Places.{before_map}
 
 -- ---- A packet's event, by its flow
 
@@ -165,11 +163,13 @@ module _ (d : Deal) (times : Timeouts) (family : Family) where
       let E : List Event = events_by d times family w (n + 1) js in
       let first : add_flow family (flow_in x.reading) x.event E ≡ e ∷ E =
       ap₂ (λ f ev. add_flow family f ev E) (ap (λ (y : Judged). flow_in y.reading) same ∙ has) (ap (λ (y : Judged). y.event) same ∙ its)
-      ∙ ap (λ (b : Bool). if b then e ∷ E else E) (ap (same_family family) inside ∙ same_family_refl family) in
-      (0, ap (λ es. get_elem? es 0) (events_by-flow d times family w n x js)
-      ∙ (ap (λ (b : Bool). get_elem? (cond b (add_flow family (flow_in x.reading) x.event E) E) 0)
-      (elim (eqb_tells (worker_of d n (flow_in x.reading)) w) [ inl (test, _) ↦ test | inr (test, other) ↦ absurd (other own) ])
-      ∙ ap (λ es. get_elem? es 0) first))
+      ∙ ap (λ (b : Bool). if b then e ∷ E else E) (ap (same_family family) inside ∙ same_family_refl family) in (
+        0,
+        ap (λ es. get_elem? es 0) (events_by-flow d times family w n x js)
+            ∙ (ap (λ (b : Bool). get_elem? (cond b (add_flow family (flow_in x.reading) x.event E) E) 0)
+            (elim (eqb_tells (worker_of d n (flow_in x.reading)) w) [ inl (test, _) ↦ test | inr (test, other) ↦ absurd (other own) ])
+            ∙ ap (λ es. get_elem? es 0) first),
+      )
   event_of_packet w n (x ∷ js) (suc k) j flow e at has inside its mine =
       subst (λ es. Stands es e) (sym (events_by-flow d times family w n x js)) (later (worker_of d n (flow_in x.reading) == w)
       (event_of_packet w (n + 1) js k j flow e at has inside its

@@ -1,10 +1,16 @@
 -- What a refusal for want of pages tells of a packet.
-use Rattle.std.proofs.Common.{◌≡◌, ◌≢◌, ◌∙◌, ◌^◌, ◌<◌, ◌≤◌, ℕ, Bool, true, false, cond, List, Option, Some, None, ap, refl, sym, subst, inl, inr, ⊎_elim}
+use Rattle.std.proofs.Common.{◌≡◌, ◌≢◌, ◌∙◌, ◌+◌, ◌^◌, ◌<◌, ◌≤◌, ℕ, Bool, true, false, Option, Some, None, ap, refl, sym, subst, inl, inr}
 use Rattle.std.specs.Prelude.{nat_lt, if◌then◌else◌, ◌==◌, ◌&&◌, option_map}
 use Rattle.std.specs.FinMap.{len}
+use Rattle.std.specs.Option.{ForSome}
 use lib.ListN.{get_elem?}
 use mathlib.Core.Option.{some}
-use Rattle.bihash_words.specs.Maps.{Answers, Bounds, Crowded, Entering, Event, Exhausted, IsRefusal, Pairs, Present, Step, effect_of, most_pairs, row_with}
+use Rattle.packet_view.specs.Captures.{Seen}
+use Rattle.packet_view.specs.Frames as frames
+use Rattle.acl_policy.specs.Policies.{PolicyFacts}
+use Rattle.acl_policy.specs.declared.rule.Action.{Action}
+use Rattle.acl_policy.specs.declared.rule.Action.TheVariants as action
+use Rattle.bihash_words.specs.Maps.{Answers, Bounds, Crowded, Entering, Event, Exhausted, Pairs, Present, effect_of, most_pairs, row_with}
 use Rattle.bihash_words.specs.Sizes.{Sizes}
 use Rattle.bihash_words.specs.declared.patch.Change.{Change}
 use Rattle.bihash_words.specs.declared.patch.Change.TheVariants.{Keep, Set, Remove}
@@ -15,16 +21,16 @@ use Rattle.bihash_steps.specs.Callers.{IsLawfulCaller, known_at, opening_at}
 use Rattle.bihash_steps.specs.declared.view.Call.{Call}
 use Rattle.bihash_steps.specs.declared.view.Record.{Record}
 use Rattle.bihash_steps.specs.declared.view.View.{View}
-use Rattle.session_state.specs.Decisions.{PatchFacts, decision_of}
+use Rattle.session_state.specs.Decisions.{PatchFacts, decision_of, is_live_for}
 use Rattle.session_state.specs.declared.flow.Flow.{Flow}
 use Rattle.session_state.specs.declared.timeouts.Timeouts.{Timeouts}
 use Rattle.session_state.specs.Flows.{flow_of}
-use Rattle.flow_filter.specs.declared.verdict.Verdict.{Verdict}
 use Rattle.flow_filter.specs.declared.verdict.Verdict.TheVariants as verdict
-use Rattle.flow_filter.specs.Readings.{Framed, Reading, Ruled, Ruling}
-use Rattle.flow_filter.specs.Updates.{reflects, update_in, update_of}
-use Rattle.flow_filter.specs.Judged.{IsAskedBy, verdict_by_event, verdict_with}
-use Rattle.flow_filter.specs.Verdicts.{verdict_of, verdict_reflected}
+use Rattle.flow_filter.specs.Readings.{Framed, IsReading, IsReadingOf, Reading, Ruled, Ruling}
+use Rattle.flow_filter.specs.Updates.{Update, reflects, update_in, update_of}
+use Rattle.flow_filter.specs.Judged.{IsAskedBy, Judged, verdict_by_event, verdict_on, verdict_with}
+use Rattle.flow_filter.specs.Verdicts.{verdict_by, verdict_entered, verdict_of, verdict_of_rules, verdict_reflected}
+use Rattle.flow_filter.specs.OneThread.{HasPages, IsNoRefusal}
 use Rattle.flow_dealing.specs.Dealings.{flow_in}
 
 -- ---- On the map
@@ -141,3 +147,49 @@ refusal_is_verdict times (Ruled moment tuple ruling) event flow e b log2 left ha
         let sure = sets_reflects patch want.value (ap (decision_of patch) (sym want.absent) ∙ (sym decided ∙ want.sets)) in
         ap (verdict_by_event ruling (Some (update_in times moment tuple ruling other))) its
         ∙ refused_is_told patch ruling other.starts e.found e.reply log2 left refl want.absent sure short
+
+rules_say_other : (ruling : Ruling) → verdict_of_rules ruling ≢ verdict.NoPages
+rules_say_other None e = let f : ⊥ = cc in f
+rules_say_other (Some decided) e = go decided.1 e
+  where
+    go : (a : Action) → verdict_by (decided.0 + 1) a ≡ verdict.NoPages → ⊥
+    go action.Deny is = let f : ⊥ = cc in f
+    go action.Permit is = let f : ⊥ = cc in f
+    go action.Reflect is = let f : ⊥ = cc in f
+
+entered_says_other : (rule : ℕ) (r : Reply) → IsNoRefusal r → verdict_entered rule r ≢ verdict.NoPages
+entered_says_other rule (reply.Worn found) paged e = let f : ⊥ = cc in f
+entered_says_other rule reply.Full paged e = let f : ⊥ = cc in f
+entered_says_other rule (reply.NoPages log2 left) paged e = paged log2 left refl
+entered_says_other rule (reply.Kept found) paged e = let f : ⊥ = cc in f
+entered_says_other rule (reply.Changed found) paged e = let f : ⊥ = cc in f
+
+reflected_says_other : (ruling : Ruling) (r : Reply) → IsNoRefusal r → verdict_reflected ruling r ≢ verdict.NoPages
+reflected_says_other None r paged e = let f : ⊥ = cc in f
+reflected_says_other (Some decided) r paged e = entered_says_other (decided.0 + 1) r paged e
+
+verdict_says_other : (patch : PatchFacts) (ruling : Ruling) (found : Option ℕ) (r : Reply) → IsNoRefusal r → verdict_of patch ruling found r ≢ verdict.NoPages
+verdict_says_other patch ruling found r paged = go (is_live_for patch found) patch.reflects
+  where
+    go : (s t : Bool) → (if s then verdict.Session else (if t then verdict_reflected ruling r else verdict_of_rules ruling)) ≢ verdict.NoPages
+    go true t e = let f : ⊥ = cc in f
+    go false true e = reflected_says_other ruling r paged e
+    go false false e = rules_say_other ruling e
+
+-- a packet whose event wasn't refused for want of pages has another verdict
+pub paged_is_told : (times : Timeouts) (policy : PolicyFacts) (packet : Seen) (j : Judged) → IsReading policy packet j.reading → HasPages j
+    → verdict_on times j ≢ verdict.NoPages
+paged_is_told times policy packet j read paged = go read.0 read.2
+  where
+    ruled : (u : Option Update) (ruling : Ruling) (event : Option Event) → ForSome event (λ e. IsNoRefusal e.reply)
+        → verdict_by_event ruling u event ≢ verdict.NoPages
+    ruled None ruling event has e = rules_say_other ruling e
+    ruled (Some u) ruling None has e = rules_say_other ruling e
+    ruled (Some u) ruling (Some x) has e = verdict_says_other u.patch ruling x.found x.reply (has x refl) e
+
+    go : (view : frames.View) → IsReadingOf policy packet.moment view j.reading → verdict_on times j ≢ verdict.NoPages
+    go frames.NotIp is = subst (λ (r : Reading). verdict_with times r j.event ≢ verdict.NoPages) (sym is) (λ e. let f : ⊥ = cc in f)
+    go frames.Malformed is = subst (λ (r : Reading). verdict_with times r j.event ≢ verdict.NoPages) (sym is) (λ e. let f : ⊥ = cc in f)
+    go frames.Short is = subst (λ (r : Reading). verdict_with times r j.event ≢ verdict.NoPages) (sym is) (λ e. let f : ⊥ = cc in f)
+    go (frames.Ip direction tuple) is = subst (λ (r : Reading). verdict_with times r j.event ≢ verdict.NoPages) (sym is.2)
+        (ruled (update_of times (Ruled packet.moment tuple is.0)) is.0 j.event paged)

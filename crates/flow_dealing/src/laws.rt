@@ -1,7 +1,7 @@
 //! What traces and records of all workers mean for the verdicts.
 //!
 //! The functions do nothing: their contracts are the laws.
-ghost use Rattle.std.specs.Prelude.{◌≡◌, ◌⊎◌, ◌<◌, List};
+ghost use Rattle.std.specs.Prelude.{◌≡◌, ◌⊎◌, ◌<◌, List, All};
 ghost use Rattle.packet_view.specs.Captures.{Seen};
 ghost use Rattle.packet_view.specs.declared.tuple.Family.{Family};
 ghost use Rattle.acl_policy.specs.Policies.{PolicyFacts};
@@ -12,7 +12,7 @@ ghost use Rattle.flow_dealing.specs.declared.dealing.Dealing.TheVariants.{Bucket
 ghost use Rattle.flow_dealing.specs.Views.{Views, view_in};
 ghost use Rattle.flow_dealing.specs.Dealings.{Deal};
 ghost use Rattle.flow_dealing.specs.Traces.{AreGathered, ArePlaced, AreTraces, Item};
-ghost use Rattle.flow_dealing.specs.Runs.{AreJudged, HavePages};
+ghost use Rattle.flow_dealing.specs.Runs.{AreFew, AreJudged, HasPagesIn, HavePages};
 
 /// Where each worker judged the packets that were dealt to it, each packet was judged once, and its event
 /// stands in the record of its worker.
@@ -29,4 +29,15 @@ pub fn workers_give_one_report()
     ensures { (d : Deal) (times : Timeouts) (policy : PolicyFacts) (packets : List Seen) (verdicts : List Verdict)
         → AreJudged d times policy packets verdicts → (d.dealing ≡ Bucket) ⊎ (d.workers ≡ 1) → HavePages verdicts
         → AreVerdicts d.layout times policy packets verdicts }
+{}
+
+/// With so few packets of a family's flows that its pages can't run out, none of them is refused for want of
+/// pages; and with so few of both families no verdict says that pages were wanting.
+pub fn few_packets_have_pages()
+    ensures events { (d : Deal) (times : Timeouts) (policy : PolicyFacts) (packets : List Seen) (verdicts : List Verdict)
+        (are : AreJudged d times policy packets verdicts) (family : Family) → AreFew d.layout times family are.judged
+        → All (HasPagesIn times family) are.judged }
+    ensures verdicts { (d : Deal) (times : Timeouts) (policy : PolicyFacts) (packets : List Seen) (verdicts : List Verdict)
+        (are : AreJudged d times policy packets verdicts)
+        → ((family : Family) → AreFew d.layout times family are.judged) → HavePages verdicts }
 {}
