@@ -2,5 +2,6 @@ pub mod AnsweredUpdates
 pub mod JudgedPackets
 pub mod NumberLemmas
 pub mod PartLemmas
+pub mod PlacingLemmas
 pub mod TurnLemmas
 pub mod WorkSteps

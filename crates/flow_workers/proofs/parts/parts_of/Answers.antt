@@ -8,6 +8,7 @@ loop-turn-init g c = rw c.in_ok-four.ensures.items (rw c.in_ok-six.ensures.items
 
 pub loop-turn-preserved : goal.loop-turn-preserved
 loop-turn-preserved g c =
-    parts_push g.A.Shape g.B.Shape c.loop-turn.yielded c.in-Some.turn _ _ _ _ _ _
-    (record { callers = c.in_ok-callers.callers; said = c.in_ok-callers.said }) (c.in-Over.is ∙ ap Over c.in_ok-callers.was)
+    parts_push g.A.Shape g.B.Shape c.loop-turn.yielded c.in-Some.turn c.loop-turn.four.items c.push.new.self.items
+    c.loop-turn.six.items c.push-in-loop-turn.new.self.items c.loop-turn.all_said.items c.push-in-loop-turn-2.new.self.items
+    c.in_ok-callers.field-0 (c.in-Over.is ∙ ap Over c.in_ok-callers.was)
     c.in_ok-push.ensures.items c.in_ok-push-2.ensures.items c.in_ok-push-3.ensures.items c.loop-turn.invariant
