@@ -1,5 +1,5 @@
 -- What words of a place tell of the pair of a key.
-use Rattle.std.proofs.Common.{◌≡◌, ◌≢◌, ℕ, zero, suc, ◌+◌, ◌-◌, ◌*◌, ◌<◌, ◌≤◌, ◌||◌, eqb, Bool, true, false, true≢false, List, length, refl, sym, ap, ◌∙◌, subst, inl, inr, arith, eq-eqb, Option, Some, None}
+use Rattle.std.proofs.Common.{◌≡◌, ◌≢◌, ℕ, ◌+◌, ◌-◌, ◌*◌, ◌<◌, ◌≤◌, ◌||◌, eqb, Bool, true, false, true≢false, List, length, refl, sym, ap, ◌∙◌, subst, inl, inr, arith, eq-eqb, Option, Some, None}
 use Rattle.std.proofs.lemmas.Bool.{eqb-true, cases_lt}
 use Rattle.std.specs.Prelude.{slice_index}
 use Rattle.std.specs.FinMap.{get}
@@ -12,7 +12,7 @@ use Rattle.bihash_steps.specs.declared.view.OpenBucket.{OpenBucket}
 use Rattle.bihash_steps.specs.declared.view.View.{View}
 use Rattle.bihash_table.specs.Places.{HasPairOf}
 use Rattle.bihash_table.specs.Scans.{AreOpenTo}
-use Rattle.bihash_table.specs.OpenReads.{NotesBlock, Saw, LastWordTells, AreMarks, mark_at, IsValueAt, IsPairAmong, IsPairIn, IsFirstFreeIn, OtherPairTells, value_of}
+use Rattle.bihash_table.specs.OpenReads.{NotesBlock, Saw, LastWordTells, AreMarks, first_set, later_set, set_count, IsValueAt, IsPairAmong, IsPairIn, IsFirstFreeIn, OtherPairTells, value_of}
 use Rattle.bihash_table.proofs.PlaceReads.{SameTo, word_of_key, all_same}
 use Rattle.bihash_table.proofs.Seeing.{saw_as, saw_both, saw_nothing, saw_then, note_extent}
 
@@ -72,89 +72,68 @@ pub all_marks : (z : Sizes) (key : List ℕ) (first : ℕ) (a b c d : Bool) (s t
 all_marks z key first a b c d s t u v w at bt ct dt = saw_then s t w (λ o noted x y. (x, y.0, y.1.0, y.1.1)) at
     (saw_both t u w bt (saw_both u v w ct dt))
 
-module _ (z : Sizes) (key : List ℕ) (first : ℕ) (marks : Bool × Bool × Bool × Bool) where
-  -- where these are the marks, the pair of the key is at none of the first k places
-  abbrev pub NoneTo : ℕ → Extent → List ℕ → Type 0
-  NoneTo k e block = AreMarks z e block key first marks → (i : ℕ) → first ≤ i → i < first + k → HasPairOf z e block key i → ⊥
+module _ (z : Sizes) (key : List ℕ) (first : ℕ) where
+  -- what the marks tell is of the page
+  abbrev pub Marked : Bool × Bool × Bool × Bool → Extent → List ℕ → Type 0
+  Marked marks e block = AreMarks z e block key first marks
 
-  abbrev pub Marked : ℕ → Bool → Type 0
-  Marked place mark = (e : Extent) (block : List ℕ) → AreMarks z e block key first marks → LastWordTells z e block key place mark
+  -- the last word of the key stands at the first mark
+  first_tells : (e : Extent) (block : List ℕ) (marks : Bool × Bool × Bool × Bool) → set_count marks ≢ 0 → Marked marks e block
+      → LastWordTells z e block key (first + first_set marks) true
+  first_tells e block (true, b, c, d) some are = let at : first ≡ first + 0 = omega arith in
+      subst (λ (p : ℕ). LastWordTells z e block key p true) at are.0
+  first_tells e block (false, true, c, d) some are = are.1
+  first_tells e block (false, false, true, d) some are = are.2
+  first_tells e block (false, false, false, true) some are = are.3
+  first_tells e block (false, false, false, false) some are = absurd (some refl)
 
-  none_next : (e : Extent) (block : List ℕ) (place k : ℕ) → place ≡ first + k → ((i : ℕ) → first ≤ i → i < first + k → HasPairOf z e block key i → ⊥)
-      → (HasPairOf z e block key place → ⊥) → (i : ℕ) → first ≤ i → i < first + (k + 1) → HasPairOf z e block key i → ⊥
-  none_next e block place k at before here i low high = elim (cases_lt i (first + k)) [
-    | inl less ↦ before i low less
-    | inr not ↦ let is : i ≡ place = omega arith in λ h. here (subst (HasPairOf z e block key) is h)
-  ]
+  -- where the pair isn't at the first mark, the others tell as much
+  later_tell : (e : Extent) (block : List ℕ) (marks : Bool × Bool × Bool × Bool) → set_count marks ≢ 0 → Marked marks e block
+      → (HasPairOf z e block key (first + first_set marks) → ⊥) → Marked (later_set marks) e block
+  later_tell e block (true, b, c, d) some are none = let at : first ≡ first + 0 = omega arith in
+      ((λ h. none (subst (HasPairOf z e block key) at h)), are.1, are.2, are.3)
+  later_tell e block (false, true, c, d) some are none = (are.0, none, are.2, are.3)
+  later_tell e block (false, false, true, d) some are none = (are.0, are.1, none, are.3)
+  later_tell e block (false, false, false, true) some are none = (are.0, are.1, are.2, none)
+  later_tell e block (false, false, false, false) some are none = absurd (some refl)
 
-  module _ (u v w : View) (place k : ℕ) (mark : Bool) (at : place ≡ first + k) (marked : Marked place mark) (before : Saw u v (NoneTo k)) where
-    pub none_more : Saw v w (λ e block. LastWordTells z e block key place mark → IsValueAt z e block key place None) → Saw u w (NoneTo (k + 1))
-    none_more now = saw_then u v w (λ o noted seen here are.
-        none_next o.extent o.block place k at (seen are) (here (marked o.extent o.block are))) before now
-
-    pub pair_there : (value from to : ℕ) → Saw v w (λ e block. LastWordTells z e block key place mark → IsValueAt z e block key place (Some value))
-        → Saw u w (λ e block. AreMarks z e block key first marks → IsPairAmong z e block key from to (Some (place, value)))
-    pair_there value from to = saw_then u v w (λ o noted seen here are. here (marked o.extent o.block are)) before
-
-    pub none_there : (from to : ℕ) → from ≡ first → to ≡ first + (k + 1)
-        → Saw v w (λ e block. LastWordTells z e block key place mark → IsValueAt z e block key place None)
-        → Saw u w (λ e block. AreMarks z e block key first marks → IsPairAmong z e block key from to None)
-    none_there from to is end = saw_then u v w (λ o noted seen here are i low high.
-        none_next o.extent o.block place k at (seen are) (here (marked o.extent o.block are)) i (omega arith) (omega arith)) before
-
-  pub none_yet : (v : View) → Saw v v (NoneTo 0)
-  none_yet v = saw_nothing v (λ e block are i low high. absurd (omega arith))
-
--- the last of four marks is set, where one is and the others aren't
-pub last_set : (marks : Bool × Bool × Bool × Bool) → marks.0 ≡ false → marks.1 ≡ false → marks.2 ≡ false → marks ≢ (false, false, false, false)
-    → marks.3 ≡ true
-last_set (a, b, c, true) first second third some = refl
-last_set (a, b, c, false) first second third some = absurd (some (λ i. (first i, second i, third i, false)))
-
--- the last word of the key stands where a mark is set
-pub marked_at : (z : Sizes) (e : Extent) (block key : List ℕ) (first i : ℕ) (marks : Bool × Bool × Bool × Bool) → i < 4 → mark_at marks i ≡ true
-    → AreMarks z e block key first marks → LastWordTells z e block key (first + i) true
-marked_at z e block key first zero marks low set are = let at : first ≡ first + 0 = omega arith in
-    subst (λ (p : ℕ). LastWordTells z e block key p true) at (subst (LastWordTells z e block key first) set are.0)
-marked_at z e block key first (suc zero) marks low set are = subst (LastWordTells z e block key (first + 1)) set are.1
-marked_at z e block key first (suc (suc zero)) marks low set are = subst (LastWordTells z e block key (first + 2)) set are.2
-marked_at z e block key first (suc (suc (suc zero))) marks low set are = subst (LastWordTells z e block key (first + 3)) set are.3
-marked_at z e block key first (suc (suc (suc (suc i)))) marks low set are = absurd (omega arith)
-
--- the pair stands at the place of a mark that is set
-pub pair_marked : (z : Sizes) (key : List ℕ) (first i place from to value : ℕ) (marks : Bool × Bool × Bool × Bool) (u v w : View)
-    → i < 4 → mark_at marks i ≡ true → place ≡ first + i → Saw u v (λ e block. AreMarks z e block key first marks)
-    → Saw v w (λ e block. LastWordTells z e block key place true → IsValueAt z e block key place (Some value))
-    → Saw u w (λ e block. IsPairAmong z e block key from to (Some (place, value)))
-pair_marked z key first i place from to value marks u v w low set is = saw_then u v w (λ o noted are here.
-    here (subst (λ (p : ℕ). LastWordTells z o.extent o.block key p true) (sym is) (marked_at z o.extent o.block key first i marks low set are)))
-
--- what the marks told, and what the places told that are marked
-pub among_marks : (z : Sizes) (key : List ℕ) (first from to : ℕ) (marks : Bool × Bool × Bool × Bool) (found : Option (ℕ × ℕ)) (u v w x : View)
-    (P : Extent → List ℕ → Type 0) → from ≡ first → to ≡ first + 4
-    → Saw u v (λ e block. AreMarks z e block key first marks) → Saw v w P
-    → Saw w x (λ e block. AreMarks z e block key first marks → IsPairAmong z e block key first (first + 4) found)
-    → Saw u x (λ e block. IsPairAmong z e block key from to found)
-among_marks z key first from to marks found u v w x P is end marked looked told = subst
-    (λ (p : ℕ × ℕ). Saw u x (λ e block. IsPairAmong z e block key p.0 p.1 found)) (λ i. (sym is i, sym end i))
-    (saw_then u v x (λ o noted are here. here are) marked (saw_then v w x (λ o noted any here. here) looked told))
-
--- where no mark is set, the pair isn't in the page
-pub no_marks : (z : Sizes) (key : List ℕ) (first from to : ℕ) (marks : Bool × Bool × Bool × Bool) (u v : View) → marks ≡ (false, false, false, false)
-    → from ≡ first → to ≡ first + 4
-    → Saw u v (λ e block. AreMarks z e block key first marks) → Saw u v (λ e block. IsPairAmong z e block key from to None)
-no_marks z key first from to marks u v none is end s = saw_as u v (λ o noted are i low high h.
-    let seen = subst (AreMarks z o.extent o.block key first) none are in
-    elim (cases_lt i (first + 1)) [
-      | inl less ↦ let at : i ≡ first = omega arith in seen.0 (subst (HasPairOf z o.extent o.block key) at h)
-      | inr more ↦ elim (cases_lt i (first + 2)) [
-        | inl less ↦ let at : i ≡ first + 1 = omega arith in seen.1 (subst (HasPairOf z o.extent o.block key) at h)
-        | inr more' ↦ elim (cases_lt i (first + 3)) [
-          | inl less ↦ let at : i ≡ first + 2 = omega arith in seen.2 (subst (HasPairOf z o.extent o.block key) at h)
-          | inr more'' ↦ let at : i ≡ first + 3 = omega arith in seen.3 (subst (HasPairOf z o.extent o.block key) at h)
-        ]
+  none_left : (e : Extent) (block : List ℕ) (marks : Bool × Bool × Bool × Bool) → set_count marks ≡ 0 → Marked marks e block
+      → (i : ℕ) → first ≤ i → i < first + 4 → HasPairOf z e block key i → ⊥
+  none_left e block (false, false, false, false) none are i low high h = elim (cases_lt i (first + 1)) [
+    | inl less ↦ let at : i ≡ first = omega arith in are.0 (subst (HasPairOf z e block key) at h)
+    | inr more ↦ elim (cases_lt i (first + 2)) [
+      | inl less ↦ let at : i ≡ first + 1 = omega arith in are.1 (subst (HasPairOf z e block key) at h)
+      | inr more' ↦ elim (cases_lt i (first + 3)) [
+        | inl less ↦ let at : i ≡ first + 2 = omega arith in are.2 (subst (HasPairOf z e block key) at h)
+        | inr more'' ↦ let at : i ≡ first + 3 = omega arith in are.3 (subst (HasPairOf z e block key) at h)
       ]
-    ]) s
+    ]
+  ]
+  none_left e block (true, b, c, d) none are i low high h = absurd (omega arith)
+  none_left e block (false, true, c, d) none are i low high h = absurd (omega arith)
+  none_left e block (false, false, true, d) none are i low high h = absurd (omega arith)
+  none_left e block (false, false, false, true) none are i low high h = absurd (omega arith)
+
+  module _ (u v w : View) (marks : Bool × Bool × Bool × Bool) (place : ℕ) (some : set_count marks ≢ 0) (at : place ≡ first + first_set marks)
+      (before : Saw u v (Marked marks)) where
+    here_tells : (e : Extent) (block : List ℕ) → Marked marks e block → LastWordTells z e block key place true
+    here_tells e block are = subst (λ (p : ℕ). LastWordTells z e block key p true) (sym at) (first_tells e block marks some are)
+
+    pub pair_marked : (from to value : ℕ) → Saw v w (λ e block. LastWordTells z e block key place true → IsValueAt z e block key place (Some value))
+        → Saw u w (λ e block. IsPairAmong z e block key from to (Some (place, value)))
+    pair_marked from to value = saw_then u v w (λ o noted are here. here (here_tells o.extent o.block are)) before
+
+    pub later_marked : (later : Bool × Bool × Bool × Bool) → later ≡ later_set marks
+        → Saw v w (λ e block. LastWordTells z e block key place true → IsValueAt z e block key place None) → Saw u w (Marked later)
+    later_marked later is = saw_then u v w (λ o noted are here. subst (λ (m : Bool × Bool × Bool × Bool). Marked m o.extent o.block) (sym is)
+        (later_tell o.extent o.block marks some are (subst (λ (p : ℕ). HasPairOf z o.extent o.block key p → ⊥) at (here (here_tells o.extent o.block are)))))
+        before
+
+  -- where no mark is left, the pair isn't in the page
+  pub no_marks : (marks : Bool × Bool × Bool × Bool) (from to : ℕ) (u v : View) → set_count marks ≡ 0 → from ≡ first → to ≡ first + 4
+      → Saw u v (Marked marks) → Saw u v (λ e block. IsPairAmong z e block key from to None)
+  no_marks marks from to u v none is end = saw_as u v (λ o noted are i low high.
+      none_left o.extent o.block marks none are i (omega arith) (omega arith))
 
 -- ---- All pages
 

@@ -7,7 +7,7 @@ ghost use Rattle.bihash_steps.specs.Blocks.{places};
 ghost use Rattle.bihash_steps.specs.Seats.{with_view};
 ghost use Rattle.bihash_steps.specs.declared.view.Extent.{Extent};
 ghost use Rattle.bihash_table.specs.Scans.{IsWordOf, AreOpenTo};
-ghost use Rattle.bihash_table.specs.OpenReads.{NotesBlock, Saw, LastWordTells, AreMarks, mark_at, IsValueAt, IsPairAmong, IsPairIn, IsFirstFreeIn, OtherPairTells, value_of};
+ghost use Rattle.bihash_table.specs.OpenReads.{NotesBlock, Saw, LastWordTells, AreMarks, first_set, later_set, set_count, IsValueAt, IsPairAmong, IsPairIn, IsFirstFreeIn, OtherPairTells, value_of};
 
 use crate::places::{FREE, PAGE_PLACES, page_count, place_count};
 use crate::site::Site;
@@ -16,7 +16,7 @@ use bihash_words::{BucketWord, Shape};
 
 /// The place of the key's pair in the block of the open bucket, and its value. In a block that isn't
 /// linear the four places of one page are looked at.
-#[inline]
+#[inline(always)]
 pub(crate) fn find_pair<S: Shape>(
     row: &Row<S>,
     seat: &mut CallerSeat<S>,
@@ -133,8 +133,8 @@ fn open_pages<S: Shape>(word: BucketWord, site: &Site<'_, S>) -> (usize, usize)
     (page, page + 1)
 }
 
-// The place and the value of the key's pair among the four places of a page. The first place where the
-// last word of the key stands is looked at without a branch for each place.
+// The place and the value of the key's pair among the four places of a page. Where the last word of the
+// key stands is found without a branch for each place, and mostly it is at the pair or nowhere.
 fn pair_in_page<S: Shape>(
     row: &Row<S>,
     seat: &mut CallerSeat<S>,
@@ -151,31 +151,29 @@ fn pair_in_page<S: Shape>(
         IsPairAmong (sizes_of S.Shape) e block (S.words_of site.now.key.now) (4 * page) (4 * (page + 1)) result) }
 {
     let first = PAGE_PLACES * page;
-    let marks = marks(row, seat, word, first, site);
-    if set_marks(marks) == 0 {
-        return None;
+    let mut marks = marks(row, seat, word, first, site);
+    'marked: while count_marks(marks) > 0 {
+        let place = first + first_mark(marks);
+        if let Some(value) = value_at(row, seat, word, place, site) {
+            return Some((place, value));
+        }
+        marks = later_marks(marks);
     }
-    let place = first + first_mark(marks);
-    if let Some(value) = value_at(row, seat, word, place, site) {
-        return Some((place, value));
-    }
-    pair_at_marks(row, seat, word, first, marks, site)
+    None
 }
 
-// How many of four marks are set. A sum of them is compared without a branch for each.
-fn set_marks(marks: (bool, bool, bool, bool)) -> u64
-    ensures few { result ≤ 4 }
-    ensures none { result ≡ 0 → marks ≡ (false, false, false, false) }
-    ensures some { marks ≡ (false, false, false, false) → result ≡ 0 }
+// How many of four marks are set. Their sum is compared at once.
+fn count_marks(marks: (bool, bool, bool, bool)) -> u64
+    ensures { result ≡ set_count marks }
 {
     let (a, b, c, d) = marks;
     u64::from(a) + u64::from(b) + u64::from(c) + u64::from(d)
 }
 
-// Which of four marks is set, where one is: the first.
+// Which of four marks is the first that is set, where one is.
 fn first_mark(marks: (bool, bool, bool, bool)) -> usize
+    ensures first { result ≡ first_set marks }
     ensures inside { result < 4 }
-    ensures set { marks ≢ (false, false, false, false) → mark_at marks result ≡ true }
 {
     let (a, b, c, _) = marks;
     if a {
@@ -189,39 +187,12 @@ fn first_mark(marks: (bool, bool, bool, bool)) -> usize
     }
 }
 
-// The place and the value of the key's pair among the places of a page that are marked, in their order. Few
-// calls come here.
-#[inline(never)]
-fn pair_at_marks<S: Shape>(
-    row: &Row<S>,
-    seat: &mut CallerSeat<S>,
-    word: BucketWord,
-    first: usize,
-    marks: (bool, bool, bool, bool),
-    site: &Site<'_, S>,
-) -> Option<(usize, u64)>
-    requires own { seat.old.row ≡ row.now }
-    requires open { (e : Extent) × NotesBlock (sizes_of S.Shape) seat.old.view word e × (first + 4 ≤ places e.page e.log2) }
-    requires few { first < 2 ^ 26 }
-    ensures same { seat.new ≡ with_view seat.old seat.new.view }
-    ensures saw { Saw seat.old.view seat.new.view (λ e block.
-        AreMarks (sizes_of S.Shape) e block (S.words_of site.now.key.now) first marks
-        → IsPairAmong (sizes_of S.Shape) e block (S.words_of site.now.key.now) first (first + 4) result) }
+// The marks but the first that is set.
+fn later_marks(marks: (bool, bool, bool, bool)) -> (bool, bool, bool, bool)
+    ensures { result ≡ later_set marks }
 {
     let (a, b, c, d) = marks;
-    if let Some(value) = value_where(row, seat, word, first, a, site) {
-        return Some((first, value));
-    }
-    if let Some(value) = value_where(row, seat, word, first + 1, b, site) {
-        return Some((first + 1, value));
-    }
-    if let Some(value) = value_where(row, seat, word, first + 2, c, site) {
-        return Some((first + 2, value));
-    }
-    if let Some(value) = value_where(row, seat, word, first + 3, d, site) {
-        return Some((first + 3, value));
-    }
-    None
+    (false, a && b, (a || b) && c, (a || b || c) && d)
 }
 
 // At which of the four places of a page the last word of the key stands.
@@ -263,29 +234,8 @@ fn has_last<S: Shape>(
     load_word(row, seat, word, place, S::WORDS - 1) == site.last
 }
 
-// The value of the key's pair at a place where the last word of the key was looked at.
-fn value_where<S: Shape>(
-    row: &Row<S>,
-    seat: &mut CallerSeat<S>,
-    word: BucketWord,
-    place: usize,
-    stands: bool,
-    site: &Site<'_, S>,
-) -> Option<u64>
-    requires own { seat.old.row ≡ row.now }
-    requires open { (e : Extent) × NotesBlock (sizes_of S.Shape) seat.old.view word e × (place < places e.page e.log2) }
-    ensures same { seat.new ≡ with_view seat.old seat.new.view }
-    ensures saw { Saw seat.old.view seat.new.view (λ e block.
-        LastWordTells (sizes_of S.Shape) e block (S.words_of site.now.key.now) place stands
-        → IsValueAt (sizes_of S.Shape) e block (S.words_of site.now.key.now) place result) }
-{
-    if !stands {
-        return None;
-    }
-    value_at(row, seat, word, place, site)
-}
-
-// The same, where the last word of the key stands there. A free place may show the words of any key.
+// The value of the key's pair at a place where the last word of the key stands. A free place may show the
+// words of any key.
 fn value_at<S: Shape>(
     row: &Row<S>,
     seat: &mut CallerSeat<S>,

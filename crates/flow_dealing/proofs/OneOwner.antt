@@ -10,33 +10,31 @@ use lib.ListN.{get_elem?}
 use mathlib.Core.Option.{some, some-injective}
 use Rattle.packet_view.specs.declared.tuple.Family.{Family}
 use Rattle.bihash_words.specs.Maps.{Event, Pairs}
-use Rattle.bihash_words.specs.Runs as events
-use Rattle.bihash_words.specs.Runs.{writes_of}
+use Rattle.bihash_words.specs.Runs.{IsRun}
 use Rattle.bihash_words.specs.Sizes.{Sizes, bucket_of}
-use Rattle.bihash_words.specs.declared.patch.Reply.{Reply}
-use Rattle.bihash_words.specs.declared.patch.Reply.TheVariants.{Kept, Changed, Worn, Full, NoPages}
 use Rattle.bihash_steps.specs.Words.{buckets}
-use Rattle.bihash_steps.specs.Histories.{bounds_of, event_of, is_changed}
+use Rattle.bihash_steps.specs.Histories.{bounds_of, event_of}
 use Rattle.bihash_steps.specs.Callers.{HasWrite, known_at, opening_at, opening_in}
 use Rattle.bihash_steps.specs.BucketSteps.{map_now}
 use Rattle.bihash_steps.specs.declared.view.Call.{Call}
 use Rattle.bihash_steps.specs.declared.view.Record.{Record}
 use Rattle.bihash_steps.specs.declared.view.View.{View}
 use Rattle.bihash_steps.proofs.Lists.{there}
-use Rattle.bihash_laws.specs.Runs.{IsOneWriter, IsRun, calls_on}
+use Rattle.bihash_laws.specs.Runs.{IsOneWriter, calls_on}
 use Rattle.bihash_laws.proofs.OneWriter.{one_map}
 use Rattle.session_state.specs.declared.flow.Flow.{Flow}
 use Rattle.session_state.specs.declared.timeouts.Timeouts.{Timeouts}
 use Rattle.flow_filter.specs.Updates.{words_of}
 use Rattle.flow_filter.specs.Judged.{AreAsked, IsAsked, Judged}
 use Rattle.flow_filter.specs.OneThread.{Home, bounds_in, events_at, family_of, home_of, same_family, sizes_in}
+use Rattle.flow_filter.proofs.HomeLemmas.{families_are_one}
 use Rattle.flow_dealing.specs.declared.dealing.Dealing.{Dealing}
 use Rattle.flow_dealing.specs.declared.dealing.Dealing.TheVariants.{Bucket}
 use Rattle.flow_dealing.specs.Dealings.{Deal, flow_in, worker_by, worker_of}
 use Rattle.flow_dealing.specs.Runs.{AreRecorded, events_by}
 use Rattle.flow_dealing.proofs.Merging.{events_by-nil, worker_few}
 use Rattle.flow_dealing.proofs.Places.{after_map}
-use Rattle.flow_dealing.proofs.PacketCalls.{IsFlowEvent, add_event-flow, add_flow, add_flow_at, asked_flow, events_by-flow, packet_of_event, same_family_sound, some_worker}
+use Rattle.flow_dealing.proofs.PacketCalls.{IsFlowEvent, add_event-flow, add_flow, add_flow_at, asked_flow, events_by-flow, packet_of_event, some_worker}
 use Rattle.flow_dealing.proofs.Refusals.{legal_call}
 
 -- ---- The worker of a bucket
@@ -79,24 +77,6 @@ on_bucket z b (c ∷ cs) home = go (c.bucket == b)
     go : (t : Bool) → map event_of (cond t (c ∷ calls_on b cs) (calls_on b cs)) ≡ cond t (event_of c ∷ map event_of (calls_on b cs)) (map event_of (calls_on b cs))
     go true = refl
     go false = refl
-
--- a run of calls is one of their events
-counts : (r : Reply) (n : ℕ) → cond (is_changed r) (n + 1) n ≡ n + writes_of r
-counts (Kept found) n = omega arith
-counts (Changed found) n = refl
-counts (Worn found) n = omega arith
-counts Full n = omega arith
-counts (NoPages log2 left) n = omega arith
-
-run_of_events : (z : Sizes) (m last : Pairs) (n writes : ℕ) (calls : List Call) → IsRun z m n calls last writes
-    → events.IsRun (bounds_of z) m n (map event_of calls) last writes
-run_of_events z m last n writes [] run = run
-run_of_events z m last n writes (c ∷ cs) run = (
-  run.0,
-  run.1,
-  subst (λ k. events.IsRun (bounds_of z) run.0 k (map event_of cs) last writes) (counts c.reply n)
-      (run_of_events z run.0 last (cond (is_changed c.reply) (n + 1) n) writes cs run.2),
-)
 
 module _ (d : Deal) (times : Timeouts) (family : Family) (b w : ℕ)
     (own : IsOwner d (record { family = family; bucket = b }) w) where
@@ -146,7 +126,7 @@ module _ (d : Deal) (times : Timeouts) (family : Family) (b w : ℕ)
           ≡ (if s && (b == (home_of d.layout flow.key).bucket) then e ∷ R else R)
       go false is at = stays (worker_of d n (Some flow) == w)
       go true is (inl (test, here)) =
-          let inside : family_of flow.key ≡ family = sym (same_family_sound family (family_of flow.key) is) in
+          let inside : family_of flow.key ≡ family = sym (families_are_one family (family_of flow.key) is) in
           let its_bucket : bucket_of z e.key ≡ b = of_key inside ∙ sym here in
           let mine : (worker_of d n (Some flow) == w) ≡ true = elim (eqb_tells (worker_of d n (Some flow)) w) [
             | inl (hit, _) ↦ hit
@@ -160,7 +140,7 @@ module _ (d : Deal) (times : Timeouts) (family : Family) (b w : ℕ)
           ∙ (ap (λ t. cond t (e ∷ events_on z b E) (events_on z b E)) hit
           ∙ (ap (λ es. e ∷ es) same ∙ ap (λ t. if t then e ∷ R else R) (sym test)))
       go true is (inr (test, apart)) =
-          let inside : family_of flow.key ≡ family = sym (same_family_sound family (family_of flow.key) is) in
+          let inside : family_of flow.key ≡ family = sym (families_are_one family (family_of flow.key) is) in
           let miss : (bucket_of z e.key == b) ≡ false = elim (eqb_tells (bucket_of z e.key) b) [
             | inl (hit, here) ↦ absurd (apart (sym here ∙ of_key inside))
             | inr (miss, _) ↦ miss
@@ -194,7 +174,7 @@ module _ (d : Deal) (times : Timeouts) (family : Family) (b w : ℕ)
         sym m.3 ∙ ap (λ (y : Record). y.number) same
 
     pub runs_at : (last : Pairs) × (writes : ℕ)
-        × events.IsRun (bounds_in d.layout family) empty 0 (events_at d.layout times home js) last writes
+        × IsRun (bounds_in d.layout family) empty 0 (events_at d.layout times home js) last writes
     runs_at =
         let r = there v.records w (let few = own.few in let count = recorded.count in omega arith) in
         let run = one_map z v w b r.0 recorded.lawful r.1 inside (one_writer r.0 r.1) in
@@ -204,7 +184,6 @@ module _ (d : Deal) (times : Timeouts) (family : Family) (b w : ℕ)
         let start : opening_at v.known b ≡ empty = ap (λ openings. opening_in openings b) recorded.openings in (
           map_now v b,
           length (known_at v.known b),
-          subst (λ es. events.IsRun (bounds_of z) empty 0 es (map_now v b) (length (known_at v.known b))) its
-              (subst (λ m. events.IsRun (bounds_of z) m 0 (map event_of (calls_on b r.0.calls)) (map_now v b) (length (known_at v.known b))) start
-              (run_of_events z (opening_at v.known b) (map_now v b) 0 (length (known_at v.known b)) (calls_on b r.0.calls) run)),
+          subst (λ es. IsRun (bounds_of z) empty 0 es (map_now v b) (length (known_at v.known b))) its
+              (subst (λ m. IsRun (bounds_of z) m 0 (map event_of (calls_on b r.0.calls)) (map_now v b) (length (known_at v.known b))) start run),
         )

@@ -1,23 +1,22 @@
 -- Buckets of both families' tables.
-use Rattle.std.proofs.Common.{◌≡◌, ◌<◌, ◌∙◌, ◌^◌, ◌%◌, ℕ, Bool, true, false, refl, sym, ap, ap₂}
+use Rattle.std.proofs.Common.{◌≡◌, true, refl, ap₂}
 use Rattle.std.proofs.Math.Nat.{mod-lt}
 use Rattle.std.proofs.lemmas.Bool.{and_from, and_parts, eq-eqb, eqb-true}
 use Rattle.std.proofs.lemmas.Nat.{pow_pos}
-use Rattle.std.specs.Prelude.{◌==◌, ◌&&◌}
+use Rattle.std.specs.Prelude.{◌==◌}
 use Rattle.packet_view.specs.declared.tuple.Family.{Family}
 use Rattle.packet_view.specs.declared.tuple.Family.TheVariants.{V4, V6}
-use Rattle.bihash_words.specs.Sizes.{bucket_of}
 use Rattle.session_state.specs.declared.flow.FlowKey.{FlowKey}
 use Rattle.flow_filter.specs.Updates.{words_of}
 use Rattle.flow_filter.specs.OneThread.{Home, IsHome, Layout, family_of, home_of, same_family, same_home, sizes_in}
 
-families_are_one : (a b : Family) → same_family a b ≡ true → a ≡ b
+pub families_are_one : (a b : Family) → same_family a b ≡ true → a ≡ b
 families_are_one V4 V4 same = refl
 families_are_one V4 V6 same = let f : ⊥ = cc in absurd f
 families_are_one V6 V4 same = let f : ⊥ = cc in absurd f
 families_are_one V6 V6 same = refl
 
-family_as_itself : (a : Family) → same_family a a ≡ true
+pub family_as_itself : (a : Family) → same_family a a ≡ true
 family_as_itself V4 = refl
 family_as_itself V6 = refl
 

@@ -68,7 +68,7 @@ placed l times opening before after j u thread is =
     let (e, at, of) : IsAskedBy (Some u) j.event = subst (λ u. IsAskedBy u j.event) is asked in
     let home : Home = home_of l u.key in
     let (last, writes, run) : Runs (bounds_in l home.family) (opening home) 0
-        (events_at l times home before ++ e ∷ events_at l times home after) =
+    (events_at l times home before ++ e ∷ events_at l times home after) =
     subst (Runs (bounds_in l home.family) (opening home) 0)
     (events_append l times home before (j ∷ after) ∙ ap (λ es. events_at l times home before ++ es) (own_events l times u e j after is at))
     (thread.runs home (is_home l u.key)) in
@@ -81,11 +81,13 @@ leaves_behind : (l : Layout) (times : Timeouts) (opening : Home → Pairs) (befo
     → update_of times j.reading ≡ Some u → (p : IsPlaced l times opening before j u)
     → Leave l times opening (before ++ j ∷ []) (home_of l u.key) p.leaves
 leaves_behind l times opening before j u is p =
-    let home : Home = home_of l u.key in
-    (p.count + writes_of p.event.reply, subst (λ es. IsRun (bounds_in l home.family) (opening home) 0 es p.leaves (p.count + writes_of p.event.reply))
-    (sym (events_append l times home before (j ∷ [])
-    ∙ ap (λ es. events_at l times home before ++ es) (own_events l times u p.event j [] is p.is)))
-    (run_push (bounds_in l home.family) (opening home) p.left p.leaves 0 p.count (events_at l times home before) p.event p.before_it p.step))
+    let home : Home = home_of l u.key in (
+      p.count + writes_of p.event.reply,
+      subst (λ es. IsRun (bounds_in l home.family) (opening home) 0 es p.leaves (p.count + writes_of p.event.reply))
+          (sym (events_append l times home before (j ∷ [])
+          ∙ ap (λ es. events_at l times home before ++ es) (own_events l times u p.event j [] is p.is)))
+          (run_push (bounds_in l home.family) (opening home) p.left p.leaves 0 p.count (events_at l times home before) p.event p.before_it p.step),
+    )
 
 pub pass_in_order : (l : Layout) (times : Timeouts) (opening : Home → Pairs) (before after : List Judged) (j : Judged) (moment : ℕ)
     (tuple : Facts) (ruling : Ruling) (u : Update) → IsOneThread l times opening (before ++ j ∷ after)
@@ -97,6 +99,10 @@ pass_in_order l times opening before after j moment tuple ruling u thread reads 
     let same : verdict_on times j ≡ verdict_with times (Ruled moment tuple ruling) (Some p.event) =
     ap₂ (λ r e. verdict_with times r e) reads p.is in
     let passing = pass_by_reading times moment tuple ruling u (bounds_in l (home_of l u.key).family) p.left p.leaves p.count p.event
-    (ap (update_of times) (sym reads) ∙ is) p.of p.step in
-    (p.left, p.leaves, (p.count, p.before_it), leaves_behind l times opening before j u is p,
-    subst (λ v. (passes v ≡ true) ↔ (HoldsLive u p.left ⊎ LetsThrough u p.leaves ruling)) (sym same) passing)
+    (ap (update_of times) (sym reads) ∙ is) p.of p.step in (
+      p.left,
+      p.leaves,
+      (p.count, p.before_it),
+      leaves_behind l times opening before j u is p,
+      subst (λ v. (passes v ≡ true) ↔ (HoldsLive u p.left ⊎ LetsThrough u p.leaves ruling)) (sym same) passing,
+    )

@@ -1,10 +1,9 @@
 -- A packet goes through exactly where a rule lets it through or its session is live.
-use Rattle.std.proofs.Common.{◌≡◌, ◌⊎◌, ◌∙◌, ◌&&◌, ◌+◌, ℕ, Bool, true, false, Option, Some, None, ap, sym, refl, subst, inl, inr}
+use Rattle.std.proofs.Common.{◌≡◌, ◌⊎◌, ◌∙◌, ◌+◌, ℕ, Bool, true, false, Option, Some, None, ap, sym, refl, subst, inl, inr}
 use Rattle.std.specs.FinMap.{get}
 use Rattle.std.specs.Prelude.{◌↔◌, if◌then◌else◌, is_some, option_map}
 use Rattle.std.proofs.lemmas.Bool.{and_parts}
 use Rattle.packet_view.specs.Tuples.{Facts}
-use Rattle.acl_policy.specs.declared.rule.Action.{Action}
 use Rattle.acl_policy.specs.declared.rule.Action.TheVariants.{Deny, Permit, Reflect}
 use Rattle.bihash_words.specs.Maps.{Bounds, Event, Pairs, Step}
 use Rattle.bihash_words.specs.declared.patch.Change.TheVariants.{Set}
@@ -103,19 +102,23 @@ pass_by_event u ruling b m n w e of step rules = go (is_live_for u.patch e.found
   where
     found_is : e.found ≡ get m (words_of u.key)
     found_is = step.found ∙ ap (get m) of.key
+
     told : (is_live_for u.patch e.found ≡ true) ↔ HoldsLive u m
     told = subst (λ found. (is_live_for u.patch e.found ≡ true) ↔ ((session : SessionFacts) × IsLiveFor u.patch found session))
         found_is (live_told u.patch e.found)
+
     go : (live : Bool) → is_live_for u.patch e.found ≡ live
         → (passes (verdict_of u.patch ruling e.found e.reply) ≡ true) ↔ (HoldsLive u m ⊎ LetsThrough u n ruling)
     go true is = (λ p. inl (told.0 is), λ h. ap (λ t. passes (verdict_by_session t u ruling e)) is)
     go false is =
         let same = ap (λ t. passes (verdict_by_session t u ruling e)) is in
-        let rest = unlive u ruling u.patch.reflects n e.reply refl rules (taken_starts u b m n w e of step is) in
-        (λ p. inr (rest.0 (sym same ∙ p)), λ h. elim h [
-          | inl live ↦ let clash = sym (told.1 live) ∙ is in let f : ⊥ = cc in absurd f
-          | inr lets ↦ same ∙ rest.1 lets
-        ])
+        let rest = unlive u ruling u.patch.reflects n e.reply refl rules (taken_starts u b m n w e of step is) in (
+          λ p. inr (rest.0 (sym same ∙ p)),
+          λ h. elim h [
+            | inl live ↦ let clash = sym (told.1 live) ∙ is in let f : ⊥ = cc in absurd f
+            | inr lets ↦ same ∙ rest.1 lets
+          ],
+        )
 
 -- the same of a reading
 pub pass_by_reading : (times : Timeouts) (moment : ℕ) (tuple : Facts) (ruling : Ruling) (u : Update) (b : Bounds) (m n : Pairs)

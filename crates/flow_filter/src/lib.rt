@@ -23,3 +23,6 @@ pub use prepared_rules::PreparedRules;
 pub use ruleset::Ruleset;
 pub use verdict::Verdict;
 pub use verdicts::verdict_of_rules;
+
+#[cfg(test)]
+mod tests;

@@ -15,7 +15,7 @@ use Rattle.bihash_table.specs.Promise.{IsAnswered, IsUpdated}
 use Rattle.bihash_table.specs.Shortage.{IsShortage}
 use Rattle.bihash_laws.specs.Runs.{IsLawfulAnswer}
 use Rattle.bihash_laws.proofs.AnsweredCalls.{legal}
-use Rattle.flow_workers.specs.Judging.{told}
+use Rattle.flow_workers.specs.Updates.{told}
 
 found_in : (z : Sizes) (v w : View) (e : Event) → IsAnswered z v w e → IsLawfulCaller z w → e.found ≡ found_by e.reply
 found_in z v w e answered lawful = go (is_changed e.reply) refl

@@ -17,8 +17,9 @@ use Rattle.flow_filter.specs.Judged.{IsAskedBy, verdict_by_event, verdict_with}
 use Rattle.flow_filter.specs.OneThread.{Layout}
 use Rattle.flow_dealing.specs.Views.{Views}
 use Rattle.flow_workers.specs.declared.viewed_packet.ViewedPacket.{ViewedPacket}
-use Rattle.flow_workers.specs.Judging.{IsAway, IsEntered, IsEnteredBy, IsJudged, IsRefused, told}
+use Rattle.flow_workers.specs.Judging.{IsAway, IsEntered, IsEnteredBy, IsJudged, IsRefused}
 use Rattle.flow_workers.specs.Preparing.{IsRuling, reading_with}
+use Rattle.flow_workers.specs.Updates.{told}
 use Rattle.flow_workers.specs.ViewedPackets.{IsViewed}
 
 -- what the rules say of a packet, where they are asked

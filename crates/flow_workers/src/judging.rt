@@ -3,13 +3,10 @@ ghost use Rattle.std.specs.Prelude.{◌≡◌, true, IfOk, IfErr, is_ok};
 ghost use Rattle.packet_view.specs.Captures.{Seen, seen};
 ghost use Rattle.packet_view.specs.Frames.{viewed};
 ghost use Rattle.acl_policy.specs.Policies.{policy_facts};
-ghost use Rattle.flow_filter.specs.declared.verdict.Verdict.TheVariants.{NoPages};
 ghost use Rattle.flow_filter.specs.Filters.{policy_in};
-ghost use Rattle.flow_filter.specs.OneThread.{layout_of};
-ghost use Rattle.flow_workers.specs.Callers.{AreIdle, AreSame, AreShapes, views_of};
-ghost use Rattle.flow_workers.specs.Judging.{IsJudged, IsRefused};
+ghost use Rattle.flow_workers.specs.Callers.{AreIdle, AreSame, AreShapes};
 ghost use Rattle.flow_workers.specs.Preparing.{IsRuling};
-ghost use Rattle.flow_workers.specs.Shortages.{IsShort};
+ghost use Rattle.flow_workers.specs.Verdicts.{HasNoVerdict, HasVerdict, ShowsShortage};
 ghost use Rattle.flow_workers.specs.ViewedPackets.{IsViewed};
 
 use crate::prepared::Prepared;
@@ -36,13 +33,11 @@ fn try_judge_as<A: Shape, B: Shape, D: HasRuling>(
     ensures same { AreSame ⟦<A as Shape>⟧ ⟦<B as Shape>⟧ callers.old callers.new }
     ensures idle { AreIdle ⟦<A as Shape>⟧ ⟦<B as Shape>⟧ tables.now callers.new }
     ensures judged { IfOk result (λ verdict. (s : Seen) → IsViewed filter.now.own s packet.now
-        → IsJudged (layout_of ⟦<A as Shape>⟧ ⟦<B as Shape>⟧) filter.now.times (policy_in filter.now) s
-        (views_of ⟦<A as Shape>⟧ ⟦<B as Shape>⟧ callers.old) (views_of ⟦<A as Shape>⟧ ⟦<B as Shape>⟧ callers.new) verdict) }
-    ensures no_pages { IfOk result (λ verdict. (s : Seen) → IsViewed filter.now.own s packet.now → verdict ≡ NoPages
-        → IsShort ⟦<A as Shape>⟧ ⟦<B as Shape>⟧ filter.now.own s (views_of ⟦<A as Shape>⟧ ⟦<B as Shape>⟧ callers.new)) }
+        → HasVerdict ⟦<A as Shape>⟧ ⟦<B as Shape>⟧ filter.now.times (policy_in filter.now) s callers.old callers.new verdict) }
+    ensures no_pages { IfOk result (λ verdict. (s : Seen) → IsViewed filter.now.own s packet.now
+        → ShowsShortage ⟦<A as Shape>⟧ ⟦<B as Shape>⟧ (policy_in filter.now) s callers.new verdict) }
     ensures refused { IfErr result (λ _. (s : Seen) → IsViewed filter.now.own s packet.now
-        → IsRefused (layout_of ⟦<A as Shape>⟧ ⟦<B as Shape>⟧) filter.now.times (policy_in filter.now) s
-        (views_of ⟦<A as Shape>⟧ ⟦<B as Shape>⟧ callers.old) (views_of ⟦<A as Shape>⟧ ⟦<B as Shape>⟧ callers.new)) }
+        → HasNoVerdict ⟦<A as Shape>⟧ ⟦<B as Shape>⟧ filter.now.times (policy_in filter.now) s callers.old callers.new) }
     ensures lone { callers.old.four.seat.view.lone ≡ true → callers.old.six.seat.view.lone ≡ true
         → is_ok result ≡ true }
 {
@@ -69,10 +64,9 @@ fn judge_as<A: Shape, B: Shape, D: HasRuling, R: Wait>(
     ensures same { AreSame ⟦<A as Shape>⟧ ⟦<B as Shape>⟧ callers.old callers.new }
     ensures idle { AreIdle ⟦<A as Shape>⟧ ⟦<B as Shape>⟧ tables.now callers.new }
     ensures judged { (s : Seen) → IsViewed filter.now.own s packet.now
-        → IsJudged (layout_of ⟦<A as Shape>⟧ ⟦<B as Shape>⟧) filter.now.times (policy_in filter.now) s
-        (views_of ⟦<A as Shape>⟧ ⟦<B as Shape>⟧ callers.old) (views_of ⟦<A as Shape>⟧ ⟦<B as Shape>⟧ callers.new) result }
-    ensures no_pages { (s : Seen) → IsViewed filter.now.own s packet.now → result ≡ NoPages
-        → IsShort ⟦<A as Shape>⟧ ⟦<B as Shape>⟧ filter.now.own s (views_of ⟦<A as Shape>⟧ ⟦<B as Shape>⟧ callers.new) }
+        → HasVerdict ⟦<A as Shape>⟧ ⟦<B as Shape>⟧ filter.now.times (policy_in filter.now) s callers.old callers.new result }
+    ensures no_pages { (s : Seen) → IsViewed filter.now.own s packet.now
+        → ShowsShortage ⟦<A as Shape>⟧ ⟦<B as Shape>⟧ (policy_in filter.now) s callers.new result }
 {
     match Prepared::<D>::new(filter, packet) {
         Prepared::Settled(verdict) => verdict,
@@ -96,10 +90,9 @@ pub fn judge_viewed<A: Shape, B: Shape, R: Wait>(
     ensures same { AreSame ⟦<A as Shape>⟧ ⟦<B as Shape>⟧ callers.old callers.new }
     ensures idle { AreIdle ⟦<A as Shape>⟧ ⟦<B as Shape>⟧ tables.now callers.new }
     ensures judged { (s : Seen) → IsViewed filter.now.own s packet.now
-        → IsJudged (layout_of ⟦<A as Shape>⟧ ⟦<B as Shape>⟧) filter.now.times (policy_in filter.now) s
-        (views_of ⟦<A as Shape>⟧ ⟦<B as Shape>⟧ callers.old) (views_of ⟦<A as Shape>⟧ ⟦<B as Shape>⟧ callers.new) result }
-    ensures no_pages { (s : Seen) → IsViewed filter.now.own s packet.now → result ≡ NoPages
-        → IsShort ⟦<A as Shape>⟧ ⟦<B as Shape>⟧ filter.now.own s (views_of ⟦<A as Shape>⟧ ⟦<B as Shape>⟧ callers.new) }
+        → HasVerdict ⟦<A as Shape>⟧ ⟦<B as Shape>⟧ filter.now.times (policy_in filter.now) s callers.old callers.new result }
+    ensures no_pages { (s : Seen) → IsViewed filter.now.own s packet.now
+        → ShowsShortage ⟦<A as Shape>⟧ ⟦<B as Shape>⟧ (policy_in filter.now) s callers.new result }
 {
     judge_as::<A, B, Brand, R>(rt, filter, tables, callers, packet)
 }
@@ -116,10 +109,10 @@ pub fn judge<A: Shape, B: Shape, R: Wait>(
     requires idle { AreIdle ⟦<A as Shape>⟧ ⟦<B as Shape>⟧ tables.now callers.old }
     ensures same { AreSame ⟦<A as Shape>⟧ ⟦<B as Shape>⟧ callers.old callers.new }
     ensures idle { AreIdle ⟦<A as Shape>⟧ ⟦<B as Shape>⟧ tables.now callers.new }
-    ensures judged { IsJudged (layout_of ⟦<A as Shape>⟧ ⟦<B as Shape>⟧) filter.now.times (policy_facts filter.now.policy)
-        (seen packet.now) (views_of ⟦<A as Shape>⟧ ⟦<B as Shape>⟧ callers.old) (views_of ⟦<A as Shape>⟧ ⟦<B as Shape>⟧ callers.new) result }
-    ensures no_pages { result ≡ NoPages
-        → IsShort ⟦<A as Shape>⟧ ⟦<B as Shape>⟧ filter.now.policy.own (seen packet.now) (views_of ⟦<A as Shape>⟧ ⟦<B as Shape>⟧ callers.new) }
+    ensures judged { HasVerdict ⟦<A as Shape>⟧ ⟦<B as Shape>⟧ filter.now.times (policy_facts filter.now.policy) (seen packet.now)
+        callers.old callers.new result }
+    ensures no_pages { ShowsShortage ⟦<A as Shape>⟧ ⟦<B as Shape>⟧ (policy_facts filter.now.policy) (seen packet.now)
+        callers.new result }
 {
     let filter = filter.ready();
     let packet = ViewedPacket::new(packet, filter.own);
@@ -138,14 +131,12 @@ pub fn try_judge<A: Shape, B: Shape>(
     requires idle { AreIdle ⟦<A as Shape>⟧ ⟦<B as Shape>⟧ tables.now callers.old }
     ensures same { AreSame ⟦<A as Shape>⟧ ⟦<B as Shape>⟧ callers.old callers.new }
     ensures idle { AreIdle ⟦<A as Shape>⟧ ⟦<B as Shape>⟧ tables.now callers.new }
-    ensures judged { IfOk result (λ verdict. IsJudged (layout_of ⟦<A as Shape>⟧ ⟦<B as Shape>⟧) filter.now.times
-        (policy_facts filter.now.policy) (seen packet.now)
-        (views_of ⟦<A as Shape>⟧ ⟦<B as Shape>⟧ callers.old) (views_of ⟦<A as Shape>⟧ ⟦<B as Shape>⟧ callers.new) verdict) }
-    ensures no_pages { IfOk result (λ verdict. verdict ≡ NoPages
-        → IsShort ⟦<A as Shape>⟧ ⟦<B as Shape>⟧ filter.now.policy.own (seen packet.now) (views_of ⟦<A as Shape>⟧ ⟦<B as Shape>⟧ callers.new)) }
-    ensures refused { IfErr result (λ _. IsRefused (layout_of ⟦<A as Shape>⟧ ⟦<B as Shape>⟧) filter.now.times
-        (policy_facts filter.now.policy) (seen packet.now)
-        (views_of ⟦<A as Shape>⟧ ⟦<B as Shape>⟧ callers.old) (views_of ⟦<A as Shape>⟧ ⟦<B as Shape>⟧ callers.new)) }
+    ensures judged { IfOk result (HasVerdict ⟦<A as Shape>⟧ ⟦<B as Shape>⟧ filter.now.times (policy_facts filter.now.policy)
+        (seen packet.now) callers.old callers.new) }
+    ensures no_pages { IfOk result (ShowsShortage ⟦<A as Shape>⟧ ⟦<B as Shape>⟧ (policy_facts filter.now.policy)
+        (seen packet.now) callers.new) }
+    ensures refused { IfErr result (λ _. HasNoVerdict ⟦<A as Shape>⟧ ⟦<B as Shape>⟧ filter.now.times (policy_facts filter.now.policy)
+        (seen packet.now) callers.old callers.new) }
     ensures lone { callers.old.four.seat.view.lone ≡ true → callers.old.six.seat.view.lone ≡ true
         → is_ok result ≡ true }
 {

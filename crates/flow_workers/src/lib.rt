@@ -3,11 +3,19 @@
 
 mod gate;
 mod judging;
+mod numbers;
+mod parts;
+mod placing;
 mod prepared;
 mod run_fault;
+mod share;
 mod tables;
+mod task;
+mod turn;
 mod updates;
 mod viewed_packet;
+mod work;
+mod workers;
 
 pub use flow_dealing::Dealing;
 pub use flow_filter::{Filter, Verdict};

@@ -10,8 +10,9 @@ ghost use Rattle.bihash_table.specs.Shortage.{IsShortage};
 ghost use Rattle.flow_filter.specs.OneThread.{layout_of};
 ghost use Rattle.flow_filter.specs.Updates.{words_of};
 ghost use Rattle.flow_workers.specs.Callers.{AreIdle, AreSame, AreShapes, views_of};
-ghost use Rattle.flow_workers.specs.Judging.{IsAway, IsEntered, told};
+ghost use Rattle.flow_workers.specs.Judging.{IsAway, IsEntered};
 ghost use Rattle.flow_workers.specs.Shortages.{IsShortAt};
+ghost use Rattle.flow_workers.specs.Updates.{told};
 
 use crate::tables::{Callers, Tables};
 use bihash_table::{Caller, Contended, Sessions};

@@ -136,3 +136,34 @@ fn reflecting_rule_enters_a_session(rt: HostRuntime) {
         })
     );
 }
+
+#[test]
+fn reflecting_rule_without_place_drops(rt: HostRuntime) {
+    let refused = [
+        (Reply::Worn(None), Verdict::Worn),
+        (Reply::Full, Verdict::Full),
+        (Reply::NoPages { log2: 1, left: 1 }, Verdict::NoPages),
+    ];
+    for (reply, verdict) in refused {
+        assert_eq!(rt;
+            udp_outcome(Action::Reflect, 7, reply, None),
+            Some(Outcome {
+                change: Change::Set(7),
+                asked: true,
+                verdict,
+            })
+        );
+    }
+}
+
+#[test]
+fn permitted_packet_starts_no_session(rt: HostRuntime) {
+    assert_eq!(rt;
+        udp_outcome(Action::Permit, 7, Reply::Kept(None), None),
+        Some(Outcome {
+            change: Change::Keep,
+            asked: true,
+            verdict: Verdict::Permit(1),
+        })
+    );
+}
