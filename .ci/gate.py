@@ -109,8 +109,8 @@ def main():
     counts = [gate]
     if is_there:
         built = [PROGRAM if it == "./racl" else it for it in programs]
-        for command in (["checks/launcher"], ["checks/run", *programs], ["checks/refused_memory", *built]):
-            counts.append(counted(*followed(command, lambda _: None)))
+        checks = (["checks/documents"], ["checks/launcher"], ["checks/run", *programs], ["checks/refused_memory", *built])
+        counts += [counted(*followed(it, lambda _: None)) for it in checks]
     else:
         counts.append((0, 1))
     times.tell(total, ended.children_user + ended.children_system)

@@ -266,11 +266,16 @@ fn fields(rt: HostRuntime) {
     }
 }
 
+/// Asks nothing but that threads may share a value.
+fn shared<T: Sync>(value: &T) -> &T {
+    value
+}
+
 /// No rules, and the first of several equal ones, in the second word of the rows too.
 #[test]
 fn first_of_equal_rules(rt: HostRuntime) {
     let none = RuleIndex::new(rt.alloc(), &[]).expect(&rt, "memory");
-    assert_eq!(rt; none.first_match(&fragment4(6)), None);
+    assert_eq!(rt; shared(&none).first_match(&fragment4(6)), None);
     let mut rules = Vec::new(rt.alloc());
     for _ in 0..70u8 {
         rules
