@@ -7,7 +7,14 @@ use crate::{Filter, PacketFlow, Verdict, verdict_of_rules};
 use acl_policy::{Action, read_policy};
 use packet_view::{Direction, Family, Fields, Mac, Tuple};
 use session_state::{Flow, FlowKey, Timeouts};
+use std::alloc::{AllocError, Global};
 use std::test::Fail;
+
+const TIMES: Timeouts = Timeouts {
+    established: 86400,
+    transient: 120,
+    udp: 600,
+};
 
 /// From 10.0.0.2 to 10.0.0.1.
 fn tuple(proto: u8, fields: Fields) -> Tuple
@@ -30,11 +37,7 @@ fn each_direction_has_its_rules(rt: HostRuntime) -> Result<(), Fail> {
         out permit+reflect ipv4 any any udp\n";
     let filter = Filter {
         policy: read_policy(rt.alloc(), text)?,
-        times: Timeouts {
-            established: 86400,
-            transient: 120,
-            udp: 600,
-        },
+        times: TIMES,
     };
     let ready = filter.ready();
     assert_eq!(rt; ready.own, Some(Mac([2, 0, 0, 10, 11, 255])));
@@ -44,6 +47,37 @@ fn each_direction_has_its_rules(rt: HostRuntime) -> Result<(), Fail> {
     let outbound = ready.rules_of(Direction::Outbound);
     assert_eq!(rt; inbound.first_match(&udp), Some((0, Action::Permit)));
     assert_eq!(rt; outbound.first_match(&udp), Some((1, Action::Reflect)));
+    Ok(())
+}
+
+/// 70 times `in deny ipv4 any any tcp`, and then a rule for UDP.
+fn many_rules(alloc: Global) -> Result<Vec<u8>, AllocError> {
+    let mut text = Vec::new(alloc);
+    for _ in 0..70 {
+        text.extend_from_slice(b"in deny ipv4 any any tcp\n")?;
+    }
+    text.extend_from_slice(b"in permit ipv4 any any udp\n")?;
+    Ok(text)
+}
+
+#[test]
+fn prepared_rules_decide_as_the_listed_ones(rt: HostRuntime) -> Result<(), Fail> {
+    let text = many_rules(rt.alloc())?;
+    let filter = Filter {
+        policy: read_policy(rt.alloc(), text.as_slice())?,
+        times: TIMES,
+    };
+    let prepared = filter.prepare(rt.alloc(), 10_000)?;
+    assert!(rt; prepared.inbound.is_some());
+    assert!(rt; prepared.outbound.is_none());
+    let udp = tuple(17, Fields::Ports { from: 80, to: 1000 });
+    let listed = filter.ready().rules_of(Direction::Inbound);
+    assert_eq!(rt; listed.first_match(&udp), Some((70, Action::Permit)));
+    let ready = filter.ready_with(&prepared);
+    let indexed = ready.rules_of(Direction::Inbound);
+    assert_eq!(rt; indexed.first_match(&udp), Some((70, Action::Permit)));
+    let outbound = ready.rules_of(Direction::Outbound);
+    assert_eq!(rt; outbound.first_match(&udp), None);
     Ok(())
 }
 
