@@ -1,6 +1,6 @@
 -- A larger block that was planned and laid out from what was read of a bucket: what it is without the lock, and
 -- behind it.
-use Rattle.std.proofs.Common.{◌≡◌, ◌≢◌, ◌∙◌, ◌<◌, ◌≤◌, ℕ, Bool, List, Option, None, subst, sym, length}
+use Rattle.std.proofs.Common.{◌≡◌, ◌≢◌, ◌<◌, ◌≤◌, ℕ, Bool, List, None, subst, sym}
 use Rattle.std.specs.FinMap.{get, insert, len}
 use Rattle.bihash_words.specs.declared.shape.Shape.{Ghosts}
 use Rattle.bihash_words.specs.Maps.{most_pairs}
@@ -16,7 +16,6 @@ use Rattle.bihash_plan.specs.declared.outcome.Plan.TheVariants.{Grow}
 use Rattle.bihash_steps.specs.Histories.{bounds_of}
 use Rattle.bihash_steps.specs.Blocks.{IsBlockOf}
 use Rattle.bihash_steps.specs.BucketSteps.{map_now}
-use Rattle.bihash_steps.specs.declared.view.Extent.{Extent}
 use Rattle.bihash_steps.specs.declared.view.LockedBucket.{LockedBucket}
 use Rattle.bihash_steps.specs.declared.view.PageStore.{PageStore}
 use Rattle.bihash_steps.specs.declared.view.View.{View}

@@ -4,7 +4,7 @@ use Rattle.std.specs.FinMap.{get, len}
 use Rattle.std.proofs.lemmas.Option.{slice_get-get_or}
 use Rattle.bihash_words.specs.declared.shape.Shape.{Ghosts}
 use Rattle.bihash_words.specs.Maps.{Pairs, most_pairs}
-use Rattle.bihash_words.specs.Sizes.{Sizes, sizes_of}
+use Rattle.bihash_words.specs.Sizes.{sizes_of}
 use Rattle.bihash_plan.specs.Blocks.{HasKey, IsCrowded, IsFree, IsLawfulBlock, IsNew, IsOpen}
 use Rattle.bihash_plan.specs.Layouts.{IsNamed}
 use Rattle.bihash_plan.specs.Pages.{Paging, page_of, paging_of}

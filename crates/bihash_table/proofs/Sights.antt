@@ -1,31 +1,26 @@
 -- A bucket that was seen without its lock: what reads add to it, its lock, and answers without the lock.
-use Rattle.std.proofs.Common.{◌≡◌, ◌∙◌, ℕ, ◌+◌, ◌^◌, ◌<◌, ◌≤◌, true, false, List, [], ◌∷◌, ◌++◌, length, le_refl, set, refl, sym, ap, subst, arith, Option, Some}
+use Rattle.std.proofs.Common.{◌≡◌, ◌∙◌, ℕ, ◌+◌, ◌≤◌, false, List, [], ◌∷◌, length, le_refl, set, refl, sym, ap, subst, arith, Some}
 use lib.Seq.{set-get_or}
 use Rattle.bihash_words.specs.Maps.{Pairs, Event, Step}
 use Rattle.bihash_words.specs.Sizes.{Sizes}
-use Rattle.bihash_words.specs.Words.{Bucket, Fits, packed}
-use Rattle.bihash_words.specs.declared.patch.Change.{Change}
-use Rattle.bihash_words.specs.declared.patch.Reply.{Reply}
+use Rattle.bihash_words.specs.Words.{Fits, packed}
 use Rattle.bihash_words.specs.declared.patch.Reply.TheVariants.{NoPages}
-use Rattle.bihash_steps.specs.Histories.{IsPrefix, IsKeyOf, IsWriteList, bounds_of, bucket_of, is_changed}
-use Rattle.bihash_steps.specs.Callers.{known_at, opening_at}
-use Rattle.bihash_steps.specs.Blocks.{IsBlockOf}
-use Rattle.bihash_steps.specs.Buckets.{Reads, word_of, open_word}
+use Rattle.bihash_steps.specs.Histories.{IsPrefix, IsKeyOf, bounds_of, bucket_of, is_changed}
+use Rattle.bihash_steps.specs.Callers.{known_at}
+use Rattle.bihash_steps.specs.Buckets.{Reads, word_of}
 use Rattle.bihash_steps.specs.Views.{nothing_held, no_notes}
-use Rattle.bihash_steps.specs.BucketSteps.{learned, push_call, map_now, reading, read_more, TakesLock, RestsOn, MayValidate, validated, call_of, unnoted}
+use Rattle.bihash_steps.specs.BucketSteps.{learned, push_call, map_now, reading, TakesLock, RestsOn, MayValidate, validated, call_of}
 use Rattle.bihash_steps.specs.declared.view.Write.{Write}
 use Rattle.bihash_steps.specs.declared.view.Call.{Call}
 use Rattle.bihash_steps.specs.declared.view.Record.{Record}
 use Rattle.bihash_steps.specs.declared.view.Extent.{Extent}
-use Rattle.bihash_steps.specs.declared.view.Holdings.{Holdings}
 use Rattle.bihash_steps.specs.declared.view.LockedBucket.{LockedBucket}
 use Rattle.bihash_steps.specs.declared.view.OpenBucket.{OpenBucket}
 use Rattle.bihash_steps.specs.declared.view.View.{View}
 use Rattle.bihash_steps.proofs.Prefixes.{prefix_refl}
 use Rattle.bihash_table.specs.Answers.{entry_of, locks_of, own_writes, with_locks}
-use Rattle.bihash_table.specs.Promise.{IsAnswered, IsTurnedAway}
-use Rattle.bihash_table.specs.Locked.{HasLock, IsLocked}
-use Rattle.bihash_table.specs.OpenReads.{HasOpen, IsOpened, NotesBlock, Saw}
+use Rattle.bihash_table.specs.Promise.{IsAnswered}
+use Rattle.bihash_table.specs.OpenReads.{HasOpen, IsOpened, Saw}
 use Rattle.bihash_table.specs.Seen.{HasSeen, LocksSeen}
 use Rattle.bihash_table.proofs.Composed.{IsAhead}
 use Rattle.bihash_table.proofs.Opened.{locked_behind, reads_rest, rests_here, same_known, same_map}

@@ -97,6 +97,20 @@ module _ (z : Sizes) (v : View) (b word : ℕ) (l : LockedBucket) (has : HasLock
       inside = inside;
     }
 
+    -- the next word stands there already
+    pub stored_same : (n : ℕ) → n ≡ slice_index h.now (i * place_words z + k) → n ≡ slice_index key k → HasStored z v w l i key (k + 1)
+    stored_same n there is = record {
+      now = h.now;
+      stored = h.stored;
+      is = h.is;
+      placed = h.placed;
+      words = λ j below. ⊎_elim
+          (λ (here : j ≡ k). ap (λ (m : ℕ). slice_index h.now (i * place_words z + m)) here
+          ∙ (sym there ∙ (is ∙ ap (slice_index key) (sym here))))
+          (λ (other : j ≢ k). h.words j (omega arith))
+          (cases_eq j k);
+    }
+
     within : (j : ℕ) → j ≤ z.key_words → i * place_words z + j < length h.now
     within j small = let at : ℕ = i * place_words z in
         omega (arith, place_inside z l.extent.page l.extent.log2 i j inside (omega arith), has.size, h.placed.size)

@@ -1,7 +1,6 @@
 -- One try of an update: answered without the lock, turned away, or answered behind the lock.
-use Rattle.std.proofs.Common.{◌≡◌, ◌≢◌, ◌∙◌, ◌<◌, ℕ, Bool, true, false, true≢false, length, List, Option, Some, None, Result, Ok, Err, refl, sym, ap, subst, eq-eqb}
+use Rattle.std.proofs.Common.{◌≡◌, ◌≢◌, ◌∙◌, ℕ, Bool, true, false, true≢false, List, Option, Some, Result, Ok, Err, refl, sym, ap, subst, eq-eqb}
 use Rattle.std.specs.Prelude.{IfOk, IfErr, is_ok, if◌then◌else◌}
-use Rattle.std.specs.FinMap.{get}
 use Rattle.bihash_words.specs.Maps.{Event, effect_of}
 use Rattle.bihash_words.specs.Sizes.{Sizes, sizes_of}
 use Rattle.bihash_words.specs.declared.shape.Shape.{Ghosts}
@@ -10,7 +9,7 @@ use Rattle.bihash_words.specs.declared.patch.Change.TheVariants.{Keep, Set}
 use Rattle.bihash_words.specs.declared.patch.Reply.{Reply}
 use Rattle.bihash_words.specs.declared.patch.Reply.TheVariants.{Changed, NoPages}
 use Rattle.bihash_steps.specs.Histories.{bucket_of}
-use Rattle.bihash_steps.specs.Callers.{IsLawfulCaller, known_at}
+use Rattle.bihash_steps.specs.Callers.{IsLawfulCaller}
 use Rattle.bihash_steps.specs.BucketSteps.{call_of, unnoted, validated}
 use Rattle.bihash_steps.specs.Seats.{CallerState, with_view}
 use Rattle.bihash_steps.specs.declared.view.Extent.{Extent}

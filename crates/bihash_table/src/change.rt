@@ -1,5 +1,5 @@
 //! Changes that a bucket's block has room for, and answers that leave it.
-ghost use Rattle.std.specs.Prelude.{◌≡◌, ◌≢◌, ◌<◌, ◌≤◌, ◌+◌, ◌*◌, length, None, Some, IfOk};
+ghost use Rattle.std.specs.Prelude.{◌≡◌, ◌≢◌, ◌<◌, ◌≤◌, ◌+◌, ◌*◌, length, slice_index, None, Some, IfOk};
 ghost use Rattle.std.specs.FinMap.{get};
 ghost use Rattle.bihash_words.specs.Maps.{effect_of};
 ghost use Rattle.bihash_words.specs.Patches.{free_mark};
@@ -240,7 +240,8 @@ fn vacate<S: Shape>(
     Reply::Changed(Some(pair.1))
 }
 
-// Stores the words of a key at a place of the block that the caller has locked.
+// Stores the words of a key at a place of the block that the caller has locked, but those that stand there. A
+// freed place shows the key that it had, and a store costs far more than a load.
 fn store_key<S: Shape>(row: &Row<S>, seat: &mut CallerSeat<S>, seen: &Seen<'_, S>, place: usize)
     requires own { seat.old.row ≡ row.now }
     requires lock { (l : LockedBucket) × HasLock (sizes_of S.Shape) seat.old.view seen.now.site.bucket seen.now.word l
@@ -250,8 +251,31 @@ fn store_key<S: Shape>(row: &Row<S>, seat: &mut CallerSeat<S>, seen: &Seen<'_, S
         → HasStored (sizes_of S.Shape) seat.old.view seat.new.view l place (S.words_of seen.now.site.key.now) S.WORDS }
 {
     for i in 0..S::WORDS {
-        store_word(row, seat, seen.word, place, i, S::word(seen.site.key, i));
+        let part = S::word(seen.site.key, i);
+        if held_word(row, seat, seen.word, place, i) == part {
+            continue;
+        }
+        store_word(row, seat, seen.word, place, i, part);
     }
+}
+
+// Word i of a place of the block that the caller has locked.
+fn held_word<S: Shape>(
+    row: &Row<S>,
+    seat: &mut CallerSeat<S>,
+    word: BucketWord,
+    place: usize,
+    i: usize,
+) -> u64
+    requires own { seat.old.row ≡ row.now }
+    requires place { HoldsPlace (sizes_of S.Shape) seat.old.view word place }
+    requires inside { i ≤ S.WORDS }
+    ensures same { seat.new ≡ seat.old }
+    ensures value { (l : LockedBucket) → seat.old.view.holds.bucket ≡ Some l
+        → result ≡ slice_index l.now (place * place_words (sizes_of S.Shape) + i) }
+{
+    row.is_sound();
+    row.load_locked(seat, word.page(), place * (S::WORDS + 1) + i)
 }
 
 // Stores word i of a place of the block that the caller has locked.

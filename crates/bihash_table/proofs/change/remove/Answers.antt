@@ -1,4 +1,4 @@
-use Rattle.std.proofs.Common.{◌≡◌, ◌∙◌, ◌<◌, Bool, List, Some, Ok, Err, length, subst, sym, true≢false}
+use Rattle.std.proofs.Common.{◌∙◌, ◌<◌, Bool, List, Some, Ok, Err, length, subst, sym, true≢false}
 use Rattle.bihash_words.specs.Sizes.{sizes_of}
 use Rattle.bihash_words.specs.declared.patch.Change.TheVariants.{Remove}
 use Rattle.bihash_steps.specs.declared.view.Write.{Write}

@@ -1,19 +1,30 @@
-use Rattle.std.proofs.Common.{◌+◌, ◌*◌, ◌<◌, ℕ, arith, refl, subst}
+use Rattle.std.proofs.Common.{◌≡◌, ◌∙◌, ◌+◌, ◌*◌, ◌<◌, ℕ, Some, arith, refl, subst, sym}
 use Rattle.std.specs.Prelude.{slice_index}
 use Rattle.bihash_words.specs.Sizes.{sizes_of}
 use Rattle.bihash_steps.specs.Words.{place_words}
 use Rattle.bihash_steps.specs.Blocks.{places}
+use Rattle.bihash_steps.specs.BucketSteps.{relocked, stored_in}
+use Rattle.bihash_steps.specs.Seats.{CallerState, with_view}
 use Rattle.bihash_steps.specs.declared.view.LockedBucket.{LockedBucket}
+use Rattle.bihash_table.specs.Stores.{HasStored, HoldsPlace}
 use Rattle.bihash_table.proofs.PlaceReads.{same_lock}
 use Rattle.bihash_table.proofs.SameCallers.{same_through}
-use Rattle.bihash_table.proofs.Storing.{held_now, holds_stored, stored_more, stored_none, view_stored}
+use Rattle.bihash_table.proofs.Storing.{held_now, holds_stored, stored_more, stored_none, stored_same, view_stored}
 use Rattle.bihash_table.proofs.change.store_key.Goals as goal
 
-pub store_word-requires-clause-place : goal.store_word-requires-clause-place
-store_word-requires-clause-place g c =
+pub held_word-requires-clause-place : goal.held_word-requires-clause-place
+held_word-requires-clause-place g c =
     let lock = c.requires.lock in let key = g.S.Shape.words_of c.args.seen.now.site.key.now in
     holds_stored (sizes_of g.S.Shape) c.args.seat.now.view c.args.seen.now.site.bucket c.args.seen.now.word lock.0 lock.1 c.loop-i.seat.view
     c.args.place lock.2 key c.loop-i.i (c.loop-i.invariant.1 lock.0 lock.1)
+
+pub store_word-requires-clause-place : goal.store_word-requires-clause-place
+store_word-requires-clause-place g c =
+    let z = sizes_of g.S.Shape in
+    let lock = c.requires.lock in let key = g.S.Shape.words_of c.args.seen.now.site.key.now in
+    subst (λ (s : CallerState). HoldsPlace z s.view c.args.seen.now.word c.args.place) (sym c.held_word.ensures.same)
+    (holds_stored z c.args.seat.now.view c.args.seen.now.site.bucket c.args.seen.now.word lock.0 lock.1 c.loop-i.seat.view
+    c.args.place lock.2 key c.loop-i.i (c.loop-i.invariant.1 lock.0 lock.1))
 
 pub loop-i-init : goal.loop-i-init
 loop-i-init g c = (
@@ -22,22 +33,44 @@ loop-i-init g c = (
       (g.S.Shape.words_of c.args.seen.now.site.key.now),
 )
 
+pub loop-i-preserved-then-held_word-part : goal.loop-i-preserved-then-held_word-part
+loop-i-preserved-then-held_word-part g c =
+    let z = sizes_of g.S.Shape in let v = c.args.seat.now.view in let w = c.loop-i.seat.view in
+    let key = g.S.Shape.words_of c.args.seen.now.site.key.now in let b = c.args.seen.now.site.bucket in
+    let word = c.args.seen.now.word in let i = c.args.place in
+    let back = sym c.held_word.ensures.same in (
+      subst (λ (s : CallerState). s ≡ with_view c.args.seat.now s.view) back c.loop-i.invariant.0,
+      λ lock has.
+          let inside : i < places lock.extent.page lock.extent.log2 =
+          subst (λ (l : LockedBucket). i < places l.extent.page l.extent.log2)
+          (same_lock z v b word c.requires.lock.0 lock c.requires.lock.1 has) c.requires.lock.2 in
+          let h = c.loop-i.invariant.1 lock has in
+          subst (λ (s : CallerState). HasStored z v s.view lock i key (c.loop-i.i + 1)) back
+          (stored_same z v b word lock has w i inside key c.loop-i.i h c.held_word.result
+          (c.held_word.ensures.value (record lock { now = h.now; stored = h.stored }) (held_now z v b word lock has w i inside key c.loop-i.i h))
+          (c.if-held_word-part.true ∙ c.word-part.ensures.word)),
+    )
+
 pub loop-i-preserved : goal.loop-i-preserved
 loop-i-preserved g c =
     let z = sizes_of g.S.Shape in let v = c.args.seat.now.view in let w = c.loop-i.seat.view in
-    let key = g.S.Shape.words_of c.args.seen.now.site.key.now in let b = c.args.seen.now.site.bucket in let word = c.args.seen.now.word in let i = c.args.place in
+    let key = g.S.Shape.words_of c.args.seen.now.site.key.now in let b = c.args.seen.now.site.bucket in
+    let word = c.args.seen.now.word in let i = c.args.place in
     let own = c.requires.lock in let mine = c.loop-i.invariant.1 own.0 own.1 in
     let small : c.loop-i.i < g.S.Shape.WORDS =
-    let below = c.loop-i-test.true in let same = c.WORDS-i-end.ensures in omega arith in (
+    let below = c.loop-i-test.true in let same = c.WORDS-i-end.ensures in omega arith in
+    let at : ℕ = i * place_words z + c.loop-i.i in
+    let stores = subst (λ (s : CallerState). (l : LockedBucket) → s.view.holds.bucket ≡ Some l
+    → c.store_word.new.seat ≡ with_view s (relocked s.view (Some (stored_in l at c.word-part.result)))) c.held_word.ensures.same
+    c.store_word.ensures in (
       same_through c.args.seat.now c.loop-i.seat c.store_word.new.seat _ c.loop-i.invariant.0
-          (c.store_word.ensures _ (held_now z v b word own.0 own.1 w i own.2 key c.loop-i.i mine)),
+          (stores _ (held_now z v b word own.0 own.1 w i own.2 key c.loop-i.i mine)),
       λ lock has.
           let inside : i < places lock.extent.page lock.extent.log2 =
           subst (λ (l : LockedBucket). i < places l.extent.page l.extent.log2) (same_lock z v b word own.0 lock own.1 has) own.2 in
           let h = c.loop-i.invariant.1 lock has in
           let now : LockedBucket = record lock { now = h.now; stored = h.stored } in
-          let at : ℕ = i * place_words z + c.loop-i.i in
           stored_more z v b word lock has w i inside key c.loop-i.i h c.store_word.new.seat.view small
-          (view_stored c.loop-i.seat c.store_word.new.seat now at at c.word.result (slice_index key c.loop-i.i) refl c.word.ensures.word
-          (c.store_word.ensures now (held_now z v b word lock has w i inside key c.loop-i.i h))),
+          (view_stored c.loop-i.seat c.store_word.new.seat now at at c.word-part.result (slice_index key c.loop-i.i) refl
+          c.word-part.ensures.word (stores now (held_now z v b word lock has w i inside key c.loop-i.i h))),
     )

@@ -1,17 +1,15 @@
-use Rattle.std.proofs.Common.{◌≡◌, ◌≤◌, ◌<◌, ◌∙◌, ◌^◌, ℕ, List, None, Result, Ok, Err, IfOk, ap, arith, length, length-take, pow_mono, refl, subst, sym, true≢false}
-use Rattle.bihash_words.specs.Maps.{Pairs}
+use Rattle.std.proofs.Common.{◌≤◌, ◌<◌, ◌∙◌, ◌^◌, ℕ, List, None, Result, Ok, Err, IfOk, ap, arith, length, length-take, pow_mono, refl, subst, sym, true≢false}
 use Rattle.bihash_words.specs.Sizes.{sizes_of}
 use Rattle.bihash_words.specs.declared.patch.Change.TheVariants.{Set}
 use Rattle.bihash_plan.specs.declared.outcome.Plan.TheVariants.{Grow}
 use Rattle.bihash_steps.specs.Blocks.{places}
-use Rattle.bihash_steps.specs.BucketSteps.{map_now}
 use Rattle.bihash_steps.specs.declared.view.Write.{Write}
 use Rattle.bihash_table.specs.Shortage.{IsShortage}
 use Rattle.bihash_table.proofs.Bridge.{AreKeyWords, sized}
 use Rattle.bihash_table.proofs.Growing.{absent_there, full_seen, laid_there, room_there, short_there}
 use Rattle.bihash_table.proofs.Seeing.{word_notes}
 use Rattle.bihash_table.proofs.Sights.{saw_known, seen_more}
-use Rattle.bihash_table.proofs.Stores.{log2_is, page_is}
+use Rattle.bihash_table.proofs.Stores.{log2_is}
 use Rattle.bihash_table.proofs.Planning.{places_read}
 use Rattle.bihash_table.proofs.Tries.{tried_away, tried_locked, tried_saw}
 use Rattle.bihash_table.proofs.grow.enter_as_planned.Goals as goal

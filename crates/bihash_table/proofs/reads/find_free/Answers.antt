@@ -1,4 +1,4 @@
-use Rattle.std.proofs.Common.{refl, ap, ◌∙◌, ◌+◌, ◌*◌, arith}
+use Rattle.std.proofs.Common.{refl, ap, ◌∙◌, arith}
 use Rattle.bihash_words.specs.Sizes.{sizes_of}
 use Rattle.bihash_steps.specs.Seats.{CallerState, with_view}
 use Rattle.bihash_table.proofs.LookedAt.{none_free_yet, none_free_more, first_free, all_taken, saw_value}

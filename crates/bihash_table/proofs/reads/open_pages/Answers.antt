@@ -1,4 +1,4 @@
-use Rattle.std.proofs.Common.{◌/◌, ◌%◌, ◌^◌, ℕ, false, arith, ◌∙◌, sym, ap}
+use Rattle.std.proofs.Common.{false, arith, ◌∙◌, sym}
 use Rattle.bihash_words.specs.Sizes.{sizes_of}
 use Rattle.bihash_steps.specs.Buckets.{word_of}
 use Rattle.bihash_table.proofs.OpenPlaces.{none_open, all_open, one_page_open}

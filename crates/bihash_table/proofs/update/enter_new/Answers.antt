@@ -1,4 +1,4 @@
-use Rattle.std.proofs.Common.{◌≡◌, ◌≢◌, ◌∙◌, ◌<◌, List, None, Ok, Err, length, subst, sym, true≢false}
+use Rattle.std.proofs.Common.{◌∙◌, ◌<◌, List, None, Ok, Err, length, subst, sym, true≢false}
 use Rattle.bihash_words.specs.Patches.{IsStorable}
 use Rattle.bihash_words.specs.Sizes.{sizes_of}
 use Rattle.bihash_words.specs.declared.patch.Change.{Change}

@@ -1,4 +1,4 @@
-use Rattle.std.proofs.Common.{◌≡◌, ◌≢◌, ◌∙◌, ℕ, Option, None, Some, ap, subst, sym}
+use Rattle.std.proofs.Common.{◌≢◌, ◌∙◌, ℕ, Option, ap, subst, sym}
 use Rattle.bihash_words.specs.Maps.{effect_of}
 use Rattle.bihash_words.specs.Sizes.{sizes_of}
 use Rattle.bihash_words.specs.declared.patch.Change.TheVariants.{Keep}

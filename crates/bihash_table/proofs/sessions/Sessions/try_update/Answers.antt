@@ -4,7 +4,6 @@ use Rattle.bihash_steps.specs.Histories.{bucket_of}
 use Rattle.bihash_table.specs.Answers.{locks_of}
 use Rattle.bihash_table.specs.Tries.{Tried}
 use Rattle.bihash_table.specs.OpenReads.{value_of}
-use Rattle.bihash_table.proofs.Opened.{lost_at}
 use Rattle.bihash_table.proofs.SameCallers.{same_through}
 use Rattle.bihash_table.proofs.Sights.{seen_ahead, seen_first, seen_records}
 use Rattle.bihash_table.proofs.Tries.{tried_seen, update_answered, update_away, update_short}

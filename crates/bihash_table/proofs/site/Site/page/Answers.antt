@@ -1,4 +1,4 @@
-use Rattle.std.proofs.Common.{◌<◌, ◌/◌, ◌%◌, ◌^◌, ◌*◌, mod-lt, pow_pos, ℕ, arith}
+use Rattle.std.proofs.Common.{◌<◌, ◌%◌, ◌^◌, ◌*◌, mod-lt, pow_pos, ℕ, arith}
 use Rattle.bihash_words.specs.Sizes.{sizes_of}
 use Rattle.bihash_table.proofs.OpenPlaces.{few_pages}
 use Rattle.bihash_table.proofs.site.Site.page.Goals as goal
