@@ -17,17 +17,17 @@ use Rattle.acl_policy.proofs.ReadingLaws as policies
 use Rattle.acl_policy.proofs.TextLaws as texts
 use Rattle.std.specs.Str.Lines.{lines}
 use Rattle.session_state.specs.declared.timeouts.Timeouts.{Timeouts}
-use Rattle.racl_cli.specs.declared.fault.Fault.{Fault}
-use Rattle.racl_cli.specs.declared.fault.Fault.TheVariants.{TooLarge, NoCapture, Hex}
-use Rattle.racl_cli.specs.declared.input.Form.{Form}
-use Rattle.racl_cli.specs.declared.input.Form.TheVariants.{Binary, Hexadecimal}
-use Rattle.racl_cli.specs.declared.verdict.Verdict.TheVariants as verdict
-use Rattle.racl_cli.specs.Faults.{IsFaultOfBytes, IsFaultOfCapture, IsFaultOfContent, IsFaultOfParts, IsInputFault, capture_fault, policy_fault}
+use Rattle.racl_io.specs.declared.fault.Fault.{Fault}
+use Rattle.racl_io.specs.declared.fault.Fault.TheVariants.{TooLarge, NoCapture, Hex}
+use Rattle.racl_io.specs.declared.input.Form.{Form}
+use Rattle.racl_io.specs.declared.input.Form.TheVariants.{Binary, Hexadecimal}
+use Rattle.flow_filter.specs.declared.verdict.Verdict.TheVariants as verdict
+use Rattle.racl_io.specs.Faults.{IsFaultOfBytes, IsFaultOfCapture, IsFaultOfContent, IsFaultOfParts, IsInputFault, capture_fault, policy_fault}
 use Rattle.racl_cli.specs.Filters.{AreReadings, AreVerdicts, Framed, IsReadingOf, Reading, Ruled, one_thread_verdicts}
-use Rattle.racl_cli.specs.Inputs.{IsContent, IsFirstLine, IsInput, IsMarked, IsMarker, HasNoFeed, Parts, digits_of, joined, most_bytes, word_of}
+use Rattle.racl_io.specs.Inputs.{IsContent, IsFirstLine, IsInput, IsMarked, IsMarker, HasNoFeed, Parts, digits_of, joined, most_bytes, word_of}
 use Rattle.racl_cli.specs.Runs.{FiltersCapture, FiltersContent, FiltersInput, HasOutcome, Outcome}
 use Rattle.racl_cli.proofs.DecisionLaws.{some_decision}
-use Rattle.racl_cli.proofs.InputLemmas.{IsFront, front_grows, front_of_all, no_input}
+use Rattle.racl_io.proofs.InputLemmas.{IsFront, front_grows, front_of_all, no_input}
 use Rattle.racl_cli.proofs.OutcomeLemmas.{FiltersParts, filters_of_known_content, filters_of_known_parts, one_truncated, one_verdicts}
 use Rattle.racl_cli.proofs.RunLemmas.{fault_of_known_content, fault_of_known_parts}
 

@@ -14,7 +14,7 @@ use Rattle.session_state.specs.declared.timeouts.Timeouts.{Timeouts}
 use Rattle.session_state.specs.Decisions.{PatchFacts}
 use Rattle.session_state.specs.Flows.{flow_of}
 use Rattle.racl_cli.specs.declared.sessions.Sessions.{Sessions}
-use Rattle.racl_cli.specs.declared.verdict.Verdict.{Verdict}
+use Rattle.flow_filter.specs.declared.verdict.Verdict.{Verdict}
 use Rattle.racl_cli.specs.Contents.{Contents, nothing, reply_in, reply_of, value_of}
 use Rattle.racl_cli.specs.Filters.{AreReadings, AreVerdicts, Decision, Event, Framed, Home, IsReading, Reading, Ruled, add_event, bounds, contents_at, decided_at, event_in, event_of, home_of, verdict_after, verdict_of, verdicts_after, with_event, words_of}
 use Rattle.racl_cli.specs.Judging.{HoldsSessions, IsHeld, IsJudged, found_in}

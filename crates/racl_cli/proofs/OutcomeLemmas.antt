@@ -7,14 +7,14 @@ use Rattle.packet_view.proofs.FrameLemmas.{view_only}
 use Rattle.acl_policy.specs.Policies.{IsPolicyText, PolicyFacts, rules_of}
 use Rattle.acl_policy.proofs.DecisionLemmas.{one_decision}
 use Rattle.session_state.specs.declared.timeouts.Timeouts.{Timeouts}
-use Rattle.racl_cli.specs.declared.input.Form.{Form}
-use Rattle.racl_cli.specs.declared.report.Report.{Report}
-use Rattle.racl_cli.specs.declared.verdict.Verdict.{Verdict}
+use Rattle.racl_io.specs.declared.input.Form.{Form}
+use Rattle.racl_io.specs.declared.report.Report.{Report}
+use Rattle.flow_filter.specs.declared.verdict.Verdict.{Verdict}
 use Rattle.racl_cli.specs.Filters.{AreReadings, AreVerdicts, IsReading, IsReadingOf, Reading, Ruled, one_thread_verdicts}
-use Rattle.racl_cli.specs.Inputs.{IsContent, IsInput, Parts}
-use Rattle.racl_cli.specs.Reports.{report_of, totals_of}
+use Rattle.racl_io.specs.Inputs.{IsContent, IsInput, Parts}
+use Rattle.racl_io.specs.Reports.{report_of, totals_of}
 use Rattle.racl_cli.specs.Runs.{FiltersCapture, FiltersContent, FiltersInput, HasOutcome, Outcome, Tells}
-use Rattle.racl_cli.proofs.InputLemmas.{one_input}
+use Rattle.racl_io.proofs.InputLemmas.{one_input}
 use Rattle.racl_cli.proofs.RunLemmas.{IsRead, one_content}
 
 one_reading_of : (policy : PolicyFacts) (moment : ℕ) (view : View) (a b : Reading) → IsReadingOf policy moment view a → IsReadingOf policy moment view b → a ≡ b

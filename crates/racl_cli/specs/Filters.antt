@@ -23,8 +23,8 @@ use Rattle.session_state.specs.declared.flow.FlowKey.TheVariants.{Four, Six}
 use Rattle.session_state.specs.declared.timeouts.Timeouts.{Timeouts}
 use Rattle.session_state.specs.Decisions.{PatchFacts, decision_of, is_live_for}
 use Rattle.session_state.specs.Flows.{flow_of}
-use Rattle.racl_cli.specs.declared.verdict.Verdict.{Verdict}
-use Rattle.racl_cli.specs.declared.verdict.Verdict.TheVariants as verdict
+use Rattle.flow_filter.specs.declared.verdict.Verdict.{Verdict}
+use Rattle.flow_filter.specs.declared.verdict.Verdict.TheVariants as verdict
 use Rattle.racl_cli.specs.Contents.{Contents, contents_after, nothing, reply_of, value_of}
 
 -- the rule that decides, by its position from 0, and its action; none where no rule matches

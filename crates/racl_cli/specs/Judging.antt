@@ -6,7 +6,7 @@ use Rattle.bihash_words.specs.declared.shape.Shape.{Ghosts}
 use Rattle.packet_view.specs.declared.tuple.Family.TheVariants.{V4, V6}
 use Rattle.session_state.specs.declared.timeouts.Timeouts.{Timeouts}
 use Rattle.racl_cli.specs.declared.sessions.Sessions.{Sessions}
-use Rattle.racl_cli.specs.declared.verdict.Verdict.{Verdict}
+use Rattle.flow_filter.specs.declared.verdict.Verdict.{Verdict}
 use Rattle.racl_cli.specs.Contents.{Contents}
 use Rattle.racl_cli.specs.Filters.{Event, Home, Reading, add_event, contents_at, event_of, verdict_on}
 use Rattle.racl_cli.specs.Tables.{HoldAll}

@@ -4,15 +4,15 @@ use Rattle.std.specs.Io.KnownBytes.{Appends}
 use Rattle.packet_view.specs.Captures.{IsCapture, Seen, end_of}
 use Rattle.acl_policy.specs.Policies.{IsPolicyText, PolicyFacts}
 use Rattle.session_state.specs.declared.timeouts.Timeouts.{Timeouts}
-use Rattle.racl_cli.specs.declared.fault.Fault.{Fault}
-use Rattle.racl_cli.specs.declared.fault.Fault.TheVariants.{Memory}
-use Rattle.racl_cli.specs.declared.input.Form.{Form}
-use Rattle.racl_cli.specs.declared.report.Report.{Report}
-use Rattle.racl_cli.specs.declared.report.Totals.{Totals}
-use Rattle.racl_cli.specs.declared.verdict.Verdict.{Verdict}
+use Rattle.racl_io.specs.declared.fault.Fault.{Fault}
+use Rattle.racl_io.specs.declared.fault.Fault.TheVariants.{Memory}
+use Rattle.racl_io.specs.declared.input.Form.{Form}
+use Rattle.racl_io.specs.declared.report.Report.{Report}
+use Rattle.racl_io.specs.declared.report.Totals.{Totals}
+use Rattle.flow_filter.specs.declared.verdict.Verdict.{Verdict}
 use Rattle.racl_cli.specs.Filters.{AreVerdicts}
-use Rattle.racl_cli.specs.Inputs.{IsContent, IsInput, Parts, most_bytes}
-use Rattle.racl_cli.specs.Reports.{report_of, totals_of}
+use Rattle.racl_io.specs.Inputs.{IsContent, IsInput, Parts, most_bytes}
+use Rattle.racl_io.specs.Reports.{report_of, totals_of}
 
 -- what a capture's packets met, and whether the capture ends within a record
 pub record Outcome : Type 0 where

@@ -1,22 +1,18 @@
 //! One run of the filter, from the bytes of an input to the report.
 ghost use Rattle.std.specs.Prelude.{◌≡◌, ◌≢◌, ◌+◌, ◌-◌, ◌<◌, ◌≤◌, ◌^◌, ◌⊎◌, ◌↔◌, Err, IfOk, IfErr, IfSome, MatchResult};
 ghost use Rattle.acl_policy.specs.Policies.{policy_facts};
-ghost use Rattle.racl_cli.specs.declared.fault.Fault.{Fault};
-ghost use Rattle.racl_cli.specs.declared.fault.Fault.TheVariants.{Memory};
-ghost use Rattle.racl_cli.specs.Faults.{IsFaultOfBytes, IsFaultOfCapture, IsFaultOfContent, IsInputFault, IsDeviceFault, Refuses, RefusesRead};
-ghost use Rattle.racl_cli.specs.Inputs.{parts_of};
+ghost use Rattle.racl_io.specs.declared.fault.Fault.{Fault};
+ghost use Rattle.racl_io.specs.declared.fault.Fault.TheVariants.{Memory};
+ghost use Rattle.racl_io.specs.Faults.{IsFaultOfBytes, IsFaultOfCapture, IsFaultOfContent, IsInputFault, IsDeviceFault, Refuses, RefusesRead};
+ghost use Rattle.racl_io.specs.Inputs.{parts_of};
 ghost use Rattle.racl_cli.specs.Runs.{Accepts, FiltersCapture, FiltersContent, FiltersInput, HasOutcome, HasRun, Outcome, Reported, Tells};
 
-use crate::content::decoded;
-use crate::device::{Sink, Source};
-use crate::fault::Fault;
 use crate::filter::verdicts_on;
-use crate::input::{Form, Input, parts};
-use crate::report::{Report, Totals, report_on};
-use crate::settings::Options;
-use crate::transfer::{read_input, write_all};
 use acl_policy::{Policy, read_policy};
 use packet_view::read_capture;
+use racl_io::{Fault, Form, Report, Sink, Source, Totals};
+use racl_io::{decoded, parts, read_input, report_on, write_all};
+use racl_words::Options;
 use session_state::Timeouts;
 use std::alloc::Global;
 

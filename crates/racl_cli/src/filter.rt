@@ -12,7 +12,7 @@ ghost use Rattle.racl_cli.specs.Filters;
 ghost use Rattle.racl_cli.specs.Filters.{AreVerdicts, Decision, IsReading, Reading, Ruled, event_in};
 
 use crate::sessions::Sessions;
-use crate::verdict::Verdict;
+use flow_filter::Verdict;
 use acl_policy::{Action, Policy, first_match};
 use bihash_words::{Reply, Shape, ShapeV4, ShapeV6};
 use packet_view::{Direction, Fields, Frame, Packet, Tuple, view};

@@ -1,7 +1,7 @@
 use Rattle.std.proofs.Common.{ap}
 use Rattle.std.proofs.lemmas.Result.{err_from_is_err_and}
 use Rattle.packet_view.specs.Captures.{end_of}
-use Rattle.racl_cli.specs.Faults.{capture_fault}
+use Rattle.racl_io.specs.Faults.{capture_fault}
 use Rattle.racl_cli.specs.Runs.{Outcome}
 use Rattle.racl_cli.proofs.OutcomeLemmas.{told}
 use Rattle.racl_cli.proofs.end_to_end.report_capture.Goals as goal

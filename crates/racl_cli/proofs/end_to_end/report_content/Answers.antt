@@ -1,6 +1,6 @@
 use Rattle.std.proofs.Common.{refl, subst}
-use Rattle.racl_cli.specs.declared.input.Form.TheVariants.{Binary, Hexadecimal}
-use Rattle.racl_cli.specs.Faults.{IsFaultOfContent}
+use Rattle.racl_io.specs.declared.input.Form.TheVariants.{Binary, Hexadecimal}
+use Rattle.racl_io.specs.Faults.{IsFaultOfContent}
 use Rattle.racl_cli.proofs.RunLemmas.{fault_of_known_content}
 use Rattle.racl_cli.proofs.end_to_end.report_content.Goals as goal
 

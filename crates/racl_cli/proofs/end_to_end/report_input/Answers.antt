@@ -1,7 +1,7 @@
 use Rattle.std.proofs.Common.{sym, ap, subst, inl, inr}
 use Rattle.std.proofs.lemmas.Result.{IfErr-weaker, err_from_is_err_and}
 use Rattle.racl_cli.proofs.RunLemmas.{fault_of_known_parts, fault_without_parts, fault_of_wrong_policy, fault_of_right_policy}
-use Rattle.racl_cli.specs.Faults.{policy_fault}
+use Rattle.racl_io.specs.Faults.{policy_fault}
 use Rattle.racl_cli.specs.Runs.{FiltersContent}
 use Rattle.racl_cli.proofs.OutcomeLemmas.{filters_of_known_parts}
 use Rattle.racl_cli.proofs.end_to_end.report_input.Goals as goal

@@ -1,7 +1,7 @@
 use Rattle.std.proofs.Common.{sym, subst, inl, inr}
 use Rattle.std.proofs.lemmas.Result.{err_from_is_err_and}
 use Rattle.racl_cli.proofs.RunLemmas.{device_or, excluded_by_input, fault_of_input, read_bytes}
-use Rattle.racl_cli.specs.Faults.{IsDeviceFault}
+use Rattle.racl_io.specs.Faults.{IsDeviceFault}
 use Rattle.racl_cli.proofs.OutcomeLemmas.{at_outcomes}
 use Rattle.racl_cli.proofs.end_to_end.run.Goals as goal
 

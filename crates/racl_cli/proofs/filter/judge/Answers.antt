@@ -1,7 +1,7 @@
 use Rattle.std.proofs.Common.{refl}
 use Rattle.packet_view.specs.Frames.{NotIp, Malformed, Short}
 use Rattle.racl_cli.specs.Filters.{Framed}
-use Rattle.racl_cli.specs.declared.verdict.Verdict.TheVariants as verdict
+use Rattle.flow_filter.specs.declared.verdict.Verdict.TheVariants as verdict
 use Rattle.racl_cli.proofs.JudgingLemmas.{judged_by_frame}
 use Rattle.racl_cli.proofs.filter.judge.Goals as goal
 
