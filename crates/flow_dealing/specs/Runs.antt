@@ -8,8 +8,10 @@ use Rattle.packet_view.specs.declared.tuple.Family.TheVariants.{V4, V6}
 use Rattle.acl_policy.specs.Policies.{PolicyFacts}
 use Rattle.bihash_words.specs.Maps.{Event}
 use Rattle.bihash_words.specs.Sizes.{Sizes}
-use Rattle.bihash_steps.specs.Callers.{HasMadeAll, IsLawfulCaller, IsWhole}
+use Rattle.bihash_steps.specs.Words.{buckets}
+use Rattle.bihash_steps.specs.Callers.{HasMadeAll, IsLawfulCaller, IsWhole, known_writes}
 use Rattle.bihash_steps.specs.Histories.{event_of}
+use Rattle.bihash_steps.specs.PageStores.{AreShort}
 use Rattle.bihash_steps.specs.declared.view.Record.{Record}
 use Rattle.bihash_steps.specs.declared.view.View.{View}
 use Rattle.session_state.specs.declared.timeouts.Timeouts.{Timeouts}
@@ -38,11 +40,13 @@ events_by d times family worker n (j ∷ js) =
     else events_by d times family worker (n + 1) js
 
 -- The records of one family's callers, all of them: that of each worker has the events of its packets, in their order,
--- and no other. The caller that has them is lawful and made each write that it knows, of a table that began empty.
+-- and no other. The caller that has them is lawful and made each write that it knows, of a table that began empty; and
+-- wherever a record tells of too few pages, these writes took the others.
 pub record AreRecorded (d : Deal) (times : Timeouts) (family : Family) (js : List Judged) (v : View) : Type 0 where
   pub lawful : IsLawfulCaller (sizes_in d.layout family) v
   pub whole : IsWhole v.records v.seen
   pub made : HasMadeAll (sizes_in d.layout family) v
+  pub short : AreShort (sizes_in d.layout family) (known_writes v.known (buckets (sizes_in d.layout family))) v.records
   pub openings : v.known.openings ≡ []
   pub count : length v.records ≡ d.workers
   pub each : (worker : ℕ) (r : Record) → get_elem? v.records worker ≡ some r

@@ -2,5 +2,10 @@
 #![tactic(auto)]
 
 mod dealing;
+mod worker;
 
 pub use dealing::Dealing;
+pub use worker::worker_of;
+
+#[cfg(test)]
+mod tests;

@@ -4,14 +4,18 @@ use Rattle.bihash_words.specs.Sizes.{IsSound, sizes_of}
 use Rattle.bihash_words.specs.declared.shape.Shape.{Ghosts}
 use Rattle.bihash_steps.specs.Callers.{IsLawfulCaller}
 use Rattle.bihash_steps.specs.Seats.{with_view}
-use Rattle.bihash_steps.specs.Views.{nothing_held}
-use Rattle.flow_filter.specs.OneThread.{IsFlowLayout, layout_of}
+use Rattle.bihash_steps.specs.Views.{first_view, nothing_held}
+use Rattle.flow_filter.specs.OneThread.{IsFlowLayout, Layout, layout_of}
 use Rattle.flow_workers.specs.declared.tables.Tables.{Tables}
 use Rattle.flow_workers.specs.declared.tables.Callers.{Callers}
 use Rattle.flow_dealing.specs.Views.{Views}
 
 abbrev pub views_of : {A B K L : Type 0} (ga : Ghosts A K) (gb : Ghosts B L) → Callers A B K L ga gb → Views
 views_of ga gb callers = record { four = callers.four.seat.view; six = callers.six.seat.view }
+
+-- what the first callers of new tables know
+abbrev pub first_views : Layout → Views
+first_views l = record { four = first_view l.four; six = first_view l.six }
 
 -- the shapes are sound, and their keys are those of flows
 pub record AreShapes {A B K L : Type 0} (ga : Ghosts A K) (gb : Ghosts B L) : Type 0 where

@@ -2,9 +2,12 @@
 #![tactic(auto)]
 
 mod gate;
+mod numbers;
+mod run_fault;
 mod tables;
 
 pub use flow_dealing::Dealing;
 pub use flow_filter::{Filter, Verdict};
 pub use gate::Gate;
-pub use tables::{Callers, Tables};
+pub use run_fault::RunFault;
+pub use tables::{Callers, Tables, create_tables};

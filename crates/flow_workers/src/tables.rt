@@ -1,6 +1,13 @@
 //! The session tables of both families, and their callers.
-use bihash_table::{Caller, Sessions};
+ghost use Rattle.std.specs.Prelude.{◌≡◌, IfOk};
+ghost use Rattle.bihash_words.specs.Sizes.{IsSound, sizes_of};
+ghost use Rattle.flow_filter.specs.OneThread.{layout_of};
+ghost use Rattle.flow_workers.specs.Callers.{AreIdle, first_views, views_of};
+
+use crate::run_fault::RunFault;
+use bihash_table::{Caller, Sessions, create};
 use bihash_words::Shape;
+use std::alloc::Global;
 
 /// A session table for each family of addresses.
 #[derive(Drop)]
@@ -16,4 +23,25 @@ pub struct Tables<A: Shape, B: Shape> {
 pub struct Callers<A: Shape, B: Shape> {
     pub four: Caller<A>,
     pub six: Caller<B>,
+}
+
+/// New tables, and callers of both that are lone and have made no call. `Memory`: memory was refused.
+pub fn create_tables<A: Shape, B: Shape>(
+    alloc: Global,
+) -> Result<(Tables<A, B>, Callers<A, B>), RunFault>
+    requires four { IsSound (sizes_of A.Shape) }
+    requires six { IsSound (sizes_of B.Shape) }
+    ensures idle { IfOk result (λ r. AreIdle ⟦<A as Shape>⟧ ⟦<B as Shape>⟧ r.0 r.1) }
+    ensures first { IfOk result (λ r. views_of ⟦<A as Shape>⟧ ⟦<B as Shape>⟧ r.1
+        ≡ first_views (layout_of ⟦<A as Shape>⟧ ⟦<B as Shape>⟧)) }
+{
+    let (four, first_four) = create(alloc)?;
+    let (six, first_six) = create(alloc)?;
+    Ok((
+        Tables { four, six },
+        Callers {
+            four: first_four,
+            six: first_six,
+        },
+    ))
 }

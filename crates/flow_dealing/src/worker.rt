@@ -1,0 +1,51 @@
+//! Which worker a packet is dealt to.
+ghost use Rattle.std.specs.Prelude.{◌≡◌, ◌<◌, length};
+ghost use Rattle.bihash_words.specs.Sizes;
+ghost use Rattle.bihash_words.specs.Sizes.{IsSound, sizes_of};
+ghost use Rattle.flow_filter.specs.OneThread.{IsFlowLayout, home_of, layout_of};
+ghost use Rattle.flow_dealing.specs.Dealings.{worker_by};
+
+use crate::dealing::Dealing;
+use bihash_words::{Shape, bucket_of};
+use session_state::{Flow, FlowKey};
+
+fn bucket_in<S: Shape>(words: &[u64]) -> u64
+    requires sound { IsSound (sizes_of ⟦<S as Shape>⟧) }
+    requires counted { length words.now ≡ S.WORDS }
+    ensures { result ≡ Sizes.bucket_of (sizes_of ⟦<S as Shape>⟧) words.now }
+{
+    bucket_of::<S>(&S::key(words))
+}
+
+fn bucket<A: Shape, B: Shape>(key: FlowKey) -> u64
+    requires four { IsSound (sizes_of ⟦<A as Shape>⟧) }
+    requires six { IsSound (sizes_of ⟦<B as Shape>⟧) }
+    requires keys { IsFlowLayout (layout_of ⟦<A as Shape>⟧ ⟦<B as Shape>⟧) }
+    ensures { result ≡ (home_of (layout_of ⟦<A as Shape>⟧ ⟦<B as Shape>⟧) key).bucket }
+{
+    match key {
+        FlowKey::Four(words) => bucket_in::<A>(words.as_slice()),
+        FlowKey::Six(words) => bucket_in::<B>(words.as_slice()),
+    }
+}
+
+/// The worker that a packet goes to, by its number, from 0, and its flow, `None` where it takes no part in sessions.
+pub fn worker_of<A: Shape, B: Shape>(
+    dealing: Dealing,
+    workers: usize,
+    number: usize,
+    flow: Option<Flow>,
+) -> usize
+    requires four { IsSound (sizes_of ⟦<A as Shape>⟧) }
+    requires six { IsSound (sizes_of ⟦<B as Shape>⟧) }
+    requires keys { IsFlowLayout (layout_of ⟦<A as Shape>⟧ ⟦<B as Shape>⟧) }
+    requires some { 0 < workers }
+    ensures worker { result ≡ worker_by dealing (layout_of ⟦<A as Shape>⟧ ⟦<B as Shape>⟧) workers number flow }
+    ensures one { result < workers }
+{
+    match (dealing, flow) {
+        (Dealing::Round, _) => number % workers,
+        (Dealing::Bucket, None) => 0,
+        (Dealing::Bucket, Some(flow)) => (bucket::<A, B>(flow.key) % workers as u64) as usize,
+    }
+}
