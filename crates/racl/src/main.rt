@@ -30,7 +30,8 @@ fn status_of_words(rt: &HostRuntime, alloc: Global) -> io::Result<u8> {
         Ok(options) => {
             let mut reader = Device::new(rt.stdin());
             let mut writer = Device::new(rt.stdout());
-            said(rt, &ending(&run(alloc, &options, &mut reader, &mut writer)))
+            let outcome = run(rt, alloc, &options, &mut reader, &mut writer);
+            said(rt, &ending(&outcome))
         }
         Err(error) => {
             let end = words_ending(&error);

@@ -1,12 +1,5 @@
 pub mod DecisionLaws
-pub mod Holding
 pub mod InputLaws
-pub mod JudgingLemmas
-pub mod Mirrors
+pub mod OneThreadLaws
 pub mod OutcomeLemmas
-pub mod Reading
-pub mod Rehashes
 pub mod RunLemmas
-pub mod SetPlaces
-pub mod Steps
-pub mod TableLemmas

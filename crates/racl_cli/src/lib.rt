@@ -2,14 +2,11 @@
 //! capture in, a verdict on each packet out. The program around it is the crate `racl`.
 #![tactic(auto)]
 
-mod bucket;
 mod end_to_end;
 mod exits;
-mod filter;
+mod judging;
 mod laws;
 mod message;
-mod sessions;
-mod table;
 
 pub use end_to_end::run;
 pub use exits::{ending, failure_ending, status, words_ending};
