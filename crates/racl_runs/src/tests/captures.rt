@@ -1,5 +1,6 @@
 //! Inputs whose captures are spelt as hexadecimal digits, packet by packet, and what runs make of them.
 //! They are compiled for tests alone, so no clause rests on them.
+ghost use Rattle.std.specs.Prelude.{◌≤◌};
 
 use racl_cli::{Device, Fault, Options, Totals, run, status};
 use session_state::Timeouts;
@@ -7,7 +8,9 @@ use std::alloc::{AllocError, Global};
 use std::fmt;
 use std::fmt::{Display, Formatter, Write};
 use std::process::Abort;
+use std::sync::Wait;
 use std::test::Fail;
+use std::thread::Threads;
 
 /// Policy lines: frames from this address are outbound, and 10.0.0.1 may ask name servers and gets
 /// their answers.
@@ -171,14 +174,16 @@ pub fn input(alloc: Global, policy: &str, packets: &[Sent]) -> Result<Vec<u8>, A
     Ok(text)
 }
 
-/// The options where no word sets one.
-pub fn defaults() -> Options {
+/// The options where no word sets a timeout.
+pub fn defaults(workers: usize) -> Options
+    requires { (1 ≤ workers) × (workers ≤ 16) }
+{
     let times = Timeouts {
         established: 86400,
         transient: 120,
         udp: 600,
     };
-    Options { workers: 1, times }
+    Options { workers, times }
 }
 
 /// What a run wrote and answered.
@@ -188,30 +193,54 @@ pub struct Ran {
     pub outcome: Result<Totals, Fault>,
 }
 
-pub fn run_on(alloc: Global, options: &Options, input: &[u8]) -> Result<Ran, Fail> {
+pub fn run_by<T: Threads + Wait + Sync>(
+    rt: &T,
+    alloc: Global,
+    options: &Options,
+    input: &[u8],
+) -> Result<Ran, Fail> {
     let mut reader = Device::new(input);
     let mut writer = Device::new(Vec::new(alloc));
-    let outcome = run(alloc, options, &mut reader, &mut writer);
+    let outcome = run(rt, alloc, options, &mut reader, &mut writer);
     let report = String::from_utf8(writer.inner)?;
     Ok(Ran { report, outcome })
 }
 
+/// What runs with 1, 2 and 16 workers write and answer. A difference between them fails the test.
+pub fn run_on<T: Threads + Wait + Sync>(rt: &T, alloc: Global, input: &[u8]) -> Result<Ran, Fail> {
+    let one = run_by(rt, alloc, &defaults(1), input)?;
+    let two = run_by(rt, alloc, &defaults(2), input)?;
+    let most = run_by(rt, alloc, &defaults(16), input)?;
+    if two.outcome != one.outcome || most.outcome != one.outcome {
+        return Err("the outcome goes with the workers")?;
+    }
+    if two.report != one.report || most.report != one.report {
+        return Err("the report goes with the workers")?;
+    }
+    Ok(one)
+}
+
 /// The report on a policy and packets, where the program ends with status 0.
-pub fn report_of(alloc: Global, policy: &str, packets: &[Sent]) -> Result<String, Fail> {
+pub fn report_of<T: Threads + Wait + Sync>(
+    rt: &T,
+    alloc: Global,
+    policy: &str,
+    packets: &[Sent],
+) -> Result<String, Fail> {
     let input = input(alloc, policy, packets)?;
-    let ran = run_on(alloc, &defaults(), &input)?;
+    let ran = run_on(rt, alloc, &input)?;
     let _totals = ran.outcome?;
     Ok(ran.report)
 }
 
 /// Asserts that a run answers this fault, writes nothing, and ends the program with status 1.
-pub fn assert_refused<R: Abort>(
+pub fn assert_refused<R: Abort + Threads + Wait + Sync>(
     rt: &R,
     alloc: Global,
     input: &[u8],
     fault: Fault,
 ) -> Result<(), Fail> {
-    let ran = run_on(alloc, &defaults(), input)?;
+    let ran = run_on(rt, alloc, input)?;
     assert_eq!(rt; ran.outcome, Err(fault));
     assert_eq!(rt; ran.report.as_str(), "", "with {fault}");
     assert_eq!(rt; status(&ran.outcome), 1, "with {fault}");

@@ -1,15 +1,20 @@
 //! Frames of every form, in captures of every form.
 
 use super::captures::Content::{Digits, Tcp, Udp};
-use super::captures::{NAMES, Sent, defaults, inbound, outbound, report_of, run_on};
-use racl_cli::{Fault, status};
-use racl_io::decoded;
+use super::captures::{NAMES, Sent, inbound, outbound, report_of};
 use std::alloc::Global;
+use std::sync::Wait;
 use std::test::Fail;
+use std::thread::Threads;
 
 /// The verdict's text in the report on one packet.
-fn verdict_on(alloc: Global, policy: &str, sent: Sent) -> Result<String, Fail> {
-    let report = report_of(alloc, policy, &[sent])?;
+fn verdict_on<T: Threads + Wait + Sync>(
+    rt: &T,
+    alloc: Global,
+    policy: &str,
+    sent: Sent,
+) -> Result<String, Fail> {
+    let report = report_of(rt, alloc, policy, &[sent])?;
     let line = report.as_str().lines().next().ok_or("no line")?;
     let text = line.strip_prefix("1 ").ok_or("no number")?;
     Ok(String::from_str(alloc, text)?)
@@ -25,7 +30,7 @@ fn cut_and_foreign_frames(rt: HostRuntime) -> Result<(), Fail> {
         outbound(1000, tcp).cut(13),
     ];
     assert_eq!(rt;
-        report_of(rt.alloc(), NAMES, &packets)?.as_str(),
+        report_of(&rt, rt.alloc(), NAMES, &packets)?.as_str(),
         "1 drop short\n2 drop malformed\n3 pass not-ip\n4 drop malformed\npackets 4 pass 1 drop 3\n"
     );
     Ok(())
@@ -40,7 +45,7 @@ fn frame_kept_short(rt: HostRuntime) -> Result<(), Fail> {
             34..=37 => "drop short",
             _ => "pass rule 1 reflect",
         };
-        let text = verdict_on(rt.alloc(), NAMES, whole.cut(count))?;
+        let text = verdict_on(&rt, rt.alloc(), NAMES, whole.cut(count))?;
         assert_eq!(rt; text.as_str(), verdict, "of {count} bytes");
     }
     Ok(())
@@ -51,13 +56,18 @@ fn vlan_tags(rt: HostRuntime) -> Result<(), Fail> {
     let alloc = rt.alloc();
     let two =
         "88a8 0002 8100 0001 0800 4500001c 00000000 40110000 0a000001 0a000002 03e8 0035 0008 0000";
-    let text = verdict_on(alloc, NAMES, outbound(100, Digits(two)))?;
+    let text = verdict_on(&rt, alloc, NAMES, outbound(100, Digits(two)))?;
     assert_eq!(rt; text.as_str(), "pass rule 1 reflect");
     let three =
         "88a8 0002 8100 0001 8100 0003 0800 4500001c 00000000 40110000 0a000001 0a000002 03e8 0035 0008 0000";
-    let text = verdict_on(alloc, NAMES, outbound(100, Digits(three)))?;
+    let text = verdict_on(&rt, alloc, NAMES, outbound(100, Digits(three)))?;
     assert_eq!(rt; text.as_str(), "pass not-ip");
-    let text = verdict_on(alloc, NAMES, outbound(100, Digits("8100 0001")).cut(16))?;
+    let text = verdict_on(
+        &rt,
+        alloc,
+        NAMES,
+        outbound(100, Digits("8100 0001")).cut(16),
+    )?;
     assert_eq!(rt; text.as_str(), "drop malformed");
     Ok(())
 }
@@ -79,7 +89,7 @@ fn ipv4_lengths_and_options(rt: HostRuntime) -> Result<(), Fail> {
         ),
     ];
     for (digits, verdict) in rows {
-        let text = verdict_on(rt.alloc(), NAMES, outbound(100, Digits(digits)))?;
+        let text = verdict_on(&rt, rt.alloc(), NAMES, outbound(100, Digits(digits)))?;
         assert_eq!(rt; text.as_str(), verdict, "of {digits}");
     }
     Ok(())
@@ -101,6 +111,7 @@ fn ipv6_fragments(rt: HostRuntime) -> Result<(), Fail> {
     );
     assert_eq!(rt;
         report_of(
+            &rt,
             alloc,
             policy,
             &[outbound(100, first), outbound(100, second)]
@@ -108,7 +119,7 @@ fn ipv6_fragments(rt: HostRuntime) -> Result<(), Fail> {
         .as_str(),
         "1 pass rule 1 reflect\n2 pass rule 1\npackets 2 pass 2 drop 0\n"
     );
-    let text = verdict_on(alloc, policy, inbound(100, second))?;
+    let text = verdict_on(&rt, alloc, policy, inbound(100, second))?;
     assert_eq!(rt; text.as_str(), "drop default");
     Ok(())
 }
@@ -124,7 +135,7 @@ fn ipv6_header_chain(rt: HostRuntime) -> Result<(), Fail> {
         3c00000000000000 3c00000000000000 3c00000000000000 1100000000000000 \
         03e8003500080000",
     );
-    let text = verdict_on(alloc, policy, outbound(100, eight))?;
+    let text = verdict_on(&rt, alloc, policy, outbound(100, eight))?;
     assert_eq!(rt; text.as_str(), "pass rule 1");
     let nine = Digits(
         "86dd 60000000 0050 3c 40 \
@@ -133,7 +144,7 @@ fn ipv6_header_chain(rt: HostRuntime) -> Result<(), Fail> {
         3c00000000000000 3c00000000000000 3c00000000000000 3c00000000000000 \
         1100000000000000 03e8003500080000",
     );
-    let text = verdict_on(alloc, policy, outbound(100, nine))?;
+    let text = verdict_on(&rt, alloc, policy, outbound(100, nine))?;
     assert_eq!(rt; text.as_str(), "drop malformed");
     Ok(())
 }

@@ -15,7 +15,7 @@ fn accepted_lines(rt: HostRuntime) -> Result<(), Fail> {
         "in permit ipv4 any any tcp flags 0f/01\n",
     ];
     for line in lines {
-        let report = report_of(alloc, line, &[])?;
+        let report = report_of(&rt, alloc, line, &[])?;
         assert_eq!(rt; report.as_str(), "packets 0 pass 0 drop 0\n", "with {line}");
     }
     // A value with bits outside its mask matches no TCP packet.
@@ -23,7 +23,12 @@ fn accepted_lines(rt: HostRuntime) -> Result<(), Fail> {
         inbound(1, Tcp((2, 80), (1, 1000), 0x01)),
         inbound(1, Tcp((2, 80), (1, 1000), 0x0f)),
     ];
-    let report = report_of(alloc, "in permit ipv4 any any tcp flags 0f/01\n", &packets)?;
+    let report = report_of(
+        &rt,
+        alloc,
+        "in permit ipv4 any any tcp flags 0f/01\n",
+        &packets,
+    )?;
     assert_eq!(rt;
         report.as_str(),
         "1 drop default\n2 drop default\npackets 2 pass 0 drop 2\n"
@@ -90,6 +95,7 @@ fn rules_up_to_4096(rt: HostRuntime) -> Result<(), Fail> {
     let alloc = rt.alloc();
     let most = lines(alloc, 4096)?;
     let report = report_of(
+        &rt,
         alloc,
         most.as_str(),
         &[outbound(1, Udp((1, 1000), (2, 53)))],

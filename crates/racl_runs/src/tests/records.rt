@@ -1,10 +1,12 @@
 //! Captures: their headers, their records, and where they end.
 
-use super::captures::{FIRST_PATH, FIRST_REPORT, NAMES, Ran, assert_refused, defaults, run_on};
+use super::captures::{FIRST_PATH, FIRST_REPORT, NAMES, Ran, assert_refused, run_on};
 use racl_cli::{Fault, Totals, status};
 use racl_io::{decoded, parts};
 use std::alloc::{AllocError, Global};
+use std::sync::Wait;
 use std::test::Fail;
+use std::thread::Threads;
 
 /// The capture of a request, its answer, and an answer that nobody asked for: 24 bytes, and 58 for
 /// each packet.
@@ -23,10 +25,15 @@ fn with_capture(alloc: Global, capture: &[u8]) -> Result<Vec<u8>, AllocError> {
 }
 
 /// What a run makes of a capture's first bytes.
-fn run_cut(alloc: Global, capture: &[u8], count: usize) -> Result<Ran, Fail> {
+fn run_cut<T: Threads + Wait + Sync>(
+    rt: &T,
+    alloc: Global,
+    capture: &[u8],
+    count: usize,
+) -> Result<Ran, Fail> {
     let first = &capture[..count.min(capture.len())];
     let input = with_capture(alloc, first)?;
-    run_on(alloc, &defaults(), &input)
+    run_on(rt, alloc, &input)
 }
 
 #[test]
@@ -34,7 +41,7 @@ fn as_pcap(rt: HostRuntime) -> Result<(), Fail> {
     let alloc = rt.alloc();
     let capture = first_capture(alloc)?;
     assert_eq!(rt; capture.len(), 198);
-    let ran = run_cut(alloc, &capture, 198)?;
+    let ran = run_cut(&rt, alloc, &capture, 198)?;
     assert_eq!(rt; ran.report.as_str(), FIRST_REPORT);
     assert_eq!(rt; status(&ran.outcome), 0);
     Ok(())
@@ -45,7 +52,7 @@ fn truncated(rt: HostRuntime) -> Result<(), Fail> {
     let alloc = rt.alloc();
     let capture = first_capture(alloc)?;
     // The header, one record, and 10 bytes of the second record's frame.
-    let ran = run_cut(alloc, &capture, 108)?;
+    let ran = run_cut(&rt, alloc, &capture, 108)?;
     assert_eq!(rt;
         ran.report.as_str(),
         "1 pass rule 1 reflect\ntruncated after 1\npackets 1 pass 1 drop 0\n"
@@ -59,12 +66,12 @@ fn capture_cut_anywhere(rt: HostRuntime) -> Result<(), Fail> {
     let alloc = rt.alloc();
     let capture = first_capture(alloc)?;
     for count in 0..24 {
-        let ran = run_cut(alloc, &capture, count)?;
+        let ran = run_cut(&rt, alloc, &capture, count)?;
         assert_eq!(rt; ran.outcome, Err(Fault::Short), "after {count} bytes");
         assert_eq!(rt; ran.report.as_str(), "", "after {count} bytes");
     }
     for count in 24..=198 {
-        let ran = run_cut(alloc, &capture, count)?;
+        let ran = run_cut(&rt, alloc, &capture, count)?;
         let packets = (count as u64).saturating_sub(24) / 58;
         let totals = Totals {
             packets,
@@ -97,7 +104,7 @@ fn record_lengths(rt: HostRuntime) -> Result<(), Fail> {
     let longest =
         "d4c3b2a102000400000000000000000000000400 01000000 64000000 00000000 00000400 00000400 00112233445566778899";
     let input = with_capture(alloc, &decoded(alloc, longest.as_bytes())?)?;
-    let ran = run_on(alloc, &defaults(), &input)?;
+    let ran = run_on(&rt, alloc, &input)?;
     assert_eq!(rt;
         ran.report.as_str(),
         "truncated after 0\npackets 0 pass 0 drop 0\n"
@@ -146,7 +153,7 @@ fn highest_byte_first(rt: HostRuntime) -> Result<(), Fail> {
         0000006a 00000000 0000002a 0000002a 020000000001 020000000002 0800
         4500001c 00000000 40110000 0a000003 0a000001 0035 03e8 0008 0000";
     let input = with_capture(alloc, &decoded(alloc, capture.as_bytes())?)?;
-    let ran = run_on(alloc, &defaults(), &input)?;
+    let ran = run_on(&rt, alloc, &input)?;
     assert_eq!(rt; ran.report.as_str(), FIRST_REPORT);
     Ok(())
 }

@@ -95,7 +95,7 @@ fn one_byte_at_a_time(rt: HostRuntime) -> Result<(), Fail> {
         failures: 0,
     };
     let mut writer = trickling(alloc, usize::MAX);
-    let outcome = run(alloc, &defaults(), &mut reader, &mut writer);
+    let outcome = run(&rt, alloc, &defaults(1), &mut reader, &mut writer);
     assert_eq!(rt; status(&outcome), 0);
     assert_eq!(rt; writer.taken.as_slice(), FIRST_REPORT.as_bytes());
     Ok(())
@@ -111,7 +111,7 @@ fn failing_reads(rt: HostRuntime) {
             failures: 0,
         };
         let mut writer = trickling(alloc, usize::MAX);
-        let outcome = run(alloc, &defaults(), &mut reader, &mut writer);
+        let outcome = run(&rt, alloc, &defaults(1), &mut reader, &mut writer);
         assert_eq!(rt; outcome, Err(Fault::Read), "after {reads} reads");
         assert_eq!(rt; status(&outcome), 4);
         assert_eq!(rt; writer.taken.len(), 0, "after {reads} reads");
@@ -124,7 +124,7 @@ fn failing_writes(rt: HostRuntime) {
     for writes in 0..FIRST_REPORT.len() {
         let mut reader = Device::new(FIRST_PATH.as_bytes());
         let mut writer = trickling(alloc, writes);
-        let outcome = run(alloc, &defaults(), &mut reader, &mut writer);
+        let outcome = run(&rt, alloc, &defaults(1), &mut reader, &mut writer);
         assert_eq!(rt; outcome, Err(Fault::Write), "after {writes} writes");
         assert_eq!(rt; status(&outcome), 4);
         assert_eq!(rt; writer.taken.len(), writes);
@@ -136,7 +136,7 @@ fn failing_writes(rt: HostRuntime) {
 fn a_write_of_nothing_is_a_failed_one(rt: HostRuntime) {
     let mut reader = Device::new(FIRST_PATH.as_bytes());
     let mut writer = Stopped { failures: 0 };
-    let outcome = run(rt.alloc(), &defaults(), &mut reader, &mut writer);
+    let outcome = run(&rt, rt.alloc(), &defaults(1), &mut reader, &mut writer);
     assert_eq!(rt; outcome, Err(Fault::Write));
     assert_eq!(rt; writer.failures, 1);
 }
@@ -168,7 +168,7 @@ fn input_limit(rt: HostRuntime) {
         (67_108_865, Fault::TooLarge),
     ] {
         let mut writer = trickling(alloc, usize::MAX);
-        let outcome = run(alloc, &defaults(), &mut Spaces { left }, &mut writer);
+        let outcome = run(&rt, alloc, &defaults(1), &mut Spaces { left }, &mut writer);
         assert_eq!(rt; outcome, Err(fault), "with {left} bytes");
         assert_eq!(rt; writer.taken.len(), 0);
     }

@@ -2,14 +2,14 @@
 
 use super::captures::Content::{Echo, Tcp, Udp};
 use super::captures::{
-    FIRST_PATH, FIRST_REPORT, NAMES, defaults, inbound, input, outbound, report_of, run_on,
+    FIRST_PATH, FIRST_REPORT, NAMES, inbound, input, outbound, report_of, run_by, run_on,
 };
 use racl_cli::{Totals, options, status};
 use std::test::Fail;
 
 #[test]
 fn first_path(rt: HostRuntime) -> Result<(), Fail> {
-    let ran = run_on(rt.alloc(), &defaults(), FIRST_PATH.as_bytes())?;
+    let ran = run_on(&rt, rt.alloc(), FIRST_PATH.as_bytes())?;
     assert_eq!(rt; ran.report.as_str(), FIRST_REPORT);
     let totals = Totals {
         packets: 3,
@@ -26,7 +26,7 @@ fn first_path(rt: HostRuntime) -> Result<(), Fail> {
 fn empty(rt: HostRuntime) -> Result<(), Fail> {
     let alloc = rt.alloc();
     assert_eq!(rt;
-        report_of(alloc, NAMES, &[])?.as_str(),
+        report_of(&rt, alloc, NAMES, &[])?.as_str(),
         "packets 0 pass 0 drop 0\n"
     );
     let packets = [
@@ -35,7 +35,7 @@ fn empty(rt: HostRuntime) -> Result<(), Fail> {
         inbound(106, Udp((3, 53), (1, 1000))),
     ];
     assert_eq!(rt;
-        report_of(alloc, "", &packets)?.as_str(),
+        report_of(&rt, alloc, "", &packets)?.as_str(),
         "1 drop default\n2 drop default\n3 drop default\npackets 3 pass 0 drop 3\n"
     );
     Ok(())
@@ -47,13 +47,13 @@ fn boundary_second(rt: HostRuntime) -> Result<(), Fail> {
     let request = outbound(100, Udp((1, 1000), (2, 53)));
     let answer = inbound(700, Udp((2, 53), (1, 1000)));
     assert_eq!(rt;
-        report_of(alloc, NAMES, &[request, answer])?.as_str(),
+        report_of(&rt, alloc, NAMES, &[request, answer])?.as_str(),
         "1 pass rule 1 reflect\n2 pass session\npackets 2 pass 2 drop 0\n"
     );
     let late = inbound(701, Udp((2, 53), (1, 1000)));
     let again = outbound(701, Udp((1, 1000), (2, 53)));
     assert_eq!(rt;
-        report_of(alloc, NAMES, &[request, late, again])?.as_str(),
+        report_of(&rt, alloc, NAMES, &[request, late, again])?.as_str(),
         "1 pass rule 1 reflect\n2 drop default\n3 pass rule 1 reflect\npackets 3 pass 2 drop 1\n"
     );
     Ok(())
@@ -74,7 +74,7 @@ fn tcp(rt: HostRuntime) -> Result<(), Fail> {
         inbound(12002, Tcp(server, client, 0x10)),
     ];
     assert_eq!(rt;
-        report_of(rt.alloc(), CONNECTS, &packets)?.as_str(),
+        report_of(&rt, rt.alloc(), CONNECTS, &packets)?.as_str(),
         "1 pass rule 1 reflect\n2 pass session\n3 pass session\n4 pass session\n\
         5 pass session\n6 drop default\npackets 6 pass 5 drop 1\n"
     );
@@ -91,12 +91,13 @@ fn flag_mask(rt: HostRuntime) -> Result<(), Fail> {
         inbound(1000, Tcp(server, client, 0x12)),
     ];
     assert_eq!(rt;
-        report_of(alloc, asks, &packets)?.as_str(),
+        report_of(&rt, alloc, asks, &packets)?.as_str(),
         "1 pass rule 1\n2 drop default\npackets 2 pass 1 drop 1\n"
     );
     let first = outbound(1000, Tcp(client, server, 0x02));
     for (moment, verdict) in [(1120, "pass session"), (1121, "drop default")] {
         let report = report_of(
+            &rt,
             alloc,
             CONNECTS,
             &[first, inbound(moment, Tcp(server, client, 0x12))],
@@ -108,7 +109,7 @@ fn flag_mask(rt: HostRuntime) -> Result<(), Fail> {
     let third = outbound(1001, Tcp(client, server, 0x10));
     for (moment, verdict) in [(87401, "pass session"), (87402, "drop default")] {
         let last = inbound(moment, Tcp(server, client, 0x10));
-        let report = report_of(alloc, CONNECTS, &[first, second, third, last])?;
+        let report = report_of(&rt, alloc, CONNECTS, &[first, second, third, last])?;
         let line = format!(in alloc; "\n4 {verdict}\n")?;
         assert!(rt; report.as_str().contains(line.as_str()), "at {moment}");
     }
@@ -129,7 +130,7 @@ in permit+reflect ipv4 any any icmp type 8
         inbound(4, Echo(0, 3, 1)),
     ];
     assert_eq!(rt;
-        report_of(rt.alloc(), policy, &packets)?.as_str(),
+        report_of(&rt, rt.alloc(), policy, &packets)?.as_str(),
         "1 pass rule 1 reflect\n2 pass rule 1 reflect\n3 pass session\n4 drop default\n\
         packets 4 pass 3 drop 1\n"
     );
@@ -140,7 +141,7 @@ in permit+reflect ipv4 any any icmp type 8
 fn tie(rt: HostRuntime) -> Result<(), Fail> {
     let both = outbound(100, Udp((1, 53), (1, 53)));
     assert_eq!(rt;
-        report_of(rt.alloc(), NAMES, &[both, both])?.as_str(),
+        report_of(&rt, rt.alloc(), NAMES, &[both, both])?.as_str(),
         "1 pass rule 1 reflect\n2 pass session\npackets 2 pass 2 drop 0\n"
     );
     Ok(())
@@ -155,7 +156,7 @@ fn moments(rt: HostRuntime) -> Result<(), Fail> {
         inbound(1100, Udp((2, 53), (1, 1000))),
     ];
     assert_eq!(rt;
-        report_of(alloc, NAMES, &packets)?.as_str(),
+        report_of(&rt, alloc, NAMES, &packets)?.as_str(),
         "1 pass rule 1 reflect\n2 pass session\n3 pass session\npackets 3 pass 3 drop 0\n"
     );
     let packets = [
@@ -163,7 +164,7 @@ fn moments(rt: HostRuntime) -> Result<(), Fail> {
         inbound(4294967295, Udp((2, 53), (1, 1000))),
     ];
     assert_eq!(rt;
-        report_of(alloc, NAMES, &packets)?.as_str(),
+        report_of(&rt, alloc, NAMES, &packets)?.as_str(),
         "1 pass rule 1 reflect\n2 pass session\npackets 2 pass 2 drop 0\n"
     );
     Ok(())
@@ -177,10 +178,13 @@ fn words_set_the_timeout(rt: HostRuntime) -> Result<(), Fail> {
         inbound(4294967295, Udp((2, 53), (1, 1000))),
     ];
     let input = input(alloc, NAMES, &packets)?;
-    let options = options(alloc, &["racl", "--udp", "4294967295"])?;
-    assert_eq!(rt;
-        run_on(alloc, &options, &input)?.report.as_str(),
-        "1 pass rule 1 reflect\n2 pass session\npackets 2 pass 2 drop 0\n"
-    );
+    for workers in ["1", "2", "16"] {
+        let words = ["racl", "--udp", "4294967295", "--workers", workers];
+        let options = options(alloc, &words)?;
+        assert_eq!(rt;
+            run_by(&rt, alloc, &options, &input)?.report.as_str(),
+            "1 pass rule 1 reflect\n2 pass session\npackets 2 pass 2 drop 0\n"
+        );
+    }
     Ok(())
 }
