@@ -1,4 +1,5 @@
 pub mod ColonLaws
+pub mod DecisionLaws
 pub mod DecisionLemmas
 pub mod GroupLaws
 pub mod GroupLemmas

@@ -2,6 +2,7 @@
 #![tactic(auto)]
 
 mod address;
+mod decision_laws;
 mod family;
 mod laws;
 mod line;
@@ -15,7 +16,9 @@ mod rule;
 mod traffic;
 mod words;
 
+pub use decision_laws::rules_decide_each_packet;
+pub use family::width_of;
 pub use laws::one_reading;
-pub use matching::first_match;
+pub use matching::{first_match, is_match};
 pub use policy::{Policy, PolicyFault, read_policy};
 pub use rule::{Action, Rule};

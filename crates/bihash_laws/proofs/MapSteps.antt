@@ -1,8 +1,11 @@
 -- What a step of a bounded map leaves, and the map behind one write more.
-use Rattle.std.proofs.Common.{◌≡◌, ◌∙◌, ◌+◌, ℕ, zero, suc, true, false, List, [], ◌∷◌, ap, arith, sym, inl, inr}
+use Rattle.std.proofs.Common.{◌≡◌, ◌∙◌, ◌+◌, ℕ, zero, suc, true, false, List, [], ◌∷◌, ap, arith, refl, sym, inl, inr}
 use mathlib.Core.Option.{some, some-ne-none, some-injective}
 use lib.ListN.{get_elem?}
 use Rattle.bihash_words.specs.Maps.{Answers, Bounds, Crowded, Entering, Event, Exhausted, Idle, Pairs, Present, Row, Step, changed}
+use Rattle.bihash_words.specs.Runs.{writes_of}
+use Rattle.bihash_words.specs.declared.patch.Reply.{Reply}
+use Rattle.bihash_words.specs.declared.patch.Reply.TheVariants.{Kept, Changed, Worn, Full, NoPages}
 use Rattle.bihash_steps.specs.Histories.{after, is_changed}
 use Rattle.bihash_steps.specs.declared.view.Write.{Write}
 
@@ -31,6 +34,21 @@ step_changes b m n w e step = changed_at _ b m n e step.answers
 -- any other call leaves the map
 pub step_leaves : (b : Bounds) (m n : Pairs) (w : ℕ) (e : Event) → Step b m w e n → is_changed e.reply ≡ false → n ≡ m
 step_leaves b m n w e step = left_at _ b m n e step.answers
+
+-- how many writes there are behind a write, and behind another call
+pub one_more : (r : Reply) (n : ℕ) → is_changed r ≡ true → n + writes_of r ≡ n + 1
+one_more (Kept found) n is = let f : ⊥ = cc in absurd f
+one_more (Changed found) n is = refl
+one_more (Worn found) n is = let f : ⊥ = cc in absurd f
+one_more Full n is = let f : ⊥ = cc in absurd f
+one_more (NoPages log2 left) n is = let f : ⊥ = cc in absurd f
+
+pub no_more : (r : Reply) (n : ℕ) → is_changed r ≡ false → n + writes_of r ≡ n
+no_more (Kept found) n is = omega arith
+no_more (Changed found) n is = let f : ⊥ = cc in absurd f
+no_more (Worn found) n is = omega arith
+no_more Full n is = omega arith
+no_more (NoPages log2 left) n is = omega arith
 
 -- the map behind the write at place n
 pub after_next : (opening : Pairs) (H : List Write) (n : ℕ) (w : Write) → get_elem? H n ≡ some w

@@ -16,7 +16,7 @@ use Rattle.bihash_steps.specs.declared.view.Record.{Record}
 use Rattle.bihash_steps.specs.declared.view.View.{View}
 use Rattle.bihash_steps.proofs.Lists.{there, within}
 use Rattle.bihash_laws.specs.Runs.{IsOneWriter, IsRun, calls_on, writes_behind}
-use Rattle.bihash_laws.proofs.MapSteps.{after_next, step_changes, step_leaves}
+use Rattle.bihash_laws.proofs.MapSteps.{after_next, no_more, one_more, step_changes, step_leaves}
 
 module _ (z : Sizes) (b : ℕ) (opening : Pairs) (H : List Write) (by : ℕ) where
   -- The calls that are left when the first n writes stand: those on bucket b are legal and not of earlier
@@ -111,7 +111,7 @@ module _ (z : Sizes) (b : ℕ) (opening : Pairs) (H : List Write) (by : ℕ) whe
           let at : get_elem? H n ≡ some (write_of by c) = ap (get_elem? H) (sym place) ∙ o.2 in
           let leaves : answer.0 ≡ after opening H (n + 1) =
           step_changes (bounds_of z) (after opening H n) answer.0 n (event_of c) answer.1 wrote ∙ sym (after_next opening H n (write_of by c) at) in
-          let count : writes_behind n c ≡ n + 1 = ap (λ (t : Bool). cond t (n + 1) n) wrote in
+          let count : writes_behind n c ≡ n + 1 = one_more c.reply n wrote in
           let stamp : c.stamp ≡ n + 1 = o.1 ∙ ap (λ (p : ℕ). p + 1) place in
           let tail : AreLeft (n + 1) cs = tail_left c cs n (n + 1) left (omega arith) (omega arith) (λ p from _ _ is. omega arith)
           (λ k d at there. subst (λ (s : ℕ). (s ≤ d.stamp) × (is_changed d.reply ≡ true → s < d.stamp)) stamp (later k d at there)) in (
@@ -126,7 +126,7 @@ module _ (z : Sizes) (b : ℕ) (opening : Pairs) (H : List Write) (by : ℕ) whe
           let stamp : c.stamp ≡ n = read_stamp c cs n left home kept in
           let answer : IsAnswer z (after opening H n) n c = subst (λ p. IsAnswer z (after opening H p) p c) stamp (legal.other kept) in
           let leaves : answer.0 ≡ after opening H n = step_leaves (bounds_of z) (after opening H n) answer.0 n (event_of c) answer.1 kept in
-          let count : writes_behind n c ≡ n = ap (λ (t : Bool). cond t (n + 1) n) kept in
+          let count : writes_behind n c ≡ n = no_more c.reply n kept in
           let tail : AreLeft n cs = tail_left c cs n n left (omega arith) left.passed
           (λ p from _ wrote _. let clash = sym kept ∙ wrote in let f : ⊥ = cc in f) (λ k d at. left.late (suc k) d at) in (
             answer.0,

@@ -18,7 +18,7 @@ use Rattle.bihash_steps.specs.declared.view.Record.{Record}
 use Rattle.bihash_steps.specs.declared.view.View.{View}
 use Rattle.bihash_laws.specs.Runs.{AreLegal, IsRun, calls_on, writes_behind}
 use Rattle.bihash_laws.specs.Serializations.{AreStamped, IsCalled, IsSerialization, Operation, calls_by, calls_in, writes_in}
-use Rattle.bihash_laws.proofs.MapSteps.{after_next, step_leaves}
+use Rattle.bihash_laws.proofs.MapSteps.{after_next, no_more, step_leaves}
 use Rattle.bihash_laws.proofs.Moments.{at_moment, by_moments, from_moment}
 use Rattle.bihash_laws.proofs.OwnCalls.{AreCalls, Kind, call_of, elsewhere, have_moments, in_order, is_call_of, kind, moment, none_later, own_write, read, write}
 use Rattle.bihash_laws.proofs.Operations.{BearOnce, calls_by-append, calls_by-cons, calls_by-operations_at, operation, operations_at, operations_each}
@@ -113,7 +113,7 @@ module _ (z : Sizes) (b : ℕ) (opening : Pairs) (H : List Write) (records : Lis
       leaves = step_leaves (bounds_of z) m answer.0 n (event_of t.call) answer.1 reads.kept
 
       count : writes_behind n t.call ≡ n
-      count = ap (λ (s : Bool). cond s (n + 1) n) reads.kept
+      count = no_more t.call.reply n reads.kept
 
   reads_good : (n : ℕ) (m : Pairs) (ws : List Write) (ts us : List Operation) → m ≡ after opening H n → All (IsReadAt n) ts
       → AreGood n m ws us → AreGood n m ws (ts ++ us)

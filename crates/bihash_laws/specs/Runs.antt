@@ -1,12 +1,14 @@
 -- What the calls of lawful callers say of the map of a bucket.
-use Rattle.std.specs.Prelude.{◌≡◌, ◌⊎◌, ℕ, ◌+◌, ◌≤◌, ◌==◌, if◌then◌else◌, List, [], ◌∷◌, length}
+use Rattle.std.specs.Prelude.{◌≡◌, ◌⊎◌, ℕ, ◌+◌, ◌≤◌, ◌==◌, List, length, map}
 use Rattle.std.specs.List.{filter}
 use Rattle.std.specs.FinMap.{get}
 use lib.ListN.{get_elem?}
 use mathlib.Core.Option.{some}
-use Rattle.bihash_words.specs.Maps.{Pairs, Event, Step, changed}
+use Rattle.bihash_words.specs.Maps.{Pairs, Event, changed}
+use Rattle.bihash_words.specs.Runs as events
+use Rattle.bihash_words.specs.Runs.{writes_of}
 use Rattle.bihash_words.specs.Sizes.{Sizes}
-use Rattle.bihash_steps.specs.Histories.{IsLegal, IsPrefix, after, bounds_of, bucket_of, event_of, is_changed}
+use Rattle.bihash_steps.specs.Histories.{IsLegal, IsPrefix, after, bounds_of, bucket_of, event_of}
 use Rattle.bihash_steps.specs.Callers.{IsLawfulCaller, known_at, opening_at}
 use Rattle.bihash_steps.specs.declared.view.Write.{Write}
 use Rattle.bihash_steps.specs.declared.view.Call.{Call}
@@ -24,14 +26,12 @@ calls_on b calls = filter (λ c. c.bucket == b) calls
 
 -- how many writes there are behind a call that came behind n writes
 abbrev pub writes_behind : ℕ → Call → ℕ
-writes_behind n c = if is_changed c.reply then n + 1 else n
+writes_behind n c = n + writes_of c.reply
 
 -- The calls are a run of one bounded map: each is a step of the map that the one before it left. They lead
 -- from the map m behind n writes to the map `last` behind `writes`.
 abbrev pub IsRun : Sizes → Pairs → ℕ → List Call → Pairs → ℕ → Type 0
-IsRun z m n [] last writes = (m ≡ last) × (n ≡ writes)
-IsRun z m n (c ∷ cs) last writes = (m' : Pairs) × Step (bounds_of z) m n (event_of c) m'
-    × IsRun z m' (writes_behind n c) cs last writes
+IsRun z m n calls last writes = events.IsRun (bounds_of z) m n (map event_of calls) last writes
 
 -- each known write of bucket b was made under this number
 abbrev pub IsOneWriter : Known → ℕ → ℕ → Type 0

@@ -1,17 +1,14 @@
 -- What many workers leave: one event for each packet of a flow, in the record of the worker that it was dealt to.
-use Rattle.std.specs.Prelude.{◌≡◌, ◌≢◌, ◌≤◌, ◌*◌, ◌^◌, ℕ, ◌+◌, ◌==◌, Bool, true, false, count_by, ◌&&◌, if◌then◌else◌, List, [], ◌∷◌, length, map, Option, Some, None, All}
+use Rattle.std.specs.Prelude.{◌≡◌, ◌≢◌, ◌≤◌, ◌*◌, ◌^◌, ℕ, ◌+◌, ◌==◌, Bool, true, false, count_by, if◌then◌else◌, List, [], ◌∷◌, length, map, Option, Some, None, All}
 use lib.ListN.{get_elem?}
 use mathlib.Core.Option.{some}
 use Rattle.packet_view.specs.Captures.{Seen}
 use Rattle.packet_view.specs.declared.tuple.Family.{Family}
-use Rattle.packet_view.specs.declared.tuple.Family.TheVariants.{V4, V6}
 use Rattle.acl_policy.specs.Policies.{PolicyFacts}
 use Rattle.bihash_words.specs.Maps.{Event}
-use Rattle.bihash_words.specs.Sizes.{Sizes}
-use Rattle.bihash_steps.specs.Words.{buckets}
-use Rattle.bihash_steps.specs.Callers.{HasMadeAll, IsLawfulCaller, IsWhole, known_writes}
+use Rattle.bihash_steps.specs.Callers.{IsLawfulCaller}
 use Rattle.bihash_steps.specs.Histories.{event_of}
-use Rattle.bihash_steps.specs.PageStores.{AreShort}
+use Rattle.bihash_steps.specs.Steps.{IsToldWhole}
 use Rattle.bihash_steps.specs.declared.view.Record.{Record}
 use Rattle.bihash_steps.specs.declared.view.View.{View}
 use Rattle.session_state.specs.declared.timeouts.Timeouts.{Timeouts}
@@ -20,8 +17,7 @@ use Rattle.flow_filter.specs.declared.verdict.Verdict.TheVariants.{NoPages}
 use Rattle.flow_filter.specs.Readings.{AreReadings}
 use Rattle.flow_filter.specs.Updates.{Update, update_of}
 use Rattle.flow_filter.specs.Judged.{AreAsked, Judged, readings_of, verdicts_on}
-use Rattle.flow_filter.specs.OneThread.{AreVerdicts, HasPages, Layout, family_of, same_family, sizes_in}
-use Rattle.flow_dealing.specs.declared.dealing.Dealing.TheVariants.{Bucket}
+use Rattle.flow_filter.specs.OneThread.{HasPages, Layout, family_of, same_family, sizes_in}
 use Rattle.flow_dealing.specs.Views.{Views, view_in}
 use Rattle.flow_dealing.specs.Dealings.{Deal, flow_in, worker_of}
 
@@ -40,13 +36,10 @@ events_by d times family worker n (j ∷ js) =
     else events_by d times family worker (n + 1) js
 
 -- The records of one family's callers, all of them: that of each worker has the events of its packets, in their order,
--- and no other. The caller that has them is lawful and made each write that it knows, of a table that began empty; and
--- wherever a record tells of too few pages, these writes took the others.
+-- and no other. The caller that has them is lawful and whole, of a table that began empty.
 pub record AreRecorded (d : Deal) (times : Timeouts) (family : Family) (js : List Judged) (v : View) : Type 0 where
   pub lawful : IsLawfulCaller (sizes_in d.layout family) v
-  pub whole : IsWhole v.records v.seen
-  pub made : HasMadeAll (sizes_in d.layout family) v
-  pub short : AreShort (sizes_in d.layout family) (known_writes v.known (buckets (sizes_in d.layout family))) v.records
+  pub told : IsToldWhole (sizes_in d.layout family) v
   pub openings : v.known.openings ≡ []
   pub count : length v.records ≡ d.workers
   pub each : (worker : ℕ) (r : Record) → get_elem? v.records worker ≡ some r

@@ -1,5 +1,5 @@
 -- What one worker did: an item for each packet that was dealt to it.
-use Rattle.std.specs.Prelude.{◌≡◌, ℕ, ◌+◌, ◌==◌, ◌++◌, if◌then◌else◌, List, [], ◌∷◌, length, map, Option, Some, None, option_map, All, drop, slice_get}
+use Rattle.std.specs.Prelude.{◌≡◌, ℕ, ◌+◌, ◌==◌, if◌then◌else◌, List, [], ◌∷◌, length, map, Option, Some, None, option_map, All, slice_get}
 use Rattle.std.specs.List.{AllZip}
 use lib.ListN.{get_elem?}
 use mathlib.Core.Option.{some}
@@ -8,9 +8,10 @@ use Rattle.packet_view.specs.Frames as frames
 use Rattle.packet_view.specs.Frames.{IsFrame}
 use Rattle.packet_view.specs.declared.tuple.Mac.{Mac}
 use Rattle.packet_view.specs.declared.tuple.Family.{Family}
-use Rattle.packet_view.specs.declared.tuple.Family.TheVariants.{V4, V6}
 use Rattle.acl_policy.specs.Policies.{PolicyFacts}
+use Rattle.bihash_steps.specs.Callers.{IsLawfulCaller}
 use Rattle.bihash_steps.specs.Histories.{event_of}
+use Rattle.bihash_steps.specs.Steps.{IsToldWhole}
 use Rattle.bihash_steps.specs.declared.view.Call.{Call}
 use Rattle.bihash_steps.specs.declared.view.Record.{Record}
 use Rattle.bihash_steps.specs.declared.view.View.{View}
@@ -19,8 +20,7 @@ use Rattle.flow_filter.specs.declared.verdict.Verdict.{Verdict}
 use Rattle.flow_filter.specs.Readings.{IsReading, Reading}
 use Rattle.flow_filter.specs.Updates.{Update, update_of}
 use Rattle.flow_filter.specs.Judged.{IsAsked, Judged, verdict_on}
-use Rattle.flow_filter.specs.OneThread.{Layout, family_of, home_of, same_family}
-use Rattle.flow_dealing.specs.Views.{Views}
+use Rattle.flow_filter.specs.OneThread.{Layout, family_of, home_of, same_family, sizes_in}
 use Rattle.flow_dealing.specs.Dealings.{Deal, flow_in, flow_shown, worker_of}
 
 -- a packet by its number, from 0, its reading, and the call that it made
@@ -96,6 +96,17 @@ HasCalls times family trace r = r.calls ≡ calls_in times family trace
 pub record HaveTraces (times : Timeouts) (family : Family) (traces : List (List Item)) (v : View) : Type 0 where
   pub records : AllZip (HasCalls times family) traces v.records
   pub openings : v.known.openings ≡ []
+
+-- the traces are those of all workers, in their order
+pub record AreTraces (d : Deal) (times : Timeouts) (policy : PolicyFacts) (packets : List Seen) (traces : List (List Item)) : Type 0 where
+  pub count : length traces ≡ d.workers
+  pub each : (w : ℕ) (trace : List Item) → get_elem? traces w ≡ some trace → IsTrace d times w policy packets trace
+
+-- one family's callers of these workers, all of them, as one caller that is lawful and whole
+pub record AreGathered (d : Deal) (times : Timeouts) (family : Family) (traces : List (List Item)) (v : View) : Type 0 where
+  pub lawful : IsLawfulCaller (sizes_in d.layout family) v
+  pub told : IsToldWhole (sizes_in d.layout family) v
+  pub did : HaveTraces times family traces v
 
 -- each packet's verdict stands at its place
 pub record ArePlaced (times : Timeouts) (packets : List Seen) (traces : List (List Item)) (verdicts : List Verdict) : Type 0 where

@@ -2,9 +2,11 @@
 #![tactic(auto)]
 
 mod dealing;
+mod laws;
 mod worker;
 
 pub use dealing::Dealing;
+pub use laws::{few_packets_have_pages, traces_judge_each_packet, workers_give_one_report};
 pub use worker::worker_of;
 
 #[cfg(test)]

@@ -1,5 +1,5 @@
 -- A packet with what came of it (this project's profile).
-use Rattle.std.specs.Prelude.{◌≡◌, ℕ, List, map, Option, Some, None, All}
+use Rattle.std.specs.Prelude.{◌≡◌, List, map, Option, Some, None, All}
 use Rattle.bihash_words.specs.Maps.{Event}
 use Rattle.session_state.specs.declared.timeouts.Timeouts.{Timeouts}
 use Rattle.session_state.specs.Decisions.{decision_of}

@@ -1,6 +1,7 @@
 -- Callers of workers, split and joined.
 use Rattle.std.proofs.Common.{◌≡◌, ◌∙◌, ℕ, List, [], ◌∷◌, ◌++◌, ap, refl, sym, subst}
-use Rattle.std.specs.List.{AllZip}
+use Rattle.std.specs.List.{All, AllZip}
+use Rattle.std.proofs.lemmas.List.Elements.{All-cons, All-head, All-nil, All-tail}
 use Rattle.packet_view.specs.declared.tuple.Family.{Family}
 use Rattle.bihash_words.specs.Sizes.{Sizes}
 use Rattle.bihash_steps.specs.Steps.{IsRefused, joined, newcomer, parent}
@@ -43,3 +44,35 @@ joined_traces v w times family t ts one more = record {
   records = with_trace times family t ts v.records w.records one.records more.records;
   openings = one.openings;
 }
+
+-- ---- The last of a list
+
+pub all_but_last : {X : Type 0} (P : X → Type 0) (xs : List X) (x : X) → All P (xs ++ x ∷ []) → All P xs × P x
+all_but_last P [] x all = (All-nil P, All-head P x [] all)
+all_but_last P (y ∷ ys) x all = let rest = all_but_last P ys x (All-tail P y (ys ++ x ∷ []) all) in
+    (All-cons P y ys (All-head P y (ys ++ x ∷ []) all) rest.0, rest.1)
+
+pub record LastOf {X Y : Type 0} (R : X → Y → Type 0) (xs : List X) (ys : List Y) (y : Y) : Type 0 where
+  pub front : List X
+  pub last : X
+  pub split : xs ≡ front ++ last ∷ []
+  pub others : AllZip R front ys
+  pub one : R last y
+
+pub last_of : {X Y : Type 0} (R : X → Y → Type 0) (xs : List X) (ys : List Y) (y : Y) → AllZip R xs (ys ++ y ∷ []) → LastOf R xs ys y
+last_of R [] [] y all = absurd all
+last_of R [] (z ∷ zs) y all = absurd all
+last_of R (x ∷ []) [] y all = record { front = []; last = x; split = refl; others = tt; one = all.0 }
+last_of R (x ∷ w ∷ ws) [] y all = absurd all.1
+last_of R (x ∷ xs) (z ∷ zs) y all = let rest = last_of R xs zs y all.1 in record {
+  front = x ∷ rest.front;
+  last = rest.last;
+  split = ap (λ k. x ∷ k) rest.split;
+  others = (all.0, rest.others);
+  one = rest.one;
+}
+
+pub no_traces : {X Y : Type 0} (R : X → Y → Type 0) (xs : List X) (ys : List Y) → ys ≡ [] → AllZip R xs ys → xs ≡ []
+no_traces R [] ys none all = refl
+no_traces R (x ∷ xs) [] none all = absurd all
+no_traces R (x ∷ xs) (y ∷ ys) none all = let f : ⊥ = cc in absurd f

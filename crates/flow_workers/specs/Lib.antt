@@ -1,3 +1,12 @@
 pub mod Callers
 pub mod Fresh
+pub mod Jobs
 pub mod Judging
+pub mod Placing
+pub mod Preparing
+pub mod Shortages
+pub mod Turns
+pub mod Updates
+pub mod Verdicts
+pub mod ViewedPackets
+pub mod Work

@@ -2,14 +2,29 @@
 #![tactic(auto)]
 
 mod gate;
+mod judging;
 mod numbers;
+mod parts;
+mod placing;
+mod prepared;
 mod run_fault;
+mod run_stub;
+mod share;
 mod tables;
+mod task;
+mod turn;
+mod updates;
+mod viewed_packet;
+mod work;
 mod workers;
 
 pub use flow_dealing::Dealing;
 pub use flow_filter::{Filter, Verdict};
 pub use gate::Gate;
+pub use judging::{judge, try_judge};
 pub use run_fault::RunFault;
+pub use run_stub::run_workers;
 pub use tables::{Callers, Tables, create_tables};
-pub use workers::run_workers;
+
+#[cfg(test)]
+mod tests;

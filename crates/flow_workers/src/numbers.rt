@@ -1,5 +1,6 @@
 //! Callers of workers: made before their turns, and taken together after them.
-ghost use Rattle.std.specs.Prelude.{◌≡◌, [], ◌∷◌, List, IfOk};
+ghost use Rattle.std.specs.Prelude.{◌≡◌, ◌<◌, [], ◌∷◌, All, List, IfOk, length};
+ghost use Rattle.std.specs.List.{AllZip};
 ghost use Rattle.packet_view.specs.declared.tuple.Family.{Family};
 ghost use Rattle.bihash_words.specs.Sizes.{sizes_of};
 ghost use Rattle.bihash_steps.specs.Callers.{IsLawfulCaller};
@@ -68,4 +69,23 @@ pub fn join_one<S: Shape>(table: &Sessions<S>, worker: Caller<S>, others: Caller
         → HaveTraces times family (trace ∷ traces) result.seat.view }
 {
     table.join(worker, others)
+}
+
+/// The callers of all workers, in their order, as one.
+pub fn join_all<S: Shape>(table: &Sessions<S>, mut callers: Vec<Caller<S>>) -> Caller<S>
+    requires some { 0 < length callers.items }
+    requires own { All (λ c. c.seat.row ≡ table.now.row) callers.items }
+    requires free { All (λ c. c.seat.view.holds ≡ nothing_held) callers.items }
+    ensures own { result.seat.row ≡ table.now.row }
+    ensures traces { (times : Timeouts) (family : Family) (traces : List (List Item))
+        → AllZip (λ trace c. HaveTraces times family (trace ∷ []) c.seat.view) traces callers.items
+        → HaveTraces times family traces result.seat.view }
+{
+    let Some(mut joined) = callers.pop() else {
+        unreachable!()
+    };
+    while let Some(caller) = callers.pop() {
+        joined = join_one(table, caller, joined);
+    }
+    joined
 }

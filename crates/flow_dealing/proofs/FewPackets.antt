@@ -1,0 +1,226 @@
+-- So few packets of a family's flows that its pages can't run out.
+use Rattle.std.proofs.Common.{◌≡◌, ◌≢◌, ◌∙◌, ◌+◌, ◌-◌, ◌*◌, ◌^◌, ◌<◌, ◌≤◌, ℕ, zero, suc, Bool, true, false, cond, List, [], ◌∷◌, ◌++◌, length, Option, Some, None, ap, refl, sym, subst, arith, inl, inr, length-append}
+use Rattle.std.specs.Prelude.{if◌then◌else◌, ◌==◌, option_map}
+use Rattle.std.specs.List.{All}
+use Rattle.std.proofs.Math.Nat.{mul-le-mul_right, pow-le-pow_right}
+use Rattle.std.proofs.lemmas.Bool.{cases_lt}
+use Rattle.std.proofs.lemmas.List.{length-map}
+use Rattle.std.proofs.lemmas.List.Elements.{All-map}
+use Rattle.std.proofs.lemmas.List.Sums.{sum_by-cons}
+use lib.ListN.{get_elem?}
+use mathlib.Core.Option.{some, some-ne-none, some-injective}
+use Rattle.packet_view.specs.Captures.{Seen}
+use Rattle.packet_view.specs.declared.tuple.Family.{Family}
+use Rattle.acl_policy.specs.Policies.{PolicyFacts}
+use Rattle.bihash_words.specs.Maps.{Event}
+use Rattle.bihash_words.specs.Sizes.{Sizes}
+use Rattle.bihash_words.specs.declared.patch.Reply.TheVariants as reply
+use Rattle.bihash_steps.specs.Words.{buckets}
+use Rattle.bihash_steps.specs.Histories.{event_of, is_changed}
+use Rattle.bihash_steps.specs.Callers.{HasMadeAll, HasWrite, IsLawfulCaller, known_at, known_writes}
+use Rattle.bihash_steps.specs.declared.view.Call.{Call}
+use Rattle.bihash_steps.specs.declared.view.Known.{Known}
+use Rattle.bihash_steps.specs.declared.view.Record.{Record}
+use Rattle.bihash_steps.specs.declared.view.View.{View}
+use Rattle.bihash_steps.proofs.Lists.{at_behind, there}
+use Rattle.session_state.specs.declared.flow.Flow.{Flow}
+use Rattle.session_state.specs.declared.timeouts.Timeouts.{Timeouts}
+use Rattle.session_state.specs.Flows.{flow_of}
+use Rattle.flow_filter.specs.declared.verdict.Verdict.{Verdict}
+use Rattle.flow_filter.specs.declared.verdict.Verdict.TheVariants.{NoPages}
+use Rattle.flow_filter.specs.Readings.{AreReadings, Framed, IsReading, Reading, Ruled}
+use Rattle.flow_filter.specs.Updates.{Update, update_in, update_of}
+use Rattle.flow_filter.specs.Judged.{IsAsked, Judged, readings_of, verdict_on}
+use Rattle.flow_filter.specs.OneThread.{HasPages, IsNoRefusal, family_of, same_family, sizes_in}
+use Rattle.flow_dealing.specs.Views.{view_in}
+use Rattle.flow_dealing.specs.Dealings.{Deal, flow_in, worker_of}
+use Rattle.flow_dealing.specs.Runs.{AreFew, AreJudged, AreRecorded, HasPagesIn, HavePages, add_in, events_by, is_in, keyed}
+use Rattle.flow_dealing.proofs.Counting.{IsLabelled, at_least, sum_at, sum_one, sum_zero}
+use Rattle.flow_dealing.proofs.Merging.{events_by-cons, events_by-nil}
+use Rattle.flow_dealing.proofs.PacketCalls.{IsFlowEvent, asked_flow, call_of_packet, same_family_refl, same_family_sound}
+use Rattle.flow_dealing.proofs.Places.{after_map, all_at, all_from, at_front}
+use Rattle.flow_dealing.proofs.Refusals.{paged_is_told, wants}
+
+-- ---- All calls of a caller
+
+abbrev all_calls : List Record → List Call
+all_calls [] = []
+all_calls (r ∷ rs) = r.calls ++ all_calls rs
+
+in_all : (records : List Record) (i k : ℕ) (r : Record) (c : Call) → get_elem? records i ≡ some r → get_elem? r.calls k ≡ some c
+    → (p : ℕ) × (get_elem? (all_calls records) p ≡ some c)
+in_all [] i k r c at_i at_k = absurd (some-ne-none r (sym at_i))
+in_all (q ∷ qs) zero k r c at_i at_k =
+    (k, at_front q.calls (all_calls qs) k c (ap (λ (x : Record). get_elem? x.calls k) (some-injective q r at_i) ∙ at_k))
+in_all (q ∷ qs) (suc i) k r c at_i at_k =
+    let p = in_all qs i k r c at_i at_k in (length q.calls + p.0, at_behind q.calls (all_calls qs) p.0 c p.1)
+
+how_many : (records : List Record) (w : ℕ) (f : ℕ → ℕ) → ((i : ℕ) (r : Record) → get_elem? records i ≡ some r → length r.calls ≡ f (w + i))
+    → length (all_calls records) ≡ sum_at w (length records) f
+how_many [] w f each = refl
+how_many (r ∷ rs) w f each =
+    let more = how_many rs (w + 1) f (λ i q at. let e : w + suc i ≡ w + 1 + i = omega arith in each (suc i) q at ∙ ap f e) in
+    let here : length r.calls ≡ f w = let e : w + 0 ≡ w = omega arith in each 0 r refl ∙ ap f e in
+    let both = length-append r.calls (all_calls rs) in
+    omega arith
+
+-- ---- Known writes are calls
+
+-- the place of a write among those of all buckets
+place : (known : Known) (b k : ℕ) → k < known_writes known b
+    → (a : ℕ) × (n : ℕ) × (a < b) × (n < length (known_at known a)) × (k ≡ known_writes known a + n)
+place known zero k few = absurd (omega arith)
+place known (suc b) k few = elim (cases_lt k (known_writes known b)) [
+  | inl less ↦ let p = place known b k less in let inside = p.2 in (p.0, p.1, omega arith, p.3, p.4)
+  | inr more ↦ (b, k - known_writes known b, omega arith, omega arith, omega arith)
+]
+
+-- a write's place, from 1, and 0 for another call
+abbrev label : Known → Call → ℕ
+label known c = cond (is_changed c.reply) (known_writes known c.bucket + c.stamp) 0
+
+label_of_write : (known : Known) (c : Call) (b n m : ℕ) → is_changed c.reply ≡ true → c.bucket ≡ b → c.stamp ≡ n + 1
+    → m ≡ known_writes known b + n → label known c ≡ suc m
+label_of_write known c b n m wrote at_bucket stamp is =
+    let first : known_writes known c.bucket ≡ known_writes known b = ap (known_writes known) at_bucket in
+    let all : known_writes known c.bucket + c.stamp ≡ suc m = omega arith in
+    ap (λ t. cond t (known_writes known c.bucket + c.stamp) 0) wrote ∙ all
+
+-- a caller that made all that it knows made more calls than it knows writes, where one of them wrote nothing
+more_calls : (z : Sizes) (v : View) (i k : ℕ) (r : Record) (c : Call) → IsLawfulCaller z v → HasMadeAll z v → get_elem? v.records i ≡ some r
+    → get_elem? r.calls k ≡ some c → is_changed c.reply ≡ false → known_writes v.known (buckets z) + 1 ≤ length (all_calls v.records)
+more_calls z v i k r c caller made at_i at_k kept =
+    let all = at_least (label v.known) (suc (known_writes v.known (buckets z))) (all_calls v.records) each in omega arith
+  where
+    each : (m : ℕ) → m < suc (known_writes v.known (buckets z)) → IsLabelled (label v.known) (all_calls v.records) m
+    each zero few = let p = in_all v.records i k r c at_i at_k in
+        (p.0, c, p.1, ap (λ t. cond t (known_writes v.known c.bucket + c.stamp) 0) kept)
+    each (suc m) few =
+        let (b, n, inside, stands, is) = place v.known (buckets z) m (omega arith) in
+        let w = there (known_at v.known b) n stands in
+        let by = made b inside n w.0 w.1 in
+        let has : HasWrite by.1.calls b (n + 1) = caller.lawful.own by.0 b n by.1 w.0 by.2 inside w.1 (sym by.3) in
+        let p = in_all v.records by.0 has.0 by.1 has.1 by.2 has.2 in
+        (p.0, has.1, p.1, label_of_write v.known has.1 b n m has.4 has.3 has.5 is)
+
+-- ---- The calls of all workers are no more than the packets with a flow of the family
+
+module _ (d : Deal) (times : Timeouts) (family : Family) where
+  one_event : (u : Option Update) (event : Option Event) (events : List Event)
+      → length (add_in family u event events) ≤ length events + cond (is_in family u) 1 0
+  one_event None event events = omega arith
+  one_event (Some u) None events = go (same_family family (family_of u.key))
+    where
+      go : (t : Bool) → length events ≤ length events + cond t 1 0
+      go true = omega arith
+      go false = omega arith
+  one_event (Some u) (Some e) events = go (same_family family (family_of u.key))
+    where
+      go : (t : Bool) → length (if t then e ∷ events else events) ≤ length events + cond t 1 0
+      go true = omega arith
+      go false = omega arith
+
+  abbrev its_count : ℕ → List Judged → ℕ → ℕ
+  its_count n js w = length (events_by d times family w n js)
+
+  one_packet : (n : ℕ) (j : Judged) (js : List Judged) (w : ℕ) → its_count n (j ∷ js) w
+      ≤ cond (worker_of d n (flow_in j.reading) == w) (its_count (n + 1) js w + cond (is_in family (update_of times j.reading)) 1 0) (its_count (n + 1) js w)
+  one_packet n j js w =
+      subst (λ es. length es ≤ cond test (its_count (n + 1) js w + cond (is_in family (update_of times j.reading)) 1 0) (its_count (n + 1) js w))
+      (sym (events_by-cons d times family w n j js)) (go test)
+    where
+      test : Bool
+      test = worker_of d n (flow_in j.reading) == w
+
+      E : List Event
+      E = events_by d times family w (n + 1) js
+
+      go : (t : Bool) → length (cond t (add_in family (update_of times j.reading) j.event E) E)
+          ≤ cond t (length E + cond (is_in family (update_of times j.reading)) 1 0) (length E)
+      go true = one_event (update_of times j.reading) j.event E
+      go false = omega arith
+
+  no_more_events : (w workers n : ℕ) (js : List Judged) → sum_at w workers (its_count n js) ≤ keyed times family js
+  no_more_events w workers n [] =
+      let none = sum_zero w workers (its_count n []) (λ k. ap length (events_by-nil d times family k n)) in omega arith
+  no_more_events w workers n (j ∷ js) =
+      let x : ℕ = cond (is_in family (update_of times j.reading)) 1 0 in
+      let one = sum_one (worker_of d n (flow_in j.reading)) x (its_count (n + 1) js) (its_count n (j ∷ js)) (one_packet n j js) w workers in
+      let more = no_more_events w workers (n + 1) js in
+      let all : keyed times family (j ∷ js) ≡ x + keyed times family js = sum_by-cons (λ (i : Judged). cond (is_in family (update_of times i.reading)) 1 0) j js in
+      omega arith
+
+  no_more_calls : (js : List Judged) (v : View) → AreRecorded d times family js v → length (all_calls v.records) ≤ keyed times family js
+  no_more_calls js v recorded =
+      let all = how_many v.records 0 (its_count 0 js) (λ i r at.
+      let e : 0 + i ≡ i = omega arith in
+      sym (length-map r.calls event_of) ∙ (ap length (recorded.each i r at) ∙ ap (its_count 0 js) (sym e))) in
+      let few = no_more_events 0 (length v.records) 0 js in
+      omega arith
+
+  -- the flow of a packet of the family
+  flow_inside : (reading : Reading) → is_in family (update_of times reading) ≡ true
+      → (flow : Flow) × (flow_in reading ≡ Some flow) × (family_of flow.key ≡ family)
+  flow_inside (Framed said) is = let f : ⊥ = cc in absurd f
+  flow_inside (Ruled moment tuple ruling) is = go (flow_of tuple) is
+    where
+      go : (f : Option Flow) → is_in family (option_map (update_in times moment tuple ruling) f) ≡ true
+          → (flow : Flow) × (f ≡ Some flow) × (family_of flow.key ≡ family)
+      go None clash = let f : ⊥ = cc in absurd f
+      go (Some flow) same = (flow, refl, sym (same_family_sound family (family_of flow.key) same))
+
+inside_flow : (times : Timeouts) (reading : Reading) (flow : Flow) → flow_in reading ≡ Some flow
+    → is_in (family_of flow.key) (update_of times reading) ≡ true
+inside_flow times (Framed said) flow has = let f : ⊥ = cc in absurd f
+inside_flow times (Ruled moment tuple ruling) flow has =
+    ap (λ f. is_in (family_of flow.key) (option_map (update_in times moment tuple ruling) f)) has ∙ same_family_refl (family_of flow.key)
+
+-- with so few packets of a family none of them is refused for want of pages
+pub pages_for_few : (d : Deal) (times : Timeouts) (policy : PolicyFacts) (packets : List Seen) (verdicts : List Verdict)
+    (are : AreJudged d times policy packets verdicts) (family : Family) → AreFew d.layout times family are.judged
+    → All (HasPagesIn times family) are.judged
+pages_for_few d times policy packets verdicts are family few = all_from (HasPagesIn times family) are.judged (λ k j at is e its log2 left short.
+    let recorded = are.recorded family in
+    let v : View = view_in are.views family in
+    let (flow, has, inside) = flow_inside d times family j.reading is in
+    let c = call_of_packet d times family are.judged v recorded k j flow e at has inside its in
+    let refused : c.call.reply ≡ reply.NoPages log2 left = ap (λ (x : Event). x.reply) c.event ∙ short in
+    let want = wants (sizes_in d.layout family) v c.at c.place c.record_at c.call log2 left recorded.lawful c.stands c.called refused in
+    let taken = (recorded.told.short c.call (c.at, c.place, c.record_at, c.stands, c.called) log2 left refused).taken in
+    let calls = more_calls (sizes_in d.layout family) v c.at c.place c.record_at c.call recorded.lawful recorded.told.made c.stands c.called (ap is_changed refused) in
+    let packets_few = no_more_calls d times family are.judged v recorded in
+    let M : ℕ = (sizes_in d.layout family).max_log2 in
+    let writes : ℕ = known_writes v.known (buckets (sizes_in d.layout family)) in
+    let block : 2 ^ log2 ≤ 2 ^ M = pow-le-pow_right (omega arith) want.small in
+    let left_few : left < 2 ^ log2 = want.few in
+    let enough : (writes + 1) * 2 ^ M ≤ keyed times family are.judged * 2 ^ M = mul-le-mul_right (2 ^ M) (omega arith) in
+    omega (arith, few, taken))
+
+-- with so few packets of both families no verdict says that pages were wanting
+pub verdicts_for_few : (d : Deal) (times : Timeouts) (policy : PolicyFacts) (packets : List Seen) (verdicts : List Verdict)
+    (are : AreJudged d times policy packets verdicts) → ((family : Family) → AreFew d.layout times family are.judged) → HavePages verdicts
+verdicts_for_few d times policy packets verdicts are few =
+    subst HavePages (sym are.said) (All-map (λ v. v ≢ NoPages) (verdict_on times) are.judged
+    (all_from (λ j. verdict_on times j ≢ NoPages) are.judged (λ k j at.
+    let p = packet_of (readings_of are.judged) packets k j.reading are.read (after_map (λ (i : Judged). i.reading) are.judged k j at) in
+    paged_is_told times policy p.0 j p.1 (λ e its. has_pages k j at e its))))
+  where
+    packet_of : (readings : List Reading) (ps : List Seen) (k : ℕ) (reading : Reading) → AreReadings policy ps readings
+        → get_elem? readings k ≡ some reading → (packet : Seen) × IsReading policy packet reading
+    packet_of [] [] k reading read at = absurd (some-ne-none reading (sym at))
+    packet_of [] (p ∷ ps) k reading read at = absurd read
+    packet_of (r ∷ rs) [] k reading read at = absurd read
+    packet_of (r ∷ rs) (p ∷ ps) zero reading read at = (p, subst (IsReading policy p) (some-injective r reading at) read.0)
+    packet_of (r ∷ rs) (p ∷ ps) (suc k) reading read at = packet_of rs ps k reading read.1 at
+
+    has_pages : (k : ℕ) (j : Judged) → get_elem? are.judged k ≡ some j → HasPages j
+    has_pages k j at e its = go (flow_in j.reading) refl
+      where
+        go : (f : Option Flow) → flow_in j.reading ≡ f → IsNoRefusal e.reply
+        go None is =
+            let none : j.event ≡ None = subst (λ f. IsFlowEvent f j.event) is (asked_flow times j (all_at (IsAsked times) are.judged k j are.asked at)) in
+            let clash = sym none ∙ its in let f : ⊥ = cc in absurd f
+        go (Some flow) is =
+            all_at (HasPagesIn times (family_of flow.key)) are.judged k j
+            (pages_for_few d times policy packets verdicts are (family_of flow.key) (few (family_of flow.key))) at
+            (inside_flow times j.reading flow is) e its

@@ -1,0 +1,188 @@
+-- Where each bucket has one worker, the packets' events on a bucket are a run of its map, in the order of the file.
+use Rattle.std.proofs.Common.{◌≡◌, ◌≢◌, ◌⊎◌, ◌∙◌, ◌+◌, ◌<◌, ◌%◌, ℕ, suc, Bool, true, false, cond, List, [], ◌∷◌, length, map, Option, Some, None, ap, ap₂, refl, sym, subst, arith, inl, inr}
+use Rattle.std.specs.Prelude.{if◌then◌else◌, ◌==◌, ◌&&◌}
+use Rattle.std.specs.FinMap.{empty}
+use Rattle.std.specs.List.{filter}
+use Rattle.std.proofs.Math.Nat.{mod-lt}
+use Rattle.std.proofs.lemmas.Bool.Decides.{eqb_tells}
+use Rattle.std.proofs.lemmas.List.Elements.{All-head, All-tail}
+use lib.ListN.{get_elem?}
+use mathlib.Core.Option.{some, some-injective}
+use Rattle.packet_view.specs.declared.tuple.Family.{Family}
+use Rattle.bihash_words.specs.Maps.{Event, Pairs}
+use Rattle.bihash_words.specs.Runs.{IsRun}
+use Rattle.bihash_words.specs.Sizes.{Sizes, bucket_of}
+use Rattle.bihash_steps.specs.Words.{buckets}
+use Rattle.bihash_steps.specs.Histories.{bounds_of, event_of}
+use Rattle.bihash_steps.specs.Callers.{HasWrite, known_at, opening_at, opening_in}
+use Rattle.bihash_steps.specs.BucketSteps.{map_now}
+use Rattle.bihash_steps.specs.declared.view.Call.{Call}
+use Rattle.bihash_steps.specs.declared.view.Record.{Record}
+use Rattle.bihash_steps.specs.declared.view.View.{View}
+use Rattle.bihash_steps.proofs.Lists.{there}
+use Rattle.bihash_laws.specs.Runs.{IsOneWriter, calls_on}
+use Rattle.bihash_laws.proofs.OneWriter.{one_map}
+use Rattle.session_state.specs.declared.flow.Flow.{Flow}
+use Rattle.session_state.specs.declared.timeouts.Timeouts.{Timeouts}
+use Rattle.flow_filter.specs.Updates.{words_of}
+use Rattle.flow_filter.specs.Judged.{AreAsked, IsAsked, Judged}
+use Rattle.flow_filter.specs.OneThread.{Home, bounds_in, events_at, family_of, home_of, same_family, sizes_in}
+use Rattle.flow_dealing.specs.declared.dealing.Dealing.{Dealing}
+use Rattle.flow_dealing.specs.declared.dealing.Dealing.TheVariants.{Bucket}
+use Rattle.flow_dealing.specs.Dealings.{Deal, flow_in, worker_by, worker_of}
+use Rattle.flow_dealing.specs.Runs.{AreRecorded, events_by}
+use Rattle.flow_dealing.proofs.Merging.{events_by-nil, worker_few}
+use Rattle.flow_dealing.proofs.Places.{after_map}
+use Rattle.flow_dealing.proofs.PacketCalls.{IsFlowEvent, add_event-flow, add_flow, add_flow_at, asked_flow, events_by-flow, packet_of_event, same_family_sound, some_worker}
+use Rattle.flow_dealing.proofs.Refusals.{legal_call}
+
+-- ---- The worker of a bucket
+
+-- each packet whose flow's key is of this bucket goes to this worker
+pub record IsOwner (d : Deal) (home : Home) (w : ℕ) : Type 0 where
+  pub few : w < d.workers
+  pub each : (number : ℕ) (flow : Flow) → home_of d.layout flow.key ≡ home → worker_of d number (Some flow) ≡ w
+
+pub owner : (d : Deal) (home : Home) → 0 < d.workers → (d.dealing ≡ Bucket) ⊎ (d.workers ≡ 1) → (w : ℕ) × IsOwner d home w
+owner d home some_worker (inl by_bucket) = (
+  home.bucket % d.workers,
+  record {
+    few = mod-lt home.bucket some_worker;
+    each = λ number flow is. ap (λ (g : Dealing). worker_by g d.layout d.workers number (Some flow)) by_bucket
+        ∙ ap (λ (h : Home). h.bucket % d.workers) is;
+  },
+)
+owner d home some_worker (inr one) = (
+  0,
+  record {
+    few = some_worker;
+    each = λ number flow is. let few = worker_few d number (Some flow) some_worker in omega arith;
+  },
+)
+
+-- ---- Calls and events
+
+-- the events whose keys are of this bucket
+abbrev events_on : Sizes → ℕ → List Event → List Event
+events_on z b es = filter (λ e. bucket_of z e.key == b) es
+
+on_bucket : (z : Sizes) (b : ℕ) (calls : List Call) → ((k : ℕ) (c : Call) → get_elem? calls k ≡ some c → bucket_of z c.key ≡ c.bucket)
+    → map event_of (calls_on b calls) ≡ events_on z b (map event_of calls)
+on_bucket z b [] home = refl
+on_bucket z b (c ∷ cs) home = go (c.bucket == b)
+    ∙ ap₂ (λ (k : ℕ) (es : List Event). cond (k == b) (event_of c ∷ es) es) (sym (home 0 c refl))
+    (on_bucket z b cs (λ k x at. home (suc k) x at))
+  where
+    go : (t : Bool) → map event_of (cond t (c ∷ calls_on b cs) (calls_on b cs)) ≡ cond t (event_of c ∷ map event_of (calls_on b cs)) (map event_of (calls_on b cs))
+    go true = refl
+    go false = refl
+
+module _ (d : Deal) (times : Timeouts) (family : Family) (b w : ℕ)
+    (own : IsOwner d (record { family = family; bucket = b }) w) where
+  abbrev z : Sizes
+  z = sizes_in d.layout family
+
+  abbrev home : Home
+  home = record { family = family; bucket = b }
+
+  -- ---- The owner's events on the bucket are the packets'
+
+  -- the key of a flow of the family is of that bucket
+  key_home : (flow : Flow) → family_of flow.key ≡ family → bucket_of z (words_of flow.key) ≡ b → home_of d.layout flow.key ≡ home
+  key_home flow inside is =
+      (λ i. record { family = inside i; bucket = bucket_of (sizes_in d.layout (inside i)) (words_of flow.key) })
+      ∙ ap (λ (k : ℕ). record { family = family; bucket = k }) is
+
+  one_more : (n : ℕ) (f : Option Flow) (event : Option Event) (E R : List Event) → IsFlowEvent f event → events_on z b E ≡ R
+      → events_on z b (cond (worker_of d n f == w) (add_flow family f event E) E) ≡ add_flow_at d.layout home f event R
+  one_more n None event E R its same = go (worker_of d n None == w)
+    where
+      go : (t : Bool) → events_on z b (cond t E E) ≡ R
+      go true = same
+      go false = same
+  one_more n (Some flow) event E R its same =
+      subst (λ ev. events_on z b (cond (worker_of d n (Some flow) == w) (add_flow family (Some flow) ev E) E) ≡ add_flow_at d.layout home (Some flow) ev R)
+      (sym its.1) (go (same_family family (family_of flow.key)) refl (eqb_tells b (home_of d.layout flow.key).bucket))
+    where
+      e : Event
+      e = its.0
+
+      stays : (t : Bool) → events_on z b (cond t E E) ≡ R
+      stays true = same
+      stays false = same
+
+      skips : (bucket_of z e.key == b) ≡ false → (t : Bool) → events_on z b (cond t (e ∷ E) E) ≡ R
+      skips test true = ap (λ s. cond s (e ∷ events_on z b E) (events_on z b E)) test ∙ same
+      skips test false = same
+
+      of_key : family_of flow.key ≡ family → bucket_of z e.key ≡ (home_of d.layout flow.key).bucket
+      of_key inside = ap (bucket_of z) its.2 ∙ ap (λ g. bucket_of (sizes_in d.layout g) (words_of flow.key)) (sym inside)
+
+      go : (s : Bool) → same_family family (family_of flow.key) ≡ s
+          → (((b == (home_of d.layout flow.key).bucket) ≡ true) × (b ≡ (home_of d.layout flow.key).bucket))
+          ⊎ (((b == (home_of d.layout flow.key).bucket) ≡ false) × (b ≢ (home_of d.layout flow.key).bucket))
+          → events_on z b (cond (worker_of d n (Some flow) == w) (if s then e ∷ E else E) E)
+          ≡ (if s && (b == (home_of d.layout flow.key).bucket) then e ∷ R else R)
+      go false is at = stays (worker_of d n (Some flow) == w)
+      go true is (inl (test, here)) =
+          let inside : family_of flow.key ≡ family = sym (same_family_sound family (family_of flow.key) is) in
+          let its_bucket : bucket_of z e.key ≡ b = of_key inside ∙ sym here in
+          let mine : (worker_of d n (Some flow) == w) ≡ true = elim (eqb_tells (worker_of d n (Some flow)) w) [
+            | inl (hit, _) ↦ hit
+            | inr (miss, other) ↦ absurd (other (own.each n flow (key_home flow inside (ap (bucket_of z) (sym its.2) ∙ its_bucket))))
+          ] in
+          let hit : (bucket_of z e.key == b) ≡ true = elim (eqb_tells (bucket_of z e.key) b) [
+            | inl (hit, _) ↦ hit
+            | inr (miss, other) ↦ absurd (other its_bucket)
+          ] in
+          ap (λ t. events_on z b (cond t (e ∷ E) E)) mine
+          ∙ (ap (λ t. cond t (e ∷ events_on z b E) (events_on z b E)) hit
+          ∙ (ap (λ es. e ∷ es) same ∙ ap (λ t. if t then e ∷ R else R) (sym test)))
+      go true is (inr (test, apart)) =
+          let inside : family_of flow.key ≡ family = sym (same_family_sound family (family_of flow.key) is) in
+          let miss : (bucket_of z e.key == b) ≡ false = elim (eqb_tells (bucket_of z e.key) b) [
+            | inl (hit, here) ↦ absurd (apart (sym here ∙ of_key inside))
+            | inr (miss, _) ↦ miss
+          ] in
+          skips miss (worker_of d n (Some flow) == w) ∙ ap (λ t. if t then e ∷ R else R) (sym test)
+
+  its_events : (n : ℕ) (js : List Judged) → AreAsked times js
+      → events_on z b (events_by d times family w n js) ≡ events_at d.layout times home js
+  its_events n [] asked = ap (events_on z b) (events_by-nil d times family w n)
+  its_events n (j ∷ js) asked =
+      ap (events_on z b) (events_by-flow d times family w n j js)
+      ∙ (one_more n (flow_in j.reading) j.event (events_by d times family w (n + 1) js) (events_at d.layout times home js)
+      (asked_flow times j (All-head (IsAsked times) j js asked)) (its_events (n + 1) js (All-tail (IsAsked times) j js asked))
+      ∙ sym (add_event-flow d.layout home times j.reading j.event (events_at d.layout times home js)))
+
+  module _ (js : List Judged) (v : View) (recorded : AreRecorded d times family js v) (asked : AreAsked times js) (inside : b < buckets z) where
+    -- a call on the bucket stands in the owner's record
+    owner_of_call : (i k : ℕ) (r : Record) (c : Call) → get_elem? v.records i ≡ some r → get_elem? r.calls k ≡ some c → c.bucket ≡ b → i ≡ w
+    owner_of_call i k r c at_i at_k is =
+        let f = packet_of_event d times family i 0 js asked k (event_of c)
+        (ap (λ es. get_elem? es k) (sym (recorded.each i r at_i)) ∙ after_map event_of r.calls k c at_k) in
+        let home = (legal_call z v i k r c recorded.lawful at_i at_k).key.home in
+        sym f.dealt ∙ own.each f.number f.flow (key_home f.flow f.inside (ap (bucket_of z) (sym f.key) ∙ (home ∙ is)))
+
+    one_writer : (r : Record) → get_elem? v.records w ≡ some r → IsOneWriter v.known b r.number
+    one_writer r at n x at_n =
+        let m = recorded.told.made b inside n x at_n in
+        let has : HasWrite m.1.calls b (n + 1) = recorded.lawful.lawful.own m.0 b n m.1 x m.2 inside at_n (sym m.3) in
+        let place : m.0 ≡ w = owner_of_call m.0 has.0 m.1 has.1 m.2 has.2 has.3 in
+        let same : m.1 ≡ r = some-injective m.1 r (sym m.2 ∙ (ap (get_elem? v.records) place ∙ at)) in
+        sym m.3 ∙ ap (λ (y : Record). y.number) same
+
+    pub runs_at : (last : Pairs) × (writes : ℕ)
+        × IsRun (bounds_in d.layout family) empty 0 (events_at d.layout times home js) last writes
+    runs_at =
+        let r = there v.records w (let few = own.few in let count = recorded.count in omega arith) in
+        let run = one_map z v w b r.0 recorded.lawful r.1 inside (one_writer r.0 r.1) in
+        let its : map event_of (calls_on b r.0.calls) ≡ events_at d.layout times home js
+        = on_bucket z b r.0.calls (λ k c at. (legal_call z v w k r.0 c recorded.lawful r.1 at).key.home)
+        ∙ (ap (events_on z b) (recorded.each w r.0 r.1) ∙ its_events 0 js asked) in
+        let start : opening_at v.known b ≡ empty = ap (λ openings. opening_in openings b) recorded.openings in (
+          map_now v b,
+          length (known_at v.known b),
+          subst (λ es. IsRun (bounds_of z) empty 0 es (map_now v b) (length (known_at v.known b))) its
+              (subst (λ m. IsRun (bounds_of z) m 0 (map event_of (calls_on b r.0.calls)) (map_now v b) (length (known_at v.known b))) start run),
+        )

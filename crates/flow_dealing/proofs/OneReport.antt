@@ -1,0 +1,64 @@
+-- The report of all workers is that of one thread.
+use Rattle.std.proofs.Common.{◌≡◌, ◌≢◌, ◌⊎◌, ◌∙◌, ℕ, List, Option, Some, None, ap, refl, sym, subst}
+use lib.ListN.{get_elem?}
+use mathlib.Core.Option.{some}
+use Rattle.packet_view.specs.Captures.{Seen}
+use Rattle.packet_view.specs.declared.tuple.Family.{Family}
+use Rattle.acl_policy.specs.Policies.{PolicyFacts}
+use Rattle.bihash_words.specs.Maps.{Event}
+use Rattle.bihash_words.specs.declared.patch.Reply.TheVariants as reply
+use Rattle.bihash_steps.specs.Histories.{bounds_of}
+use Rattle.session_state.specs.declared.flow.Flow.{Flow}
+use Rattle.session_state.specs.declared.timeouts.Timeouts.{Timeouts}
+use Rattle.flow_filter.specs.declared.verdict.Verdict.{Verdict}
+use Rattle.flow_filter.specs.declared.verdict.Verdict.TheVariants as verdict
+use Rattle.flow_filter.specs.Judged.{IsAsked, Judged, verdict_on}
+use Rattle.flow_filter.specs.OneThread.{AreVerdicts, HasPages, family_of, sizes_in}
+use Rattle.flow_dealing.specs.declared.dealing.Dealing.TheVariants.{Bucket}
+use Rattle.flow_dealing.specs.Views.{view_in}
+use Rattle.flow_dealing.specs.Dealings.{Deal, flow_in}
+use Rattle.flow_dealing.specs.Runs.{AreJudged, HavePages}
+use Rattle.flow_dealing.proofs.OneOwner.{owner, runs_at}
+use Rattle.flow_dealing.proofs.PacketCalls.{IsFlowEvent, asked_flow, call_of_packet, some_worker}
+use Rattle.flow_dealing.proofs.Places.{after_map, all_at, all_from}
+use Rattle.flow_dealing.proofs.Refusals.{IsWant, refusal_is_verdict, wants}
+
+module _ (d : Deal) (times : Timeouts) (policy : PolicyFacts) (packets : List Seen) (verdicts : List Verdict)
+    (are : AreJudged d times policy packets verdicts) where
+  -- a packet whose event was refused for want of pages is told so
+  refused : (k : ℕ) (j : Judged) (e : Event) (log2 left : ℕ) → get_elem? are.judged k ≡ some j → j.event ≡ Some e → e.reply ≡ reply.NoPages log2 left
+      → verdict_on times j ≡ verdict.NoPages
+  refused k j e log2 left at its short = go (flow_in j.reading) refl
+    where
+      asked : IsAsked times j
+      asked = all_at (IsAsked times) are.judged k j are.asked at
+
+      go : (f : Option Flow) → flow_in j.reading ≡ f → verdict_on times j ≡ verdict.NoPages
+      go None is =
+          let none : j.event ≡ None = subst (λ f. IsFlowEvent f j.event) is (asked_flow times j asked) in
+          let clash = sym none ∙ its in let f : ⊥ = cc in absurd f
+      go (Some flow) is =
+          let family : Family = family_of flow.key in
+          let recorded = are.recorded family in
+          let c = call_of_packet d times family are.judged (view_in are.views family) recorded k j flow e at is refl its in
+          let want = wants (sizes_in d.layout family) (view_in are.views family) c.at c.place c.record_at c.call log2 left recorded.lawful
+          c.stands c.called (ap (λ (x : Event). x.reply) c.event ∙ short) in
+          refusal_is_verdict times j.reading j.event flow e (bounds_of (sizes_in d.layout family)) log2 left is asked its
+          (subst (λ (x : Event). IsWant (bounds_of (sizes_in d.layout family)) x.found x.change log2 left) c.event want) short
+
+  pub one_report : (d.dealing ≡ Bucket) ⊎ (d.workers ≡ 1) → HavePages verdicts → AreVerdicts d.layout times policy packets verdicts
+  one_report one paged = record {
+    judged = are.judged;
+    read = are.read;
+    one_thread = record {
+      asked = are.asked;
+      runs = λ home inside.
+          let recorded = are.recorded home.family in
+          let o = owner d home (some_worker d times home.family are.judged (view_in are.views home.family) recorded) one in
+          runs_at d times home.family home.bucket o.0 o.1 are.judged (view_in are.views home.family) recorded are.asked inside;
+      paged = all_from HasPages are.judged (λ k j at e its log2 left short.
+          all_at (λ v. v ≢ verdict.NoPages) verdicts k (verdict_on times j) paged
+          (ap (λ vs. get_elem? vs k) are.said ∙ after_map (verdict_on times) are.judged k j at) (refused k j e log2 left at its short));
+    };
+    said = are.said;
+  }

@@ -1,0 +1,6 @@
+use Rattle.flow_filter.specs.Filters.{policy_in}
+use Rattle.flow_filter.proofs.Rulings.{some_ruling}
+use Rattle.flow_filter.proofs.lazy_patch.tests.outcome_of.Given as goal
+
+abbrev pub ghosts-outcome_as : goal.ghosts-outcome_as
+ghosts-outcome_as a = record { ruling = (some_ruling (policy_in a.filter.now) a.packet).0 }

@@ -1,0 +1,282 @@
+-- One packet more of a worker.
+use Rattle.std.proofs.Common.{◌≡◌, ◌≢◌, ◌∙◌, ◌+◌, ◌<◌, ℕ, zero, suc, Bool, true, false, cond, List, [], ◌∷◌, ◌++◌, length, get_or, drop, map, Option, Some, None, ap, refl, sym, subst, arith, append_assoc, append-nil, add-one, eq-eqb}
+use Rattle.std.specs.Prelude.{if◌then◌else◌, ◌==◌, option_map, slice_get}
+use Rattle.std.specs.List.{All, AllZip}
+use Rattle.std.proofs.lemmas.Bool.{ne_eqb}
+use Rattle.std.proofs.lemmas.List.Elements.{All-nil, All-push}
+use Rattle.std.proofs.lemmas.List.{map-append}
+use Rattle.packet_view.specs.Captures.{Seen, seen}
+use Rattle.packet_view.specs.declared.capture.Packet.{Packet}
+use Rattle.packet_view.specs.Frames as frames
+use Rattle.packet_view.specs.Frames.{IsFrame}
+use Rattle.packet_view.specs.declared.tuple.Mac.{Mac}
+use Rattle.packet_view.specs.declared.tuple.Family.{Family}
+use Rattle.packet_view.specs.declared.tuple.Family.TheVariants.{V4, V6}
+use Rattle.acl_policy.specs.Policies.{PolicyFacts}
+use Rattle.bihash_words.specs.Maps.{Event}
+use Rattle.bihash_words.specs.Sizes.{Sizes}
+use Rattle.bihash_steps.specs.BucketSteps.{push_call}
+use Rattle.bihash_steps.specs.Histories.{event_of}
+use Rattle.bihash_steps.specs.declared.view.Call.{Call}
+use Rattle.bihash_steps.specs.declared.view.Known.{Known}
+use Rattle.bihash_steps.specs.declared.view.View.{View}
+use Rattle.bihash_table.specs.Answers.{entry_of, with_locks}
+use Rattle.bihash_table.specs.Promise.{IsAnswered}
+use Rattle.session_state.specs.declared.flow.FlowKey.{FlowKey}
+use Rattle.session_state.specs.declared.flow.FlowKey.TheVariants.{Four, Six}
+use Rattle.session_state.specs.declared.timeouts.Timeouts.{Timeouts}
+use Rattle.flow_filter.specs.declared.verdict.Verdict.{Verdict}
+use Rattle.flow_filter.specs.Readings.{IsReading, IsReadingOf, Reading}
+use Rattle.flow_filter.specs.Updates.{Update, update_of, words_of}
+use Rattle.flow_filter.specs.Judged.{IsAskedBy, Judged, verdict_on}
+use Rattle.flow_filter.specs.OneThread.{Layout, family_of, home_of, same_family}
+use Rattle.flow_dealing.specs.Views.{Views}
+use Rattle.flow_dealing.specs.Dealings.{Deal, flow_in, flow_shown, worker_of}
+use Rattle.flow_dealing.specs.Traces.{AreViews, IsCallAt, IsItem, IsItemOf, Item, call_in, calls_in, numbers_from, numbers_of, verdict_in}
+use Rattle.flow_workers.specs.Judging.{IsEntered, IsEnteredBy, IsJudged}
+use Rattle.flow_workers.specs.Work.{AreSaid, Continues, IsWork, RunFacts}
+
+-- ---- Records that go on
+
+pub continues_none : (v : View) → Continues v v []
+continues_none v = record {
+  calls = λ r one. (r.locks, one ∙ ap (λ cs. record r { calls = cs; locks = r.locks } ∷ []) (sym (append-nil r.calls)));
+  openings = refl;
+}
+
+continues_same : (v u w : View) (cs : List Call) → w ≡ u → Continues v u cs → Continues v w (cs ++ [])
+continues_same v u w cs same old = subst (λ k. Continues v w k) (sym (append-nil cs)) (subst (λ x. Continues v x cs) (sym same) old)
+
+continues_push : (z : Sizes) (v u w : View) (cs : List Call) (e : Event) (a : IsAnswered z u w e) → Continues v u cs
+    → Continues v w (cs ++ entry_of z (length a.history) e a.noted ∷ [])
+continues_push z v u w cs e a old = record {
+  calls = λ r one. let before = old.calls r one in (
+    a.locks,
+    a.records ∙ (ap (λ rs. push_call (entry_of z (length a.history) e a.noted) (with_locks a.locks rs)) before.1
+    ∙ ap (λ k. record r { calls = k; locks = a.locks } ∷ []) (append_assoc r.calls cs (entry_of z (length a.history) e a.noted ∷ []))),
+  );
+  openings = ap (λ (k : Known). k.openings) a.known ∙ old.openings;
+}
+
+-- ---- One packet's call
+
+-- the call of a packet with this update and event, and what it leaves of both callers
+record Left (l : Layout) (update : Option Update) (event : Option Event) (v w : Views) (c4 c6 : List Call) : Type 0 where
+  call : Option Call
+  is : option_map event_of call ≡ event
+  placed : IsCallAt l update call
+  four : Continues v.four w.four (c4 ++ call_in V4 update call [])
+  six : Continues v.six w.six (c6 ++ call_in V6 update call [])
+
+by_key : (l : Layout) (u : Update) (key : FlowKey) (e : Event) (v x w : Views) (c4 c6 : List Call)
+    → u.key ≡ key → e.key ≡ words_of key → IsEntered l key e x w → Continues v.four x.four c4 → Continues v.six x.six c6
+    → Left l (Some u) (Some e) v w c4 c6
+by_key l u (Four words) e v x w c4 c6 same asked entered four six =
+    let c : Call = entry_of l.four (length entered.0.history) e entered.0.noted in
+    record {
+      call = Some c;
+      is = refl;
+      placed = subst (λ k. c.bucket ≡ (home_of l k).bucket) (sym same) (ap (λ k. (home_of l (Four k)).bucket) asked);
+      four = subst (λ k. Continues v.four w.four (c4 ++ (if same_family V4 (family_of k) then c ∷ [] else []))) (sym same)
+          (continues_push l.four v.four x.four w.four c4 e entered.0 four);
+      six = subst (λ k. Continues v.six w.six (c6 ++ (if same_family V6 (family_of k) then c ∷ [] else []))) (sym same)
+          (continues_same v.six x.six w.six c6 entered.1 six);
+    }
+by_key l u (Six words) e v x w c4 c6 same asked entered four six =
+    let c : Call = entry_of l.six (length entered.0.history) e entered.0.noted in
+    record {
+      call = Some c;
+      is = refl;
+      placed = subst (λ k. c.bucket ≡ (home_of l k).bucket) (sym same) (ap (λ k. (home_of l (Six k)).bucket) asked);
+      four = subst (λ k. Continues v.four w.four (c4 ++ (if same_family V4 (family_of k) then c ∷ [] else []))) (sym same)
+          (continues_same v.four x.four w.four c4 entered.1 four);
+      six = subst (λ k. Continues v.six w.six (c6 ++ (if same_family V6 (family_of k) then c ∷ [] else []))) (sym same)
+          (continues_push l.six v.six x.six w.six c6 e entered.0 six);
+    }
+
+event_key : (u : Update) (e : Event) → IsAskedBy (Some u) (Some e) → e.key ≡ words_of u.key
+event_key u e asked = let same : asked.0 ≡ e = let s = asked.1 in cc in ap (λ (x : Event). x.key) (sym same) ∙ asked.2.key
+
+left_by : (l : Layout) (update : Option Update) (event : Option Event) (v x w : Views) (c4 c6 : List Call)
+    → IsAskedBy update event → IsEnteredBy l update event x w → Continues v.four x.four c4 → Continues v.six x.six c6
+    → Left l update event v w c4 c6
+left_by l None event v x w c4 c6 asked entered four six = record {
+  call = None;
+  is = sym asked;
+  placed = tt;
+  four = continues_same v.four x.four w.four c4 (ap (λ (y : Views). y.four) entered) four;
+  six = continues_same v.six x.six w.six c6 (ap (λ (y : Views). y.six) entered) six;
+}
+left_by l (Some u) None v x w c4 c6 asked entered four six = absurd entered
+left_by l (Some u) (Some e) v x w c4 c6 asked entered four six =
+    by_key l u u.key e v x w c4 c6 refl (event_key u e asked) entered four six
+
+-- ---- Lists of items
+
+call_in_append : (family : Family) (u : Option Update) (call : Option Call) (xs ys : List Call) → call_in family u call xs ++ ys ≡ call_in family u call (xs ++ ys)
+call_in_append family None call xs ys = refl
+call_in_append family (Some u) None xs ys = refl
+call_in_append family (Some u) (Some c) xs ys = go (same_family family (family_of u.key))
+  where
+    go : (t : Bool) → (if t then c ∷ xs else xs) ++ ys ≡ (if t then c ∷ (xs ++ ys) else (xs ++ ys))
+    go true = refl
+    go false = refl
+
+pub calls_push : (times : Timeouts) (family : Family) (is : List Item) (i : Item)
+    → calls_in times family (is ++ i ∷ []) ≡ calls_in times family is ++ call_in family (update_of times i.reading) i.call []
+calls_push times family [] i = refl
+calls_push times family (x ∷ xs) i = ap (call_in family (update_of times x.reading) x.call) (calls_push times family xs i)
+    ∙ sym (call_in_append family (update_of times x.reading) x.call (calls_in times family xs) (call_in family (update_of times i.reading) i.call []))
+
+-- ---- Dealing
+
+pub numbers_cons : (d : Deal) (w at : ℕ) (view : frames.View) (views : List frames.View) → numbers_from d w at (view ∷ views)
+    ≡ cond (worker_of d at (flow_shown view) == w) (at ∷ numbers_from d w (at + 1) views) (numbers_from d w (at + 1) views)
+unfolding numbers_from
+numbers_cons d w at view views = refl
+
+pub no_numbers : (d : Deal) (w at : ℕ) → numbers_from d w at [] ≡ []
+unfolding numbers_from
+no_numbers d w at = refl
+
+-- the view at a place
+view_there : (own : Option Mac) (packets : List Seen) (views : List frames.View) (at : ℕ) (packet : Seen) (this : frames.View) → AreViews own packets views
+    → slice_get packets at ≡ Some packet → ((other : frames.View) → IsFrame packet.frame own other → other ≡ this)
+    → drop at views ≡ this ∷ drop (suc at) views
+view_there own [] [] at packet this all stands only = let f : ⊥ = cc in absurd f
+view_there own [] (view ∷ views) at packet this all stands only = absurd all
+view_there own (p ∷ ps) [] at packet this all stands only = absurd all
+view_there own (p ∷ ps) (view ∷ views) zero packet this all stands only = ap (λ x. x ∷ views) (only view (subst (λ (q : Seen). IsFrame q.frame own view) (let e : p ≡ packet = cc in e) all.0))
+view_there own (p ∷ ps) (view ∷ views) (suc at) packet this all stands only = view_there own ps views at packet this all.1 stands only
+
+view_at : (own : Option Mac) (packets : List Seen) (views : List frames.View) (at : ℕ) (packet : Seen) (this : frames.View) → AreViews own packets views
+    → slice_get packets at ≡ Some packet → ((other : frames.View) → IsFrame packet.frame own other → other ≡ this)
+    → drop at views ≡ this ∷ drop (at + 1) views
+view_at own packets views at packet this all stands only = view_there own packets views at packet this all stands only
+    ∙ ap (λ k. this ∷ drop k views) (sym (add-one at))
+
+-- ---- A worker's packet, and another's
+
+flow_of_reading : (policy : PolicyFacts) (moment : ℕ) (view : frames.View) (reading : Reading) → IsReadingOf policy moment view reading
+    → flow_in reading ≡ flow_shown view
+flow_of_reading policy moment frames.NotIp reading is = ap flow_in is
+flow_of_reading policy moment frames.Malformed reading is = ap flow_in is
+flow_of_reading policy moment frames.Short reading is = ap flow_in is
+flow_of_reading policy moment (frames.Ip direction tuple) reading is = ap flow_in is.2
+
+-- what is known of the packet at a place, and of its frame
+pub record IsAt (run : RunFacts) (at : ℕ) (packet : Seen) (view : frames.View) : Type 0 where
+  pub stands : slice_get run.packets at ≡ Some packet
+  pub shown : IsFrame packet.frame run.policy.own view
+  pub only : (other : frames.View) → IsFrame packet.frame run.policy.own other → other ≡ view
+
+-- the flow that a packet's reading has is the one that its frame shows
+pub flow_at : (run : RunFacts) (at : ℕ) (packet : Seen) (view : frames.View) (reading : Reading) → IsAt run at packet view
+    → IsReading run.policy packet reading → flow_in reading ≡ flow_shown view
+flow_at run at packet view reading is read = flow_of_reading run.policy packet.moment read.0 reading read.2 ∙ ap flow_shown (is.only read.0 read.1)
+
+pub work_none : (run : RunFacts) (w : ℕ) (v : Views) → IsWork run w 0 v v [] []
+work_none run w v = record {
+  trace = [];
+  items = All-nil (IsItem run.deal.layout run.times);
+  of = All-nil (IsItemOf run.deal w run.policy run.packets);
+  dealt = λ views all. refl;
+  four = continues_none v.four;
+  six = continues_none v.six;
+  said = record { said = refl; of = λ several. refl };
+}
+
+-- the numbers from a packet on, where its view is known
+numbers_at : (run : RunFacts) (w at : ℕ) (packet : Seen) (view : frames.View) → IsAt run at packet view → (views : List frames.View)
+    → AreViews run.policy.own run.packets views → (t : Bool) → (worker_of run.deal at (flow_shown view) == w) ≡ t
+    → numbers_from run.deal w at (drop at views)
+    ≡ cond t (at ∷ numbers_from run.deal w (at + 1) (drop (at + 1) views)) (numbers_from run.deal w (at + 1) (drop (at + 1) views))
+numbers_at run w at packet view is views all t test =
+    ap (numbers_from run.deal w at) (view_at run.policy.own run.packets views at packet view all is.stands is.only)
+    ∙ (numbers_cons run.deal w at view (drop (at + 1) views)
+    ∙ ap (λ b. cond b (at ∷ numbers_from run.deal w (at + 1) (drop (at + 1) views)) (numbers_from run.deal w (at + 1) (drop (at + 1) views))) test)
+
+pub work_passed : (run : RunFacts) (w at : ℕ) (v x : Views) (verdicts : List Verdict) (numbers : List ℕ) (packet : Seen) (view : frames.View)
+    → IsAt run at packet view → worker_of run.deal at (flow_shown view) ≢ w
+    → IsWork run w at v x verdicts numbers → IsWork run w (at + 1) v x verdicts numbers
+work_passed run w at v x verdicts numbers packet view is other old = record {
+  trace = old.trace;
+  items = old.items;
+  of = old.of;
+  dealt = λ views all. ap (λ ns. numbers_of old.trace ++ ns) (sym (numbers_at run w at packet view is views all false (ne_eqb _ _ other)))
+      ∙ old.dealt views all;
+  four = old.four;
+  six = old.six;
+  said = old.said;
+}
+
+said_push : (run : RunFacts) (trace : List Item) (i : Item) (verdicts : List Verdict) (numbers more : List ℕ) (verdict : Verdict)
+    → AreSaid run trace verdicts numbers → verdict ≡ verdict_in run.times i
+    → (run.deal.workers ≢ 1 → more ≡ numbers ++ i.packet ∷ [])
+    → AreSaid run (trace ++ i ∷ []) (verdicts ++ verdict ∷ []) more
+said_push run trace i verdicts numbers more verdict old is noted = record {
+  said = ap (λ vs. vs ++ verdict ∷ []) old.said ∙ (ap (λ k. map (verdict_in run.times) trace ++ k ∷ []) is
+      ∙ sym (map-append (verdict_in run.times) trace (i ∷ [])));
+  of = λ several. noted several ∙ (ap (λ ns. ns ++ i.packet ∷ []) (old.of several) ∙ sym (map-append (λ (k : Item). k.packet) trace (i ∷ [])));
+}
+
+pub work_push : (run : RunFacts) (w at : ℕ) (v x y : Views) (verdicts : List Verdict) (numbers more : List ℕ) (packet : Seen) (view : frames.View)
+    (verdict : Verdict) → IsAt run at packet view → worker_of run.deal at (flow_shown view) ≡ w
+    → IsJudged run.deal.layout run.times run.policy packet x y verdict
+    → (run.deal.workers ≢ 1 → more ≡ numbers ++ at ∷ [])
+    → IsWork run w at v x verdicts numbers → IsWork run w (at + 1) v y (verdicts ++ verdict ∷ []) more
+work_push run w at v x y verdicts numbers more packet view verdict is mine j noted old = record {
+  trace = old.trace ++ item ∷ [];
+  items = All-push (IsItem run.deal.layout run.times) old.trace item old.items (record { asked = asked; placed = left.placed });
+  of = All-push (IsItemOf run.deal w run.policy run.packets) old.trace item old.of (record {
+    packet = packet;
+    there = is.stands;
+    read = j.read;
+    dealt = ap (worker_of run.deal at) (flow_at run at packet view j.judged.reading is j.read) ∙ mine;
+  });
+  dealt = λ views all.
+      ap (λ ns. ns ++ numbers_from run.deal w (at + 1) (drop (at + 1) views)) (map-append (λ (i : Item). i.packet) old.trace (item ∷ []))
+      ∙ (append_assoc (numbers_of old.trace) (at ∷ []) (numbers_from run.deal w (at + 1) (drop (at + 1) views))
+      ∙ (ap (λ ns. numbers_of old.trace ++ ns) (sym (numbers_at run w at packet view is views all true (eq-eqb _ _ mine)))
+      ∙ old.dealt views all));
+  four = subst (λ cs. Continues v.four y.four cs) (sym (calls_push run.times V4 old.trace item)) left.four;
+  six = subst (λ cs. Continues v.six y.six cs) (sym (calls_push run.times V6 old.trace item)) left.six;
+  said = said_push run old.trace item verdicts numbers more verdict old.said said noted;
+}
+  where
+    left : Left run.deal.layout (update_of run.times j.judged.reading) j.judged.event v y (calls_in run.times V4 old.trace) (calls_in run.times V6 old.trace)
+    left = left_by run.deal.layout (update_of run.times j.judged.reading) j.judged.event v x y (calls_in run.times V4 old.trace)
+        (calls_in run.times V6 old.trace) j.asked j.entered old.four old.six
+
+    item : Item
+    item = record { packet = at; reading = j.judged.reading; call = left.call }
+
+    asked : IsAskedBy (update_of run.times j.judged.reading) (option_map event_of left.call)
+    asked = subst (IsAskedBy (update_of run.times j.judged.reading)) (sym left.is) j.asked
+
+    said : verdict ≡ verdict_in run.times item
+    said = j.said ∙ ap (λ e. verdict_of_event e) (sym left.is)
+      where
+        verdict_of_event : Option Event → Verdict
+        verdict_of_event e = verdict_on run.times (record { reading = j.judged.reading; event = e })
+
+-- the packet at a place of a slice
+pub seen_at : (packets : List Packet) (at : ℕ) (d : Packet) → at < length packets → slice_get (map seen packets) at ≡ Some (seen (get_or packets at d))
+seen_at [] at d inside = absurd (omega arith)
+seen_at (p ∷ ps) zero d inside = refl
+seen_at (p ∷ ps) (suc at) d inside = seen_at ps at d (omega arith)
+
+-- behind all packets nothing is left to look at
+no_views : (own : Option Mac) (packets : List Seen) (views : List frames.View) → AreViews own packets views → drop (length packets) views ≡ []
+no_views own [] [] all = refl
+no_views own [] (view ∷ views) all = absurd all
+no_views own (p ∷ ps) [] all = absurd all
+no_views own (p ∷ ps) (view ∷ views) all = no_views own ps views all.1
+
+pub all_looked_at : (run : RunFacts) (w : ℕ) (v u : Views) (verdicts : List Verdict) (numbers : List ℕ)
+    (work : IsWork run w (length run.packets) v u verdicts numbers) (views : List frames.View) → AreViews run.policy.own run.packets views
+    → numbers_of work.trace ≡ numbers_from run.deal w 0 views
+all_looked_at run w v u verdicts numbers work views all =
+    sym (ap (λ vs. numbers_of work.trace ++ numbers_from run.deal w (length run.packets) vs) (no_views run.policy.own run.packets views all)
+    ∙ (ap (λ ns. numbers_of work.trace ++ ns) (no_numbers run.deal w (length run.packets)) ∙ append-nil (numbers_of work.trace)))
+    ∙ work.dealt views all

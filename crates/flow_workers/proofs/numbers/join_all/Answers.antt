@@ -1,0 +1,71 @@
+use Rattle.std.proofs.Common.{◌≡◌, ◌∙◌, ◌++◌, ◌∷◌, [], All, List, Some, ap, append-nil, append_assoc, arith, refl, sym, subst}
+use Rattle.std.specs.List.{AllZip}
+use Rattle.packet_view.specs.declared.tuple.Family.{Family}
+use Rattle.bihash_steps.specs.declared.row.Caller.{Caller}
+use Rattle.bihash_steps.specs.Views.{nothing_held}
+use Rattle.session_state.specs.declared.timeouts.Timeouts.{Timeouts}
+use Rattle.flow_dealing.specs.Traces.{HaveTraces, Item}
+use Rattle.flow_workers.proofs.NumberLemmas.{all_but_last, last_of, no_traces}
+use Rattle.flow_workers.proofs.numbers.join_all.Goals as goal
+
+pub loop-caller-init : goal.loop-caller-init
+loop-caller-init g c =
+    let popped : c.args.callers.items ≡ c.pop.new.self.items ++ c.in-Some.joined ∷ [] = c.in-Some.ensures.items in
+    let own = all_but_last (λ k. k.seat.row ≡ c.args.table.now.row) _ _ (subst (All (λ k. k.seat.row ≡ c.args.table.now.row)) popped c.requires.own) in
+    let free = all_but_last (λ k. k.seat.view.holds ≡ nothing_held) _ _ (subst (All (λ k. k.seat.view.holds ≡ nothing_held)) popped c.requires.free) in
+    record {
+      left = (own.0, free.0);
+      own = own.1;
+      free = free.1;
+      traces = λ times family traces each.
+          let last = last_of (λ trace k. HaveTraces times family (trace ∷ []) k.seat.view) traces _ _
+              (subst (AllZip (λ trace k. HaveTraces times family (trace ∷ []) k.seat.view) traces) popped each) in
+          (last.front, last.last ∷ [], last.split, last.others, last.one);
+    }
+
+pub join_one-joined-requires-clause-own : goal.join_one-joined-requires-clause-own
+join_one-joined-requires-clause-own g c =
+    let popped : c.loop-caller.callers.items ≡ c.pop-in-loop-caller.new.self.items ++ c.in-Some-pop.caller ∷ [] = c.in-Some-pop.ensures.items in
+    (
+      (all_but_last (λ k. k.seat.row ≡ c.args.table.now.row) _ _ (subst (All (λ k. k.seat.row ≡ c.args.table.now.row)) popped c.loop-caller.invariant.left.0)).1,
+      c.loop-caller.invariant.own,
+    )
+
+pub join_one-joined-requires-clause-free : goal.join_one-joined-requires-clause-free
+join_one-joined-requires-clause-free g c =
+    let popped : c.loop-caller.callers.items ≡ c.pop-in-loop-caller.new.self.items ++ c.in-Some-pop.caller ∷ [] = c.in-Some-pop.ensures.items in
+    (
+      (all_but_last (λ k. k.seat.view.holds ≡ nothing_held) _ _ (subst (All (λ k. k.seat.view.holds ≡ nothing_held)) popped c.loop-caller.invariant.left.1)).1,
+      c.loop-caller.invariant.free,
+    )
+
+pub loop-caller-preserved : goal.loop-caller-preserved
+loop-caller-preserved g c =
+    let popped : c.loop-caller.callers.items ≡ c.pop-in-loop-caller.new.self.items ++ c.in-Some-pop.caller ∷ [] = c.in-Some-pop.ensures.items in
+    let inv = c.loop-caller.invariant in
+    record {
+      left = (
+        (all_but_last (λ k. k.seat.row ≡ c.args.table.now.row) _ _ (subst (All (λ k. k.seat.row ≡ c.args.table.now.row)) popped inv.left.0)).0,
+        (all_but_last (λ k. k.seat.view.holds ≡ nothing_held) _ _ (subst (All (λ k. k.seat.view.holds ≡ nothing_held)) popped inv.left.1)).0,
+      );
+      own = c.join_one-joined.ensures.own;
+      free = c.join_one-joined.ensures.free;
+      traces = λ times family traces each.
+          let old = inv.traces times family traces each in
+          let last = last_of (λ trace k. HaveTraces times family (trace ∷ []) k.seat.view) old.0 _ _
+              (subst (AllZip (λ trace k. HaveTraces times family (trace ∷ []) k.seat.view) old.0) popped old.3) in
+          (
+            last.front,
+            last.last ∷ old.1,
+            old.2 ∙ (ap (λ (ts : List (List Item)). ts ++ old.1) last.split ∙ append_assoc last.front (last.last ∷ []) old.1),
+            last.others,
+            c.join_one-joined.ensures.traces times family last.last old.1 last.one old.4,
+          );
+    }
+
+pub returns-clause-traces : goal.returns-clause-traces
+returns-clause-traces g c times family traces each =
+    let left : c.loop-caller.callers.items ≡ [] = grind (arith, c.in_default-pop.ensures.items, c.in_default-pop.ensures.cases) in
+    let old = c.loop-caller.invariant.traces times family traces each in
+    subst (λ ts. HaveTraces times family ts c.loop-caller.joined.seat.view)
+    (sym (old.2 ∙ ap (λ (ts : List (List Item)). ts ++ old.1) (no_traces _ old.0 _ left old.3))) old.4

@@ -1,0 +1,5 @@
+use Rattle.flow_workers.specs.Placing.{IsPlaced}
+use Rattle.flow_workers.proofs.placing.place.Given as goal
+
+abbrev pub invariant-loop-k : goal.invariant-loop-k
+invariant-loop-k l = IsPlaced l.said l.fn.verdicts.items l.k l.verdicts.items

@@ -1,0 +1,64 @@
+use Rattle.std.proofs.Common.{◌≡◌, ◌∙◌, ◌<◌, ◌+◌, ◌-◌, ℕ, length, refl, sym, subst, arith}
+use Rattle.std.specs.Prelude.{slice_index_or}
+use Rattle.flow_workers.specs.Jobs.{run_facts}
+use Rattle.flow_workers.specs.Turns.{CanTake, IsAhead}
+use Rattle.flow_workers.proofs.TurnLemmas.{all_each, below_push, may_turn, push_count}
+use Rattle.flow_workers.proofs.workers.turns_ahead.Goals as goal
+
+pub loop-worker-preserved : goal.loop-worker-preserved
+loop-worker-preserved g c =
+    let inv = c.loop-worker.invariant in
+    let four = c.in_ok-own_four.ensures in
+    let six = c.in_ok-own_six.ensures in
+    let counted = inv.count in
+    let run = run_facts g.A.Shape g.B.Shape c.args.run in
+    record {
+      idle = record { own = (four.own.1, six.own.1); free = (four.free.1, six.free.1); lawful = (four.lawful.1, six.lawful.1) };
+      fresh = (four.fresh.1, six.fresh.1);
+      count = push_count c.loop-worker.turns.items _ _ c.loop-worker.worker c.in_ok-push.ensures.items inv.count;
+      each = λ i d below. subst (λ xs. IsAhead g.A.Shape g.B.Shape c.args.run.tables.now run i (slice_index_or xs i d)) (sym c.in_ok-push.ensures.items)
+          (below_push (λ k turn. IsAhead g.A.Shape g.B.Shape c.args.run.tables.now run k turn) c.loop-worker.turns.items _ (λ k e b. inv.each k e (omega arith))
+          (record {
+            facts = refl;
+            own = refl;
+            worker = sym inv.count;
+            can = record {
+              shapes = c.requires.shapes;
+              few = let inside = c.loop-worker-test.true in omega arith;
+              idle = record { own = (four.own.0, six.own.0); free = (four.free.0, six.free.0); lawful = (four.lawful.0, six.lawful.0) };
+            };
+            fresh = (four.fresh.0, six.fresh.0);
+          }) i d (omega arith));
+    }
+
+pub returns-clause-each : goal.returns-clause-each
+returns-clause-each g c =
+    let inv = c.loop-worker.invariant in
+    let some_worker = c.requires.some in
+    let counted = inv.count in
+    let ended = c.loop-worker-test.false in
+    let inside = c.loop-worker.auto.worker-end in
+    let run = run_facts g.A.Shape g.B.Shape c.args.run in
+    λ i d below. subst (λ xs. IsAhead g.A.Shape g.B.Shape c.args.run.tables.now run i (slice_index_or xs i d)) (sym c.in_ok-push-2.ensures.items)
+        (below_push (λ k turn. IsAhead g.A.Shape g.B.Shape c.args.run.tables.now run k turn) c.loop-worker.turns.items _ (λ k e b. inv.each k e (omega arith))
+        (record {
+          facts = refl;
+          own = refl;
+          worker = omega arith;
+          can = record { shapes = c.requires.shapes; few = omega arith; idle = inv.idle };
+          fresh = inv.fresh;
+        }) i d (omega arith))
+
+pub returns-clause-ready : goal.returns-clause-ready
+returns-clause-ready g c = all_each (CanTake g.A.Shape g.B.Shape) c.push-2.new.self.items
+    (λ i d inside. may_turn g.A.Shape g.B.Shape c.args.run.tables.now (run_facts g.A.Shape g.B.Shape c.args.run) i _
+    (returns-clause-each g c i d (few i inside)))
+  where
+    few : (i : ℕ) → i < length c.push-2.new.self.items → i < c.args.run.workers
+    few i inside =
+        let counted = c.loop-worker.invariant.count in
+        let some_worker = c.requires.some in
+        let ended = c.loop-worker-test.false in
+        let at-end = c.loop-worker.auto.worker-end in
+        let many : length c.push-2.new.self.items ≡ c.args.run.workers = push_count c.loop-worker.turns.items _ _ c.loop-worker.worker c.in_ok-push-2.ensures.items counted ∙ omega arith in
+        omega arith

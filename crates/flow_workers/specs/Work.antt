@@ -1,0 +1,43 @@
+-- What a worker has done when it has looked at some packets.
+use Rattle.std.specs.Prelude.{◌≡◌, ◌≢◌, ℕ, ◌++◌, List, [], ◌∷◌, All, drop, map}
+use Rattle.packet_view.specs.Captures.{Seen}
+use Rattle.packet_view.specs.Frames as frames
+use Rattle.packet_view.specs.declared.tuple.Family.TheVariants.{V4, V6}
+use Rattle.acl_policy.specs.Policies.{PolicyFacts}
+use Rattle.bihash_steps.specs.declared.view.Call.{Call}
+use Rattle.bihash_steps.specs.declared.view.Record.{Record}
+use Rattle.bihash_steps.specs.declared.view.View.{View}
+use Rattle.session_state.specs.declared.timeouts.Timeouts.{Timeouts}
+use Rattle.flow_filter.specs.declared.verdict.Verdict.{Verdict}
+use Rattle.flow_dealing.specs.Views.{Views}
+use Rattle.flow_dealing.specs.Dealings.{Deal}
+use Rattle.flow_dealing.specs.Traces.{AreViews, IsItem, IsItemOf, Item, calls_in, numbers_from, numbers_of, verdict_in}
+
+-- what the verdicts of a run rest on
+pub record RunFacts : Type 0 where
+  pub deal : Deal
+  pub times : Timeouts
+  pub policy : PolicyFacts
+  pub packets : List Seen
+
+-- the caller's one record has these calls more, and its buckets began as before
+pub record Continues (v w : View) (more : List Call) : Type 0 where
+  pub calls : (r : Record) → v.records ≡ r ∷ [] → (locks : ℕ) × (w.records ≡ record r { calls = r.calls ++ more; locks = locks } ∷ [])
+  pub openings : w.known.openings ≡ v.known.openings
+
+-- The verdicts are those of the items, in their order, and these numbers those of their packets. A worker that is
+-- alone needn't have the numbers.
+pub record AreSaid (run : RunFacts) (trace : List Item) (verdicts : List Verdict) (numbers : List ℕ) : Type 0 where
+  pub said : verdicts ≡ map (verdict_in run.times) trace
+  pub of : run.deal.workers ≢ 1 → numbers ≡ numbers_of trace
+
+-- a worker has looked at so many packets, and judged its own
+pub record IsWork (run : RunFacts) (worker at : ℕ) (v w : Views) (verdicts : List Verdict) (numbers : List ℕ) : Type 0 where
+  pub trace : List Item
+  pub items : All (IsItem run.deal.layout run.times) trace
+  pub of : All (IsItemOf run.deal worker run.policy run.packets) trace
+  pub dealt : (views : List frames.View) → AreViews run.policy.own run.packets views
+      → numbers_of trace ++ numbers_from run.deal worker at (drop at views) ≡ numbers_from run.deal worker 0 views
+  pub four : Continues v.four w.four (calls_in run.times V4 trace)
+  pub six : Continues v.six w.six (calls_in run.times V6 trace)
+  pub said : AreSaid run trace verdicts numbers

@@ -1,0 +1,47 @@
+//! What a packet comes to before it asks a table.
+
+use crate::viewed_packet::ViewedPacket;
+use flow_filter::{HasRuling, LazyPatch, PacketFlow, ReadyFilter, Verdict, verdict_of_rules};
+use packet_view::Frame;
+use session_state::FlowKey;
+
+/// What a packet comes to before it asks a table.
+#[derive(Drop)]
+pub enum Prepared<'a, D: HasRuling> {
+    /// The packet takes no part in sessions.
+    Settled(Verdict),
+    /// The update that decides it.
+    Asks(FlowKey, LazyPatch<'a, D>),
+}
+
+impl<'a, D: HasRuling> Prepared<'a, D> {
+    ghost use Rattle.packet_view.specs.Frames.{viewed};
+    ghost use Rattle.flow_filter.specs.Filters.{policy_in};
+    ghost use Rattle.flow_workers.specs.Preparing.{IsPrepared, IsRuling, reading_with};
+
+    /// The rules are asked here only where the packet takes no part in sessions.
+    pub fn new(filter: &ReadyFilter<'a>, packet: &'a ViewedPacket) -> Prepared<'a, D>
+        requires { IsRuling (policy_in filter.now) (viewed packet.now.frame) D.ruling }
+        ensures { IsPrepared ⟦<D as HasRuling>⟧ filter.now.times
+            (reading_with packet.now.moment (viewed packet.now.frame) D.ruling) result }
+    {
+        match &packet.frame {
+            Frame::NotIp => Prepared::Settled(Verdict::NotIp),
+            Frame::Malformed => Prepared::Settled(Verdict::Malformed),
+            Frame::Short => Prepared::Settled(Verdict::Short),
+            Frame::Ip(direction, tuple) => {
+                let Some(flow) = packet.flow else {
+                    let ruling = filter.rules_of(*direction).first_match(tuple);
+                    return Prepared::Settled(verdict_of_rules(ruling));
+                };
+                let asking = PacketFlow {
+                    moment: packet.moment,
+                    direction: *direction,
+                    tuple,
+                    flow,
+                };
+                Prepared::Asks(flow.key, LazyPatch::new(filter, asking))
+            }
+        }
+    }
+}

@@ -1,0 +1,30 @@
+//! A worker before its turn and after it.
+use crate::gate::Gate;
+use crate::share::{Job, Share};
+use crate::task::Task;
+use crate::work::work;
+use bihash_words::Shape;
+use std::alloc::AllocError;
+use std::sync::Wait;
+
+/// What a worker is to do, or what it did.
+#[derive(Drop)]
+pub enum Turn<'t, 'a, A: Shape, B: Shape, R: Wait, G: Gate> {
+    Ahead(Job<'t, 'a, A, B, R, G>),
+    Over(Result<Share<A, B>, AllocError>),
+}
+
+impl<'t, 'a, A: Shape, B: Shape, R: Wait, G: Gate> Task for Turn<'t, 'a, A, B, R, G> {
+    ghost use Rattle.flow_workers.specs.Turns.{Becomes, CanTake};
+
+    ghost can_run = { CanTake ⟦<A as Shape>⟧ ⟦<B as Shape>⟧ };
+
+    ghost becomes = { Becomes ⟦<A as Shape>⟧ ⟦<B as Shape>⟧ };
+
+    fn run(self) -> Turn<'t, 'a, A, B, R, G> {
+        match self {
+            Turn::Ahead(job) => Turn::Over(work(job)),
+            Turn::Over(done) => Turn::Over(done),
+        }
+    }
+}
