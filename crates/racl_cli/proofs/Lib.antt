@@ -1,4 +1,3 @@
-pub mod DecisionLaws
 pub mod InputLaws
 pub mod OneThreadLaws
 pub mod OutcomeLemmas

@@ -31,7 +31,7 @@ use Rattle.flow_filter.specs.Readings.{AreReadings, Framed, IsReading, IsReading
 use Rattle.flow_filter.specs.Updates.{Update, update_of, words_of}
 use Rattle.flow_filter.specs.Judged.{AreAsked, IsAsked, IsAskedBy, IsEventOf, Judged, readings_of, verdicts_on}
 use Rattle.flow_filter.specs.OneThread.{AreVerdicts, HasPages, Home, IsHome, IsNoRefusal, IsOneThread, Layout, add_event, bounds_in, events_at, family_of, home_of, nothing, same_family, same_home, sizes_in}
-use Rattle.racl_cli.proofs.DecisionLaws.{some_decision}
+use Rattle.acl_policy.proofs.DecisionLaws.{some_decision}
 
 -- ---- one step of a map whose pages don't run out
 

@@ -1,7 +1,8 @@
 -- What a run has filtered, from the bytes of its input.
-use Rattle.std.specs.Prelude.{◌≡◌, ◌≤◌, ℕ, Bool, List, length, Option, IfSome, Result, MatchResult}
+use Rattle.std.specs.Prelude.{◌≡◌, ◌≤◌, ℕ, Bool, List, length, Option, IfSome, Result, MatchResult, All}
 use Rattle.std.specs.Io.KnownBytes.{Appends}
 use Rattle.packet_view.specs.Captures.{IsCapture, Seen, end_of}
+use Rattle.packet_view.specs.declared.tuple.Family.{Family}
 use Rattle.acl_policy.specs.Policies.{IsPolicyText, PolicyFacts}
 use Rattle.bihash_words.specs.Hash.{hash_of}
 use Rattle.session_state.specs.declared.timeouts.Timeouts.{Timeouts}
@@ -9,7 +10,7 @@ use Rattle.flow_filter.specs.declared.verdict.Verdict.{Verdict}
 use Rattle.flow_filter.specs.OneThread.{AreVerdicts, Layout}
 use Rattle.flow_dealing.specs.declared.dealing.Dealing.TheVariants.{Bucket}
 use Rattle.flow_dealing.specs.Dealings.{Deal}
-use Rattle.flow_dealing.specs.Runs.{AreJudged, HavePages}
+use Rattle.flow_dealing.specs.Runs.{AreFew, AreJudged, HasPagesIn, HavePages}
 use Rattle.racl_words.specs.declared.settings.Options.{Options}
 use Rattle.racl_io.specs.declared.fault.Fault.{Fault}
 use Rattle.racl_io.specs.declared.fault.Fault.TheVariants.{Memory}
@@ -41,12 +42,14 @@ Judging = PolicyFacts → List Seen → List Verdict → Type 0
 abbrev pub ByOneThread : Timeouts → Judging
 ByOneThread times policy packets verdicts = AreVerdicts flow_layout times policy packets verdicts
 
--- those that some workers gave, and no more workers than the words ask for
+-- Those that some workers gave, and no more workers than the words ask for. No packet of a family's flows says
+-- no-pages where the family has at most 256 such packets for IPv4, 64 for IPv6.
 pub record ByWorkers (options : Options) (policy : PolicyFacts) (packets : List Seen) (verdicts : List Verdict) : Type 0 where
   pub workers : ℕ
   pub some : 1 ≤ workers
   pub few : workers ≤ options.workers
   pub judged : AreJudged (dealt_to workers) options.times policy packets verdicts
+  pub paged : (family : Family) → AreFew flow_layout options.times family judged.judged → All (HasPagesIn options.times family) judged.judged
 
 -- ---- outcomes
 
