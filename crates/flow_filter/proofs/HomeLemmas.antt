@@ -10,13 +10,13 @@ use Rattle.session_state.specs.declared.flow.FlowKey.{FlowKey}
 use Rattle.flow_filter.specs.Updates.{words_of}
 use Rattle.flow_filter.specs.OneThread.{Home, IsHome, Layout, family_of, home_of, same_family, same_home, sizes_in}
 
-families_are_one : (a b : Family) → same_family a b ≡ true → a ≡ b
+pub families_are_one : (a b : Family) → same_family a b ≡ true → a ≡ b
 families_are_one V4 V4 same = refl
 families_are_one V4 V6 same = let f : ⊥ = cc in absurd f
 families_are_one V6 V4 same = let f : ⊥ = cc in absurd f
 families_are_one V6 V6 same = refl
 
-family_as_itself : (a : Family) → same_family a a ≡ true
+pub family_as_itself : (a : Family) → same_family a a ≡ true
 family_as_itself V4 = refl
 family_as_itself V6 = refl
 
