@@ -21,7 +21,7 @@ use Rattle.racl_io.specs.Faults.{IsFaultOfBytes, IsFaultOfCapture, IsFaultOfCont
 use Rattle.racl_io.specs.Inputs.{IsContent, IsFirstLine, IsInput, IsMarked, IsMarker, HasNoFeed, Parts, digits_of, joined, most_bytes, word_of}
 use Rattle.racl_cli.specs.Runs.{ByOneThread, FiltersCapture, FiltersContent, FiltersInput, HasOutcome, Outcome, flow_layout}
 use Rattle.racl_io.proofs.InputLemmas.{IsFront, front_grows, front_of_all, no_input}
-use Rattle.racl_cli.proofs.OneThreadLaws.{one_verdicts, some_verdicts}
+use Rattle.flow_filter.proofs.OneThreadLemmas.{one_verdicts, some_verdicts}
 use Rattle.racl_cli.proofs.OutcomeLemmas.{FiltersParts, filters_of_known_content, filters_of_known_parts, one_truncated}
 use Rattle.racl_cli.proofs.RunLemmas.{fault_of_known_content, fault_of_known_parts}
 

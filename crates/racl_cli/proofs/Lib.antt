@@ -1,4 +1,3 @@
 pub mod InputLaws
-pub mod OneThreadLaws
 pub mod OutcomeLemmas
 pub mod RunLemmas

@@ -12,7 +12,7 @@ use Rattle.racl_io.specs.declared.report.Report.{Report}
 use Rattle.racl_io.specs.Inputs.{IsContent, IsInput, Parts}
 use Rattle.racl_io.proofs.InputLemmas.{one_input}
 use Rattle.racl_cli.specs.Runs.{Accepts, ByOneThread, FiltersCapture, FiltersContent, FiltersInput, HasOutcome, IsReport, Judging, Outcome, Reported, Tells, flow_layout}
-use Rattle.racl_cli.proofs.OneThreadLaws.{one_verdicts}
+use Rattle.flow_filter.proofs.OneThreadLemmas.{one_verdicts}
 use Rattle.racl_cli.proofs.RunLemmas.{IsRead, one_content}
 
 abbrev outcome_of : List Verdict → Bool → Outcome
