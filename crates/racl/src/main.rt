@@ -6,9 +6,11 @@ use racl_cli::{Device, Ending, ending, failure_ending, options, run, words_endin
 use std::alloc::Global;
 use std::io;
 use std::process::ExitCode;
+use std::sync::Wait;
+use std::thread::Threads;
 
 fn main(rt: HostRuntime) -> ExitCode {
-    match status_of_words(&rt, rt.alloc()) {
+    match status_of_words(&rt, &rt, rt.alloc()) {
         Ok(status) => ExitCode::from(status),
         Err(error) => {
             let end = failure_ending(&error);
@@ -19,8 +21,12 @@ fn main(rt: HostRuntime) -> ExitCode {
     }
 }
 
-// Runs on the program's words and devices, and answers the exit status.
-fn status_of_words(rt: &HostRuntime, alloc: Global) -> io::Result<u8> {
+// Runs on the program's words and devices, and answers the exit status. The workers' threads come from `threads`.
+fn status_of_words<T: Threads + Wait + Sync>(
+    rt: &HostRuntime,
+    threads: &T,
+    alloc: Global,
+) -> io::Result<u8> {
     let words: Vec<String> = std::env::args(rt)?.collect(alloc)?;
     let mut texts = Vec::new(alloc);
     for word in &words {
@@ -30,7 +36,8 @@ fn status_of_words(rt: &HostRuntime, alloc: Global) -> io::Result<u8> {
         Ok(options) => {
             let mut reader = Device::new(rt.stdin());
             let mut writer = Device::new(rt.stdout());
-            said(rt, &ending(&run(alloc, &options, &mut reader, &mut writer)))
+            let outcome = run(threads, alloc, &options, &mut reader, &mut writer);
+            said(rt, &ending(&outcome))
         }
         Err(error) => {
             let end = words_ending(&error);

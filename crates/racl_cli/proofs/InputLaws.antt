@@ -6,29 +6,23 @@ use Rattle.hex.specs.Hex.{decode_of}
 use Rattle.hex.proofs.HexLemmas.{decode_of-ok}
 use Rattle.packet_view.specs.Bytes.{AreBytes}
 use Rattle.packet_view.specs.Captures.{End, IsCapture, Seen, Truncated, Whole, end_of}
-use Rattle.packet_view.specs.FrameSteps.{view_of}
-use Rattle.packet_view.specs.Frames as frames
-use Rattle.packet_view.specs.Frames.{View}
 use Rattle.packet_view.proofs.CutLemmas as captures
-use Rattle.packet_view.proofs.FrameLemmas.{view_shown}
 use Rattle.packet_view.proofs.ReadingLemmas.{one_fault, some_reading}
-use Rattle.acl_policy.specs.Policies.{PolicyFacts, rules_of}
+use Rattle.acl_policy.specs.Policies.{PolicyFacts}
 use Rattle.acl_policy.proofs.ReadingLaws as policies
 use Rattle.acl_policy.proofs.TextLaws as texts
 use Rattle.std.specs.Str.Lines.{lines}
 use Rattle.session_state.specs.declared.timeouts.Timeouts.{Timeouts}
-use Rattle.racl_cli.specs.declared.fault.Fault.{Fault}
-use Rattle.racl_cli.specs.declared.fault.Fault.TheVariants.{TooLarge, NoCapture, Hex}
-use Rattle.racl_cli.specs.declared.input.Form.{Form}
-use Rattle.racl_cli.specs.declared.input.Form.TheVariants.{Binary, Hexadecimal}
-use Rattle.racl_cli.specs.declared.verdict.Verdict.TheVariants as verdict
-use Rattle.racl_cli.specs.Faults.{IsFaultOfBytes, IsFaultOfCapture, IsFaultOfContent, IsFaultOfParts, IsInputFault, capture_fault, policy_fault}
-use Rattle.racl_cli.specs.Filters.{AreReadings, AreVerdicts, Framed, IsReadingOf, Reading, Ruled, one_thread_verdicts}
-use Rattle.racl_cli.specs.Inputs.{IsContent, IsFirstLine, IsInput, IsMarked, IsMarker, HasNoFeed, Parts, digits_of, joined, most_bytes, word_of}
-use Rattle.racl_cli.specs.Runs.{FiltersCapture, FiltersContent, FiltersInput, HasOutcome, Outcome}
-use Rattle.racl_cli.proofs.DecisionLaws.{some_decision}
-use Rattle.racl_cli.proofs.InputLemmas.{IsFront, front_grows, front_of_all, no_input}
-use Rattle.racl_cli.proofs.OutcomeLemmas.{FiltersParts, filters_of_known_content, filters_of_known_parts, one_truncated, one_verdicts}
+use Rattle.racl_io.specs.declared.fault.Fault.{Fault}
+use Rattle.racl_io.specs.declared.fault.Fault.TheVariants.{TooLarge, NoCapture, Hex}
+use Rattle.racl_io.specs.declared.input.Form.{Form}
+use Rattle.racl_io.specs.declared.input.Form.TheVariants.{Binary, Hexadecimal}
+use Rattle.racl_io.specs.Faults.{IsFaultOfBytes, IsFaultOfCapture, IsFaultOfContent, IsFaultOfParts, IsInputFault, capture_fault, policy_fault}
+use Rattle.racl_io.specs.Inputs.{IsContent, IsFirstLine, IsInput, IsMarked, IsMarker, HasNoFeed, Parts, digits_of, joined, most_bytes, word_of}
+use Rattle.racl_cli.specs.Runs.{ByOneThread, FiltersCapture, FiltersContent, FiltersInput, HasOutcome, Outcome, flow_layout}
+use Rattle.racl_io.proofs.InputLemmas.{IsFront, front_grows, front_of_all, no_input}
+use Rattle.flow_filter.proofs.OneThreadLemmas.{one_verdicts, some_verdicts}
+use Rattle.racl_cli.proofs.OutcomeLemmas.{FiltersParts, filters_of_known_content, filters_of_known_parts, one_truncated}
 use Rattle.racl_cli.proofs.RunLemmas.{fault_of_known_content, fault_of_known_parts}
 
 -- ---- bytes within bytes
@@ -54,26 +48,26 @@ bytes_of_capture Hexadecimal content capture fit is = (decode_of-ok (digits_of c
 -- ---- one outcome
 
 one_outcome_of_capture : (times : Timeouts) (policy : PolicyFacts) (capture : List ℕ) (one other : Outcome) → AreBytes capture
-    → FiltersCapture times policy capture one → FiltersCapture times policy capture other → one ≡ other
+    → FiltersCapture (ByOneThread times) policy capture one → FiltersCapture (ByOneThread times) policy capture other → one ≡ other
 one_outcome_of_capture times policy capture one other fit a b =
     let both = captures.one_reading capture a.packets b.packets (end_of one.truncated) (end_of other.truncated) fit a.records b.records in
-    let verdicts = one_verdicts times policy b.packets one.verdicts other.verdicts (subst (λ p. AreVerdicts times policy p one.verdicts) both.0 a.verdicts) b.verdicts in
+    let verdicts = one_verdicts flow_layout times policy b.packets one.verdicts other.verdicts (subst (λ p. ByOneThread times policy p one.verdicts) both.0 a.verdicts) b.verdicts in
     ap₂ (λ v t. let outcome : Outcome = record { verdicts = v; truncated = t } in outcome) verdicts (one_truncated one.truncated other.truncated both.1)
 
 one_outcome_of_parts : (times : Timeouts) (parts : Parts) (one other : Outcome) → AreBytes parts.content
-    → FiltersParts times parts one → FiltersParts times parts other → one ≡ other
+    → FiltersParts (ByOneThread times) parts one → FiltersParts (ByOneThread times) parts other → one ≡ other
 one_outcome_of_parts times parts one other fit a b =
     let policy = texts.one_policy (lines parts.policy) a.policy b.policy a.says.1 b.says.1 in
-    let moved = subst (λ p. FiltersContent times p parts.form parts.content one) policy a.filters in
+    let moved = subst (λ p. FiltersContent (ByOneThread times) p parts.form parts.content one) policy a.filters in
     let capture = b.filters.capture in
     one_outcome_of_capture times b.policy capture one other (bytes_of_capture parts.form parts.content capture fit b.filters.spelt)
-    (filters_of_known_content times b.policy parts.form parts.content capture one b.filters.spelt moved) b.filters.filters
+    (filters_of_known_content (ByOneThread times) b.policy parts.form parts.content capture one b.filters.spelt moved) b.filters.filters
 
-pub one_outcome : (times : Timeouts) (bytes : List ℕ) (one other : Outcome) → AreBytes bytes → HasOutcome times bytes one → HasOutcome times bytes other → one ≡ other
+pub one_outcome : (times : Timeouts) (bytes : List ℕ) (one other : Outcome) → AreBytes bytes → HasOutcome (ByOneThread times) bytes one → HasOutcome (ByOneThread times) bytes other → one ≡ other
 one_outcome times bytes one other fit a b =
     let parts = b.filters.parts in
     one_outcome_of_parts times parts one other (bytes_of_content bytes parts fit b.filters.parted)
-    (filters_of_known_parts times bytes parts one b.filters.parted a.filters) (filters_of_known_parts times bytes parts other b.filters.parted b.filters)
+    (filters_of_known_parts (ByOneThread times) bytes parts one b.filters.parted a.filters) (filters_of_known_parts (ByOneThread times) bytes parts other b.filters.parted b.filters)
 
 -- ---- one fault
 
@@ -109,56 +103,40 @@ one_fault_of_input bytes one other fit (inr (few, of)) (inr (few', of')) = one_f
 -- ---- an outcome or a fault, and not both
 
 no_fault_of_content : (times : Timeouts) (policy : PolicyFacts) (form : Form) (content : List ℕ) (outcome : Outcome) (fault : Fault) → AreBytes content
-    → FiltersContent times policy form content outcome → IsFaultOfContent form content fault → ⊥
+    → FiltersContent (ByOneThread times) policy form content outcome → IsFaultOfContent form content fault → ⊥
 no_fault_of_content times policy form content outcome fault fit filters of =
     let found = fault_of_known_content form content filters.capture fault filters.spelt of in
     captures.no_fault_too filters.capture filters.filters.packets (end_of outcome.truncated) found.0
     (bytes_of_capture form content filters.capture fit filters.spelt) filters.filters.records found.1
 
 no_fault_of_parts : (times : Timeouts) (parts : Parts) (outcome : Outcome) (fault : Fault) → AreBytes parts.content
-    → FiltersParts times parts outcome → IsFaultOfParts parts fault → ⊥
+    → FiltersParts (ByOneThread times) parts outcome → IsFaultOfParts parts fault → ⊥
 no_fault_of_parts times parts outcome fault fit filters (inl (cause, is, same)) = texts.policy_or_fault parts.policy filters.policy cause filters.says is
 no_fault_of_parts times parts outcome fault fit filters (inr (policy, says, of)) = no_fault_of_content times filters.policy parts.form parts.content outcome fault fit filters.filters of
 
-pub no_fault_too : (times : Timeouts) (bytes : List ℕ) (outcome : Outcome) (fault : Fault) → AreBytes bytes → HasOutcome times bytes outcome → IsInputFault bytes fault → ⊥
+pub no_fault_too : (times : Timeouts) (bytes : List ℕ) (outcome : Outcome) (fault : Fault) → AreBytes bytes → HasOutcome (ByOneThread times) bytes outcome → IsInputFault bytes fault → ⊥
 no_fault_too times bytes outcome fault fit has (inl (same, many)) = let few = has.few in omega (arith, few, many)
 no_fault_too times bytes outcome fault fit has (inr (few, of)) =
     let parts = has.filters.parts in
     no_fault_of_parts times parts outcome fault (bytes_of_content bytes parts fit has.filters.parted)
-    (filters_of_known_parts times bytes parts outcome has.filters.parted has.filters) (fault_of_known_parts bytes parts fault has.filters.parted of)
+    (filters_of_known_parts (ByOneThread times) bytes parts outcome has.filters.parted has.filters) (fault_of_known_parts bytes parts fault has.filters.parted of)
 
 -- ---- verdicts on all packets
 
-reading_of : (policy : PolicyFacts) (moment : ℕ) (view : View) → (reading : Reading) × IsReadingOf policy moment view reading
-reading_of policy moment frames.NotIp = (Framed verdict.NotIp, refl)
-reading_of policy moment frames.Malformed = (Framed verdict.Malformed, refl)
-reading_of policy moment frames.Short = (Framed verdict.Short, refl)
-reading_of policy moment (frames.Ip direction tuple) =
-    let decision = some_decision (rules_of direction policy) tuple in
-    (Ruled moment tuple decision.0, (decision.0, decision.1, refl))
-
-readings_of : (policy : PolicyFacts) (packets : List Seen) → (readings : List Reading) × AreReadings policy packets readings
-readings_of policy [] = ([], tt)
-readings_of policy (packet ∷ packets) =
-    let view = view_of packet.frame policy.own in
-    let first = reading_of policy packet.moment view in
-    let more = readings_of policy packets in
-    (first.0 ∷ more.0, ((view, view_shown packet.frame policy.own, first.1), more.1))
-
 outcome_of_capture : (times : Timeouts) (policy : PolicyFacts) (capture : List ℕ) (packets : List Seen) (truncated : Bool) → IsCapture capture packets (end_of truncated)
-    → (outcome : Outcome) × FiltersCapture times policy capture outcome
+    → (outcome : Outcome) × FiltersCapture (ByOneThread times) policy capture outcome
 outcome_of_capture times policy capture packets truncated is =
-    let readings = readings_of policy packets in
-    let outcome : Outcome = record { verdicts = one_thread_verdicts times readings.0; truncated = truncated } in
-    (outcome, record { packets = packets; records = is; verdicts = (readings.0, readings.1, refl) })
+    let verdicts = some_verdicts flow_layout times policy packets in
+    let outcome : Outcome = record { verdicts = verdicts.0; truncated = truncated } in
+    (outcome, record { packets = packets; records = is; verdicts = verdicts.1 })
 
 outcome_at_end : (times : Timeouts) (policy : PolicyFacts) (capture : List ℕ) (packets : List Seen) (end : End) → IsCapture capture packets end
-    → (outcome : Outcome) × FiltersCapture times policy capture outcome
+    → (outcome : Outcome) × FiltersCapture (ByOneThread times) policy capture outcome
 outcome_at_end times policy capture packets Whole is = outcome_of_capture times policy capture packets false is
 outcome_at_end times policy capture packets Truncated is = outcome_of_capture times policy capture packets true is
 
 outcome_or_fault_of_capture : (times : Timeouts) (policy : PolicyFacts) (capture : List ℕ)
-    → ((outcome : Outcome) × FiltersCapture times policy capture outcome) ⊎ ((fault : Fault) × IsFaultOfCapture capture fault)
+    → ((outcome : Outcome) × FiltersCapture (ByOneThread times) policy capture outcome) ⊎ ((fault : Fault) × IsFaultOfCapture capture fault)
 outcome_or_fault_of_capture times policy capture =
     elim (some_reading capture) [
       | inl is ↦ inl (outcome_at_end times policy capture is.0 is.1 is.2)
@@ -177,7 +155,7 @@ capture_or_none Binary content = inl (content, refl)
 capture_or_none Hexadecimal content = decoded content (decode_of (digits_of content)) refl
 
 outcome_or_fault_of_content : (times : Timeouts) (policy : PolicyFacts) (form : Form) (content : List ℕ)
-    → ((outcome : Outcome) × FiltersContent times policy form content outcome) ⊎ ((fault : Fault) × IsFaultOfContent form content fault)
+    → ((outcome : Outcome) × FiltersContent (ByOneThread times) policy form content outcome) ⊎ ((fault : Fault) × IsFaultOfContent form content fault)
 outcome_or_fault_of_content times policy form content =
     elim (capture_or_none form content) [
       | inl is ↦ elim (outcome_or_fault_of_capture times policy is.0) [
@@ -187,7 +165,7 @@ outcome_or_fault_of_content times policy form content =
       | inr none ↦ inr (Hex, inl (refl, none))
     ]
 
-outcome_or_fault_of_parts : (times : Timeouts) (parts : Parts) → ((outcome : Outcome) × FiltersParts times parts outcome) ⊎ ((fault : Fault) × IsFaultOfParts parts fault)
+outcome_or_fault_of_parts : (times : Timeouts) (parts : Parts) → ((outcome : Outcome) × FiltersParts (ByOneThread times) parts outcome) ⊎ ((fault : Fault) × IsFaultOfParts parts fault)
 outcome_or_fault_of_parts times parts =
     elim (policies.some_reading parts.policy) [
       | inl says ↦ elim (outcome_or_fault_of_content times says.0 parts.form parts.content) [
@@ -276,7 +254,7 @@ parts_behind (suc fuel) bytes rest short front =
       ]
     ]
 
-outcome_or_fault_of_bytes : (times : Timeouts) (bytes : List ℕ) → ((outcome : Outcome) × FiltersInput times bytes outcome) ⊎ ((fault : Fault) × IsFaultOfBytes bytes fault)
+outcome_or_fault_of_bytes : (times : Timeouts) (bytes : List ℕ) → ((outcome : Outcome) × FiltersInput (ByOneThread times) bytes outcome) ⊎ ((fault : Fault) × IsFaultOfBytes bytes fault)
 outcome_or_fault_of_bytes times bytes =
     elim (parts_behind (suc (length bytes)) bytes bytes (omega arith) (front_of_all bytes)) [
       | inl is ↦ elim (outcome_or_fault_of_parts times is.0) [
@@ -286,7 +264,7 @@ outcome_or_fault_of_bytes times bytes =
       | inr none ↦ inr (NoCapture, inl (refl, none))
     ]
 
-pub outcome_or_fault : (times : Timeouts) (bytes : List ℕ) → ((outcome : Outcome) × HasOutcome times bytes outcome) ⊎ ((fault : Fault) × IsInputFault bytes fault)
+pub outcome_or_fault : (times : Timeouts) (bytes : List ℕ) → ((outcome : Outcome) × HasOutcome (ByOneThread times) bytes outcome) ⊎ ((fault : Fault) × IsInputFault bytes fault)
 outcome_or_fault times bytes =
     elim (cases_lt most_bytes (length bytes)) [
       | inl many ↦ inr (TooLarge, inl (refl, many))

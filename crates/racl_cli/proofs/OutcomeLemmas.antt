@@ -1,48 +1,22 @@
 -- An input has one outcome.
-use Rattle.std.proofs.Common.{◌≡◌, ◌∙◌, ℕ, Bool, true, false, List, [], ◌∷◌, Option, Some, None, IfSome, refl, sym, ap, ap₂, subst}
+use Rattle.std.specs.Io.KnownBytes.{Appends}
+use Rattle.std.proofs.Common.{◌≡◌, ◌∙◌, ℕ, Bool, true, false, List, Option, Some, None, Result, Ok, Err, IfOk, IfSome, refl, sym, ap₂, subst}
 use Rattle.packet_view.specs.Captures.{Seen, end_of}
-use Rattle.packet_view.specs.Frames as frames
-use Rattle.packet_view.specs.Frames.{View}
-use Rattle.packet_view.proofs.FrameLemmas.{view_only}
-use Rattle.acl_policy.specs.Policies.{IsPolicyText, PolicyFacts, rules_of}
-use Rattle.acl_policy.proofs.DecisionLemmas.{one_decision}
+use Rattle.acl_policy.specs.Policies.{IsPolicyText, PolicyFacts}
 use Rattle.session_state.specs.declared.timeouts.Timeouts.{Timeouts}
-use Rattle.racl_cli.specs.declared.input.Form.{Form}
-use Rattle.racl_cli.specs.declared.report.Report.{Report}
-use Rattle.racl_cli.specs.declared.verdict.Verdict.{Verdict}
-use Rattle.racl_cli.specs.Filters.{AreReadings, AreVerdicts, IsReading, IsReadingOf, Reading, Ruled, one_thread_verdicts}
-use Rattle.racl_cli.specs.Inputs.{IsContent, IsInput, Parts}
-use Rattle.racl_cli.specs.Reports.{report_of, totals_of}
-use Rattle.racl_cli.specs.Runs.{FiltersCapture, FiltersContent, FiltersInput, HasOutcome, Outcome, Tells}
-use Rattle.racl_cli.proofs.InputLemmas.{one_input}
+use Rattle.flow_filter.specs.declared.verdict.Verdict.{Verdict}
+use Rattle.racl_words.specs.declared.settings.Options.{Options}
+use Rattle.racl_io.specs.declared.fault.Fault.{Fault}
+use Rattle.racl_io.specs.declared.input.Form.{Form}
+use Rattle.racl_io.specs.declared.report.Report.{Report}
+use Rattle.racl_io.specs.Inputs.{IsContent, IsInput, Parts}
+use Rattle.racl_io.proofs.InputLemmas.{one_input}
+use Rattle.racl_cli.specs.Runs.{Accepts, ByOneThread, FiltersCapture, FiltersContent, FiltersInput, HasOutcome, IsReport, Judging, Outcome, Reported, Tells, flow_layout}
+use Rattle.flow_filter.proofs.OneThreadLemmas.{one_verdicts}
 use Rattle.racl_cli.proofs.RunLemmas.{IsRead, one_content}
 
-one_reading_of : (policy : PolicyFacts) (moment : ℕ) (view : View) (a b : Reading) → IsReadingOf policy moment view a → IsReadingOf policy moment view b → a ≡ b
-one_reading_of policy moment frames.NotIp a b one two = one ∙ sym two
-one_reading_of policy moment frames.Malformed a b one two = one ∙ sym two
-one_reading_of policy moment frames.Short a b one two = one ∙ sym two
-one_reading_of policy moment (frames.Ip direction tuple) a b (decision, decides, one) (other, decides', two) =
-    one ∙ ap (λ d. Ruled moment tuple d) (sym (one_decision (rules_of direction policy) tuple decision other decides decides')) ∙ sym two
-
--- a packet has one reading
-pub one_reading : (policy : PolicyFacts) (packet : Seen) (a b : Reading) → IsReading policy packet a → IsReading policy packet b → a ≡ b
-one_reading policy packet a b (view, shown, of) (other, shown', of') =
-    let same : view ≡ other = view_only packet.frame policy.own view shown ∙ sym (view_only packet.frame policy.own other shown') in
-    one_reading_of policy packet.moment view a b of (subst (λ v. IsReadingOf policy packet.moment v b) (sym same) of')
-
-pub one_readings : (policy : PolicyFacts) (packets : List Seen) (a b : List Reading) → AreReadings policy packets a → AreReadings policy packets b → a ≡ b
-one_readings policy [] [] [] one two = refl
-one_readings policy [] [] (y ∷ b) one two = absurd two
-one_readings policy [] (x ∷ a) b one two = absurd one
-one_readings policy (packet ∷ packets) [] b one two = absurd one
-one_readings policy (packet ∷ packets) (x ∷ a) [] one two = absurd two
-one_readings policy (packet ∷ packets) (x ∷ a) (y ∷ b) one two =
-    ap₂ (λ h t. h ∷ t) (one_reading policy packet x y one.0 two.0) (one_readings policy packets a b one.1 two.1)
-
--- packets have one list of verdicts
-pub one_verdicts : (times : Timeouts) (policy : PolicyFacts) (packets : List Seen) (a b : List Verdict) → AreVerdicts times policy packets a → AreVerdicts times policy packets b → a ≡ b
-one_verdicts times policy packets a b (readings, read, one) (others, read', two) =
-    one ∙ ap (one_thread_verdicts times) (one_readings policy packets readings others read read') ∙ sym two
+abbrev outcome_of : List Verdict → Bool → Outcome
+outcome_of verdicts truncated = record { verdicts = verdicts; truncated = truncated }
 
 pub one_truncated : (a b : Bool) → end_of a ≡ end_of b → a ≡ b
 one_truncated true true same = refl
@@ -50,33 +24,65 @@ one_truncated true false same = cc
 one_truncated false true same = cc
 one_truncated false false same = refl
 
--- the report on verdicts of a capture's packets tells the capture's outcome
-pub told : (times : Timeouts) (policy : PolicyFacts) (capture : List ℕ) (packets : List Seen) (truncated : Bool) (verdicts : List Verdict) (report : Report) (outcome : Outcome)
-    (filters : FiltersCapture times policy capture outcome) → (packets ≡ filters.packets) × (end_of truncated ≡ end_of outcome.truncated)
-    → AreVerdicts times policy packets verdicts → report.text.items ≡ report_of verdicts truncated → report.totals ≡ totals_of verdicts truncated → Tells outcome report
-told times policy capture packets truncated verdicts report outcome filters (same, ended) are text totals =
-    let one = one_verdicts times policy filters.packets verdicts outcome.verdicts (subst (λ p. AreVerdicts times policy p verdicts) same are) filters.verdicts in
-    let cut = one_truncated truncated outcome.truncated ended in
-    record { text = text ∙ ap₂ report_of one cut; totals = totals ∙ ap₂ totals_of one cut }
+-- a capture has one outcome of the one-thread filter
+pub one_outcome_of_packets : (times : Timeouts) (policy : PolicyFacts) (capture : List ℕ) (packets : List Seen) (verdicts : List Verdict) (truncated : Bool) (outcome : Outcome)
+    (filters : FiltersCapture (ByOneThread times) policy capture outcome) → (packets ≡ filters.packets) × (end_of truncated ≡ end_of outcome.truncated)
+    → ByOneThread times policy packets verdicts → outcome_of verdicts truncated ≡ outcome
+one_outcome_of_packets times policy capture packets verdicts truncated outcome filters (same, ended) are =
+    ap₂ outcome_of
+    (one_verdicts flow_layout times policy filters.packets verdicts outcome.verdicts (subst (λ p. ByOneThread times policy p verdicts) same are) filters.verdicts)
+    (one_truncated truncated outcome.truncated ended)
 
 -- what an input's parts say, where they are known
-pub record FiltersParts (times : Timeouts) (parts : Parts) (outcome : Outcome) : Type 0 where
+pub record FiltersParts (judging : Judging) (parts : Parts) (outcome : Outcome) : Type 0 where
   pub policy : PolicyFacts
   pub says : IsPolicyText parts.policy policy
-  pub filters : FiltersContent times policy parts.form parts.content outcome
+  pub filters : FiltersContent judging policy parts.form parts.content outcome
 
-pub filters_of_known_parts : (times : Timeouts) (bytes : List ℕ) (parts : Parts) (outcome : Outcome) → IsInput bytes parts → FiltersInput times bytes outcome → FiltersParts times parts outcome
-filters_of_known_parts times bytes parts outcome is filters =
-    subst (λ p. FiltersParts times p outcome) (one_input bytes filters.parts parts filters.parted is)
+pub filters_of_known_parts : (judging : Judging) (bytes : List ℕ) (parts : Parts) (outcome : Outcome) → IsInput bytes parts → FiltersInput judging bytes outcome → FiltersParts judging parts outcome
+filters_of_known_parts judging bytes parts outcome is filters =
+    subst (λ p. FiltersParts judging p outcome) (one_input bytes filters.parts parts filters.parted is)
     (record { policy = filters.policy; says = filters.says; filters = filters.filters })
 
-pub filters_of_known_content : (times : Timeouts) (policy : PolicyFacts) (form : Form) (content capture : List ℕ) (outcome : Outcome) → IsContent form content capture
-    → FiltersContent times policy form content outcome → FiltersCapture times policy capture outcome
-filters_of_known_content times policy form content capture outcome is filters =
-    subst (λ c. FiltersCapture times policy c outcome) (one_content form content filters.capture capture filters.spelt is) filters.filters
+pub filters_of_known_content : (judging : Judging) (policy : PolicyFacts) (form : Form) (content capture : List ℕ) (outcome : Outcome) → IsContent form content capture
+    → FiltersContent judging policy form content outcome → FiltersCapture judging policy capture outcome
+filters_of_known_content judging policy form content capture outcome is filters =
+    subst (λ c. FiltersCapture judging policy c outcome) (one_content form content filters.capture capture filters.spelt is) filters.filters
 
 -- what holds at each outcome of the bytes that were read holds at each of the input
-pub at_outcomes : (known : Option (List ℕ)) (bytes : List ℕ) (times : Timeouts) (Holds : Outcome → Type 0) → IsRead known bytes
-    → ((outcome : Outcome) → FiltersInput times bytes outcome → Holds outcome) → IfSome known (λ input. (outcome : Outcome) → HasOutcome times input outcome → Holds outcome)
-at_outcomes None bytes times Holds read all = tt
-at_outcomes (Some input) bytes times Holds read all = λ outcome has. all outcome (subst (λ b. FiltersInput times b outcome) (sym read.whole) has.filters)
+pub at_outcomes : (known : Option (List ℕ)) (bytes : List ℕ) (judging : Judging) (Holds : List ℕ → Outcome → Type 0) → IsRead known bytes
+    → ((outcome : Outcome) → FiltersInput judging bytes outcome → Holds bytes outcome)
+    → IfSome known (λ input. (outcome : Outcome) → HasOutcome judging input outcome → Holds input outcome)
+at_outcomes None bytes judging Holds read all = tt
+at_outcomes (Some input) bytes judging Holds read all = λ outcome has.
+    subst (λ b. Holds b outcome) read.whole (all outcome (subst (λ b. FiltersInput judging b outcome) (sym read.whole) has.filters))
+
+-- a report on what is judged is one on what holds that
+pub reports_more : (options : Options) (Has Holds : Judging → Outcome → Type 0) (result : Result Report Fault)
+    → ((judging : Judging) (outcome : Outcome) → Has judging outcome → Holds judging outcome)
+    → IfOk result (IsReport options Has) → IfOk result (IsReport options Holds)
+reports_more options Has Holds (Ok report) more is = record {
+  outcome = is.outcome;
+  reached = record {
+    by_workers = more _ is.outcome is.reached.by_workers;
+    by_one_thread = λ paged. more _ is.outcome (is.reached.by_one_thread paged);
+  };
+  tells = is.tells;
+}
+reports_more options Has Holds (Err fault) more is = tt
+
+pub accepts_more : (options : Options) (Has Holds : Judging → Outcome → Type 0) (one_thread : Outcome) (result : Result Report Fault)
+    → ((judging : Judging) (outcome : Outcome) → Has judging outcome → Holds judging outcome)
+    → Accepts options Has one_thread result → Accepts options Holds one_thread result
+accepts_more options Has Holds one_thread (Ok report) more is = record {
+  outcome = is.outcome;
+  by_workers = more _ is.outcome is.by_workers;
+  same = is.same;
+  tells = is.tells;
+}
+accepts_more options Has Holds one_thread (Err fault) more is = is
+
+-- the report was written behind what was there
+pub reported : (outcome : Outcome) (report : Report) (old new : Option (List ℕ)) (text : List ℕ) → Tells outcome report → text ≡ report.text.items
+    → Appends old new text → Reported outcome old new report.totals
+reported outcome report old new text tells same appends = (subst (λ t. Appends old new t) (same ∙ tells.text) appends, tells.totals)

@@ -3,13 +3,13 @@ use Rattle.std.proofs.Common.{◌≡◌, ◌≢◌, ◌≤◌, ◌∙◌, ◌⊎
 use Rattle.acl_policy.specs.Policies.{IsPolicyFault, IsPolicyText, PolicyFacts}
 use Rattle.acl_policy.specs.declared.policy.PolicyFault.{PolicyFault}
 use Rattle.acl_policy.specs.declared.policy.PolicyFault.TheVariants as policy
-use Rattle.racl_cli.specs.declared.fault.Fault.{Fault}
-use Rattle.racl_cli.specs.declared.fault.Fault.TheVariants.{Memory, Read, TooLarge, NoCapture, NotUtf8, BadLine, TooMany, Hex, Short, Magic, Version, LinkType, LongRecord, Write}
-use Rattle.racl_cli.specs.declared.input.Form.{Form}
-use Rattle.racl_cli.specs.declared.input.Form.TheVariants.{Binary, Hexadecimal}
-use Rattle.racl_cli.specs.Faults.{IsDeviceFault, IsFaultOfBytes, IsFaultOfCapture, IsFaultOfContent, IsFaultOfParts, IsInputFault, policy_fault}
-use Rattle.racl_cli.specs.Inputs.{IsContent, IsInput, Parts, most_bytes}
-use Rattle.racl_cli.proofs.InputLemmas.{one_input}
+use Rattle.racl_io.specs.declared.fault.Fault.{Fault}
+use Rattle.racl_io.specs.declared.fault.Fault.TheVariants.{Memory, Read, TooLarge, NoCapture, NotUtf8, BadLine, TooMany, Hex, Short, Magic, Version, LinkType, LongRecord, Write}
+use Rattle.racl_io.specs.declared.input.Form.{Form}
+use Rattle.racl_io.specs.declared.input.Form.TheVariants.{Binary, Hexadecimal}
+use Rattle.racl_io.specs.Faults.{IsDeviceFault, IsFaultOfBytes, IsFaultOfCapture, IsFaultOfContent, IsFaultOfParts, IsInputFault, policy_fault}
+use Rattle.racl_io.specs.Inputs.{IsContent, IsInput, Parts, most_bytes}
+use Rattle.racl_io.proofs.InputLemmas.{one_input}
 
 -- content stands for one capture
 pub one_content : (form : Form) (content one other : List ℕ) → IsContent form content one → IsContent form content other → one ≡ other

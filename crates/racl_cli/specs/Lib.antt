@@ -1,14 +1,3 @@
-pub mod Command
-pub mod Contents
-pub mod Devices
 pub mod Endings
-pub mod Faults
-pub mod Filters
-pub mod Held
-pub mod Inputs
-pub mod Judging
-pub mod Reports
 pub mod Runs
-pub mod Settings
 pub mod Statuses
-pub mod Tables

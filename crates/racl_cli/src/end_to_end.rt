@@ -1,81 +1,96 @@
 //! One run of the filter, from the bytes of an input to the report.
 ghost use Rattle.std.specs.Prelude.{◌≡◌, ◌≢◌, ◌+◌, ◌-◌, ◌<◌, ◌≤◌, ◌^◌, ◌⊎◌, ◌↔◌, Err, IfOk, IfErr, IfSome, MatchResult};
 ghost use Rattle.acl_policy.specs.Policies.{policy_facts};
-ghost use Rattle.racl_cli.specs.declared.fault.Fault.{Fault};
-ghost use Rattle.racl_cli.specs.declared.fault.Fault.TheVariants.{Memory};
-ghost use Rattle.racl_cli.specs.Faults.{IsFaultOfBytes, IsFaultOfCapture, IsFaultOfContent, IsInputFault, IsDeviceFault, Refuses, RefusesRead};
-ghost use Rattle.racl_cli.specs.Inputs.{parts_of};
-ghost use Rattle.racl_cli.specs.Runs.{Accepts, FiltersCapture, FiltersContent, FiltersInput, HasOutcome, HasRun, Outcome, Reported, Tells};
+ghost use Rattle.racl_io.specs.declared.fault.Fault.{Fault};
+ghost use Rattle.racl_io.specs.declared.fault.Fault.TheVariants.{Memory};
+ghost use Rattle.racl_io.specs.Faults.{IsFaultOfBytes, IsFaultOfCapture, IsFaultOfContent, IsInputFault, IsDeviceFault, Refuses, RefusesRead};
+ghost use Rattle.racl_io.specs.Inputs.{parts_of};
+ghost use Rattle.racl_cli.specs.Runs.{Accepts, ByOneThread, FiltersCapture, FiltersContent, FiltersInput, HasOutcome, HasReported, HasRun, IsReport, Outcome};
 
-use crate::content::decoded;
-use crate::device::{Sink, Source};
-use crate::fault::Fault;
-use crate::filter::verdicts_on;
-use crate::input::{Form, Input, parts};
-use crate::report::{Report, Totals, report_on};
-use crate::settings::Options;
-use crate::transfer::{read_input, write_all};
-use acl_policy::{Policy, read_policy};
+use crate::judging::verdicts_on;
+use acl_policy::read_policy;
+use flow_workers::Filter;
 use packet_view::read_capture;
-use session_state::Timeouts;
+use racl_io::{Fault, Form, Report, Sink, Source, Totals};
+use racl_io::{decoded, parts, read_input, report_on, write_all};
+use racl_words::Options;
 use std::alloc::Global;
+use std::sync::Wait;
+use std::thread::Threads;
 
-fn report_capture(
+fn report_capture<T: Threads + Wait + Sync>(
+    rt: &T,
     alloc: Global,
-    times: &Timeouts,
-    policy: &Policy,
+    options: &Options,
+    filter: &Filter,
     capture: &[u8],
 ) -> Result<Report, Fault>
-    ensures ok { IfOk result (λ report. (outcome : Outcome) × FiltersCapture times.now (policy_facts policy.now) capture.now outcome × Tells outcome report) }
+    requires times { filter.now.times ≡ options.now.times }
+    ensures ok { IfOk result (IsReport options.now (λ judging. FiltersCapture judging (policy_facts filter.now.policy) capture.now)) }
+    ensures accepts { (outcome : Outcome) → FiltersCapture (ByOneThread options.now.times) (policy_facts filter.now.policy) capture.now outcome
+        → Accepts options.now (λ judging. FiltersCapture judging (policy_facts filter.now.policy) capture.now) outcome result }
     ensures fault { IfErr result (λ fault. fault ≢ Memory → IsFaultOfCapture capture.now fault) }
-    ensures accepts { (outcome : Outcome) → FiltersCapture times.now (policy_facts policy.now) capture.now outcome → Accepts outcome result }
     ensures refuses { (fault : Fault) → IsFaultOfCapture capture.now fault → Refuses fault result }
 {
     let capture = read_capture(alloc, capture)?;
-    let verdicts = verdicts_on(alloc, times, policy, &capture.packets)?;
+    let verdicts = verdicts_on(rt, alloc, options, filter, &capture.packets)?;
     let report = report_on(alloc, &verdicts, capture.truncated)?;
     Ok(report)
 }
 
-fn report_content(
+fn report_content<T: Threads + Wait + Sync>(
+    rt: &T,
     alloc: Global,
-    times: &Timeouts,
-    policy: &Policy,
+    options: &Options,
+    filter: &Filter,
     form: Form,
     content: &[u8],
 ) -> Result<Report, Fault>
-    ensures ok { IfOk result (λ report. (outcome : Outcome) × FiltersContent times.now (policy_facts policy.now) form content.now outcome × Tells outcome report) }
+    requires times { filter.now.times ≡ options.now.times }
+    ensures ok { IfOk result (IsReport options.now (λ judging. FiltersContent judging (policy_facts filter.now.policy) form content.now)) }
+    ensures accepts { (outcome : Outcome) → FiltersContent (ByOneThread options.now.times) (policy_facts filter.now.policy) form content.now outcome
+        → Accepts options.now (λ judging. FiltersContent judging (policy_facts filter.now.policy) form content.now) outcome result }
     ensures fault { IfErr result (λ fault. fault ≢ Memory → IsFaultOfContent form content.now fault) }
-    ensures accepts { (outcome : Outcome) → FiltersContent times.now (policy_facts policy.now) form content.now outcome → Accepts outcome result }
     ensures refuses { (fault : Fault) → IsFaultOfContent form content.now fault → Refuses fault result }
 {
     match form {
-        Form::Binary => report_capture(alloc, times, policy, content),
+        Form::Binary => report_capture(rt, alloc, options, filter, content),
         Form::Hexadecimal => {
             let capture = decoded(alloc, content)?;
-            report_capture(alloc, times, policy, &capture)
+            report_capture(rt, alloc, options, filter, &capture)
         }
     }
 }
 
 /// The report on an input.
-fn report_input(alloc: Global, times: &Timeouts, bytes: &[u8]) -> Result<Report, Fault>
-    ensures ok { IfOk result (λ report. (outcome : Outcome) × FiltersInput times.now bytes.now outcome × Tells outcome report) }
+fn report_input<T: Threads + Wait + Sync>(
+    rt: &T,
+    alloc: Global,
+    options: &Options,
+    bytes: &[u8],
+) -> Result<Report, Fault>
+    ensures ok { IfOk result (IsReport options.now (λ judging. FiltersInput judging bytes.now)) }
+    ensures accepts { (outcome : Outcome) → FiltersInput (ByOneThread options.now.times) bytes.now outcome
+        → Accepts options.now (λ judging. FiltersInput judging bytes.now) outcome result }
     ensures fault { IfErr result (λ fault. fault ≢ Memory → IsFaultOfBytes bytes.now fault) }
-    ensures accepts { (outcome : Outcome) → FiltersInput times.now bytes.now outcome → Accepts outcome result }
     ensures refuses { (fault : Fault) → IsFaultOfBytes bytes.now fault → Refuses fault result }
 {
     let Some(input) = parts(bytes) else {
         return Err(Fault::NoCapture);
     };
     let policy = read_policy(alloc, input.policy)?;
-    report_content(alloc, times, &policy, input.form, input.content)
+    let filter = Filter {
+        policy,
+        times: options.times,
+    };
+    report_content(rt, alloc, options, &filter, input.form, input.content)
 }
 
 /// Reads an input, filters its capture by its policy, and writes the report.
 ///
 /// Nothing is written before the whole input was judged.
-pub fn run<R: Source, W: Sink>(
+pub fn run<R: Source, W: Sink, T: Threads + Wait + Sync>(
+    rt: &T,
     alloc: Global,
     options: &Options,
     reader: &mut R,
@@ -85,12 +100,12 @@ pub fn run<R: Source, W: Sink>(
     requires writer { W.failures writer.old < 2 ^ 64 - 1 }
 
     // What was written is the report on what was read.
-    ensures ok { IfOk result (HasRun options.now.times (R.bytes reader.old) (W.bytes writer.old) (W.bytes writer.new)) }
+    ensures ok { IfOk result (HasRun options.now (R.bytes reader.old) (W.bytes writer.old) (W.bytes writer.new)) }
 
     // An input that is right is answered by its report, or memory ran out or a device failed.
     ensures accepts { IfSome (R.bytes reader.old) (λ bytes. (outcome : Outcome)
-        → HasOutcome options.now.times bytes outcome
-        → MatchResult result (Reported outcome (W.bytes writer.old) (W.bytes writer.new)) IsDeviceFault) }
+        → HasOutcome (ByOneThread options.now.times) bytes outcome
+        → MatchResult result (HasReported options.now bytes outcome (W.bytes writer.old) (W.bytes writer.new)) IsDeviceFault) }
 
     // A fault of the input is answered where its cause stands first, and then nothing else of the input.
     ensures fault { IfErr result (λ fault. IsDeviceFault fault ⊎ IfSome (R.bytes reader.old) (λ bytes. IsInputFault bytes fault)) }
@@ -104,7 +119,7 @@ pub fn run<R: Source, W: Sink>(
     ensures unwritten { IfErr result (λ fault. fault ≢ Fault.Write → writer.new ≡ writer.old) }
 {
     let bytes = read_input(alloc, reader)?;
-    let report = report_input(alloc, &options.times, &bytes)?;
+    let report = report_input(rt, alloc, options, &bytes)?;
     write_all(writer, &report.text)?;
     Ok(report.totals)
 }

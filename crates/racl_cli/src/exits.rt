@@ -4,13 +4,12 @@ ghost use Rattle.clap.specs.Words.{kind_of};
 ghost use Rattle.std.specs.IoError.{error_kind};
 ghost use Rattle.racl_cli.specs.Endings.{said_after};
 ghost use Rattle.racl_cli.specs.Statuses.{status_of};
-ghost use Rattle.racl_cli.specs.declared.fault.Fault.TheVariants.{Memory, Write};
+ghost use Rattle.racl_io.specs.declared.fault.Fault.TheVariants.{Memory, Write};
 
-use crate::fault::Fault;
 use crate::message::{Ending, Message};
-use crate::report::Totals;
-use crate::words::words_status;
 use clap::error::ErrorKind;
+use racl_io::{Fault, Totals};
+use racl_words::words_status;
 use std::io;
 use std::io::ErrorKind as FailureKind;
 

@@ -1,6 +1,6 @@
 //! What the program says where it makes no report.
 
-use crate::fault::Fault;
+use racl_io::Fault;
 use thiserror::Error;
 
 /// What is said on standard error: `racl: ` and the cause.

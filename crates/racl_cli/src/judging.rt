@@ -1,0 +1,70 @@
+//! The packets of a capture through workers.
+ghost use Rattle.std.specs.Prelude.{◌≡◌, ◌≤◌, IfOk, IfErr, map};
+ghost use Rattle.packet_view.specs.Captures.{seen};
+ghost use Rattle.acl_policy.specs.Policies.{policy_facts};
+ghost use Rattle.flow_dealing.specs.Runs.{HavePages};
+ghost use Rattle.racl_io.specs.declared.fault.Fault.TheVariants.{Memory};
+ghost use Rattle.racl_cli.specs.Runs.{ByOneThread, ByWorkers};
+
+use bihash_words::{ShapeV4, ShapeV6, flow_shapes_are_sound};
+use flow_workers::{Dealing, Filter, Gate, Verdict, run_workers};
+use packet_view::Packet;
+use racl_io::Fault;
+use racl_words::Options;
+use std::alloc::Global;
+use std::sync::Wait;
+use std::thread::Threads;
+
+/// How many packets pay for more than one worker.
+const MANY_PACKETS: usize = 4096;
+
+/// Nothing waits before or after a packet is judged.
+struct OpenGate;
+
+impl Gate for OpenGate {
+    fn before(&self, _worker: usize, _packet: usize) {}
+
+    fn after(&self, _worker: usize, _packet: usize) {}
+}
+
+// As many workers as are asked for, or one where packets are few: the report is the same.
+fn workers_for(options: &Options, packets: usize) -> usize
+    ensures some { 1 ≤ result }
+    ensures few { result ≤ options.now.workers }
+{
+    if packets < MANY_PACKETS {
+        1
+    } else {
+        options.workers
+    }
+}
+
+/// The verdicts on packets in their order.
+pub fn verdicts_on<'a, T: Threads + Wait + Sync>(
+    rt: &T,
+    alloc: Global,
+    options: &Options,
+    filter: &'a Filter,
+    packets: &'a [Packet<'a>],
+) -> Result<Vec<Verdict>, Fault>
+    requires times { filter.now.times ≡ options.now.times }
+    ensures by_workers { IfOk result (λ v. ByWorkers options.now (policy_facts filter.entry.now.policy) (map seen packets.entry.now) v.items) }
+    ensures by_one_thread { IfOk result (λ v. HavePages v.items
+        → ByOneThread options.now.times (policy_facts filter.entry.now.policy) (map seen packets.entry.now) v.items) }
+    ensures memory { IfErr result (λ e. e ≡ Memory) }
+{
+    flow_shapes_are_sound();
+    let workers = workers_for(options, packets.len());
+    match run_workers::<ShapeV4, ShapeV6, T, OpenGate>(
+        rt,
+        alloc,
+        filter,
+        packets,
+        workers,
+        &OpenGate,
+        Dealing::Bucket,
+    ) {
+        Ok(verdicts) => Ok(verdicts),
+        Err(_) => Err(Fault::Memory),
+    }
+}

@@ -1,0 +1,76 @@
+-- Which fault an input has: the first whose cause stands, in the order size, marker line, policy, digits, capture.
+use Rattle.std.specs.Prelude.{◌≡◌, ◌≤◌, ◌<◌, ◌⊎◌, ℕ, List, length, Result, MatchResult}
+use Rattle.packet_view.specs.Captures.{IsCaptureFault}
+use Rattle.packet_view.specs.declared.capture.CaptureFault.{CaptureFault}
+use Rattle.packet_view.specs.declared.capture.CaptureFault.TheVariants as capture
+use Rattle.acl_policy.specs.Policies.{PolicyFacts, IsPolicyFault, IsPolicyText}
+use Rattle.acl_policy.specs.declared.policy.PolicyFault.{PolicyFault}
+use Rattle.acl_policy.specs.declared.policy.PolicyFault.TheVariants as policy
+use Rattle.racl_io.specs.declared.fault.Fault.{Fault}
+use Rattle.racl_io.specs.declared.fault.Fault.TheVariants.{Memory, Read, TooLarge, NoCapture, NotUtf8, BadLine, TooMany, Hex, Short, Magic, Version, LinkType, LongRecord, Write}
+use Rattle.racl_io.specs.Inputs.{IsContent, IsInput, Parts, most_bytes}
+use Rattle.racl_io.specs.declared.input.Form.{Form}
+
+-- what reading the input may answer
+abbrev pub IsReadingFault : Fault → Type 0
+IsReadingFault Memory = Unit {0}
+IsReadingFault Read = Unit {0}
+IsReadingFault TooLarge = Unit {0}
+IsReadingFault _ = ⊥
+
+-- the program's fault for one of the policy
+abbrev pub policy_fault : PolicyFault → Fault
+policy_fault policy.Memory = Memory
+policy_fault policy.NotUtf8 = NotUtf8
+policy_fault (policy.BadLine number) = BadLine number
+policy_fault (policy.TooMany number) = TooMany number
+
+-- the program's fault for one of the capture
+abbrev pub capture_fault : CaptureFault → Fault
+capture_fault capture.Short = Short
+capture_fault capture.Magic = Magic
+capture_fault capture.Version = Version
+capture_fault capture.LinkType = LinkType
+capture_fault (capture.LongRecord number) = LongRecord number
+capture_fault capture.Memory = Memory
+
+abbrev pub IsFaultOfCapture : List ℕ → Fault → Type 0
+IsFaultOfCapture capture fault = (cause : CaptureFault) × IsCaptureFault capture cause × (fault ≡ capture_fault cause)
+
+-- the content isn't hexadecimal digits, two for each byte, or its capture has the fault
+abbrev pub IsFaultOfContent : Form → List ℕ → Fault → Type 0
+IsFaultOfContent form content fault =
+    ((fault ≡ Hex) × ((capture : List ℕ) → IsContent form content capture → ⊥))
+    ⊎ ((capture : List ℕ) × IsContent form content capture × IsFaultOfCapture capture fault)
+
+-- the policy has the fault, or it is right and the content has it
+abbrev pub IsFaultOfParts : Parts → Fault → Type 0
+IsFaultOfParts parts fault =
+    ((cause : PolicyFault) × IsPolicyFault parts.policy cause × (fault ≡ policy_fault cause))
+    ⊎ ((policy : PolicyFacts) × IsPolicyText parts.policy policy × IsFaultOfContent parts.form parts.content fault)
+
+-- there is no marker line, or what stands around the first one has the fault
+abbrev pub IsFaultOfBytes : List ℕ → Fault → Type 0
+IsFaultOfBytes bytes fault =
+    ((fault ≡ NoCapture) × ((parts : Parts) → IsInput bytes parts → ⊥))
+    ⊎ ((parts : Parts) × IsInput bytes parts × IsFaultOfParts parts fault)
+
+abbrev pub IsInputFault : List ℕ → Fault → Type 0
+IsInputFault bytes fault =
+    ((fault ≡ TooLarge) × (most_bytes < length bytes))
+    ⊎ ((length bytes ≤ most_bytes) × IsFaultOfBytes bytes fault)
+
+-- nothing but this fault or want of memory is answered
+abbrev pub Refuses : {X : Type 0} → Fault → Result X Fault → Type 0
+Refuses fault result = MatchResult result (λ _. ⊥) (λ found. (found ≡ fault) ⊎ (found ≡ Memory))
+
+-- nothing but this fault, want of memory, or a device that failed
+abbrev pub RefusesRead : {X : Type 0} → Fault → Result X Fault → Type 0
+RefusesRead fault result = MatchResult result (λ _. ⊥) (λ found. (found ≡ fault) ⊎ (found ≡ Memory) ⊎ (found ≡ Read))
+
+-- want of memory, or a device that failed
+abbrev pub IsDeviceFault : Fault → Type 0
+IsDeviceFault Memory = Unit {0}
+IsDeviceFault Read = Unit {0}
+IsDeviceFault Write = Unit {0}
+IsDeviceFault _ = ⊥

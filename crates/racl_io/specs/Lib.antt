@@ -1,0 +1,4 @@
+pub mod Devices
+pub mod Faults
+pub mod Inputs
+pub mod Reports

@@ -1,0 +1,92 @@
+ghost use Rattle.std.specs.Prelude.{◌≡◌, ◌+◌, ◌-◌, ◌<◌, ◌≤◌, ◌^◌, ℕ, List, Option, Some, None, MatchResult, IfOk, length, take};
+ghost use Rattle.std.specs.Io.KnownBytes.{Appends, Consumes, IsAtEnd, Keeps, ReadConsumes, WriteAppends};
+ghost use Rattle.racl_io.specs.Devices.{Reads, Writes};
+
+use std::io::{Read, Write};
+
+/// A device failed.
+#[derive(Clone, Copy, Debug, PartialEq, Eq)]
+pub struct DeviceFault;
+
+/// What gives bytes.
+pub trait Source {
+    /// The bytes that reads will give from here on, where they are known.
+    ghost bytes: { Self → Option (List ℕ) };
+
+    /// How often it failed.
+    ghost failures: { Self → ℕ };
+
+    /// Reads some bytes, and none only at the end or where there is no room.
+    fn read(&mut self, buf: &mut [u8]) -> Result<usize, DeviceFault>
+        requires { failures self.old < 2 ^ 64 - 1 }
+        ensures bound { IfOk result (λ n. n ≤ length buf.new) }
+        ensures bytes { ReadConsumes (bytes self.old) (bytes self.new) result buf.new }
+        ensures failures { failures self.new ≡ Reads (failures self.old) result };
+}
+
+/// What takes bytes.
+pub trait Sink {
+    /// The bytes that it took, where they are known.
+    ghost bytes: { Self → Option (List ℕ) };
+
+    /// How often it failed.
+    ghost failures: { Self → ℕ };
+
+    /// Writes some of the bytes.
+    fn write(&mut self, buf: &[u8]) -> Result<usize, DeviceFault>
+        requires { failures self.old < 2 ^ 64 - 1 }
+        ensures bound { IfOk result (λ n. n ≤ length buf.now) }
+        ensures bytes { WriteAppends (bytes self.old) (bytes self.new) result buf.now }
+        ensures failures { failures self.new ≡ Writes (failures self.old) result };
+}
+
+/// A reader or a writer of std as a device.
+#[derive(Drop)]
+pub struct Device<T> {
+    pub inner: T,
+    pub failures: u64,
+}
+
+impl<T> Device<T> {
+    pub fn new(inner: T) -> Device<T>
+        ensures { result ≡ record { inner = inner; failures = 0 } }
+    {
+        Device { inner, failures: 0 }
+    }
+}
+
+impl<T: Read> Source for Device<T> {
+    ghost bytes = { λ d. T.remaining d.inner };
+
+    ghost failures = { λ d. d.failures };
+
+    fn read(&mut self, buf: &mut [u8]) -> Result<usize, DeviceFault> {
+        match self.inner.read(buf) {
+            Ok(n) => Ok(n),
+            Err(_) => {
+                self.failures += 1;
+                Err(DeviceFault)
+            }
+        }
+    }
+}
+
+impl<T: Write> Sink for Device<T> {
+    ghost bytes = { λ d. T.contents d.inner };
+
+    ghost failures = { λ d. d.failures };
+
+    fn write(&mut self, buf: &[u8]) -> Result<usize, DeviceFault> {
+        match self.inner.write(buf) {
+            Ok(0) => {
+                self.failures += 1;
+                Ok(0)
+            }
+            Ok(n) => Ok(n),
+            Err(_) => {
+                self.failures += 1;
+                Err(DeviceFault)
+            }
+        }
+    }
+}

@@ -1,0 +1,20 @@
+//! What goes into the program and what comes out: devices, the parts of an input, the report on verdicts, and the
+//! faults.
+#![tactic(auto)]
+
+mod content;
+mod device;
+mod fault;
+mod input;
+mod report;
+mod transfer;
+
+pub use content::decoded;
+pub use device::{Device, DeviceFault, Sink, Source};
+pub use fault::Fault;
+pub use input::{Form, Input, parts};
+pub use report::{Report, Totals, report_on};
+pub use transfer::{MOST_BYTES, read_input, write_all};
+
+#[cfg(test)]
+mod tests;

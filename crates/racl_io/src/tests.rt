@@ -1,0 +1,5 @@
+//! Worked inputs and reports, computed by hand.
+
+mod faults;
+mod inputs;
+mod reports;

@@ -1,0 +1,5 @@
+//! The program's worked inputs, as tests.
+#![tactic(auto)]
+
+#[cfg(test)]
+mod tests;

@@ -1,0 +1,175 @@
+//! Devices that move a byte at a time, devices that fail, and inputs of the greatest size.
+ghost use Rattle.std.specs.Prelude.{◌≡◌, None};
+
+use super::captures::{FIRST_PATH, FIRST_REPORT, defaults};
+use racl_cli::{Device, DeviceFault, Fault, Sink, Source, run, status};
+use std::alloc::Global;
+use std::test::Fail;
+
+/// Gives one byte a read, and fails once it has made its reads.
+#[derive(Drop)]
+struct Drip<'a> {
+    rest: &'a [u8],
+    reads: usize,
+    failures: u64,
+}
+
+impl Source for Drip<'_> {
+    ghost bytes = { λ _. None };
+
+    ghost failures = { λ d. d.failures };
+
+    fn read(&mut self, buf: &mut [u8]) -> Result<usize, DeviceFault> {
+        if self.reads == 0 {
+            self.failures += 1;
+            return Err(DeviceFault);
+        }
+        self.reads -= 1;
+        let count = self.rest.len().min(buf.len()).min(1);
+        buf[..count].copy_from_slice(&self.rest[..count]);
+        self.rest = &self.rest[count..];
+        Ok(count)
+    }
+}
+
+/// Takes one byte a write, and fails once it has made its writes.
+#[derive(Drop)]
+struct Trickle {
+    taken: Vec<u8>,
+    writes: usize,
+    failures: u64,
+}
+
+impl Sink for Trickle {
+    ghost bytes = { λ _. None };
+
+    ghost failures = { λ t. t.failures };
+
+    fn write(&mut self, buf: &[u8]) -> Result<usize, DeviceFault> {
+        let Some(first) = buf.first() else {
+            self.failures += 1;
+            return Ok(0);
+        };
+        if self.writes == 0 || self.taken.push(*first).is_err() {
+            self.failures += 1;
+            return Err(DeviceFault);
+        }
+        self.writes -= 1;
+        Ok(1)
+    }
+}
+
+/// Takes no byte.
+#[derive(Drop)]
+struct Stopped {
+    failures: u64,
+}
+
+impl Sink for Stopped {
+    ghost bytes = { λ _. None };
+
+    ghost failures = { λ s. s.failures };
+
+    fn write(&mut self, _buf: &[u8]) -> Result<usize, DeviceFault> {
+        self.failures += 1;
+        Ok(0)
+    }
+}
+
+fn trickling(alloc: Global, writes: usize) -> Trickle
+    ensures { result.failures ≡ 0 }
+{
+    Trickle {
+        taken: Vec::new(alloc),
+        writes,
+        failures: 0,
+    }
+}
+
+#[test]
+fn one_byte_at_a_time(rt: HostRuntime) -> Result<(), Fail> {
+    let alloc = rt.alloc();
+    let mut reader = Drip {
+        rest: FIRST_PATH.as_bytes(),
+        reads: usize::MAX,
+        failures: 0,
+    };
+    let mut writer = trickling(alloc, usize::MAX);
+    let outcome = run(&rt, alloc, &defaults(1), &mut reader, &mut writer);
+    assert_eq!(rt; status(&outcome), 0);
+    assert_eq!(rt; writer.taken.as_slice(), FIRST_REPORT.as_bytes());
+    Ok(())
+}
+
+#[test]
+fn failing_reads(rt: HostRuntime) {
+    let alloc = rt.alloc();
+    for reads in 0..=FIRST_PATH.len() {
+        let mut reader = Drip {
+            rest: FIRST_PATH.as_bytes(),
+            reads,
+            failures: 0,
+        };
+        let mut writer = trickling(alloc, usize::MAX);
+        let outcome = run(&rt, alloc, &defaults(1), &mut reader, &mut writer);
+        assert_eq!(rt; outcome, Err(Fault::Read), "after {reads} reads");
+        assert_eq!(rt; status(&outcome), 4);
+        assert_eq!(rt; writer.taken.len(), 0, "after {reads} reads");
+    }
+}
+
+#[test]
+fn failing_writes(rt: HostRuntime) {
+    let alloc = rt.alloc();
+    for writes in 0..FIRST_REPORT.len() {
+        let mut reader = Device::new(FIRST_PATH.as_bytes());
+        let mut writer = trickling(alloc, writes);
+        let outcome = run(&rt, alloc, &defaults(1), &mut reader, &mut writer);
+        assert_eq!(rt; outcome, Err(Fault::Write), "after {writes} writes");
+        assert_eq!(rt; status(&outcome), 4);
+        assert_eq!(rt; writer.taken.len(), writes);
+        assert!(rt; FIRST_REPORT.as_bytes().starts_with(&writer.taken));
+    }
+}
+
+#[test]
+fn a_write_of_nothing_is_a_failed_one(rt: HostRuntime) {
+    let mut reader = Device::new(FIRST_PATH.as_bytes());
+    let mut writer = Stopped { failures: 0 };
+    let outcome = run(&rt, rt.alloc(), &defaults(1), &mut reader, &mut writer);
+    assert_eq!(rt; outcome, Err(Fault::Write));
+    assert_eq!(rt; writer.failures, 1);
+}
+
+/// Gives so many spaces.
+#[derive(Drop)]
+struct Spaces {
+    left: usize,
+}
+
+impl Source for Spaces {
+    ghost bytes = { λ _. None };
+
+    ghost failures = { λ _. 0 };
+
+    fn read(&mut self, buf: &mut [u8]) -> Result<usize, DeviceFault> {
+        let count = self.left.min(buf.len());
+        buf[..count].fill(b' ');
+        self.left -= count;
+        Ok(count)
+    }
+}
+
+#[test]
+fn input_limit(rt: HostRuntime) {
+    let alloc = rt.alloc();
+    for (left, fault) in [
+        (67_108_864, Fault::NoCapture),
+        (67_108_865, Fault::TooLarge),
+    ] {
+        let mut writer = trickling(alloc, usize::MAX);
+        let outcome = run(&rt, alloc, &defaults(1), &mut Spaces { left }, &mut writer);
+        assert_eq!(rt; outcome, Err(fault), "with {left} bytes");
+        assert_eq!(rt; writer.taken.len(), 0);
+    }
+}

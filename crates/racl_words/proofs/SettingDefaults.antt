@@ -1,0 +1,150 @@
+-- What the end of a parse makes of the options that the words left out.
+use Rattle.std.proofs.Common.{◌≡◌, ◌∙◌, ◌||◌, ap, cond, refl, Bool, true, false, List, [], ◌∷◌, Option, Some, None, codes, is_some}
+use Rattle.std.specs.List.{find, fold}
+use Rattle.std.specs.Option.{option_or}
+use Rattle.std.specs.Str.{bytes_eq}
+use Rattle.std.proofs.lemmas.List.Folds.{find-append}
+use Rattle.clap.specs.Faults.{check_fault, default_fault, defaults_fault, entered_fault, settle_fault, walk_fault}
+use Rattle.clap.specs.Kinds.{or_else}
+use Rattle.clap.specs.Simple.{entered, filled, help_rule}
+use Rattle.clap.specs.Walk.{Held, Walk, finished, has_row, more_values, nothing_held, settled, walked, with_default, with_values}
+use Rattle.clap.specs.Words.{Row, Text, built, fault_of}
+use Rattle.clap.specs.declared.builder.value_parser.Reading.TheVariants.{WithoutMinus}
+use Rattle.clap.specs.declared.error.kind.ErrorKind.{ErrorKind}
+use Rattle.clap.specs.declared.parser.matches.ValueSource.TheVariants.{DefaultValue}
+use Rattle.clap.proofs.OnLiterals.{clap_on_literals}
+use Rattle.racl_words.specs.Command.{OptionName, Workers, Established, Transient, Udp, default_of, name_of, racl}
+use Rattle.racl_words.proofs.SettingWalks.{at_row_missing, between, default_row, filled_rule, top}
+
+or_right : (b : Bool) → (b || true) ≡ true
+or_right true = refl
+or_right false = refl
+
+both_pass : {xs ys : List ErrorKind} → xs ≡ [] → ys ≡ [] → or_else xs ys ≡ []
+both_pass first second = rw (first, second) refl
+
+pass_either : (b : Bool) (xs : List ErrorKind) → xs ≡ [] → cond b [] xs ≡ []
+pass_either true xs none = refl
+pass_either false xs none = none
+
+-- a default passes, whether or not it is wanted
+default_passes : (o : OptionName) (rows : List Row) → default_fault rows (filled_rule o) ≡ []
+default_passes Workers rows = pass_either _ _ refl
+default_passes Established rows = pass_either _ _ refl
+default_passes Transient rows = pass_either _ _ refl
+default_passes Udp rows = pass_either _ _ refl
+
+help_passes : (rows : List Row) → default_fault rows (filled help_rule) ≡ []
+help_passes rows = rw (or_right (has_row (codes "help") rows)) refl
+
+-- the rows with the default of one option after another
+abbrev workers_filled : List Row → List Row
+workers_filled rows = with_default rows (filled_rule Workers)
+
+abbrev established_filled : List Row → List Row
+established_filled rows = with_default (workers_filled rows) (filled_rule Established)
+
+abbrev transient_filled : List Row → List Row
+transient_filled rows = with_default (established_filled rows) (filled_rule Transient)
+
+abbrev udp_filled : List Row → List Row
+udp_filled rows = with_default (transient_filled rows) (filled_rule Udp)
+
+defaults_pass : (rows : List Row) → defaults_fault rows top.rules ≡ []
+unfolding clap_on_literals
+defaults_pass rows = both_pass (default_passes Workers rows) (both_pass (default_passes Established (workers_filled rows))
+    (both_pass (default_passes Transient (established_filled rows)) (both_pass (default_passes Udp (transient_filled rows))
+    (both_pass (help_passes (udp_filled rows)) refl))))
+
+-- what the words come to in the end, by where the walk stopped
+abbrev pub end_fault : List ErrorKind → Walk → List ErrorKind
+end_fault walk_kinds w = or_else walk_kinds (or_else (entered_fault (built racl) w.stopped) (or_else (settle_fault top.rules false w.held)
+    (or_else (defaults_fault (settled top.rules w.held).rows top.rules) (check_fault top (finished top.rules w.held) (is_some (entered (built racl) w.stopped))))))
+
+pub fault_is : (program : Text) (words : List Text) → fault_of racl (program ∷ words) ≡ end_fault (walk_fault top [] (between nothing_held) words) (fold (walked top.rules []) (between nothing_held) words)
+fault_is program words = refl
+
+pub ends_well : (h : Held) → settle_fault top.rules false h ≡ [] → end_fault [] (between h) ≡ []
+ends_well h settles = rw (settles, defaults_pass (settled top.rules h).rows) refl
+
+-- what the matches hold of an id, by the rows that the words made
+abbrev pub find_row : Text → List Row → Option Row
+find_row id = find (λ r. bytes_eq r.id id)
+
+found_has : (id : Text) (rows : List Row) (r : Row) → find_row id rows ≡ Some r → has_row id rows ≡ true
+found_has id [] r e = cc
+found_has id (x ∷ rest) r e = go (bytes_eq x.id id) e (found_has id rest r)
+  where
+    go : (b : Bool) → cond b (Some x) (find_row id rest) ≡ Some r → (find_row id rest ≡ Some r → has_row id rest ≡ true) → (b || has_row id rest) ≡ true
+    go true found next = refl
+    go false found next = next found
+
+has_none : (id : Text) (rows : List Row) → find_row id rows ≡ None → has_row id rows ≡ false
+has_none id [] e = refl
+has_none id (x ∷ rest) e = go (bytes_eq x.id id) e (has_none id rest)
+  where
+    go : (b : Bool) → cond b (Some x) (find_row id rest) ≡ None → (find_row id rest ≡ None → has_row id rest ≡ false) → (b || has_row id rest) ≡ false
+    go true found next = cc
+    go false found next = next found
+
+fill_row : (id v : Text) (rows : List Row) → bytes_eq id id ≡ true
+    → find_row id (cond (has_row id rows) rows (with_values id WithoutMinus DefaultValue (v ∷ []) rows))
+    ≡ option_or (find_row id rows) (Some (record { id = id; values = v ∷ []; count = None; source = Some DefaultValue; reading = WithoutMinus }))
+fill_row id v rows same = go (find_row id rows) refl
+  where
+    go : (found : Option Row) → find_row id rows ≡ found
+        → find_row id (cond (has_row id rows) rows (with_values id WithoutMinus DefaultValue (v ∷ []) rows))
+        ≡ option_or (find_row id rows) (Some (record { id = id; values = v ∷ []; count = None; source = Some DefaultValue; reading = WithoutMinus }))
+    go (Some r) e = rw (found_has id rows r e, e) refl
+    go None e =
+        let none = has_none id rows e in
+        rw (none, at_row_missing id (more_values DefaultValue (v ∷ [])) _ rows none, find-append) (rw (e, same) refl)
+
+or_none : (found : Option Row) → option_or found None ≡ found
+or_none None = refl
+or_none (Some r) = refl
+
+keep_row : (id other v : Text) (rows : List Row) → bytes_eq other id ≡ false
+    → find_row id (cond (has_row other rows) rows (with_values other WithoutMinus DefaultValue (v ∷ []) rows)) ≡ find_row id rows
+keep_row id other v rows apart = go (has_row other rows) refl
+  where
+    go : (b : Bool) → has_row other rows ≡ b → find_row id (cond b rows (with_values other WithoutMinus DefaultValue (v ∷ []) rows)) ≡ find_row id rows
+    go true e = refl
+    go false none = rw (at_row_missing other (more_values DefaultValue (v ∷ [])) _ rows none, find-append, apart) (or_none (find_row id rows))
+
+-- the default of an option fills what the words left out
+default_fills : (o : OptionName) (rows : List Row) → find_row (name_of o) (with_default rows (filled_rule o)) ≡ option_or (find_row (name_of o) rows) (Some (default_row o))
+default_fills Workers rows = fill_row (name_of Workers) (default_of Workers) rows refl
+default_fills Established rows = fill_row (name_of Established) (default_of Established) rows refl
+default_fills Transient rows = fill_row (name_of Transient) (default_of Transient) rows refl
+default_fills Udp rows = fill_row (name_of Udp) (default_of Udp) rows refl
+
+-- and leaves other options as they are
+default_keeps : (o other : OptionName) (rows : List Row) → bytes_eq (name_of other) (name_of o) ≡ false → find_row (name_of o) (with_default rows (filled_rule other)) ≡ find_row (name_of o) rows
+default_keeps o Workers rows = keep_row (name_of o) (name_of Workers) (default_of Workers) rows
+default_keeps o Established rows = keep_row (name_of o) (name_of Established) (default_of Established) rows
+default_keeps o Transient rows = keep_row (name_of o) (name_of Transient) (default_of Transient) rows
+default_keeps o Udp rows = keep_row (name_of o) (name_of Udp) (default_of Udp) rows
+
+help_keeps : (o : OptionName) (rows : List Row) → find_row (name_of o) (with_default rows (filled help_rule)) ≡ find_row (name_of o) rows
+help_keeps o rows = go (has_row (codes "help") rows)
+  where
+    go : (b : Bool) → find_row (name_of o) (cond b rows rows) ≡ find_row (name_of o) rows
+    go true = refl
+    go false = refl
+
+or_default : (o : OptionName) (f g : Option Row) → f ≡ g → option_or f (Some (default_row o)) ≡ option_or g (Some (default_row o))
+or_default o f g = ap (λ found. option_or found (Some (default_row o)))
+
+filled_by : (o : OptionName) (rows : List Row) → find_row (name_of o) (udp_filled rows) ≡ option_or (find_row (name_of o) rows) (Some (default_row o))
+filled_by Workers rows = default_keeps Workers Udp (transient_filled rows) refl ∙ default_keeps Workers Transient (established_filled rows) refl
+    ∙ default_keeps Workers Established (workers_filled rows) refl ∙ default_fills Workers rows
+filled_by Established rows = default_keeps Established Udp (transient_filled rows) refl ∙ default_keeps Established Transient (established_filled rows) refl
+    ∙ default_fills Established (workers_filled rows) ∙ or_default Established _ _ (default_keeps Established Workers rows refl)
+filled_by Transient rows = default_keeps Transient Udp (transient_filled rows) refl ∙ default_fills Transient (established_filled rows)
+    ∙ or_default Transient _ _ (default_keeps Transient Established (workers_filled rows) refl ∙ default_keeps Transient Workers rows refl)
+filled_by Udp rows = default_fills Udp (transient_filled rows)
+    ∙ or_default Udp _ _ (default_keeps Udp Transient (established_filled rows) refl ∙ default_keeps Udp Established (workers_filled rows) refl ∙ default_keeps Udp Workers rows refl)
+
+pub all_filled : (o : OptionName) (rows : List Row) → find_row (name_of o) (fold with_default rows top.rules) ≡ option_or (find_row (name_of o) rows) (Some (default_row o))
+all_filled o rows = help_keeps o (udp_filled rows) ∙ filled_by o rows

@@ -1,0 +1,163 @@
+-- Words that set options, as a user writes them, ask for what they say.
+use Rattle.std.proofs.Common.{◌≡◌, ◌∙◌, ◌++◌, ◌==◌, ◌+◌, ◌||◌, ◌≤◌, ◌<◌, ◌^◌, ap, ap₂, arith, cond, refl, rules as common_rules, subst, sym, ℕ, Bool, true, false, List, [], ◌∷◌, map, append-nil, Some, codes}
+use Rattle.std.specs.List.{flat_map, fold}
+use Rattle.std.specs.Option.{option_or}
+use Rattle.std.specs.Prelude.{option_and_then, pos}
+use Rattle.std.specs.Str.{bytes_eq}
+use Rattle.std.specs.Str.Parse.{IsNumeral, without_leading_plus}
+use Rattle.std.proofs.lemmas.Bool.{eqb-true, ne_eqb}
+use Rattle.std.proofs.lemmas.Int.{ints}
+use Rattle.std.proofs.lemmas.Slice.Eq.{bytes_eq-Decides}
+use Rattle.std.proofs.lemmas.Str.Parse.{digit_from_value}
+use Rattle.clap.specs.Faults.{walk_fault}
+use Rattle.clap.specs.Walk.{Held, has_row, nothing_held, row_text, settled, walked, with_default}
+use Rattle.clap.specs.Words.{IsSignedIn, Row, Text, without_minus}
+use Rattle.clap.specs.declared.builder.value_parser.ValueParser.TheVariants.{Signed}
+use Rattle.clap.proofs.ValueTestLemmas.{Accepts-accepts}
+use Rattle.racl_words.specs.Command.{AskFor, IsInRange, OptionName, Workers, Established, Transient, Udp, Spells, default_of, most_of, most_seconds, name_of, number_of, text_at}
+use Rattle.racl_words.specs.Settings.{AreInRange, AreSettings, Setting, facts_of, sets, times_set, value_at, words_of}
+use Rattle.racl_words.proofs.SettingWalks.{AreNew, GoesOn, Holds, IsFit, between, default_row, row_of, settings_go_on, top}
+use Rattle.racl_words.proofs.SettingDefaults.{all_filled, end_fault, ends_well, fault_is, find_row}
+
+-- a number's text doesn't begin with a minus
+plain_value : (d : ℕ) (ds : Text) → IsNumeral 10 (without_leading_plus (d ∷ ds)) → (d == 45) ≡ false
+plain_value d ds numeral = go (d == 43) refl
+  where
+    go : (b : Bool) → (d == 43) ≡ b → (d == 45) ≡ false
+    go true plus =
+        let is : d ≡ 43 = eqb-true d 43 plus in
+        ne_eqb d 45 (λ e. omega arith)
+    go false other =
+        let digits : IsNumeral 10 (d ∷ ds) = rw other at numeral in
+        ne_eqb d 45 (λ e. omega (arith, digit_from_value d digits.1.0))
+
+most_fits : (o : OptionName) → most_of o < 2 ^ 63
+most_fits Workers = omega arith
+most_fits Established = omega arith
+most_fits Transient = omega arith
+most_fits Udp = omega arith
+
+value_in_bounds : (o : OptionName) (d : ℕ) (ds : Text) → IsInRange o (d ∷ ds) → (d == 45) ≡ false → IsSignedIn (pos 1) (pos (most_of o)) (d ∷ ds)
+value_in_bounds o d ds range plain =
+    let fits = most_fits o in
+    rw plain (range.0, record { sfits = omega arith }, omega (arith, ints), omega (arith, ints))
+
+fit_value : (o : OptionName) (v : Text) → IsInRange o v → IsFit o v
+fit_value o [] range =
+    let none : 0 < 0 = range.0.0 in
+    absurd (omega arith)
+fit_value o (d ∷ ds) range =
+    let plain = plain_value d ds range.0 in
+    (Accepts-accepts false (Signed (pos 1) (pos (most_of o))) (d ∷ ds) (value_in_bounds o d ds range plain), (d, ds, refl, plain))
+
+plain_text : (o : OptionName) (v : Text) → IsInRange o v → without_minus v ≡ v
+plain_text o [] range = refl
+plain_text o (d ∷ ds) range = rw (plain_value d ds range.0) refl
+
+-- the text of an option is its setting's, or its default
+text_is : (o : OptionName) (ss : List Setting) → AreInRange ss → option_and_then row_text (option_or (find_row (name_of o) (map row_of ss)) (Some (default_row o))) ≡ Some (value_at o ss)
+text_is Workers [] range = refl
+text_is Established [] range = refl
+text_is Transient [] range = refl
+text_is Udp [] range = refl
+text_is o (s ∷ rest) range = go (sets o s) (text_is o rest range.1)
+  where
+    go : (b : Bool) → option_and_then row_text (option_or (find_row (name_of o) (map row_of rest)) (Some (default_row o))) ≡ Some (value_at o rest)
+        → option_and_then row_text (option_or (cond b (Some (row_of s)) (find_row (name_of o) (map row_of rest))) (Some (default_row o))) ≡ Some (cond b s.value (value_at o rest))
+    go true next = ap Some (plain_text s.option s.value range.0)
+    go false next = next
+
+-- options of one name have one range
+most_by : Text → ℕ
+most_by name = cond (bytes_eq name (codes "workers")) 16 most_seconds
+
+most_is : (o : OptionName) → most_of o ≡ most_by (name_of o)
+unfolding most_by
+most_is Workers = refl
+most_is Established = refl
+most_is Transient = refl
+most_is Udp = refl
+
+same_range : (a b : OptionName) (v : Text) → bytes_eq (name_of a) (name_of b) ≡ true → IsInRange a v → IsInRange b v
+same_range a b v same range =
+    let most : most_of a ≡ most_of b = most_is a ∙ ap most_by ((bytes_eq-Decides _ _).0 same) ∙ sym (most_is b) in
+    (range.0, range.1, omega arith)
+
+default_in_range : (o : OptionName) → IsInRange o (default_of o)
+default_in_range Workers = search common_rules
+default_in_range Established = search common_rules
+default_in_range Transient = search common_rules
+default_in_range Udp = search common_rules
+
+value_in_range : (o : OptionName) (ss : List Setting) → AreInRange ss → IsInRange o (value_at o ss)
+value_in_range o [] range = default_in_range o
+value_in_range o (s ∷ rest) range = go (sets o s) refl (value_in_range o rest range.1)
+  where
+    go : (b : Bool) → sets o s ≡ b → IsInRange o (value_at o rest) → IsInRange o (cond b s.value (value_at o rest))
+    go true same next = same_range s.option o s.value same range.0
+    go false other next = next
+
+-- how many rows have the id
+abbrev rows_with : Text → List Row → ℕ
+rows_with id [] = 0
+rows_with id (r ∷ rest) = cond (bytes_eq r.id id) 1 0 + rows_with id rest
+
+rows_with-append : (id : Text) (rows : List Row) (r : Row) → rows_with id (rows ++ r ∷ []) ≡ rows_with id rows + cond (bytes_eq r.id id) 1 0
+rows_with-append id [] r = omega arith
+rows_with-append id (x ∷ rest) r = omega (arith, rows_with-append id rest r)
+
+no_row : (id : Text) (rows : List Row) → rows_with id rows ≡ 0 → has_row id rows ≡ false
+no_row id [] none = refl
+no_row id (r ∷ rest) none = go (bytes_eq r.id id) none (no_row id rest)
+  where
+    go : (b : Bool) → cond b 1 0 + rows_with id rest ≡ 0 → (rows_with id rest ≡ 0 → has_row id rest ≡ false) → (b || has_row id rest) ≡ false
+    go true some next = absurd (omega arith)
+    go false none next = next (omega arith)
+
+same_name : (o : OptionName) → bytes_eq (name_of o) (name_of o) ≡ true
+same_name Workers = refl
+same_name Established = refl
+same_name Transient = refl
+same_name Udp = refl
+
+new_settings : (ss : List Setting) (rows : List Row) → ((o : OptionName) → rows_with (name_of o) rows + times_set o ss ≤ 1) → AreInRange ss → AreNew rows ss
+new_settings [] rows once range = tt
+new_settings (s ∷ rest) rows once range =
+    let here : rows_with (name_of s.option) rows + (1 + times_set s.option rest) ≤ 1 = rw (same_name s.option) at (once s.option) in (
+      no_row (name_of s.option) rows (omega arith),
+      fit_value s.option s.value range.0,
+      new_settings rest (rows ++ row_of s ∷ []) (λ o. omega (arith, once o, rows_with-append (name_of o) rows (row_of s))) range.1,
+    )
+
+-- words that set options as a user writes them ask for what they say
+settings_ask : (program : Text) (ss : List Setting) → AreSettings ss → AskFor (program ∷ flat_map words_of ss) (facts_of ss)
+unfolding walk_fault
+settings_ask program ss are = record {
+  faultless = fault_is program words ∙ ap₂ end_fault faultless_walk walked_is ∙ ends_well run.0 run.1.1;
+  options = record { workers = spelt Workers; established = spelt Established; transient = spelt Transient; udp = spelt Udp };
+}
+  where
+    words : List Text
+    words = flat_map words_of ss
+
+    run : (e : Held) × Holds (map row_of ss) e × GoesOn nothing_held words e
+    run = settings_go_on ss [] nothing_held (refl, refl) (new_settings ss [] (λ o. let once = are.once o in omega arith) are.in_range)
+
+    walked_is : fold (walked top.rules []) (between nothing_held) words ≡ between run.0
+    walked_is = ap (fold (walked top.rules []) (between nothing_held)) (sym (append-nil words)) ∙ run.2.0 []
+
+    faultless_walk : walk_fault top [] (between nothing_held) words ≡ []
+    faultless_walk = ap (walk_fault top [] (between nothing_held)) (sym (append-nil words)) ∙ run.2.1 []
+
+    text : (o : OptionName) → text_at (program ∷ words) (name_of o) ≡ Some (value_at o ss)
+    text o = ap (λ w. option_and_then row_text (find_row (name_of o) (fold with_default (settled top.rules w.held).rows top.rules))) walked_is
+        ∙ ap (λ rows. option_and_then row_text (find_row (name_of o) (fold with_default rows top.rules))) run.1.0
+        ∙ ap (option_and_then row_text) (all_filled o (map row_of ss)) ∙ text_is o ss are.in_range
+
+    spelt : (o : OptionName) → Spells o (text_at (program ∷ words) (name_of o)) (number_of (value_at o ss))
+    spelt o =
+        let range = value_in_range o ss are.in_range in
+        (value_at o ss, text o, range, refl)
+
+pub written_asks : (words : List Text) (program : Text) (ss : List Setting) → AreSettings ss → words ≡ program ∷ flat_map words_of ss → AskFor words (facts_of ss)
+written_asks words program ss are is = subst (λ ws. AskFor ws (facts_of ss)) (sym is) (settings_ask program ss are)

@@ -1,0 +1,114 @@
+-- The command line: the command's options, and the numbers to which the words set them.
+use Rattle.std.specs.Prelude.{◌≡◌, ◌≤◌, ℕ, List, [], ◌∷◌, Option, Some, codes, pos}
+use Rattle.std.specs.Str.Parse.{IsNumeral, digits_value, without_leading_plus}
+use Rattle.clap.specs.Words.{App, IsSignedIn, Rule, Text, fault_of, matches_of, new_app, new_rule}
+use Rattle.clap.specs.Words.{one_of, with_rule, without_minus}
+use Rattle.clap.specs.declared.builder.action.ArgAction.TheVariants.{Set}
+use Rattle.clap.specs.declared.builder.value_parser.ValueParser.TheVariants.{Signed}
+use Rattle.racl_words.specs.declared.settings.Options.{Options}
+
+-- ---- the command
+
+pub data OptionName : Type 0 where
+  Workers : OptionName
+  Established : OptionName
+  Transient : OptionName
+  Udp : OptionName
+
+abbrev pub name_of : OptionName → Text
+name_of Workers = codes "workers"
+name_of Established = codes "tcp-established"
+name_of Transient = codes "tcp-transient"
+name_of Udp = codes "udp"
+
+abbrev pub default_of : OptionName → Text
+default_of Workers = codes "1"
+default_of Established = codes "86400"
+default_of Transient = codes "120"
+default_of Udp = codes "600"
+
+abbrev pub most_seconds : ℕ
+most_seconds = 4294967295
+
+abbrev pub most_of : OptionName → ℕ
+most_of Workers = 16
+most_of Established = most_seconds
+most_of Transient = most_seconds
+most_of Udp = most_seconds
+
+-- the option `--NAME`, with one value: a number from 1 to `most`
+abbrev pub number_option : Text → Text → ℕ → Rule
+number_option name default most = record (new_rule name) {
+  long = Some name;
+  action = Some Set;
+  value_names = 1;
+  parser = Some (Signed (pos 1) (pos most));
+  defaults = default ∷ [];
+}
+
+abbrev pub option_rule : OptionName → Rule
+option_rule option = number_option (name_of option) (default_of option) (most_of option)
+
+-- the command with its four options
+abbrev pub racl : App
+racl = with_rule (with_rule (with_rule (with_rule (new_app (codes "racl")) (option_rule Workers))
+    (option_rule Established)) (option_rule Transient)) (option_rule Udp)
+
+-- ---- what the words ask for
+
+-- the options as a value without ghost fields
+pub record OptionFacts : Type 0 where
+  pub workers : ℕ
+  pub established : ℕ
+  pub transient : ℕ
+  pub udp : ℕ
+
+abbrev pub option_facts : Options → OptionFacts
+option_facts o = record {
+  workers = o.workers;
+  established = o.times.established;
+  transient = o.times.transient;
+  udp = o.times.udp;
+}
+
+abbrev pub number_of : Text → ℕ
+number_of text = digits_value 10 (without_leading_plus text)
+
+-- the text spells a number in the option's range
+abbrev pub IsInRange : OptionName → Text → Type 0
+IsInRange option text = IsNumeral 10 (without_leading_plus text) × (1 ≤ number_of text)
+    × (number_of text ≤ most_of option)
+
+-- there is a text, which spells the number, in the option's range
+abbrev pub Spells : OptionName → Option Text → ℕ → Type 0
+Spells option text n = (t : Text) × (text ≡ Some t) × IsInRange option t × (n ≡ number_of t)
+
+-- each option is the number that the text of its name spells
+pub record SpellsOptions (text : Text → Option Text) (facts : OptionFacts) : Type 0 where
+  pub workers : Spells Workers (text (name_of Workers)) facts.workers
+  pub established : Spells Established (text (name_of Established)) facts.established
+  pub transient : Spells Transient (text (name_of Transient)) facts.transient
+  pub udp : Spells Udp (text (name_of Udp)) facts.udp
+
+-- the text that the command's matches of the words hold for an option
+abbrev pub text_at : List Text → Text → Option Text
+text_at words name = one_of name (matches_of racl words)
+
+-- the command finds no fault in the words, and each option is the number spelt by the text that its
+-- matches of the words hold for it
+pub record AskFor (words : List Text) (facts : OptionFacts) : Type 0 where
+  pub faultless : fault_of racl words ≡ []
+  pub options : SpellsOptions (text_at words) facts
+
+-- ---- what a parse leaves to be read
+
+-- the text is one that an option's parser takes, as a getter reads it
+abbrev pub HoldsNumber : ℕ → Option Text → Type 0
+HoldsNumber most text =
+    (t : Text) × (text ≡ Some (without_minus t)) × IsSignedIn (pos 1) (pos most) t
+
+pub record HoldsNumbers (text : Text → Option Text) : Type 0 where
+  pub workers : HoldsNumber (most_of Workers) (text (name_of Workers))
+  pub established : HoldsNumber (most_of Established) (text (name_of Established))
+  pub transient : HoldsNumber (most_of Transient) (text (name_of Transient))
+  pub udp : HoldsNumber (most_of Udp) (text (name_of Udp))

@@ -1,0 +1,166 @@
+//! The command line: the words with which the program is called, read by `clap`.
+ghost use Rattle.std.specs.Prelude.{◌≡◌, ◌≢◌, List, ◌∷◌, IfErr, IfOk, MatchResult, codes, false};
+ghost use Rattle.std.specs.List.{flat_map};
+ghost use Rattle.clap.specs.Walk.{Text, texts};
+ghost use Rattle.clap.specs.Words.{HasKind, app_of, fault_of, found_of, kind_of, new_app};
+ghost use Rattle.clap.specs.Words.{one_text, rule_of};
+ghost use Rattle.racl_words.specs.Command.{AskFor, HoldsNumber, HoldsNumbers, OptionFacts};
+ghost use Rattle.racl_words.specs.Command.{OptionName, Spells, SpellsOptions, option_facts, racl};
+ghost use Rattle.racl_words.specs.Command as line;
+ghost use Rattle.racl_words.specs.Settings.{AreSettings, Setting, facts_of, words_of};
+
+use crate::settings::Options;
+use clap::error::ErrorKind;
+use clap::{Arg, ArgAction, ArgMatches, Command, Error, value_parser};
+use session_state::Timeouts;
+use std::alloc::{AllocError, Global};
+
+/// Reads the words, of which the first is the program's name. An `Err` is a request for help, a
+/// mistake in the words or want of memory, by its kind.
+pub fn options<'a>(alloc: Global, words: &'a [&'a str]) -> Result<Options, Error>
+    ensures ok { IfOk result (λ o. AskFor (texts words.entry.now) (option_facts o)) }
+
+    // Words that ask for something, and those that a user writes for it, are refused for want of
+    // memory alone.
+    ensures accepts { (facts : OptionFacts) → AskFor (texts words.entry.now) facts
+        → MatchResult result (λ o. option_facts o ≡ facts)
+        (λ e. kind_of e ≡ ErrorKind.OutOfMemory) }
+    ensures written { (program : Text) (settings : List Setting) → AreSettings settings
+        → texts words.entry.now ≡ program ∷ flat_map words_of settings
+        → MatchResult result (λ o. option_facts o ≡ facts_of settings)
+        (λ e. kind_of e ≡ ErrorKind.OutOfMemory) }
+
+    // An error has a kind of the words' fault, or memory ran out.
+    ensures refuses { IfErr result (HasKind (fault_of racl (texts words.entry.now))) }
+{
+    let matches = command(alloc)?.try_get_matches_from(words)?;
+    Ok(read_options(&matches))
+}
+
+/// The status with which the program ends after words that `options` refuses.
+pub fn words_status(error: &Error) -> u8
+    ensures help { kind_of error.now ≡ ErrorKind.DisplayHelp → result ≡ 0 }
+    ensures memory { kind_of error.now ≡ ErrorKind.OutOfMemory → result ≡ 4 }
+    ensures mistake { kind_of error.now ≢ ErrorKind.DisplayHelp
+        → kind_of error.now ≢ ErrorKind.OutOfMemory → result ≡ 2 }
+{
+    match error.kind() {
+        ErrorKind::DisplayHelp => 0,
+        ErrorKind::OutOfMemory => 4,
+        _ => 2,
+    }
+}
+
+const ABOUT: &str = "Judges the packets of a capture by ordered rules and by sessions.";
+
+const USAGE: &str = "racl [OPTIONS] < INPUT";
+
+const AFTER_HELP: &str =
+    "INPUT is a policy, a line `pcap` or `hex`, and the capture in that form. The report goes to \
+    standard output.
+
+Exit status: 0 done, 1 fault in the input, 2 fault in the words, 3 done but the capture was cut \
+    off, 4 memory or device.";
+
+fn command<'a>(alloc: Global) -> Result<Command<'a>, AllocError>
+    ensures { IfOk result (λ c. app_of c ≡ racl) }
+{
+    described_command(alloc)
+        .arg(number_option(
+            alloc,
+            "workers",
+            "1",
+            16,
+            "N",
+            "Threads that judge packets, 1 to 16",
+        ))?
+        .arg(timeout_option(
+            alloc,
+            "tcp-established",
+            "86400",
+            "How long an established TCP session stays",
+        ))?
+        .arg(timeout_option(
+            alloc,
+            "tcp-transient",
+            "120",
+            "How long any other TCP session stays",
+        ))?
+        .arg(timeout_option(
+            alloc,
+            "udp",
+            "600",
+            "How long a session of UDP or echo stays",
+        ))
+}
+
+// The command with its texts, and no option yet.
+fn described_command<'a>(alloc: Global) -> Command<'a>
+    ensures { app_of result ≡ new_app (codes "racl") }
+{
+    Command::new(alloc, "racl")
+        .about(ABOUT)
+        .override_usage(USAGE)
+        .after_help(AFTER_HELP)
+}
+
+fn timeout_option<'a>(alloc: Global, name: &'a str, default: &'a str, help: &'a str) -> Arg<'a>
+    ensures rule { rule_of result
+        ≡ line.number_option name.entry.now default.entry.now line.most_seconds }
+    ensures local { result.global ≡ false }
+{
+    number_option(alloc, name, default, u32::MAX, "SECONDS", help)
+}
+
+fn number_option<'a>(
+    alloc: Global,
+    name: &'a str,
+    default: &'a str,
+    most: u32,
+    unit: &'a str,
+    help: &'a str,
+) -> Arg<'a>
+    ensures rule { rule_of result ≡ line.number_option name.entry.now default.entry.now most }
+    ensures local { result.global ≡ false }
+{
+    Arg::new(alloc, name)
+        .long(name)
+        .action(ArgAction::Set)
+        .value_parser(value_parser!(u32).range(1..=i64::from(most)))
+        .default_value(default)
+        .value_name(unit)
+        .help(help)
+}
+
+fn read_options(matches: &ArgMatches<'_>) -> Options
+    requires { HoldsNumbers (one_text (found_of matches.now)) }
+    ensures { SpellsOptions (one_text (found_of matches.now)) (option_facts result) }
+{
+    let workers = number_at(matches, "workers");
+    let established = number_at(matches, "tcp-established");
+    let transient = number_at(matches, "tcp-transient");
+    let udp = number_at(matches, "udp");
+    Options {
+        workers: workers as usize,
+        times: Timeouts {
+            established,
+            transient,
+            udp,
+        },
+    }
+}
+
+fn number_at(matches: &ArgMatches<'_>, name: &str) -> u32
+    requires { HoldsNumber line.most_seconds (one_text (found_of matches.now) name.now) }
+    ensures { (option : OptionName)
+        → HoldsNumber (line.most_of option) (one_text (found_of matches.now) name.now)
+        → Spells option (one_text (found_of matches.now) name.now) result }
+{
+    match matches.get_one::<u32>(name) {
+        Some(number) => number,
+        None => unreachable!(),
+    }
+}
+
+#[cfg(test)]
+mod tests;
