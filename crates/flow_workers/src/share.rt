@@ -14,7 +14,7 @@ use std::sync::Wait;
 pub struct Run<'t, 'a, A: Shape, B: Shape, R: Wait, G: Gate> {
     pub rt: &'t R,
     pub gate: &'t G,
-    pub filter: ReadyFilter<'a>,
+    pub filter: ReadyFilter<'t>,
     pub tables: &'t Tables<A, B>,
     pub packets: &'a [Packet<'a>],
     pub dealing: Dealing,

@@ -185,10 +185,11 @@ where
         → All (HasPagesIn filter.now.times family) are.judged) }
 {
     let (tables, callers) = create_tables::<A, B>(alloc)?;
+    let prepared = filter.prepare(alloc, packets.len())?;
     let run = Run {
         rt,
         gate,
-        filter: filter.ready(),
+        filter: filter.ready_with(&prepared),
         tables: &tables,
         packets,
         dealing,
