@@ -1,8 +1,9 @@
 """Runs the gate and the checks, says how long each part took, and adds up what passed and failed.
 
-The gate is `rt ci`, which leaves the program that it proved in crates/racl/out, as LLVM builds it and
-as Rattle's own compiler does. The launcher finds the first one newer than its sources and only runs it.
+The gate is `rt ci`, which leaves the program that it proved in crates/racl/out, as LLVM builds it and as Rattle's own compiler
+does. Where all of it passed, the launcher takes the first one for the program of these sources, by the record that is written here.
 """
+import fcntl
 import os
 import re
 import subprocess
@@ -70,19 +71,52 @@ class Times:
         print(f"rt ci took {total:.0f} s and {used / 60:.1f} processor minutes")
 
 
+def held_back():
+    """Keeps the launcher from building while the gate does."""
+    os.makedirs("out", exist_ok=True)
+    lock = open("out/build.lock", "a")
+    fcntl.flock(lock, fcntl.LOCK_EX)
+    return lock
+
+
+def of_sources(words, *given):
+    """What a word of checks/built.sh prints."""
+    ran = subprocess.run(["sh", "-c", f'top=. && . checks/built.sh && {words}', "sh", *given], check=True, text=True,
+                         stdout=subprocess.PIPE)
+    return ran.stdout.strip()
+
+
+def programs_after(has_passed, sources):
+    """The programs to check: where the gate passed, the launcher takes its program for that of the sources."""
+    if has_passed and of_sources("sources_digest") == sources:
+        of_sources('write_record "$1" "$(toolchain)"', sources)
+        program = "./racl"
+    else:
+        program = PROGRAM
+    return [program, *([BY_RATTLE] if os.path.exists(BY_RATTLE) else [])]
+
+
 def main():
-    times = Times()
-    status, last = followed(["rt", "ci"], times.look)
-    total, ended = time.monotonic() - times.start, os.times()
-    gate = counted(status, last)
+    with held_back():
+        times, sources = Times(), of_sources("sources_digest")
+        status, last = followed(["rt", "ci"], times.look)
+        total, ended = time.monotonic() - times.start, os.times()
+        gate = counted(status, last)
+        # where the gate left no program, none is built for the checks: that would only fail again
+        is_there = os.path.exists(PROGRAM)
+        programs = programs_after(status == 0 and gate[1] == 0, sources) if is_there else []
     start = time.monotonic()
-    programs = ["./racl", *([BY_RATTLE] if os.path.exists(BY_RATTLE) else [])]
-    # where the gate left no program, none is built for the checks: that would only fail again
-    checks = counted(*followed(["checks/run", *programs], lambda _: None)) if os.path.exists(PROGRAM) else (0, 1)
+    counts = [gate]
+    if is_there:
+        built = [PROGRAM if it == "./racl" else it for it in programs]
+        for command in (["checks/launcher"], ["checks/run", *programs], ["checks/refused_memory", *built]):
+            counts.append(counted(*followed(command, lambda _: None)))
+    else:
+        counts.append((0, 1))
     times.tell(total, ended.children_user + ended.children_system)
-    of = "the program that rt ci built" if os.path.exists(PROGRAM) else "no program"
+    of = "the program that rt ci built" if is_there else "no program"
     print(f"the checks of {of} took {time.monotonic() - start:.0f} s")
-    passed, failed = gate[0] + checks[0], gate[1] + checks[1]
+    passed, failed = (sum(it[part] for it in counts) for part in (0, 1))
     print(f"{passed} passed, {failed} failed")
     sys.exit(status or int(failed != 0))
 

@@ -17,7 +17,8 @@ mod traffic;
 mod words;
 
 pub use decision_laws::rules_decide_each_packet;
+pub use family::width_of;
 pub use laws::one_reading;
-pub use matching::first_match;
+pub use matching::{first_match, is_match};
 pub use policy::{Policy, PolicyFault, read_policy};
 pub use rule::{Action, Rule};

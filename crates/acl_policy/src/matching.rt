@@ -50,8 +50,8 @@ fn has_fields(rule: &Rule, fields: &Fields) -> bool
     }
 }
 
-/// The tests come in the order of what they cost.
-fn is_match(rule: &Rule, tuple: &Tuple) -> bool
+/// Whether a rule matches a packet. The tests come in the order of what they cost.
+pub fn is_match(rule: &Rule, tuple: &Tuple) -> bool
     ensures { IsTrue result ↔ Matches (rule_facts rule.now) (facts tuple.now) }
 {
     rule.family == tuple.family

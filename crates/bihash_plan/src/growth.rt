@@ -35,12 +35,6 @@ pub fn plan<S: Shape>(places: &[(S::Key, u64)], log2: u64, linear: bool, key: &S
     ensures full { IsLawfulBlock (paging_of ⟦<S as Shape>⟧) log2 linear places.now → IsNew places.now key.now
         → ((result ≡ Plan.Full) ↔ (length (pairs places.now) ≡ 4 * 2 ^ S.MAX_LOG2)) }
 {
-    if places.is_empty() {
-        return Plan::Grow {
-            log2: 0,
-            linear: false,
-        };
-    }
     let (from, to) = open_places::<S>(places.len(), log2, linear, key);
     if let Some(i) = place_of_key::<S>(places, from, to, key) {
         return Plan::InPlace(i);
@@ -51,17 +45,28 @@ pub fn plan<S: Shape>(places: &[(S::Key, u64)], log2: u64, linear: bool, key: &S
     larger::<S>(places, log2, linear, key)
 }
 
-/// The plan of a new key to which no free place is open.
-fn larger<S: Shape>(places: &[(S::Key, u64)], log2: u64, linear: bool, key: &S::Key) -> Plan
+/// The plan of a new key to which no free place is open: `plan` where the caller has looked for the key and
+/// for a free place already.
+pub fn larger<S: Shape>(places: &[(S::Key, u64)], log2: u64, linear: bool, key: &S::Key) -> Plan
     requires shape { IsSound (sizes_of ⟦<S as Shape>⟧) }
     requires small { log2 ≤ S.MAX_LOG2 }
     requires sized { IsSized log2 (length places.now) }
-    requires block { 0 < length places.now }
+
     ensures safe { IsSafe (paging_of ⟦<S as Shape>⟧) places.now key.now result }
+    ensures without_block { length places.now ≡ 0 → result ≡ Plan.Grow 0 false }
     ensures exact { IsLawfulBlock (paging_of ⟦<S as Shape>⟧) log2 linear places.now → IsNew places.now key.now
         → IsCrowded linear (page_of (paging_of ⟦<S as Shape>⟧) log2 key.now) places.now
         → IsPlan (paging_of ⟦<S as Shape>⟧) log2 linear places.now key.now result }
+    ensures only { IsLawfulBlock (paging_of ⟦<S as Shape>⟧) log2 linear places.now → IsNew places.now key.now
+        → IsCrowded linear (page_of (paging_of ⟦<S as Shape>⟧) log2 key.now) places.now
+        → (other : Plan) → IsPlan (paging_of ⟦<S as Shape>⟧) log2 linear places.now key.now other → other ≡ result }
 {
+    if places.is_empty() {
+        return Plan::Grow {
+            log2: 0,
+            linear: false,
+        };
+    }
     if has_room::<S>(places, log2, linear, key, log2 + 1) {
         return Plan::Grow {
             log2: log2 + 1,

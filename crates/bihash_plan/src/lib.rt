@@ -9,7 +9,7 @@ mod place;
 mod rehash;
 mod search;
 
-pub use growth::plan;
+pub use growth::{larger, plan};
 pub use outcome::Plan;
 pub use rehash::lay;
 pub use search::find;

@@ -1,7 +1,7 @@
 //! Worked layouts of small buckets: four places a page, at most four pages. Key k hashes to k, so
 //! the even keys share a bucket and k / 2 names the page.
 
-use crate::{Plan, find, lay, plan};
+use crate::{Plan, find, larger, lay, plan};
 use bihash_words::Tiny;
 
 type Small = Tiny<8, 1000>;
@@ -29,6 +29,8 @@ fn first_split(rt: HostRuntime) {
     let full = [pair(0, 100), pair(2, 101), pair(4, 102), pair(6, 103)];
     assert_eq!(rt; plan::<Small>(&full, 0, false, &[4, 0]), Plan::InPlace(2));
     assert_eq!(rt; plan::<Small>(&full, 0, false, &[8, 0]), grow(1, false));
+    assert_eq!(rt; larger::<Small>(&full, 0, false, &[8, 0]), grow(1, false));
+    assert_eq!(rt; larger::<Small>(&[], 0, false, &[8, 0]), grow(0, false));
     let mut two = [FREE; 8];
     lay::<Small>(&full, &[8, 0], 104, 1, false, &mut two);
     let free = ([8, 0], u64::MAX);

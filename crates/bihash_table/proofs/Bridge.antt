@@ -64,7 +64,7 @@ as_words g e words ps key i are count h =
     let value : value_in (sizes_of g) words i ≡ h.value = are.value i (key, h.value) h.at in
     record {
       pair = (omega (arith, key_inside h, count), λ vacant. h.taken (sym value ∙ vacant));
-      key_is = are.key i (key, h.value) h.at;
+      key_is = are.key i (key, h.value) h.at h.taken;
       value_is = value;
     }
 
@@ -77,7 +77,7 @@ as_place {K = K} g keys e words ps key i are count pair is =
     let d : K × ℕ = (key, 0) in
     let p : K × ℕ = get_or ps i d in
     let at : slice_get ps i ≡ Some p = slice_get-get_or ps i d (omega (arith, pair.0, count)) in
-    let same : p.0 ≡ key = same_key keys p.0 key (sym (are.key i p at) ∙ is) in
+    let same : p.0 ≡ key = same_key keys p.0 key (sym (are.key i p at (λ vacant. pair.1 (are.value i p at ∙ vacant))) ∙ is) in
     record {
       value = p.1;
       at = at ∙ ap (λ k. Some (k, p.1)) same;
@@ -92,7 +92,7 @@ shown_key {K = K} g e words ps i are count pair any =
     let d : K × ℕ = (any, 0) in
     let p : K × ℕ = get_or ps i d in
     let at : slice_get ps i ≡ Some p = slice_get-get_or ps i d (omega (arith, pair.0, count)) in
-    (p.0, are.key i p at)
+    (p.0, are.key i p at (λ vacant. pair.1 (are.value i p at ∙ vacant)))
 
 -- the places of a block hold its map
 pub lawful_places : {A K : Type 0} (g : Ghosts A K) → AreKeyWords g

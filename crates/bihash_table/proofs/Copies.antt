@@ -8,7 +8,7 @@ use Rattle.std.proofs.lemmas.Option.{get_or_from_slice_get, same_Some, slice_get
 use Rattle.bihash_words.specs.Sizes.{Sizes, sizes_of}
 use Rattle.bihash_words.specs.declared.shape.Shape.{Ghosts}
 use Rattle.bihash_steps.specs.Words.{block_words, place_words}
-use Rattle.bihash_steps.specs.Blocks.{key_in, places, value_in}
+use Rattle.bihash_steps.specs.Blocks.{free, key_in, places, value_in}
 use Rattle.bihash_steps.specs.StoreSteps.{IsHeldWord, holding, stored_at}
 use Rattle.bihash_steps.specs.Seats.{CallerState, with_view}
 use Rattle.bihash_steps.specs.declared.view.HeldBlock.{HeldBlock}
@@ -67,9 +67,10 @@ get_after xs i j x y inside at =
     ))
     (cases_eq j i)
 
--- the first places have the keys and values of the words
+-- the first places have the values of the words and, where they aren't free, the keys
 pub record AreRead {A K : Type 0} (g : Ghosts A K) (ps : List (K × ℕ)) (i : ℕ) (block : List ℕ) : Type 0 where
-  pub key : (j : ℕ) (p : K × ℕ) → j < i → slice_get ps j ≡ Some p → key_in (sizes_of g) block j ≡ g.words_of p.0
+  pub key : (j : ℕ) (p : K × ℕ) → j < i → slice_get ps j ≡ Some p → p.1 ≢ free
+      → key_in (sizes_of g) block j ≡ g.words_of p.0
   pub value : (j : ℕ) (p : K × ℕ) → j < i → slice_get ps j ≡ Some p → value_in (sizes_of g) block j ≡ p.1
 
 pub read_none : {A K : Type 0} (g : Ghosts A K) (ps : List (K × ℕ)) (block : List ℕ) → AreRead g ps 0 block
@@ -83,10 +84,10 @@ pub read_place_more : {A K : Type 0} (g : Ghosts A K) (ps : List (K × ℕ)) (i 
     → i < length ps → AreRead g ps i block → key_in (sizes_of g) block i ≡ g.words_of pair.0
     → value_in (sizes_of g) block i ≡ pair.1 → AreRead g (set ps i pair) (i + 1) block
 read_place_more {K = K} g ps i block pair inside so_far key_is value_is = record {
-  key = λ j p less at. ⊎_elim
+  key = λ j p less at taken. ⊎_elim
       (λ (here : (j ≡ i) × (pair ≡ p)). ap (key_in (sizes_of g) block) here.0 ∙ key_is
       ∙ ap (λ q. g.words_of q.0) here.1)
-      (λ (there : (j ≢ i) × (slice_get ps j ≡ Some p)). so_far.key j p (omega (arith, less, there.0)) there.1)
+      (λ (there : (j ≢ i) × (slice_get ps j ≡ Some p)). so_far.key j p (omega (arith, less, there.0)) there.1 taken)
       (get_after ps i j pair p inside at);
   value = λ j p less at. ⊎_elim
       (λ (here : (j ≡ i) × (pair ≡ p)). ap (value_in (sizes_of g) block) here.0 ∙ value_is ∙ ap (λ q. q.1) here.1)
@@ -207,14 +208,15 @@ pub record IsPlaced {A K : Type 0} (g : Ghosts A K) (s t : CallerState) (h : Hel
   pub words : List ℕ
   pub is : t ≡ with_view s (with_words s.view h words)
   pub long : length words ≡ length h.words
-  pub key_is : key_in (sizes_of g) words place ≡ g.words_of key
+  pub key_is : value ≢ free → key_in (sizes_of g) words place ≡ g.words_of key
   pub value_is : value_in (sizes_of g) words place ≡ value
   pub before : (k : ℕ) → k < place * place_words (sizes_of g) → slice_index words k ≡ slice_index h.words k
 
 pub placed : {A K : Type 0} (g : Ghosts A K) (s t u : CallerState) (page place words count i value : ℕ) (h : HeldBlock)
     (key : K)
     → HasBlock (sizes_of g) s.view page h → place < places page h.log2
-    → words ≡ g.WORDS → count ≡ g.WORDS → g.WORDS ≤ i → length (g.words_of key) ≡ g.WORDS
+    → words ≡ g.WORDS → count ≡ g.WORDS → (value ≢ free → g.WORDS ≤ i)
+    → (value ≢ free → length (g.words_of key) ≡ g.WORDS)
     → IsStored s t h (g.words_of key) (place * (words + 1)) i
     → Stores t u (place * (words + 1) + count) value
     → IsPlaced g s u h place key value
@@ -232,9 +234,9 @@ placed g s t u page place words count i value h key has inside is same past long
       words = ys;
       is = store_is s t u h xs at value stored.is (subst (λ n. Stores t u n value) at_is stores);
       long = wide ∙ stored.long;
-      key_is = all_same z ys (g.words_of key) place page h.log2 (wide ∙ stored.long ∙ has.size) inside long (λ k below.
+      key_is = λ taken. all_same z ys (g.words_of key) place page h.log2 (wide ∙ stored.long ∙ has.size) inside (long taken) (λ k below.
           get_or-set_other xs at (first + k) value 0 (omega arith)
-          ∙ ap (λ n. slice_index xs (n + k)) (sym first_is) ∙ stored.read k (omega arith));
+          ∙ ap (λ n. slice_index xs (n + k)) (sym first_is) ∙ stored.read k (let all = past taken in omega arith));
       value_is = get_or-set_same xs at value 0 (omega (arith, last, has.size, stored.long));
       before = λ k less. get_or-set_other xs at k value 0 (omega arith)
           ∙ stored.before k (omega (arith, first_is));
@@ -268,13 +270,14 @@ placed_more {K = K} g s t u page i h ps pair has inside at so_far more = record 
   is = more.is ∙ ap (λ (c : CallerState). with_view c (with_words c.view h more.words)) so_far.is;
   long = more.long ∙ so_far.long;
   read = record {
-    key = λ j p less there. ⊎_elim
-        (λ (here : j ≡ i). ap (key_in (sizes_of g) more.words) here ∙ more.key_is
+    key = λ j p less there taken. ⊎_elim
+        (λ (here : j ≡ i). ap (key_in (sizes_of g) more.words) here
+        ∙ more.key_is (λ vacant. taken (sym (ap (λ q. q.1) (one j p here there)) ∙ vacant))
         ∙ ap (λ q. g.words_of q.0) (one j p here there))
         (λ (before : j ≢ i). same_place_key (sizes_of g) page h.log2 so_far.words more.words j
         (so_far.long ∙ has.size) more.long (omega arith)
         (λ k few. more.before (j * place_words (sizes_of g) + k) (earlier j k (omega arith) few))
-        ∙ so_far.read.key j p (omega arith) there)
+        ∙ so_far.read.key j p (omega arith) there taken)
         (cases_eq j i);
     value = λ j p less there. ⊎_elim
         (λ (here : j ≡ i). ap (value_in (sizes_of g) more.words) here ∙ more.value_is

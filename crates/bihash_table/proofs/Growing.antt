@@ -7,9 +7,9 @@ use Rattle.bihash_words.specs.Maps.{most_pairs}
 use Rattle.bihash_words.specs.Patches.{free_mark}
 use Rattle.bihash_words.specs.Sizes.{sizes_of}
 use Rattle.bihash_words.specs.Words.{Bucket, Fits, packed}
-use Rattle.bihash_plan.specs.Blocks.{IsLawfulBlock}
+use Rattle.bihash_plan.specs.Blocks.{IsCrowded, IsLawfulBlock, IsNew}
 use Rattle.bihash_plan.specs.Layouts.{IsNamed, IsRehash}
-use Rattle.bihash_plan.specs.Pages.{paging_of}
+use Rattle.bihash_plan.specs.Pages.{page_of, paging_of}
 use Rattle.bihash_plan.specs.Plans.{IsPlan}
 use Rattle.bihash_plan.specs.declared.outcome.Plan.{Plan}
 use Rattle.bihash_plan.specs.declared.outcome.Plan.TheVariants.{Grow}
@@ -37,7 +37,8 @@ module _ {A K : Type 0} (g : Ghosts A K) (keys : AreKeyWords g) (v : View) (b wo
     (h : HasSeen (sizes_of g) v b word (λ e block. IsNewAndCrowded (sizes_of g) (g.words_of key) e block × ArePlaces g ps block))
     (log2 : ℕ) (linear : Bool) (log2_told : (x : Bucket) → Fits x → word ≡ packed x → log2 ≡ x.log2)
     (linear_told : (x : Bucket) → Fits x → word ≡ packed x → linear ≡ x.linear)
-    (plan : Plan) (exact : IsLawfulBlock (paging_of g) log2 linear ps → IsPlan (paging_of g) log2 linear ps key plan) where
+    (plan : Plan) (exact : IsLawfulBlock (paging_of g) log2 linear ps → IsNew ps key
+    → IsCrowded linear (page_of (paging_of g) log2 key) ps → IsPlan (paging_of g) log2 linear ps key plan) where
   -- a plan that isn't a larger block
   pub full_seen : ((size : ℕ) (mark : Bool) → plan ≡ Grow size mark → ⊥) → HasSeen (sizes_of g) v b word (IsFullFor (sizes_of g) (g.words_of key))
   full_seen other = let z = sizes_of g in let e = h.seen.extent in let block = h.seen.block.open_bucket.block in

@@ -12,7 +12,7 @@ use Rattle.bihash_steps.specs.declared.view.OpenBucket.{OpenBucket}
 use Rattle.bihash_steps.specs.declared.view.View.{View}
 use Rattle.bihash_table.specs.Places.{HasPairOf}
 use Rattle.bihash_table.specs.Scans.{AreOpenTo}
-use Rattle.bihash_table.specs.OpenReads.{NotesBlock, Saw, LastWordTells, AreMarks, IsValueAt, IsPairAmong, IsPairIn, IsFirstFreeIn, OtherPairTells, value_of}
+use Rattle.bihash_table.specs.OpenReads.{NotesBlock, Saw, LastWordTells, AreMarks, first_set, later_set, set_count, IsValueAt, IsPairAmong, IsPairIn, IsFirstFreeIn, OtherPairTells, value_of}
 use Rattle.bihash_table.proofs.PlaceReads.{SameTo, word_of_key, all_same}
 use Rattle.bihash_table.proofs.Seeing.{saw_as, saw_both, saw_nothing, saw_then, note_extent}
 
@@ -72,59 +72,68 @@ pub all_marks : (z : Sizes) (key : List ℕ) (first : ℕ) (a b c d : Bool) (s t
 all_marks z key first a b c d s t u v w at bt ct dt = saw_then s t w (λ o noted x y. (x, y.0, y.1.0, y.1.1)) at
     (saw_both t u w bt (saw_both u v w ct dt))
 
-module _ (z : Sizes) (key : List ℕ) (first : ℕ) (marks : Bool × Bool × Bool × Bool) where
-  -- the marks were looked at, and the pair of the key is at none of the first k places
-  abbrev pub NoneTo : ℕ → Extent → List ℕ → Type 0
-  NoneTo k e block = AreMarks z e block key first marks × ((i : ℕ) → first ≤ i → i < first + k → HasPairOf z e block key i → ⊥)
+module _ (z : Sizes) (key : List ℕ) (first : ℕ) where
+  -- what the marks tell is of the page
+  abbrev pub Marked : Bool × Bool × Bool × Bool → Extent → List ℕ → Type 0
+  Marked marks e block = AreMarks z e block key first marks
 
-  abbrev pub Marked : ℕ → Bool → Type 0
-  Marked place mark = (e : Extent) (block : List ℕ) → AreMarks z e block key first marks → LastWordTells z e block key place mark
+  -- the last word of the key stands at the first mark
+  first_tells : (e : Extent) (block : List ℕ) (marks : Bool × Bool × Bool × Bool) → set_count marks ≢ 0 → Marked marks e block
+      → LastWordTells z e block key (first + first_set marks) true
+  first_tells e block (true, b, c, d) some are = let at : first ≡ first + 0 = omega arith in
+      subst (λ (p : ℕ). LastWordTells z e block key p true) at are.0
+  first_tells e block (false, true, c, d) some are = are.1
+  first_tells e block (false, false, true, d) some are = are.2
+  first_tells e block (false, false, false, true) some are = are.3
+  first_tells e block (false, false, false, false) some are = absurd (some refl)
 
-  none_next : (e : Extent) (block : List ℕ) (place k : ℕ) → place ≡ first + k → ((i : ℕ) → first ≤ i → i < first + k → HasPairOf z e block key i → ⊥)
-      → (HasPairOf z e block key place → ⊥) → (i : ℕ) → first ≤ i → i < first + (k + 1) → HasPairOf z e block key i → ⊥
-  none_next e block place k at before here i low high = elim (cases_lt i (first + k)) [
-    | inl less ↦ before i low less
-    | inr not ↦ let is : i ≡ place = omega arith in λ h. here (subst (HasPairOf z e block key) is h)
-  ]
+  -- where the pair isn't at the first mark, the others tell as much
+  later_tell : (e : Extent) (block : List ℕ) (marks : Bool × Bool × Bool × Bool) → set_count marks ≢ 0 → Marked marks e block
+      → (HasPairOf z e block key (first + first_set marks) → ⊥) → Marked (later_set marks) e block
+  later_tell e block (true, b, c, d) some are none = let at : first ≡ first + 0 = omega arith in
+      ((λ h. none (subst (HasPairOf z e block key) at h)), are.1, are.2, are.3)
+  later_tell e block (false, true, c, d) some are none = (are.0, none, are.2, are.3)
+  later_tell e block (false, false, true, d) some are none = (are.0, are.1, none, are.3)
+  later_tell e block (false, false, false, true) some are none = (are.0, are.1, are.2, none)
+  later_tell e block (false, false, false, false) some are none = absurd (some refl)
 
-  module _ (u v w : View) (place k : ℕ) (mark : Bool) (at : place ≡ first + k) (marked : Marked place mark) (before : Saw u v (NoneTo k)) where
-    pub none_more : Saw v w (λ e block. LastWordTells z e block key place mark → IsValueAt z e block key place None) → Saw u w (NoneTo (k + 1))
-    none_more now = saw_then u v w (λ o noted seen here. (
-      seen.0,
-      none_next o.extent o.block place k at seen.1 (here (marked o.extent o.block seen.0)),
-    )) before now
-
-    pub pair_there : (value from to : ℕ) → Saw v w (λ e block. LastWordTells z e block key place mark → IsValueAt z e block key place (Some value))
-        → Saw u w (λ e block. IsPairAmong z e block key from to (Some (place, value)))
-    pair_there value from to = saw_then u v w (λ o noted seen here. here (marked o.extent o.block seen.0)) before
-
-    pub none_there : (from to : ℕ) → from ≡ first → to ≡ first + (k + 1)
-        → Saw v w (λ e block. LastWordTells z e block key place mark → IsValueAt z e block key place None)
-        → Saw u w (λ e block. IsPairAmong z e block key from to None)
-    none_there from to is end = saw_then u v w (λ o noted seen here i low high.
-        none_next o.extent o.block place k at seen.1 (here (marked o.extent o.block seen.0)) i (omega arith) (omega arith)) before
-
-  pub none_yet : (u v : View) → Saw u v (λ e block. AreMarks z e block key first marks) → Saw u v (NoneTo 0)
-  none_yet u v = saw_as u v (λ o noted seen. (seen, λ i low high. absurd (omega arith)))
-
--- where no mark is set, the pair isn't in the page
-pub no_marks : (z : Sizes) (key : List ℕ) (first from to : ℕ) (a b c d : Bool) (u v : View) → ((a || b) || c) || d ≡ false → from ≡ first → to ≡ first + 4
-    → Saw u v (λ e block. AreMarks z e block key first (a, b, c, d)) → Saw u v (λ e block. IsPairAmong z e block key from to None)
-no_marks z key first from to true b c d u v none is end s = absurd (true≢false none)
-no_marks z key first from to false true c d u v none is end s = absurd (true≢false none)
-no_marks z key first from to false false true d u v none is end s = absurd (true≢false none)
-no_marks z key first from to false false false true u v none is end s = absurd (true≢false none)
-no_marks z key first from to false false false false u v none is end s = saw_as u v (λ o noted seen i low high h.
-    elim (cases_lt i (first + 1)) [
-      | inl less ↦ let at : i ≡ first = omega arith in seen.0 (subst (HasPairOf z o.extent o.block key) at h)
-      | inr more ↦ elim (cases_lt i (first + 2)) [
-        | inl less ↦ let at : i ≡ first + 1 = omega arith in seen.1 (subst (HasPairOf z o.extent o.block key) at h)
-        | inr more' ↦ elim (cases_lt i (first + 3)) [
-          | inl less ↦ let at : i ≡ first + 2 = omega arith in seen.2 (subst (HasPairOf z o.extent o.block key) at h)
-          | inr more'' ↦ let at : i ≡ first + 3 = omega arith in seen.3 (subst (HasPairOf z o.extent o.block key) at h)
-        ]
+  none_left : (e : Extent) (block : List ℕ) (marks : Bool × Bool × Bool × Bool) → set_count marks ≡ 0 → Marked marks e block
+      → (i : ℕ) → first ≤ i → i < first + 4 → HasPairOf z e block key i → ⊥
+  none_left e block (false, false, false, false) none are i low high h = elim (cases_lt i (first + 1)) [
+    | inl less ↦ let at : i ≡ first = omega arith in are.0 (subst (HasPairOf z e block key) at h)
+    | inr more ↦ elim (cases_lt i (first + 2)) [
+      | inl less ↦ let at : i ≡ first + 1 = omega arith in are.1 (subst (HasPairOf z e block key) at h)
+      | inr more' ↦ elim (cases_lt i (first + 3)) [
+        | inl less ↦ let at : i ≡ first + 2 = omega arith in are.2 (subst (HasPairOf z e block key) at h)
+        | inr more'' ↦ let at : i ≡ first + 3 = omega arith in are.3 (subst (HasPairOf z e block key) at h)
       ]
-    ]) s
+    ]
+  ]
+  none_left e block (true, b, c, d) none are i low high h = absurd (omega arith)
+  none_left e block (false, true, c, d) none are i low high h = absurd (omega arith)
+  none_left e block (false, false, true, d) none are i low high h = absurd (omega arith)
+  none_left e block (false, false, false, true) none are i low high h = absurd (omega arith)
+
+  module _ (u v w : View) (marks : Bool × Bool × Bool × Bool) (place : ℕ) (some : set_count marks ≢ 0) (at : place ≡ first + first_set marks)
+      (before : Saw u v (Marked marks)) where
+    here_tells : (e : Extent) (block : List ℕ) → Marked marks e block → LastWordTells z e block key place true
+    here_tells e block are = subst (λ (p : ℕ). LastWordTells z e block key p true) (sym at) (first_tells e block marks some are)
+
+    pub pair_marked : (from to value : ℕ) → Saw v w (λ e block. LastWordTells z e block key place true → IsValueAt z e block key place (Some value))
+        → Saw u w (λ e block. IsPairAmong z e block key from to (Some (place, value)))
+    pair_marked from to value = saw_then u v w (λ o noted are here. here (here_tells o.extent o.block are)) before
+
+    pub later_marked : (later : Bool × Bool × Bool × Bool) → later ≡ later_set marks
+        → Saw v w (λ e block. LastWordTells z e block key place true → IsValueAt z e block key place None) → Saw u w (Marked later)
+    later_marked later is = saw_then u v w (λ o noted are here. subst (λ (m : Bool × Bool × Bool × Bool). Marked m o.extent o.block) (sym is)
+        (later_tell o.extent o.block marks some are (subst (λ (p : ℕ). HasPairOf z o.extent o.block key p → ⊥) at (here (here_tells o.extent o.block are)))))
+        before
+
+  -- where no mark is left, the pair isn't in the page
+  pub no_marks : (marks : Bool × Bool × Bool × Bool) (from to : ℕ) (u v : View) → set_count marks ≡ 0 → from ≡ first → to ≡ first + 4
+      → Saw u v (Marked marks) → Saw u v (λ e block. IsPairAmong z e block key from to None)
+  no_marks marks from to u v none is end = saw_as u v (λ o noted are i low high.
+      none_left o.extent o.block marks none are i (omega arith) (omega arith))
 
 -- ---- All pages
 

@@ -5,7 +5,7 @@ use Rattle.std.proofs.lemmas.Option.{slice_get-get_or}
 use Rattle.bihash_words.specs.declared.shape.Shape.{Ghosts}
 use Rattle.bihash_words.specs.Maps.{Pairs, most_pairs}
 use Rattle.bihash_words.specs.Sizes.{Sizes, sizes_of}
-use Rattle.bihash_plan.specs.Blocks.{HasKey, IsFree, IsLawfulBlock, IsOpen}
+use Rattle.bihash_plan.specs.Blocks.{HasKey, IsCrowded, IsFree, IsLawfulBlock, IsNew, IsOpen}
 use Rattle.bihash_plan.specs.Layouts.{IsNamed}
 use Rattle.bihash_plan.specs.Pages.{Paging, page_of, paging_of}
 use Rattle.bihash_plan.specs.Plans.{CanBecomeLinear, IsExhausted, IsGrowth, IsPlan}
@@ -73,14 +73,6 @@ module _ {A K : Type 0} (g : Ghosts A K) (keys : AreKeyWords g) (e : Extent) (bl
   pub of_keys : AreKeysOf g m
   of_keys = are_keys g e block ps m key size held are
 
-  -- the plan was made on the fields that the word tells
-  pub planned : (log2 : ℕ) (linear : Bool) (plan : Plan) → log2 ≡ e.log2 → linear ≡ e.linear
-      → (IsLawfulBlock (paging_of g) log2 linear ps → IsPlan (paging_of g) log2 linear ps key plan)
-      → IsPlan (paging_of g) e.log2 e.linear ps key plan
-  planned log2 linear plan log2_at linear_at exact =
-      subst (λ (x : ℕ × Bool). IsLawfulBlock (paging_of g) x.0 x.1 ps → IsPlan (paging_of g) x.0 x.1 ps key plan)
-      (λ i. (log2_at i, linear_at i)) exact lawful
-
   -- the value of a free place
   free_value : (i : ℕ) → IsFree ps i → value_in (sizes_of g) block i ≡ free
   free_value i vacant = are.value i (vacant.key, free) vacant.at
@@ -88,15 +80,29 @@ module _ {A K : Type 0} (g : Ghosts A K) (keys : AreKeyWords g) (e : Extent) (bl
   free_inside_block : (i : ℕ) → IsFree ps i → i < places e.page e.log2
   free_inside_block i vacant = omega (arith, free_inside vacant, count)
 
+  -- the key is new in the places, and no place that is open to it is free
+  is_new : IsNew ps key
+  is_new i had = let clash = sym absent ∙ hold.mapped key i had in let c : ⊥ = cc in c
+
+  is_crowded : IsCrowded e.linear (page_of (paging_of g) e.log2 key) ps
+  is_crowded i reached vacant = crowded i (record {
+    inside = free_inside_block i vacant;
+    free = free_value i vacant;
+    reached = λ plain. sym (subst (λ y. IsOpen y (page_of (paging_of g) e.log2 key) i) plain reached);
+  })
+
+  -- the plan was made on the fields that the word tells
+  pub planned : (log2 : ℕ) (linear : Bool) (plan : Plan) → log2 ≡ e.log2 → linear ≡ e.linear
+      → (IsLawfulBlock (paging_of g) log2 linear ps → IsNew ps key → IsCrowded linear (page_of (paging_of g) log2 key) ps
+      → IsPlan (paging_of g) log2 linear ps key plan)
+      → IsPlan (paging_of g) e.log2 e.linear ps key plan
+  planned log2 linear plan log2_at linear_at exact =
+      subst (λ (x : ℕ × Bool). IsLawfulBlock (paging_of g) x.0 x.1 ps → IsNew ps key
+      → IsCrowded x.1 (page_of (paging_of g) x.0 key) ps → IsPlan (paging_of g) x.0 x.1 ps key plan)
+      (λ i. (log2_at i, linear_at i)) exact lawful is_new is_crowded
+
   not_placed : (i : ℕ) → IsPlan (paging_of g) e.log2 e.linear ps key (InPlace i) → ⊥
-  not_placed i plan = ⊎_elim
-      (λ (had : HasKey ps key i). (let clash = sym absent ∙ hold.mapped key i had in let c : ⊥ = cc in c))
-      (λ first. crowded i (record {
-        inside = free_inside_block i first.1.vacant;
-        free = free_value i first.1.vacant;
-        reached = λ plain. sym (subst (λ y. IsOpen y (page_of (paging_of g) e.log2 key) i) plain first.1.reached);
-      }))
-      plan
+  not_placed i plan = ⊎_elim (λ (had : HasKey ps key i). is_new i had) (λ first. is_crowded i first.1.reached first.1.vacant) plan
 
   none_free : IsPlan (paging_of g) e.log2 e.linear ps key Full → (i : ℕ) → IsFree ps i → ⊥
   none_free plan i vacant =

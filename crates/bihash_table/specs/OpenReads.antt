@@ -70,6 +70,26 @@ AreMarks z e block key first marks = LastWordTells z e block key first marks.0
     × LastWordTells z e block key (first + 1) marks.1 × LastWordTells z e block key (first + 2) marks.2
     × LastWordTells z e block key (first + 3) marks.3
 
+-- how many marks are set, which is the first that is, where one is, and the marks but that one
+abbrev one_if : Bool → ℕ
+one_if true = 1
+one_if false = 0
+
+abbrev pub set_count : Bool × Bool × Bool × Bool → ℕ
+set_count marks = one_if marks.0 + one_if marks.1 + one_if marks.2 + one_if marks.3
+
+abbrev pub first_set : Bool × Bool × Bool × Bool → ℕ
+first_set (true, b, c, d) = 0
+first_set (false, true, c, d) = 1
+first_set (false, false, true, d) = 2
+first_set (false, false, false, d) = 3
+
+abbrev pub later_set : Bool × Bool × Bool × Bool → Bool × Bool × Bool × Bool
+later_set (true, b, c, d) = (false, b, c, d)
+later_set (false, true, c, d) = (false, false, c, d)
+later_set (false, false, true, d) = (false, false, false, d)
+later_set (false, false, false, d) = (false, false, false, false)
+
 -- what a look at place i found: the value of the key's pair, or that it isn't there
 abbrev pub IsValueAt : Sizes → Extent → List ℕ → List ℕ → ℕ → Option ℕ → Type 0
 IsValueAt z e block key i (Some value) = HasPairOf z e block key i × (value ≡ value_in z block i)

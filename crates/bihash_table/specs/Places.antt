@@ -1,5 +1,5 @@
 -- The words of a block as places of keys and values.
-use Rattle.std.specs.Prelude.{◌≡◌, ℕ, ◌*◌, ◌/◌, ◌<◌, false, List, length, slice_get, Some}
+use Rattle.std.specs.Prelude.{◌≡◌, ◌≢◌, ℕ, ◌*◌, ◌/◌, ◌<◌, false, List, length, slice_get, Some}
 use Rattle.bihash_words.specs.Sizes.{Sizes, sizes_of}
 use Rattle.bihash_words.specs.declared.shape.Shape.{Ghosts}
 use Rattle.bihash_steps.specs.Words.{place_words}
@@ -25,8 +25,9 @@ pub record HasPairOf (z : Sizes) (e : Extent) (block : List ℕ) (key : List ℕ
   pub pair : HasPair z e block i
   pub stands : key_in z block i ≡ key
 
--- the places have the keys and values of these words
+-- the places have the values of these words and, where they aren't free, the keys
 pub record ArePlaces {A K : Type 0} (g : Ghosts A K) (ps : List (K × ℕ)) (words : List ℕ) : Type 0 where
   pub count : length words ≡ length ps * place_words (sizes_of g)
-  pub key : (i : ℕ) (p : K × ℕ) → slice_get ps i ≡ Some p → key_in (sizes_of g) words i ≡ g.words_of p.0
+  pub key : (i : ℕ) (p : K × ℕ) → slice_get ps i ≡ Some p → p.1 ≢ free
+      → key_in (sizes_of g) words i ≡ g.words_of p.0
   pub value : (i : ℕ) (p : K × ℕ) → slice_get ps i ≡ Some p → value_in (sizes_of g) words i ≡ p.1

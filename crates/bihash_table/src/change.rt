@@ -7,7 +7,6 @@ ghost use Rattle.bihash_words.specs.Sizes.{sizes_of};
 ghost use Rattle.bihash_words.specs.declared.patch.Change.TheVariants.{Keep, Set, Remove};
 ghost use Rattle.bihash_words.specs.declared.patch.Reply.TheVariants.{Kept, Changed, Worn, Full};
 ghost use Rattle.bihash_steps.specs.Words.{place_words};
-ghost use Rattle.bihash_steps.specs.Histories.{bucket_of};
 ghost use Rattle.bihash_steps.specs.Blocks.{places, value_in};
 ghost use Rattle.bihash_steps.specs.Callers.{IsLawfulCaller, known_at};
 ghost use Rattle.bihash_steps.specs.BucketSteps.{map_now, relocked, stored_in};
@@ -124,61 +123,66 @@ pub(crate) fn crowd<S: Shape>(
 /// Gives the pair at a place another value.
 pub(crate) fn overwrite<S: Shape>(
     row: &Row<S>,
-    caller: &mut CallerSeat<S>,
-    bucket: usize,
-    word: BucketWord,
-    key: &S::Key,
-    place: usize,
-    found: u64,
+    seat: &mut CallerSeat<S>,
+    seen: &Seen<'_, S>,
+    pair: (usize, u64),
     value: u64,
 ) -> Reply
-    requires own { caller.old.row ≡ row.now }
-    requires lock { (l : LockedBucket) × HasLock (sizes_of S.Shape) caller.old.view bucket word l
-        × HasPairOf (sizes_of S.Shape) l.extent l.now (S.words_of key.now) place
-        × (value_in (sizes_of S.Shape) l.now place ≡ found) }
-    requires home { bucket_of (sizes_of S.Shape) (S.words_of key.now) ≡ bucket }
-    requires counted { length (S.words_of key.now) ≡ S.WORDS }
-    requires unworn { length (known_at caller.old.view.known bucket) < S.LIMIT }
-    requires other { value ≢ found }
+    requires own { seat.old.row ≡ row.now }
+    requires lock { (l : LockedBucket) × HasLock (sizes_of S.Shape) seat.old.view seen.now.site.bucket seen.now.word l
+        × HasPairOf (sizes_of S.Shape) l.extent l.now (S.words_of seen.now.site.key.now) pair.0
+        × (value_in (sizes_of S.Shape) l.now pair.0 ≡ pair.1) }
+    requires unworn { length (known_at seat.old.view.known seen.now.site.bucket) < S.LIMIT }
+    requires other { value ≢ pair.1 }
     requires storable { value ≢ free_mark }
-    ensures same { caller.new ≡ with_view caller.old caller.new.view }
-    ensures changed { result ≡ Changed (Some found) }
-    ensures answered { IsAnswered (sizes_of S.Shape) caller.old.view caller.new.view
-        (record { key = S.words_of key.now; found = Some found; change = Set value; reply = result }) }
-    ensures lawful { IsLawfulCaller (sizes_of S.Shape) caller.new.view }
+    ensures same { seat.new ≡ with_view seat.old seat.new.view }
+    ensures changed { result ≡ Changed (Some pair.1) }
+    ensures answered { IsAnswered (sizes_of S.Shape) seat.old.view seat.new.view
+        (record { key = S.words_of seen.now.site.key.now; found = Some pair.1; change = Set value; reply = result }) }
+    ensures lawful { IsLawfulCaller (sizes_of S.Shape) seat.new.view }
 {
-    store_word(row, caller, word, place, S::WORDS, value);
-    row.publish(caller, bucket, word, key, Some(found), Change::Set(value));
-    Reply::Changed(Some(found))
+    store_word(row, seat, seen.word, pair.0, S::WORDS, value);
+    row.publish(
+        seat,
+        seen.site.bucket,
+        seen.word,
+        seen.site.key,
+        Some(pair.1),
+        Change::Set(value),
+    );
+    Reply::Changed(Some(pair.1))
 }
 
 /// Enters a pair of a new key at a free place.
 pub(crate) fn fill<S: Shape>(
     row: &Row<S>,
-    caller: &mut CallerSeat<S>,
-    bucket: usize,
-    word: BucketWord,
-    key: &S::Key,
+    seat: &mut CallerSeat<S>,
+    seen: &Seen<'_, S>,
     place: usize,
     value: u64,
 ) -> Reply
-    requires own { caller.old.row ≡ row.now }
-    requires lock { (l : LockedBucket) × HasLock (sizes_of S.Shape) caller.old.view bucket word l
-        × IsFreeFor (sizes_of S.Shape) l.extent l.now (S.words_of key.now) place }
-    requires home { bucket_of (sizes_of S.Shape) (S.words_of key.now) ≡ bucket }
-    requires counted { length (S.words_of key.now) ≡ S.WORDS }
-    requires unworn { length (known_at caller.old.view.known bucket) < S.LIMIT }
-    requires new { get (map_now caller.old.view bucket) (S.words_of key.now) ≡ None }
+    requires own { seat.old.row ≡ row.now }
+    requires lock { (l : LockedBucket) × HasLock (sizes_of S.Shape) seat.old.view seen.now.site.bucket seen.now.word l
+        × IsFreeFor (sizes_of S.Shape) l.extent l.now (S.words_of seen.now.site.key.now) place }
+    requires unworn { length (known_at seat.old.view.known seen.now.site.bucket) < S.LIMIT }
+    requires new { get (map_now seat.old.view seen.now.site.bucket) (S.words_of seen.now.site.key.now) ≡ None }
     requires storable { value ≢ free_mark }
-    ensures same { caller.new ≡ with_view caller.old caller.new.view }
+    ensures same { seat.new ≡ with_view seat.old seat.new.view }
     ensures changed { result ≡ Changed None }
-    ensures answered { IsAnswered (sizes_of S.Shape) caller.old.view caller.new.view
-        (record { key = S.words_of key.now; found = None; change = Set value; reply = result }) }
-    ensures lawful { IsLawfulCaller (sizes_of S.Shape) caller.new.view }
+    ensures answered { IsAnswered (sizes_of S.Shape) seat.old.view seat.new.view
+        (record { key = S.words_of seen.now.site.key.now; found = None; change = Set value; reply = result }) }
+    ensures lawful { IsLawfulCaller (sizes_of S.Shape) seat.new.view }
 {
-    store_key(row, caller, bucket, word, key, place);
-    store_word(row, caller, word, place, S::WORDS, value);
-    row.publish(caller, bucket, word, key, None, Change::Set(value));
+    store_key(row, seat, seen, place);
+    store_word(row, seat, seen.word, place, S::WORDS, value);
+    row.publish(
+        seat,
+        seen.site.bucket,
+        seen.word,
+        seen.site.key,
+        None,
+        Change::Set(value),
+    );
     Reply::Changed(None)
 }
 
@@ -200,91 +204,71 @@ pub(crate) fn remove<S: Shape>(
         return Err(Contended);
     }
     if !other {
-        return remove_last(
-            row,
-            seat,
-            seen.site.bucket,
-            seen.word,
-            seen.site.key,
-            pair.1,
-        );
+        return remove_last(row, seat, seen, pair.1);
     }
-    Ok(vacate(
-        row,
-        seat,
-        seen.site.bucket,
-        seen.word,
-        seen.site.key,
-        pair.0,
-        pair.1,
-    ))
+    Ok(vacate(row, seat, seen, pair))
 }
 
 // Frees the place of a pair, where another pair is left.
 fn vacate<S: Shape>(
     row: &Row<S>,
-    caller: &mut CallerSeat<S>,
-    bucket: usize,
-    word: BucketWord,
-    key: &S::Key,
-    place: usize,
-    found: u64,
+    seat: &mut CallerSeat<S>,
+    seen: &Seen<'_, S>,
+    pair: (usize, u64),
 ) -> Reply
-    requires own { caller.old.row ≡ row.now }
-    requires lock { (l : LockedBucket) × HasLock (sizes_of S.Shape) caller.old.view bucket word l
-        × HasPairOf (sizes_of S.Shape) l.extent l.now (S.words_of key.now) place
-        × (value_in (sizes_of S.Shape) l.now place ≡ found)
-        × HasOtherPair (sizes_of S.Shape) l place }
-    requires home { bucket_of (sizes_of S.Shape) (S.words_of key.now) ≡ bucket }
-    requires counted { length (S.words_of key.now) ≡ S.WORDS }
-    requires unworn { length (known_at caller.old.view.known bucket) < S.LIMIT }
-    ensures same { caller.new ≡ with_view caller.old caller.new.view }
-    ensures changed { result ≡ Changed (Some found) }
-    ensures answered { IsAnswered (sizes_of S.Shape) caller.old.view caller.new.view
-        (record { key = S.words_of key.now; found = Some found; change = Remove; reply = result }) }
-    ensures lawful { IsLawfulCaller (sizes_of S.Shape) caller.new.view }
+    requires own { seat.old.row ≡ row.now }
+    requires lock { (l : LockedBucket) × HasLock (sizes_of S.Shape) seat.old.view seen.now.site.bucket seen.now.word l
+        × HasPairOf (sizes_of S.Shape) l.extent l.now (S.words_of seen.now.site.key.now) pair.0
+        × (value_in (sizes_of S.Shape) l.now pair.0 ≡ pair.1)
+        × HasOtherPair (sizes_of S.Shape) l pair.0 }
+    requires unworn { length (known_at seat.old.view.known seen.now.site.bucket) < S.LIMIT }
+    ensures same { seat.new ≡ with_view seat.old seat.new.view }
+    ensures changed { result ≡ Changed (Some pair.1) }
+    ensures answered { IsAnswered (sizes_of S.Shape) seat.old.view seat.new.view
+        (record { key = S.words_of seen.now.site.key.now; found = Some pair.1; change = Remove; reply = result }) }
+    ensures lawful { IsLawfulCaller (sizes_of S.Shape) seat.new.view }
 {
-    store_word(row, caller, word, place, S::WORDS, FREE);
-    row.publish(caller, bucket, word, key, Some(found), Change::Remove);
-    Reply::Changed(Some(found))
+    store_word(row, seat, seen.word, pair.0, S::WORDS, FREE);
+    row.publish(
+        seat,
+        seen.site.bucket,
+        seen.word,
+        seen.site.key,
+        Some(pair.1),
+        Change::Remove,
+    );
+    Reply::Changed(Some(pair.1))
 }
 
 // Stores the words of a key at a place of the block that the caller has locked.
-fn store_key<S: Shape>(
-    row: &Row<S>,
-    caller: &mut CallerSeat<S>,
-    bucket: usize,
-    word: BucketWord,
-    key: &S::Key,
-    place: usize,
-)
-    requires own { caller.old.row ≡ row.now }
-    requires lock { (l : LockedBucket) × HasLock (sizes_of S.Shape) caller.old.view bucket word l
+fn store_key<S: Shape>(row: &Row<S>, seat: &mut CallerSeat<S>, seen: &Seen<'_, S>, place: usize)
+    requires own { seat.old.row ≡ row.now }
+    requires lock { (l : LockedBucket) × HasLock (sizes_of S.Shape) seat.old.view seen.now.site.bucket seen.now.word l
         × (place < places l.extent.page l.extent.log2) }
-    ensures same { caller.new ≡ with_view caller.old caller.new.view }
-    ensures stored { (l : LockedBucket) → HasLock (sizes_of S.Shape) caller.old.view bucket word l
-        → HasStored (sizes_of S.Shape) caller.old.view caller.new.view l place (S.words_of key.now) S.WORDS }
+    ensures same { seat.new ≡ with_view seat.old seat.new.view }
+    ensures stored { (l : LockedBucket) → HasLock (sizes_of S.Shape) seat.old.view seen.now.site.bucket seen.now.word l
+        → HasStored (sizes_of S.Shape) seat.old.view seat.new.view l place (S.words_of seen.now.site.key.now) S.WORDS }
 {
     for i in 0..S::WORDS {
-        store_word(row, caller, word, place, i, S::word(key, i));
+        store_word(row, seat, seen.word, place, i, S::word(seen.site.key, i));
     }
 }
 
 // Stores word i of a place of the block that the caller has locked.
 fn store_word<S: Shape>(
     row: &Row<S>,
-    caller: &mut CallerSeat<S>,
+    seat: &mut CallerSeat<S>,
     word: BucketWord,
     place: usize,
     i: usize,
     value: u64,
 )
-    requires own { caller.old.row ≡ row.now }
-    requires place { HoldsPlace (sizes_of S.Shape) caller.old.view word place }
+    requires own { seat.old.row ≡ row.now }
+    requires place { HoldsPlace (sizes_of S.Shape) seat.old.view word place }
     requires inside { i ≤ S.WORDS }
-    ensures { (l : LockedBucket) → caller.old.view.holds.bucket ≡ Some l → caller.new ≡ with_view caller.old
-        (relocked caller.old.view (Some (stored_in l (place * place_words (sizes_of S.Shape) + i) value))) }
+    ensures { (l : LockedBucket) → seat.old.view.holds.bucket ≡ Some l → seat.new ≡ with_view seat.old
+        (relocked seat.old.view (Some (stored_in l (place * place_words (sizes_of S.Shape) + i) value))) }
 {
     row.is_sound();
-    row.store_locked(caller, word.page(), place * (S::WORDS + 1) + i, value);
+    row.store_locked(seat, word.page(), place * (S::WORDS + 1) + i, value);
 }

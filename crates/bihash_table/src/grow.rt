@@ -6,7 +6,7 @@ ghost use Rattle.bihash_words.specs.Patches.{free_mark};
 ghost use Rattle.bihash_words.specs.Sizes.{IsSound, sizes_of};
 ghost use Rattle.bihash_words.specs.declared.patch.Change.TheVariants.{Set, Remove};
 ghost use Rattle.bihash_words.specs.declared.patch.Reply.TheVariants.{Changed, NoPages};
-ghost use Rattle.bihash_steps.specs.Histories.{bounds_of, bucket_of};
+ghost use Rattle.bihash_steps.specs.Histories.{bounds_of};
 ghost use Rattle.bihash_steps.specs.Blocks.{HasPair, IsBlockOf, places, value_in};
 ghost use Rattle.bihash_steps.specs.Callers.{IsLawfulCaller, known_at};
 ghost use Rattle.bihash_steps.specs.BucketSteps.{map_now};
@@ -32,7 +32,7 @@ use crate::pages::{give_back, take_block};
 use crate::places::{place_count, places_of};
 use crate::site::Seen;
 use crate::snapshot::read_block;
-use bihash_plan::{Plan, lay, plan};
+use bihash_plan::{Plan, larger, lay};
 use bihash_steps::view::Extent;
 use bihash_steps::{Caller, CallerSeat, Row};
 use bihash_words::{BucketWord, Change, Reply, Shape};
@@ -81,7 +81,7 @@ fn enter_as_planned<S: Shape>(
     row.is_sound();
     let old = &mut old[..place_count::<S>(seen.word)];
     read_block(row, seat, seen.word, old);
-    let Plan::Grow { log2, linear } = plan::<S>(
+    let Plan::Grow { log2, linear } = larger::<S>(
         old,
         seen.word.log2(),
         seen.word.linear(),
@@ -94,56 +94,52 @@ fn enter_as_planned<S: Shape>(
     if !lock_seen(row, seat, seen.site.bucket, seen.word) {
         return Err(Contended);
     }
-    enter(
-        row,
-        seat,
-        seen.site.bucket,
-        seen.word,
-        seen.site.key,
-        value,
-        log2,
-        linear,
-        new,
-    )
+    enter(row, seat, seen, value, BlockSize { log2, linear }, new)
 }
 
-/// Gives the bucket a block of `2^log2` pages, in which its pairs and the new one are laid out.
+/// The size of a block, `2^log2` pages, and whether it is linear.
+#[derive(Clone, Copy)]
+struct BlockSize {
+    log2: u64,
+    linear: bool,
+}
+
+/// Gives the bucket a block of this size, in which its pairs and the new one are laid out.
 fn enter<S: Shape>(
     row: &Row<S>,
     seat: &mut CallerSeat<S>,
-    bucket: usize,
-    word: BucketWord,
-    key: &S::Key,
+    seen: &Seen<'_, S>,
     value: u64,
-    log2: u64,
-    linear: bool,
+    size: BlockSize,
     block: &[(S::Key, u64)],
 ) -> Result<Reply, Contended>
     requires own { seat.old.row ≡ row.now }
     requires shape { IsSound (sizes_of S.Shape) }
-    requires lock { (l : LockedBucket) × HasLock (sizes_of S.Shape) seat.old.view bucket word l }
-    requires home { bucket_of (sizes_of S.Shape) (S.words_of key.now) ≡ bucket }
-    requires counted { length (S.words_of key.now) ≡ S.WORDS }
-    requires unworn { length (known_at seat.old.view.known bucket) < S.LIMIT }
-    requires new { get (map_now seat.old.view bucket) (S.words_of key.now) ≡ None }
+    requires lock { (l : LockedBucket) × HasLock (sizes_of S.Shape) seat.old.view seen.now.site.bucket seen.now.word l }
+    requires unworn { length (known_at seat.old.view.known seen.now.site.bucket) < S.LIMIT }
+    requires new { get (map_now seat.old.view seen.now.site.bucket) (S.words_of seen.now.site.key.now) ≡ None }
     requires storable { value ≢ free_mark }
-    requires room { len (map_now seat.old.view bucket) < most_pairs (bounds_of (sizes_of S.Shape)) }
-    requires small { log2 ≤ S.MAX_LOG2 }
-    requires sized { length block.now ≡ 4 * 2 ^ log2 }
+    requires room { len (map_now seat.old.view seen.now.site.bucket) < most_pairs (bounds_of (sizes_of S.Shape)) }
+    requires small { size.log2 ≤ S.MAX_LOG2 }
+    requires sized { length block.now ≡ 4 * 2 ^ size.log2 }
     requires laid { (page : ℕ) (words : List ℕ) → 1 ≤ page → ArePlaces ⟦<S as Shape>⟧ block.now words
-        → IsBlockOf (sizes_of S.Shape) (record { page = page; log2 = log2; linear = linear }) words
-        (insert (map_now seat.old.view bucket) (S.words_of key.now) value) }
+        → IsBlockOf (sizes_of S.Shape) (record { page = page; log2 = size.log2; linear = size.linear }) words
+        (insert (map_now seat.old.view seen.now.site.bucket) (S.words_of seen.now.site.key.now) value) }
     ensures same { seat.new ≡ with_view seat.old seat.new.view }
     ensures answered { IfOk result (λ reply. IsAnswered (sizes_of S.Shape) seat.old.view seat.new.view
-        (record { key = S.words_of key.now; found = None; change = Set value; reply = reply })) }
+        (record { key = S.words_of seen.now.site.key.now; found = None; change = Set value; reply = reply })) }
     ensures paid { IfOk result (λ reply. is_without_lock reply ≡ false) }
-    ensures no_pages { IfOk result (λ reply. (wanted left : ℕ) → reply ≡ NoPages wanted left → (wanted ≡ log2)
-        × (map_now seat.new.view bucket ≡ map_now seat.old.view bucket)
-        × ((store : PageStore) × IsWanting (sizes_of S.Shape) store log2 left × Bears seat.new.view bucket store)) }
-    ensures contended { IfErr result (λ _. IsTurnedAway (sizes_of S.Shape) seat.old.view seat.new.view bucket) }
+    ensures no_pages { IfOk result (λ reply. (wanted left : ℕ) → reply ≡ NoPages wanted left → (wanted ≡ size.log2)
+        × (map_now seat.new.view seen.now.site.bucket ≡ map_now seat.old.view seen.now.site.bucket)
+        × ((store : PageStore) × IsWanting (sizes_of S.Shape) store size.log2 left × Bears seat.new.view seen.now.site.bucket store)) }
+    ensures contended { IfErr result (λ _. IsTurnedAway (sizes_of S.Shape) seat.old.view seat.new.view seen.now.site.bucket) }
     ensures lone { seat.old.view.lone ≡ true → is_ok result ≡ true }
     ensures lawful { IsLawfulCaller (sizes_of S.Shape) seat.new.view }
 {
+    let bucket = seen.site.bucket;
+    let word = seen.word;
+    let key = seen.site.key;
+    let BlockSize { log2, linear } = size;
     if !row.pool_lock(seat) {
         row.release(seat, bucket, word);
         return Err(Contended);
@@ -151,8 +147,8 @@ fn enter<S: Shape>(
     match take_block(row, seat, log2) {
         Ok(page) => {
             write_block(row, seat, page, block);
-            let larger = Extent { page, log2, linear };
-            row.publish_block(seat, bucket, word, larger, key, None, Change::Set(value));
+            let extent = Extent { page, log2, linear };
+            row.publish_block(seat, bucket, word, extent, key, None, Change::Set(value));
             leave_store(row, seat, word);
             Ok(Reply::Changed(None))
         }
@@ -196,31 +192,27 @@ fn give_back_old<S: Shape>(row: &Row<S>, seat: &mut CallerSeat<S>, word: BucketW
 /// Removes the last pair of a bucket, and gives its block back.
 pub(crate) fn remove_last<S: Shape>(
     row: &Row<S>,
-    caller: &mut CallerSeat<S>,
-    bucket: usize,
-    word: BucketWord,
-    key: &S::Key,
+    seat: &mut CallerSeat<S>,
+    seen: &Seen<'_, S>,
     found: u64,
 ) -> Result<Reply, Contended>
-    requires own { caller.old.row ≡ row.now }
-    requires lock { (l : LockedBucket) × (i : ℕ) × HasLock (sizes_of S.Shape) caller.old.view bucket word l
-        × HasPairOf (sizes_of S.Shape) l.extent l.now (S.words_of key.now) i
+    requires own { seat.old.row ≡ row.now }
+    requires lock { (l : LockedBucket) × (i : ℕ) × HasLock (sizes_of S.Shape) seat.old.view seen.now.site.bucket seen.now.word l
+        × HasPairOf (sizes_of S.Shape) l.extent l.now (S.words_of seen.now.site.key.now) i
         × (value_in (sizes_of S.Shape) l.now i ≡ found)
         × ((k : ℕ) → HasPair (sizes_of S.Shape) l.extent l.now k → k ≡ i) }
-    requires home { bucket_of (sizes_of S.Shape) (S.words_of key.now) ≡ bucket }
-    requires counted { length (S.words_of key.now) ≡ S.WORDS }
-    requires unworn { length (known_at caller.old.view.known bucket) < S.LIMIT }
-    ensures same { caller.new ≡ with_view caller.old caller.new.view }
+    requires unworn { length (known_at seat.old.view.known seen.now.site.bucket) < S.LIMIT }
+    ensures same { seat.new ≡ with_view seat.old seat.new.view }
     ensures answered { IfOk result (λ reply. (reply ≡ Changed (Some found))
-        × IsAnswered (sizes_of S.Shape) caller.old.view caller.new.view
-        (record { key = S.words_of key.now; found = Some found; change = Remove; reply = reply })) }
-    ensures contended { IfErr result (λ _. IsTurnedAway (sizes_of S.Shape) caller.old.view caller.new.view bucket) }
-    ensures lone { caller.old.view.lone ≡ true → is_ok result ≡ true }
-    ensures lawful { IsLawfulCaller (sizes_of S.Shape) caller.new.view }
+        × IsAnswered (sizes_of S.Shape) seat.old.view seat.new.view
+        (record { key = S.words_of seen.now.site.key.now; found = Some found; change = Remove; reply = reply })) }
+    ensures contended { IfErr result (λ _. IsTurnedAway (sizes_of S.Shape) seat.old.view seat.new.view seen.now.site.bucket) }
+    ensures lone { seat.old.view.lone ≡ true → is_ok result ≡ true }
+    ensures lawful { IsLawfulCaller (sizes_of S.Shape) seat.new.view }
 {
     row.is_sound();
-    if !row.pool_lock(caller) {
-        row.release(caller, bucket, word);
+    if !row.pool_lock(seat) {
+        row.release(seat, seen.site.bucket, seen.word);
         return Err(Contended);
     }
     let none = Extent {
@@ -228,7 +220,15 @@ pub(crate) fn remove_last<S: Shape>(
         log2: 0,
         linear: false,
     };
-    row.publish_block(caller, bucket, word, none, key, Some(found), Change::Remove);
-    leave_store(row, caller, word);
+    row.publish_block(
+        seat,
+        seen.site.bucket,
+        seen.word,
+        none,
+        seen.site.key,
+        Some(found),
+        Change::Remove,
+    );
+    leave_store(row, seat, seen.word);
     Ok(Reply::Changed(Some(found)))
 }

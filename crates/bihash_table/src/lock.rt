@@ -15,20 +15,20 @@ use bihash_words::{BucketWord, Shape};
 /// The word of a bucket that no other caller has locked, whose block may be read then.
 pub(crate) fn look<S: Shape>(
     row: &Row<S>,
-    caller: &mut CallerSeat<S>,
+    seat: &mut CallerSeat<S>,
     bucket: usize,
 ) -> Option<BucketWord>
-    requires own { caller.old.row ≡ row.now }
-    requires free { caller.old.view.holds ≡ nothing_held }
+    requires own { seat.old.row ≡ row.now }
+    requires free { seat.old.view.holds ≡ nothing_held }
     requires inside { bucket < buckets (sizes_of S.Shape) }
-    ensures same { caller.new ≡ with_view caller.old caller.new.view }
-    ensures opened { IfSome result (IsOpened (sizes_of S.Shape) caller.old.view caller.new.view bucket) }
-    ensures turned_away { IfNone result (IsTurnedAway (sizes_of S.Shape) caller.old.view caller.new.view bucket) }
-    ensures no_lock { IfNone result (caller.new.view.records ≡ caller.old.view.records) }
-    ensures lone { caller.old.view.lone ≡ true → is_some result ≡ true }
-    ensures lawful { IsLawfulCaller (sizes_of S.Shape) caller.new.view }
+    ensures same { seat.new ≡ with_view seat.old seat.new.view }
+    ensures opened { IfSome result (IsOpened (sizes_of S.Shape) seat.old.view seat.new.view bucket) }
+    ensures turned_away { IfNone result (IsTurnedAway (sizes_of S.Shape) seat.old.view seat.new.view bucket) }
+    ensures no_lock { IfNone result (seat.new.view.records ≡ seat.old.view.records) }
+    ensures lone { seat.old.view.lone ≡ true → is_some result ≡ true }
+    ensures lawful { IsLawfulCaller (sizes_of S.Shape) seat.new.view }
 {
-    let word = row.load_bucket(caller, bucket);
+    let word = row.load_bucket(seat, bucket);
     if word.locked() {
         return None;
     }

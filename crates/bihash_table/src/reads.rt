@@ -1,13 +1,13 @@
 //! Searches of the block of an open bucket. What they find holds on the condition that the words they
 //! load are the block's, which a step on the bucket's word tells afterwards.
-ghost use Rattle.std.specs.Prelude.{◌≡◌, ℕ, ◌+◌, ◌-◌, ◌*◌, ◌/◌, ◌%◌, ◌^◌, ◌<◌, ◌≤◌, List, length, true, slice_index};
+ghost use Rattle.std.specs.Prelude.{◌≡◌, ◌+◌, ◌-◌, ◌*◌, ◌/◌, ◌^◌, ◌<◌, ◌≤◌, true, false, ◌≢◌, slice_index};
 ghost use Rattle.bihash_words.specs.Sizes.{IsSound, sizes_of};
 ghost use Rattle.bihash_steps.specs.Words.{place_words};
 ghost use Rattle.bihash_steps.specs.Blocks.{places};
 ghost use Rattle.bihash_steps.specs.Seats.{with_view};
 ghost use Rattle.bihash_steps.specs.declared.view.Extent.{Extent};
 ghost use Rattle.bihash_table.specs.Scans.{IsWordOf, AreOpenTo};
-ghost use Rattle.bihash_table.specs.OpenReads.{NotesBlock, Saw, LastWordTells, AreMarks, IsValueAt, IsPairAmong, IsPairIn, IsFirstFreeIn, OtherPairTells, value_of};
+ghost use Rattle.bihash_table.specs.OpenReads.{NotesBlock, Saw, LastWordTells, AreMarks, first_set, later_set, set_count, IsValueAt, IsPairAmong, IsPairIn, IsFirstFreeIn, OtherPairTells, value_of};
 
 use crate::places::{FREE, PAGE_PLACES, page_count, place_count};
 use crate::site::Site;
@@ -16,6 +16,7 @@ use bihash_words::{BucketWord, Shape};
 
 /// The place of the key's pair in the block of the open bucket, and its value. In a block that isn't
 /// linear the four places of one page are looked at.
+#[inline(always)]
 pub(crate) fn find_pair<S: Shape>(
     row: &Row<S>,
     seat: &mut CallerSeat<S>,
@@ -132,7 +133,8 @@ fn open_pages<S: Shape>(word: BucketWord, site: &Site<'_, S>) -> (usize, usize)
     (page, page + 1)
 }
 
-// The place and the value of the key's pair among the four places of a page.
+// The place and the value of the key's pair among the four places of a page. Where the last word of the
+// key stands is found without a branch for each place, and mostly it is at the pair or nowhere.
 fn pair_in_page<S: Shape>(
     row: &Row<S>,
     seat: &mut CallerSeat<S>,
@@ -149,23 +151,48 @@ fn pair_in_page<S: Shape>(
         IsPairAmong (sizes_of S.Shape) e block (S.words_of site.now.key.now) (4 * page) (4 * (page + 1)) result) }
 {
     let first = PAGE_PLACES * page;
-    let (a, b, c, d) = marks(row, seat, word, first, site);
-    if !(a | b | c | d) {
-        return None;
-    }
-    if let Some(value) = value_where(row, seat, word, first, a, site) {
-        return Some((first, value));
-    }
-    if let Some(value) = value_where(row, seat, word, first + 1, b, site) {
-        return Some((first + 1, value));
-    }
-    if let Some(value) = value_where(row, seat, word, first + 2, c, site) {
-        return Some((first + 2, value));
-    }
-    if let Some(value) = value_where(row, seat, word, first + 3, d, site) {
-        return Some((first + 3, value));
+    let mut marks = marks(row, seat, word, first, site);
+    'marked: while count_marks(marks) > 0 {
+        let place = first + first_mark(marks);
+        if let Some(value) = value_at(row, seat, word, place, site) {
+            return Some((place, value));
+        }
+        marks = later_marks(marks);
     }
     None
+}
+
+// How many of four marks are set. Their sum is compared at once.
+fn count_marks(marks: (bool, bool, bool, bool)) -> u64
+    ensures { result ≡ set_count marks }
+{
+    let (a, b, c, d) = marks;
+    u64::from(a) + u64::from(b) + u64::from(c) + u64::from(d)
+}
+
+// Which of four marks is the first that is set, where one is.
+fn first_mark(marks: (bool, bool, bool, bool)) -> usize
+    ensures first { result ≡ first_set marks }
+    ensures inside { result < 4 }
+{
+    let (a, b, c, _) = marks;
+    if a {
+        0
+    } else if b {
+        1
+    } else if c {
+        2
+    } else {
+        3
+    }
+}
+
+// The marks but the first that is set.
+fn later_marks(marks: (bool, bool, bool, bool)) -> (bool, bool, bool, bool)
+    ensures { result ≡ later_set marks }
+{
+    let (a, b, c, d) = marks;
+    (false, a && b, (a || b) && c, (a || b || c) && d)
 }
 
 // At which of the four places of a page the last word of the key stands.
@@ -207,29 +234,8 @@ fn has_last<S: Shape>(
     load_word(row, seat, word, place, S::WORDS - 1) == site.last
 }
 
-// The value of the key's pair at a place where the last word of the key was looked at.
-fn value_where<S: Shape>(
-    row: &Row<S>,
-    seat: &mut CallerSeat<S>,
-    word: BucketWord,
-    place: usize,
-    stands: bool,
-    site: &Site<'_, S>,
-) -> Option<u64>
-    requires own { seat.old.row ≡ row.now }
-    requires open { (e : Extent) × NotesBlock (sizes_of S.Shape) seat.old.view word e × (place < places e.page e.log2) }
-    ensures same { seat.new ≡ with_view seat.old seat.new.view }
-    ensures saw { Saw seat.old.view seat.new.view (λ e block.
-        LastWordTells (sizes_of S.Shape) e block (S.words_of site.now.key.now) place stands
-        → IsValueAt (sizes_of S.Shape) e block (S.words_of site.now.key.now) place result) }
-{
-    if !stands {
-        return None;
-    }
-    value_at(row, seat, word, place, site)
-}
-
-// The same, where the last word of the key stands there. A free place may show the words of any key.
+// The value of the key's pair at a place where the last word of the key stands. A free place may show the
+// words of any key.
 fn value_at<S: Shape>(
     row: &Row<S>,
     seat: &mut CallerSeat<S>,

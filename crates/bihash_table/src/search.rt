@@ -1,5 +1,5 @@
 //! Searches: one try, and a search that waits for its turn.
-ghost use Rattle.std.specs.Prelude.{◌≡◌, ◌+◌, true, ℕ, IfOk, IfErr, is_ok};
+ghost use Rattle.std.specs.Prelude.{◌≡◌, true, IfOk, IfErr, is_ok};
 ghost use Rattle.bihash_words.specs.Sizes.{sizes_of};
 ghost use Rattle.bihash_steps.specs.Histories.{bucket_of};
 ghost use Rattle.bihash_steps.specs.Callers.{IsLawfulCaller};
@@ -41,7 +41,7 @@ impl<S: Shape> Sessions<S> {
         let pair = find_pair(&self.row, seat, word, &site);
         let found = value_found(pair);
         let reply = Reply::Kept(found);
-        if !self.row.validate(
+        if self.row.validate(
             seat,
             site.bucket,
             word,
@@ -50,9 +50,9 @@ impl<S: Shape> Sessions<S> {
             Change::Keep,
             reply,
         ) {
-            return Err(Contended);
+            return Ok(found);
         }
-        Ok(found)
+        Err(Contended)
     }
 
     /// The same. It tries again until it meets no other caller's lock.

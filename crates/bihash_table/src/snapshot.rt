@@ -1,6 +1,6 @@
 //! Copies of the block of an open bucket, from its words to places of keys and values. They are the
 //! block's on the condition that the words they load are.
-ghost use Rattle.std.specs.Prelude.{◌≡◌, ◌<◌, ℕ, List, length};
+ghost use Rattle.std.specs.Prelude.{◌≡◌, ◌<◌, length};
 ghost use Rattle.bihash_words.specs.Sizes.{sizes_of};
 ghost use Rattle.bihash_steps.specs.Blocks.{places, key_in, value_in};
 ghost use Rattle.bihash_steps.specs.Seats.{with_view};

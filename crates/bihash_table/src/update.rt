@@ -1,7 +1,7 @@
 //! Updates, one try each.
 ghost use Rattle.std.specs.Prelude.{◌≡◌, ◌≢◌, ◌==◌, ◌<◌, true, false, ℕ, length, None, Option, Some, IfOk, IfErr, is_ok};
 ghost use Rattle.bihash_words.specs.Maps.{effect_of};
-ghost use Rattle.bihash_words.specs.Patches.{IsStorable, free_mark};
+ghost use Rattle.bihash_words.specs.Patches.{IsStorable};
 ghost use Rattle.bihash_words.specs.Sizes.{sizes_of};
 ghost use Rattle.bihash_words.specs.Words.{Bucket, Fits, packed};
 ghost use Rattle.bihash_words.specs.declared.patch.Change.TheVariants.{Keep, Set};
@@ -9,7 +9,6 @@ ghost use Rattle.bihash_words.specs.declared.patch.Reply.TheVariants.{NoPages};
 ghost use Rattle.bihash_steps.specs.Histories.{bucket_of};
 ghost use Rattle.bihash_steps.specs.Callers.{IsLawfulCaller, known_at};
 ghost use Rattle.bihash_steps.specs.Views.{nothing_held};
-ghost use Rattle.bihash_steps.specs.BucketSteps.{map_now};
 ghost use Rattle.bihash_steps.specs.Seats.{with_view};
 ghost use Rattle.bihash_table.specs.Answers.{locks_of};
 ghost use Rattle.bihash_table.specs.Promise.{IsUpdated, IsTurnedAway};
@@ -136,16 +135,7 @@ fn change_pair<S: Shape>(
             if !lock_seen(row, seat, seen.site.bucket, seen.word) {
                 return Err(Contended);
             }
-            Ok(overwrite(
-                row,
-                seat,
-                seen.site.bucket,
-                seen.word,
-                seen.site.key,
-                pair.0,
-                pair.1,
-                value,
-            ))
+            Ok(overwrite(row, seat, seen, pair, value))
         }
         Change::Remove => remove(row, seat, seen, pair),
         Change::Keep => unreachable!(),
@@ -176,15 +166,7 @@ fn enter_new<S: Shape>(
             if !lock_seen(row, seat, seen.site.bucket, seen.word) {
                 return Err(Contended);
             }
-            Ok(fill(
-                row,
-                seat,
-                seen.site.bucket,
-                seen.word,
-                seen.site.key,
-                place,
-                value,
-            ))
+            Ok(fill(row, seat, seen, place, value))
         }
         None => enter_larger(row, caller, seen, value),
     }

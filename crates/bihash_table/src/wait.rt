@@ -7,7 +7,6 @@ ghost use Rattle.bihash_words.specs.declared.patch.Reply.TheVariants.{NoPages};
 ghost use Rattle.bihash_steps.specs.Histories.{bucket_of};
 ghost use Rattle.bihash_steps.specs.Callers.{IsLawfulCaller};
 ghost use Rattle.bihash_steps.specs.Views.{nothing_held};
-ghost use Rattle.bihash_steps.specs.BucketSteps.{map_now};
 ghost use Rattle.bihash_steps.specs.Seats.{with_view};
 ghost use Rattle.bihash_table.specs.Answers.{locks_of};
 ghost use Rattle.bihash_table.specs.Promise.{IsUpdated};

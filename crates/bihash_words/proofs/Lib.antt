@@ -1,3 +1,5 @@
+pub mod CallLemmas
 pub mod MapLemmas
 pub mod MapValues
 pub mod RunLemmas
+pub mod SetLemmas

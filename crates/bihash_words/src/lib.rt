@@ -21,8 +21,8 @@ pub use laws::{
     tiny_has_its_sizes, tiny_is_sound, words_pack_exactly,
 };
 pub use maps::{
-    maps_stay_bounded, other_keys_stay, refusals_change_nothing, replies_tell_what_was_found,
-    runs_join_and_part,
+    each_call_has_one_answer, maps_stay_bounded, other_keys_stay, refusals_change_nothing,
+    replies_tell_what_was_found, runs_join_and_part, taken_values_stand,
 };
 pub use patch::{Add, AddIfAbsent, Change, Delete, Patch, Reply, Touch};
 pub use shape::{Shape, is_same};

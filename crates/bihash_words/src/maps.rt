@@ -1,9 +1,12 @@
 //! What follows of the bounded map of a bucket. The functions do nothing: their contracts are the laws.
-ghost use Rattle.std.specs.Prelude.{◌≡◌, ◌≢◌, ◌<◌, ◌≤◌, ◌++◌, ℕ, List, Option};
+ghost use Rattle.std.specs.Prelude.{◌≡◌, ◌≢◌, ◌<◌, ◌≤◌, ◌↔◌, ◌++◌, ℕ, List, Option, Some};
 ghost use Rattle.std.specs.FinMap.{get, len};
 ghost use Rattle.bihash_words.specs.Maps.{Bounds, Event, Pairs, Step, found_by, most_pairs};
+ghost use Rattle.bihash_words.specs.Refusals.{IsNoRefusal, IsTaken};
 ghost use Rattle.bihash_words.specs.Runs.{IsRun};
-ghost use Rattle.bihash_words.specs.declared.patch.Change.TheVariants.{Keep};
+ghost use Rattle.bihash_words.specs.declared.patch.Change.{Change};
+ghost use Rattle.bihash_words.specs.declared.patch.Reply.{Reply};
+ghost use Rattle.bihash_words.specs.declared.patch.Change.TheVariants.{Keep, Set};
 ghost use Rattle.bihash_words.specs.declared.patch.Reply.TheVariants.{Changed, Full, Kept};
 
 /// A call that isn't answered Changed leaves the map as it was. So does a search, which is a call that keeps.
@@ -48,4 +51,22 @@ pub fn runs_join_and_part()
     ensures parted { (b : Bounds) (m last : Pairs) (w n : ℕ) (before after : List Event)
         → IsRun b m w (before ++ after) last n
         → (middle : Pairs) × (v : ℕ) × IsRun b m w before middle v × IsRun b middle v after last n }
+{}
+
+/// A call that decides by what it finds has one answer where pages don't run out, and leaves one map.
+#[tactic(auto, using(crate::proofs::CallLemmas::some_call, crate::proofs::CallLemmas::one_call))]
+pub fn each_call_has_one_answer()
+    ensures some { (b : Bounds) (m : Pairs) (w : ℕ) (key : List ℕ) (decision : Option ℕ → Change)
+        → (reply : Reply) × (n : Pairs) × IsNoRefusal reply
+        × Step b m w (record { key = key; found = get m key; change = decision (get m key); reply = reply }) n }
+    ensures one { (b : Bounds) (m n o : Pairs) (w : ℕ) (decision : Option ℕ → Change) (e f : Event)
+        → e.key ≡ f.key → e.change ≡ decision e.found → f.change ≡ decision f.found
+        → IsNoRefusal e.reply → IsNoRefusal f.reply → Step b m w e n → Step b m w f o → (e ≡ f) × (n ≡ o) }
+{}
+
+/// A call that sets a value is taken exactly where its key has the value behind it.
+#[tactic(auto, using(crate::proofs::SetLemmas::set_stands))]
+pub fn taken_values_stand()
+    ensures { (b : Bounds) (m n : Pairs) (w value : ℕ) (e : Event) → Step b m w e n → e.change ≡ Set value
+        → IsTaken e.reply ↔ (get n e.key ≡ Some value) }
 {}

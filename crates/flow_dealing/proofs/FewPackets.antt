@@ -13,6 +13,7 @@ use Rattle.packet_view.specs.Captures.{Seen}
 use Rattle.packet_view.specs.declared.tuple.Family.{Family}
 use Rattle.acl_policy.specs.Policies.{PolicyFacts}
 use Rattle.bihash_words.specs.Maps.{Event}
+use Rattle.bihash_words.specs.Refusals.{IsNoRefusal}
 use Rattle.bihash_words.specs.Sizes.{Sizes}
 use Rattle.bihash_words.specs.declared.patch.Reply.TheVariants as reply
 use Rattle.bihash_steps.specs.Words.{buckets}
@@ -31,13 +32,14 @@ use Rattle.flow_filter.specs.declared.verdict.Verdict.TheVariants.{NoPages}
 use Rattle.flow_filter.specs.Readings.{AreReadings, Framed, IsReading, Reading, Ruled}
 use Rattle.flow_filter.specs.Updates.{Update, update_in, update_of}
 use Rattle.flow_filter.specs.Judged.{IsAsked, Judged, readings_of, verdict_on}
-use Rattle.flow_filter.specs.OneThread.{HasPages, IsNoRefusal, family_of, same_family, sizes_in}
+use Rattle.flow_filter.specs.OneThread.{HasPages, family_of, same_family, sizes_in}
+use Rattle.flow_filter.proofs.HomeLemmas.{family_as_itself, families_are_one}
 use Rattle.flow_dealing.specs.Views.{view_in}
 use Rattle.flow_dealing.specs.Dealings.{Deal, flow_in, worker_of}
 use Rattle.flow_dealing.specs.Runs.{AreFew, AreJudged, AreRecorded, HasPagesIn, HavePages, add_in, events_by, is_in, keyed}
 use Rattle.flow_dealing.proofs.Counting.{IsLabelled, at_least, sum_at, sum_one, sum_zero}
 use Rattle.flow_dealing.proofs.Merging.{events_by-cons, events_by-nil}
-use Rattle.flow_dealing.proofs.PacketCalls.{IsFlowEvent, asked_flow, call_of_packet, same_family_refl, same_family_sound}
+use Rattle.flow_dealing.proofs.PacketCalls.{IsFlowEvent, asked_flow, call_of_packet}
 use Rattle.flow_dealing.proofs.Places.{after_map, all_at, all_from, at_front}
 use Rattle.flow_dealing.proofs.Refusals.{paged_is_told, wants}
 
@@ -167,13 +169,13 @@ module _ (d : Deal) (times : Timeouts) (family : Family) where
       go : (f : Option Flow) → is_in family (option_map (update_in times moment tuple ruling) f) ≡ true
           → (flow : Flow) × (f ≡ Some flow) × (family_of flow.key ≡ family)
       go None clash = let f : ⊥ = cc in absurd f
-      go (Some flow) same = (flow, refl, sym (same_family_sound family (family_of flow.key) same))
+      go (Some flow) same = (flow, refl, sym (families_are_one family (family_of flow.key) same))
 
 inside_flow : (times : Timeouts) (reading : Reading) (flow : Flow) → flow_in reading ≡ Some flow
     → is_in (family_of flow.key) (update_of times reading) ≡ true
 inside_flow times (Framed said) flow has = let f : ⊥ = cc in absurd f
 inside_flow times (Ruled moment tuple ruling) flow has =
-    ap (λ f. is_in (family_of flow.key) (option_map (update_in times moment tuple ruling) f)) has ∙ same_family_refl (family_of flow.key)
+    ap (λ f. is_in (family_of flow.key) (option_map (update_in times moment tuple ruling) f)) has ∙ family_as_itself (family_of flow.key)
 
 -- with so few packets of a family none of them is refused for want of pages
 pub pages_for_few : (d : Deal) (times : Timeouts) (policy : PolicyFacts) (packets : List Seen) (verdicts : List Verdict)

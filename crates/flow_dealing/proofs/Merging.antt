@@ -79,26 +79,25 @@ events_of_call family (Some u) (Some c) calls = go (same_family family (family_o
     go false = refl
 
 module _ (d : Deal) (times : Timeouts) (policy : PolicyFacts) (packets : List Seen) (verdicts : List Verdict) where
+  -- what is known of an item, whichever worker's it is
+  pub record IsSaid (i : Item) : Type 0 where
+    pub item : IsItem d.layout times i
+    pub said : get_elem? verdicts i.packet ≡ some (verdict_in times i)
+
   -- what is known of an item of this worker
   pub record IsOwn (w : ℕ) (i : Item) : Type 0 where
-    pub item : IsItem d.layout times i
+    pub is : IsSaid i
     pub of : IsItemOf d w policy packets i
-    pub said : get_elem? verdicts i.packet ≡ some (verdict_in times i)
 
   -- what is left of a worker's trace from a packet on
   pub record IsLeft (w at : ℕ) (views : List frames.View) (trace : List Item) : Type 0 where
     pub numbers : numbers_of trace ≡ numbers_from d w at views
     pub own : All (IsOwn w) trace
 
-  -- what is known of an item where the packets from this one on are merged
-  pub record IsMerged (i : Item) : Type 0 where
-    pub item : IsItem d.layout times i
-    pub said : get_elem? verdicts i.packet ≡ some (verdict_in times i)
-
   -- the items of the packets from one on, in their order, of which each worker has its own
   pub record AreMerged (at : ℕ) (ps : List Seen) (trace : ℕ → List Item) : Type 0 where
     pub merged : List Item
-    pub each : All IsMerged merged
+    pub each : All IsSaid merged
     pub read : AreReadings policy ps (readings_of (map judged_of merged))
     pub placed : (k : ℕ) (i : Item) → get_elem? merged k ≡ some i → i.packet ≡ at + k
     pub dealt : (family : Family) (w : ℕ) → w < d.workers
@@ -203,7 +202,7 @@ module _ (d : Deal) (times : Timeouts) (policy : PolicyFacts) (packets : List Se
       → AreMerged at ps trace
   merge at [] [] trace some_worker seen same left = record {
     merged = [];
-    each = All-nil IsMerged;
+    each = All-nil IsSaid;
     read = tt;
     placed = λ k i stands. absurd (some-ne-none i (sym stands));
     dealt = λ family w few. ap (λ x. map event_of (calls_in times family x)) (nothing_left (trace w) ((left w few).numbers ∙ numbers-nil d w at))
@@ -223,7 +222,7 @@ module _ (d : Deal) (times : Timeouts) (policy : PolicyFacts) (packets : List Se
       (left_without at view views trace worker refl f left) in
       record {
         merged = f.item ∷ more.merged;
-        each = All-cons IsMerged f.item more.merged (record { item = f.own.item; said = f.own.said }) more.each;
+        each = All-cons IsSaid f.item more.merged f.own.is more.each;
         read = (subst (λ (q : Seen). IsReading policy q f.item.reading) (this f.item.packet f.own.of.packet f.here f.own.of.there) f.own.of.read, more.read);
         placed = next_placed at f.item more.merged f.here more.placed;
         dealt = λ family w few. dealt_with at worker f.item f.rest more.merged trace f.split
@@ -277,9 +276,8 @@ own_items : (d : Deal) (times : Timeouts) (policy : PolicyFacts) (packets : List
     → ArePlaced times packets traces verdicts → (w : ℕ) (t : List Item) → get_elem? traces w ≡ some t → IsTrace d times w policy packets t
     → All (IsOwn d times policy packets verdicts w) t
 own_items d times policy packets traces verdicts placed w t at is = all_from (IsOwn d times policy packets verdicts w) t (λ k i stands. record {
-  item = all_at (IsItem d.layout times) t k i is.items stands;
+  is = record { item = all_at (IsItem d.layout times) t k i is.items stands; said = placed.each w t at k i stands };
   of = all_at (IsItemOf d w policy packets) t k i is.of stands;
-  said = placed.each w t at k i stands;
 })
 
 pub judge_each_packet : (d : Deal) (times : Timeouts) (policy : PolicyFacts) (packets : List Seen) (traces : List (List Item)) (v : Views)
@@ -297,11 +295,11 @@ judge_each_packet d times policy packets traces v verdicts some_worker are gathe
       judged = map judged_of m.merged;
       read = m.read;
       asked = All-map (IsAsked times) judged_of m.merged
-          (All-weaker (IsMerged d times policy packets verdicts) (λ i. IsAsked times (judged_of i)) (λ i is. is.item.asked) m.merged m.each);
+          (All-weaker (IsSaid d times policy packets verdicts) (λ i. IsAsked times (judged_of i)) (λ i is. is.item.asked) m.merged m.each);
       said = same_list times m.merged verdicts
           (placed.count ∙ zip_count (IsReading policy) packets (readings_of (map judged_of m.merged)) m.read ∙ counted m.merged)
           (λ k i at. let e : 0 + k ≡ k = omega arith in ap (get_elem? verdicts) (sym (m.placed k i at ∙ e))
-          ∙ (all_at (IsMerged d times policy packets verdicts) m.merged k i m.each at).said);
+          ∙ (all_at (IsSaid d times policy packets verdicts) m.merged k i m.each at).said);
       views = v;
       recorded = λ family. let g = gathered family in record {
         lawful = g.lawful;

@@ -27,13 +27,14 @@ use Rattle.session_state.specs.declared.timeouts.Timeouts.{Timeouts}
 use Rattle.flow_filter.specs.Updates.{words_of}
 use Rattle.flow_filter.specs.Judged.{AreAsked, IsAsked, Judged}
 use Rattle.flow_filter.specs.OneThread.{Home, bounds_in, events_at, family_of, home_of, same_family, sizes_in}
+use Rattle.flow_filter.proofs.HomeLemmas.{families_are_one}
 use Rattle.flow_dealing.specs.declared.dealing.Dealing.{Dealing}
 use Rattle.flow_dealing.specs.declared.dealing.Dealing.TheVariants.{Bucket}
 use Rattle.flow_dealing.specs.Dealings.{Deal, flow_in, worker_by, worker_of}
 use Rattle.flow_dealing.specs.Runs.{AreRecorded, events_by}
 use Rattle.flow_dealing.proofs.Merging.{events_by-nil, worker_few}
 use Rattle.flow_dealing.proofs.Places.{after_map}
-use Rattle.flow_dealing.proofs.PacketCalls.{IsFlowEvent, add_event-flow, add_flow, add_flow_at, asked_flow, events_by-flow, packet_of_event, same_family_sound, some_worker}
+use Rattle.flow_dealing.proofs.PacketCalls.{IsFlowEvent, add_event-flow, add_flow, add_flow_at, asked_flow, events_by-flow, packet_of_event, some_worker}
 use Rattle.flow_dealing.proofs.Refusals.{legal_call}
 
 -- ---- The worker of a bucket
@@ -125,7 +126,7 @@ module _ (d : Deal) (times : Timeouts) (family : Family) (b w : ℕ)
           ≡ (if s && (b == (home_of d.layout flow.key).bucket) then e ∷ R else R)
       go false is at = stays (worker_of d n (Some flow) == w)
       go true is (inl (test, here)) =
-          let inside : family_of flow.key ≡ family = sym (same_family_sound family (family_of flow.key) is) in
+          let inside : family_of flow.key ≡ family = sym (families_are_one family (family_of flow.key) is) in
           let its_bucket : bucket_of z e.key ≡ b = of_key inside ∙ sym here in
           let mine : (worker_of d n (Some flow) == w) ≡ true = elim (eqb_tells (worker_of d n (Some flow)) w) [
             | inl (hit, _) ↦ hit
@@ -139,7 +140,7 @@ module _ (d : Deal) (times : Timeouts) (family : Family) (b w : ℕ)
           ∙ (ap (λ t. cond t (e ∷ events_on z b E) (events_on z b E)) hit
           ∙ (ap (λ es. e ∷ es) same ∙ ap (λ t. if t then e ∷ R else R) (sym test)))
       go true is (inr (test, apart)) =
-          let inside : family_of flow.key ≡ family = sym (same_family_sound family (family_of flow.key) is) in
+          let inside : family_of flow.key ≡ family = sym (families_are_one family (family_of flow.key) is) in
           let miss : (bucket_of z e.key == b) ≡ false = elim (eqb_tells (bucket_of z e.key) b) [
             | inl (hit, here) ↦ absurd (apart (sym here ∙ of_key inside))
             | inr (miss, _) ↦ miss

@@ -6,7 +6,6 @@ use Rattle.std.proofs.lemmas.List.Elements.{All-head, All-tail}
 use lib.ListN.{get_elem?}
 use mathlib.Core.Option.{some, some-ne-none, some-injective}
 use Rattle.packet_view.specs.declared.tuple.Family.{Family}
-use Rattle.packet_view.specs.declared.tuple.Family.TheVariants.{V4, V6}
 use Rattle.bihash_words.specs.Maps.{Event}
 use Rattle.bihash_steps.specs.Histories.{event_of}
 use Rattle.bihash_steps.specs.declared.view.Call.{Call}
@@ -20,6 +19,7 @@ use Rattle.flow_filter.specs.Readings.{Framed, Reading, Ruled}
 use Rattle.flow_filter.specs.Updates.{update_in, update_of, words_of}
 use Rattle.flow_filter.specs.Judged.{AreAsked, IsAsked, IsAskedBy, Judged}
 use Rattle.flow_filter.specs.OneThread.{Home, Layout, add_event, family_of, home_of, same_family, same_home}
+use Rattle.flow_filter.proofs.HomeLemmas.{families_are_one, family_as_itself}
 use Rattle.flow_dealing.specs.Dealings.{Deal, flow_in, worker_of}
 use Rattle.flow_dealing.specs.Runs.{AreRecorded, add_in, events_by}
 use Rattle.flow_dealing.proofs.Merging.{events_by-cons, events_by-nil, worker_few}
@@ -81,18 +81,6 @@ events_by-flow d times family w n j js = events_by-cons d times family w n j js
     ∙ ap (λ es. cond (worker_of d n (flow_in j.reading) == w) es (events_by d times family w (n + 1) js))
     (add_in-flow family times j.reading j.event (events_by d times family w (n + 1) js))
 
--- ---- Families
-
-pub same_family_sound : (f g : Family) → same_family f g ≡ true → f ≡ g
-same_family_sound V4 V4 e = refl
-same_family_sound V4 V6 e = let f : ⊥ = cc in absurd f
-same_family_sound V6 V4 e = let f : ⊥ = cc in absurd f
-same_family_sound V6 V6 e = refl
-
-pub same_family_refl : (f : Family) → same_family f f ≡ true
-same_family_refl V4 = refl
-same_family_refl V6 = refl
-
 module _ (d : Deal) (times : Timeouts) (family : Family) where
   -- ---- The packet of an event
 
@@ -114,7 +102,7 @@ module _ (d : Deal) (times : Timeouts) (family : Family) where
       go true is zero there = record {
         number = n;
         flow = flow;
-        inside = sym (same_family_sound family (family_of flow.key) is);
+        inside = sym (families_are_one family (family_of flow.key) is);
         key = ap (λ (x : Event). x.key) (sym (some-injective its.0 e there)) ∙ its.2;
         dealt = mine;
       }
@@ -163,7 +151,7 @@ module _ (d : Deal) (times : Timeouts) (family : Family) where
       let E : List Event = events_by d times family w (n + 1) js in
       let first : add_flow family (flow_in x.reading) x.event E ≡ e ∷ E =
       ap₂ (λ f ev. add_flow family f ev E) (ap (λ (y : Judged). flow_in y.reading) same ∙ has) (ap (λ (y : Judged). y.event) same ∙ its)
-      ∙ ap (λ (b : Bool). if b then e ∷ E else E) (ap (same_family family) inside ∙ same_family_refl family) in (
+      ∙ ap (λ (b : Bool). if b then e ∷ E else E) (ap (same_family family) inside ∙ family_as_itself family) in (
         0,
         ap (λ es. get_elem? es 0) (events_by-flow d times family w n x js)
             ∙ (ap (λ (b : Bool). get_elem? (cond b (add_flow family (flow_in x.reading) x.event E) E) 0)

@@ -11,6 +11,7 @@ use Rattle.acl_policy.specs.Policies.{PolicyFacts}
 use Rattle.acl_policy.specs.declared.rule.Action.{Action}
 use Rattle.acl_policy.specs.declared.rule.Action.TheVariants as action
 use Rattle.bihash_words.specs.Maps.{Answers, Bounds, Crowded, Entering, Event, Exhausted, Pairs, Present, effect_of, most_pairs, row_with}
+use Rattle.bihash_words.specs.Refusals.{IsNoRefusal}
 use Rattle.bihash_words.specs.Sizes.{Sizes}
 use Rattle.bihash_words.specs.declared.patch.Change.{Change}
 use Rattle.bihash_words.specs.declared.patch.Change.TheVariants.{Keep, Set, Remove}
@@ -30,7 +31,7 @@ use Rattle.flow_filter.specs.Readings.{Framed, IsReading, IsReadingOf, Reading, 
 use Rattle.flow_filter.specs.Updates.{Update, reflects, update_in, update_of}
 use Rattle.flow_filter.specs.Judged.{IsAskedBy, Judged, verdict_by_event, verdict_on, verdict_with}
 use Rattle.flow_filter.specs.Verdicts.{verdict_by, verdict_entered, verdict_of, verdict_of_rules, verdict_reflected}
-use Rattle.flow_filter.specs.OneThread.{HasPages, IsNoRefusal}
+use Rattle.flow_filter.specs.OneThread.{HasPages}
 use Rattle.flow_dealing.specs.Dealings.{flow_in}
 
 -- ---- On the map

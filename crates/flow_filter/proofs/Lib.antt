@@ -1,1 +1,6 @@
+pub mod HomeLemmas
+pub mod OneThreadLemmas
+pub mod OrderLemmas
+pub mod PassingLemmas
+pub mod ReadingLemmas
 pub mod Rulings

@@ -1,8 +1,11 @@
+pub mod Deciders
 pub mod Filters
 pub mod Judged
 pub mod LazyPatches
 pub mod OneThread
 pub mod PacketFlows
+pub mod Passing
+pub mod PreparedRules
 pub mod Readings
 pub mod Rulesets
 pub mod Updates

@@ -1,5 +1,5 @@
 -- The one-thread filter: what becomes of packets that are judged one after the other (this project's profile).
-use Rattle.std.specs.Prelude.{◌≡◌, ◌≢◌, ◌<◌, ℕ, ◌^◌, ◌==◌, Bool, true, false, ◌&&◌, if◌then◌else◌, List, [], ◌∷◌, Option, Some, None, All}
+use Rattle.std.specs.Prelude.{◌≡◌, ◌<◌, ℕ, ◌^◌, ◌==◌, Bool, true, false, ◌&&◌, if◌then◌else◌, List, [], ◌∷◌, Option, Some, None, All}
 use Rattle.std.specs.Option.{ForSome}
 use Rattle.std.specs.FinMap.{empty}
 use Rattle.packet_view.specs.Captures.{Seen}
@@ -7,10 +7,9 @@ use Rattle.packet_view.specs.declared.tuple.Family.{Family}
 use Rattle.packet_view.specs.declared.tuple.Family.TheVariants.{V4, V6}
 use Rattle.acl_policy.specs.Policies.{PolicyFacts}
 use Rattle.bihash_words.specs.Maps.{Bounds, Event, Pairs}
+use Rattle.bihash_words.specs.Refusals.{IsNoRefusal}
 use Rattle.bihash_words.specs.Runs.{IsRun}
 use Rattle.bihash_words.specs.Sizes.{Sizes, bucket_of, sizes_of}
-use Rattle.bihash_words.specs.declared.patch.Reply.{Reply}
-use Rattle.bihash_words.specs.declared.patch.Reply.TheVariants.{NoPages}
 use Rattle.bihash_words.specs.declared.shape.Shape.{Ghosts}
 use Rattle.session_state.specs.declared.flow.FlowKey.{FlowKey}
 use Rattle.session_state.specs.declared.flow.FlowKey.TheVariants.{Four, Six}
@@ -76,9 +75,6 @@ add_event l home (Some u) (Some e) events = if same_home home (home_of l u.key) 
 abbrev pub events_at : Layout → Timeouts → Home → List Judged → List Event
 events_at l times home [] = []
 events_at l times home (j ∷ js) = add_event l home (update_of times j.reading) j.event (events_at l times home js)
-
-abbrev pub IsNoRefusal : Reply → Type 0
-IsNoRefusal reply = (log2 left : ℕ) → reply ≢ NoPages log2 left
 
 -- the packet was not refused for want of pages
 abbrev pub HasPages : Judged → Type 0

@@ -6,6 +6,7 @@ ghost use Rattle.acl_policy.specs.Matching.{IsDecision};
 ghost use Rattle.flow_filter.specs.Readings.{Ruling};
 ghost use Rattle.flow_filter.specs.Rulesets.{rules_in};
 
+use crate::decider::Decider;
 use crate::filter::ReadyFilter;
 use crate::packet_flow::PacketFlow;
 use crate::ruleset::Ruleset;
@@ -50,6 +51,7 @@ pub struct LazyPatch<'a, D: HasRuling> {
 }
 
 impl<'a, D: HasRuling> LazyPatch<'a, D> {
+    ghost use Rattle.flow_filter.specs.Deciders.{decider_of};
     ghost use Rattle.flow_filter.specs.Filters.{policy_in};
     ghost use Rattle.flow_filter.specs.PacketFlows.{IsRulingOn, update_by};
     ghost use Rattle.flow_filter.specs.Verdicts.{verdict_of};
@@ -88,16 +90,30 @@ impl<'a, D: HasRuling> LazyPatch<'a, D> {
         ruling
     }
 
+    // The rules are asked here alone.
+    fn decider(&self, found: Option<u64>) -> Decider
+        ensures is { result ≡ decider_of (facts_of ⟦<D as HasRuling>⟧ self.now) found D.ruling }
+        ensures few { (ruling : Ruling) → result ≡ Decider.Rules ruling
+            → ForSome ruling (λ decided. decided.0 + 1 < 2 ^ 64) }
+    {
+        let unruled = patch_of(&self.times, &self.packet, None);
+        if unruled.live_session(found).is_some() {
+            return Decider::Session;
+        }
+        Decider::Rules(self.ruling())
+    }
+
     /// The verdict on the packet, by the reply to its update.
     pub fn verdict(&self, reply: Reply) -> Verdict
         ensures { result ≡ verdict_of (facts_of ⟦<D as HasRuling>⟧ self.now) D.ruling (found_by reply) reply }
     {
-        let unruled = patch_of(&self.times, &self.packet, None);
-        if unruled.live_session(found_in(reply)).is_some() {
-            return Verdict::Session;
+        match self.decider(found_in(reply)) {
+            Decider::Session => Verdict::Session,
+            Decider::Rules(ruling) => {
+                let patch = patch_of(&self.times, &self.packet, ruling);
+                verdict_without_session(&patch, ruling, reply)
+            }
         }
-        let ruling = self.ruling();
-        verdict_without_session(&patch_of(&self.times, &self.packet, ruling), ruling, reply)
     }
 }
 
@@ -109,11 +125,11 @@ impl<'a, D: HasRuling> Patch for LazyPatch<'a, D> {
     ghost decision = { λ patch old. decision_of (facts_of ⟦<D as HasRuling>⟧ patch) old };
 
     fn decide(&self, old: Option<u64>) -> Change {
-        let unruled = patch_of(&self.times, &self.packet, None);
-        if unruled.live_session(old).is_some() {
-            return unruled.decide(old);
-        }
-        patch_of(&self.times, &self.packet, self.ruling()).decide(old)
+        let ruling = match self.decider(old) {
+            Decider::Session => None,
+            Decider::Rules(ruling) => ruling,
+        };
+        patch_of(&self.times, &self.packet, ruling).decide(old)
     }
 }
 

@@ -1,17 +1,28 @@
 //! What becomes of a packet: its reading by the rules, the one update that it makes of a session table, and the verdict.
 #![tactic(auto)]
 
+mod decider;
 mod filter;
+mod laws;
 mod lazy_patch;
 mod packet_flow;
+mod prepared_rules;
 mod ruleset;
 mod update;
 mod verdict;
 mod verdicts;
 
 pub use filter::{Filter, ReadyFilter};
+pub use laws::{
+    each_capture_has_one_list_of_verdicts, each_list_is_judged_once, each_packet_has_one_reading,
+    packets_pass_by_rule_or_session,
+};
 pub use lazy_patch::{HasRuling, LazyPatch};
 pub use packet_flow::PacketFlow;
+pub use prepared_rules::PreparedRules;
 pub use ruleset::Ruleset;
 pub use verdict::Verdict;
 pub use verdicts::verdict_of_rules;
+
+#[cfg(test)]
+mod tests;

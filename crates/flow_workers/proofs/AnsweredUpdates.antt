@@ -1,7 +1,8 @@
 -- The reply of an answered call tells what it found.
 use Rattle.std.proofs.Common.{◌≡◌, Bool, true, false, ℕ, List, length, Option, Result, Ok, Err, IfOk, IfErr, refl, subst}
 use Rattle.bihash_words.specs.Maps.{Event, found_by}
-use Rattle.bihash_words.specs.Sizes.{Sizes, bucket_of}
+use Rattle.bihash_words.specs.Sizes.{Sizes, bucket_of, sizes_of}
+use Rattle.bihash_words.specs.declared.shape.Shape.{Ghosts}
 use Rattle.bihash_words.specs.declared.patch.Change.{Change}
 use Rattle.bihash_words.specs.declared.patch.Reply.{Reply}
 use Rattle.bihash_words.proofs.MapLemmas.{found_is_told}
@@ -11,9 +12,10 @@ use Rattle.bihash_steps.specs.Histories.{IsLegal, is_changed}
 use Rattle.bihash_steps.specs.declared.view.View.{View}
 use Rattle.bihash_table.specs.Answers.{entry_of}
 use Rattle.bihash_table.specs.Promise.{IsAnswered, IsUpdated}
+use Rattle.bihash_table.specs.Shortage.{IsShortage}
 use Rattle.bihash_laws.specs.Runs.{IsLawfulAnswer}
 use Rattle.bihash_laws.proofs.AnsweredCalls.{legal}
-use Rattle.flow_workers.specs.Judging.{told}
+use Rattle.flow_workers.specs.Updates.{told}
 
 found_in : (z : Sizes) (v w : View) (e : Event) → IsAnswered z v w e → IsLawfulCaller z w → e.found ≡ found_by e.reply
 found_in z v w e answered lawful = go (is_changed e.reply) refl
@@ -44,3 +46,10 @@ if_ok P Q (Err e) f p = tt
 pub if_err : {T E : Type 0} (P Q : E → Type 0) (r : Result T E) → ((e : E) → P e → Q e) → IfErr r P → IfErr r Q
 if_err P Q (Ok x) f p = tt
 if_err P Q (Err e) f p = f e p
+
+-- a shortage at the key of these words
+pub short_at : {S K : Type 0} (g : Ghosts S K) (w : View) (key : K) (words : List ℕ) (log2 left : ℕ) → key ≡ g.key_of words → g.words_of key ≡ words
+    → IsShortage g w (bucket_of (sizes_of g) (g.words_of key)) key log2 left → IsShortage g w (bucket_of (sizes_of g) words) (g.key_of words) log2 left
+short_at g w key words log2 left made same short =
+    subst (λ k. IsShortage g w (bucket_of (sizes_of g) words) k log2 left) made
+    (subst (λ x. IsShortage g w (bucket_of (sizes_of g) x) key log2 left) same short)

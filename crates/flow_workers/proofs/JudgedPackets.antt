@@ -1,5 +1,5 @@
 -- A packet that was prepared under what the rules say of it is judged by its verdict alone, or by the reply to its update.
-use Rattle.std.proofs.Common.{◌≡◌, ◌∙◌, ℕ, Option, Some, None, ap, refl, sym, subst}
+use Rattle.std.proofs.Common.{◌≡◌, ◌∙◌, ℕ, Some, None, ap, refl, sym, subst}
 use Rattle.packet_view.specs.Captures.{Seen}
 use Rattle.packet_view.specs.Frames as frames
 use Rattle.packet_view.specs.Frames.{IsFrame, View, viewed}
@@ -7,19 +7,19 @@ use Rattle.acl_policy.specs.Policies.{PolicyFacts, rules_of}
 use Rattle.acl_policy.proofs.DecisionLaws.{some_decision}
 use Rattle.bihash_words.specs.Maps.{Event, found_by}
 use Rattle.bihash_words.specs.declared.patch.Reply.{Reply}
-use Rattle.session_state.specs.declared.flow.FlowKey.{FlowKey}
 use Rattle.session_state.specs.declared.timeouts.Timeouts.{Timeouts}
-use Rattle.session_state.specs.Decisions.{PatchFacts, decision_of}
+use Rattle.session_state.specs.Decisions.{decision_of}
 use Rattle.flow_filter.specs.declared.verdict.Verdict.{Verdict}
-use Rattle.flow_filter.specs.Readings.{Framed, IsReading, IsReadingOf, Reading, Ruled, Ruling}
+use Rattle.flow_filter.specs.Readings.{IsReading, IsReadingOf, Reading, Ruling}
 use Rattle.flow_filter.specs.Updates.{Update, update_of, words_of}
 use Rattle.flow_filter.specs.Verdicts.{verdict_of}
-use Rattle.flow_filter.specs.Judged.{IsAskedBy, IsEventOf, Judged, verdict_by_event, verdict_with}
+use Rattle.flow_filter.specs.Judged.{IsAskedBy, verdict_by_event, verdict_with}
 use Rattle.flow_filter.specs.OneThread.{Layout}
 use Rattle.flow_dealing.specs.Views.{Views}
 use Rattle.flow_workers.specs.declared.viewed_packet.ViewedPacket.{ViewedPacket}
-use Rattle.flow_workers.specs.Judging.{IsAway, IsEntered, IsEnteredBy, IsJudged, IsRefused, told}
-use Rattle.flow_workers.specs.Preparing.{IsRulingOn, reading_with}
+use Rattle.flow_workers.specs.Judging.{IsAway, IsEntered, IsEnteredBy, IsJudged, IsRefused}
+use Rattle.flow_workers.specs.Preparing.{IsRuling, reading_with}
+use Rattle.flow_workers.specs.Updates.{told}
 use Rattle.flow_workers.specs.ViewedPackets.{IsViewed}
 
 -- what the rules say of a packet, where they are asked
@@ -29,13 +29,13 @@ ruling_on policy frames.Malformed = None
 ruling_on policy frames.Short = None
 ruling_on policy (frames.Ip direction tuple) = (some_decision (rules_of direction policy) tuple).0
 
-pub is_ruling_on : (policy : PolicyFacts) (view : View) → IsRulingOn policy view (ruling_on policy view)
-is_ruling_on policy frames.NotIp = tt
-is_ruling_on policy frames.Malformed = tt
-is_ruling_on policy frames.Short = tt
-is_ruling_on policy (frames.Ip direction tuple) = (some_decision (rules_of direction policy) tuple).1
+pub is_ruling : (policy : PolicyFacts) (view : View) → IsRuling policy view (ruling_on policy view)
+is_ruling policy frames.NotIp = tt
+is_ruling policy frames.Malformed = tt
+is_ruling policy frames.Short = tt
+is_ruling policy (frames.Ip direction tuple) = (some_decision (rules_of direction policy) tuple).1
 
-reading_of : (policy : PolicyFacts) (moment : ℕ) (view : View) (ruling : Ruling) → IsRulingOn policy view ruling
+reading_of : (policy : PolicyFacts) (moment : ℕ) (view : View) (ruling : Ruling) → IsRuling policy view ruling
     → IsReadingOf policy moment view (reading_with moment view ruling)
 reading_of policy moment frames.NotIp ruling is = refl
 reading_of policy moment frames.Malformed ruling is = refl
@@ -45,16 +45,19 @@ reading_of policy moment (frames.Ip direction tuple) ruling is = (ruling, is, re
 -- a packet that was viewed, under what the rules say of it
 pub record IsRuled (policy : PolicyFacts) (s : Seen) (p : ViewedPacket) (ruling : Ruling) : Type 0 where
   pub seen : IsViewed policy.own s p
-  pub ruled : IsRulingOn policy (viewed p.frame) ruling
+  pub ruled : IsRuling policy (viewed p.frame) ruling
 
 abbrev pub reading_in : ViewedPacket → Ruling → Reading
 reading_in p ruling = reading_with p.moment (viewed p.frame) ruling
 
 reads : (policy : PolicyFacts) (s : Seen) (p : ViewedPacket) (ruling : Ruling) → IsRuled policy s p ruling
     → IsReading policy s (reading_in p ruling)
-reads policy s p ruling is = (viewed p.frame, is.seen.1,
+reads policy s p ruling is = (
+  viewed p.frame,
+  is.seen.1,
   subst (λ moment. IsReadingOf policy moment (viewed p.frame) (reading_in p ruling)) (sym is.seen.0)
-  (reading_of policy p.moment (viewed p.frame) ruling is.ruled))
+      (reading_of policy p.moment (viewed p.frame) ruling is.ruled),
+)
 
 pub settled : (l : Layout) (times : Timeouts) (policy : PolicyFacts) (s : Seen) (p : ViewedPacket) (ruling : Ruling) (v : Views) (verdict : Verdict)
     → IsRuled policy s p ruling

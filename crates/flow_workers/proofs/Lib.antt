@@ -3,5 +3,6 @@ pub mod JudgedPackets
 pub mod NumberLemmas
 pub mod PartLemmas
 pub mod PlacingLemmas
+pub mod ShortPackets
 pub mod TurnLemmas
 pub mod WorkSteps

@@ -1,10 +1,7 @@
 -- What judging one packet leaves of the callers.
-use Rattle.std.specs.Prelude.{◌≡◌, ℕ, List, Option, Some, None}
-use Rattle.bihash_words.specs.Maps.{Event, found_by}
+use Rattle.std.specs.Prelude.{◌≡◌, Option, Some, None}
+use Rattle.bihash_words.specs.Maps.{Event}
 use Rattle.bihash_words.specs.Sizes.{bucket_of}
-use Rattle.bihash_words.specs.declared.patch.Change.{Change}
-use Rattle.bihash_words.specs.declared.patch.Reply.{Reply}
-use Rattle.bihash_table.specs.Answers as table
 use Rattle.bihash_table.specs.Promise.{IsAnswered, IsTurnedAway}
 use Rattle.packet_view.specs.Captures.{Seen}
 use Rattle.acl_policy.specs.Policies.{PolicyFacts}
@@ -17,10 +14,6 @@ use Rattle.flow_filter.specs.Updates.{Update, update_of}
 use Rattle.flow_filter.specs.Judged.{IsAsked, Judged, verdict_on}
 use Rattle.flow_filter.specs.OneThread.{Layout}
 use Rattle.flow_dealing.specs.Views.{Views}
-
--- an update of a key by this decision, on the value that its reply tells
-abbrev pub told : List ℕ → (Option ℕ → Change) → Reply → Event
-told key decision reply = table.update_of key (found_by reply) decision reply
 
 -- the event was one call of the caller of its key's family; the other caller made none
 abbrev pub IsEntered : Layout → FlowKey → Event → Views → Views → Type 0

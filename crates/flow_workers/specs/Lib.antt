@@ -5,6 +5,9 @@ pub mod Judging
 pub mod Parts
 pub mod Placing
 pub mod Preparing
+pub mod Shortages
 pub mod Turns
+pub mod Updates
+pub mod Verdicts
 pub mod ViewedPackets
 pub mod Work

@@ -15,11 +15,11 @@ use Rattle.flow_workers.specs.declared.prepared.Prepared.{Prepared}
 use Rattle.flow_workers.specs.declared.prepared.Prepared.TheVariants.{Settled, Asks}
 
 -- the rules say this of a packet whose frame turns out to be this
-abbrev pub IsRulingOn : PolicyFacts → View → Ruling → Type 0
-IsRulingOn policy frames.NotIp ruling = Unit {0}
-IsRulingOn policy frames.Malformed ruling = Unit {0}
-IsRulingOn policy frames.Short ruling = Unit {0}
-IsRulingOn policy (frames.Ip direction tuple) ruling = IsDecision (rules_of direction policy) tuple ruling
+abbrev pub IsRuling : PolicyFacts → View → Ruling → Type 0
+IsRuling policy frames.NotIp ruling = Unit {0}
+IsRuling policy frames.Malformed ruling = Unit {0}
+IsRuling policy frames.Short ruling = Unit {0}
+IsRuling policy (frames.Ip direction tuple) ruling = IsDecision (rules_of direction policy) tuple ruling
 
 -- its reading then
 abbrev pub reading_with : ℕ → View → Ruling → Reading

@@ -4,10 +4,9 @@ ghost use Rattle.packet_view.specs.Captures.{Seen, seen};
 ghost use Rattle.packet_view.specs.Frames.{viewed};
 ghost use Rattle.acl_policy.specs.Policies.{policy_facts};
 ghost use Rattle.flow_filter.specs.Filters.{policy_in};
-ghost use Rattle.flow_filter.specs.OneThread.{layout_of};
-ghost use Rattle.flow_workers.specs.Callers.{AreIdle, AreSame, AreShapes, views_of};
-ghost use Rattle.flow_workers.specs.Judging.{IsJudged, IsRefused};
-ghost use Rattle.flow_workers.specs.Preparing.{IsRulingOn};
+ghost use Rattle.flow_workers.specs.Callers.{AreIdle, AreSame, AreShapes};
+ghost use Rattle.flow_workers.specs.Preparing.{IsRuling};
+ghost use Rattle.flow_workers.specs.Verdicts.{HasNoVerdict, HasVerdict, ShowsShortage};
 ghost use Rattle.flow_workers.specs.ViewedPackets.{IsViewed};
 
 use crate::prepared::Prepared;
@@ -30,15 +29,15 @@ fn try_judge_as<A: Shape, B: Shape, D: HasRuling>(
 ) -> Result<Verdict, Contended>
     requires shapes { AreShapes ⟦<A as Shape>⟧ ⟦<B as Shape>⟧ }
     requires idle { AreIdle ⟦<A as Shape>⟧ ⟦<B as Shape>⟧ tables.now callers.old }
-    requires ruling { IsRulingOn (policy_in filter.now) (viewed packet.now.frame) D.ruling }
+    requires ruling { IsRuling (policy_in filter.now) (viewed packet.now.frame) D.ruling }
     ensures same { AreSame ⟦<A as Shape>⟧ ⟦<B as Shape>⟧ callers.old callers.new }
     ensures idle { AreIdle ⟦<A as Shape>⟧ ⟦<B as Shape>⟧ tables.now callers.new }
     ensures judged { IfOk result (λ verdict. (s : Seen) → IsViewed filter.now.own s packet.now
-        → IsJudged (layout_of ⟦<A as Shape>⟧ ⟦<B as Shape>⟧) filter.now.times (policy_in filter.now) s
-        (views_of ⟦<A as Shape>⟧ ⟦<B as Shape>⟧ callers.old) (views_of ⟦<A as Shape>⟧ ⟦<B as Shape>⟧ callers.new) verdict) }
+        → HasVerdict ⟦<A as Shape>⟧ ⟦<B as Shape>⟧ filter.now.times (policy_in filter.now) s callers.old callers.new verdict) }
+    ensures no_pages { IfOk result (λ verdict. (s : Seen) → IsViewed filter.now.own s packet.now
+        → ShowsShortage ⟦<A as Shape>⟧ ⟦<B as Shape>⟧ (policy_in filter.now) s callers.new verdict) }
     ensures refused { IfErr result (λ _. (s : Seen) → IsViewed filter.now.own s packet.now
-        → IsRefused (layout_of ⟦<A as Shape>⟧ ⟦<B as Shape>⟧) filter.now.times (policy_in filter.now) s
-        (views_of ⟦<A as Shape>⟧ ⟦<B as Shape>⟧ callers.old) (views_of ⟦<A as Shape>⟧ ⟦<B as Shape>⟧ callers.new)) }
+        → HasNoVerdict ⟦<A as Shape>⟧ ⟦<B as Shape>⟧ filter.now.times (policy_in filter.now) s callers.old callers.new) }
     ensures lone { callers.old.four.seat.view.lone ≡ true → callers.old.six.seat.view.lone ≡ true
         → is_ok result ≡ true }
 {
@@ -61,12 +60,13 @@ fn judge_as<A: Shape, B: Shape, D: HasRuling, R: Wait>(
 ) -> Verdict
     requires shapes { AreShapes ⟦<A as Shape>⟧ ⟦<B as Shape>⟧ }
     requires idle { AreIdle ⟦<A as Shape>⟧ ⟦<B as Shape>⟧ tables.now callers.old }
-    requires ruling { IsRulingOn (policy_in filter.now) (viewed packet.now.frame) D.ruling }
+    requires ruling { IsRuling (policy_in filter.now) (viewed packet.now.frame) D.ruling }
     ensures same { AreSame ⟦<A as Shape>⟧ ⟦<B as Shape>⟧ callers.old callers.new }
     ensures idle { AreIdle ⟦<A as Shape>⟧ ⟦<B as Shape>⟧ tables.now callers.new }
     ensures judged { (s : Seen) → IsViewed filter.now.own s packet.now
-        → IsJudged (layout_of ⟦<A as Shape>⟧ ⟦<B as Shape>⟧) filter.now.times (policy_in filter.now) s
-        (views_of ⟦<A as Shape>⟧ ⟦<B as Shape>⟧ callers.old) (views_of ⟦<A as Shape>⟧ ⟦<B as Shape>⟧ callers.new) result }
+        → HasVerdict ⟦<A as Shape>⟧ ⟦<B as Shape>⟧ filter.now.times (policy_in filter.now) s callers.old callers.new result }
+    ensures no_pages { (s : Seen) → IsViewed filter.now.own s packet.now
+        → ShowsShortage ⟦<A as Shape>⟧ ⟦<B as Shape>⟧ (policy_in filter.now) s callers.new result }
 {
     match Prepared::<D>::new(filter, packet) {
         Prepared::Settled(verdict) => verdict,
@@ -90,8 +90,9 @@ pub fn judge_viewed<A: Shape, B: Shape, R: Wait>(
     ensures same { AreSame ⟦<A as Shape>⟧ ⟦<B as Shape>⟧ callers.old callers.new }
     ensures idle { AreIdle ⟦<A as Shape>⟧ ⟦<B as Shape>⟧ tables.now callers.new }
     ensures judged { (s : Seen) → IsViewed filter.now.own s packet.now
-        → IsJudged (layout_of ⟦<A as Shape>⟧ ⟦<B as Shape>⟧) filter.now.times (policy_in filter.now) s
-        (views_of ⟦<A as Shape>⟧ ⟦<B as Shape>⟧ callers.old) (views_of ⟦<A as Shape>⟧ ⟦<B as Shape>⟧ callers.new) result }
+        → HasVerdict ⟦<A as Shape>⟧ ⟦<B as Shape>⟧ filter.now.times (policy_in filter.now) s callers.old callers.new result }
+    ensures no_pages { (s : Seen) → IsViewed filter.now.own s packet.now
+        → ShowsShortage ⟦<A as Shape>⟧ ⟦<B as Shape>⟧ (policy_in filter.now) s callers.new result }
 {
     judge_as::<A, B, Brand, R>(rt, filter, tables, callers, packet)
 }
@@ -108,8 +109,10 @@ pub fn judge<A: Shape, B: Shape, R: Wait>(
     requires idle { AreIdle ⟦<A as Shape>⟧ ⟦<B as Shape>⟧ tables.now callers.old }
     ensures same { AreSame ⟦<A as Shape>⟧ ⟦<B as Shape>⟧ callers.old callers.new }
     ensures idle { AreIdle ⟦<A as Shape>⟧ ⟦<B as Shape>⟧ tables.now callers.new }
-    ensures judged { IsJudged (layout_of ⟦<A as Shape>⟧ ⟦<B as Shape>⟧) filter.now.times (policy_facts filter.now.policy)
-        (seen packet.now) (views_of ⟦<A as Shape>⟧ ⟦<B as Shape>⟧ callers.old) (views_of ⟦<A as Shape>⟧ ⟦<B as Shape>⟧ callers.new) result }
+    ensures judged { HasVerdict ⟦<A as Shape>⟧ ⟦<B as Shape>⟧ filter.now.times (policy_facts filter.now.policy) (seen packet.now)
+        callers.old callers.new result }
+    ensures no_pages { ShowsShortage ⟦<A as Shape>⟧ ⟦<B as Shape>⟧ (policy_facts filter.now.policy) (seen packet.now)
+        callers.new result }
 {
     let filter = filter.ready();
     let packet = ViewedPacket::new(packet, filter.own);
@@ -128,12 +131,12 @@ pub fn try_judge<A: Shape, B: Shape>(
     requires idle { AreIdle ⟦<A as Shape>⟧ ⟦<B as Shape>⟧ tables.now callers.old }
     ensures same { AreSame ⟦<A as Shape>⟧ ⟦<B as Shape>⟧ callers.old callers.new }
     ensures idle { AreIdle ⟦<A as Shape>⟧ ⟦<B as Shape>⟧ tables.now callers.new }
-    ensures judged { IfOk result (λ verdict. IsJudged (layout_of ⟦<A as Shape>⟧ ⟦<B as Shape>⟧) filter.now.times
-        (policy_facts filter.now.policy) (seen packet.now)
-        (views_of ⟦<A as Shape>⟧ ⟦<B as Shape>⟧ callers.old) (views_of ⟦<A as Shape>⟧ ⟦<B as Shape>⟧ callers.new) verdict) }
-    ensures refused { IfErr result (λ _. IsRefused (layout_of ⟦<A as Shape>⟧ ⟦<B as Shape>⟧) filter.now.times
-        (policy_facts filter.now.policy) (seen packet.now)
-        (views_of ⟦<A as Shape>⟧ ⟦<B as Shape>⟧ callers.old) (views_of ⟦<A as Shape>⟧ ⟦<B as Shape>⟧ callers.new)) }
+    ensures judged { IfOk result (HasVerdict ⟦<A as Shape>⟧ ⟦<B as Shape>⟧ filter.now.times (policy_facts filter.now.policy)
+        (seen packet.now) callers.old callers.new) }
+    ensures no_pages { IfOk result (ShowsShortage ⟦<A as Shape>⟧ ⟦<B as Shape>⟧ (policy_facts filter.now.policy)
+        (seen packet.now) callers.new) }
+    ensures refused { IfErr result (λ _. HasNoVerdict ⟦<A as Shape>⟧ ⟦<B as Shape>⟧ filter.now.times (policy_facts filter.now.policy)
+        (seen packet.now) callers.old callers.new) }
     ensures lone { callers.old.four.seat.view.lone ≡ true → callers.old.six.seat.view.lone ≡ true
         → is_ok result ≡ true }
 {

@@ -17,11 +17,11 @@ pub enum Prepared<'a, D: HasRuling> {
 impl<'a, D: HasRuling> Prepared<'a, D> {
     ghost use Rattle.packet_view.specs.Frames.{viewed};
     ghost use Rattle.flow_filter.specs.Filters.{policy_in};
-    ghost use Rattle.flow_workers.specs.Preparing.{IsPrepared, IsRulingOn, reading_with};
+    ghost use Rattle.flow_workers.specs.Preparing.{IsPrepared, IsRuling, reading_with};
 
     /// The rules are asked here only where the packet takes no part in sessions.
     pub fn new(filter: &ReadyFilter<'a>, packet: &'a ViewedPacket) -> Prepared<'a, D>
-        requires { IsRulingOn (policy_in filter.now) (viewed packet.now.frame) D.ruling }
+        requires { IsRuling (policy_in filter.now) (viewed packet.now.frame) D.ruling }
         ensures { IsPrepared ⟦<D as HasRuling>⟧ filter.now.times
             (reading_with packet.now.moment (viewed packet.now.frame) D.ruling) result }
     {

@@ -1,14 +1,18 @@
 //! One update of the table of a key's family: a try, and one that waits for its turn.
-ghost use Rattle.std.specs.Prelude.{◌≡◌, true, length, IfOk, IfErr, is_ok};
+ghost use Rattle.std.specs.Prelude.{◌≡◌, ℕ, true, length, IfOk, IfErr, is_ok};
 ghost use Rattle.bihash_words.specs.Sizes.{bucket_of, sizes_of};
+ghost use Rattle.bihash_words.specs.declared.patch.Reply.TheVariants.{NoPages};
 ghost use Rattle.bihash_steps.specs.Callers.{IsLawfulCaller};
 ghost use Rattle.bihash_steps.specs.Seats.{with_view};
 ghost use Rattle.bihash_steps.specs.Views.{nothing_held};
 ghost use Rattle.bihash_table.specs.Promise.{IsAnswered, IsTurnedAway};
+ghost use Rattle.bihash_table.specs.Shortage.{IsShortage};
 ghost use Rattle.flow_filter.specs.OneThread.{layout_of};
 ghost use Rattle.flow_filter.specs.Updates.{words_of};
 ghost use Rattle.flow_workers.specs.Callers.{AreIdle, AreSame, AreShapes, views_of};
-ghost use Rattle.flow_workers.specs.Judging.{IsAway, IsEntered, told};
+ghost use Rattle.flow_workers.specs.Judging.{IsAway, IsEntered};
+ghost use Rattle.flow_workers.specs.Shortages.{IsShortAt};
+ghost use Rattle.flow_workers.specs.Updates.{told};
 
 use crate::tables::{Callers, Tables};
 use bihash_table::{Caller, Contended, Sessions};
@@ -29,6 +33,8 @@ fn try_update_in<S: Shape, P: Patch>(
     ensures same { caller.new.seat ≡ with_view caller.old.seat caller.new.seat.view }
     ensures answered { IfOk result (λ reply. IsAnswered (sizes_of S.Shape) caller.old.seat.view caller.new.seat.view
         (told words.now (P.decision patch.now) reply)) }
+    ensures no_pages { IfOk result (λ reply. (log2 left : ℕ) → reply ≡ NoPages log2 left → IsShortage ⟦<S as Shape>⟧
+        caller.new.seat.view (bucket_of (sizes_of S.Shape) words.now) (S.key_of words.now) log2 left) }
     ensures contended { IfErr result (λ _. IsTurnedAway (sizes_of S.Shape) caller.old.seat.view caller.new.seat.view
         (bucket_of (sizes_of S.Shape) words.now)) }
     ensures lone { caller.old.seat.view.lone ≡ true → is_ok result ≡ true }
@@ -51,6 +57,8 @@ fn update_in<S: Shape, P: Patch, R: Wait>(
     ensures same { caller.new.seat ≡ with_view caller.old.seat caller.new.seat.view }
     ensures answered { IsAnswered (sizes_of S.Shape) caller.old.seat.view caller.new.seat.view
         (told words.now (P.decision patch.now) result) }
+    ensures no_pages { (log2 left : ℕ) → result ≡ NoPages log2 left → IsShortage ⟦<S as Shape>⟧
+        caller.new.seat.view (bucket_of (sizes_of S.Shape) words.now) (S.key_of words.now) log2 left }
     ensures lawful { IsLawfulCaller (sizes_of S.Shape) caller.new.seat.view }
 {
     table.update(rt, caller, &S::key(words), patch)
@@ -70,6 +78,8 @@ pub fn try_update<A: Shape, B: Shape, P: Patch>(
     ensures entered { IfOk result (λ reply. IsEntered (layout_of ⟦<A as Shape>⟧ ⟦<B as Shape>⟧) key
         (told (words_of key) (P.decision patch.now) reply)
         (views_of ⟦<A as Shape>⟧ ⟦<B as Shape>⟧ callers.old) (views_of ⟦<A as Shape>⟧ ⟦<B as Shape>⟧ callers.new)) }
+    ensures no_pages { IfOk result (λ reply. (log2 left : ℕ) → reply ≡ NoPages log2 left
+        → IsShortAt ⟦<A as Shape>⟧ ⟦<B as Shape>⟧ key (views_of ⟦<A as Shape>⟧ ⟦<B as Shape>⟧ callers.new) log2 left) }
     ensures contended { IfErr result (λ _. IsAway (layout_of ⟦<A as Shape>⟧ ⟦<B as Shape>⟧) key
         (views_of ⟦<A as Shape>⟧ ⟦<B as Shape>⟧ callers.old) (views_of ⟦<A as Shape>⟧ ⟦<B as Shape>⟧ callers.new)) }
     ensures lone { callers.old.four.seat.view.lone ≡ true → callers.old.six.seat.view.lone ≡ true
@@ -100,6 +110,8 @@ pub fn update<A: Shape, B: Shape, P: Patch, R: Wait>(
     ensures entered { IsEntered (layout_of ⟦<A as Shape>⟧ ⟦<B as Shape>⟧) key
         (told (words_of key) (P.decision patch.now) result)
         (views_of ⟦<A as Shape>⟧ ⟦<B as Shape>⟧ callers.old) (views_of ⟦<A as Shape>⟧ ⟦<B as Shape>⟧ callers.new) }
+    ensures no_pages { (log2 left : ℕ) → result ≡ NoPages log2 left
+        → IsShortAt ⟦<A as Shape>⟧ ⟦<B as Shape>⟧ key (views_of ⟦<A as Shape>⟧ ⟦<B as Shape>⟧ callers.new) log2 left }
 {
     match key {
         FlowKey::Four(words) => {

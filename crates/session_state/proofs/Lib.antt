@@ -3,6 +3,7 @@ pub mod EndLemmas
 pub mod FlagLemmas
 pub mod FlowLemmas
 pub mod KeyLemmas
+pub mod LiveLemmas
 pub mod SameFlowLemmas
 pub mod SessionLemmas
 pub mod SideLemmas

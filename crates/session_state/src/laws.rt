@@ -1,10 +1,10 @@
 //! What follows from the definitions, for every packet and every session.
 //!
 //! The functions do nothing: their contracts are the laws.
-ghost use Rattle.std.specs.Prelude.{◌≡◌, ◌≢◌, ◌≤◌, ◌+◌, ℕ, Option, Some, IsSome, false};
+ghost use Rattle.std.specs.Prelude.{◌≡◌, ◌≢◌, ◌≤◌, ◌+◌, ◌↔◌, ℕ, Option, Some, IsSome, true, false};
 ghost use Rattle.bihash_words.specs.declared.patch.Change.TheVariants.{Set};
 ghost use Rattle.packet_view.specs.Tuples.{Facts, facts};
-ghost use Rattle.session_state.specs.Decisions.{PatchFacts, decision_of, is_live_for};
+ghost use Rattle.session_state.specs.Decisions.{IsLiveFor, PatchFacts, decision_of, is_live_for};
 ghost use Rattle.session_state.specs.Flows.{IsEchoReply, IsFlow, flow_of, receiver_of, sender_of};
 ghost use Rattle.session_state.specs.SameFlow.{AreFlows, IsAnswer, IsTuple, SameFlow};
 ghost use Rattle.session_state.specs.Sessions.{IsLive, IsSession, SessionFacts, session_of, session_word, timeout_of, touched_session};
@@ -72,4 +72,11 @@ pub fn last_never_falls()
         → (touched_session s moment side flags).last ≡ s.last }
     ensures later { (s : SessionFacts) (moment side flags : ℕ) → s.last ≤ moment
         → (touched_session s moment side flags).last ≡ moment }
+{}
+
+/// The test for a live session tells whether the value is one's word.
+#[tactic(auto, using(crate::proofs::LiveLemmas::live_told))]
+pub fn tests_tell_live_sessions()
+    ensures { (packet : PatchFacts) (old : Option ℕ)
+        → (is_live_for packet old ≡ true) ↔ ((session : SessionFacts) × IsLiveFor packet old session) }
 {}

@@ -12,7 +12,8 @@ mod timeouts;
 pub use flow::{Flow, FlowKey, orient};
 pub use laws::{
     both_directions_share_a_key, keys_tell_flows, last_never_falls, last_second_counts,
-    replies_start_nothing, sides_tell_senders, tuples_are_in_range, words_tell_sessions,
+    replies_start_nothing, sides_tell_senders, tests_tell_live_sessions, tuples_are_in_range,
+    words_tell_sessions,
 };
 pub use packet_patch::PacketPatch;
 pub use session::Session;

@@ -90,8 +90,8 @@ fn udp_outcome(action: Action, moment: u32, reply: Reply, found: Option<u64>) ->
     let rules = [udp_rule(action)];
     let filter = ReadyFilter {
         own: None,
-        inbound: Ruleset::new(&rules),
-        outbound: Ruleset::new(&[]),
+        inbound: Ruleset::Listed(&rules),
+        outbound: Ruleset::Listed(&[]),
         times: TIMES,
     };
     let tuple = udp();
@@ -133,6 +133,37 @@ fn reflecting_rule_enters_a_session(rt: HostRuntime) {
             change: Change::Set(7),
             asked: true,
             verdict: Verdict::Reflect(1),
+        })
+    );
+}
+
+#[test]
+fn reflecting_rule_without_place_drops(rt: HostRuntime) {
+    let refused = [
+        (Reply::Worn(None), Verdict::Worn),
+        (Reply::Full, Verdict::Full),
+        (Reply::NoPages { log2: 1, left: 1 }, Verdict::NoPages),
+    ];
+    for (reply, verdict) in refused {
+        assert_eq!(rt;
+            udp_outcome(Action::Reflect, 7, reply, None),
+            Some(Outcome {
+                change: Change::Set(7),
+                asked: true,
+                verdict,
+            })
+        );
+    }
+}
+
+#[test]
+fn permitted_packet_starts_no_session(rt: HostRuntime) {
+    assert_eq!(rt;
+        udp_outcome(Action::Permit, 7, Reply::Kept(None), None),
+        Some(Outcome {
+            change: Change::Keep,
+            asked: true,
+            verdict: Verdict::Permit(1),
         })
     );
 }

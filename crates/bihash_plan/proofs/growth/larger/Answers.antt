@@ -1,4 +1,4 @@
-use Rattle.std.proofs.Common.{arith, sym, ◌∙◌}
+use Rattle.std.proofs.Common.{◌≢◌, arith, eq-eqb, length, sym, ◌∙◌}
 use Rattle.std.proofs.lemmas.Bool.{false≢true}
 use Rattle.bihash_plan.specs.Pages.{paging_of}
 use Rattle.bihash_plan.proofs.PlanLemmas.{exhausted}
@@ -9,7 +9,7 @@ pub returns-clause-exact : goal.returns-clause-exact
 returns-clause-exact g c = λ lawful new crowded. (
   new,
   crowded,
-  exhausted (paging_of g.S.Shape) _ _ _ _ c.requires.block (omega arith)
+  exhausted (paging_of g.S.Shape) _ _ _ _ (let some : length c.args.places.now ≢ 0 = λ none. false≢true (c.if-is_empty.ensures ∙ eq-eqb _ _ none) in omega arith) (omega arith)
       (λ can. elim c.else-not-linear.branch [
         | else-not-linear-via-then-not-linear+else-has_free_place w ↦ false≢true
             (w.if-has_free_place.ensures.1 can.2)

@@ -1,12 +1,7 @@
 use Rattle.bihash_plan.proofs.OpenPlaces.{crowded_from_open, first_free_from_open, new_from_open}
-use Rattle.std.proofs.Common.{inr, sym}
-use Rattle.std.proofs.lemmas.Bool.{eqb-true}
-use Rattle.bihash_plan.proofs.PlanLemmas.{full_exactly, plan_only, plan_without_block}
+use Rattle.std.proofs.Common.{inr}
+use Rattle.bihash_plan.proofs.PlanLemmas.{full_exactly, plan_only}
 use Rattle.bihash_plan.proofs.growth.plan.Goals as goal
-
-pub returns-then-is_empty-clause-full : goal.returns-then-is_empty-clause-full
-returns-then-is_empty-clause-full g c = λ lawful.
-    full_exactly _ _ _ _ _ _ lawful (plan_without_block _ _ _ _ _ (eqb-true _ _ (sym c.if-is_empty.ensures)))
 
 pub returns-in-Some-free_place-clause-exact : goal.returns-in-Some-free_place-clause-exact
 returns-in-Some-free_place-clause-exact g c = λ lawful. inr (

@@ -43,7 +43,9 @@ returns g c = record {
       c.requires.block.2 in
       let p = placed g.S.Shape c.args.seat.now c.loop-i.seat c.store_held-2.new.caller c.args.page c.args.place
       c.WORDS.result c.WORDS-2.result c.loop-i.i c.args.value h c.args.key.now has there c.WORDS.ensures
-      c.WORDS-2.ensures (omega arith) (c.loop-i.invariant.counted (omega arith)) (c.loop-i.invariant.stored h has)
+      c.WORDS-2.ensures (λ taken. let all = c.shown_words-i-end.ensures.all taken in omega arith)
+      (λ taken. let all = c.shown_words-i-end.ensures.all taken in c.loop-i.invariant.counted (omega arith))
+      (c.loop-i.invariant.stored h has)
       c.store_held-2.ensures in
       (p.words, p.is, p.long, p.key_is, p.value_is, p.before);
 }

@@ -1,4 +1,4 @@
-use Rattle.std.proofs.Common.{◌∙◌, ap}
+use Rattle.std.proofs.Common.{◌∙◌, ap, sym}
 use Rattle.bihash_words.specs.Sizes.{sizes_of}
 use Rattle.bihash_steps.specs.Seats.{CallerState}
 use Rattle.bihash_steps.specs.declared.view.Holdings.{Holdings}
@@ -10,7 +10,7 @@ use Rattle.bihash_table.proofs.change.overwrite.Goals as goal
 pub store_word-requires-clause-place : goal.store_word-requires-clause-place
 store_word-requires-clause-place g c =
     let lock = c.requires.lock in
-    holds_place (sizes_of g.S.Shape) c.args.caller.now.view c.args.bucket c.args.word lock.0 lock.1 c.args.place lock.2.pair.0
+    holds_place (sizes_of g.S.Shape) c.args.seat.now.view c.args.seen.now.site.bucket c.args.seen.now.word lock.0 lock.1 c.args.pair.0 lock.2.pair.0
 
 pub publish-requires-clause-own : goal.publish-requires-clause-own
 publish-requires-clause-own g c =
@@ -21,25 +21,25 @@ pub publish-requires-clause-may : goal.publish-requires-clause-may
 publish-requires-clause-may g c =
     let lock = c.requires.lock in
     let step = c.store_word.ensures lock.0 (ap (λ (h : Holdings). h.bucket) lock.1.held) in
-    may_overwrite (sizes_of g.S.Shape) c.args.caller.now.view c.args.bucket c.args.word lock.0 lock.1
-    (g.S.Shape.words_of c.args.key.now) c.requires.counted c.requires.home c.requires.unworn
-    c.args.place c.args.found lock.2 lock.3 c.args.value c.requires.other c.requires.storable c.store_word.new.caller.view
-    (value_is_stored (sizes_of g.S.Shape) c.args.caller.now c.store_word.new.caller lock.0
-    c.args.place c.args.value c.WORDS.result c.WORDS.ensures step)
+    may_overwrite (sizes_of g.S.Shape) c.args.seat.now.view c.args.seen.now.site.bucket c.args.seen.now.word lock.0 lock.1
+    (g.S.Shape.words_of c.args.seen.now.site.key.now) c.args.seen.now.site.counted (sym c.args.seen.now.site.home) c.requires.unworn
+    c.args.pair.0 c.args.pair.1 lock.2 lock.3 c.args.value c.requires.other c.requires.storable c.store_word.new.seat.view
+    (value_is_stored (sizes_of g.S.Shape) c.args.seat.now c.store_word.new.seat lock.0
+    c.args.pair.0 c.args.value c.WORDS.result c.WORDS.ensures step)
 
 pub returns-clause-same : goal.returns-clause-same
 returns-clause-same g c =
     let step = c.store_word.ensures c.requires.lock.0 (ap (λ (h : Holdings). h.bucket) c.requires.lock.1.held) in
-    same_through c.args.caller.now c.store_word.new.caller c.publish.new.caller _
-    (same_but_view c.args.caller.now c.store_word.new.caller _ step) c.publish.ensures.view
+    same_through c.args.seat.now c.store_word.new.seat c.publish.new.caller _
+    (same_but_view c.args.seat.now c.store_word.new.seat _ step) c.publish.ensures.view
 
 pub returns-clause-answered : goal.returns-clause-answered
 returns-clause-answered g c =
     let lock = c.requires.lock in
     let step = c.store_word.ensures lock.0 (ap (λ (h : Holdings). h.bucket) lock.1.held) in
-    overwritten (sizes_of g.S.Shape) c.args.caller.now.view c.args.bucket c.args.word lock.0 lock.1
-    (g.S.Shape.words_of c.args.key.now) c.requires.counted c.requires.home c.requires.unworn
-    c.args.place c.args.found lock.2 lock.3 c.args.value c.requires.other c.requires.storable c.store_word.new.caller.view
-    (value_is_stored (sizes_of g.S.Shape) c.args.caller.now c.store_word.new.caller lock.0
-    c.args.place c.args.value c.WORDS.result c.WORDS.ensures step)
-    c.publish.new.caller.view (view_is c.store_word.new.caller c.publish.new.caller _ c.publish.ensures.view)
+    overwritten (sizes_of g.S.Shape) c.args.seat.now.view c.args.seen.now.site.bucket c.args.seen.now.word lock.0 lock.1
+    (g.S.Shape.words_of c.args.seen.now.site.key.now) c.args.seen.now.site.counted (sym c.args.seen.now.site.home) c.requires.unworn
+    c.args.pair.0 c.args.pair.1 lock.2 lock.3 c.args.value c.requires.other c.requires.storable c.store_word.new.seat.view
+    (value_is_stored (sizes_of g.S.Shape) c.args.seat.now c.store_word.new.seat lock.0
+    c.args.pair.0 c.args.value c.WORDS.result c.WORDS.ensures step)
+    c.publish.new.caller.view (view_is c.store_word.new.seat c.publish.new.caller _ c.publish.ensures.view)

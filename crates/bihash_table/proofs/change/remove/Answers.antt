@@ -34,12 +34,6 @@ remove_last-requires-clause-lock g c =
       subst (λ (t : Bool). OtherPairTells z l.extent l.now c.args.pair.0 t) c.if-not-other.true told.1,
     )
 
-pub remove_last-requires-clause-home : goal.remove_last-requires-clause-home
-remove_last-requires-clause-home g c = sym c.args.seen.now.site.home
-
-pub remove_last-requires-clause-counted : goal.remove_last-requires-clause-counted
-remove_last-requires-clause-counted g c = c.args.seen.now.site.counted
-
 pub remove_last-requires-clause-unworn : goal.remove_last-requires-clause-unworn
 remove_last-requires-clause-unworn g c = let k = c.lock_seen.ensures.locked c.if-not-lock_seen.false in
     subst (λ (l : List Write). length l < g.S.Shape.LIMIT)
@@ -48,9 +42,9 @@ remove_last-requires-clause-unworn g c = let k = c.lock_seen.ensures.locked c.if
 
 pub returns-then-not-other : goal.returns-then-not-other
 returns-then-not-other g c = let site = c.args.seen.now.site in
-    tried_saw g.S.Shape c.args.seat.now c.has_other_pair-other.new.seat c.remove_last.new.caller site.bucket site.key.now
+    tried_saw g.S.Shape c.args.seat.now c.has_other_pair-other.new.seat c.remove_last.new.seat site.bucket site.key.now
     (Some c.args.pair.1) Remove c.has_other_pair-other.ensures.same c.has_other_pair-other.ensures.saw (sym site.home) c.remove_last.result
-    (tried_change g.S.Shape c.has_other_pair-other.new.seat c.lock_seen.new.seat c.remove_last.new.caller site.bucket c.args.seen.now.word
+    (tried_change g.S.Shape c.has_other_pair-other.new.seat c.lock_seen.new.seat c.remove_last.new.seat site.bucket c.args.seen.now.word
     site.key.now _ _ c.lock_seen.ensures.same (c.lock_seen.ensures.locked c.if-not-lock_seen.false) (sym site.home)
     c.remove_last.ensures.same c.remove_last.ensures.lawful c.remove_last.result c.remove_last.ensures.answered
     c.remove_last.ensures.contended c.remove_last.ensures.lone)
@@ -64,12 +58,6 @@ vacate-requires-clause-lock g c =
     let left = subst (λ (t : Bool). OtherPairTells z l.extent l.now c.args.pair.0 t) c.if-not-other.false told.1 in
     (l, k.locked.has, told.0.0, sym told.0.1, record { place = left.0; other = left.1; pair = left.2 })
 
-pub vacate-requires-clause-home : goal.vacate-requires-clause-home
-vacate-requires-clause-home g c = sym c.args.seen.now.site.home
-
-pub vacate-requires-clause-counted : goal.vacate-requires-clause-counted
-vacate-requires-clause-counted g c = c.args.seen.now.site.counted
-
 pub vacate-requires-clause-unworn : goal.vacate-requires-clause-unworn
 vacate-requires-clause-unworn g c = let k = c.lock_seen.ensures.locked c.if-not-lock_seen.false in
     subst (λ (l : List Write). length l < g.S.Shape.LIMIT)
@@ -78,8 +66,8 @@ vacate-requires-clause-unworn g c = let k = c.lock_seen.ensures.locked c.if-not-
 
 pub returns : goal.returns
 returns g c = let site = c.args.seen.now.site in
-    tried_saw g.S.Shape c.args.seat.now c.has_other_pair-other.new.seat c.vacate.new.caller site.bucket site.key.now
+    tried_saw g.S.Shape c.args.seat.now c.has_other_pair-other.new.seat c.vacate.new.seat site.bucket site.key.now
     (Some c.args.pair.1) Remove c.has_other_pair-other.ensures.same c.has_other_pair-other.ensures.saw (sym site.home) (Ok c.vacate.result)
-    (tried_write g.S.Shape c.has_other_pair-other.new.seat c.lock_seen.new.seat c.vacate.new.caller site.bucket c.args.seen.now.word site.key.now _ _
+    (tried_write g.S.Shape c.has_other_pair-other.new.seat c.lock_seen.new.seat c.vacate.new.seat site.bucket c.args.seen.now.word site.key.now _ _
     c.lock_seen.ensures.same (c.lock_seen.ensures.locked c.if-not-lock_seen.false) (sym site.home) c.vacate.ensures.same
     c.vacate.ensures.lawful c.vacate.result c.vacate.ensures.changed c.vacate.ensures.answered)

@@ -11,25 +11,25 @@ use Rattle.bihash_table.proofs.change.store_key.Goals as goal
 
 pub store_word-requires-clause-place : goal.store_word-requires-clause-place
 store_word-requires-clause-place g c =
-    let lock = c.requires.lock in let key = g.S.Shape.words_of c.args.key.now in
-    holds_stored (sizes_of g.S.Shape) c.args.caller.now.view c.args.bucket c.args.word lock.0 lock.1 c.loop-i.caller.view
+    let lock = c.requires.lock in let key = g.S.Shape.words_of c.args.seen.now.site.key.now in
+    holds_stored (sizes_of g.S.Shape) c.args.seat.now.view c.args.seen.now.site.bucket c.args.seen.now.word lock.0 lock.1 c.loop-i.seat.view
     c.args.place lock.2 key c.loop-i.i (c.loop-i.invariant.1 lock.0 lock.1)
 
 pub loop-i-init : goal.loop-i-init
 loop-i-init g c = (
   refl,
-  λ lock has. stored_none (sizes_of g.S.Shape) c.args.caller.now.view c.args.bucket c.args.word lock has c.args.place
-      (g.S.Shape.words_of c.args.key.now),
+  λ lock has. stored_none (sizes_of g.S.Shape) c.args.seat.now.view c.args.seen.now.site.bucket c.args.seen.now.word lock has c.args.place
+      (g.S.Shape.words_of c.args.seen.now.site.key.now),
 )
 
 pub loop-i-preserved : goal.loop-i-preserved
 loop-i-preserved g c =
-    let z = sizes_of g.S.Shape in let v = c.args.caller.now.view in let w = c.loop-i.caller.view in
-    let key = g.S.Shape.words_of c.args.key.now in let b = c.args.bucket in let word = c.args.word in let i = c.args.place in
+    let z = sizes_of g.S.Shape in let v = c.args.seat.now.view in let w = c.loop-i.seat.view in
+    let key = g.S.Shape.words_of c.args.seen.now.site.key.now in let b = c.args.seen.now.site.bucket in let word = c.args.seen.now.word in let i = c.args.place in
     let own = c.requires.lock in let mine = c.loop-i.invariant.1 own.0 own.1 in
     let small : c.loop-i.i < g.S.Shape.WORDS =
     let below = c.loop-i-test.true in let same = c.WORDS-i-end.ensures in omega arith in (
-      same_through c.args.caller.now c.loop-i.caller c.store_word.new.caller _ c.loop-i.invariant.0
+      same_through c.args.seat.now c.loop-i.seat c.store_word.new.seat _ c.loop-i.invariant.0
           (c.store_word.ensures _ (held_now z v b word own.0 own.1 w i own.2 key c.loop-i.i mine)),
       λ lock has.
           let inside : i < places lock.extent.page lock.extent.log2 =
@@ -37,7 +37,7 @@ loop-i-preserved g c =
           let h = c.loop-i.invariant.1 lock has in
           let now : LockedBucket = record lock { now = h.now; stored = h.stored } in
           let at : ℕ = i * place_words z + c.loop-i.i in
-          stored_more z v b word lock has w i inside key c.loop-i.i h c.store_word.new.caller.view small
-          (view_stored c.loop-i.caller c.store_word.new.caller now at at c.word.result (slice_index key c.loop-i.i) refl c.word.ensures.word
+          stored_more z v b word lock has w i inside key c.loop-i.i h c.store_word.new.seat.view small
+          (view_stored c.loop-i.seat c.store_word.new.seat now at at c.word.result (slice_index key c.loop-i.i) refl c.word.ensures.word
           (c.store_word.ensures now (held_now z v b word lock has w i inside key c.loop-i.i h))),
     )

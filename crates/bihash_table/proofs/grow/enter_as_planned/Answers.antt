@@ -29,8 +29,8 @@ read_block-requires-clause-open g c =
           (c.place_count.ensures.count e tells) c.place_count.ensures.few c.requires.old_room,
     )
 
-pub plan-requires-clause-small : goal.plan-requires-clause-small
-plan-requires-clause-small g c =
+pub larger-requires-clause-small : goal.larger-requires-clause-small
+larger-requires-clause-small g c =
     let z = sizes_of g.S.Shape in
     let v = c.args.seat.now.view in
     let h = c.requires.seen.seen in
@@ -38,8 +38,8 @@ plan-requires-clause-small g c =
     let tells = word_notes z v c.args.seen.now.word e h.block in
     omega (arith, tells.small, log2_is z c.args.seen.now.word e tells c.log2.result c.log2.ensures)
 
-pub plan-requires-clause-sized : goal.plan-requires-clause-sized
-plan-requires-clause-sized g c =
+pub larger-requires-clause-sized : goal.larger-requires-clause-sized
+larger-requires-clause-sized g c =
     let z = sizes_of g.S.Shape in
     let v = c.args.seat.now.view in
     let h = c.requires.seen.seen in
@@ -60,7 +60,7 @@ crowd-requires-clause-seen g c =
     let h = seen_more z c.args.seat.now.view y.view b c.args.seen.now.word c.read_block.ensures.saw c.requires.seen in
     let keys : AreKeyWords g.S.Shape = record { law = g.met.S.Shape.key_of_words } in
     full_seen g.S.Shape keys y.view b c.args.seen.now.word site.key.now c.read_block.new.out h c.log2.result c.linear.result
-    c.log2.ensures c.linear.ensures c.plan.result c.plan.ensures.exact c.in_default.not-Grow
+    c.log2.ensures c.linear.ensures c.larger.result c.larger.ensures.exact c.in_default.not-Grow
 
 pub crowd-requires-clause-unworn : goal.crowd-requires-clause-unworn
 crowd-requires-clause-unworn g c =
@@ -112,12 +112,6 @@ returns-then-not-lock_seen g c =
 pub enter-requires-clause-lock : goal.enter-requires-clause-lock
 enter-requires-clause-lock g c =
     let k = c.lock_seen.ensures.locked c.if-not-lock_seen.false in (k.locked.lock, k.locked.has)
-
-pub enter-requires-clause-home : goal.enter-requires-clause-home
-enter-requires-clause-home g c = sym c.args.seen.now.site.home
-
-pub enter-requires-clause-counted : goal.enter-requires-clause-counted
-enter-requires-clause-counted g c = c.args.seen.now.site.counted
 
 pub enter-requires-clause-unworn : goal.enter-requires-clause-unworn
 enter-requires-clause-unworn g c =

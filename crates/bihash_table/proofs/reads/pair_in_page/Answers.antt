@@ -1,94 +1,27 @@
-use Rattle.std.proofs.Common.{refl, ◌+◌, ◌*◌, ℕ, arith}
+use Rattle.std.proofs.Common.{◌∙◌, ◌+◌, ◌*◌, ap, arith, refl}
 use Rattle.bihash_words.specs.Sizes.{sizes_of}
-use Rattle.bihash_table.proofs.LookedAt.{no_marks, none_yet, none_more, pair_there, none_there}
+use Rattle.bihash_steps.specs.Seats.{CallerState, with_view}
+use Rattle.bihash_table.proofs.LookedAt.{later_marked, no_marks, pair_marked}
 use Rattle.bihash_table.proofs.Seeing.{still_noted}
 use Rattle.bihash_table.proofs.reads.pair_in_page.Goals as goal
 
-pub returns-then-not-a-b-clause-saw : goal.returns-then-not-a-b-clause-saw
-returns-then-not-a-b-clause-saw g c = no_marks (sizes_of g.S.Shape) (g.S.Shape.words_of c.args.site.now.key.now) (4 * c.args.page) _ _ _ _ _ _ _ _
-    c.if-not-a-b.true refl (omega arith) c.marks-a.ensures.saw
-
-pub value_where-requires-clause-open : goal.value_where-requires-clause-open
-value_where-requires-clause-open g c = let o = c.requires.open in let room = o.2 in
-    (o.0, still_noted (sizes_of g.S.Shape) _ _ _ _ c.marks-a.ensures.saw o.1, omega arith)
+pub value_at-requires-clause-open : goal.value_at-requires-clause-open
+value_at-requires-clause-open g c = let o = c.requires.open in let room = o.2 in let low = c.first_mark.ensures.inside in
+    (o.0, still_noted (sizes_of g.S.Shape) _ _ _ _ c.marked.invariant.saw o.1, omega arith)
 
 pub returns-in-Some-clause-saw : goal.returns-in-Some-clause-saw
-returns-in-Some-clause-saw g c =
-    let z = sizes_of g.S.Shape in
-    let key = g.S.Shape.words_of c.args.site.now.key.now in
-    let first : ℕ = 4 * c.args.page in
-    let m = c.marks-a.result in
-    pair_there z key first m _ _ _ first 0 m.0 (omega arith) (λ e block a. a.0)
-    (none_yet z key first m _ _ c.marks-a.ensures.saw) c.in-Some.value first (4 * (c.args.page + 1)) c.in-Some.ensures.saw
+returns-in-Some-clause-saw g c = pair_marked (sizes_of g.S.Shape) (g.S.Shape.words_of c.args.site.now.key.now) (4 * c.args.page) _ _ _ c.marked.marks _
+    (let some = c.marked-test.true in let is = c.count_marks.ensures in omega arith) (ap (λ n. 4 * c.args.page + n) c.first_mark.ensures.first)
+    c.marked.invariant.saw 0 0 c.in-Some.value c.in-Some.ensures.saw
 
-pub value_where-requires-2-clause-open : goal.value_where-requires-2-clause-open
-value_where-requires-2-clause-open g c = let o = c.requires.open in let room = o.2 in (
-  o.0,
-  still_noted (sizes_of g.S.Shape) _ _ _ _ c.in_default.ensures.saw
-      (still_noted (sizes_of g.S.Shape) _ _ _ _ c.marks-a.ensures.saw o.1),
-  omega arith,
-)
-
-pub returns-in-Some-value_where-clause-saw : goal.returns-in-Some-value_where-clause-saw
-returns-in-Some-value_where-clause-saw g c =
-    let z = sizes_of g.S.Shape in
-    let key = g.S.Shape.words_of c.args.site.now.key.now in
-    let first : ℕ = 4 * c.args.page in
-    let m = c.marks-a.result in
-    pair_there z key first m _ _ _ (first + 1) 1 m.1 (omega arith) (λ e block a. a.1)
-    (none_more z key first m _ _ _ first 0 m.0 (omega arith) (λ e block a. a.0)
-    (none_yet z key first m _ _ c.marks-a.ensures.saw) c.in_default.ensures.saw) c.in-Some-value_where.value first (4 * (c.args.page + 1)) c.in-Some-value_where.ensures.saw
-
-pub value_where-requires-3-clause-open : goal.value_where-requires-3-clause-open
-value_where-requires-3-clause-open g c = let o = c.requires.open in let room = o.2 in (
-  o.0,
-  still_noted (sizes_of g.S.Shape) _ _ _ _ c.in_default-value_where.ensures.saw
-      (still_noted (sizes_of g.S.Shape) _ _ _ _ c.in_default.ensures.saw
-      (still_noted (sizes_of g.S.Shape) _ _ _ _ c.marks-a.ensures.saw o.1)),
-  omega arith,
-)
-
-pub returns-in-Some-value_where-2-clause-saw : goal.returns-in-Some-value_where-2-clause-saw
-returns-in-Some-value_where-2-clause-saw g c =
-    let z = sizes_of g.S.Shape in
-    let key = g.S.Shape.words_of c.args.site.now.key.now in
-    let first : ℕ = 4 * c.args.page in
-    let m = c.marks-a.result in
-    pair_there z key first m _ _ _ (first + 2) 2 m.2 (omega arith) (λ e block a. a.2)
-    (none_more z key first m _ _ _ (first + 1) 1 m.1 (omega arith) (λ e block a. a.1)
-    (none_more z key first m _ _ _ first 0 m.0 (omega arith) (λ e block a. a.0)
-    (none_yet z key first m _ _ c.marks-a.ensures.saw) c.in_default.ensures.saw) c.in_default-value_where.ensures.saw) c.in-Some-value_where-2.value first (4 * (c.args.page + 1)) c.in-Some-value_where-2.ensures.saw
-
-pub value_where-requires-4-clause-open : goal.value_where-requires-4-clause-open
-value_where-requires-4-clause-open g c = let o = c.requires.open in let room = o.2 in (
-  o.0,
-  still_noted (sizes_of g.S.Shape) _ _ _ _ c.in_default-value_where-2.ensures.saw
-      (still_noted (sizes_of g.S.Shape) _ _ _ _ c.in_default-value_where.ensures.saw
-      (still_noted (sizes_of g.S.Shape) _ _ _ _ c.in_default.ensures.saw
-      (still_noted (sizes_of g.S.Shape) _ _ _ _ c.marks-a.ensures.saw o.1))),
-  omega arith,
-)
-
-pub returns-in-Some-value_where-3-clause-saw : goal.returns-in-Some-value_where-3-clause-saw
-returns-in-Some-value_where-3-clause-saw g c =
-    let z = sizes_of g.S.Shape in
-    let key = g.S.Shape.words_of c.args.site.now.key.now in
-    let first : ℕ = 4 * c.args.page in
-    let m = c.marks-a.result in
-    pair_there z key first m _ _ _ (first + 3) 3 m.3 (omega arith) (λ e block a. a.3)
-    (none_more z key first m _ _ _ (first + 2) 2 m.2 (omega arith) (λ e block a. a.2)
-    (none_more z key first m _ _ _ (first + 1) 1 m.1 (omega arith) (λ e block a. a.1)
-    (none_more z key first m _ _ _ first 0 m.0 (omega arith) (λ e block a. a.0)
-    (none_yet z key first m _ _ c.marks-a.ensures.saw) c.in_default.ensures.saw) c.in_default-value_where.ensures.saw) c.in_default-value_where-2.ensures.saw) c.in-Some-value_where-3.value first (4 * (c.args.page + 1)) c.in-Some-value_where-3.ensures.saw
+pub marked-preserved : goal.marked-preserved
+marked-preserved g c = record {
+  same = c.in_default.ensures.same ∙ ap (λ (k : CallerState). with_view k c.value_at.new.seat.view) c.marked.invariant.same;
+  saw = later_marked (sizes_of g.S.Shape) (g.S.Shape.words_of c.args.site.now.key.now) (4 * c.args.page) _ _ _ c.marked.marks _
+      (let some = c.marked-test.true in let is = c.count_marks.ensures in omega arith) (ap (λ n. 4 * c.args.page + n) c.first_mark.ensures.first)
+      c.marked.invariant.saw c.later_marks-marks.result c.later_marks-marks.ensures c.in_default.ensures.saw;
+}
 
 pub returns-clause-saw : goal.returns-clause-saw
-returns-clause-saw g c =
-    let z = sizes_of g.S.Shape in
-    let key = g.S.Shape.words_of c.args.site.now.key.now in
-    let first : ℕ = 4 * c.args.page in
-    let m = c.marks-a.result in
-    none_there z key first m _ _ _ (first + 3) 3 m.3 (omega arith) (λ e block a. a.3)
-    (none_more z key first m _ _ _ (first + 2) 2 m.2 (omega arith) (λ e block a. a.2)
-    (none_more z key first m _ _ _ (first + 1) 1 m.1 (omega arith) (λ e block a. a.1)
-    (none_more z key first m _ _ _ first 0 m.0 (omega arith) (λ e block a. a.0)
-    (none_yet z key first m _ _ c.marks-a.ensures.saw) c.in_default.ensures.saw) c.in_default-value_where.ensures.saw) c.in_default-value_where-2.ensures.saw) first (4 * (c.args.page + 1)) refl (omega arith) c.in_default-value_where-3.ensures.saw
+returns-clause-saw g c = no_marks (sizes_of g.S.Shape) (g.S.Shape.words_of c.args.site.now.key.now) (4 * c.args.page) c.marked.marks _ _ _ _
+    (let none = c.marked-test.false in let is = c.count_marks.ensures in omega arith) refl (omega arith) c.marked.invariant.saw

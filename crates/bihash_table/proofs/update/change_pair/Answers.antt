@@ -23,12 +23,6 @@ overwrite-requires-clause-lock g c =
     let k = c.lock_seen.ensures.locked c.if-not-lock_seen.false in
     let told = told_locked (sizes_of g.S.Shape) _ _ _ _ c.requires.seen k in (k.locked.lock, k.locked.has, told.0, sym told.1)
 
-pub overwrite-requires-clause-home : goal.overwrite-requires-clause-home
-overwrite-requires-clause-home g c = sym c.args.seen.now.site.home
-
-pub overwrite-requires-clause-counted : goal.overwrite-requires-clause-counted
-overwrite-requires-clause-counted g c = c.args.seen.now.site.counted
-
 pub overwrite-requires-clause-unworn : goal.overwrite-requires-clause-unworn
 overwrite-requires-clause-unworn g c = let k = c.lock_seen.ensures.locked c.if-not-lock_seen.false in
     subst (λ (l : List Write). length l < g.S.Shape.LIMIT) (sym k.known) c.requires.unworn
@@ -42,9 +36,9 @@ overwrite-requires-clause-storable g c = subst IsStorable c.in-Set.is c.requires
 
 pub returns-else-not-lock_seen : goal.returns-else-not-lock_seen
 returns-else-not-lock_seen g c = let site = c.args.seen.now.site in
-    subst (λ (d : Change). Tried g.S.Shape c.args.seat.now c.overwrite.new.caller site.bucket site.key.now (Some c.args.pair.1) d
+    subst (λ (d : Change). Tried g.S.Shape c.args.seat.now c.overwrite.new.seat site.bucket site.key.now (Some c.args.pair.1) d
     (Ok c.overwrite.result)) (sym c.in-Set.is)
-    (tried_write g.S.Shape c.args.seat.now c.lock_seen.new.seat c.overwrite.new.caller site.bucket c.args.seen.now.word site.key.now _ _
+    (tried_write g.S.Shape c.args.seat.now c.lock_seen.new.seat c.overwrite.new.seat site.bucket c.args.seen.now.word site.key.now _ _
     c.lock_seen.ensures.same (c.lock_seen.ensures.locked c.if-not-lock_seen.false) (sym site.home) c.overwrite.ensures.same
     c.overwrite.ensures.lawful c.overwrite.result c.overwrite.ensures.changed c.overwrite.ensures.answered)
 

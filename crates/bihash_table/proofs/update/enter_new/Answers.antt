@@ -28,12 +28,6 @@ fill-requires-clause-lock g c =
     let told = told_locked (sizes_of g.S.Shape) _ _ _ _ (seen_more (sizes_of g.S.Shape) _ _ _ _ c.in-Some.ensures.saw c.requires.seen) k in
     (k.locked.lock, k.locked.has, told.1.0)
 
-pub fill-requires-clause-home : goal.fill-requires-clause-home
-fill-requires-clause-home g c = sym c.args.seen.now.site.home
-
-pub fill-requires-clause-counted : goal.fill-requires-clause-counted
-fill-requires-clause-counted g c = c.args.seen.now.site.counted
-
 pub fill-requires-clause-unworn : goal.fill-requires-clause-unworn
 fill-requires-clause-unworn g c = let k = c.lock_seen.ensures.locked c.if-not-lock_seen.false in
     subst (λ (l : List Write). length l < g.S.Shape.LIMIT)
@@ -51,11 +45,11 @@ fill-requires-clause-storable g c = subst IsStorable c.in-Set.is c.requires.stor
 
 pub returns-else-not-lock_seen : goal.returns-else-not-lock_seen
 returns-else-not-lock_seen g c = let site = c.args.seen.now.site in
-    subst (λ (d : Change). Tried g.S.Shape c.args.caller.now.seat c.fill.new.caller site.bucket site.key.now None d (Ok c.fill.result))
+    subst (λ (d : Change). Tried g.S.Shape c.args.caller.now.seat c.fill.new.seat site.bucket site.key.now None d (Ok c.fill.result))
     (sym c.in-Set.is)
-    (tried_saw g.S.Shape c.args.caller.now.seat c.find_free.new.seat c.fill.new.caller site.bucket site.key.now None _
+    (tried_saw g.S.Shape c.args.caller.now.seat c.find_free.new.seat c.fill.new.seat site.bucket site.key.now None _
     c.find_free.ensures.same c.in-Some.ensures.saw (sym site.home) (Ok c.fill.result)
-    (tried_write g.S.Shape c.find_free.new.seat c.lock_seen.new.seat c.fill.new.caller site.bucket c.args.seen.now.word site.key.now _ _
+    (tried_write g.S.Shape c.find_free.new.seat c.lock_seen.new.seat c.fill.new.seat site.bucket c.args.seen.now.word site.key.now _ _
     c.lock_seen.ensures.same (c.lock_seen.ensures.locked c.if-not-lock_seen.false) (sym site.home) c.fill.ensures.same
     c.fill.ensures.lawful c.fill.result c.fill.ensures.changed c.fill.ensures.answered))
 

@@ -20,7 +20,7 @@ pub returns : goal.returns
 returns g c =
     let z = sizes_of g.S.Shape in
     let s = c.args.caller.now.seat in
-    let x = c.look.new.caller in
+    let x = c.look.new.seat in
     let y = c.find_pair-pair.new.seat in
     let t = c.make.new.caller.seat in
     let site = c.of-site.result in

@@ -1,0 +1,42 @@
+//! The rules of a filter, prepared once for many packets.
+ghost use Rattle.std.specs.Prelude.{◌≡◌, IfOk, map};
+ghost use Rattle.std.specs.Option.{ForSome};
+ghost use Rattle.acl_policy.specs.Rules.{rule_facts};
+ghost use Rattle.flow_filter.specs.Rulesets.{rules_in};
+
+use crate::ruleset::Ruleset;
+use acl_policy::Rule;
+use rule_index::{RuleIndex, worth_preparing};
+use std::alloc::{AllocError, Global};
+
+/// The indexes of a filter's rules. A direction whose rules are searched as fast one by one has none.
+#[derive(Drop)]
+pub struct PreparedRules {
+    pub inbound: Option<RuleIndex>,
+    pub outbound: Option<RuleIndex>,
+}
+
+/// The index of some rules, where it pays for this many packets.
+pub fn index_of(
+    alloc: Global,
+    rules: &[Rule],
+    packets: usize,
+) -> Result<Option<RuleIndex>, AllocError>
+    ensures { IfOk result (λ found. ForSome found (λ index. index.rules.items ≡ rules.now)) }
+{
+    if !worth_preparing(rules.len(), packets) {
+        return Ok(None);
+    }
+    Ok(Some(RuleIndex::new(alloc, rules)?))
+}
+
+/// The rules by their index, where they have one.
+pub fn searched<'a>(rules: &'a [Rule], index: &'a Option<RuleIndex>) -> Ruleset<'a>
+    requires { ForSome index.now (λ index. index.rules.items ≡ rules.now) }
+    ensures { rules_in result ≡ map rule_facts rules.now }
+{
+    match index {
+        Some(index) => Ruleset::Indexed(index),
+        None => Ruleset::Listed(rules),
+    }
+}

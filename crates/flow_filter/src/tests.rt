@@ -1,0 +1,104 @@
+//! Rules of both directions, flows, and the verdicts that the rules alone give.
+ghost use Rattle.std.specs.Prelude.{IsTrue};
+ghost use Rattle.packet_view.specs.Addresses.{fields_suit};
+ghost use Rattle.packet_view.specs.declared.tuple.Family.TheVariants as Family;
+
+use crate::{Filter, PacketFlow, Verdict, verdict_of_rules};
+use acl_policy::{Action, read_policy};
+use packet_view::{Direction, Family, Fields, Mac, Tuple};
+use session_state::{Flow, FlowKey, Timeouts};
+use std::test::Fail;
+
+/// From 10.0.0.2 to 10.0.0.1.
+fn tuple(proto: u8, fields: Fields) -> Tuple
+    requires fits { IsTrue (fields_suit Family.V4 proto fields) }
+{
+    Tuple {
+        family: Family::V4,
+        source: 0x0a000002,
+        dest: 0x0a000001,
+        proto,
+        fields,
+    }
+}
+
+#[test]
+fn each_direction_has_its_rules(rt: HostRuntime) -> Result<(), Fail> {
+    let text = b"mac 02:00:00:0a:0b:ff\n\
+        in permit ipv4 any any udp\n\
+        out deny ipv4 any any tcp\n\
+        out permit+reflect ipv4 any any udp\n";
+    let filter = Filter {
+        policy: read_policy(rt.alloc(), text)?,
+        times: Timeouts {
+            established: 86400,
+            transient: 120,
+            udp: 600,
+        },
+    };
+    let ready = filter.ready();
+    assert_eq!(rt; ready.own, Some(Mac([2, 0, 0, 10, 11, 255])));
+    assert_eq!(rt; ready.times.transient, 120);
+    let udp = tuple(17, Fields::Ports { from: 80, to: 1000 });
+    let inbound = ready.rules_of(Direction::Inbound);
+    let outbound = ready.rules_of(Direction::Outbound);
+    assert_eq!(rt; inbound.first_match(&udp), Some((0, Action::Permit)));
+    assert_eq!(rt; outbound.first_match(&udp), Some((1, Action::Reflect)));
+    Ok(())
+}
+
+#[test]
+fn packets_find_their_flow(rt: HostRuntime) {
+    let udp = tuple(17, Fields::Ports { from: 80, to: 1000 });
+    let packet = PacketFlow::find(7, Direction::Outbound, &udp);
+    let moment_and_way = packet.map(|packet| (packet.moment, packet.direction));
+    assert_eq!(rt; moment_and_way, Some((7, Direction::Outbound)));
+    let flow = packet.map(|packet| packet.flow);
+    let wanted = Flow {
+        key: FlowKey::Four([0x0a00_0001_0a00_0002, 0x03e8_0050_1100_0000]),
+        side: 1,
+        starts: true,
+    };
+    assert_eq!(rt; flow, Some(wanted));
+    let fragment = tuple(17, Fields::Absent);
+    assert!(rt; PacketFlow::find(7, Direction::Outbound, &fragment).is_none());
+}
+
+#[test]
+fn rules_are_numbered_from_1(rt: HostRuntime) {
+    assert_eq!(rt; verdict_of_rules(None), Verdict::ByDefault);
+    assert_eq!(rt; verdict_of_rules(Some((0, Action::Deny))), Verdict::Deny(1));
+    assert_eq!(rt;
+        verdict_of_rules(Some((4, Action::Permit))),
+        Verdict::Permit(5)
+    );
+    assert_eq!(rt;
+        verdict_of_rules(Some((9, Action::Reflect))),
+        Verdict::Permit(10)
+    );
+}
+
+#[test]
+fn which_verdicts_pass(rt: HostRuntime) {
+    let passing = [
+        Verdict::Session,
+        Verdict::Reflect(1),
+        Verdict::Permit(1),
+        Verdict::NotIp,
+    ];
+    for verdict in passing {
+        assert!(rt; verdict.passes());
+    }
+    let dropped = [
+        Verdict::Deny(1),
+        Verdict::ByDefault,
+        Verdict::Worn,
+        Verdict::Full,
+        Verdict::NoPages,
+        Verdict::Malformed,
+        Verdict::Short,
+    ];
+    for verdict in dropped {
+        assert!(rt; !verdict.passes());
+    }
+}

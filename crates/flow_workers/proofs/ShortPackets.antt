@@ -1,0 +1,101 @@
+-- Only the reply to a packet's update says that there are no pages.
+use Rattle.std.proofs.Common.{◌≡◌, ◌∙◌, ◌+◌, ℕ, Bool, true, false, Option, Some, None, ap, refl, sym, subst}
+use Rattle.std.specs.Prelude.{if◌then◌else◌, option_map}
+use Rattle.packet_view.specs.Captures.{Seen}
+use Rattle.packet_view.specs.Frames as frames
+use Rattle.packet_view.specs.Frames.{View, viewed}
+use Rattle.packet_view.specs.declared.tuple.Mac.{Mac}
+use Rattle.acl_policy.specs.declared.rule.Action.{Action}
+use Rattle.acl_policy.specs.declared.rule.Action.TheVariants.{Deny, Permit, Reflect}
+use Rattle.bihash_words.specs.declared.patch.Reply.{Reply}
+use Rattle.bihash_words.specs.declared.patch.Reply.TheVariants as reply
+use Rattle.bihash_words.specs.declared.shape.Shape.{Ghosts}
+use Rattle.session_state.specs.declared.flow.Flow.{Flow}
+use Rattle.session_state.specs.declared.timeouts.Timeouts.{Timeouts}
+use Rattle.session_state.specs.Decisions.{PatchFacts, is_live_for}
+use Rattle.session_state.specs.Flows.{flow_of}
+use Rattle.flow_filter.specs.declared.verdict.Verdict.{Verdict}
+use Rattle.flow_filter.specs.declared.verdict.Verdict.TheVariants as verdict
+use Rattle.flow_filter.specs.Readings.{Ruling}
+use Rattle.flow_filter.specs.Updates.{Update, update_in, update_of}
+use Rattle.flow_filter.specs.Verdicts.{verdict_by, verdict_entered, verdict_of, verdict_of_rules, verdict_reflected}
+use Rattle.flow_filter.specs.Judged.{verdict_by_event, verdict_with}
+use Rattle.flow_dealing.specs.Dealings.{flow_shown}
+use Rattle.flow_dealing.specs.Views.{Views}
+use Rattle.flow_workers.specs.declared.viewed_packet.ViewedPacket.{ViewedPacket}
+use Rattle.flow_workers.specs.Preparing.{reading_with}
+use Rattle.flow_workers.specs.Shortages.{IsShort, IsShortAt}
+use Rattle.flow_workers.specs.ViewedPackets.{IsViewed}
+use Rattle.flow_workers.proofs.JudgedPackets.{reading_in}
+
+abbrev IsNoPages : Reply → Type 0
+IsNoPages r = (log2 left : ℕ) × (r ≡ reply.NoPages log2 left)
+
+by_rule : (i : ℕ) (action : Action) → verdict_by i action ≡ verdict.NoPages → ⊥
+by_rule i Deny e = cc
+by_rule i Permit e = cc
+by_rule i Reflect e = cc
+
+by_rules : (ruling : Ruling) → verdict_of_rules ruling ≡ verdict.NoPages → ⊥
+by_rules None e = cc
+by_rules (Some (i, action)) e = by_rule (i + 1) action e
+
+by_entry : (rule : ℕ) (r : Reply) → verdict_entered rule r ≡ verdict.NoPages → IsNoPages r
+by_entry rule (reply.NoPages log2 left) e = (log2, left, refl)
+by_entry rule (reply.Kept found) e = absurd (let f : ⊥ = cc in f)
+by_entry rule (reply.Changed found) e = absurd (let f : ⊥ = cc in f)
+by_entry rule (reply.Worn found) e = absurd (let f : ⊥ = cc in f)
+by_entry rule reply.Full e = absurd (let f : ⊥ = cc in f)
+
+by_reply : (ruling : Ruling) (r : Reply) → verdict_reflected ruling r ≡ verdict.NoPages → IsNoPages r
+by_reply None r e = absurd (let f : ⊥ = cc in f)
+by_reply (Some (i, action)) r e = by_entry (i + 1) r e
+
+told_no_pages : (p : PatchFacts) (ruling : Ruling) (found : Option ℕ) (r : Reply) → verdict_of p ruling found r ≡ verdict.NoPages → IsNoPages r
+told_no_pages p ruling found r = go (is_live_for p found) p.reflects
+  where
+    go : (live reflects : Bool)
+        → (if live then verdict.Session else (if reflects then verdict_reflected ruling r else verdict_of_rules ruling)) ≡ verdict.NoPages → IsNoPages r
+    go true reflects e = absurd (let f : ⊥ = cc in f)
+    go false true e = by_reply ruling r e
+    go false false e = absurd (by_rules ruling e)
+
+-- a packet without an update has pages
+pub settled_has_pages : (times : Timeouts) (moment : ℕ) (view : View) (ruling : Ruling) (said : Verdict)
+    → (update_of times (reading_with moment view ruling) ≡ None) × (said ≡ verdict_with times (reading_with moment view ruling) None)
+    → said ≡ verdict.NoPages → ⊥
+settled_has_pages times moment frames.NotIp ruling said is e = let x = sym is.1 ∙ e in cc
+settled_has_pages times moment frames.Malformed ruling said is e = let x = sym is.1 ∙ e in cc
+settled_has_pages times moment frames.Short ruling said is e = let x = sym is.1 ∙ e in cc
+settled_has_pages times moment (frames.Ip direction tuple) ruling said is e =
+    by_rules ruling (sym (is.1 ∙ ap (λ u. verdict_by_event ruling u None) is.0) ∙ e)
+
+-- the update is that of the packet's flow
+flow_updated : (times : Timeouts) (moment : ℕ) (view : View) (ruling : Ruling) (u : Update)
+    → update_of times (reading_with moment view ruling) ≡ Some u → (flow : Flow) × (flow_shown view ≡ Some flow) × (flow.key ≡ u.key)
+flow_updated times moment frames.NotIp ruling u is = absurd (let f : ⊥ = cc in f)
+flow_updated times moment frames.Malformed ruling u is = absurd (let f : ⊥ = cc in f)
+flow_updated times moment frames.Short ruling u is = absurd (let f : ⊥ = cc in f)
+flow_updated times moment (frames.Ip direction tuple) ruling u is = go (flow_of tuple) is
+  where
+    go : (found : Option Flow) → option_map (update_in times moment tuple ruling) found ≡ Some u
+        → (flow : Flow) × (found ≡ Some flow) × (flow.key ≡ u.key)
+    go None e = absurd (let f : ⊥ = cc in f)
+    go (Some flow) e = (flow, refl, (let same : update_in times moment tuple ruling flow ≡ u = cc in ap (λ (x : Update). x.key) same))
+
+pub short_packet : {A B K L : Type 0} (ga : Ghosts A K) (gb : Ghosts B L) (own : Option Mac) (times : Timeouts) (s : Seen) (p : ViewedPacket) (ruling : Ruling)
+    (u : Update) (w : Views) (r : Reply) (found : Option ℕ) → IsViewed own s p → update_of times (reading_in p ruling) ≡ Some u
+    → ((log2 left : ℕ) → r ≡ reply.NoPages log2 left → IsShortAt ga gb u.key w log2 left)
+    → verdict_of u.patch ruling found r ≡ verdict.NoPages → IsShort ga gb own s w
+short_packet ga gb own times s p ruling u w r found seen asks short e =
+    let told = told_no_pages u.patch ruling found r e in
+    let flow = flow_updated times p.moment (viewed p.frame) ruling u asks in
+    record {
+      view = viewed p.frame;
+      framed = seen.1;
+      flow = flow.0;
+      shown = flow.1;
+      log2 = told.0;
+      left = told.1;
+      short = subst (λ key. IsShortAt ga gb key w told.0 told.1) (sym flow.2) (short told.0 told.1 told.2);
+    }

@@ -1,0 +1,5 @@
+pub mod ColumnLemmas
+pub mod RangeLemmas
+pub mod RuleLemmas
+pub mod SieveLemmas
+pub mod TurnLemmas

@@ -1,0 +1,19 @@
+//! Bits for ranges of numbers: which of some ranges may hold a number.
+ghost use Rattle.std.specs.Prelude.{◌≡◌, ◌*◌, length};
+ghost use Rattle.rule_index.specs.Rows.{AreStarts};
+
+mod build;
+mod starts;
+mod turns;
+
+/// For some ranges, which of them may hold a number: a row of bits for each interval of numbers.
+#[derive(Debug, Drop)]
+pub struct Column {
+    /// The words of a row.
+    width: usize,
+    /// The first number of each interval.
+    starts: Vec<u128>,
+    rows: Vec<u64>,
+    pub ghost ordered: { AreStarts starts.items },
+    pub ghost sized: { length rows.items ≡ length starts.items * width },
+}

@@ -1,0 +1,13 @@
+//! For each value of the flags of TCP, the rules that may match it.
+ghost use Rattle.std.specs.Prelude.{◌≡◌, ◌*◌, length};
+
+mod build;
+
+/// A row of bits for each value of the flags.
+#[derive(Debug, Drop)]
+pub struct FlagRows {
+    /// The words of a row.
+    width: usize,
+    rows: Vec<u64>,
+    pub ghost sized: { length rows.items ≡ 256 * width },
+}

@@ -1,0 +1,22 @@
+//! Rules prepared for many packets: which rule decides a packet, without a look at each of them.
+//!
+//! Bit vectors by interval (Lakshman and Stiliadis, SIGCOMM 1998): for each number of a packet that rules are about, the
+//! numbers fall into intervals within which the same rules may match, and each interval has a row of bits, one for each
+//! rule. A packet's rows are intersected, and the first rule of the intersection that matches decides. The rows only leave
+//! out rules that can't match: each rule that they leave is asked itself.
+#![tactic(auto)]
+
+mod bits;
+mod candidates;
+mod column;
+mod dimension;
+mod flag_rows;
+mod index;
+mod ranges;
+mod sieve;
+#[cfg(test)]
+mod tests;
+mod worth;
+
+pub use index::RuleIndex;
+pub use worth::worth_preparing;
