@@ -105,10 +105,7 @@ fn turns_over<
     B: Shape + Send + Sync,
     R: Threads + Wait + Sync,
     G: Gate + Sync,
->(
-    rt: &R,
-    turns: Vec<Turn<'t, 'a, A, B, R, G>>,
-) -> Result<Vec<Turn<'t, 'a, A, B, R, G>>, AllocError>
+>(rt: &R, turns: Vec<Turn<'t, 'a, A, B, R, G>>) -> Result<Vec<Turn<'t, 'a, A, B, R, G>>, AllocError>
 where
     A::Key: Send + Sync,
     B::Key: Send + Sync,

@@ -24,12 +24,16 @@ join_whole-requires-2-clause-some g c =
     omega arith
 
 pub in_order-requires : goal.in_order-requires
-in_order-requires g c = (_, c.in_ok-four.ensures.traces, record {
-  some_worker = c.requires.some;
-  traced = c.in_ok-four.ensures.traced;
-  said = c.in_ok-four.ensures.said;
-  count = length-map c.args.packets.now seen;
-})
+in_order-requires g c = (
+  _,
+  c.in_ok-four.ensures.traces,
+  record {
+    some_worker = c.requires.some;
+    traced = c.in_ok-four.ensures.traced;
+    said = c.in_ok-four.ensures.said;
+    count = length-map c.args.packets.now seen;
+  },
+)
 
 pub returns-clause-judged : goal.returns-clause-judged
 returns-clause-judged g c =
