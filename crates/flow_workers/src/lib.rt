@@ -8,7 +8,6 @@ mod parts;
 mod placing;
 mod prepared;
 mod run_fault;
-mod run_stub;
 mod share;
 mod tables;
 mod task;
@@ -23,7 +22,6 @@ pub use flow_filter::{Filter, Verdict};
 pub use gate::Gate;
 pub use judging::{judge, try_judge};
 pub use run_fault::RunFault;
-pub use run_stub::run_workers;
 pub use tables::{Callers, Tables, create_tables};
 
 #[cfg(test)]
