@@ -1,13 +1,34 @@
 -- Parts of the workers' shares.
-use Rattle.std.proofs.Common.{◌≡◌, ◌∙◌, List, [], ◌∷◌, ◌++◌, map, Ok, ap, refl, sym, subst}
-use Rattle.std.proofs.lemmas.List.{map-append}
+use Rattle.std.proofs.Common.{◌≡◌, ◌∙◌, ◌+◌, ◌<◌, ℕ, zero, suc, List, [], ◌∷◌, ◌++◌, get_or, length, map, Ok, ap, arith, refl, sym, subst}
+use Rattle.std.specs.List.{All, AllZip}
+use Rattle.std.proofs.lemmas.List.{length-map, map-append}
+use Rattle.std.proofs.lemmas.List.Elements.{All-cons, All-map, All-nil, All-weaker}
+use lib.ListN.{get_elem?}
+use mathlib.Core.Option.{some, some-ne-none, some-injective}
+use Rattle.packet_view.specs.declared.tuple.Family.{Family}
+use Rattle.packet_view.specs.declared.tuple.Family.TheVariants.{V4, V6}
 use Rattle.bihash_words.specs.declared.shape.Shape.{Ghosts}
+use Rattle.bihash_steps.specs.Callers.{IsLawfulCaller}
+use Rattle.bihash_steps.specs.Steps.{IsToldWhole}
+use Rattle.bihash_steps.specs.Views.{nothing_held}
 use Rattle.bihash_steps.specs.declared.row.Caller.{Caller}
+use Rattle.bihash_steps.proofs.Lists.{within}
+use Rattle.flow_filter.specs.declared.verdict.Verdict.{Verdict}
+use Rattle.flow_dealing.specs.Runs.{AreJudged}
+use Rattle.flow_dealing.specs.Traces.{AreGathered, ArePlaced, HaveTraces, IsTrace, Item}
+use Rattle.flow_dealing.specs.Views.{Views, view_in}
+use Rattle.flow_dealing.proofs.Merging.{judge_each_packet}
+use Rattle.flow_dealing.proofs.Places.{after_map, zip_count}
+use Rattle.flow_workers.specs.declared.share.Parts.{Parts}
 use Rattle.flow_workers.specs.declared.share.Said.{Said}
 use Rattle.flow_workers.specs.declared.share.Share.{Share}
+use Rattle.flow_workers.specs.declared.tables.Tables.{Tables}
 use Rattle.flow_workers.specs.declared.turn.Turn.{Turn}
-use Rattle.flow_workers.specs.declared.turn.Turn.TheVariants.{Over}
-use Rattle.flow_workers.specs.Turns.{ArePartsOf}
+use Rattle.flow_workers.specs.declared.turn.Turn.TheVariants.{Ahead, Over}
+use Rattle.flow_workers.specs.Callers.{AreIdle}
+use Rattle.flow_workers.specs.Parts.{AreParts}
+use Rattle.flow_workers.specs.Turns.{ArePartsOf, IsDone, IsOver, IsPast}
+use Rattle.flow_workers.specs.Work.{AreSaid, RunFacts}
 
 module _ {A B R G K L : Type 0} (ga : Ghosts A K) (gb : Ghosts B L) where
   pub no_parts : ArePartsOf {R = R} {G = G} ga gb [] [] [] []
@@ -24,3 +45,126 @@ module _ {A B R G K L : Type 0} (ga : Ghosts A K) (gb : Ghosts B L) where
     six = six ∙ (ap (λ cs. cs ++ share.callers.six ∷ []) old.six ∙ sym (map-append _ old.shares (share ∷ [])));
     said = said ∙ (ap (λ ss. ss ++ share.said ∷ []) old.said ∙ sym (map-append _ old.shares (share ∷ [])));
   }
+
+-- ---- What all workers did
+
+get_or_at : {X : Type 0} (xs : List X) (k : ℕ) (x d : X) → get_elem? xs k ≡ some x → get_or xs k d ≡ x
+get_or_at [] k x d at = absurd (some-ne-none x (sym at))
+get_or_at (y ∷ ys) zero x d at = some-injective y x at
+get_or_at (y ∷ ys) (suc k) x d at = get_or_at ys k x d at
+
+zip_map : {X Y Z : Type 0} (R : X → Z → Type 0) (f : Y → Z) (xs : List X) (ys : List Y) → AllZip (λ x y. R x (f y)) xs ys → AllZip R xs (map f ys)
+zip_map R f [] [] all = tt
+zip_map R f [] (y ∷ ys) all = absurd all
+zip_map R f (x ∷ xs) [] all = absurd all
+zip_map R f (x ∷ xs) (y ∷ ys) all = (all.0, zip_map R f xs ys all.1)
+
+module _ {A B K L : Type 0} (ga : Ghosts A K) (gb : Ghosts B L) (tables : Tables A B K L) (run : RunFacts) where
+  -- the shares of the workers from one on
+  record AllDone (w : ℕ) (shares : List (Share A B K L ga gb)) : Type 0 where
+    traces : List (List Item)
+    count : length traces ≡ length shares
+    each : (k : ℕ) (t : List Item) → get_elem? traces k ≡ some t → IsTrace run.deal run.times (w + k) run.policy run.packets t
+    idle : All (λ s. AreIdle ga gb tables s.callers) shares
+    four : AllZip (λ t s. HaveTraces run.times V4 (t ∷ []) s.callers.four.seat.view) traces shares
+    six : AllZip (λ t s. HaveTraces run.times V6 (t ∷ []) s.callers.six.seat.view) traces shares
+    said : AllZip (λ t s. AreSaid run t s.said.verdicts.items s.said.numbers.items) traces shares
+
+  all_done : (w : ℕ) (shares : List (Share A B K L ga gb)) → ((k : ℕ) (s : Share A B K L ga gb) → get_elem? shares k ≡ some s → IsDone ga gb tables run (w + k) s)
+      → AllDone w shares
+  all_done w [] done = record {
+    traces = [];
+    count = refl;
+    each = λ k t at. absurd (some-ne-none t (sym at));
+    idle = All-nil (λ x. AreIdle ga gb tables x.callers);
+    four = tt;
+    six = tt;
+    said = tt;
+  }
+  all_done w (s ∷ ss) done =
+      let one = done 0 s refl in
+      let more = all_done (w + 1) ss (λ k x at. subst (λ n. IsDone ga gb tables run n x) (let e : w + suc k ≡ w + 1 + k = omega arith in e) (done (suc k) x at)) in
+      record {
+        traces = one.trace ∷ more.traces;
+        count = ap suc more.count;
+        each = next one.trace more.traces one.is more.each;
+        idle = All-cons (λ x. AreIdle ga gb tables x.callers) s ss one.idle more.idle;
+        four = (one.four, more.four);
+        six = (one.six, more.six);
+        said = (one.said, more.said);
+      }
+    where
+      next : (x : List Item) (xs : List (List Item)) → IsTrace run.deal run.times (w + 0) run.policy run.packets x
+          → ((k : ℕ) (t : List Item) → get_elem? xs k ≡ some t → IsTrace run.deal run.times (w + 1 + k) run.policy run.packets t)
+          → (k : ℕ) (t : List Item) → get_elem? (x ∷ xs) k ≡ some t → IsTrace run.deal run.times (w + k) run.policy run.packets t
+      next x xs one more zero t at = subst (λ k. IsTrace run.deal run.times (w + 0) run.policy run.packets k) (some-injective x t at) one
+      next x xs one more (suc k) t at = subst (λ n. IsTrace run.deal run.times n run.policy run.packets t) (let e : w + 1 + k ≡ w + suc k = omega arith in e) (more k t at)
+
+  -- there is a caller of each worker
+  pub parts_count : (parts : Parts A B K L ga gb) → AreParts ga gb tables run parts
+      → (length parts.four.items ≡ run.deal.workers) × (length parts.six.items ≡ run.deal.workers)
+  parts_count parts are = (
+    sym (zip_count _ are.traces parts.four.items are.four) ∙ are.traced.count,
+    sym (zip_count _ are.traces parts.six.items are.six) ∙ are.traced.count,
+  )
+
+  -- the callers of a family's table, joined
+  gathered : (traces : List (List Item)) (v : Views)
+      → IsLawfulCaller run.deal.layout.four v.four × IsLawfulCaller run.deal.layout.six v.six
+      → IsToldWhole run.deal.layout.four v.four × IsToldWhole run.deal.layout.six v.six
+      → HaveTraces run.times V4 traces v.four → HaveTraces run.times V6 traces v.six
+      → (family : Family) → AreGathered run.deal run.times family traces (view_in v family)
+  gathered traces v lawful told four six V4 = record { lawful = lawful.0; told = told.0; did = four }
+  gathered traces v lawful told four six V6 = record { lawful = lawful.1; told = told.1; did = six }
+
+  pub run_judged : (parts : Parts A B K L ga gb) (p : AreParts ga gb tables run parts) → 0 < run.deal.workers → (v : Views)
+      → IsLawfulCaller run.deal.layout.four v.four × IsLawfulCaller run.deal.layout.six v.six
+      → IsToldWhole run.deal.layout.four v.four × IsToldWhole run.deal.layout.six v.six
+      → HaveTraces run.times V4 p.traces v.four → HaveTraces run.times V6 p.traces v.six
+      → (verdicts : List Verdict) → ArePlaced run.times run.packets p.traces verdicts
+      → AreJudged run.deal run.times run.policy run.packets verdicts
+  run_judged parts p some_worker v lawful told four six verdicts placed =
+      judge_each_packet run.deal run.times run.policy run.packets p.traces v verdicts some_worker p.traced
+      (gathered p.traces v lawful told four six) placed
+
+module _ {A B R G K L : Type 0} (ga : Ghosts A K) (gb : Ghosts B L) (tables : Tables A B K L) (run : RunFacts) where
+  pub over_past : (w : ℕ) (t : Turn A B R G K L ga gb) → IsOver ga gb tables run w t → IsPast ga gb t
+  over_past w (Ahead job) over = absurd over
+  over_past w (Over done) over = tt
+
+  pub parts_are : (over : List (Turn A B R G K L ga gb)) → length over ≡ run.deal.workers
+      → ((i : ℕ) (e : Turn A B R G K L ga gb) → i < length over → IsOver ga gb tables run i (get_or over i e))
+      → (parts : Parts A B K L ga gb) → ArePartsOf ga gb over parts.four.items parts.six.items parts.said.items → AreParts ga gb tables run parts
+  parts_are over count each parts of = record {
+    traces = all.traces;
+    traced = record {
+      count = all.count ∙ (sym (ap length of.past ∙ length-map of.shares (λ s. Over (Ok s))) ∙ count);
+      each = λ w t at. let e : 0 + w ≡ w = omega arith in subst (λ n. IsTrace run.deal run.times n run.policy run.packets t) e (all.each w t at);
+    };
+    own = (
+      subst (All (λ c. c.seat.row ≡ tables.four.row)) (sym of.four) (All-map (λ c. c.seat.row ≡ tables.four.row) (λ (s : Share A B K L ga gb). s.callers.four) of.shares
+          (All-weaker _ _ (λ (s : Share A B K L ga gb) (idle : AreIdle ga gb tables s.callers). idle.own.0) of.shares all.idle)),
+      subst (All (λ c. c.seat.row ≡ tables.six.row)) (sym of.six) (All-map (λ c. c.seat.row ≡ tables.six.row) (λ (s : Share A B K L ga gb). s.callers.six) of.shares
+          (All-weaker _ _ (λ (s : Share A B K L ga gb) (idle : AreIdle ga gb tables s.callers). idle.own.1) of.shares all.idle)),
+    );
+    free = (
+      subst (All (λ c. c.seat.view.holds ≡ nothing_held)) (sym of.four) (All-map (λ c. c.seat.view.holds ≡ nothing_held) (λ (s : Share A B K L ga gb). s.callers.four) of.shares
+          (All-weaker _ _ (λ (s : Share A B K L ga gb) (idle : AreIdle ga gb tables s.callers). idle.free.0) of.shares all.idle)),
+      subst (All (λ c. c.seat.view.holds ≡ nothing_held)) (sym of.six) (All-map (λ c. c.seat.view.holds ≡ nothing_held) (λ (s : Share A B K L ga gb). s.callers.six) of.shares
+          (All-weaker _ _ (λ (s : Share A B K L ga gb) (idle : AreIdle ga gb tables s.callers). idle.free.1) of.shares all.idle)),
+    );
+    four = subst (AllZip (λ t c. HaveTraces run.times V4 (t ∷ []) c.seat.view) all.traces) (sym of.four) (zip_map _ _ all.traces of.shares all.four);
+    six = subst (AllZip (λ t c. HaveTraces run.times V6 (t ∷ []) c.seat.view) all.traces) (sym of.six) (zip_map _ _ all.traces of.shares all.six);
+    said = subst (AllZip (λ t s. AreSaid run t s.verdicts.items s.numbers.items) all.traces) (sym of.said) (zip_map _ _ all.traces of.shares all.said);
+  }
+    where
+      done : (k : ℕ) (s : Share A B K L ga gb) → get_elem? of.shares k ≡ some s → IsDone ga gb tables run (0 + k) s
+      done k s at =
+          let ended : Turn A B R G K L ga gb = Over (Ok s) in
+          let there : get_elem? over k ≡ some ended = ap (λ ts. get_elem? ts k) of.past ∙ after_map (λ x. Over (Ok x)) of.shares k s at in
+          let e : k ≡ 0 + k = omega arith in
+          subst (λ n. IsDone ga gb tables run n s) e
+          (subst (IsOver ga gb tables run k) (get_or_at over k ended ended there) (each k ended (within over k ended there)))
+
+      all : AllDone ga gb tables run 0 of.shares
+      all = all_done ga gb tables run 0 of.shares done

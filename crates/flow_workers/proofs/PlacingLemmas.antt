@@ -201,10 +201,10 @@ module _ (run : RunFacts) (traces : List (List Item)) (all : List Said) (packets
   one_worker w u i j a b same =
       let packet : a.packet ≡ b.packet = some_same (sym a.there ∙ (ap (slice_get run.packets) same ∙ b.there)) in
       let at : IsAt run i.packet a.packet (view_of a.packet.frame run.policy.own) =
-          record { stands = a.there; shown = view_shown a.packet.frame run.policy.own; only = λ other h. view_only a.packet.frame run.policy.own other h } in
+      record { stands = a.there; shown = view_shown a.packet.frame run.policy.own; only = λ other h. view_only a.packet.frame run.policy.own other h } in
       let one = flow_at run i.packet a.packet (view_of a.packet.frame run.policy.own) i.reading at a.read in
       let other = flow_at run i.packet a.packet (view_of a.packet.frame run.policy.own) j.reading at
-          (subst (λ p. IsReading run.policy p j.reading) (sym packet) b.read) in
+      (subst (λ p. IsReading run.policy p j.reading) (sym packet) b.read) in
       sym a.dealt ∙ (ap (worker_of run.deal i.packet) (one ∙ sym other) ∙ (ap (λ n. worker_of run.deal n (flow_in j.reading)) same ∙ b.dealt))
     where
       some_same : {p q : Seen} → Some p ≡ Some q → p ≡ q
@@ -269,7 +269,7 @@ module _ (run : RunFacts) (traces : List (List Item)) (all : List Said) (packets
             let same : trace ≡ t.0 = some-injective trace t.0 (sym stands ∙ (ap (get_elem? traces) first ∙ t.1)) in
             let here = ap (λ (x : List Item). get_elem? x k) (sym same) ∙ at in
             let place : i.packet ≡ 0 + k = alone_at run.deal 0 vs.0 k i.packet alone
-                (sym (ap (λ ns. get_elem? ns k) numbers) ∙ after_map (λ (x : Item). x.packet) t.0 k i here) in
+            (sym (ap (λ ns. get_elem? ns k) numbers) ∙ after_map (λ (x : Item). x.packet) t.0 k i here) in
             ap (get_elem? said.verdicts.items) (place ∙ (let e : 0 + k ≡ k = omega arith in e))
             ∙ (ap (λ vs. get_elem? vs k) t.2.said ∙ after_map (verdict_in run.times) t.0 k i here);
       }

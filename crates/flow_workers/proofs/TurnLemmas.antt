@@ -53,7 +53,7 @@ first_fresh z v is = subst IsFresh (sym is) (record { number = 1; records = refl
 
 -- ---- What a worker leaves
 
-if_ok : {X E : Type 0} (P Q : X → Type 0) (r : Result X E) → ((x : X) → P x → Q x) → IfOk r P → IfOk r Q
+pub if_ok : {X E : Type 0} (P Q : X → Type 0) (r : Result X E) → ((x : X) → P x → Q x) → IfOk r P → IfOk r Q
 if_ok P Q (Ok x) f h = f x h
 if_ok P Q (Err e) f h = tt
 

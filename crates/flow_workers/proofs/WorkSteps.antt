@@ -53,7 +53,7 @@ continues_push z v u w cs e a old = record {
   calls = λ r one. let before = old.calls r one in (
     a.locks,
     a.records ∙ (ap (λ rs. push_call (entry_of z (length a.history) e a.noted) (with_locks a.locks rs)) before.1
-    ∙ ap (λ k. record r { calls = k; locks = a.locks } ∷ []) (append_assoc r.calls cs (entry_of z (length a.history) e a.noted ∷ []))),
+        ∙ ap (λ k. record r { calls = k; locks = a.locks } ∷ []) (append_assoc r.calls cs (entry_of z (length a.history) e a.noted ∷ []))),
   );
   openings = ap (λ (k : Known). k.openings) a.known ∙ old.openings;
 }

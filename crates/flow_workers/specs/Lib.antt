@@ -2,6 +2,7 @@ pub mod Callers
 pub mod Fresh
 pub mod Jobs
 pub mod Judging
+pub mod Parts
 pub mod Placing
 pub mod Preparing
 pub mod Shortages

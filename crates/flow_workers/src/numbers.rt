@@ -89,3 +89,23 @@ pub fn join_all<S: Shape>(table: &Sessions<S>, mut callers: Vec<Caller<S>>) -> C
     }
     joined
 }
+
+/// The callers of all workers, in their order, as one that made each write that it knows.
+pub fn join_whole<S: Shape, R: Wait>(
+    rt: &R,
+    table: &Sessions<S>,
+    callers: Vec<Caller<S>>,
+) -> Caller<S>
+    requires some { 0 < length callers.items }
+    requires own { All (λ c. c.seat.row ≡ table.now.row) callers.items }
+    requires free { All (λ c. c.seat.view.holds ≡ nothing_held) callers.items }
+    ensures lawful { IsLawfulCaller (sizes_of S.Shape) result.seat.view }
+    ensures whole { IsToldWhole (sizes_of S.Shape) result.seat.view }
+    ensures traces { (times : Timeouts) (family : Family) (traces : List (List Item))
+        → AllZip (λ trace c. HaveTraces times family (trace ∷ []) c.seat.view) traces callers.items
+        → HaveTraces times family traces result.seat.view }
+{
+    let mut joined = join_all(table, callers);
+    make_whole(rt, table, &mut joined);
+    joined
+}

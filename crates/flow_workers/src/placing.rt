@@ -42,7 +42,11 @@ fn place_all(alloc: Global, all: &Vec<Said>, packets: usize) -> Result<Vec<Verdi
 }
 
 /// The verdicts on so many packets. What a worker that is alone said is in their order already.
-pub fn in_order(alloc: Global, mut all: Vec<Said>, packets: usize) -> Result<Vec<Verdict>, AllocError>
+pub fn in_order(
+    alloc: Global,
+    mut all: Vec<Said>,
+    packets: usize,
+) -> Result<Vec<Verdict>, AllocError>
     requires { (run : RunFacts) × (traces : List (List Item)) × AreAllSaid run traces all.items packets }
     ensures { IfOk result (λ verdicts. (run : RunFacts) (traces : List (List Item)) → AreAllSaid run traces all.items packets
         → ArePlaced run.times run.packets traces verdicts.items) }

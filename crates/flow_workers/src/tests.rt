@@ -1,6 +1,8 @@
 //! Packets through tables of few pages and few writes. Each verdict is worked out by hand.
 ghost use Rattle.flow_workers.specs.Callers.{AreIdle, AreShapes};
 
+mod workers;
+
 use crate::judging::{judge, try_judge};
 use crate::tables::{Callers, Tables, create_tables};
 use acl_policy::read_policy;

@@ -1,23 +1,36 @@
 //! Many workers at once.
-ghost use Rattle.std.specs.Prelude.{◌≡◌, ◌<◌, ◌≤◌, ℕ, All, IfOk, length, slice_index_or};
+ghost use Rattle.std.specs.Prelude.{◌≡◌, ◌⊎◌, ◌<◌, ◌≤◌, ℕ, All, IfOk, length, map, slice_index_or};
+ghost use Rattle.packet_view.specs.Captures.{seen};
+ghost use Rattle.packet_view.specs.declared.tuple.Family.{Family};
+ghost use Rattle.acl_policy.specs.Policies.{policy_facts};
+ghost use Rattle.flow_filter.specs.OneThread.{AreVerdicts, layout_of};
+ghost use Rattle.flow_dealing.specs.declared.dealing.Dealing.TheVariants.{Bucket};
+ghost use Rattle.flow_dealing.specs.Runs.{AreFew, AreJudged, HasPagesIn, HavePages};
 ghost use Rattle.flow_workers.specs.Callers.{AreIdle, AreShapes};
 ghost use Rattle.flow_workers.specs.Fresh.{IsFresh};
 ghost use Rattle.flow_workers.specs.Jobs.{run_facts};
-ghost use Rattle.flow_workers.specs.Turns.{Becomes, CanTake, IsAhead, IsOver};
+ghost use Rattle.flow_workers.specs.Parts.{AreParts};
+ghost use Rattle.flow_workers.specs.Turns.{Becomes, CanTake, IsAhead, IsPast};
 
 use crate::gate::Gate;
-use crate::numbers::split_one;
-use crate::share::{Job, Run};
-use crate::tables::Callers;
+use crate::numbers::{join_whole, split_one};
+use crate::parts::parts_of;
+use crate::placing::in_order;
+use crate::run_fault::RunFault;
+use crate::share::{Job, Parts, Run};
+use crate::tables::{Callers, create_tables};
 use crate::task::run_all;
 use crate::turn::Turn;
 use bihash_words::Shape;
+use flow_dealing::Dealing;
+use flow_filter::{Filter, Verdict};
+use packet_view::Packet;
 use std::alloc::{AllocError, Global};
 use std::sync::Wait;
 use std::thread::Threads;
 
-/// The workers' turns, which are ahead, each with callers of its own. A worker keeps the callers that were split, and
-/// the new ones are split on: so the workers' numbers are in the order of their turns.
+// The workers' turns, which are ahead, each with callers of its own. A worker keeps the callers that were split, and
+// the new ones are split on: so the workers' numbers are in the order of their turns.
 fn turns_ahead<'t, 'a, A: Shape, B: Shape, R: Wait, G: Gate>(
     alloc: Global,
     run: Run<'t, 'a, A, B, R, G>,
@@ -84,7 +97,7 @@ fn turns_ahead<'t, 'a, A: Shape, B: Shape, R: Wait, G: Gate>(
     Ok(turns)
 }
 
-/// The turns of all workers, at once.
+// The turns of all workers, at once.
 fn turns_over<
     't,
     'a,
@@ -92,10 +105,7 @@ fn turns_over<
     B: Shape + Send + Sync,
     R: Threads + Wait + Sync,
     G: Gate + Sync,
->(
-    rt: &R,
-    turns: Vec<Turn<'t, 'a, A, B, R, G>>,
-) -> Result<Vec<Turn<'t, 'a, A, B, R, G>>, AllocError>
+>(rt: &R, turns: Vec<Turn<'t, 'a, A, B, R, G>>) -> Result<Vec<Turn<'t, 'a, A, B, R, G>>, AllocError>
 where
     A::Key: Send + Sync,
     B::Key: Send + Sync,
@@ -105,4 +115,84 @@ where
         → Becomes ⟦<A as Shape>⟧ ⟦<B as Shape>⟧ (slice_index_or turns.entry.items i e) (slice_index_or v.items i d)) }
 {
     run_all(rt, turns)
+}
+
+// What all workers of a run give back, where none of them is refused memory.
+fn work_all<
+    't,
+    'a,
+    A: Shape + Send + Sync,
+    B: Shape + Send + Sync,
+    R: Threads + Wait + Sync,
+    G: Gate + Sync,
+>(
+    alloc: Global,
+    run: Run<'t, 'a, A, B, R, G>,
+    callers: Callers<A, B>,
+) -> Result<Parts<A, B>, AllocError>
+where
+    A::Key: Send + Sync,
+    B::Key: Send + Sync,
+    requires some { 1 ≤ run.workers }
+    requires shapes { AreShapes ⟦<A as Shape>⟧ ⟦<B as Shape>⟧ }
+    requires idle { AreIdle ⟦<A as Shape>⟧ ⟦<B as Shape>⟧ run.tables.now callers }
+    requires fresh { IsFresh callers.four.seat.view × IsFresh callers.six.seat.view }
+    ensures { IfOk result (λ parts. AreParts ⟦<A as Shape>⟧ ⟦<B as Shape>⟧ run.entry.tables.now
+        (run_facts ⟦<A as Shape>⟧ ⟦<B as Shape>⟧ run.entry) parts) }
+{
+    let rt = run.rt;
+    let ahead = turns_ahead(alloc, run, callers)?;
+    let over = turns_over(rt, ahead)?;
+    parts_of(alloc, over)
+}
+
+/// The verdicts on the packets, in their order, by so many workers at once over new tables. A worker whose thread
+/// can't be made is run by the calling thread. `Memory`: memory was refused.
+pub fn run_workers<
+    'a,
+    A: Shape + Send + Sync,
+    B: Shape + Send + Sync,
+    R: Threads + Wait + Sync,
+    G: Gate + Sync,
+>(
+    rt: &R,
+    alloc: Global,
+    filter: &'a Filter,
+    packets: &'a [Packet<'a>],
+    workers: usize,
+    gate: &G,
+    dealing: Dealing,
+) -> Result<Vec<Verdict>, RunFault>
+where
+    A::Key: Send + Sync,
+    B::Key: Send + Sync,
+    requires shapes { AreShapes ⟦<A as Shape>⟧ ⟦<B as Shape>⟧ }
+    requires some { 1 ≤ workers }
+    requires few { workers ≤ 16 }
+    ensures judged { IfOk result (λ v. AreJudged
+        (record { layout = layout_of ⟦<A as Shape>⟧ ⟦<B as Shape>⟧; dealing = dealing; workers = workers })
+        filter.now.times (policy_facts filter.now.policy) (map seen packets.now) v.items) }
+    ensures one_report { IfOk result (λ v. (dealing ≡ Bucket) ⊎ (workers ≡ 1) → HavePages v.items
+        → AreVerdicts (layout_of ⟦<A as Shape>⟧ ⟦<B as Shape>⟧) filter.now.times (policy_facts filter.now.policy)
+        (map seen packets.now) v.items) }
+    ensures pages { IfOk result (λ v. (are : AreJudged
+        (record { layout = layout_of ⟦<A as Shape>⟧ ⟦<B as Shape>⟧; dealing = dealing; workers = workers })
+        filter.now.times (policy_facts filter.now.policy) (map seen packets.now) v.items) (family : Family)
+        → AreFew (layout_of ⟦<A as Shape>⟧ ⟦<B as Shape>⟧) filter.now.times family are.judged
+        → All (HasPagesIn filter.now.times family) are.judged) }
+{
+    let (tables, callers) = create_tables::<A, B>(alloc)?;
+    let run = Run {
+        rt,
+        gate,
+        filter: filter.ready(),
+        tables: &tables,
+        packets,
+        dealing,
+        workers,
+    };
+    let Parts { four, six, said } = work_all(alloc, run, callers)?;
+    join_whole(rt, &tables.four, four);
+    join_whole(rt, &tables.six, six);
+    Ok(in_order(alloc, said, packets.len())?)
 }

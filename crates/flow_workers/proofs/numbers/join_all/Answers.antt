@@ -19,22 +19,20 @@ loop-caller-init g c =
       free = free.1;
       traces = λ times family traces each.
           let last = last_of (λ trace k. HaveTraces times family (trace ∷ []) k.seat.view) traces _ _
-              (subst (AllZip (λ trace k. HaveTraces times family (trace ∷ []) k.seat.view) traces) popped each) in
+          (subst (AllZip (λ trace k. HaveTraces times family (trace ∷ []) k.seat.view) traces) popped each) in
           (last.front, last.last ∷ [], last.split, last.others, last.one);
     }
 
 pub join_one-joined-requires-clause-own : goal.join_one-joined-requires-clause-own
 join_one-joined-requires-clause-own g c =
-    let popped : c.loop-caller.callers.items ≡ c.pop-in-loop-caller.new.self.items ++ c.in-Some-pop.caller ∷ [] = c.in-Some-pop.ensures.items in
-    (
+    let popped : c.loop-caller.callers.items ≡ c.pop-in-loop-caller.new.self.items ++ c.in-Some-pop.caller ∷ [] = c.in-Some-pop.ensures.items in (
       (all_but_last (λ k. k.seat.row ≡ c.args.table.now.row) _ _ (subst (All (λ k. k.seat.row ≡ c.args.table.now.row)) popped c.loop-caller.invariant.left.0)).1,
       c.loop-caller.invariant.own,
     )
 
 pub join_one-joined-requires-clause-free : goal.join_one-joined-requires-clause-free
 join_one-joined-requires-clause-free g c =
-    let popped : c.loop-caller.callers.items ≡ c.pop-in-loop-caller.new.self.items ++ c.in-Some-pop.caller ∷ [] = c.in-Some-pop.ensures.items in
-    (
+    let popped : c.loop-caller.callers.items ≡ c.pop-in-loop-caller.new.self.items ++ c.in-Some-pop.caller ∷ [] = c.in-Some-pop.ensures.items in (
       (all_but_last (λ k. k.seat.view.holds ≡ nothing_held) _ _ (subst (All (λ k. k.seat.view.holds ≡ nothing_held)) popped c.loop-caller.invariant.left.1)).1,
       c.loop-caller.invariant.free,
     )
@@ -53,8 +51,7 @@ loop-caller-preserved g c =
       traces = λ times family traces each.
           let old = inv.traces times family traces each in
           let last = last_of (λ trace k. HaveTraces times family (trace ∷ []) k.seat.view) old.0 _ _
-              (subst (AllZip (λ trace k. HaveTraces times family (trace ∷ []) k.seat.view) old.0) popped old.3) in
-          (
+          (subst (AllZip (λ trace k. HaveTraces times family (trace ∷ []) k.seat.view) old.0) popped old.3) in (
             last.front,
             last.last ∷ old.1,
             old.2 ∙ (ap (λ (ts : List (List Item)). ts ++ old.1) last.split ∙ append_assoc last.front (last.last ∷ []) old.1),

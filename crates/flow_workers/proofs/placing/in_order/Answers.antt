@@ -30,7 +30,7 @@ unreachable-requires c =
 pub returns : goal.returns
 returns c run traces are =
     let one : c.args.all.items ≡ c.in-Some.said ∷ [] = only_one c.args.all.items c.pop.new.self.items c.in-Some.said c.in-Some.ensures.items
-        (let few = c.if-len-gt1.false in omega arith) in
+    (let few = c.if-len-gt1.false in omega arith) in
     let count = count_is run traces c.args.all.items c.args.packets are in
     let many = ap length one in
     alone_placed run traces c.args.all.items c.args.packets are c.in-Some.said one (omega arith)

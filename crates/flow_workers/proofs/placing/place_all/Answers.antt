@@ -11,9 +11,9 @@ pub loop-said-preserved : goal.loop-said-preserved
 loop-said-preserved c =
     let index = c.loop-said.said-index in
     let here : get_elem? c.args.all.now.items index ≡ some c.said-item.result =
-        let same = c.as_slice-said-items.ensures.value in
-        at_or c.args.all.now.items index c.said-item.result (subst (λ xs. index < length xs) same c.loop-said-test.true)
-        ∙ ap some (sym (c.said-item.is ∙ ap (λ xs. get_or xs index c.said-item.result) same)) in
+    let same = c.as_slice-said-items.ensures.value in
+    at_or c.args.all.now.items index c.said-item.result (subst (λ xs. index < length xs) same c.loop-said-test.true)
+    ∙ ap some (sym (c.said-item.is ∙ ap (λ xs. get_or xs index c.said-item.result) same)) in
     record {
       count = c.place.ensures.count ∙ c.loop-said.invariant.count;
       placed = λ agree i s below at n v is. elim (eqb_tells i index) [

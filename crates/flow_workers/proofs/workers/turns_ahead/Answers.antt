@@ -40,14 +40,14 @@ returns-clause-each g c =
     let inside = c.loop-worker.auto.worker-end in
     let run = run_facts g.A.Shape g.B.Shape c.args.run in
     λ i d below. subst (λ xs. IsAhead g.A.Shape g.B.Shape c.args.run.tables.now run i (slice_index_or xs i d)) (sym c.in_ok-push-2.ensures.items)
-        (below_push (λ k turn. IsAhead g.A.Shape g.B.Shape c.args.run.tables.now run k turn) c.loop-worker.turns.items _ (λ k e b. inv.each k e (omega arith))
-        (record {
-          facts = refl;
-          own = refl;
-          worker = omega arith;
-          can = record { shapes = c.requires.shapes; few = omega arith; idle = inv.idle };
-          fresh = inv.fresh;
-        }) i d (omega arith))
+    (below_push (λ k turn. IsAhead g.A.Shape g.B.Shape c.args.run.tables.now run k turn) c.loop-worker.turns.items _ (λ k e b. inv.each k e (omega arith))
+    (record {
+      facts = refl;
+      own = refl;
+      worker = omega arith;
+      can = record { shapes = c.requires.shapes; few = omega arith; idle = inv.idle };
+      fresh = inv.fresh;
+    }) i d (omega arith))
 
 pub returns-clause-ready : goal.returns-clause-ready
 returns-clause-ready g c = all_each (CanTake g.A.Shape g.B.Shape) c.push-2.new.self.items

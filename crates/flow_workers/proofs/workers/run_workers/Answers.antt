@@ -1,0 +1,61 @@
+use Rattle.std.proofs.Common.{◌≡◌, ◌∙◌, ◌<◌, ◌≤◌, ap, arith, length, map, refl, sym, subst}
+use Rattle.std.proofs.lemmas.List.{length-map}
+use Rattle.packet_view.specs.Captures.{seen}
+use Rattle.packet_view.specs.declared.tuple.Family.TheVariants.{V4, V6}
+use Rattle.acl_policy.specs.Policies.{policy_facts}
+use Rattle.flow_filter.specs.OneThread.{layout_of}
+use Rattle.flow_dealing.specs.Dealings.{Deal}
+use Rattle.flow_dealing.specs.Runs.{AreJudged}
+use Rattle.flow_dealing.proofs.FewPackets.{pages_for_few}
+use Rattle.flow_dealing.proofs.OneReport.{one_report}
+use Rattle.flow_workers.proofs.PartLemmas.{parts_count, run_judged}
+use Rattle.flow_workers.proofs.workers.run_workers.Goals as goal
+
+pub join_whole-requires-clause-some : goal.join_whole-requires-clause-some
+join_whole-requires-clause-some g c =
+    let some_worker = c.requires.some in
+    let count = (parts_count g.A.Shape g.B.Shape _ _ _ c.in_ok-four.ensures).0 in
+    omega arith
+
+pub join_whole-requires-2-clause-some : goal.join_whole-requires-2-clause-some
+join_whole-requires-2-clause-some g c =
+    let some_worker = c.requires.some in
+    let count = (parts_count g.A.Shape g.B.Shape _ _ _ c.in_ok-four.ensures).1 in
+    omega arith
+
+pub in_order-requires : goal.in_order-requires
+in_order-requires g c = (
+  _,
+  c.in_ok-four.ensures.traces,
+  record {
+    some_worker = c.requires.some;
+    traced = c.in_ok-four.ensures.traced;
+    said = c.in_ok-four.ensures.said;
+    count = length-map c.args.packets.now seen;
+  },
+)
+
+pub returns-clause-judged : goal.returns-clause-judged
+returns-clause-judged g c =
+    let p = c.in_ok-four.ensures in
+    let deal : Deal = record { layout = layout_of g.A.Shape g.B.Shape; dealing = c.args.dealing; workers = c.args.workers } in
+    let packets = map seen c.args.packets.now in
+    let verdicts = c.in_ok-in_order.field-0.items in
+    subst (λ t. AreJudged deal t (policy_facts c.args.filter.now.policy) packets verdicts) c.ready.ensures.times
+    (subst (λ f. AreJudged deal c.ready.result.times f packets verdicts) c.ready.ensures.policy
+    (run_judged g.A.Shape g.B.Shape _ _ _ p c.requires.some
+    (record { four = c.join_whole.result.seat.view; six = c.join_whole-2.result.seat.view })
+    (c.join_whole.ensures.lawful, c.join_whole-2.ensures.lawful) (c.join_whole.ensures.whole, c.join_whole-2.ensures.whole)
+    (c.join_whole.ensures.traces _ V4 p.traces p.four) (c.join_whole-2.ensures.traces _ V6 p.traces p.six) verdicts
+    (c.in_ok-in_order.ensures _ p.traces (record {
+      some_worker = c.requires.some;
+      traced = p.traced;
+      said = p.said;
+      count = length-map c.args.packets.now seen;
+    }))))
+
+pub returns-clause-one_report : goal.returns-clause-one_report
+returns-clause-one_report g c = one_report _ _ _ _ _ (returns-clause-judged g c)
+
+pub returns-clause-pages : goal.returns-clause-pages
+returns-clause-pages g c = pages_for_few _ _ _ _ _
