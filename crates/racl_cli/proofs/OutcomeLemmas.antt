@@ -1,17 +1,19 @@
 -- An input has one outcome.
 use Rattle.std.specs.Io.KnownBytes.{Appends}
-use Rattle.std.proofs.Common.{◌≡◌, ◌∙◌, ℕ, Bool, true, false, List, Option, Some, None, Result, Ok, Err, IfOk, IfSome, refl, sym, ap₂, subst}
+use Rattle.std.proofs.Common.{◌≡◌, ◌∙◌, ◌≤◌, All, ℕ, Bool, true, false, List, Option, Some, None, Result, Ok, Err, IfOk, IfSome, refl, sym, ap₂, subst}
 use Rattle.packet_view.specs.Captures.{Seen, end_of}
+use Rattle.packet_view.specs.declared.tuple.Family.{Family}
 use Rattle.acl_policy.specs.Policies.{IsPolicyText, PolicyFacts}
 use Rattle.session_state.specs.declared.timeouts.Timeouts.{Timeouts}
 use Rattle.flow_filter.specs.declared.verdict.Verdict.{Verdict}
+use Rattle.flow_dealing.specs.Runs.{AreFew, AreJudged, HasPagesIn}
 use Rattle.racl_words.specs.declared.settings.Options.{Options}
 use Rattle.racl_io.specs.declared.fault.Fault.{Fault}
 use Rattle.racl_io.specs.declared.input.Form.{Form}
 use Rattle.racl_io.specs.declared.report.Report.{Report}
 use Rattle.racl_io.specs.Inputs.{IsContent, IsInput, Parts}
 use Rattle.racl_io.proofs.InputLemmas.{one_input}
-use Rattle.racl_cli.specs.Runs.{Accepts, ByOneThread, FiltersCapture, FiltersContent, FiltersInput, HasOutcome, IsReport, Judging, Outcome, Reported, Tells, flow_layout}
+use Rattle.racl_cli.specs.Runs.{Accepts, ByOneThread, ByWorkers, FiltersCapture, FiltersContent, FiltersInput, HasOutcome, IsReport, Judging, Outcome, Reported, Tells, dealt_to, flow_layout}
 use Rattle.flow_filter.proofs.OneThreadLemmas.{one_verdicts}
 use Rattle.racl_cli.proofs.RunLemmas.{IsRead, one_content}
 
@@ -32,6 +34,16 @@ one_outcome_of_packets times policy capture packets verdicts truncated outcome f
     ap₂ outcome_of
     (one_verdicts flow_layout times policy filters.packets verdicts outcome.verdicts (subst (λ p. ByOneThread times policy p verdicts) same are) filters.verdicts)
     (one_truncated truncated outcome.truncated ended)
+
+-- what the workers say of their verdicts, where sessions live as long as the words ask for
+pub given_by_workers : (options : Options) (times : Timeouts) (policy : PolicyFacts) (packets : List Seen) (verdicts : List Verdict) (workers : ℕ)
+    → times ≡ options.times → 1 ≤ workers → workers ≤ options.workers → AreJudged (dealt_to workers) times policy packets verdicts
+    → ((are : AreJudged (dealt_to workers) times policy packets verdicts) (family : Family) → AreFew flow_layout times family are.judged → All (HasPagesIn times family) are.judged)
+    → ByWorkers options policy packets verdicts
+given_by_workers options times policy packets verdicts workers same some few judged paged =
+    let moved = subst (λ t. (are : AreJudged (dealt_to workers) t policy packets verdicts) × ((family : Family) → AreFew flow_layout t family are.judged → All (HasPagesIn t family) are.judged))
+        same (judged, paged judged) in
+    record { workers = workers; some = some; few = few; judged = moved.0; paged = moved.1 }
 
 -- what an input's parts say, where they are known
 pub record FiltersParts (judging : Judging) (parts : Parts) (outcome : Outcome) : Type 0 where

@@ -8,3 +8,4 @@ mod policies;
 mod records;
 mod transfers;
 mod verdicts;
+mod workers;
