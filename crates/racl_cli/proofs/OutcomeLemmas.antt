@@ -42,7 +42,7 @@ pub given_by_workers : (options : Options) (times : Timeouts) (policy : PolicyFa
     → ByWorkers options policy packets verdicts
 given_by_workers options times policy packets verdicts workers same some few judged paged =
     let moved = subst (λ t. (are : AreJudged (dealt_to workers) t policy packets verdicts) × ((family : Family) → AreFew flow_layout t family are.judged → All (HasPagesIn t family) are.judged))
-        same (judged, paged judged) in
+    same (judged, paged judged) in
     record { workers = workers; some = some; few = few; judged = moved.0; paged = moved.1 }
 
 -- what an input's parts say, where they are known

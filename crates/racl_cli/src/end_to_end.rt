@@ -11,8 +11,9 @@ use crate::judging::verdicts_on;
 use acl_policy::read_policy;
 use flow_workers::Filter;
 use packet_view::read_capture;
-use racl_io::{Fault, Form, Report, Sink, Source, Totals};
-use racl_io::{decoded, parts, read_input, report_on, write_all};
+use racl_io::{
+    Fault, Form, Report, Sink, Source, Totals, decoded, parts, read_input, report_on, write_all,
+};
 use racl_words::Options;
 use std::alloc::Global;
 use std::sync::Wait;

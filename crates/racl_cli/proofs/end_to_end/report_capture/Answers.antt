@@ -1,7 +1,6 @@
-use Rattle.std.proofs.Common.{ap, sym, subst}
+use Rattle.std.proofs.Common.{ap}
 use Rattle.std.proofs.lemmas.Result.{err_from_is_err_and}
 use Rattle.packet_view.specs.Captures.{end_of}
-use Rattle.flow_dealing.specs.Runs.{HavePages}
 use Rattle.racl_io.specs.Faults.{capture_fault}
 use Rattle.racl_cli.specs.Runs.{Outcome}
 use Rattle.racl_cli.proofs.OutcomeLemmas.{one_outcome_of_packets}

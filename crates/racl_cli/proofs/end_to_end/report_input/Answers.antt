@@ -50,3 +50,6 @@ returns-clause-accepts g c = λ outcome filters.
     (λ judging outcome filters. record { parts = _; parted = c.in-Some.ensures.some; policy = _; says = c.in_ok-policy.ensures.ok; filters = filters })
     (c.report_content.ensures.accepts outcome
     (subst (λ policy. FiltersContent (ByOneThread c.args.options.now.times) policy c.in-Some.input.form c.in-Some.input.content.now outcome) (sym (c.in_ok-policy.ensures.accepts known.policy known.says)) known.filters))
+
+pub report_content-requires-clause-times : goal.report_content-requires-clause-times
+report_content-requires-clause-times g c = λ lifetimes outlive. refl

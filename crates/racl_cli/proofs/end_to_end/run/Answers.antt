@@ -58,10 +58,10 @@ pub returns-clause-accepts : goal.returns-clause-accepts
 returns-clause-accepts g c =
     let read = read_bytes _ _ _ _ c.in_ok-bytes.ensures.whole c.deref.ensures.value c.deref.ensures.len c.in_ok-bytes.ensures.few in
     at_outcomes _ _ _ _ read (λ one_thread filters.
-        let is = c.in_ok-report.ensures.accepts one_thread filters in
-        record {
-          outcome = is.outcome;
-          by_workers = record { few = read.few; filters = is.by_workers };
-          same = is.same;
-          reported = reported is.outcome c.in_ok-report.report _ _ _ is.tells c.deref-2.ensures.value c.in_ok-write_all.ensures.whole;
-        })
+    let is = c.in_ok-report.ensures.accepts one_thread filters in
+    record {
+      outcome = is.outcome;
+      by_workers = record { few = read.few; filters = is.by_workers };
+      same = is.same;
+      reported = reported is.outcome c.in_ok-report.report _ _ _ is.tells c.deref-2.ensures.value c.in_ok-write_all.ensures.whole;
+    })
