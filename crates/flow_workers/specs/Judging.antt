@@ -36,12 +36,12 @@ pub record IsJudged (l : Layout) (times : Timeouts) (policy : PolicyFacts) (pack
   pub entered : IsEnteredBy l (update_of times judged.reading) judged.event v w
   pub said : verdict ≡ verdict_on times judged
 
--- the call met another caller's lock; the other family's caller made no call
+-- the call met another caller (IsTurnedAway); the other family's caller made no call
 abbrev pub IsAway : Layout → FlowKey → Views → Views → Type 0
 IsAway l (Four key) v w = IsTurnedAway l.four v.four w.four (bucket_of l.four key) × (w.six ≡ v.six)
 IsAway l (Six key) v w = IsTurnedAway l.six v.six w.six (bucket_of l.six key) × (w.four ≡ v.four)
 
--- The packet met another caller's lock; only a packet with a flow can.
+-- The packet met another caller; only a packet with a flow can.
 pub record IsRefused (l : Layout) (times : Timeouts) (policy : PolicyFacts) (packet : Seen) (v w : Views) : Type 0 where
   pub reading : Reading
   pub read : IsReading policy packet reading
