@@ -23,7 +23,7 @@ use Rattle.flow_dealing.proofs.Merging.{worker_few}
 use Rattle.flow_dealing.proofs.Places.{after_map, all_at, all_from, before_map, zip_count}
 use Rattle.flow_workers.specs.declared.share.Said.{Said}
 use Rattle.flow_workers.specs.Work.{AreSaid, RunFacts}
-use Rattle.flow_workers.specs.Placing.{AgreesWith, AreAllSaid, ArePaired, IsPlaced, IsSaid}
+use Rattle.flow_workers.specs.Placing.{AgreesWith, AreAllSaid, ArePaired, IsSaid}
 use Rattle.flow_workers.proofs.WorkSteps.{IsAt, flow_at, no_numbers, numbers_cons}
 
 -- ---- One verdict more
@@ -56,6 +56,13 @@ set_right xs m n x w inside here there = elim (eqb_tells n m) [
   | inl (test, same) ↦ ap (get_elem? (set xs m x)) same ∙ (at_set xs m x inside ∙ ap some (here same))
   | inr (test, other) ↦ at_other xs m n x other ∙ there other
 ]
+
+-- the verdicts after the first k that were said are placed
+pub record IsPlaced (said : Said) (old : List Verdict) (k : ℕ) (verdicts : List Verdict) : Type 0 where
+  pub count : length verdicts ≡ length old
+  pub kept : (n : ℕ) (w : Verdict) → get_elem? old n ≡ some w → ((v : Verdict) → IsSaid said n v → v ≡ w)
+      → get_elem? verdicts n ≡ some w
+  pub placed : AgreesWith said said → (n : ℕ) (v : Verdict) (is : IsSaid said n v) → is.place < k → get_elem? verdicts n ≡ some v
 
 pub placed_none : (said : Said) (old : List Verdict) → IsPlaced said old 0 old
 placed_none said old = record { count = refl; kept = λ n w at same. at; placed = λ agree n v is below. absurd (omega arith) }

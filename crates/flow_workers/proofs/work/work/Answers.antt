@@ -1,11 +1,12 @@
 use Rattle.std.proofs.Common.{◌≡◌, ◌∙◌, [], ap, sym, subst, length, arith}
 use Rattle.std.proofs.lemmas.Bool.{ne_eqb}
+use Rattle.std.proofs.lemmas.List.{length-map}
+use Rattle.packet_view.specs.Captures.{seen}
 use Rattle.packet_view.specs.Frames.{viewed}
 use Rattle.flow_dealing.specs.Dealings.{worker_of}
 use Rattle.flow_workers.specs.Callers.{views_of}
 use Rattle.flow_workers.specs.Jobs.{run_facts}
-use Rattle.flow_workers.specs.Work.{IsWork}
-use Rattle.flow_workers.proofs.WorkSteps.{seen_at, work_none, work_passed, work_push}
+use Rattle.flow_workers.proofs.WorkSteps.{IsWorkUntil, seen_at, whole_work, work_none, work_passed, work_push}
 use Rattle.flow_workers.proofs.work.work.Goals as goal
 
 pub loop-at-init : goal.loop-at-init
@@ -43,9 +44,10 @@ loop-at-preserved g c = record {
 pub returns : goal.returns
 returns g c =
     let all : c.loop-at.at ≡ length c.args.job.run.packets.now = let inside = c.loop-at.auto.at-end in let past = c.loop-at-test.false in omega arith in
+    let packets = c.args.job.run.packets.now in
     record {
       idle = c.loop-at.invariant.idle;
-      done = subst (λ at. IsWork (run_facts g.A.Shape g.B.Shape c.args.job.run) c.args.job.worker at
+      done = whole_work _ _ _ _ _ _ (subst (λ at. IsWorkUntil (run_facts g.A.Shape g.B.Shape c.args.job.run) c.args.job.worker at
           (views_of g.A.Shape g.B.Shape c.args.job.callers) (views_of g.A.Shape g.B.Shape c.loop-at.callers)
-          c.loop-at.said.verdicts.items c.loop-at.said.numbers.items) all c.loop-at.invariant.done;
+          c.loop-at.said.verdicts.items c.loop-at.said.numbers.items) (all ∙ sym (length-map packets seen)) c.loop-at.invariant.done);
     }
