@@ -29,8 +29,8 @@ fn direction(frame: &[u8], own: Option<Mac>) -> Direction
     let Some(mac) = own else {
         return Direction::Inbound;
     };
-    let address = mac.0;
-    if &frame[6..12] == address.as_slice() {
+    // Of two ways to compare, the one whose loop is short enough to stand here without a call.
+    if mac.0.starts_with(&frame[6..12]) {
         Direction::Outbound
     } else {
         Direction::Inbound

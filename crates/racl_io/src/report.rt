@@ -1,5 +1,5 @@
 //! The report on a capture, in one buffer.
-ghost use Rattle.std.specs.Prelude.{◌≡◌, ◌++◌, ◌<◌, ◌^◌, IfOk, OnOk, length, decimal, vec_len};
+ghost use Rattle.std.specs.Prelude.{◌≡◌, ◌++◌, ◌<◌, ◌^◌, IfOk, OnOk, codes, length, decimal, vec_len};
 ghost use Rattle.racl_io.specs.Reports;
 ghost use Rattle.racl_io.specs.Reports.{text_of, line_of, lines_from, report_of, totals_of, totals_line, truncation_line};
 
@@ -24,6 +24,7 @@ pub struct Report {
     pub totals: Totals,
 }
 
+#[inline]
 fn push_number(out: &mut Vec<u8>, n: u64) -> Result<(), AllocError>
     ensures { OnOk result (out.new.items ≡ out.old.items ++ decimal n) }
 {
@@ -31,41 +32,40 @@ fn push_number(out: &mut Vec<u8>, n: u64) -> Result<(), AllocError>
     out.extend_from_slice(buffer.format(n).as_bytes())
 }
 
-fn push_rule(out: &mut Vec<u8>, effect: &[u8], n: usize) -> Result<(), AllocError>
-    ensures { OnOk result (out.new.items ≡ out.old.items ++ (effect.now ++ decimal n)) }
+fn push_rule(out: &mut Vec<u8>, effect: &[u8], n: usize, rest: &[u8]) -> Result<(), AllocError>
+    ensures { OnOk result (out.new.items ≡ out.old.items ++ (effect.now ++ (decimal n ++ rest.now))) }
 {
     out.extend_from_slice(effect)?;
-    push_number(out, n as u64)
+    push_number(out, n as u64)?;
+    out.extend_from_slice(rest)
 }
 
+/// What stands behind a line's number, in as few pieces as there are numbers to part them.
+#[inline]
 fn push_verdict(out: &mut Vec<u8>, verdict: Verdict) -> Result<(), AllocError>
-    ensures { OnOk result (out.new.items ≡ out.old.items ++ text_of verdict) }
+    ensures { OnOk result (out.new.items ≡ out.old.items ++ (codes " " ++ (text_of verdict ++ codes "\n"))) }
 {
     match verdict {
-        Verdict::Session => out.extend_from_slice(b"pass session"),
-        Verdict::Reflect(n) => {
-            push_rule(out, b"pass rule ", n)?;
-            out.extend_from_slice(b" reflect")
-        }
-        Verdict::Permit(n) => push_rule(out, b"pass rule ", n),
-        Verdict::Deny(n) => push_rule(out, b"drop rule ", n),
-        Verdict::ByDefault => out.extend_from_slice(b"drop default"),
-        Verdict::Worn => out.extend_from_slice(b"drop worn"),
-        Verdict::Full => out.extend_from_slice(b"drop full"),
-        Verdict::NoPages => out.extend_from_slice(b"drop no-pages"),
-        Verdict::NotIp => out.extend_from_slice(b"pass not-ip"),
-        Verdict::Malformed => out.extend_from_slice(b"drop malformed"),
-        Verdict::Short => out.extend_from_slice(b"drop short"),
+        Verdict::Session => out.extend_from_slice(b" pass session\n"),
+        Verdict::Reflect(n) => push_rule(out, b" pass rule ", n, b" reflect\n"),
+        Verdict::Permit(n) => push_rule(out, b" pass rule ", n, b"\n"),
+        Verdict::Deny(n) => push_rule(out, b" drop rule ", n, b"\n"),
+        Verdict::ByDefault => out.extend_from_slice(b" drop default\n"),
+        Verdict::Worn => out.extend_from_slice(b" drop worn\n"),
+        Verdict::Full => out.extend_from_slice(b" drop full\n"),
+        Verdict::NoPages => out.extend_from_slice(b" drop no-pages\n"),
+        Verdict::NotIp => out.extend_from_slice(b" pass not-ip\n"),
+        Verdict::Malformed => out.extend_from_slice(b" drop malformed\n"),
+        Verdict::Short => out.extend_from_slice(b" drop short\n"),
     }
 }
 
+#[inline]
 fn push_line(out: &mut Vec<u8>, number: u64, verdict: Verdict) -> Result<(), AllocError>
     ensures { OnOk result (out.new.items ≡ out.old.items ++ line_of number verdict) }
 {
     push_number(out, number)?;
-    out.extend_from_slice(b" ")?;
-    push_verdict(out, verdict)?;
-    out.extend_from_slice(b"\n")
+    push_verdict(out, verdict)
 }
 
 fn push_totals(out: &mut Vec<u8>, totals: &Totals) -> Result<(), AllocError>

@@ -18,26 +18,26 @@ loop-at-init g c = record {
 pub loop-at-preserved-then-dealt_to-worker : goal.loop-at-preserved-then-dealt_to-worker
 loop-at-preserved-then-dealt_to-worker g c = record {
   idle = c.loop-at.invariant.idle;
-  done = work_passed _ _ _ _ _ _ _ _ (viewed c.new-viewed.result.frame)
+  done = work_passed _ _ _ _ _ _ _ _ (viewed c.view-frame.result)
       (record {
         stands = seen_at c.args.job.run.packets.now c.loop-at.at (record { moment = 0; frame = record { ref_ptr = (0, 0); now = [] } }) c.loop-at-test.true;
-        shown = c.new-viewed.ensures.seen.1;
-        only = c.new-viewed.ensures.only;
+        shown = c.view-frame.ensures.shown;
+        only = c.view-frame.ensures.only;
       })
-      (λ same. c.if-dealt_to-worker.true (c.dealt_to.ensures ∙ (ap (worker_of (run_facts g.A.Shape g.B.Shape c.args.job.run).deal c.loop-at.at) c.new-viewed.result.shown ∙ same))) c.loop-at.invariant.done;
+      (λ same. c.if-dealt_to-worker.true (c.dealt_to.ensures ∙ (ap (worker_of (run_facts g.A.Shape g.B.Shape c.args.job.run).deal c.loop-at.at) c.flow_in-flow.ensures.shown ∙ same))) c.loop-at.invariant.done;
 }
 
 pub loop-at-preserved : goal.loop-at-preserved
 loop-at-preserved g c = record {
   idle = c.judge_viewed-verdict.ensures.idle;
   done = rw c.in_ok-say.ensures.verdicts
-      (work_push _ _ _ _ _ _ _ _ _ _ (viewed c.new-viewed.result.frame) _
+      (work_push _ _ _ _ _ _ _ _ _ _ (viewed c.view-frame.result) _
       (record {
         stands = seen_at c.args.job.run.packets.now c.loop-at.at (record { moment = 0; frame = record { ref_ptr = (0, 0); now = [] } }) c.loop-at-test.true;
-        shown = c.new-viewed.ensures.seen.1;
-        only = c.new-viewed.ensures.only;
+        shown = c.view-frame.ensures.shown;
+        only = c.view-frame.ensures.only;
       })
-      (sym (c.dealt_to.ensures ∙ ap (worker_of (run_facts g.A.Shape g.B.Shape c.args.job.run).deal c.loop-at.at) c.new-viewed.result.shown) ∙ c.if-dealt_to-worker.false) (c.judge_viewed-verdict.ensures.judged _ c.new-viewed.ensures.seen)
+      (sym (c.dealt_to.ensures ∙ ap (worker_of (run_facts g.A.Shape g.B.Shape c.args.job.run).deal c.loop-at.at) c.flow_in-flow.ensures.shown) ∙ c.if-dealt_to-worker.false) (c.judge_viewed-verdict.ensures.judged _ (c.new-viewed.ensures.seen _ c.view-frame.ensures.shown))
       (λ several. c.in_ok-say.ensures.numbers (ne_eqb _ _ several)) c.loop-at.invariant.done);
 }
 

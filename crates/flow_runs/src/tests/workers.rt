@@ -2,11 +2,8 @@
 ghost use Rattle.std.specs.Prelude.{◌≤◌};
 
 use super::{NAMES, filter_of, request};
-use crate::Dealing;
-use crate::gate::Gate;
-use crate::workers::run_workers;
 use bihash_words::{ShapeV4, ShapeV6, flow_shapes_are_sound};
-use flow_filter::{Filter, Verdict};
+use flow_workers::{Dealing, Filter, Gate, Verdict, run_workers};
 use packet_view::Packet;
 use std::alloc::{AllocError, Global};
 use std::sync::Wait;
