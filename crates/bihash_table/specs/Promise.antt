@@ -32,7 +32,8 @@ pub record IsAnswered (z : Sizes) (v w : View) (e : Event) : Type 0 where
   pub alone : v.lone ≡ true → length history
       ≤ length (known_at v.known (bucket_of z e.key)) + own_writes e.reply
 
--- The call met a lock of another caller: it has no entry, and more may be known of bucket b alone.
+-- The call met another caller: a bucket's word that was locked or had changed, or the allocation lock. It has no
+-- entry, and more may be known of bucket b alone.
 pub record IsTurnedAway (z : Sizes) (v w : View) (b : ℕ) : Type 0 where
   pub history : List Write
   pub begins : IsPrefix (known_at v.known b) history

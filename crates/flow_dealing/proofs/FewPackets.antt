@@ -178,10 +178,13 @@ inside_flow times (Ruled moment tuple ruling) flow has =
     ap (λ f. is_in (family_of flow.key) (option_map (update_in times moment tuple ruling) f)) has ∙ family_as_itself (family_of flow.key)
 
 -- with so few packets of a family none of them is refused for want of pages
-pub pages_for_few : (d : Deal) (times : Timeouts) (policy : PolicyFacts) (packets : List Seen) (verdicts : List Verdict)
+abbrev IsPagedIn : Timeouts → Family → Judged → Type 0
+IsPagedIn times family j = is_in family (update_of times j.reading) ≡ true → HasPages j
+
+events_for_few : (d : Deal) (times : Timeouts) (policy : PolicyFacts) (packets : List Seen) (verdicts : List Verdict)
     (are : AreJudged d times policy packets verdicts) (family : Family) → AreFew d.layout times family are.judged
-    → All (HasPagesIn times family) are.judged
-pages_for_few d times policy packets verdicts are family few = all_from (HasPagesIn times family) are.judged (λ k j at is e its log2 left short.
+    → All (IsPagedIn times family) are.judged
+events_for_few d times policy packets verdicts are family few = all_from (IsPagedIn times family) are.judged (λ k j at is e its log2 left short.
     let recorded = are.recorded family in
     let v : View = view_in are.views family in
     let (flow, has, inside) = flow_inside d times family j.reading is in
@@ -198,14 +201,13 @@ pages_for_few d times policy packets verdicts are family few = all_from (HasPage
     let enough : (writes + 1) * 2 ^ M ≤ keyed times family are.judged * 2 ^ M = mul-le-mul_right (2 ^ M) (omega arith) in
     omega (arith, few, taken))
 
--- with so few packets of both families no verdict says that pages were wanting
-pub verdicts_for_few : (d : Deal) (times : Timeouts) (policy : PolicyFacts) (packets : List Seen) (verdicts : List Verdict)
-    (are : AreJudged d times policy packets verdicts) → ((family : Family) → AreFew d.layout times family are.judged) → HavePages verdicts
-verdicts_for_few d times policy packets verdicts are few =
-    subst HavePages (sym are.said) (All-map (λ v. v ≢ NoPages) (verdict_on times) are.judged
-    (all_from (λ j. verdict_on times j ≢ NoPages) are.judged (λ k j at.
+-- a packet that was judged has another verdict where it wasn't refused for want of pages
+told_else : (d : Deal) (times : Timeouts) (policy : PolicyFacts) (packets : List Seen) (verdicts : List Verdict)
+    (are : AreJudged d times policy packets verdicts) (k : ℕ) (j : Judged) → get_elem? are.judged k ≡ some j → HasPages j
+    → verdict_on times j ≢ NoPages
+told_else d times policy packets verdicts are k j at paged =
     let p = packet_of (readings_of are.judged) packets k j.reading are.read (after_map (λ (i : Judged). i.reading) are.judged k j at) in
-    paged_is_told times policy p.0 j p.1 (λ e its. has_pages k j at e its))))
+    paged_is_told times policy p.0 j p.1 paged
   where
     packet_of : (readings : List Reading) (ps : List Seen) (k : ℕ) (reading : Reading) → AreReadings policy ps readings
         → get_elem? readings k ≡ some reading → (packet : Seen) × IsReading policy packet reading
@@ -215,6 +217,22 @@ verdicts_for_few d times policy packets verdicts are few =
     packet_of (r ∷ rs) (p ∷ ps) zero reading read at = (p, subst (IsReading policy p) (some-injective r reading at) read.0)
     packet_of (r ∷ rs) (p ∷ ps) (suc k) reading read at = packet_of rs ps k reading read.1 at
 
+-- with so few packets of a family none of them is refused for want of pages, and no verdict of theirs says so
+pub pages_for_few : (d : Deal) (times : Timeouts) (policy : PolicyFacts) (packets : List Seen) (verdicts : List Verdict)
+    (are : AreJudged d times policy packets verdicts) (family : Family) → AreFew d.layout times family are.judged
+    → All (HasPagesIn times family) are.judged
+pages_for_few d times policy packets verdicts are family few = all_from (HasPagesIn times family) are.judged (λ k j at is.
+    let paged = all_at (IsPagedIn times family) are.judged k j (events_for_few d times policy packets verdicts are family few) at is in
+    (paged, told_else d times policy packets verdicts are k j at paged))
+
+-- with so few packets of both families no verdict says that pages were wanting
+pub verdicts_for_few : (d : Deal) (times : Timeouts) (policy : PolicyFacts) (packets : List Seen) (verdicts : List Verdict)
+    (are : AreJudged d times policy packets verdicts) → ((family : Family) → AreFew d.layout times family are.judged) → HavePages verdicts
+verdicts_for_few d times policy packets verdicts are few =
+    subst HavePages (sym are.said) (All-map (λ v. v ≢ NoPages) (verdict_on times) are.judged
+    (all_from (λ j. verdict_on times j ≢ NoPages) are.judged (λ k j at.
+    told_else d times policy packets verdicts are k j at (λ e its. has_pages k j at e its))))
+  where
     has_pages : (k : ℕ) (j : Judged) → get_elem? are.judged k ≡ some j → HasPages j
     has_pages k j at e its = go (flow_in j.reading) refl
       where
@@ -223,6 +241,6 @@ verdicts_for_few d times policy packets verdicts are few =
             let none : j.event ≡ None = subst (λ f. IsFlowEvent f j.event) is (asked_flow times j (all_at (IsAsked times) are.judged k j are.asked at)) in
             let clash = sym none ∙ its in let f : ⊥ = cc in absurd f
         go (Some flow) is =
-            all_at (HasPagesIn times (family_of flow.key)) are.judged k j
-            (pages_for_few d times policy packets verdicts are (family_of flow.key) (few (family_of flow.key))) at
+            all_at (IsPagedIn times (family_of flow.key)) are.judged k j
+            (events_for_few d times policy packets verdicts are (family_of flow.key) (few (family_of flow.key))) at
             (inside_flow times j.reading flow is) e its

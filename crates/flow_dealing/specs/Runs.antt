@@ -16,12 +16,13 @@ use Rattle.flow_filter.specs.declared.verdict.Verdict.{Verdict}
 use Rattle.flow_filter.specs.declared.verdict.Verdict.TheVariants.{NoPages}
 use Rattle.flow_filter.specs.Readings.{AreReadings}
 use Rattle.flow_filter.specs.Updates.{Update, update_of}
-use Rattle.flow_filter.specs.Judged.{AreAsked, Judged, readings_of, verdicts_on}
+use Rattle.flow_filter.specs.Judged.{AreAsked, Judged, readings_of, verdict_on, verdicts_on}
 use Rattle.flow_filter.specs.OneThread.{HasPages, Layout, family_of, same_family, sizes_in}
 use Rattle.flow_dealing.specs.Views.{Views, view_in}
 use Rattle.flow_dealing.specs.Dealings.{Deal, flow_in, worker_of}
 
--- an event of this family stands before the others
+-- An event of this family stands before the others.
+-- An update without an event can't occur where packets are asked (AreAsked).
 abbrev pub add_in : Family → Option Update → Option Event → List Event → List Event
 add_in family None event events = events
 add_in family (Some u) None events = events
@@ -69,9 +70,9 @@ keyed times family js = count_by (λ j. is_in family (update_of times j.reading)
 abbrev pub AreFew : Layout → Timeouts → Family → List Judged → Type 0
 AreFew l times family js = keyed times family js * 2 ^ (sizes_in l family).max_log2 ≤ (sizes_in l family).pages
 
--- a packet of this family's flows was not refused for want of pages
+-- a packet of this family's flows was not refused for want of pages, and its verdict doesn't say so
 abbrev pub HasPagesIn : Timeouts → Family → Judged → Type 0
-HasPagesIn times family j = is_in family (update_of times j.reading) ≡ true → HasPages j
+HasPagesIn times family j = is_in family (update_of times j.reading) ≡ true → HasPages j × (verdict_on times j ≢ NoPages)
 
 -- no verdict says no-pages
 abbrev pub HavePages : List Verdict → Type 0

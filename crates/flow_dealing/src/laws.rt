@@ -32,12 +32,12 @@ pub fn workers_give_one_report()
 {}
 
 /// With so few packets of a family's flows that its pages can't run out, none of them is refused for want of
-/// pages; and with so few of both families no verdict says that pages were wanting.
+/// pages, and none of their verdicts says that pages were wanting; with so few of both families no verdict does.
 pub fn few_packets_have_pages()
-    ensures events { (d : Deal) (times : Timeouts) (policy : PolicyFacts) (packets : List Seen) (verdicts : List Verdict)
+    ensures one_family { (d : Deal) (times : Timeouts) (policy : PolicyFacts) (packets : List Seen) (verdicts : List Verdict)
         (are : AreJudged d times policy packets verdicts) (family : Family) → AreFew d.layout times family are.judged
         → All (HasPagesIn times family) are.judged }
-    ensures verdicts { (d : Deal) (times : Timeouts) (policy : PolicyFacts) (packets : List Seen) (verdicts : List Verdict)
+    ensures both_families { (d : Deal) (times : Timeouts) (policy : PolicyFacts) (packets : List Seen) (verdicts : List Verdict)
         (are : AreJudged d times policy packets verdicts)
         → ((family : Family) → AreFew d.layout times family are.judged) → HavePages verdicts }
 {}

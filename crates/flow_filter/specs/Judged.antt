@@ -29,7 +29,8 @@ IsAsked times j = IsAskedBy (update_of times j.reading) j.event
 abbrev pub AreAsked : Timeouts → List Judged → Type 0
 AreAsked times js = All (IsAsked times) js
 
--- the verdict of the rules alone, where the packet has no flow, or by its event
+-- The verdict of the rules alone, where the packet has no flow, or by its event.
+-- An update without an event can't occur where packets are asked (IsAsked).
 abbrev pub verdict_by_event : Ruling → Option Update → Option Event → Verdict
 verdict_by_event ruling None event = verdict_of_rules ruling
 verdict_by_event ruling (Some u) None = verdict_of_rules ruling

@@ -65,7 +65,8 @@ same_family V6 V6 = true
 abbrev pub same_home : Home → Home → Bool
 same_home one other = same_family one.family other.family && (one.bucket == other.bucket)
 
--- a packet's event stands before the others where its key is of this bucket
+-- A packet's event stands before the others where its key is of this bucket.
+-- An update without an event can't occur where packets are asked (AreAsked).
 abbrev pub add_event : Layout → Home → Option Update → Option Event → List Event → List Event
 add_event l home None event events = events
 add_event l home (Some u) None events = events

@@ -17,4 +17,4 @@ reading_of p ruling = Ruled p.moment (facts p.tuple.now) ruling
 
 -- the packet's update, under what the rules say of it
 abbrev pub update_by : Timeouts → PacketFlow → Ruling → Update
-update_by times p ruling = update_in times p.moment (facts p.tuple.now) ruling p.flow
+update_by times p ruling = update_in times p.moment (facts p.tuple.now) ruling p.flow.now

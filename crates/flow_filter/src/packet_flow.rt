@@ -1,10 +1,10 @@
 //! A packet and its flow.
-ghost use Rattle.std.specs.Prelude.{◌≡◌, ◌<◌, IfSome, Some, option_map};
+ghost use Rattle.std.specs.Prelude.{◌≡◌, ◌<◌, Some};
 ghost use Rattle.packet_view.specs.Tuples.{facts};
 ghost use Rattle.session_state.specs.Flows.{flow_of};
 
 use packet_view::{Direction, Tuple};
-use session_state::{Flow, orient};
+use session_state::Flow;
 
 /// A packet that takes part in sessions.
 #[derive(Clone, Copy)]
@@ -13,25 +13,7 @@ pub struct PacketFlow<'a> {
     pub moment: u32,
     pub direction: Direction,
     pub tuple: &'a Tuple,
-    pub flow: Flow,
-    pub ghost of_tuple: { flow_of (facts tuple.now) ≡ Some flow },
-    pub ghost of_two: { flow.side < 2 },
-}
-
-impl<'a> PacketFlow<'a> {
-    /// The packet's flow. `None`: it takes no part in sessions.
-    pub fn find(moment: u32, direction: Direction, tuple: &'a Tuple) -> Option<PacketFlow<'a>>
-        ensures flow { flow_of (facts tuple.now) ≡ option_map (λ p. p.flow) result }
-        ensures moment { IfSome result (λ p. p.moment ≡ moment) }
-        ensures direction { IfSome result (λ p. p.direction ≡ direction) }
-        ensures tuple { IfSome result (λ p. p.tuple.now ≡ tuple.now) }
-    {
-        let flow = orient(tuple)?;
-        Some(PacketFlow {
-            moment,
-            direction,
-            tuple,
-            flow,
-        })
-    }
+    pub flow: &'a Flow,
+    pub ghost of_tuple: { flow_of (facts tuple.now) ≡ Some flow.now },
+    pub ghost of_two: { flow.now.side < 2 },
 }

@@ -3,10 +3,10 @@ ghost use Rattle.std.specs.Prelude.{IsTrue};
 ghost use Rattle.packet_view.specs.Addresses.{fields_suit};
 ghost use Rattle.packet_view.specs.declared.tuple.Family.TheVariants as Family;
 
-use crate::{Filter, PacketFlow, Verdict, verdict_of_rules};
+use crate::{Filter, Verdict, verdict_of_rules};
 use acl_policy::{Action, read_policy};
 use packet_view::{Direction, Family, Fields, Mac, Tuple};
-use session_state::{Flow, FlowKey, Timeouts};
+use session_state::Timeouts;
 use std::alloc::{AllocError, Global};
 use std::test::Fail;
 
@@ -79,23 +79,6 @@ fn prepared_rules_decide_as_the_listed_ones(rt: HostRuntime) -> Result<(), Fail>
     let outbound = ready.rules_of(Direction::Outbound);
     assert_eq!(rt; outbound.first_match(&udp), None);
     Ok(())
-}
-
-#[test]
-fn packets_find_their_flow(rt: HostRuntime) {
-    let udp = tuple(17, Fields::Ports { from: 80, to: 1000 });
-    let packet = PacketFlow::find(7, Direction::Outbound, &udp);
-    let moment_and_way = packet.map(|packet| (packet.moment, packet.direction));
-    assert_eq!(rt; moment_and_way, Some((7, Direction::Outbound)));
-    let flow = packet.map(|packet| packet.flow);
-    let wanted = Flow {
-        key: FlowKey::Four([0x0a00_0001_0a00_0002, 0x03e8_0050_1100_0000]),
-        side: 1,
-        starts: true,
-    };
-    assert_eq!(rt; flow, Some(wanted));
-    let fragment = tuple(17, Fields::Absent);
-    assert!(rt; PacketFlow::find(7, Direction::Outbound, &fragment).is_none());
 }
 
 #[test]

@@ -42,21 +42,25 @@ reading_of policy moment frames.Malformed ruling is = refl
 reading_of policy moment frames.Short ruling is = refl
 reading_of policy moment (frames.Ip direction tuple) ruling is = (ruling, is, refl)
 
+-- what is said of a filter at hand is said of the filter that it was made of
+pub of_filter : (P : Timeouts → PolicyFacts → Type 0) {t u : Timeouts} {p q : PolicyFacts} → t ≡ u → p ≡ q → P t p → P u q
+of_filter P {t} {u} {p} {q} times policy is = subst (λ other. P other q) times (subst (P t) policy is)
+
 -- a packet that was viewed, under what the rules say of it
 pub record IsRuled (policy : PolicyFacts) (s : Seen) (p : ViewedPacket) (ruling : Ruling) : Type 0 where
   pub seen : IsViewed policy.own s p
-  pub ruled : IsRuling policy (viewed p.frame) ruling
+  pub ruled : IsRuling policy (viewed p.frame.now) ruling
 
 abbrev pub reading_in : ViewedPacket → Ruling → Reading
-reading_in p ruling = reading_with p.moment (viewed p.frame) ruling
+reading_in p ruling = reading_with p.moment (viewed p.frame.now) ruling
 
 reads : (policy : PolicyFacts) (s : Seen) (p : ViewedPacket) (ruling : Ruling) → IsRuled policy s p ruling
     → IsReading policy s (reading_in p ruling)
 reads policy s p ruling is = (
-  viewed p.frame,
+  viewed p.frame.now,
   is.seen.1,
-  subst (λ moment. IsReadingOf policy moment (viewed p.frame) (reading_in p ruling)) (sym is.seen.0)
-      (reading_of policy p.moment (viewed p.frame) ruling is.ruled),
+  subst (λ moment. IsReadingOf policy moment (viewed p.frame.now) (reading_in p ruling)) (sym is.seen.0)
+      (reading_of policy p.moment (viewed p.frame.now) ruling is.ruled),
 )
 
 pub settled : (l : Layout) (times : Timeouts) (policy : PolicyFacts) (s : Seen) (p : ViewedPacket) (ruling : Ruling) (v : Views) (verdict : Verdict)
@@ -89,7 +93,7 @@ answered l times policy s p ruling v w verdict u reply is asks entered said = re
   read = reads policy s p ruling is;
   asked = subst (λ update. IsAskedBy update (Some event)) (sym asks) (event, refl, record { key = refl; change = refl });
   entered = subst (λ update. IsEnteredBy l update (Some event) v w) (sym asks) entered;
-  said = said ∙ sym (said_by times p.moment (viewed p.frame) ruling u event asks);
+  said = said ∙ sym (said_by times p.moment (viewed p.frame.now) ruling u event asks);
 }
   where
     event : Event

@@ -1,5 +1,5 @@
 -- What workers said, placed in the order of the packets.
-use Rattle.std.proofs.Common.{◌≡◌, ◌≢◌, ◌∙◌, ◌+◌, ◌<◌, ◌≤◌, ℕ, zero, suc, Bool, true, false, cond, List, [], ◌∷◌, ◌++◌, get_or, length, map, Option, Some, None, IfOk, Result, Ok, Err, ap, refl, sym, subst, arith, inl, inr, eq-eqb}
+use Rattle.std.proofs.Common.{◌≡◌, ◌≢◌, ◌∙◌, ◌+◌, ◌<◌, ◌≤◌, ℕ, zero, suc, Bool, true, false, cond, List, [], ◌∷◌, ◌++◌, get_or, length, Option, Some, IfOk, Result, Ok, Err, ap, refl, sym, subst, arith, inl, inr, eq-eqb}
 use Rattle.std.specs.Prelude.{◌==◌, slice_get}
 use Rattle.std.specs.List.{All, AllZip}
 use Rattle.std.proofs.Math.ListN.{set}
@@ -16,14 +16,14 @@ use Rattle.packet_view.specs.declared.tuple.Mac.{Mac}
 use Rattle.packet_view.proofs.FrameLemmas.{view_only, view_shown}
 use Rattle.bihash_steps.proofs.Lists.{there, within}
 use Rattle.flow_filter.specs.declared.verdict.Verdict.{Verdict}
-use Rattle.flow_filter.specs.Readings.{IsReading, Reading}
+use Rattle.flow_filter.specs.Readings.{IsReading}
 use Rattle.flow_dealing.specs.Dealings.{Deal, flow_in, flow_shown, worker_of}
-use Rattle.flow_dealing.specs.Traces.{ArePlaced, AreTraces, AreViews, IsItemOf, IsTrace, Item, numbers_from, numbers_of, verdict_in}
+use Rattle.flow_dealing.specs.Traces.{ArePlaced, AreViews, IsItemOf, Item, numbers_from, verdict_in}
 use Rattle.flow_dealing.proofs.Merging.{worker_few}
 use Rattle.flow_dealing.proofs.Places.{after_map, all_at, all_from, before_map, zip_count}
 use Rattle.flow_workers.specs.declared.share.Said.{Said}
 use Rattle.flow_workers.specs.Work.{AreSaid, RunFacts}
-use Rattle.flow_workers.specs.Placing.{AgreesWith, AreAllSaid, ArePaired, IsPlaced, IsSaid}
+use Rattle.flow_workers.specs.Placing.{AgreesWith, AreAllSaid, ArePaired, IsSaid}
 use Rattle.flow_workers.proofs.WorkSteps.{IsAt, flow_at, no_numbers, numbers_cons}
 
 -- ---- One verdict more
@@ -56,6 +56,13 @@ set_right xs m n x w inside here there = elim (eqb_tells n m) [
   | inl (test, same) ↦ ap (get_elem? (set xs m x)) same ∙ (at_set xs m x inside ∙ ap some (here same))
   | inr (test, other) ↦ at_other xs m n x other ∙ there other
 ]
+
+-- the verdicts after the first k that were said are placed
+pub record IsPlaced (said : Said) (old : List Verdict) (k : ℕ) (verdicts : List Verdict) : Type 0 where
+  pub count : length verdicts ≡ length old
+  pub kept : (n : ℕ) (w : Verdict) → get_elem? old n ≡ some w → ((v : Verdict) → IsSaid said n v → v ≡ w)
+      → get_elem? verdicts n ≡ some w
+  pub placed : AgreesWith said said → (n : ℕ) (v : Verdict) (is : IsSaid said n v) → is.place < k → get_elem? verdicts n ≡ some v
 
 pub placed_none : (said : Said) (old : List Verdict) → IsPlaced said old 0 old
 placed_none said old = record { count = refl; kept = λ n w at same. at; placed = λ agree n v is below. absurd (omega arith) }

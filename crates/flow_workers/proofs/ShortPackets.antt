@@ -89,9 +89,9 @@ pub short_packet : {A B K L : Type 0} (ga : Ghosts A K) (gb : Ghosts B L) (own :
     → verdict_of u.patch ruling found r ≡ verdict.NoPages → IsShort ga gb own s w
 short_packet ga gb own times s p ruling u w r found seen asks short e =
     let told = told_no_pages u.patch ruling found r e in
-    let flow = flow_updated times p.moment (viewed p.frame) ruling u asks in
+    let flow = flow_updated times p.moment (viewed p.frame.now) ruling u asks in
     record {
-      view = viewed p.frame;
+      view = viewed p.frame.now;
       framed = seen.1;
       flow = flow.0;
       shown = flow.1;

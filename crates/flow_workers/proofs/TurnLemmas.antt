@@ -1,21 +1,16 @@
 -- Turns of a run, ahead and over.
-use Rattle.std.proofs.Common.{◌≡◌, ◌∙◌, ◌+◌, ◌<◌, ℕ, zero, suc, List, [], ◌∷◌, ◌++◌, length, get_or, map, IfOk, Result, Ok, Err, ap, refl, sym, subst, arith, append-nil, length-append}
+use Rattle.std.proofs.Common.{◌≡◌, ◌∙◌, ◌+◌, ◌<◌, ℕ, zero, suc, List, [], ◌∷◌, ◌++◌, length, get_or, IfOk, Result, Ok, Err, ap, refl, sym, subst, arith, length-append}
 use Rattle.std.specs.List.{All, AllZip}
-use Rattle.std.proofs.lemmas.List.{length-map}
 use Rattle.std.proofs.lemmas.List.Elements.{All-from_get_or}
-use Rattle.std.proofs.lemmas.Slice.Zip.{AllZip-long}
-use Rattle.packet_view.specs.Captures.{seen}
-use Rattle.packet_view.specs.Frames as frames
 use Rattle.packet_view.specs.declared.tuple.Family.{Family}
 use Rattle.packet_view.specs.declared.tuple.Family.TheVariants.{V4, V6}
-use Rattle.bihash_words.specs.Sizes.{Sizes, sizes_of}
+use Rattle.bihash_words.specs.Sizes.{Sizes}
 use Rattle.bihash_words.specs.declared.shape.Shape.{Ghosts}
 use Rattle.bihash_steps.specs.Views.{empty_record, first_view}
 use Rattle.bihash_steps.specs.declared.view.View.{View}
 use Rattle.session_state.specs.declared.timeouts.Timeouts.{Timeouts}
-use Rattle.flow_filter.specs.declared.verdict.Verdict.{Verdict}
 use Rattle.flow_dealing.specs.Views.{Views}
-use Rattle.flow_dealing.specs.Traces.{HasCalls, HaveTraces, IsTrace, Item, calls_in}
+use Rattle.flow_dealing.specs.Traces.{HasCalls, HaveTraces, Item, calls_in}
 use Rattle.flow_workers.specs.declared.share.Job.{Job}
 use Rattle.flow_workers.specs.declared.share.Share.{Share}
 use Rattle.flow_workers.specs.declared.tables.Tables.{Tables}
@@ -23,10 +18,9 @@ use Rattle.flow_workers.specs.declared.turn.Turn.{Turn}
 use Rattle.flow_workers.specs.declared.turn.Turn.TheVariants.{Ahead, Over}
 use Rattle.flow_workers.specs.Callers.{AreIdle, views_of}
 use Rattle.flow_workers.specs.Fresh.{IsFresh}
-use Rattle.flow_workers.specs.Work.{AreSaid, Continues, IsWork, RunFacts}
+use Rattle.flow_workers.specs.Work.{Continues, IsWork, RunFacts}
 use Rattle.flow_workers.specs.Jobs.{IsShareOf, run_facts}
 use Rattle.flow_workers.specs.Turns.{Becomes, CanTake, IsAhead, IsDone, IsJob, IsOver}
-use Rattle.flow_workers.proofs.WorkSteps.{all_looked_at}
 
 -- a fact of each element, when one more comes
 pub below_push : {X : Type 0} (P : ℕ → X → Type 0) (xs : List X) (x : X) → ((i : ℕ) (d : X) → i < length xs → P i (get_or xs i d)) → P (length xs) x
@@ -64,21 +58,13 @@ fresh_trace times family v w t fresh goes = let r = goes.calls (empty_record fre
   openings = goes.openings ∙ fresh.openings;
 }
 
-trace_of_work : (run : RunFacts) (w : ℕ) (v u : Views) (verdicts : List Verdict) (numbers : List ℕ)
-    (work : IsWork run w (length run.packets) v u verdicts numbers) → IsTrace run.deal run.times w run.policy run.packets work.trace
-trace_of_work run w v u verdicts numbers work = record {
-  items = work.items;
-  of = work.of;
-  dealt = all_looked_at run w v u verdicts numbers work;
-}
-
 module _ {A B R G K L : Type 0} (ga : Ghosts A K) (gb : Ghosts B L) (tables : Tables A B K L) (run : RunFacts) (w : ℕ) where
   done : (job : Job A B R G K L ga gb) (share : Share A B K L ga gb) → IsJob ga gb tables run w job → IsShareOf ga gb job share
       → IsDone ga gb tables run w share
   done job share is did = record {
     idle = subst (λ (t : Tables A B K L). AreIdle ga gb t share.callers) is.own did.idle;
     trace = work.trace;
-    is = trace_of_work run w v u share.said.verdicts.items share.said.numbers.items work;
+    is = work.is;
     four = fresh_trace run.times V4 v.four u.four work.trace is.fresh.0 work.four;
     six = fresh_trace run.times V6 v.six u.six work.trace is.fresh.1 work.six;
     said = work.said;
@@ -90,12 +76,10 @@ module _ {A B R G K L : Type 0} (ga : Ghosts A K) (gb : Ghosts B L) (tables : Ta
       u : Views
       u = views_of ga gb share.callers
 
-      work : IsWork run w (length run.packets) v u share.said.verdicts.items share.said.numbers.items
+      work : IsWork run w v u share.said.verdicts.items share.said.numbers.items
       work =
-          subst (λ (f : RunFacts). IsWork f w (length f.packets) v u share.said.verdicts.items share.said.numbers.items) is.facts
-          (subst (λ k. IsWork (run_facts ga gb job.run) w k v u share.said.verdicts.items share.said.numbers.items) (sym (length-map job.run.packets.now seen))
-          (subst (λ (k : ℕ). IsWork (run_facts ga gb job.run) k (length job.run.packets.now) v u share.said.verdicts.items share.said.numbers.items) is.worker
-          did.done))
+          subst (λ (f : RunFacts). IsWork f w v u share.said.verdicts.items share.said.numbers.items) is.facts
+          (subst (λ k. IsWork (run_facts ga gb job.run) k v u share.said.verdicts.items share.said.numbers.items) is.worker did.done)
 
   pub turned : (t u : Turn A B R G K L ga gb) → IsAhead ga gb tables run w t → Becomes ga gb t u → IsOver ga gb tables run w u
   turned (Ahead job) (Ahead other) is did = absurd did

@@ -1,7 +1,7 @@
 -- One packet more of a worker.
 use Rattle.std.proofs.Common.{◌≡◌, ◌≢◌, ◌∙◌, ◌+◌, ◌<◌, ℕ, zero, suc, Bool, true, false, cond, List, [], ◌∷◌, ◌++◌, length, get_or, drop, map, Option, Some, None, ap, refl, sym, subst, arith, append_assoc, append-nil, add-one, eq-eqb}
 use Rattle.std.specs.Prelude.{if◌then◌else◌, ◌==◌, option_map, slice_get}
-use Rattle.std.specs.List.{All, AllZip}
+use Rattle.std.specs.List.{All}
 use Rattle.std.proofs.lemmas.Bool.{ne_eqb}
 use Rattle.std.proofs.lemmas.List.Elements.{All-nil, All-push}
 use Rattle.std.proofs.lemmas.List.{map-append}
@@ -28,7 +28,7 @@ use Rattle.session_state.specs.declared.timeouts.Timeouts.{Timeouts}
 use Rattle.flow_filter.specs.declared.verdict.Verdict.{Verdict}
 use Rattle.flow_filter.specs.Readings.{IsReading, IsReadingOf, Reading}
 use Rattle.flow_filter.specs.Updates.{Update, update_of, words_of}
-use Rattle.flow_filter.specs.Judged.{IsAskedBy, Judged, verdict_on}
+use Rattle.flow_filter.specs.Judged.{IsAskedBy, verdict_on}
 use Rattle.flow_filter.specs.OneThread.{Layout, family_of, home_of, same_family}
 use Rattle.flow_dealing.specs.Views.{Views}
 use Rattle.flow_dealing.specs.Dealings.{Deal, flow_in, flow_shown, worker_of}
@@ -164,6 +164,17 @@ flow_of_reading policy moment frames.Malformed reading is = ap flow_in is
 flow_of_reading policy moment frames.Short reading is = ap flow_in is
 flow_of_reading policy moment (frames.Ip direction tuple) reading is = ap flow_in is.2
 
+-- a worker has looked at so many packets, and judged its own
+pub record IsWorkUntil (run : RunFacts) (worker at : ℕ) (v w : Views) (verdicts : List Verdict) (numbers : List ℕ) : Type 0 where
+  pub trace : List Item
+  pub items : All (IsItem run.deal.layout run.times) trace
+  pub of : All (IsItemOf run.deal worker run.policy run.packets) trace
+  pub dealt : (views : List frames.View) → AreViews run.policy.own run.packets views
+      → numbers_of trace ++ numbers_from run.deal worker at (drop at views) ≡ numbers_from run.deal worker 0 views
+  pub four : Continues v.four w.four (calls_in run.times V4 trace)
+  pub six : Continues v.six w.six (calls_in run.times V6 trace)
+  pub said : AreSaid run trace verdicts numbers
+
 -- what is known of the packet at a place, and of its frame
 pub record IsAt (run : RunFacts) (at : ℕ) (packet : Seen) (view : frames.View) : Type 0 where
   pub stands : slice_get run.packets at ≡ Some packet
@@ -175,7 +186,7 @@ pub flow_at : (run : RunFacts) (at : ℕ) (packet : Seen) (view : frames.View) (
     → IsReading run.policy packet reading → flow_in reading ≡ flow_shown view
 flow_at run at packet view reading is read = flow_of_reading run.policy packet.moment read.0 reading read.2 ∙ ap flow_shown (is.only read.0 read.1)
 
-pub work_none : (run : RunFacts) (w : ℕ) (v : Views) → IsWork run w 0 v v [] []
+pub work_none : (run : RunFacts) (w : ℕ) (v : Views) → IsWorkUntil run w 0 v v [] []
 work_none run w v = record {
   trace = [];
   items = All-nil (IsItem run.deal.layout run.times);
@@ -198,7 +209,7 @@ numbers_at run w at packet view is views all t test =
 
 pub work_passed : (run : RunFacts) (w at : ℕ) (v x : Views) (verdicts : List Verdict) (numbers : List ℕ) (packet : Seen) (view : frames.View)
     → IsAt run at packet view → worker_of run.deal at (flow_shown view) ≢ w
-    → IsWork run w at v x verdicts numbers → IsWork run w (at + 1) v x verdicts numbers
+    → IsWorkUntil run w at v x verdicts numbers → IsWorkUntil run w (at + 1) v x verdicts numbers
 work_passed run w at v x verdicts numbers packet view is other old = record {
   trace = old.trace;
   items = old.items;
@@ -224,7 +235,7 @@ pub work_push : (run : RunFacts) (w at : ℕ) (v x y : Views) (verdicts : List V
     (verdict : Verdict) → IsAt run at packet view → worker_of run.deal at (flow_shown view) ≡ w
     → IsJudged run.deal.layout run.times run.policy packet x y verdict
     → (run.deal.workers ≢ 1 → more ≡ numbers ++ at ∷ [])
-    → IsWork run w at v x verdicts numbers → IsWork run w (at + 1) v y (verdicts ++ verdict ∷ []) more
+    → IsWorkUntil run w at v x verdicts numbers → IsWorkUntil run w (at + 1) v y (verdicts ++ verdict ∷ []) more
 work_push run w at v x y verdicts numbers more packet view verdict is mine j noted old = record {
   trace = old.trace ++ item ∷ [];
   items = All-push (IsItem run.deal.layout run.times) old.trace item old.items (record { asked = asked; placed = left.placed });
@@ -273,10 +284,21 @@ no_views own [] (view ∷ views) all = absurd all
 no_views own (p ∷ ps) [] all = absurd all
 no_views own (p ∷ ps) (view ∷ views) all = no_views own ps views all.1
 
-pub all_looked_at : (run : RunFacts) (w : ℕ) (v u : Views) (verdicts : List Verdict) (numbers : List ℕ)
-    (work : IsWork run w (length run.packets) v u verdicts numbers) (views : List frames.View) → AreViews run.policy.own run.packets views
+all_looked_at : (run : RunFacts) (w : ℕ) (v u : Views) (verdicts : List Verdict) (numbers : List ℕ)
+    (work : IsWorkUntil run w (length run.packets) v u verdicts numbers) (views : List frames.View) → AreViews run.policy.own run.packets views
     → numbers_of work.trace ≡ numbers_from run.deal w 0 views
 all_looked_at run w v u verdicts numbers work views all =
     sym (ap (λ vs. numbers_of work.trace ++ numbers_from run.deal w (length run.packets) vs) (no_views run.policy.own run.packets views all)
     ∙ (ap (λ ns. numbers_of work.trace ++ ns) (no_numbers run.deal w (length run.packets)) ∙ append-nil (numbers_of work.trace)))
     ∙ work.dealt views all
+
+-- who has looked at all packets judged its own, all of them
+pub whole_work : (run : RunFacts) (w : ℕ) (v u : Views) (verdicts : List Verdict) (numbers : List ℕ)
+    → IsWorkUntil run w (length run.packets) v u verdicts numbers → IsWork run w v u verdicts numbers
+whole_work run w v u verdicts numbers work = record {
+  trace = work.trace;
+  is = record { items = work.items; of = work.of; dealt = all_looked_at run w v u verdicts numbers work };
+  four = work.four;
+  six = work.six;
+  said = work.said;
+}

@@ -1,5 +1,5 @@
 -- What a worker is given, and what it gives back.
-use Rattle.std.specs.Prelude.{◌<◌, length, map}
+use Rattle.std.specs.Prelude.{◌<◌, map}
 use Rattle.packet_view.specs.Captures.{seen}
 use Rattle.bihash_words.specs.declared.shape.Shape.{Ghosts}
 use Rattle.flow_filter.specs.Filters.{policy_in}
@@ -27,5 +27,5 @@ pub record CanWork {A B R G K L : Type 0} (ga : Ghosts A K) (gb : Ghosts B L) (j
 pub record IsShareOf {A B R G K L : Type 0} (ga : Ghosts A K) (gb : Ghosts B L) (job : Job A B R G K L ga gb)
     (share : Share A B K L ga gb) : Type 0 where
   pub idle : AreIdle ga gb job.run.tables.now share.callers
-  pub done : IsWork (run_facts ga gb job.run) job.worker (length job.run.packets.now) (views_of ga gb job.callers)
-      (views_of ga gb share.callers) share.said.verdicts.items share.said.numbers.items
+  pub done : IsWork (run_facts ga gb job.run) job.worker (views_of ga gb job.callers) (views_of ga gb share.callers)
+      share.said.verdicts.items share.said.numbers.items

@@ -29,10 +29,3 @@ pub record AreAllSaid (run : RunFacts) (traces : List (List Item)) (all : List S
   pub traced : AreTraces run.deal run.times run.policy run.packets traces
   pub said : AllZip (λ trace s. AreSaid run trace s.verdicts.items s.numbers.items) traces all
   pub count : length run.packets ≡ packets
-
--- the verdicts after the first k that were said are placed
-pub record IsPlaced (said : Said) (old : List Verdict) (k : ℕ) (verdicts : List Verdict) : Type 0 where
-  pub count : length verdicts ≡ length old
-  pub kept : (n : ℕ) (w : Verdict) → get_elem? old n ≡ some w → ((v : Verdict) → IsSaid said n v → v ≡ w)
-      → get_elem? verdicts n ≡ some w
-  pub placed : AgreesWith said said → (n : ℕ) (v : Verdict) (is : IsSaid said n v) → is.place < k → get_elem? verdicts n ≡ some v

@@ -33,4 +33,4 @@ abbrev pub IsPrepared : {D : Type 0} (g : Ghosts D) → Timeouts → Reading →
 IsPrepared g times reading (Settled verdict) =
     (update_of times reading ≡ None) × (verdict ≡ verdict_with times reading None)
 IsPrepared g times reading (Asks key patch) =
-    update_of times reading ≡ Some (record { key = key; patch = facts_of g patch })
+    update_of times reading ≡ Some (record { key = key.now; patch = facts_of g patch })

@@ -7,4 +7,4 @@ use Rattle.flow_workers.specs.declared.viewed_packet.ViewedPacket.{ViewedPacket}
 
 -- the packet is this at the interface with this address
 abbrev pub IsViewed : Option Mac → Seen → ViewedPacket → Type 0
-IsViewed own packet v = (packet.moment ≡ v.moment) × IsFrame packet.frame own (viewed v.frame)
+IsViewed own packet v = (packet.moment ≡ v.moment) × IsFrame packet.frame own (viewed v.frame.now)

@@ -12,11 +12,11 @@ ghost use Rattle.flow_workers.specs.ViewedPackets.{IsViewed};
 use crate::prepared::Prepared;
 use crate::tables::{Callers, Tables};
 use crate::updates::{try_update, update};
-use crate::viewed_packet::ViewedPacket;
+use crate::viewed_packet::{ViewedPacket, flow_in};
 use bihash_table::Contended;
 use bihash_words::Shape;
 use flow_filter::{Filter, HasRuling, ReadyFilter, Verdict};
-use packet_view::Packet;
+use packet_view::{Packet, view};
 use std::marker::Brand;
 use std::sync::Wait;
 
@@ -25,11 +25,11 @@ fn try_judge_as<A: Shape, B: Shape, D: HasRuling>(
     filter: &ReadyFilter<'_>,
     tables: &Tables<A, B>,
     callers: &mut Callers<A, B>,
-    packet: &ViewedPacket,
+    packet: &ViewedPacket<'_>,
 ) -> Result<Verdict, Contended>
     requires shapes { AreShapes ⟦<A as Shape>⟧ ⟦<B as Shape>⟧ }
     requires idle { AreIdle ⟦<A as Shape>⟧ ⟦<B as Shape>⟧ tables.now callers.old }
-    requires ruling { IsRuling (policy_in filter.now) (viewed packet.now.frame) D.ruling }
+    requires ruling { IsRuling (policy_in filter.now) (viewed packet.now.frame.now) D.ruling }
     ensures same { AreSame ⟦<A as Shape>⟧ ⟦<B as Shape>⟧ callers.old callers.new }
     ensures idle { AreIdle ⟦<A as Shape>⟧ ⟦<B as Shape>⟧ tables.now callers.new }
     ensures judged { IfOk result (λ verdict. (s : Seen) → IsViewed filter.now.own s packet.now
@@ -43,7 +43,7 @@ fn try_judge_as<A: Shape, B: Shape, D: HasRuling>(
 {
     match Prepared::<D>::new(filter, packet) {
         Prepared::Settled(verdict) => Ok(verdict),
-        Prepared::Asks(key, patch) => match try_update(tables, callers, key, &patch) {
+        Prepared::Asks(key, patch) => match try_update(tables, callers, *key, &patch) {
             Ok(reply) => Ok(patch.verdict(reply)),
             Err(contended) => Err(contended),
         },
@@ -56,11 +56,11 @@ fn judge_as<A: Shape, B: Shape, D: HasRuling, R: Wait>(
     filter: &ReadyFilter<'_>,
     tables: &Tables<A, B>,
     callers: &mut Callers<A, B>,
-    packet: &ViewedPacket,
+    packet: &ViewedPacket<'_>,
 ) -> Verdict
     requires shapes { AreShapes ⟦<A as Shape>⟧ ⟦<B as Shape>⟧ }
     requires idle { AreIdle ⟦<A as Shape>⟧ ⟦<B as Shape>⟧ tables.now callers.old }
-    requires ruling { IsRuling (policy_in filter.now) (viewed packet.now.frame) D.ruling }
+    requires ruling { IsRuling (policy_in filter.now) (viewed packet.now.frame.now) D.ruling }
     ensures same { AreSame ⟦<A as Shape>⟧ ⟦<B as Shape>⟧ callers.old callers.new }
     ensures idle { AreIdle ⟦<A as Shape>⟧ ⟦<B as Shape>⟧ tables.now callers.new }
     ensures judged { (s : Seen) → IsViewed filter.now.own s packet.now
@@ -71,7 +71,7 @@ fn judge_as<A: Shape, B: Shape, D: HasRuling, R: Wait>(
     match Prepared::<D>::new(filter, packet) {
         Prepared::Settled(verdict) => verdict,
         Prepared::Asks(key, patch) => {
-            let reply = update(rt, tables, callers, key, &patch);
+            let reply = update(rt, tables, callers, *key, &patch);
             patch.verdict(reply)
         }
     }
@@ -83,7 +83,7 @@ pub fn judge_viewed<A: Shape, B: Shape, R: Wait>(
     filter: &ReadyFilter<'_>,
     tables: &Tables<A, B>,
     callers: &mut Callers<A, B>,
-    packet: &ViewedPacket,
+    packet: &ViewedPacket<'_>,
 ) -> Verdict
     requires shapes { AreShapes ⟦<A as Shape>⟧ ⟦<B as Shape>⟧ }
     requires idle { AreIdle ⟦<A as Shape>⟧ ⟦<B as Shape>⟧ tables.now callers.old }
@@ -115,7 +115,9 @@ pub fn judge<A: Shape, B: Shape, R: Wait>(
         callers.new result }
 {
     let filter = filter.ready();
-    let packet = ViewedPacket::new(packet, filter.own);
+    let frame = view(packet.frame, filter.own);
+    let flow = flow_in(&frame);
+    let packet = ViewedPacket::new(packet, &frame, &flow);
     judge_viewed(rt, &filter, tables, callers, &packet)
 }
 
@@ -141,6 +143,8 @@ pub fn try_judge<A: Shape, B: Shape>(
         → is_ok result ≡ true }
 {
     let filter = filter.ready();
-    let packet = ViewedPacket::new(packet, filter.own);
+    let frame = view(packet.frame, filter.own);
+    let flow = flow_in(&frame);
+    let packet = ViewedPacket::new(packet, &frame, &flow);
     try_judge_as::<A, B, Brand>(&filter, tables, callers, &packet)
 }

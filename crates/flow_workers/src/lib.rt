@@ -24,6 +24,3 @@ pub use judging::{judge, try_judge};
 pub use run_fault::RunFault;
 pub use tables::{Callers, Tables, create_tables};
 pub use workers::run_workers;
-
-#[cfg(test)]
-mod tests;

@@ -11,7 +11,7 @@ pub enum Prepared<'a, D: HasRuling> {
     /// The packet takes no part in sessions.
     Settled(Verdict),
     /// The update that decides it.
-    Asks(FlowKey, LazyPatch<'a, D>),
+    Asks(&'a FlowKey, LazyPatch<'a, D>),
 }
 
 impl<'a, D: HasRuling> Prepared<'a, D> {
@@ -20,12 +20,13 @@ impl<'a, D: HasRuling> Prepared<'a, D> {
     ghost use Rattle.flow_workers.specs.Preparing.{IsPrepared, IsRuling, reading_with};
 
     /// The rules are asked here only where the packet takes no part in sessions.
-    pub fn new(filter: &ReadyFilter<'a>, packet: &'a ViewedPacket) -> Prepared<'a, D>
-        requires { IsRuling (policy_in filter.now) (viewed packet.now.frame) D.ruling }
+    pub fn new(filter: &ReadyFilter<'a>, packet: &ViewedPacket<'a>) -> Prepared<'a, D>
+        requires { IsRuling (policy_in filter.now) (viewed packet.now.frame.now) D.ruling }
         ensures { IsPrepared ⟦<D as HasRuling>⟧ filter.now.times
-            (reading_with packet.now.moment (viewed packet.now.frame) D.ruling) result }
+            (reading_with packet.now.moment (viewed packet.now.frame.now) D.ruling) result }
     {
-        match &packet.frame {
+        let frame = packet.frame;
+        match frame {
             Frame::NotIp => Prepared::Settled(Verdict::NotIp),
             Frame::Malformed => Prepared::Settled(Verdict::Malformed),
             Frame::Short => Prepared::Settled(Verdict::Short),
@@ -40,7 +41,7 @@ impl<'a, D: HasRuling> Prepared<'a, D> {
                     tuple,
                     flow,
                 };
-                Prepared::Asks(flow.key, LazyPatch::new(filter, asking))
+                Prepared::Asks(&flow.key, LazyPatch::new(filter, asking))
             }
         }
     }

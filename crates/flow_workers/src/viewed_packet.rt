@@ -4,22 +4,23 @@ ghost use Rattle.std.specs.Option.{ForSome};
 ghost use Rattle.packet_view.specs.Frames.{viewed};
 ghost use Rattle.flow_dealing.specs.Dealings.{flow_shown};
 
-use packet_view::{Frame, Mac, Packet, view};
+use packet_view::{Frame, Packet};
 use session_state::{Flow, orient};
 
-/// A packet whose frame was viewed.
+/// A packet whose frame was viewed. Its frame and flow stay where they were made.
 #[derive(Clone, Copy)]
-pub struct ViewedPacket {
+pub struct ViewedPacket<'a> {
     /// When the packet came, in seconds.
     pub moment: u32,
-    pub frame: Frame,
+    pub frame: &'a Frame,
     /// `None`: the packet takes no part in sessions.
-    pub flow: Option<Flow>,
-    pub ghost shown: { flow ≡ flow_shown (viewed frame) },
-    pub ghost of_two: { ForSome flow (λ f. f.side < 2) },
+    pub flow: &'a Option<Flow>,
+    pub ghost shown: { flow.now ≡ flow_shown (viewed frame.now) },
+    pub ghost of_two: { ForSome flow.now (λ f. f.side < 2) },
 }
 
-fn flow_in(frame: &Frame) -> Option<Flow>
+/// The flow of a packet with this frame. `None`: it takes no part in sessions.
+pub fn flow_in(frame: &Frame) -> Option<Flow>
     ensures shown { result ≡ flow_shown (viewed frame.now) }
     ensures side { ForSome result (λ f. f.side < 2) }
 {
@@ -29,21 +30,26 @@ fn flow_in(frame: &Frame) -> Option<Flow>
     }
 }
 
-impl ViewedPacket {
+impl<'a> ViewedPacket<'a> {
+    ghost use Rattle.std.specs.Prelude.{Option};
     ghost use Rattle.packet_view.specs.Captures.{seen};
-    ghost use Rattle.packet_view.specs.Frames.{IsFrame, View, viewed};
+    ghost use Rattle.packet_view.specs.Frames.{IsFrame, viewed};
+    ghost use Rattle.packet_view.specs.declared.tuple.Mac.{Mac};
+    ghost use Rattle.flow_dealing.specs.Dealings.{flow_shown};
     ghost use Rattle.flow_workers.specs.ViewedPackets.{IsViewed};
 
-    /// The packet as it is at the interface with this address.
-    pub fn new(packet: &Packet<'_>, own: Option<Mac>) -> ViewedPacket
-        ensures seen { IsViewed own (seen packet.now) result }
-        ensures only { (other : View) → IsFrame packet.now.frame.now own other → other ≡ viewed result.frame }
+    /// The packet, whose frame turned out to be this and shows this flow.
+    pub fn new(packet: &Packet<'_>, frame: &'a Frame, flow: &'a Option<Flow>) -> ViewedPacket<'a>
+        requires shown { flow.now ≡ flow_shown (viewed frame.now) }
+        requires side { ForSome flow.now (λ f. f.side < 2) }
+        ensures seen { (own : Option Mac) → IsFrame packet.now.frame.now own (viewed frame.now)
+            → IsViewed own (seen packet.now) result }
+        ensures frame { result.frame.now ≡ frame.now }
     {
-        let frame = view(packet.frame, own);
         ViewedPacket {
             moment: packet.moment,
             frame,
-            flow: flow_in(&frame),
+            flow,
         }
     }
 }

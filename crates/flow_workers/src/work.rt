@@ -8,10 +8,11 @@ ghost use Rattle.flow_workers.specs.Jobs.{CanWork, IsShareOf};
 use crate::gate::Gate;
 use crate::judging::judge_viewed;
 use crate::share::{Job, Said, Share};
-use crate::viewed_packet::ViewedPacket;
+use crate::viewed_packet::{ViewedPacket, flow_in};
 use bihash_words::Shape;
 use flow_dealing::{Dealing, worker_of};
 use flow_filter::Verdict;
+use packet_view::view;
 use session_state::Flow;
 use std::alloc::{AllocError, Global};
 use std::sync::Wait;
@@ -21,16 +22,16 @@ fn dealt_to<A: Shape, B: Shape>(
     dealing: Dealing,
     workers: usize,
     number: usize,
-    flow: Option<Flow>,
+    flow: &Option<Flow>,
 ) -> usize
     requires shapes { AreShapes ⟦<A as Shape>⟧ ⟦<B as Shape>⟧ }
     requires some { 0 < workers }
-    ensures { result ≡ worker_by dealing (layout_of ⟦<A as Shape>⟧ ⟦<B as Shape>⟧) workers number flow }
+    ensures { result ≡ worker_by dealing (layout_of ⟦<A as Shape>⟧ ⟦<B as Shape>⟧) workers number flow.now }
 {
     if workers == 1 {
         return 0;
     }
-    worker_of::<A, B>(dealing, workers, number, flow)
+    worker_of::<A, B>(dealing, workers, number, *flow)
 }
 
 fn say(said: &mut Said, alone: bool, number: usize, verdict: Verdict) -> Result<(), AllocError>
@@ -72,10 +73,12 @@ pub fn work<'t, 'a, A: Shape, B: Shape, R: Wait, G: Gate>(
     } = job;
     let mut said = nothing_said(alloc, run.workers, run.packets.len())?;
     for (at, packet) in run.packets.iter().enumerate() {
-        let viewed = ViewedPacket::new(packet, run.filter.own);
-        if dealt_to::<A, B>(run.dealing, run.workers, at, viewed.flow) != worker {
+        let frame = view(packet.frame, run.filter.own);
+        let flow = flow_in(&frame);
+        if dealt_to::<A, B>(run.dealing, run.workers, at, &flow) != worker {
             continue;
         }
+        let viewed = ViewedPacket::new(packet, &frame, &flow);
         run.gate.before(worker, at);
         let verdict = judge_viewed(run.rt, &run.filter, run.tables, &mut callers, &viewed);
         run.gate.after(worker, at);

@@ -42,8 +42,8 @@ Judging = PolicyFacts → List Seen → List Verdict → Type 0
 abbrev pub ByOneThread : Timeouts → Judging
 ByOneThread times policy packets verdicts = AreVerdicts flow_layout times policy packets verdicts
 
--- Those that some workers gave, and no more workers than the words ask for. No packet of a family's flows says
--- no-pages where the family has at most 256 such packets for IPv4, 64 for IPv6.
+-- Those that some workers gave, and no more workers than the words ask for. No packet of a family's flows is refused
+-- for want of pages where the family has at most 256 such packets for IPv4, 64 for IPv6.
 pub record ByWorkers (options : Options) (policy : PolicyFacts) (packets : List Seen) (verdicts : List Verdict) : Type 0 where
   pub workers : ℕ
   pub some : 1 ≤ workers

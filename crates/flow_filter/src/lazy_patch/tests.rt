@@ -11,7 +11,7 @@ use crate::verdict::Verdict;
 use acl_policy::{Action, Rule};
 use bihash_words::{Change, Patch, Reply};
 use packet_view::{Direction, Family, Fields, Tuple};
-use session_state::Timeouts;
+use session_state::{Timeouts, orient};
 use std::marker::Brand;
 
 const TIMES: Timeouts = Timeouts {
@@ -95,7 +95,13 @@ fn udp_outcome(action: Action, moment: u32, reply: Reply, found: Option<u64>) ->
         times: TIMES,
     };
     let tuple = udp();
-    let packet = PacketFlow::find(moment, Direction::Inbound, &tuple)?;
+    let flow = orient(&tuple)?;
+    let packet = PacketFlow {
+        moment,
+        direction: Direction::Inbound,
+        tuple: &tuple,
+        flow: &flow,
+    };
     Some(outcome_of(&filter, packet, reply, found))
 }
 

@@ -4,4 +4,4 @@ use Rattle.flow_workers.proofs.JudgedPackets.{is_ruling}
 use Rattle.flow_workers.proofs.judging.judge_viewed.Goals as goal
 
 pub judge_as-requires-clause-ruling : goal.judge_as-requires-clause-ruling
-judge_as-requires-clause-ruling g c = is_ruling (policy_in c.args.filter.now) (viewed c.args.packet.now.frame)
+judge_as-requires-clause-ruling g c = is_ruling (policy_in c.args.filter.now) (viewed c.args.packet.now.frame.now)

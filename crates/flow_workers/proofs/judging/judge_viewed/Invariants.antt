@@ -5,4 +5,4 @@ use Rattle.flow_workers.proofs.JudgedPackets.{ruling_on}
 use Rattle.flow_workers.proofs.judging.judge_viewed.Given as goal
 
 abbrev pub ghosts-judge_as : goal.ghosts-judge_as
-ghosts-judge_as g a = record { ruling = ruling_on (policy_in a.filter.now) (viewed a.packet.now.frame) }
+ghosts-judge_as g a = record { ruling = ruling_on (policy_in a.filter.now) (viewed a.packet.now.frame.now) }

@@ -5,4 +5,4 @@ use Rattle.flow_workers.proofs.JudgedPackets.{ruling_on}
 use Rattle.flow_workers.proofs.judging.try_judge.Given as goal
 
 abbrev pub ghosts-try_judge_as : goal.ghosts-try_judge_as
-ghosts-try_judge_as g a = record { ruling = ruling_on (policy_in a.filter.now) (viewed a.packet.now.frame) }
+ghosts-try_judge_as g a = record { ruling = ruling_on (policy_in a.filter.now) (viewed a.packet.now.frame.now) }

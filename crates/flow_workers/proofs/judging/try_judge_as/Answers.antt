@@ -22,7 +22,7 @@ returns-in-Err-clause-refused g c s seen =
 
 pub returns-in-Settled-clause-no_pages : goal.returns-in-Settled-clause-no_pages
 returns-in-Settled-clause-no_pages g c s seen said =
-    absurd (settled_has_pages c.args.filter.now.times c.args.packet.now.moment (viewed c.args.packet.now.frame) g.D.HasRuling.ruling _ c.in-Settled.ensures said)
+    absurd (settled_has_pages c.args.filter.now.times c.args.packet.now.moment (viewed c.args.packet.now.frame.now) g.D.HasRuling.ruling _ c.in-Settled.ensures said)
 
 pub returns-in-Ok-clause-no_pages : goal.returns-in-Ok-clause-no_pages
 returns-in-Ok-clause-no_pages g c s seen said =

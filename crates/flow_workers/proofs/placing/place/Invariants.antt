@@ -1,4 +1,4 @@
-use Rattle.flow_workers.specs.Placing.{IsPlaced}
+use Rattle.flow_workers.proofs.PlacingLemmas.{IsPlaced}
 use Rattle.flow_workers.proofs.placing.place.Given as goal
 
 abbrev pub invariant-loop-k : goal.invariant-loop-k

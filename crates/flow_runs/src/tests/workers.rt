@@ -2,11 +2,8 @@
 ghost use Rattle.std.specs.Prelude.{◌≤◌};
 
 use super::{NAMES, filter_of, request};
-use crate::Dealing;
-use crate::gate::Gate;
-use crate::workers::run_workers;
 use bihash_words::{ShapeV4, ShapeV6, flow_shapes_are_sound};
-use flow_filter::{Filter, Verdict};
+use flow_workers::{Dealing, Filter, Gate, Verdict, run_workers};
 use packet_view::Packet;
 use std::alloc::{AllocError, Global};
 use std::sync::Wait;
@@ -191,27 +188,28 @@ fn both_before(rt: HostRuntime) -> Result<(), Fail> {
 fn many_flows(rt: HostRuntime) -> Result<(), Fail> {
     let alloc = rt.alloc();
     let filter = filter_of(alloc, NAMES)?;
-    let mut frames = vec![in alloc; request(0); 400]?;
-    for i in 0..400usize {
+    let mut frames = Vec::with_capacity(alloc, 400)?;
+    for i in 0..400u32 {
         let server = (i / 2 % 100) as u8;
-        frames[i] = if i % 2 == 0 {
+        frames.push(if i % 2 == 0 {
             request(server)
         } else {
             answer(server)
-        };
+        })?;
     }
     let mut packets = Vec::with_capacity(alloc, 400)?;
     for frame in frames.as_slice() {
         packets.push(Packet { moment: 100, frame })?;
     }
     let alone = verdicts(&rt, alloc, &filter, &packets, 1, &Open, Dealing::Bucket)?;
-    for i in 0..400usize {
+    assert_eq!(rt; alone.len(), 400);
+    for (i, verdict) in alone.as_slice().iter().enumerate() {
         let wanted = if i < 200 && i % 2 == 0 {
             Verdict::Reflect(1)
         } else {
             Verdict::Session
         };
-        assert_eq!(rt; alone[i], wanted, "packet {i}");
+        assert_eq!(rt; *verdict, wanted, "packet {i}");
     }
     for count in [2, 3, 16] {
         let found = verdicts(&rt, alloc, &filter, &packets, count, &Open, Dealing::Bucket)?;

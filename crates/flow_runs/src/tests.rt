@@ -3,11 +3,9 @@ ghost use Rattle.flow_workers.specs.Callers.{AreIdle, AreShapes};
 
 mod workers;
 
-use crate::judging::{judge, try_judge};
-use crate::tables::{Callers, Tables, create_tables};
 use acl_policy::read_policy;
 use bihash_words::{Shape, ShapeV6, Tiny};
-use flow_filter::{Filter, Verdict};
+use flow_workers::{Callers, Filter, Tables, Verdict, create_tables, judge, try_judge};
 use packet_view::Packet;
 use session_state::Timeouts;
 use std::alloc::Global;
