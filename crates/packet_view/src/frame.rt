@@ -29,7 +29,7 @@ fn direction(frame: &[u8], own: Option<Mac>) -> Direction
     let Some(mac) = own else {
         return Direction::Inbound;
     };
-    // Of two ways to compare, the one whose loop is short enough to stand here without a call.
+    // Unlike `==` of slices this costs no call, since both lengths are constants.
     if mac.0.starts_with(&frame[6..12]) {
         Direction::Outbound
     } else {

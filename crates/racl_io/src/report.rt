@@ -24,7 +24,6 @@ pub struct Report {
     pub totals: Totals,
 }
 
-#[inline]
 fn push_number(out: &mut Vec<u8>, n: u64) -> Result<(), AllocError>
     ensures { OnOk result (out.new.items ≡ out.old.items ++ decimal n) }
 {
@@ -40,8 +39,7 @@ fn push_rule(out: &mut Vec<u8>, effect: &[u8], n: usize, rest: &[u8]) -> Result<
     out.extend_from_slice(rest)
 }
 
-/// What stands behind a line's number, in as few pieces as there are numbers to part them.
-#[inline]
+/// What stands behind a line's number. A constant piece costs no call, and the fewer they are the better.
 fn push_verdict(out: &mut Vec<u8>, verdict: Verdict) -> Result<(), AllocError>
     ensures { OnOk result (out.new.items ≡ out.old.items ++ (codes " " ++ (text_of verdict ++ codes "\n"))) }
 {
@@ -60,7 +58,6 @@ fn push_verdict(out: &mut Vec<u8>, verdict: Verdict) -> Result<(), AllocError>
     }
 }
 
-#[inline]
 fn push_line(out: &mut Vec<u8>, number: u64, verdict: Verdict) -> Result<(), AllocError>
     ensures { OnOk result (out.new.items ≡ out.old.items ++ line_of number verdict) }
 {
