@@ -1,5 +1,5 @@
 -- What workers said, placed in the order of the packets.
-use Rattle.std.proofs.Common.{◌≡◌, ◌≢◌, ◌∙◌, ◌+◌, ◌<◌, ◌≤◌, ℕ, zero, suc, Bool, true, false, cond, List, [], ◌∷◌, ◌++◌, get_or, length, map, Option, Some, None, IfOk, Result, Ok, Err, ap, refl, sym, subst, arith, inl, inr, eq-eqb}
+use Rattle.std.proofs.Common.{◌≡◌, ◌≢◌, ◌∙◌, ◌+◌, ◌<◌, ◌≤◌, ℕ, zero, suc, Bool, true, false, cond, List, [], ◌∷◌, ◌++◌, get_or, length, Option, Some, IfOk, Result, Ok, Err, ap, refl, sym, subst, arith, inl, inr, eq-eqb}
 use Rattle.std.specs.Prelude.{◌==◌, slice_get}
 use Rattle.std.specs.List.{All, AllZip}
 use Rattle.std.proofs.Math.ListN.{set}
@@ -16,9 +16,9 @@ use Rattle.packet_view.specs.declared.tuple.Mac.{Mac}
 use Rattle.packet_view.proofs.FrameLemmas.{view_only, view_shown}
 use Rattle.bihash_steps.proofs.Lists.{there, within}
 use Rattle.flow_filter.specs.declared.verdict.Verdict.{Verdict}
-use Rattle.flow_filter.specs.Readings.{IsReading, Reading}
+use Rattle.flow_filter.specs.Readings.{IsReading}
 use Rattle.flow_dealing.specs.Dealings.{Deal, flow_in, flow_shown, worker_of}
-use Rattle.flow_dealing.specs.Traces.{ArePlaced, AreTraces, AreViews, IsItemOf, IsTrace, Item, numbers_from, numbers_of, verdict_in}
+use Rattle.flow_dealing.specs.Traces.{ArePlaced, AreViews, IsItemOf, Item, numbers_from, verdict_in}
 use Rattle.flow_dealing.proofs.Merging.{worker_few}
 use Rattle.flow_dealing.proofs.Places.{after_map, all_at, all_from, before_map, zip_count}
 use Rattle.flow_workers.specs.declared.share.Said.{Said}

@@ -1,14 +1,12 @@
 -- Turns of a run, ahead and over.
-use Rattle.std.proofs.Common.{◌≡◌, ◌∙◌, ◌+◌, ◌<◌, ℕ, zero, suc, List, [], ◌∷◌, ◌++◌, length, get_or, map, IfOk, Result, Ok, Err, ap, refl, sym, subst, arith, append-nil, length-append}
+use Rattle.std.proofs.Common.{◌≡◌, ◌∙◌, ◌+◌, ◌<◌, ℕ, zero, suc, List, [], ◌∷◌, ◌++◌, length, get_or, IfOk, Result, Ok, Err, ap, refl, sym, subst, arith, length-append}
 use Rattle.std.specs.List.{All, AllZip}
 use Rattle.std.proofs.lemmas.List.{length-map}
 use Rattle.std.proofs.lemmas.List.Elements.{All-from_get_or}
-use Rattle.std.proofs.lemmas.Slice.Zip.{AllZip-long}
 use Rattle.packet_view.specs.Captures.{seen}
-use Rattle.packet_view.specs.Frames as frames
 use Rattle.packet_view.specs.declared.tuple.Family.{Family}
 use Rattle.packet_view.specs.declared.tuple.Family.TheVariants.{V4, V6}
-use Rattle.bihash_words.specs.Sizes.{Sizes, sizes_of}
+use Rattle.bihash_words.specs.Sizes.{Sizes}
 use Rattle.bihash_words.specs.declared.shape.Shape.{Ghosts}
 use Rattle.bihash_steps.specs.Views.{empty_record, first_view}
 use Rattle.bihash_steps.specs.declared.view.View.{View}
@@ -23,7 +21,7 @@ use Rattle.flow_workers.specs.declared.turn.Turn.{Turn}
 use Rattle.flow_workers.specs.declared.turn.Turn.TheVariants.{Ahead, Over}
 use Rattle.flow_workers.specs.Callers.{AreIdle, views_of}
 use Rattle.flow_workers.specs.Fresh.{IsFresh}
-use Rattle.flow_workers.specs.Work.{AreSaid, Continues, IsWork, RunFacts}
+use Rattle.flow_workers.specs.Work.{Continues, IsWork, RunFacts}
 use Rattle.flow_workers.specs.Jobs.{IsShareOf, run_facts}
 use Rattle.flow_workers.specs.Turns.{Becomes, CanTake, IsAhead, IsDone, IsJob, IsOver}
 use Rattle.flow_workers.proofs.WorkSteps.{all_looked_at}

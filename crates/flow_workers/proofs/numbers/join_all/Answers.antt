@@ -1,9 +1,6 @@
-use Rattle.std.proofs.Common.{◌≡◌, ◌∙◌, ◌++◌, ◌∷◌, [], All, List, Some, ap, append-nil, append_assoc, arith, refl, sym, subst}
+use Rattle.std.proofs.Common.{◌≡◌, ◌∙◌, ◌++◌, ◌∷◌, [], All, List, ap, append_assoc, arith, sym, subst}
 use Rattle.std.specs.List.{AllZip}
-use Rattle.packet_view.specs.declared.tuple.Family.{Family}
-use Rattle.bihash_steps.specs.declared.row.Caller.{Caller}
 use Rattle.bihash_steps.specs.Views.{nothing_held}
-use Rattle.session_state.specs.declared.timeouts.Timeouts.{Timeouts}
 use Rattle.flow_dealing.specs.Traces.{HaveTraces, Item}
 use Rattle.flow_workers.proofs.NumberLemmas.{all_but_last, last_of, no_traces}
 use Rattle.flow_workers.proofs.numbers.join_all.Goals as goal

@@ -1,4 +1,4 @@
-use Rattle.std.proofs.Common.{◌≡◌, ◌∙◌, Ok, ap, refl, sym, subst}
+use Rattle.std.proofs.Common.{◌∙◌, ap}
 use Rattle.flow_workers.specs.declared.turn.Turn.TheVariants.{Over}
 use Rattle.flow_workers.proofs.PartLemmas.{no_parts, parts_push}
 use Rattle.flow_workers.proofs.parts.parts_of.Goals as goal

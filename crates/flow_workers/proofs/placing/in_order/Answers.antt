@@ -1,7 +1,4 @@
-use Rattle.std.proofs.Common.{◌≡◌, ◌≢◌, ◌∙◌, ◌<◌, [], ◌∷◌, ℕ, List, ap, arith, length, refl, sym, subst}
-use Rattle.flow_dealing.specs.Traces.{ArePlaced, Item}
-use Rattle.flow_workers.specs.Work.{RunFacts}
-use Rattle.flow_workers.specs.Placing.{AreAllSaid}
+use Rattle.std.proofs.Common.{◌≡◌, ◌≢◌, [], ◌∷◌, ap, arith, length}
 use Rattle.flow_workers.proofs.PlacingLemmas.{all_agree, all_paired, all_placed, alone_placed, count_is, if_both, only_one}
 use Rattle.flow_workers.proofs.placing.in_order.Goals as goal
 

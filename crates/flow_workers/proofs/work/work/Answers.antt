@@ -1,6 +1,5 @@
-use Rattle.std.proofs.Common.{◌≡◌, ◌∙◌, [], ap, refl, sym, subst, map, length, arith}
+use Rattle.std.proofs.Common.{◌≡◌, ◌∙◌, [], ap, sym, subst, length, arith}
 use Rattle.std.proofs.lemmas.Bool.{ne_eqb}
-use Rattle.packet_view.specs.Captures.{seen}
 use Rattle.packet_view.specs.Frames.{viewed}
 use Rattle.flow_dealing.specs.Dealings.{worker_of}
 use Rattle.flow_workers.specs.Callers.{views_of}

@@ -1,4 +1,3 @@
-use Rattle.std.proofs.Common.{map}
 use Rattle.flow_workers.specs.Callers.{AreIdle, views_of}
 use Rattle.flow_workers.specs.Jobs.{run_facts}
 use Rattle.flow_workers.specs.Work.{IsWork}

@@ -1,4 +1,4 @@
-use Rattle.std.proofs.Common.{◌≡◌, ◌∙◌, ◌<◌, ◌≤◌, ap, arith, length, map, refl, sym, subst}
+use Rattle.std.proofs.Common.{arith, map, subst}
 use Rattle.std.proofs.lemmas.List.{length-map}
 use Rattle.packet_view.specs.Captures.{seen}
 use Rattle.packet_view.specs.declared.tuple.Family.TheVariants.{V4, V6}
