@@ -47,7 +47,7 @@ pub struct LazyPatch<'a, D: HasRuling> {
     rules: Ruleset<'a>,
     packet: PacketFlow<'a>,
     decided: Cell<Option<Decided<D>>>,
-    ghost said: { (d : Ruling) → IsDecision (rules_in rules) (facts packet.tuple.now) d → d ≡ D.ruling },
+    ghost said: { (d : Ruling) → IsDecision (rules_in rules) (facts packet.tuple) d → d ≡ D.ruling },
 }
 
 impl<'a, D: HasRuling> LazyPatch<'a, D> {
@@ -72,7 +72,7 @@ impl<'a, D: HasRuling> LazyPatch<'a, D> {
 
     fn ask(&self) -> Decided<D> {
         Decided {
-            ruling: self.rules.first_match(self.packet.tuple),
+            ruling: self.rules.first_match(&self.packet.tuple),
             of: PhantomData,
         }
     }

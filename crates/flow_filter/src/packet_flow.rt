@@ -12,8 +12,8 @@ pub struct PacketFlow<'a> {
     /// When the packet came, in seconds.
     pub moment: u32,
     pub direction: Direction,
-    pub tuple: &'a Tuple,
+    pub tuple: Tuple,
     pub flow: &'a Flow,
-    pub ghost of_tuple: { flow_of (facts tuple.now) ≡ Some flow.now },
+    pub ghost of_tuple: { flow_of (facts tuple) ≡ Some flow.now },
     pub ghost of_two: { flow.now.side < 2 },
 }

@@ -1,8 +1,10 @@
 //! What a packet comes to before it asks a table.
+ghost use Rattle.std.specs.Prelude.{◌≡◌};
+ghost use Rattle.packet_view.specs.Tuples.{facts};
 
 use crate::viewed_packet::ViewedPacket;
 use flow_filter::{HasRuling, LazyPatch, PacketFlow, ReadyFilter, Verdict, verdict_of_rules};
-use packet_view::Frame;
+use packet_view::{Frame, Tuple};
 use session_state::FlowKey;
 
 /// What a packet comes to before it asks a table.
@@ -12,6 +14,19 @@ pub enum Prepared<'a, D: HasRuling> {
     Settled(Verdict),
     /// The update that decides it.
     Asks(&'a FlowKey, LazyPatch<'a, D>),
+}
+
+// The tuple again. A copy of the whole would take the bytes between its fields along, and wait until all are stored.
+fn copied(tuple: &Tuple) -> Tuple
+    ensures { facts result ≡ facts tuple.now }
+{
+    Tuple {
+        family: tuple.family,
+        source: tuple.source,
+        dest: tuple.dest,
+        proto: tuple.proto,
+        fields: tuple.fields,
+    }
 }
 
 impl<'a, D: HasRuling> Prepared<'a, D> {
@@ -32,13 +47,13 @@ impl<'a, D: HasRuling> Prepared<'a, D> {
             Frame::Short => Prepared::Settled(Verdict::Short),
             Frame::Ip(direction, tuple) => {
                 let Some(flow) = packet.flow else {
-                    let ruling = filter.rules_of(*direction).first_match(tuple);
+                    let ruling = filter.rules_of(*direction).first_match(&copied(tuple));
                     return Prepared::Settled(verdict_of_rules(ruling));
                 };
                 let asking = PacketFlow {
                     moment: packet.moment,
                     direction: *direction,
-                    tuple,
+                    tuple: copied(tuple),
                     flow,
                 };
                 Prepared::Asks(&flow.key, LazyPatch::new(filter, asking))
