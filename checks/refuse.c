@@ -8,6 +8,7 @@
 #include <stdio.h>
 #include <stdlib.h>
 #include <sys/mman.h>
+#include <sys/syscall.h>
 #include <unistd.h>
 
 extern void *__libc_malloc(size_t), *__libc_calloc(size_t, size_t), *__libc_realloc(void *, size_t), *__libc_memalign(size_t, size_t);
@@ -25,8 +26,16 @@ __attribute__((constructor)) static void begin(void) {
 __attribute__((destructor)) static void end(void) {
     const char *name = getenv("ASKED_FD");
     char text[32];
+    if (!counts) return;
     counts = 0;
     if (name && write(atoi(name), text, snprintf(text, sizeof text, "%ld\n", atomic_load(&asked))) < 0) _exit(125);
+}
+
+// A program that may start threads ends so, and then no destructor runs.
+void _exit(int status) {
+    end();
+    syscall(SYS_exit_group, status);
+    __builtin_unreachable();
 }
 
 static int is_refused(void) {
