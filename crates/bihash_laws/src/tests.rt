@@ -11,6 +11,7 @@ use std::alloc::Global;
 use std::test::Fail;
 
 mod closing;
+mod exhaustion;
 mod one_caller;
 mod open_reads;
 mod several_callers;

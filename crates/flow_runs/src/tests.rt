@@ -34,6 +34,14 @@ fn request(server: u8) -> [u8; 42] {
     ]
 }
 
+// The answer of the name server 10.0.0.n, on its way in.
+fn answer(server: u8) -> [u8; 42] {
+    [
+        2, 0, 0, 0, 0, 1, 2, 0, 0, 0, 0, 2, 8, 0, 0x45, 0, 0, 28, 0, 0, 0, 0, 64, 17, 0, 0, 10, 0,
+        0, server, 10, 0, 0, 1, 0, 53, 0x03, 0xe8, 0, 8, 0, 0,
+    ]
+}
+
 // Each request is to get its verdict, by one try: the moment, n of the server, and the verdict.
 fn ask_all<A: Shape, B: Shape, R: Abort>(
     rt: &R,
@@ -44,6 +52,7 @@ fn ask_all<A: Shape, B: Shape, R: Abort>(
 ) -> Result<(), Fail>
     requires shapes { AreShapes ⟦<A as Shape>⟧ ⟦<B as Shape>⟧ }
     requires idle { AreIdle ⟦<A as Shape>⟧ ⟦<B as Shape>⟧ tables.now callers.old }
+    ensures idle { AreIdle ⟦<A as Shape>⟧ ⟦<B as Shape>⟧ tables.now callers.new }
 {
     for (moment, server, verdict) in rows {
         let frame = request(*server);
@@ -92,6 +101,24 @@ fn full_and_no_pages_under_the_filter(rt: HostRuntime) -> Result<(), Fail> {
         (100, 8, Verdict::Reflect(1)),
         (100, 10, Verdict::NoPages),
     ];
+    ask_all(&rt, &filter, &tables, &mut callers, &rows)
+}
+
+// The only page comes back with the session that an answer after its end removes.
+#[test]
+fn pages_used_up_under_the_filter(rt: HostRuntime) -> Result<(), Fail> {
+    let filter = filter_of(rt.alloc(), NAMES)?;
+    let (tables, mut callers) = create_tables::<Tiny<1, 5>, ShapeV6>(rt.alloc())?;
+    let rows = [(100, 2, Verdict::Reflect(1)), (100, 3, Verdict::NoPages)];
+    ask_all(&rt, &filter, &tables, &mut callers, &rows)?;
+    let frame = answer(2);
+    let late = Packet {
+        moment: 701,
+        frame: &frame,
+    };
+    let found = try_judge(&filter, &tables, &mut callers, &late)?;
+    assert_eq!(rt; found, Verdict::ByDefault);
+    let rows = [(702, 3, Verdict::Reflect(1))];
     ask_all(&rt, &filter, &tables, &mut callers, &rows)
 }
 
