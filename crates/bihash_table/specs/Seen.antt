@@ -27,7 +27,7 @@ IsValueOf z key found e block = (m : Pairs) → IsBlockOf z e block m → found 
 
 -- the key is new, and no free place is open to it
 abbrev pub IsNewAndCrowded : Sizes → List ℕ → Extent → List ℕ → Type 0
-IsNewAndCrowded z key e block = IsPairIn z e block key None × IsCrowdedFor z e block key
+IsNewAndCrowded z key e block = IsPairIn z key None e block × IsCrowdedFor z e block key
 
 -- the key is new, and the bucket holds as many pairs as it may
 abbrev pub IsFullFor : Sizes → List ℕ → Extent → List ℕ → Type 0

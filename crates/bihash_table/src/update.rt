@@ -75,7 +75,7 @@ fn make<S: Shape>(
 ) -> Result<Reply, Contended>
     requires own { caller.old.seat.row ≡ row.now }
     requires seen { HasSeen (sizes_of S.Shape) caller.old.seat.view seen.now.site.bucket seen.now.word
-        (λ e block. IsPairIn (sizes_of S.Shape) e block (S.words_of seen.now.site.key.now) pair) }
+        (IsPairIn (sizes_of S.Shape) (S.words_of seen.now.site.key.now) pair) }
     requires storable { IsStorable change }
     ensures { Tried ⟦<S as Shape>⟧ caller.old.seat caller.new.seat seen.now.site.bucket seen.now.site.key.now (value_of pair)
         change result }
@@ -124,7 +124,7 @@ fn change_pair<S: Shape>(
 ) -> Result<Reply, Contended>
     requires own { seat.old.row ≡ row.now }
     requires seen { HasSeen (sizes_of S.Shape) seat.old.view seen.now.site.bucket seen.now.word
-        (λ e block. IsPairIn (sizes_of S.Shape) e block (S.words_of seen.now.site.key.now) (Some pair)) }
+        (IsPairIn (sizes_of S.Shape) (S.words_of seen.now.site.key.now) (Some pair)) }
     requires unworn { length (known_at seat.old.view.known seen.now.site.bucket) < S.LIMIT }
     requires wanted { effect_of change (Some pair.1) ≢ Keep }
     requires storable { IsStorable change }
@@ -151,7 +151,7 @@ fn enter_new<S: Shape>(
 ) -> Result<Reply, Contended>
     requires own { caller.old.seat.row ≡ row.now }
     requires seen { HasSeen (sizes_of S.Shape) caller.old.seat.view seen.now.site.bucket seen.now.word
-        (λ e block. IsPairIn (sizes_of S.Shape) e block (S.words_of seen.now.site.key.now) None) }
+        (IsPairIn (sizes_of S.Shape) (S.words_of seen.now.site.key.now) None) }
     requires unworn { length (known_at caller.old.seat.view.known seen.now.site.bucket) < S.LIMIT }
     requires wanted { effect_of change None ≢ Keep }
     requires storable { IsStorable change }

@@ -7,12 +7,14 @@ use Rattle.bihash_table.specs.Answers.{locks_of, search_of}
 use Rattle.bihash_table.specs.Promise.{IsAnswered}
 use Rattle.bihash_table.proofs.Composed.{ahead_answered, ahead_turned_away}
 use Rattle.bihash_table.proofs.Opened.{is_read, lost_at, not_taken}
+use Rattle.bihash_table.proofs.SameCallers.{own_through}
+use Rattle.bihash_table.proofs.Seeing.{may_read}
 use Rattle.bihash_table.proofs.Sights.{answer_locks, answer_seen, seen_ahead, seen_answer, seen_first, seen_records}
 use Rattle.bihash_table.proofs.Tries.{value_seen}
 use Rattle.bihash_table.proofs.sessions.Sessions.try_search.Goals as goal
 
-pub find_pair-pair-requires-clause-open : goal.find_pair-pair-requires-clause-open
-find_pair-pair-requires-clause-open g c = let h = c.in-Some.ensures.opened.has in (h.extent, h.block)
+pub find_pair-pair-requires : goal.find_pair-pair-requires
+find_pair-pair-requires g c = may_read (own_through c.args.caller.now.seat _ _ c.look.ensures.same c.requires.own) c.in-Some.ensures.opened.has
 
 pub validate-requires-clause-may : goal.validate-requires-clause-may
 validate-requires-clause-may g c =
