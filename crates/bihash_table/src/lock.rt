@@ -48,6 +48,7 @@ pub(crate) fn lock_seen<S: Shape>(
     ensures same { seat.new ≡ with_view seat.old seat.new.view }
     ensures locked { result ≡ true → LocksSeen (sizes_of S.Shape) seat.old.view seat.new.view bucket word }
     ensures turned_away { result ≡ false → IsTurnedAway (sizes_of S.Shape) seat.old.view seat.new.view bucket }
+    ensures no_lock { result ≡ false → seat.new.view.records ≡ seat.old.view.records }
     ensures lone { seat.old.view.lone ≡ true → result ≡ true }
     ensures lawful { IsLawfulCaller (sizes_of S.Shape) seat.new.view }
 {

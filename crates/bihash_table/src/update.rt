@@ -10,12 +10,11 @@ ghost use Rattle.bihash_steps.specs.Histories.{bucket_of};
 ghost use Rattle.bihash_steps.specs.Callers.{IsLawfulCaller, known_at};
 ghost use Rattle.bihash_steps.specs.Views.{nothing_held};
 ghost use Rattle.bihash_steps.specs.Seats.{with_view};
-ghost use Rattle.bihash_table.specs.Answers.{locks_of};
 ghost use Rattle.bihash_table.specs.Promise.{IsUpdated, IsTurnedAway};
 ghost use Rattle.bihash_table.specs.OpenReads.{IsPairIn, value_of};
 ghost use Rattle.bihash_table.specs.Seen.{HasSeen};
 ghost use Rattle.bihash_table.specs.Shortage.{IsShortage};
-ghost use Rattle.bihash_table.specs.Tries.{Tried, is_without_lock};
+ghost use Rattle.bihash_table.specs.Tries.{Tried, TookAtMost, try_locks};
 
 use crate::change::{fill, keep, overwrite, refuse, remove};
 use crate::contended::Contended;
@@ -45,8 +44,7 @@ impl<S: Shape> Sessions<S> {
         ensures no_pages { IfOk result (λ reply. (log2 left : ℕ) → reply ≡ NoPages log2 left
             → IsShortage ⟦<S as Shape>⟧ caller.new.seat.view (bucket_of (sizes_of S.Shape) (S.words_of key.now))
             key.now log2 left) }
-        ensures no_lock { IfOk result (λ reply. is_without_lock reply ≡ true
-            → locks_of caller.new.seat.view.records ≡ locks_of caller.old.seat.view.records) }
+        ensures locks { TookAtMost caller.old.seat.view caller.new.seat.view (try_locks result) }
         ensures contended { IfErr result (λ _. IsTurnedAway (sizes_of S.Shape) caller.old.seat.view caller.new.seat.view
             (bucket_of (sizes_of S.Shape) (S.words_of key.now))) }
         ensures lone { caller.old.seat.view.lone ≡ true → is_ok result ≡ true }

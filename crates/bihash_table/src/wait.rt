@@ -1,5 +1,5 @@
 //! Updates that wait for their turn: one of any decision, and the four fixed ones.
-ghost use Rattle.std.specs.Prelude.{◌≡◌, ◌≢◌, ℕ, true};
+ghost use Rattle.std.specs.Prelude.{◌≡◌, ◌≢◌, ℕ};
 ghost use Rattle.bihash_words.specs.Sizes.{sizes_of};
 ghost use Rattle.bihash_words.specs.Patches.{free_mark, set_if_absent, set_if_present};
 ghost use Rattle.bihash_words.specs.declared.patch.Change.TheVariants.{Set, Remove};
@@ -8,10 +8,9 @@ ghost use Rattle.bihash_steps.specs.Histories.{bucket_of};
 ghost use Rattle.bihash_steps.specs.Callers.{IsLawfulCaller};
 ghost use Rattle.bihash_steps.specs.Views.{nothing_held};
 ghost use Rattle.bihash_steps.specs.Seats.{with_view};
-ghost use Rattle.bihash_table.specs.Answers.{locks_of};
 ghost use Rattle.bihash_table.specs.Promise.{IsUpdated};
 ghost use Rattle.bihash_table.specs.Shortage.{IsShortage};
-ghost use Rattle.bihash_table.specs.Tries.{is_without_lock};
+ghost use Rattle.bihash_table.specs.Tries.{TookByTries};
 
 use crate::sessions::Sessions;
 use bihash_steps::Caller;
@@ -34,8 +33,7 @@ impl<S: Shape> Sessions<S> {
         ensures same { caller.new.seat ≡ with_view caller.old.seat caller.new.seat.view }
         ensures answered { IsUpdated (sizes_of S.Shape) caller.old.seat.view caller.new.seat.view
             (S.words_of key.now) (P.decision patch.now) result }
-        ensures no_lock { caller.old.seat.view.lone ≡ true → is_without_lock result ≡ true
-            → locks_of caller.new.seat.view.records ≡ locks_of caller.old.seat.view.records }
+        ensures locks { TookByTries caller.old.seat.view caller.new.seat.view result }
         ensures no_pages { (log2 left : ℕ) → result ≡ NoPages log2 left
             → IsShortage ⟦<S as Shape>⟧ caller.new.seat.view (bucket_of (sizes_of S.Shape) (S.words_of key.now))
             key.now log2 left }
@@ -59,8 +57,7 @@ impl<S: Shape> Sessions<S> {
         ensures same { caller.new.seat ≡ with_view caller.old.seat caller.new.seat.view }
         ensures answered { IsUpdated (sizes_of S.Shape) caller.old.seat.view caller.new.seat.view
             (S.words_of key.now) (λ _. Set value) result }
-        ensures no_lock { caller.old.seat.view.lone ≡ true → is_without_lock result ≡ true
-            → locks_of caller.new.seat.view.records ≡ locks_of caller.old.seat.view.records }
+        ensures locks { TookByTries caller.old.seat.view caller.new.seat.view result }
         ensures no_pages { (log2 left : ℕ) → result ≡ NoPages log2 left
             → IsShortage ⟦<S as Shape>⟧ caller.new.seat.view (bucket_of (sizes_of S.Shape) (S.words_of key.now))
             key.now log2 left }
@@ -83,8 +80,7 @@ impl<S: Shape> Sessions<S> {
         ensures same { caller.new.seat ≡ with_view caller.old.seat caller.new.seat.view }
         ensures answered { IsUpdated (sizes_of S.Shape) caller.old.seat.view caller.new.seat.view
             (S.words_of key.now) (set_if_absent value) result }
-        ensures no_lock { caller.old.seat.view.lone ≡ true → is_without_lock result ≡ true
-            → locks_of caller.new.seat.view.records ≡ locks_of caller.old.seat.view.records }
+        ensures locks { TookByTries caller.old.seat.view caller.new.seat.view result }
         ensures no_pages { (log2 left : ℕ) → result ≡ NoPages log2 left
             → IsShortage ⟦<S as Shape>⟧ caller.new.seat.view (bucket_of (sizes_of S.Shape) (S.words_of key.now))
             key.now log2 left }
@@ -101,8 +97,7 @@ impl<S: Shape> Sessions<S> {
         ensures same { caller.new.seat ≡ with_view caller.old.seat caller.new.seat.view }
         ensures answered { IsUpdated (sizes_of S.Shape) caller.old.seat.view caller.new.seat.view
             (S.words_of key.now) (set_if_present value) result }
-        ensures no_lock { caller.old.seat.view.lone ≡ true → is_without_lock result ≡ true
-            → locks_of caller.new.seat.view.records ≡ locks_of caller.old.seat.view.records }
+        ensures locks { TookByTries caller.old.seat.view caller.new.seat.view result }
         ensures no_pages { (log2 left : ℕ) → result ≡ NoPages log2 left
             → IsShortage ⟦<S as Shape>⟧ caller.new.seat.view (bucket_of (sizes_of S.Shape) (S.words_of key.now))
             key.now log2 left }
@@ -118,8 +113,7 @@ impl<S: Shape> Sessions<S> {
         ensures same { caller.new.seat ≡ with_view caller.old.seat caller.new.seat.view }
         ensures answered { IsUpdated (sizes_of S.Shape) caller.old.seat.view caller.new.seat.view
             (S.words_of key.now) (λ _. Remove) result }
-        ensures no_lock { caller.old.seat.view.lone ≡ true → is_without_lock result ≡ true
-            → locks_of caller.new.seat.view.records ≡ locks_of caller.old.seat.view.records }
+        ensures locks { TookByTries caller.old.seat.view caller.new.seat.view result }
         ensures no_pages { (log2 left : ℕ) → result ≡ NoPages log2 left
             → IsShortage ⟦<S as Shape>⟧ caller.new.seat.view (bucket_of (sizes_of S.Shape) (S.words_of key.now))
             key.now log2 left }

@@ -19,6 +19,7 @@ returns-then-not-lock_seen g c = let site = c.args.seen.now.site in
     tried_saw g.S.Shape c.args.seat.now c.has_other_pair-other.new.seat c.lock_seen.new.seat site.bucket site.key.now (Some c.args.pair.1)
     Remove c.has_other_pair-other.ensures.same c.has_other_pair-other.ensures.saw (sym site.home) (Err _)
     (tried_away g.S.Shape _ _ _ _ _ _ _ c.lock_seen.ensures.same (c.lock_seen.ensures.turned_away c.if-not-lock_seen.true)
+    (c.lock_seen.ensures.no_lock c.if-not-lock_seen.true)
     (λ lone. true≢false (sym (c.lock_seen.ensures.lone lone) ∙ c.if-not-lock_seen.true)) c.lock_seen.ensures.lawful)
 
 pub remove_last-requires-clause-lock : goal.remove_last-requires-clause-lock
@@ -47,7 +48,7 @@ returns-then-not-other g c = let site = c.args.seen.now.site in
     (Some c.args.pair.1) Remove c.has_other_pair-other.ensures.same c.has_other_pair-other.ensures.saw (sym site.home) c.remove_last.result
     (tried_change g.S.Shape c.has_other_pair-other.new.seat c.lock_seen.new.seat c.remove_last.new.seat site.bucket c.args.seen.now.word
     site.key.now _ _ c.lock_seen.ensures.same (c.lock_seen.ensures.locked c.if-not-lock_seen.false) (sym site.home)
-    c.remove_last.ensures.same c.remove_last.ensures.lawful c.remove_last.result c.remove_last.ensures.answered
+    c.remove_last.ensures.same c.remove_last.ensures.lawful c.remove_last.ensures.locks c.remove_last.result c.remove_last.ensures.answered
     c.remove_last.ensures.contended c.remove_last.ensures.lone)
 
 pub vacate-requires-clause-lock : goal.vacate-requires-clause-lock
@@ -71,4 +72,4 @@ returns g c = let site = c.args.seen.now.site in
     (Some c.args.pair.1) Remove c.has_other_pair-other.ensures.same c.has_other_pair-other.ensures.saw (sym site.home) (Ok c.vacate.result)
     (tried_write g.S.Shape c.has_other_pair-other.new.seat c.lock_seen.new.seat c.vacate.new.seat site.bucket c.args.seen.now.word site.key.now _ _
     c.lock_seen.ensures.same (c.lock_seen.ensures.locked c.if-not-lock_seen.false) (sym site.home) c.vacate.ensures.same
-    c.vacate.ensures.lawful c.vacate.result c.vacate.ensures.changed c.vacate.ensures.answered)
+    c.vacate.ensures.lawful c.vacate.ensures.locks c.vacate.result c.vacate.ensures.changed c.vacate.ensures.answered)

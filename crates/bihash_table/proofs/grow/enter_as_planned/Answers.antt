@@ -103,6 +103,7 @@ returns-then-not-lock_seen g c =
     c.read_block.ensures.read.same c.read_block.ensures.read.saw (sym site.home) (Err _)
     (tried_away g.S.Shape c.read_block.new.seat c.lock_seen.new.seat site.bucket site.key.now None (Set c.args.value) _
     c.lock_seen.ensures.same (c.lock_seen.ensures.turned_away c.if-not-lock_seen.true)
+    (c.lock_seen.ensures.no_lock c.if-not-lock_seen.true)
     (λ lone. true≢false (sym (c.lock_seen.ensures.lone lone) ∙ c.if-not-lock_seen.true)) c.lock_seen.ensures.lawful)
 
 pub enter-requires-clause-lock : goal.enter-requires-clause-lock
@@ -182,7 +183,7 @@ returns g c =
     tried_saw g.S.Shape c.args.seat.now y t b site.key.now None (Set c.args.value)
     c.read_block.ensures.read.same c.read_block.ensures.read.saw home c.enter.result
     (tried_locked g.S.Shape y u t b c.args.seen.now.word site.key.now None (Set c.args.value) c.lock_seen.ensures.same k home
-    c.enter.ensures.same c.enter.ensures.lawful c.enter.result c.enter.ensures.answered
+    c.enter.ensures.same c.enter.ensures.lawful c.enter.ensures.locks c.enter.result c.enter.ensures.answered
     (weaker c.enter.result (λ reply told_of wanted left e.
     let w = told_of wanted left e in
     subst (λ (n : ℕ). IsShortage g.S.Shape t.view b site.key.now n left) (sym w.0)

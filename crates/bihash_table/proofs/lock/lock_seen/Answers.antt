@@ -2,6 +2,7 @@ use Rattle.std.proofs.Common.{false, refl, ap}
 use Rattle.bihash_words.specs.Sizes.{sizes_of}
 use Rattle.bihash_steps.specs.Buckets.{word_of}
 use Rattle.bihash_steps.specs.declared.view.Holdings.{Holdings}
+use Rattle.bihash_steps.specs.declared.view.View.{View}
 use Rattle.bihash_table.proofs.Opened.{open_word_is, not_taken}
 use Rattle.bihash_table.proofs.Sights.{locks_seen}
 use Rattle.bihash_table.proofs.lock.lock_seen.Goals as goal
@@ -27,3 +28,6 @@ returns-clause-turned_away g c = λ lost. not_taken (sizes_of g.S.Shape) _ _ _ c
 pub returns-clause-lone : goal.returns-clause-lone
 returns-clause-lone g c = λ lone. let h = c.requires.seen in
     c.lock_from.ensures.lone lone h.block.open_bucket h.block.noted h.bucket (open_word_is (sizes_of g.S.Shape) _ _ _ h)
+
+pub returns-clause-no_lock : goal.returns-clause-no_lock
+returns-clause-no_lock g c = λ lost. ap (λ (v : View). v.records) (c.lock_from.ensures.not lost)

@@ -42,7 +42,7 @@ returns g c =
       answered = update_answered g.S.Shape s t site.bucket key found change home (g.P.Patch.decision c.args.patch.now)
           (c.decide-change.ensures.decision ∙ ap (g.P.Patch.decision c.args.patch.now) c.value_found-found.ensures) r tried;
       no_pages = update_short g.S.Shape s t site.bucket key found change home r tried;
-      no_lock = tried.no_lock;
+      locks = tried.locks;
       contended = update_away g.S.Shape s t site.bucket key found change home r tried;
       lone = tried.lone;
       lawful = tried.lawful;
