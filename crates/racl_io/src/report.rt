@@ -31,11 +31,11 @@ fn push_number(out: &mut Vec<u8>, n: u64) -> Result<(), AllocError>
     out.extend_from_slice(buffer.format(n).as_bytes())
 }
 
-fn push_rule(out: &mut Vec<u8>, effect: &[u8], n: usize, rest: &[u8]) -> Result<(), AllocError>
+fn push_rule(out: &mut Vec<u8>, effect: &[u8], n: u16, rest: &[u8]) -> Result<(), AllocError>
     ensures { OnOk result (out.new.items ≡ out.old.items ++ (effect.now ++ (decimal n ++ rest.now))) }
 {
     out.extend_from_slice(effect)?;
-    push_number(out, n as u64)?;
+    push_number(out, u64::from(n))?;
     out.extend_from_slice(rest)
 }
 
