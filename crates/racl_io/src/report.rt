@@ -26,13 +26,13 @@ pub struct Totals {
     pub truncated: bool,
 }
 
-fn push_rule(piece: &mut Piece, effect: &[u8], n: usize, rest: &[u8])
+fn push_rule(piece: &mut Piece, effect: &[u8], n: u16, rest: &[u8])
     requires { length piece.old + length effect.now + length rest.now + 24 ≤ 65536 }
     ensures text { piece.new ≡ piece.old ++ (effect.now ++ (decimal n ++ rest.now)) }
     ensures short { length piece.new ≤ length piece.old + length effect.now + length rest.now + 24 }
 {
     piece.push(effect);
-    Numeral::of(n as u64).push(piece);
+    Numeral::of(u64::from(n)).push(piece);
     piece.push(rest);
 }
 
