@@ -6,6 +6,7 @@ ghost use Rattle.flow_filter.specs.PacketFlows.{IsRulingOn};
 use super::{HasRuling, LazyPatch};
 use crate::filter::ReadyFilter;
 use crate::packet_flow::PacketFlow;
+use crate::rule_search::RuleSearch;
 use crate::ruleset::Ruleset;
 use crate::verdict::Verdict;
 use acl_policy::{Action, Rule};
@@ -90,8 +91,12 @@ fn udp_outcome(action: Action, moment: u32, reply: Reply, found: Option<u64>) ->
     let rules = [udp_rule(action)];
     let filter = ReadyFilter {
         own: None,
-        inbound: Ruleset::Listed(&rules),
-        outbound: Ruleset::Listed(&[]),
+        inbound: Ruleset {
+            search: RuleSearch::Listed(&rules),
+        },
+        outbound: Ruleset {
+            search: RuleSearch::Listed(&[]),
+        },
         times: TIMES,
     };
     let tuple = udp();

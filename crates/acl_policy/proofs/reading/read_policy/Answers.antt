@@ -1,6 +1,6 @@
 use Rattle.acl_policy.specs.Policies.{policy_facts}
 use Rattle.acl_policy.proofs.TextLaws.{accepted, refused, wanting}
-use Rattle.acl_policy.proofs.policy.read_policy.Goals as goal
+use Rattle.acl_policy.proofs.reading.read_policy.Goals as goal
 
 pub returns-in-Ok-clause-accepts : goal.returns-in-Ok-clause-accepts
 returns-in-Ok-clause-accepts c =

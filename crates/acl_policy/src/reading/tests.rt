@@ -1,5 +1,6 @@
 //! Policy texts with what they say, and texts with their faults.
-use super::{PolicyFault, read_policy};
+use super::read_policy;
+use crate::policy::PolicyFault;
 use crate::rule::{Action, Rule};
 use packet_view::{Family, Mac};
 use std::alloc::{AllocError, Global};

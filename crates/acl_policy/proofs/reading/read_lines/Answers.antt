@@ -8,7 +8,7 @@ use Rattle.acl_policy.specs.declared.policy.PolicyFault.{PolicyFault}
 use Rattle.acl_policy.specs.Policies.{Reads, policy_facts}
 use Rattle.acl_policy.specs.Reading.Policies.{LinesFail}
 use Rattle.acl_policy.proofs.PolicyLemmas.{LinesFail-take, Reads-take}
-use Rattle.acl_policy.proofs.policy.read_lines.Goals as goal
+use Rattle.acl_policy.proofs.reading.read_lines.Goals as goal
 
 pub loop-line-preserved : goal.loop-line-preserved
 loop-line-preserved c =
