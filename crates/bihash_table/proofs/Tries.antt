@@ -34,7 +34,7 @@ other_value value old wanted same = wanted (ap (λ (t : Bool). if t then Keep el
 
 -- the value of the pair that was found is what the map has at the key
 pub value_seen : (z : Sizes) (v : View) (b word : ℕ) (key : List ℕ) (pair : Option (ℕ × ℕ)) (found : Option ℕ) → found ≡ value_of pair
-    → HasSeen z v b word (λ e block. IsPairIn z e block key pair) → HasSeen z v b word (IsValueOf z key found)
+    → HasSeen z v b word (IsPairIn z key pair) → HasSeen z v b word (IsValueOf z key found)
 value_seen z v b word key pair found is h = seen_as z v b word h (λ told m pairs.
     is ∙ pair_value z h.seen.extent h.seen.block.open_bucket.block key m pair told pairs)
 

@@ -199,7 +199,7 @@ pub(crate) fn remove<S: Shape>(
 ) -> Result<Reply, Contended>
     requires own { seat.old.row ≡ row.now }
     requires seen { HasSeen (sizes_of S.Shape) seat.old.view seen.now.site.bucket seen.now.word
-        (λ e block. IsPairIn (sizes_of S.Shape) e block (S.words_of seen.now.site.key.now) (Some pair)) }
+        (IsPairIn (sizes_of S.Shape) (S.words_of seen.now.site.key.now) (Some pair)) }
     requires unworn { length (known_at seat.old.view.known seen.now.site.bucket) < S.LIMIT }
     ensures { Tried ⟦<S as Shape>⟧ seat.old seat.new seen.now.site.bucket seen.now.site.key.now (Some pair.1) Remove result }
 {

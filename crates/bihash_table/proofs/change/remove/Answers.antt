@@ -3,12 +3,13 @@ use Rattle.bihash_words.specs.Sizes.{sizes_of}
 use Rattle.bihash_words.specs.declared.patch.Change.TheVariants.{Remove}
 use Rattle.bihash_steps.specs.declared.view.Write.{Write}
 use Rattle.bihash_table.specs.OpenReads.{OtherPairTells}
+use Rattle.bihash_table.proofs.Seeing.{may_read}
 use Rattle.bihash_table.proofs.Sights.{saw_known, seen_more, told_locked}
 use Rattle.bihash_table.proofs.Tries.{tried_away, tried_change, tried_saw, tried_write}
 use Rattle.bihash_table.proofs.change.remove.Goals as goal
 
-pub has_other_pair-other-requires-clause-open : goal.has_other_pair-other-requires-clause-open
-has_other_pair-other-requires-clause-open g c = let h = c.requires.seen.seen in (h.extent, h.block)
+pub has_other_pair-other-requires : goal.has_other_pair-other-requires
+has_other_pair-other-requires g c = may_read c.requires.own c.requires.seen.seen
 
 pub lock_seen-requires-clause-seen : goal.lock_seen-requires-clause-seen
 lock_seen-requires-clause-seen g c = (seen_more (sizes_of g.S.Shape) _ _ _ _ c.has_other_pair-other.ensures.saw c.requires.seen).seen
@@ -32,7 +33,7 @@ remove_last-requires-clause-lock g c =
       k.locked.has,
       told.0.0,
       sym told.0.1,
-      subst (λ (t : Bool). OtherPairTells z l.extent l.now c.args.pair.0 t) c.if-not-other.true told.1,
+      subst (λ (t : Bool). OtherPairTells z c.args.pair.0 t l.extent l.now) c.if-not-other.true told.1,
     )
 
 pub remove_last-requires-clause-unworn : goal.remove_last-requires-clause-unworn
@@ -56,7 +57,7 @@ vacate-requires-clause-lock g c =
     let k = c.lock_seen.ensures.locked c.if-not-lock_seen.false in
     let l = k.locked.lock in
     let told = told_locked z _ _ _ _ (seen_more z _ _ _ _ c.has_other_pair-other.ensures.saw c.requires.seen) k in
-    let left = subst (λ (t : Bool). OtherPairTells z l.extent l.now c.args.pair.0 t) c.if-not-other.false told.1 in
+    let left = subst (λ (t : Bool). OtherPairTells z c.args.pair.0 t l.extent l.now) c.if-not-other.false told.1 in
     (l, k.locked.has, told.0.0, sym told.0.1, record { place = left.0; other = left.1; pair = left.2 })
 
 pub vacate-requires-clause-unworn : goal.vacate-requires-clause-unworn

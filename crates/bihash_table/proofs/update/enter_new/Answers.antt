@@ -5,12 +5,13 @@ use Rattle.bihash_words.specs.declared.patch.Change.{Change}
 use Rattle.bihash_steps.specs.declared.view.Write.{Write}
 use Rattle.bihash_table.specs.Tries.{Tried}
 use Rattle.bihash_table.proofs.LookedAt.{pair_value}
+use Rattle.bihash_table.proofs.Seeing.{may_read}
 use Rattle.bihash_table.proofs.Sights.{saw_known, seen_more, told_locked}
 use Rattle.bihash_table.proofs.Tries.{tried_away, tried_saw, tried_write}
 use Rattle.bihash_table.proofs.update.enter_new.Goals as goal
 
-pub find_free-requires-clause-open : goal.find_free-requires-clause-open
-find_free-requires-clause-open g c = let h = c.requires.seen.seen in (h.extent, h.block)
+pub find_free-requires : goal.find_free-requires
+find_free-requires g c = may_read c.requires.own c.requires.seen.seen
 
 pub lock_seen-requires-clause-seen : goal.lock_seen-requires-clause-seen
 lock_seen-requires-clause-seen g c = (seen_more (sizes_of g.S.Shape) _ _ _ _ c.in-Some.ensures.saw c.requires.seen).seen

@@ -4,13 +4,14 @@ use Rattle.bihash_steps.specs.Histories.{bucket_of}
 use Rattle.bihash_table.specs.Answers.{locks_of}
 use Rattle.bihash_table.specs.Tries.{Tried}
 use Rattle.bihash_table.specs.OpenReads.{value_of}
-use Rattle.bihash_table.proofs.SameCallers.{same_through}
+use Rattle.bihash_table.proofs.SameCallers.{own_through, same_through}
+use Rattle.bihash_table.proofs.Seeing.{may_read}
 use Rattle.bihash_table.proofs.Sights.{seen_ahead, seen_first, seen_records}
 use Rattle.bihash_table.proofs.Tries.{tried_seen, update_answered, update_away, update_short}
 use Rattle.bihash_table.proofs.sessions.Sessions.try_update.Goals as goal
 
-pub find_pair-pair-requires-clause-open : goal.find_pair-pair-requires-clause-open
-find_pair-pair-requires-clause-open g c = let h = c.in-Some.ensures.opened.has in (h.extent, h.block)
+pub find_pair-pair-requires : goal.find_pair-pair-requires
+find_pair-pair-requires g c = may_read (own_through c.args.caller.now.seat _ _ c.look.ensures.same c.requires.own) c.in-Some.ensures.opened.has
 
 pub make-requires-clause-seen : goal.make-requires-clause-seen
 make-requires-clause-seen g c = seen_first (sizes_of g.S.Shape) _ _ _ _ c.find_pair-pair.ensures.saw c.in-Some.ensures.opened.has
