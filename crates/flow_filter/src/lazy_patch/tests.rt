@@ -89,14 +89,12 @@ fn outcome_of(
 /// What comes of the UDP packet in a second, where every UDP packet meets this action.
 fn udp_outcome(action: Action, moment: u32, reply: Reply, found: Option<u64>) -> Option<Outcome> {
     let rules = [udp_rule(action)];
+    let search = RuleSearch::Listed(&rules);
+    let listed = Ruleset { search };
     let filter = ReadyFilter {
         own: None,
-        inbound: Ruleset {
-            search: RuleSearch::Listed(&rules),
-        },
-        outbound: Ruleset {
-            search: RuleSearch::Listed(&[]),
-        },
+        inbound: listed,
+        outbound: listed,
         times: TIMES,
     };
     let tuple = udp();
