@@ -19,7 +19,8 @@ use Rattle.bihash_table.specs.Promise.{IsAnswered, IsTurnedAway, IsUpdated}
 use Rattle.bihash_table.specs.OpenReads.{IsPairIn, Saw, value_of}
 use Rattle.bihash_table.specs.Seen.{HasSeen, IsValueOf, LocksSeen}
 use Rattle.bihash_table.specs.Shortage.{IsShortage}
-use Rattle.bihash_table.specs.Tries.{Tried, event, is_without_lock}
+use Rattle.bihash_steps.specs.BucketCalls.{event}
+use Rattle.bihash_table.specs.Tries.{Tried, is_without_lock}
 use Rattle.bihash_table.specs.declared.contended.Contended.{Contended}
 use Rattle.bihash_table.proofs.Composed.{IsAhead, ahead_answered, ahead_turned_away, locked_ahead}
 use Rattle.bihash_table.proofs.LookedAt.{pair_value}
@@ -55,7 +56,7 @@ module _ {A K : Type 0} (g : Ghosts A K) (s t : CallerState) (b : ℕ) (key : K)
 
   module _ (word : ℕ) {P : Extent → List ℕ → Type 0} (h : HasSeen (sizes_of g) s.view b word P)
       (lawful : IsLawfulCaller (sizes_of g) t.view) where
-    pub tried_valid : (reply : Reply) → t ≡ with_view s (validated s.view (call_of s.view b 0 (g.words_of key) found change reply))
+    pub tried_valid : (reply : Reply) → t ≡ with_view s (validated s.view (call_of s.view b 0 (event (g.words_of key) found change reply)))
         → bucket_of (sizes_of g) (g.words_of key) ≡ b → ((log2 left : ℕ) → reply ≡ NoPages log2 left → ⊥)
         → Tried g s t b key found change (Ok reply)
     tried_valid reply is home paged = let now = view_is s t _ is in let e : Event = event (g.words_of key) found change reply in record {

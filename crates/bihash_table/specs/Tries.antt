@@ -1,11 +1,11 @@
 -- What one try of an update leaves of its caller.
 use Rattle.std.specs.Prelude.{◌≡◌, ℕ, Bool, true, false, List, Option, Result, IfOk, IfErr, is_ok}
-use Rattle.bihash_words.specs.Maps.{Event}
 use Rattle.bihash_words.specs.Sizes.{sizes_of}
 use Rattle.bihash_words.specs.declared.shape.Shape.{Ghosts}
 use Rattle.bihash_words.specs.declared.patch.Change.{Change}
 use Rattle.bihash_words.specs.declared.patch.Reply.{Reply}
 use Rattle.bihash_words.specs.declared.patch.Reply.TheVariants.{Kept, Changed, Worn, Full, NoPages}
+use Rattle.bihash_steps.specs.BucketCalls.{event}
 use Rattle.bihash_steps.specs.Callers.{IsLawfulCaller}
 use Rattle.bihash_steps.specs.Seats.{CallerState, with_view}
 use Rattle.bihash_table.specs.Answers.{locks_of}
@@ -20,10 +20,6 @@ is_without_lock (Changed found) = false
 is_without_lock (Worn found) = true
 is_without_lock Full = true
 is_without_lock (NoPages log2 left) = false
-
--- what was found at a key, what was decided on it, and the reply
-abbrev pub event : List ℕ → Option ℕ → Change → Reply → Event
-event key found change reply = record { key = key; found = found; change = change; reply = reply }
 
 -- One try of an update, on a value that was found and what was decided on it: it was answered, or it met
 -- another caller's lock. A lone caller meets none.

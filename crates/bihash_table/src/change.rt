@@ -26,7 +26,7 @@ use crate::lock::lock_seen;
 use crate::places::FREE;
 use crate::reads::has_other_pair;
 use crate::site::Seen;
-use bihash_steps::{CallerSeat, Row};
+use bihash_steps::{CallerSeat, Event, Row};
 use bihash_words::{BucketWord, Change, Reply, Shape};
 
 /// Answers that nothing is to be changed, where the bucket still has the word that was seen.
@@ -45,15 +45,13 @@ pub(crate) fn keep<S: Shape>(
     ensures tried { Tried ⟦<S as Shape>⟧ seat.old seat.new seen.now.site.bucket seen.now.site.key.now found change result }
 {
     let reply = Reply::Kept(found);
-    if !row.validate(
-        seat,
-        seen.site.bucket,
-        seen.word,
-        seen.site.key,
+    let event = Event {
+        key: seen.site.key,
         found,
         change,
         reply,
-    ) {
+    };
+    if !row.validate(seat, seen.site.bucket, seen.word, &event) {
         return Err(Contended);
     }
     Ok(reply)
@@ -77,15 +75,13 @@ pub(crate) fn refuse<S: Shape>(
     ensures tried { Tried ⟦<S as Shape>⟧ seat.old seat.new seen.now.site.bucket seen.now.site.key.now found change result }
 {
     let reply = Reply::Worn(found);
-    if !row.validate(
-        seat,
-        seen.site.bucket,
-        seen.word,
-        seen.site.key,
+    let event = Event {
+        key: seen.site.key,
         found,
         change,
         reply,
-    ) {
+    };
+    if !row.validate(seat, seen.site.bucket, seen.word, &event) {
         return Err(Contended);
     }
     Ok(reply)
@@ -106,15 +102,13 @@ pub(crate) fn crowd<S: Shape>(
     ensures tried { Tried ⟦<S as Shape>⟧ seat.old seat.new seen.now.site.bucket seen.now.site.key.now None (Set value) result }
 {
     let reply = Reply::Full;
-    if !row.validate(
-        seat,
-        seen.site.bucket,
-        seen.word,
-        seen.site.key,
-        None,
-        Change::Set(value),
+    let event = Event {
+        key: seen.site.key,
+        found: None,
+        change: Change::Set(value),
         reply,
-    ) {
+    };
+    if !row.validate(seat, seen.site.bucket, seen.word, &event) {
         return Err(Contended);
     }
     Ok(reply)
@@ -142,14 +136,13 @@ pub(crate) fn overwrite<S: Shape>(
     ensures lawful { IsLawfulCaller (sizes_of S.Shape) seat.new.view }
 {
     store_word(row, seat, seen.word, pair.0, S::WORDS, value);
-    row.publish(
-        seat,
-        seen.site.bucket,
-        seen.word,
-        seen.site.key,
-        Some(pair.1),
-        Change::Set(value),
-    );
+    let event = Event {
+        key: seen.site.key,
+        found: Some(pair.1),
+        change: Change::Set(value),
+        reply: Reply::Changed(Some(pair.1)),
+    };
+    row.publish(seat, seen.site.bucket, seen.word, &event);
     Reply::Changed(Some(pair.1))
 }
 
@@ -175,14 +168,13 @@ pub(crate) fn fill<S: Shape>(
 {
     store_key(row, seat, seen, place);
     store_word(row, seat, seen.word, place, S::WORDS, value);
-    row.publish(
-        seat,
-        seen.site.bucket,
-        seen.word,
-        seen.site.key,
-        None,
-        Change::Set(value),
-    );
+    let event = Event {
+        key: seen.site.key,
+        found: None,
+        change: Change::Set(value),
+        reply: Reply::Changed(None),
+    };
+    row.publish(seat, seen.site.bucket, seen.word, &event);
     Reply::Changed(None)
 }
 
@@ -229,14 +221,13 @@ fn vacate<S: Shape>(
     ensures lawful { IsLawfulCaller (sizes_of S.Shape) seat.new.view }
 {
     store_word(row, seat, seen.word, pair.0, S::WORDS, FREE);
-    row.publish(
-        seat,
-        seen.site.bucket,
-        seen.word,
-        seen.site.key,
-        Some(pair.1),
-        Change::Remove,
-    );
+    let event = Event {
+        key: seen.site.key,
+        found: Some(pair.1),
+        change: Change::Remove,
+        reply: Reply::Changed(Some(pair.1)),
+    };
+    row.publish(seat, seen.site.bucket, seen.word, &event);
     Reply::Changed(Some(pair.1))
 }
 

@@ -34,7 +34,7 @@ use crate::site::Seen;
 use crate::snapshot::read_block;
 use bihash_plan::{Plan, larger, lay};
 use bihash_steps::view::Extent;
-use bihash_steps::{Caller, CallerSeat, Row};
+use bihash_steps::{Caller, CallerSeat, Event, Row};
 use bihash_words::{BucketWord, Change, Reply, Shape};
 
 /// Enters a new pair that finds no place in the block that was seen: the block grows, or the call is
@@ -148,14 +148,26 @@ fn enter<S: Shape>(
         Ok(page) => {
             write_block(row, seat, page, block);
             let extent = Extent { page, log2, linear };
-            row.publish_block(seat, bucket, word, extent, key, None, Change::Set(value));
+            let event = Event {
+                key,
+                found: None,
+                change: Change::Set(value),
+                reply: Reply::Changed(None),
+            };
+            row.publish_block(seat, bucket, word, extent, &event);
             leave_store(row, seat, word);
             Ok(Reply::Changed(None))
         }
         Err(left) => {
             row.pool_unlock(seat);
             let reply = Reply::NoPages { log2, left };
-            row.cancel(seat, bucket, word, key, None, Change::Set(value), reply);
+            let event = Event {
+                key,
+                found: None,
+                change: Change::Set(value),
+                reply,
+            };
+            row.cancel(seat, bucket, word, &event);
             Ok(reply)
         }
     }
@@ -220,15 +232,13 @@ pub(crate) fn remove_last<S: Shape>(
         log2: 0,
         linear: false,
     };
-    row.publish_block(
-        seat,
-        seen.site.bucket,
-        seen.word,
-        none,
-        seen.site.key,
-        Some(found),
-        Change::Remove,
-    );
+    let event = Event {
+        key: seen.site.key,
+        found: Some(found),
+        change: Change::Remove,
+        reply: Reply::Changed(Some(found)),
+    };
+    row.publish_block(seat, seen.site.bucket, seen.word, none, &event);
     leave_store(row, seat, seen.word);
     Ok(Reply::Changed(Some(found)))
 }

@@ -5,14 +5,14 @@ use Rattle.bihash_words.specs.declared.patch.Reply.TheVariants.{Full}
 use Rattle.bihash_steps.specs.Callers.{known_at}
 use Rattle.bihash_steps.specs.BucketSteps.{map_now}
 use Rattle.bihash_steps.specs.Histories.{bounds_of}
-use Rattle.bihash_table.specs.Tries.{event}
+use Rattle.bihash_steps.specs.BucketCalls.{event}
 use Rattle.bihash_table.proofs.Entering.{crowds}
 use Rattle.bihash_table.proofs.Sights.{seen_answer}
 use Rattle.bihash_table.proofs.Tries.{tried_invalid, tried_valid}
 use Rattle.bihash_table.proofs.change.crowd.Goals as goal
 
-pub validate-requires-clause-inside : goal.validate-requires-clause-inside
-validate-requires-clause-inside g c = c.requires.seen.seen.inside
+pub validate-requires-clause-at : goal.validate-requires-clause-at
+validate-requires-clause-at g c = record { own = c.requires.own; inside = c.requires.seen.seen.inside }
 
 pub validate-requires-clause-may : goal.validate-requires-clause-may
 validate-requires-clause-may g c =

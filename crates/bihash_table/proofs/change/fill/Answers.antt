@@ -12,13 +12,16 @@ store_word-requires-clause-place g c =
     holds_stored (sizes_of g.S.Shape) c.args.seat.now.view c.args.seen.now.site.bucket c.args.seen.now.word lock.0 lock.1 c.store_key.new.seat.view
     c.args.place lock.2.inside key g.S.Shape.WORDS (c.store_key.ensures.stored lock.0 lock.1)
 
-pub publish-requires-clause-own : goal.publish-requires-clause-own
-publish-requires-clause-own g c =
+pub publish-requires-clause-at : goal.publish-requires-clause-at
+publish-requires-clause-at g c =
     let lock = c.requires.lock in
     let h = c.store_key.ensures.stored lock.0 lock.1 in
     let step = c.store_word.ensures _ (held_now (sizes_of g.S.Shape) c.args.seat.now.view c.args.seen.now.site.bucket c.args.seen.now.word lock.0 lock.1
     c.store_key.new.seat.view c.args.place lock.2.inside (g.S.Shape.words_of c.args.seen.now.site.key.now) g.S.Shape.WORDS h) in
-    ap (λ (k : CallerState). k.row) step ∙ (ap (λ (k : CallerState). k.row) c.store_key.ensures.same ∙ c.requires.own)
+    record {
+      own = ap (λ (k : CallerState). k.row) step ∙ (ap (λ (k : CallerState). k.row) c.store_key.ensures.same ∙ c.requires.own);
+      inside = lock.1.inside;
+    }
 
 pub publish-requires-clause-may : goal.publish-requires-clause-may
 publish-requires-clause-may g c =

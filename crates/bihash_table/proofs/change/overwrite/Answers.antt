@@ -12,10 +12,10 @@ store_word-requires-clause-place g c =
     let lock = c.requires.lock in
     holds_place (sizes_of g.S.Shape) c.args.seat.now.view c.args.seen.now.site.bucket c.args.seen.now.word lock.0 lock.1 c.args.pair.0 lock.2.pair.0
 
-pub publish-requires-clause-own : goal.publish-requires-clause-own
-publish-requires-clause-own g c =
+pub publish-requires-clause-at : goal.publish-requires-clause-at
+publish-requires-clause-at g c =
     let step = c.store_word.ensures c.requires.lock.0 (ap (λ (h : Holdings). h.bucket) c.requires.lock.1.held) in
-    ap (λ (k : CallerState). k.row) step ∙ c.requires.own
+    record { own = ap (λ (k : CallerState). k.row) step ∙ c.requires.own; inside = c.requires.lock.1.inside }
 
 pub publish-requires-clause-may : goal.publish-requires-clause-may
 publish-requires-clause-may g c =

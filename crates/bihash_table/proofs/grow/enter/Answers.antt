@@ -2,14 +2,15 @@ use Rattle.std.proofs.Common.{◌≡◌, ◌∙◌, ◌*◌, ◌^◌, false, Som
 use Rattle.bihash_words.specs.Sizes.{sizes_of}
 use Rattle.bihash_words.specs.declared.patch.Change.TheVariants.{Set}
 use Rattle.bihash_words.specs.declared.patch.Reply.TheVariants.{Changed, NoPages}
+use Rattle.bihash_steps.specs.BucketCalls.{event}
 use Rattle.bihash_steps.specs.BucketSteps.{call_of, map_now}
-use Rattle.bihash_steps.specs.Seats.{CallerState}
+use Rattle.bihash_steps.specs.Seats.{CallerState, with_view}
 use Rattle.bihash_steps.specs.declared.view.Holdings.{Holdings}
 use Rattle.bihash_steps.specs.declared.view.View.{View}
 use Rattle.bihash_table.specs.Copying.{IsWanting}
 use Rattle.bihash_table.proofs.Entering.{looked_at}
 use Rattle.bihash_table.proofs.OpenPlaces.{word_tells}
-use Rattle.bihash_table.proofs.Replacing.{block_held, block_of, is_ready, locked_on, looked, may_enter, may_refuse, published, ready_same, same_through, seen_same, store_held, was_answered}
+use Rattle.bihash_table.proofs.Replacing.{block_held, block_of, is_ready, locked_on, looked, looked_same, may_enter, may_refuse, published, ready_same, same_through, seen_same, store_held, was_answered}
 use Rattle.bihash_table.proofs.Stores.{bears_noted, holds_old, left_answered, left_written, some_places, still_lawful, turned_away}
 use Rattle.bihash_table.proofs.grow.enter.Goals as goal
 
@@ -39,13 +40,13 @@ write_block-requires-clause-block g c =
           (c.requires.sized ∙ ap (λ n. 4 * 2 ^ n) (sym held.2)),
     )
 
-pub publish_block-requires-clause-own : goal.publish_block-requires-clause-own
-publish_block-requires-clause-own g c =
+pub publish_block-requires-clause-at : goal.publish_block-requires-clause-at
+publish_block-requires-clause-at g c =
     let locks = c.pool_lock.ensures.taken c.if-not-pool_lock.false in
     let ready = is_ready g.S.Shape c.args.seat.now c.pool_lock.new.caller c.pool_lock.ensures.same locks
     (ap (λ (h : Holdings). h.block) c.requires.lock.1.held) c.in-Ok.page c.args.size.log2 c.take_block.new.seat
     c.in-Ok.ensures.same c.in-Ok.ensures.taken c.args.block.now c.write_block.new.seat c.write_block.ensures.written in
-    ap (λ (s : CallerState). s.row) ready.is ∙ c.requires.own
+    record { own = ap (λ (s : CallerState). s.row) ready.is ∙ c.requires.own; inside = c.requires.lock.1.inside }
 
 pub publish_block-requires-clause-may : goal.publish_block-requires-clause-may
 publish_block-requires-clause-may g c =
@@ -87,7 +88,7 @@ leave_store-requires-clause-block g c =
       l.now,
       word_tells z v c.args.seen.now.site.bucket c.args.seen.now.word l c.requires.lock.1,
       holds_old z v c.publish_block.new.caller.view c.args.seen.now.site.bucket c.args.seen.now.word l n block
-          (call_of v c.args.seen.now.site.bucket 1 (g.S.Shape.words_of c.args.seen.now.site.key.now) None (Set c.args.value) (Changed None))
+          (call_of v c.args.seen.now.site.bucket 1 (event (g.S.Shape.words_of c.args.seen.now.site.key.now) None (Set c.args.value) (Changed None)))
           c.requires.lock.1
           (published c.args.seat.now c.write_block.new.seat c.publish_block.new.caller n block c.args.seen.now.site.bucket
           (g.S.Shape.words_of c.args.seen.now.site.key.now) None (Set c.args.value) ready.is c.publish_block.ensures.view),
@@ -128,6 +129,21 @@ pool_unlock-requires-clause-settled g c =
       ap (λ (s : CallerState). s.view.holds.store) c.in-Err.ensures.refused.0 ∙ ap (λ (x : View). x.holds.store) locks.is,
       locks.settled,
     )
+
+pub cancel-requires-clause-at : goal.cancel-requires-clause-at
+cancel-requires-clause-at g c =
+    let locks = c.pool_lock.ensures.taken c.if-not-pool_lock.false in
+    let opened = looked_same (sizes_of g.S.Shape) c.args.seat.now c.pool_lock.new.caller c.take_block.new.seat c.pool_unlock.new.caller
+    c.pool_lock.ensures.same locks c.in-Err.ensures.refused.0 c.pool_unlock.ensures in
+    record { own = ap (λ (s : CallerState). s.row) opened ∙ c.requires.own; inside = c.requires.lock.1.inside }
+
+pub returns-in-Err-clause-same : goal.returns-in-Err-clause-same
+returns-in-Err-clause-same g c =
+    let locks = c.pool_lock.ensures.taken c.if-not-pool_lock.false in
+    seen_same c.pool_unlock.new.caller c.cancel.new.caller c.cancel.ensures.view
+    ∙ ap (λ (s : CallerState). with_view s c.cancel.new.caller.view)
+    (looked_same (sizes_of g.S.Shape) c.args.seat.now c.pool_lock.new.caller c.take_block.new.seat c.pool_unlock.new.caller
+    c.pool_lock.ensures.same locks c.in-Err.ensures.refused.0 c.pool_unlock.ensures)
 
 pub cancel-requires-clause-may : goal.cancel-requires-clause-may
 cancel-requires-clause-may g c =

@@ -2,6 +2,7 @@ use Rattle.std.proofs.Common.{◌∙◌, false, Some, None, ap, refl, sym}
 use Rattle.bihash_words.specs.Sizes.{sizes_of}
 use Rattle.bihash_words.specs.declared.patch.Change.TheVariants.{Remove}
 use Rattle.bihash_words.specs.declared.patch.Reply.TheVariants.{Changed}
+use Rattle.bihash_steps.specs.BucketCalls.{event}
 use Rattle.bihash_steps.specs.BucketSteps.{call_of, map_now}
 use Rattle.bihash_steps.specs.Seats.{CallerState, with_view}
 use Rattle.bihash_table.proofs.OpenPlaces.{word_tells}
@@ -44,7 +45,7 @@ leave_store-requires-clause-block g c =
       l.now,
       word_tells z v c.args.seen.now.site.bucket c.args.seen.now.word l c.requires.lock.2,
       holds_old z v c.publish_block.new.caller.view c.args.seen.now.site.bucket c.args.seen.now.word l n None
-          (call_of v c.args.seen.now.site.bucket 1 key (Some c.args.found) Remove (Changed (Some c.args.found)))
+          (call_of v c.args.seen.now.site.bucket 1 (event key (Some c.args.found) Remove (Changed (Some c.args.found))))
           c.requires.lock.2
           (published c.args.seat.now c.pool_lock.new.caller c.publish_block.new.caller n None c.args.seen.now.site.bucket key
           (Some c.args.found) Remove (c.pool_lock.ensures.same ∙ ap (with_view c.args.seat.now)
