@@ -26,7 +26,7 @@ pub record LeavesEntry (z : Sizes) (v w : View) (e : Event) : Type 0 where
   pub alone : v.lone ≡ true → length history
       ≤ length (known_at v.known (bucket_of z e.key)) + own_writes e.reply
 
--- the call met another caller's lock, as one equation
+-- the call was turned away, as one equation
 pub record LeavesNone (z : Sizes) (v w : View) (b : ℕ) : Type 0 where
   pub history : List Write
   pub begins : IsPrefix (known_at v.known b) history
