@@ -1,6 +1,6 @@
 -- One try of an update: answered without the lock, turned away, or answered behind the lock.
 use Rattle.std.proofs.Common.{◌≡◌, ◌≢◌, ◌∙◌, ◌<◌, ℕ, Bool, true, false, true≢false, List, length, Option, Some, Result, Ok, Err, refl, sym, ap, subst, eq-eqb}
-use Rattle.std.specs.Prelude.{IfOk, IfErr, is_ok, if◌then◌else◌}
+use Rattle.std.specs.Prelude.{IfOk, if◌then◌else◌}
 use Rattle.bihash_words.specs.Maps.{Event, effect_of}
 use Rattle.bihash_words.specs.Patches.{IsStorable}
 use Rattle.bihash_words.specs.Sizes.{Sizes, sizes_of}

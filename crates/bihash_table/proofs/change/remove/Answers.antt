@@ -1,4 +1,4 @@
-use Rattle.std.proofs.Common.{Bool, Some, Ok, Err, subst, sym}
+use Rattle.std.proofs.Common.{Some, Ok, Err, sym}
 use Rattle.bihash_words.specs.Sizes.{sizes_of}
 use Rattle.bihash_words.specs.declared.patch.Change.TheVariants.{Remove}
 use Rattle.bihash_table.proofs.SameCallers.{own_through}

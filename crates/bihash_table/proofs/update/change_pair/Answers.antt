@@ -1,5 +1,4 @@
 use Rattle.std.proofs.Common.{Some, Ok, subst, sym}
-use Rattle.bihash_words.specs.Sizes.{sizes_of}
 use Rattle.bihash_words.specs.declared.patch.Change.{Change}
 use Rattle.bihash_table.specs.Seen.{WantsChange}
 use Rattle.bihash_table.specs.Tries.{Tried}

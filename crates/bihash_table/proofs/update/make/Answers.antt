@@ -1,8 +1,7 @@
-use Rattle.std.proofs.Common.{◌≢◌, ◌∙◌, ℕ, Option, ap, length, refl, subst, sym}
+use Rattle.std.proofs.Common.{◌≢◌, ◌∙◌, ℕ, Option, ap, refl, subst, sym}
 use Rattle.bihash_words.specs.Sizes.{sizes_of}
 use Rattle.bihash_words.specs.Maps.{effect_of}
 use Rattle.bihash_words.specs.declared.patch.Change.TheVariants.{Keep}
-use Rattle.bihash_steps.specs.Callers.{known_at}
 use Rattle.bihash_steps.specs.Histories.{bounds_of}
 use Rattle.bihash_table.specs.OpenReads.{value_of}
 use Rattle.bihash_table.specs.Seen.{Found}

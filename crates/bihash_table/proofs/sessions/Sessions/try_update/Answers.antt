@@ -1,4 +1,4 @@
-use Rattle.std.proofs.Common.{◌≡◌, ◌∙◌, ap, subst, sym}
+use Rattle.std.proofs.Common.{◌∙◌, ap, subst, sym}
 use Rattle.bihash_words.specs.Sizes.{sizes_of}
 use Rattle.bihash_table.specs.Answers.{locks_of}
 use Rattle.bihash_table.specs.Tries.{Tried}
