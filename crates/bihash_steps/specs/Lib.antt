@@ -9,5 +9,6 @@ pub mod Views
 pub mod WordRule
 pub mod Steps
 pub mod Seats
+pub mod BucketCalls
 pub mod BucketSteps
 pub mod StoreSteps

@@ -4,6 +4,7 @@
 mod bucket_plays;
 mod buckets;
 mod callers;
+mod event;
 mod faults;
 mod open;
 mod places;
@@ -15,6 +16,7 @@ mod row;
 mod scratch;
 pub mod view;
 
+pub use event::Event;
 pub use faults::{CreateFault, SplitFault};
 pub use open::open_row;
 pub use pool_word::PoolWord;

@@ -13,7 +13,7 @@ use std::sync::Wait;
 
 impl<S: Shape> Sessions<S> {
     /// Decides once on the value of the key, and makes the change that was decided. It tries again until
-    /// it meets no other caller's lock.
+    /// no other caller holds a lock or changes the bucket meanwhile.
     pub fn update<P: Patch, R: Wait>(
         &self,
         rt: &R,
