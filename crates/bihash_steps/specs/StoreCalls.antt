@@ -4,7 +4,7 @@ use Rattle.bihash_words.specs.Sizes.{Sizes}
 use Rattle.bihash_steps.specs.BucketSteps.{unnoted}
 use Rattle.bihash_steps.specs.StoreSteps.{HasRoomFor, LocksStore, TakesBlock, word_in}
 use Rattle.bihash_steps.specs.Seats.{CallerState, IsSameSeat, with_view}
-use Rattle.bihash_steps.specs.declared.pool_word.PoolWord.{PoolWord}
+use Rattle.bihash_steps.specs.declared.pool.word.PoolWord.{PoolWord}
 use Rattle.bihash_steps.specs.declared.view.LockedStore.{LockedStore}
 use Rattle.bihash_steps.specs.declared.view.PageStore.{PageStore}
 

@@ -7,12 +7,15 @@ ghost use Rattle.bihash_steps.specs.Steps.{parent, newcomer, IsRefused};
 ghost use Rattle.bihash_steps.specs.Seats.{with_view, stamp_of};
 
 use crate::faults::SplitFault;
-use crate::plays::{Counts, Cut, Joins, Keeping, Meets, Numbers};
 use crate::row::{Caller, CallerSeat, Row};
 use crate::scratch::Scratch;
 use bihash_words::Shape;
 use std::alloc::Global;
 use std::marker::{Brand, PhantomData};
+
+mod plays;
+
+use plays::{Counts, Cut, Joins, Keeping, Meets, Numbers};
 
 // Where the caller count stands.
 const COUNT: usize = 0;

@@ -9,12 +9,16 @@ ghost use Rattle.bihash_steps.specs.declared.view.HeldBlock.{HeldBlock};
 ghost use Rattle.bihash_steps.specs.Seats.{with_view};
 
 use crate::places::{ALLOCATION_LOCK, USED_MARK};
-use crate::pool_plays::{
-    HeldStores, Lists, PoolLocks, PoolOpens, PoolWords, Returns, TakesReturned, TakesUnused,
-};
-use crate::pool_word::PoolWord;
 use crate::row::{CallerSeat, Row};
 use bihash_words::Shape;
+
+mod plays;
+mod word;
+
+use plays::{
+    HeldStores, Lists, PoolLocks, PoolOpens, PoolWords, Returns, TakesReturned, TakesUnused,
+};
+pub use word::PoolWord;
 
 impl<S: Shape> Row<S> {
     /// Takes the allocation lock, and says whether it was open. A lone caller that doesn't hold it takes

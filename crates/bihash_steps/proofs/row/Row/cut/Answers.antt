@@ -4,7 +4,7 @@ use Rattle.bihash_steps.specs.Seats.{CallerState}
 use Rattle.bihash_steps.specs.Steps.{ViewOfSeat}
 use Rattle.bihash_steps.specs.declared.view.View.{View}
 use Rattle.bihash_steps.proofs.CountWord.{some_words}
-use Rattle.bihash_steps.proofs.Sharing.{cut_lawful, splits_numbers}
+use Rattle.bihash_steps.proofs.caller_steps.CutAndJoin.{cut_lawful, splits_numbers}
 use Rattle.bihash_steps.proofs.row.Row.cut.Goals as goal
 
 pub split_seat-seat-requires : goal.split_seat-seat-requires

@@ -2,9 +2,9 @@ use Rattle.std.proofs.Common.{rules, ap, ◌∙◌, arith, length, length-append
 use Rattle.bihash_steps.specs.Seats.{CallerState}
 use Rattle.bihash_steps.specs.Steps.{ViewOfSeat}
 use Rattle.bihash_steps.proofs.CountWord.{some_words}
-use Rattle.bihash_steps.proofs.Counting.{agrees_known, met_agree}
+use Rattle.bihash_steps.proofs.caller_steps.LoadCount.{agrees_known, met_agree}
 use Rattle.bihash_steps.proofs.SeatCounts.{can_act}
-use Rattle.bihash_steps.proofs.Sharing.{joins_numbers}
+use Rattle.bihash_steps.proofs.caller_steps.CutAndJoin.{joins_numbers}
 use Rattle.bihash_steps.proofs.row.Row.take_in.Goals as goal
 
 pub join_seat-requires : goal.join_seat-requires
