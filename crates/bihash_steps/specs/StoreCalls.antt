@@ -2,11 +2,10 @@
 use Rattle.std.specs.Prelude.{◌≡◌, ℕ, true, false, Bool, Some, None}
 use Rattle.bihash_words.specs.Sizes.{Sizes}
 use Rattle.bihash_steps.specs.BucketSteps.{unnoted}
-use Rattle.bihash_steps.specs.StoreSteps.{HasRoomFor, LocksStore, TakesBlock, word_in}
-use Rattle.bihash_steps.specs.Seats.{CallerState, IsSameSeat, with_view}
+use Rattle.bihash_steps.specs.StoreSteps.{HasRoomFor, LocksStore, word_in}
+use Rattle.bihash_steps.specs.Seats.{CallerState, IsSameSeat}
 use Rattle.bihash_steps.specs.declared.pool.word.PoolWord.{PoolWord}
 use Rattle.bihash_steps.specs.declared.view.LockedStore.{LockedStore}
-use Rattle.bihash_steps.specs.declared.view.PageStore.{PageStore}
 
 -- The allocation lock was taken, or somebody has it. A lone caller that doesn't hold it takes it.
 pub record TriesStoreLock (z : Sizes) (s t : CallerState) (locked : Bool) : Type 0 where

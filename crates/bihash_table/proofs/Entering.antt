@@ -3,12 +3,11 @@ use Rattle.std.proofs.Common.{◌≡◌, ◌≢◌, ◌∙◌, ◌<◌, ◌≤�
 use Rattle.std.specs.FinMap.{get, insert, len, remove}
 use Rattle.std.specs.Prelude.{if◌then◌else◌, nat_lt}
 use Rattle.std.proofs.lemmas.Bool.{le-ltb, lt-ltb}
-use Rattle.bihash_words.specs.Maps.{Answers, Bounds, Crowded, Entering, Event, Exhausted, Pairs, Present, Step, effect_of, most_pairs, row_with}
+use Rattle.bihash_words.specs.Maps.{Answers, Bounds, Crowded, Entering, Exhausted, Pairs, Present, Step, effect_of, most_pairs, row_with}
 use Rattle.bihash_words.specs.Patches.{free_mark}
 use Rattle.bihash_words.specs.Sizes.{Sizes}
 use Rattle.bihash_words.specs.declared.patch.Change.{Change}
 use Rattle.bihash_words.specs.declared.patch.Change.TheVariants.{Set, Remove}
-use Rattle.bihash_words.specs.declared.patch.Reply.{Reply}
 use Rattle.bihash_words.specs.declared.patch.Reply.TheVariants.{Changed, Full, NoPages}
 use Rattle.bihash_steps.specs.Histories.{IsKeyOf, IsWrite, bounds_of}
 use Rattle.bihash_steps.specs.Callers.{known_at}

@@ -1,5 +1,5 @@
 -- What one try of an update leaves of its caller.
-use Rattle.std.specs.Prelude.{◌≡◌, ◌≤◌, ℕ, ◌+◌, ◌-◌, Bool, true, false, if◌then◌else◌, List, Option, Result, Ok, Err, IfOk, IfErr, is_ok}
+use Rattle.std.specs.Prelude.{◌≡◌, ◌≤◌, ℕ, ◌+◌, ◌-◌, Bool, true, false, if◌then◌else◌, Option, Result, Ok, Err, IfOk, IfErr, is_ok}
 use Rattle.bihash_words.specs.Sizes.{sizes_of}
 use Rattle.bihash_words.specs.declared.shape.Shape.{Ghosts}
 use Rattle.bihash_words.specs.declared.patch.Change.{Change}
