@@ -7,15 +7,18 @@ ghost use Rattle.bihash_steps.specs.StoreSteps.{MayReplace, replaced};
 ghost use Rattle.bihash_steps.specs.declared.view.LockedBucket.{LockedBucket};
 ghost use Rattle.bihash_steps.specs.Seats.{Becomes, IsAt, with_view};
 
-use crate::bucket_plays::{
-    Answers, Calling, LockedStores, LockedWords, Locks, OpenWords, Publishes, Releases, Replaces,
-    Sees, Validates,
-};
 use crate::event::Event;
 use crate::row::{CallerSeat, Row};
 use crate::view::Extent;
 use bihash_words::{BucketWord, Shape};
 use std::marker::Brand;
+
+mod plays;
+
+use plays::{
+    Answers, Calling, LockedStores, LockedWords, Locks, OpenWords, Publishes, Releases, Replaces,
+    Sees, Validates,
+};
 
 impl<S: Shape> Row<S> {
     /// The word of a bucket. A lone caller that holds no lock finds it unlocked.

@@ -2,7 +2,7 @@ use Rattle.std.proofs.Common.{rules, ◌∙◌}
 use Rattle.bihash_words.specs.Sizes.{sizes_of}
 use Rattle.bihash_steps.specs.BucketSteps.{MayValidate}
 use Rattle.bihash_steps.proofs.Addresses.{validates_at}
-use Rattle.bihash_steps.proofs.NextWords.{counted_valid}
+use Rattle.bihash_steps.proofs.bucket_steps.NextWords.{counted_valid}
 use Rattle.bihash_steps.proofs.SeatCounts.{can_act, of_seat}
 use Rattle.bihash_steps.proofs.row.Row.validate_as.Goals as goal
 
