@@ -1,6 +1,8 @@
 pub mod Answers
+pub mod Calls
 pub mod Closing
 pub mod Copying
+pub mod Laid
 pub mod Locked
 pub mod OpenReads
 pub mod PairLists

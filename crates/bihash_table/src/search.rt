@@ -1,19 +1,14 @@
 //! Searches: one try, and a search that waits for its turn.
-ghost use Rattle.std.specs.Prelude.{◌≡◌, true, IfOk, IfErr, is_ok};
-ghost use Rattle.bihash_words.specs.Sizes.{sizes_of};
-ghost use Rattle.bihash_steps.specs.Histories.{bucket_of};
-ghost use Rattle.bihash_steps.specs.Callers.{IsLawfulCaller};
+ghost use Rattle.std.specs.Prelude.{◌≡◌};
 ghost use Rattle.bihash_steps.specs.Views.{nothing_held};
-ghost use Rattle.bihash_steps.specs.Seats.{with_view};
-ghost use Rattle.bihash_table.specs.Answers.{locks_of, search_of};
-ghost use Rattle.bihash_table.specs.Promise.{IsAnswered, IsTurnedAway};
+ghost use Rattle.bihash_table.specs.Calls.{TellsSearch, TellsSearchTry};
 
 use crate::contended::Contended;
 use crate::lock::look;
 use crate::reads::{find_pair, value_found};
 use crate::sessions::Sessions;
 use crate::site::Site;
-use bihash_steps::Caller;
+use bihash_steps::{Caller, Event};
 use bihash_words::{Change, Reply, Shape};
 use crossbeam_utils::Backoff;
 use std::sync::Wait;
@@ -23,14 +18,7 @@ impl<S: Shape> Sessions<S> {
     pub fn try_search(&self, caller: &mut Caller<S>, key: &S::Key) -> Result<Option<u64>, Contended>
         requires own { caller.old.seat.row ≡ self.now.row }
         requires free { caller.old.seat.view.holds ≡ nothing_held }
-        ensures same { caller.new.seat ≡ with_view caller.old.seat caller.new.seat.view }
-        ensures answered { IfOk result (λ found. IsAnswered (sizes_of S.Shape) caller.old.seat.view caller.new.seat.view
-            (search_of (S.words_of key.now) found)) }
-        ensures contended { IfErr result (λ _. IsTurnedAway (sizes_of S.Shape) caller.old.seat.view caller.new.seat.view
-            (bucket_of (sizes_of S.Shape) (S.words_of key.now))) }
-        ensures no_lock { locks_of caller.new.seat.view.records ≡ locks_of caller.old.seat.view.records }
-        ensures lone { caller.old.seat.view.lone ≡ true → is_ok result ≡ true }
-        ensures lawful { IsLawfulCaller (sizes_of S.Shape) caller.new.seat.view }
+        ensures { TellsSearchTry ⟦<S as Shape>⟧ caller.old.seat caller.new.seat key.now result }
     {
         self.row.is_sound();
         let site = Site::of(key);
@@ -40,37 +28,44 @@ impl<S: Shape> Sessions<S> {
         };
         let pair = find_pair(&self.row, seat, word, &site);
         let found = value_found(pair);
-        let reply = Reply::Kept(found);
-        if self.row.validate(
-            seat,
-            site.bucket,
-            word,
-            site.key,
+        let event = Event {
+            key: site.key,
             found,
-            Change::Keep,
-            reply,
-        ) {
+            change: Change::Keep,
+            reply: Reply::Kept(found),
+        };
+        if self.row.validate(seat, site.bucket, word, &event) {
             return Ok(found);
         }
         Err(Contended)
     }
 
-    /// The same. It tries again until it meets no other caller's lock.
+    /// The same. It tries again until no other caller holds the bucket's lock or changes it meanwhile.
     pub fn search<R: Wait>(&self, rt: &R, caller: &mut Caller<S>, key: &S::Key) -> Option<u64>
         requires own { caller.old.seat.row ≡ self.now.row }
         requires free { caller.old.seat.view.holds ≡ nothing_held }
-        ensures same { caller.new.seat ≡ with_view caller.old.seat caller.new.seat.view }
-        ensures answered { IsAnswered (sizes_of S.Shape) caller.old.seat.view caller.new.seat.view
-            (search_of (S.words_of key.now) result) }
-        ensures no_lock { locks_of caller.new.seat.view.records ≡ locks_of caller.old.seat.view.records }
-        ensures lawful { IsLawfulCaller (sizes_of S.Shape) caller.new.seat.view }
+        ensures { TellsSearch ⟦<S as Shape>⟧ caller.old.seat caller.new.seat key.now result }
+    {
+        let Ok(found) = self.try_search(caller, key) else {
+            return self.search_again(rt, caller, key);
+        };
+        found
+    }
+
+    // The same behind a try that met another caller, which is seldom. It stands apart, so that the first try is
+    // straight code.
+    #[inline(never)]
+    fn search_again<R: Wait>(&self, rt: &R, caller: &mut Caller<S>, key: &S::Key) -> Option<u64>
+        requires own { caller.old.seat.row ≡ self.now.row }
+        requires free { caller.old.seat.view.holds ≡ nothing_held }
+        ensures { TellsSearch ⟦<S as Shape>⟧ caller.old.seat caller.new.seat key.now result }
     {
         let backoff = Backoff::new();
         for _ in rt.forever() {
+            backoff.snooze();
             if let Ok(found) = self.try_search(caller, key) {
                 return found;
             }
-            backoff.snooze();
         }
         unreachable!()
     }

@@ -1,8 +1,9 @@
 //! What a packet does to its flow's session, where the rules are asked only if no session is live.
-ghost use Rattle.std.specs.Prelude.{◌≡◌, ◌<◌, ◌+◌, ◌^◌};
+ghost use Rattle.std.specs.Prelude.{◌≡◌, ◌<◌};
 ghost use Rattle.std.specs.Option.{ForSome};
 ghost use Rattle.packet_view.specs.Tuples.{facts};
 ghost use Rattle.acl_policy.specs.Matching.{IsDecision};
+ghost use Rattle.acl_policy.specs.Rules.{most_rules};
 ghost use Rattle.flow_filter.specs.Readings.{Ruling};
 ghost use Rattle.flow_filter.specs.Rulesets.{rules_in};
 
@@ -37,7 +38,7 @@ struct Decided<D: HasRuling> {
     ruling: Option<(usize, Action)>,
     of: PhantomData<D>,
     ghost is: { ruling ≡ D.ruling },
-    ghost few: { ForSome ruling (λ decided. decided.0 + 1 < 2 ^ 64) },
+    ghost few: { ForSome ruling (λ decided. decided.0 < most_rules) },
 }
 
 // Few packets of a busy flow come here, so it is kept out of their way, and what they are told by stays out of memory.
@@ -96,7 +97,7 @@ impl<'a, D: HasRuling> LazyPatch<'a, D> {
     #[inline(always)]
     fn ruling(&self) -> Option<(usize, Action)>
         ensures is { result ≡ D.ruling }
-        ensures few { ForSome result (λ decided. decided.0 + 1 < 2 ^ 64) }
+        ensures few { ForSome result (λ decided. decided.0 < most_rules) }
     {
         let decided = match self.decided.replace(None) {
             Some(decided) => decided,
@@ -120,7 +121,7 @@ impl<'a, D: HasRuling> LazyPatch<'a, D> {
     fn decider(&self, found: Option<u64>) -> Decider
         ensures is { result ≡ decider_of (facts_of ⟦<D as HasRuling>⟧ self.now) found D.ruling }
         ensures few { (ruling : Ruling) → result ≡ Decider.Rules ruling
-            → ForSome ruling (λ decided. decided.0 + 1 < 2 ^ 64) }
+            → ForSome ruling (λ decided. decided.0 < most_rules) }
     {
         if let Some(session) = self.unruled().live_session(found) {
             return Decider::Session(session);
