@@ -47,7 +47,7 @@ struct Decided<D: HasRuling> {
 fn asked(rules: Ruleset<'_>, tuple: Tuple) -> Option<(usize, Action)>
     ensures only { (other : Ruling) → IsDecision (rules_in rules.entry) (facts tuple) other → other ≡ result }
     ensures decided { IsDecision (rules_in rules.entry) (facts tuple) result }
-    ensures few { ForSome result (λ decided. decided.0 + 1 < 2 ^ 64) }
+    ensures few { ForSome result (λ decided. decided.0 < most_rules) }
 {
     rules.first_match(&tuple)
 }
