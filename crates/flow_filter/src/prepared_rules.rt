@@ -1,7 +1,8 @@
 //! The rules of a filter, prepared once for many packets.
-ghost use Rattle.std.specs.Prelude.{◌≡◌, ◌≤◌, IfOk, length, map};
+ghost use Rattle.std.specs.Prelude.{◌≡◌, ◌≤◌, ◌↔◌, IfOk, IsSome, length, map};
 ghost use Rattle.std.specs.Option.{ForSome};
 ghost use Rattle.acl_policy.specs.Rules.{most_rules, rule_facts};
+ghost use Rattle.rule_index.specs.Worth.{IsWorthPreparing};
 ghost use Rattle.flow_filter.specs.Rulesets.{rules_in};
 
 use crate::rule_search::RuleSearch;
@@ -23,7 +24,8 @@ pub fn index_of(
     rules: &[Rule],
     packets: usize,
 ) -> Result<Option<RuleIndex>, AllocError>
-    ensures { IfOk result (λ found. ForSome found (λ index. index.rules.items ≡ rules.now)) }
+    ensures index { IfOk result (λ found. ForSome found (λ index. index.rules.items ≡ rules.now)) }
+    ensures when { IfOk result (λ found. IsSome found ↔ IsWorthPreparing (length rules.now) packets) }
 {
     if !worth_preparing(rules.len(), packets) {
         return Ok(None);

@@ -6,3 +6,4 @@ pub mod Flagged
 pub mod Indexes
 pub mod Rows
 pub mod Sieves
+pub mod Worth

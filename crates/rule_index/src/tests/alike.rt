@@ -4,7 +4,7 @@ use crate::RuleIndex;
 use acl_policy::{Action, first_match};
 use packet_view::{Family, Fields, Tuple};
 
-const FIELDS: [(u8, Fields); 9] = [
+const FIELDS: [(u8, Fields); 10] = [
     (6, Fields::Absent),
     (
         6,
@@ -35,11 +35,12 @@ const FIELDS: [(u8, Fields); 9] = [
     (17, Fields::Absent),
     (0, Fields::Absent),
     (255, Fields::Absent),
+    (1, Fields::Icmp { kind: 8, code: 3 }),
 ];
 
 /// A packet's protocol and fields, where the type of packets takes them.
 fn tuple(family: Family, source: u32, dest: u32, number: usize) -> Option<Tuple> {
-    let (proto, fields) = FIELDS[number % 9];
+    let (proto, fields) = FIELDS[number % 10];
     let (source, dest) = (u128::from(source), u128::from(dest));
     match fields {
         Fields::Absent => Some(Tuple {
@@ -63,7 +64,16 @@ fn tuple(family: Family, source: u32, dest: u32, number: usize) -> Option<Tuple>
             proto: 17,
             fields,
         }),
-        Fields::Icmp { .. } => None,
+        Fields::Icmp { .. } => match family {
+            Family::V4 => Some(Tuple {
+                family: Family::V4,
+                source,
+                dest,
+                proto: 1,
+                fields,
+            }),
+            Family::V6 => None,
+        },
     }
 }
 
@@ -90,6 +100,11 @@ fn as_one_by_one(rt: HostRuntime) {
         second: (0, 53),
         ..any_of(17)
     };
+    let echo = Asked {
+        first: (8, 8),
+        second: (0, 3),
+        ..any_of(1)
+    };
     let rules = [
         ipv4(Action::Deny, (0x0a000000, 31), (0x0a000001, 32), web),
         ipv4(Action::Permit, (0x0a000000, 24), (0, 0), next),
@@ -104,6 +119,7 @@ fn as_one_by_one(rt: HostRuntime) {
         ipv4(Action::Reflect, (0, 0), (0x0a000000, 8), acked),
         ipv6(Action::Reflect, (0, 96), (0, 0), dns),
         ipv4(Action::Deny, (0x80000000, 1), (0, 0), dns),
+        ipv4(Action::Reflect, (0, 0), (0x0a000000, 24), echo),
         ipv4(Action::Permit, (0xffffffff, 32), (0, 0), any_of(0)),
         ipv4(Action::Deny, (0, 0), (0xffffffff, 31), any_of(255)),
         ipv6(Action::Deny, (0, 0), (0, 1), any_of(255)),
@@ -114,7 +130,7 @@ fn as_one_by_one(rt: HostRuntime) {
     ];
     for source in &ends {
         for dest in &ends {
-            for number in 0..9 {
+            for number in 0..10 {
                 for family in [Family::V4, Family::V6] {
                     if let Some(tuple) = tuple(family, *source, *dest, number) {
                         assert_eq!(rt; index.first_match(&tuple), first_match(&rules, &tuple));
