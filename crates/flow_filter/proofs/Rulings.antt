@@ -15,12 +15,12 @@ use Rattle.flow_filter.specs.Verdicts.{verdict_of}
 
 -- a policy says something of each packet
 pub some_ruling : (policy : PolicyFacts) (p : PacketFlow) → (ruling : Ruling) × IsRulingOn policy p ruling
-some_ruling policy p = some_decision (rules_of p.direction policy) (facts p.tuple)
+some_ruling policy p = some_decision (rules_of p.direction policy) (facts p.tuple.now)
 
 -- the update of a packet with a flow
 pub update_is : (times : Timeouts) (p : PacketFlow) (ruling : Ruling)
     → update_of times (reading_of p ruling) ≡ Some (update_by times p ruling)
-update_is times p ruling = ap (option_map (update_in times p.moment (facts p.tuple) ruling)) p.of_tuple
+update_is times p ruling = ap (option_map (update_in times p.moment (facts p.tuple.now) ruling)) p.of_tuple
 
 -- the verdict on it, by its event
 pub verdict_is : (times : Timeouts) (p : PacketFlow) (ruling : Ruling) (e : Event)

@@ -9,14 +9,15 @@ ghost use Rattle.flow_filter.specs.Rulesets.{rules_in};
 
 use crate::decider::Decider;
 use crate::filter::ReadyFilter;
-use crate::packet_flow::PacketFlow;
+use crate::packet_flow::{PacketFlow, copied};
 use crate::ruleset::Ruleset;
 use crate::update::patch_of;
 use crate::verdict::Verdict;
 use crate::verdicts::{found_in, verdict_without_session};
 use acl_policy::Action;
 use bihash_words::{Change, Patch, Reply};
-use session_state::Timeouts;
+use packet_view::Tuple;
+use session_state::{PacketPatch, Timeouts};
 use std::cell::Cell;
 use std::marker::{Brand, PhantomData};
 
@@ -40,6 +41,17 @@ struct Decided<D: HasRuling> {
     ghost few: { ForSome ruling (λ decided. decided.0 < most_rules) },
 }
 
+// Few packets of a busy flow come here, so it is kept out of their way, and what they are told by stays out of memory.
+#[cold]
+#[inline(never)]
+fn asked(rules: Ruleset<'_>, tuple: Tuple) -> Option<(usize, Action)>
+    ensures only { (other : Ruling) → IsDecision (rules_in rules.entry) (facts tuple) other → other ≡ result }
+    ensures decided { IsDecision (rules_in rules.entry) (facts tuple) result }
+    ensures few { ForSome result (λ decided. decided.0 < most_rules) }
+{
+    rules.first_match(&tuple)
+}
+
 /// What a packet does to its flow's session. The rules are asked once at most, and not at all where a
 /// session is live.
 #[derive(Drop)]
@@ -48,10 +60,12 @@ pub struct LazyPatch<'a, D: HasRuling> {
     rules: Ruleset<'a>,
     packet: PacketFlow<'a>,
     decided: Cell<Option<Decided<D>>>,
-    ghost said: { (d : Ruling) → IsDecision (rules_in rules) (facts packet.tuple) d → d ≡ D.ruling },
+    ghost said: { (d : Ruling) → IsDecision (rules_in rules) (facts packet.tuple.now) d → d ≡ D.ruling },
 }
 
 impl<'a, D: HasRuling> LazyPatch<'a, D> {
+    ghost use Rattle.std.specs.Prelude.{None};
+    ghost use Rattle.session_state.specs.Decisions.{patch_facts};
     ghost use Rattle.flow_filter.specs.Deciders.{decider_of};
     ghost use Rattle.flow_filter.specs.Filters.{policy_in};
     ghost use Rattle.flow_filter.specs.PacketFlows.{IsRulingOn, update_by};
@@ -59,6 +73,7 @@ impl<'a, D: HasRuling> LazyPatch<'a, D> {
     ghost use Rattle.flow_filter.specs.LazyPatches.{facts_of};
     ghost use Rattle.bihash_words.specs.Maps.{found_by};
 
+    #[inline]
     pub fn new(filter: &ReadyFilter<'a>, packet: PacketFlow<'a>) -> LazyPatch<'a, D>
         requires { IsRulingOn (policy_in filter.now) packet D.ruling }
         ensures { facts_of ⟦<D as HasRuling>⟧ result ≡ (update_by filter.now.times packet.entry D.ruling).patch }
@@ -71,13 +86,15 @@ impl<'a, D: HasRuling> LazyPatch<'a, D> {
         }
     }
 
+    #[inline(always)]
     fn ask(&self) -> Decided<D> {
         Decided {
-            ruling: self.rules.first_match(&self.packet.tuple),
+            ruling: asked(self.rules, copied(self.packet.tuple)),
             of: PhantomData,
         }
     }
 
+    #[inline(always)]
     fn ruling(&self) -> Option<(usize, Action)>
         ensures is { result ≡ D.ruling }
         ensures few { ForSome result (λ decided. decided.0 < most_rules) }
@@ -91,25 +108,34 @@ impl<'a, D: HasRuling> LazyPatch<'a, D> {
         ruling
     }
 
+    // What the packet does to a live session, which no rule is asked for.
+    #[inline]
+    fn unruled(&self) -> PacketPatch
+        ensures { patch_facts result ≡ (update_by self.now.times self.now.packet None).patch }
+    {
+        patch_of(&self.times, &self.packet, None)
+    }
+
     // The rules are asked here alone.
+    #[inline(always)]
     fn decider(&self, found: Option<u64>) -> Decider
         ensures is { result ≡ decider_of (facts_of ⟦<D as HasRuling>⟧ self.now) found D.ruling }
         ensures few { (ruling : Ruling) → result ≡ Decider.Rules ruling
             → ForSome ruling (λ decided. decided.0 < most_rules) }
     {
-        let unruled = patch_of(&self.times, &self.packet, None);
-        if unruled.live_session(found).is_some() {
-            return Decider::Session;
+        if let Some(session) = self.unruled().live_session(found) {
+            return Decider::Session(session);
         }
         Decider::Rules(self.ruling())
     }
 
     /// The verdict on the packet, by the reply to its update.
+    #[inline]
     pub fn verdict(&self, reply: Reply) -> Verdict
         ensures { result ≡ verdict_of (facts_of ⟦<D as HasRuling>⟧ self.now) D.ruling (found_by reply) reply }
     {
         match self.decider(found_in(reply)) {
-            Decider::Session => Verdict::Session,
+            Decider::Session(_) => Verdict::Session,
             Decider::Rules(ruling) => {
                 let patch = patch_of(&self.times, &self.packet, ruling);
                 verdict_without_session(&patch, ruling, reply)
@@ -125,12 +151,12 @@ impl<'a, D: HasRuling> Patch for LazyPatch<'a, D> {
 
     ghost decision = { λ patch old. decision_of (facts_of ⟦<D as HasRuling>⟧ patch) old };
 
+    #[inline(always)]
     fn decide(&self, old: Option<u64>) -> Change {
-        let ruling = match self.decider(old) {
-            Decider::Session => None,
-            Decider::Rules(ruling) => ruling,
-        };
-        patch_of(&self.times, &self.packet, ruling).decide(old)
+        match self.decider(old) {
+            Decider::Session(session) => self.unruled().touch(session),
+            Decider::Rules(ruling) => patch_of(&self.times, &self.packet, ruling).decide(old),
+        }
     }
 }
 

@@ -19,7 +19,7 @@ pub use laws::{
     packets_pass_by_rule_or_session,
 };
 pub use lazy_patch::{HasRuling, LazyPatch};
-pub use packet_flow::PacketFlow;
+pub use packet_flow::{PacketFlow, copied};
 pub use prepared_rules::PreparedRules;
 pub use rule_search::RuleSearch;
 pub use ruleset::Ruleset;

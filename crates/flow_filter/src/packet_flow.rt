@@ -12,8 +12,23 @@ pub struct PacketFlow<'a> {
     /// When the packet came, in seconds.
     pub moment: u32,
     pub direction: Direction,
-    pub tuple: Tuple,
+    pub tuple: &'a Tuple,
     pub flow: &'a Flow,
-    pub ghost of_tuple: { flow_of (facts tuple) ≡ Some flow.now },
+    pub ghost of_tuple: { flow_of (facts tuple.now) ≡ Some flow.now },
     pub ghost of_two: { flow.now.side < 2 },
+}
+
+/// The tuple again. A copy of the whole would take the bytes between its fields along, and a reference to where a
+/// packet was viewed would keep each packet's tuple in memory.
+#[inline(always)]
+pub fn copied(tuple: &Tuple) -> Tuple
+    ensures { facts result ≡ facts tuple.now }
+{
+    Tuple {
+        family: tuple.family,
+        source: tuple.source,
+        dest: tuple.dest,
+        proto: tuple.proto,
+        fields: tuple.fields,
+    }
 }

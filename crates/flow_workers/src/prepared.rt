@@ -1,10 +1,11 @@
 //! What a packet comes to before it asks a table.
 ghost use Rattle.std.specs.Prelude.{◌≡◌};
-ghost use Rattle.packet_view.specs.Tuples.{facts};
 
 use crate::viewed_packet::ViewedPacket;
-use flow_filter::{HasRuling, LazyPatch, PacketFlow, ReadyFilter, Verdict, verdict_of_rules};
-use packet_view::{Frame, Tuple};
+use flow_filter::{
+    HasRuling, LazyPatch, PacketFlow, ReadyFilter, Verdict, copied, verdict_of_rules,
+};
+use packet_view::Frame;
 use session_state::FlowKey;
 
 /// What a packet comes to before it asks a table.
@@ -14,19 +15,6 @@ pub enum Prepared<'a, D: HasRuling> {
     Settled(Verdict),
     /// The update that decides it.
     Asks(&'a FlowKey, LazyPatch<'a, D>),
-}
-
-// The tuple again. A copy of the whole would take the bytes between its fields along, and wait until all are stored.
-fn copied(tuple: &Tuple) -> Tuple
-    ensures { facts result ≡ facts tuple.now }
-{
-    Tuple {
-        family: tuple.family,
-        source: tuple.source,
-        dest: tuple.dest,
-        proto: tuple.proto,
-        fields: tuple.fields,
-    }
 }
 
 impl<'a, D: HasRuling> Prepared<'a, D> {
@@ -53,7 +41,7 @@ impl<'a, D: HasRuling> Prepared<'a, D> {
                 let asking = PacketFlow {
                     moment: packet.moment,
                     direction: *direction,
-                    tuple: copied(tuple),
+                    tuple,
                     flow,
                 };
                 Prepared::Asks(&flow.key, LazyPatch::new(filter, asking))

@@ -1,23 +1,30 @@
 //! Ethernet headers with up to two VLAN tags (IEEE 802.3, 802.1Q and 802.1ad).
 ghost use Rattle.std.specs.Prelude.{◌≡◌};
+ghost use Rattle.packet_view.specs.Ethernet.{is_tag_type};
 ghost use Rattle.packet_view.specs.FrameSteps.{behind_tag, content_of, contents};
 
 use byteorder::{BigEndian, ByteOrder};
+
+/// Whether a tag stands under this type.
+#[inline]
+fn is_tag(kind: u16) -> bool
+    ensures { result ≡ is_tag_type kind }
+{
+    matches!(kind, 0x8100 | 0x88a8)
+}
 
 /// The type that a frame's content has behind one tag, if a tag stands here. None where the tag is cut.
 #[inline]
 fn past_tag(kind: u16, content: &[u8]) -> Option<(u16, &[u8])>
     ensures { contents result ≡ behind_tag kind content.now }
 {
-    match kind {
-        0x8100 | 0x88a8 => {
-            if content.len() < 4 {
-                return None;
-            }
-            Some((BigEndian::read_u16(&content[2..]), &content[4..]))
-        }
-        _ => Some((kind, content)),
+    if !is_tag(kind) {
+        return Some((kind, content));
     }
+    if content.len() < 4 {
+        return None;
+    }
+    Some((BigEndian::read_u16(&content[2..]), &content[4..]))
 }
 
 /// The type of a frame and its content. None where the frame ends before them.
@@ -28,6 +35,11 @@ pub fn content(frame: &[u8]) -> Option<(u16, &[u8])>
     if frame.len() < 14 {
         return None;
     }
-    let (kind, content) = past_tag(BigEndian::read_u16(&frame[12..]), &frame[14..])?;
+    let kind = BigEndian::read_u16(&frame[12..]);
+    let content = &frame[14..];
+    if !is_tag(kind) {
+        return Some((kind, content));
+    }
+    let (kind, content) = past_tag(kind, content)?;
     past_tag(kind, content)
 }

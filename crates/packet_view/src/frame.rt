@@ -1,5 +1,6 @@
 //! Frames, and what they turn out to be.
-ghost use Rattle.std.specs.Prelude.{◌≡◌, ◌≤◌, length};
+ghost use Rattle.std.specs.Prelude.{◌≡◌, ◌≤◌, ◌<◌, ℕ, length, slice_index};
+ghost use Rattle.packet_view.specs.Bytes.{number_from};
 ghost use Rattle.packet_view.specs.Frames.{IsFrame, View, viewed};
 ghost use Rattle.packet_view.specs.FrameSteps.{direction_of, packets, view_of, view_of_packet};
 
@@ -20,6 +21,21 @@ pub enum Frame {
     Ip(Direction, Tuple),
 }
 
+/// The number of an address of six bytes.
+#[inline]
+fn address_number(bytes: &[u8]) -> u64
+    requires { 6 ≤ length bytes.now }
+    ensures number { result ≡ number_from 0 6 bytes.now }
+    ensures bytes { (i : ℕ) → i < 6 → slice_index bytes.now i < 256 }
+{
+    (u64::from(bytes[0]) << 40)
+        + (u64::from(bytes[1]) << 32)
+        + (u64::from(bytes[2]) << 24)
+        + (u64::from(bytes[3]) << 16)
+        + (u64::from(bytes[4]) << 8)
+        + u64::from(bytes[5])
+}
+
 /// The way of a frame with at least twelve bytes.
 #[inline]
 fn direction(frame: &[u8], own: Option<Mac>) -> Direction
@@ -29,8 +45,8 @@ fn direction(frame: &[u8], own: Option<Mac>) -> Direction
     let Some(mac) = own else {
         return Direction::Inbound;
     };
-    // Unlike `==` of slices this costs no call, since both lengths are constants.
-    if mac.0.starts_with(&frame[6..12]) {
+    // Unlike `==` of slices this costs no call, and it compares all bytes at once.
+    if address_number(&frame[6..12]) == address_number(&mac.0) {
         Direction::Outbound
     } else {
         Direction::Inbound

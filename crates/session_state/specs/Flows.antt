@@ -1,6 +1,6 @@
 -- Which packets take part in sessions, and the key of a flow in its family's table. The types of an
 -- echo are of RFC 792 and RFC 4443; the order of the ends and the layout of a key are this project's.
-use Rattle.std.specs.Prelude.{◌≡◌, ◌≢◌, ◌<◌, ◌⊎◌, ℕ, ◌+◌, ◌*◌, ◌/◌, ◌%◌, ◌^◌, Bool, true, false, ◌||◌, ◌&&◌, ◌==◌, nat_lt, nat_le, if◌then◌else◌, [], ◌∷◌, Option, Some, None}
+use Rattle.std.specs.Prelude.{◌≡◌, ◌≢◌, ◌<◌, ◌⊎◌, ℕ, ◌+◌, ◌*◌, ◌/◌, ◌%◌, ◌^◌, Bool, true, false, ◌||◌, ◌&&◌, ◌==◌, nat_lt, nat_le, min, max, if◌then◌else◌, [], ◌∷◌, Option, Some, None}
 use Rattle.packet_view.specs.declared.tuple.Family.{Family}
 use Rattle.packet_view.specs.declared.tuple.Family.TheVariants.{V4, V6}
 use Rattle.packet_view.specs.declared.tuple.Fields.{Fields}
@@ -109,6 +109,19 @@ oriented packet first second starts =
 abbrev pub stands_first : End → End → Bool
 stands_first one other =
     nat_lt one.address other.address || ((one.address == other.address) && nat_le one.port other.port)
+
+-- the end that a number stands for in IPv4: the address, and 16 bits for the port below it
+abbrev pub end_of_number : ℕ → End
+end_of_number n = record { address = n / 2 ^ 16; port = n % 2 ^ 16 }
+
+-- the flow of an IPv4 packet with ports whose ends these numbers stand for: the lesser number stands first
+abbrev pub flow_by_number : ℕ → ℕ → ℕ → Flow
+flow_by_number proto from to =
+    record {
+      key = key_of V4 (end_of_number (min from to)) (end_of_number (max from to)) proto;
+      side = if nat_lt to from then 1 else 0;
+      starts = true;
+    }
 
 -- the flow of a packet with ports
 abbrev pub flow_by_order : Facts → Flow

@@ -1,10 +1,11 @@
 //! Flows: both directions of an exchange under one key.
-ghost use Rattle.std.specs.Prelude.{◌≡◌, ◌<◌, Bool, IfSome, Some};
+ghost use Rattle.std.specs.Prelude.{◌≡◌, ◌<◌, ◌+◌, ◌*◌, ◌^◌, Bool, IfSome, Some};
+ghost use Rattle.packet_view.specs.declared.tuple.Family.TheVariants.{V4};
 ghost use Rattle.packet_view.specs.Addresses.{address_limit};
 ghost use Rattle.packet_view.specs.Tuples.{facts};
 ghost use Rattle.session_state.specs.declared.flow.Flow.{Flow};
 ghost use Rattle.session_state.specs.Flows;
-ghost use Rattle.session_state.specs.Flows.{IsFlow, echo_flow, flow_by_order, flow_of, key_of};
+ghost use Rattle.session_state.specs.Flows.{IsFlow, echo_flow, end_of_number, flow_by_order, flow_of, key_of};
 
 use crate::end::{End, is_first, receiver, sender};
 use packet_view::{Family, Fields, Tuple};
@@ -46,14 +47,21 @@ fn reply_type(family: Family) -> u8
     }
 }
 
+// The last word of a key.
+fn ports_word(first: u64, second: u64, proto: u8) -> u64
+    requires first { first < 2 ^ 16 }
+    requires second { second < 2 ^ 16 }
+    ensures { result ≡ first * 2 ^ 48 + second * 2 ^ 32 + proto * 2 ^ 24 }
+{
+    (first << 48) + (second << 32) + (u64::from(proto) << 24)
+}
+
 fn key(family: Family, first: End, second: End, proto: u8) -> FlowKey
     requires first { first.address < address_limit family }
     requires second { second.address < address_limit family }
     ensures { result ≡ key_of family first second proto }
 {
-    let ports = (u64::from(first.port) << 48)
-        + (u64::from(second.port) << 32)
-        + (u64::from(proto) << 24);
+    let ports = ports_word(u64::from(first.port), u64::from(second.port), proto);
     match family {
         Family::V4 => FlowKey::Four([((first.address << 32) + second.address) as u64, ports]),
         Family::V6 => FlowKey::Six([
@@ -78,7 +86,47 @@ fn oriented(tuple: &Tuple, first: End, second: End, starts: bool) -> Flow
     }
 }
 
+// An end of IPv4 as a number, so that the order of ends is that of their numbers.
+fn number(end: End) -> u64
+    requires { end.address < 2 ^ 32 }
+    ensures is { end_of_number result ≡ end }
+    ensures fits { result < 2 ^ 48 }
+{
+    ((end.address as u64) << 16) + u64::from(end.port)
+}
+
+fn key_by_number(first: u64, second: u64, proto: u8) -> FlowKey
+    requires first { first < 2 ^ 48 }
+    requires second { second < 2 ^ 48 }
+    ensures { result ≡ key_of V4 (end_of_number first) (end_of_number second) proto }
+{
+    let ports = ports_word(first % (1 << 16), second % (1 << 16), proto);
+    FlowKey::Four([((first >> 16) << 32) + (second >> 16), ports])
+}
+
+// Which end stands first is as good as random, so no branch depends on it.
+fn flow_by_number(from: u64, to: u64, proto: u8) -> Flow
+    requires from { from < 2 ^ 48 }
+    requires to { to < 2 ^ 48 }
+    ensures { result ≡ Flows.flow_by_number proto from to }
+{
+    Flow {
+        key: key_by_number(from.min(to), from.max(to), proto),
+        side: u8::from(to < from),
+        starts: true,
+    }
+}
+
 fn by_order(tuple: &Tuple) -> Flow
+    ensures { result ≡ flow_by_order (facts tuple.now) }
+{
+    match tuple.family {
+        Family::V4 => flow_by_number(number(sender(tuple)), number(receiver(tuple)), tuple.proto),
+        Family::V6 => by_ends(tuple),
+    }
+}
+
+fn by_ends(tuple: &Tuple) -> Flow
     ensures { result ≡ flow_by_order (facts tuple.now) }
 {
     let from = sender(tuple);

@@ -25,10 +25,14 @@ pub struct PacketPatch {
 }
 
 impl PacketPatch {
-    ghost use Rattle.session_state.specs.Decisions.{live_session, patch_facts};
+    ghost use Rattle.bihash_words.specs.Patches.{IsStorable};
+    ghost use Rattle.bihash_words.specs.declared.patch.Change.TheVariants.{Set};
+    ghost use Rattle.session_state.specs.Decisions.{live_session, passed_session, patch_facts};
+    ghost use Rattle.session_state.specs.Sessions.{session_word};
 
     /// The session that lets the packet through: that of the stored value, where it is live at the
     /// packet's moment.
+    #[inline]
     pub fn live_session(&self, old: Option<u64>) -> Option<Session>
         ensures { result ≡ live_session (patch_facts self.now) old }
     {
@@ -37,6 +41,16 @@ impl PacketPatch {
             return Some(session);
         }
         None
+    }
+
+    /// What becomes of a live session.
+    #[inline]
+    pub fn touch(&self, session: Session) -> Change
+        ensures value { result ≡ Set (session_word (passed_session (patch_facts self.now) session)) }
+        ensures storable { IsStorable result }
+    {
+        let next = session.touched(self.moment, self.side, self.flags);
+        Change::Set(next.word())
     }
 }
 
@@ -54,8 +68,7 @@ impl Patch for PacketPatch {
         ensures only { (change : Change) → IsDecision (patch_facts self.now) old change → change ≡ result }
     {
         if let Some(session) = self.live_session(old) {
-            let next = session.touched(self.moment, self.side, self.flags);
-            return Change::Set(next.word());
+            return self.touch(session);
         }
         if self.reflects {
             let session = Session::new(self.moment, self.side, self.flags, self.tcp);

@@ -102,7 +102,7 @@ fn udp_outcome(action: Action, moment: u32, reply: Reply, found: Option<u64>) ->
     let packet = PacketFlow {
         moment,
         direction: Direction::Inbound,
-        tuple,
+        tuple: &tuple,
         flow: &flow,
     };
     Some(outcome_of(&filter, packet, reply, found))
