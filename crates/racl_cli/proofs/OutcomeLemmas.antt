@@ -16,12 +16,12 @@ use Rattle.racl_io.specs.declared.fault.Fault.{Fault}
 use Rattle.racl_io.specs.declared.input.Form.{Form}
 use Rattle.racl_io.specs.declared.input.Form.TheVariants.{Hexadecimal}
 use Rattle.racl_io.specs.declared.report.Totals.{Totals}
-use Rattle.racl_io.specs.Faults.{IsFaultOfBytes, IsFaultOfCapture, IsFaultOfContent, IsSystemFault, capture_fault, policy_fault}
+use Rattle.racl_io.specs.Faults.{IsSystemFault, capture_fault, policy_fault}
 use Rattle.racl_io.specs.Reports.{report_of, totals_of}
 use Rattle.racl_io.specs.declared.fault.Fault.TheVariants.{Hex, Memory, NoCapture, Write}
 use Rattle.racl_io.specs.Inputs.{IsContent, IsInput, Parts, most_bytes}
 use Rattle.racl_io.proofs.InputLemmas.{one_input}
-use Rattle.racl_cli.specs.Runs.{Agrees, ByOneThread, ByWorkers, FiltersCapture, FiltersContent, FiltersInput, HasOutcome, HasReported, HasRun, IsAnswer, IsReached, Judging, Outcome, dealt_to, flow_layout}
+use Rattle.racl_cli.specs.Runs.{Agrees, AnswersCapture, AnswersContent, AnswersInput, ByOneThread, ByWorkers, FiltersCapture, FiltersContent, FiltersInput, HasOutcome, HasReported, HasRun, IsAnswer, IsReached, Judging, Outcome, dealt_to, flow_layout}
 use Rattle.flow_filter.proofs.OneThreadLemmas.{one_verdicts}
 use Rattle.racl_cli.proofs.RunLemmas.{IsRead, fault_of_known_content, fault_of_known_parts, fault_of_right_policy, fault_of_wrong_policy, fault_without_parts, one_content}
 
@@ -108,8 +108,8 @@ memory_answers options Has IsFault fault same = record {
 
 -- what is answered of a capture is answered of the content that stands for it
 pub content_answers : (options : Options) (policy : PolicyFacts) (form : Form) (content capture : List ℕ) (result : Result Outcome Fault) → IsContent form content capture
-    → IsAnswer options (λ judging. FiltersCapture judging policy capture) (IsFaultOfCapture capture) result
-    → IsAnswer options (λ judging. FiltersContent judging policy form content) (IsFaultOfContent form content) result
+    → AnswersCapture options policy capture result
+    → AnswersContent options policy form content result
 content_answers options policy form content capture result spelt is =
     answers_more options _ _ _ _ result (λ judging outcome filters. record { capture = capture; spelt = spelt; filters = filters })
     (λ outcome filters. filters_of_known_content _ policy form content capture outcome spelt filters)
@@ -118,7 +118,7 @@ content_answers options policy form content capture result spelt is =
 -- digits that stand for no bytes
 pub hexadecimal_answers : (options : Options) (policy : PolicyFacts) (content : List ℕ) (fault : Fault)
     → (fault ≡ Memory) ⊎ ((fault ≡ Hex) × ((capture : List ℕ) → IsContent Hexadecimal content capture → ⊥))
-    → IsAnswer options (λ judging. FiltersContent judging policy Hexadecimal content) (IsFaultOfContent Hexadecimal content) (Err fault)
+    → AnswersContent options policy Hexadecimal content (Err fault)
 hexadecimal_answers options policy content fault (inl memory) = memory_answers options _ _ fault memory
 hexadecimal_answers options policy content fault (inr (same, none)) = record {
   ok = tt;
@@ -130,8 +130,8 @@ hexadecimal_answers options policy content fault (inr (same, none)) = record {
 -- what is answered of the content is answered of the input with this content behind a right policy
 pub input_answers : (options : Options) (bytes : List ℕ) (parts : Parts) (policy : PolicyFacts) (result : Result Outcome Fault) → IsInput bytes parts → IsPolicyText parts.policy policy
     → ((right : PolicyFacts) → IsPolicyText parts.policy right → policy ≡ right) → ((cause : PolicyFault) → IsPolicyFault parts.policy cause → ⊥)
-    → IsAnswer options (λ judging. FiltersContent judging policy parts.form parts.content) (IsFaultOfContent parts.form parts.content) result
-    → IsAnswer options (λ judging. FiltersInput judging bytes) (IsFaultOfBytes bytes) result
+    → AnswersContent options policy parts.form parts.content result
+    → AnswersInput options bytes result
 input_answers options bytes parts policy result parted says one right is =
     answers_more options _ _ _ _ result (λ judging outcome filters. record { parts = parts; parted = parted; policy = policy; says = says; filters = filters })
     (λ outcome filters.
@@ -145,7 +145,7 @@ pub policy_answers : (options : Options) (bytes : List ℕ) (parts : Parts) (fou
     → ((right : PolicyFacts) → IsPolicyText parts.policy right → found ≡ policy.Memory)
     → (found ≢ policy.Memory → IsPolicyFault parts.policy found)
     → ((cause : PolicyFault) → IsPolicyFault parts.policy cause → (found ≡ cause) ⊎ (found ≡ policy.Memory))
-    → IsAnswer options (λ judging. FiltersInput judging bytes) (IsFaultOfBytes bytes) (Err (policy_fault found))
+    → AnswersInput options bytes (Err (policy_fault found))
 policy_answers options bytes parts found parted accepts fails refuses = record {
   ok = tt;
   accepts = λ one_thread filters. let known = filters_of_known_parts _ bytes parts one_thread parted filters in ap policy_fault (accepts known.policy known.says);
@@ -155,7 +155,7 @@ policy_answers options bytes parts found parted accepts fails refuses = record {
 
 -- an input without a marker line
 pub no_marker_answers : (options : Options) (bytes : List ℕ) → ((parts : Parts) → IsInput bytes parts → ⊥)
-    → IsAnswer options (λ judging. FiltersInput judging bytes) (IsFaultOfBytes bytes) (Err NoCapture)
+    → AnswersInput options bytes (Err NoCapture)
 no_marker_answers options bytes none = record {
   ok = tt;
   accepts = λ one_thread filters. absurd (none filters.parts filters.parted);
@@ -168,7 +168,7 @@ pub capture_answers : (options : Options) (policy : PolicyFacts) (capture : List
     → ((packets : List Seen) (end : End) → IsCapture capture packets end → found ≡ packet.Memory)
     → (found ≢ packet.Memory → IsCaptureFault capture found)
     → ((cause : CaptureFault) → IsCaptureFault capture cause → (found ≡ cause) ⊎ (found ≡ packet.Memory))
-    → IsAnswer options (λ judging. FiltersCapture judging policy capture) (IsFaultOfCapture capture) (Err (capture_fault found))
+    → AnswersCapture options policy capture (Err (capture_fault found))
 capture_answers options policy capture found accepts fails refuses = record {
   ok = tt;
   accepts = λ one_thread filters. ap capture_fault (accepts filters.packets (end_of one_thread.truncated) filters.records);
@@ -182,7 +182,7 @@ pub verdicts_answer : (options : Options) (policy : PolicyFacts) (capture : List
     → ((others : List Seen) (end : End) → IsCapture capture others end → (packets ≡ others) × (end_of truncated ≡ end))
     → ((cause : CaptureFault) → IsCaptureFault capture cause → ⊥)
     → ByWorkers options policy packets verdicts → (HavePages verdicts → ByOneThread options.times policy packets verdicts)
-    → IsAnswer options (λ judging. FiltersCapture judging policy capture) (IsFaultOfCapture capture) (Ok (outcome_of verdicts truncated))
+    → AnswersCapture options policy capture (Ok (outcome_of verdicts truncated))
 verdicts_answer options policy capture packets verdicts truncated records one right by_workers by_one_thread =
     let by : FiltersCapture (ByWorkers options) policy capture (outcome_of verdicts truncated) = record { packets = packets; records = records; verdicts = by_workers } in
     record {

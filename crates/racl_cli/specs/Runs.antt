@@ -16,7 +16,7 @@ use Rattle.racl_io.specs.declared.fault.Fault.{Fault}
 use Rattle.racl_io.specs.declared.fault.Fault.TheVariants.{Memory}
 use Rattle.racl_io.specs.declared.input.Form.{Form}
 use Rattle.racl_io.specs.declared.report.Totals.{Totals}
-use Rattle.racl_io.specs.Faults.{Refuses}
+use Rattle.racl_io.specs.Faults.{IsFaultOfBytes, IsFaultOfCapture, IsFaultOfContent, Refuses}
 use Rattle.racl_io.specs.Inputs.{IsContent, IsInput, Parts, most_bytes}
 use Rattle.racl_io.specs.Reports.{report_of, totals_of}
 
@@ -99,6 +99,16 @@ pub record IsAnswer (options : Options) (Has : Judging → Outcome → Type 0) (
   pub accepts : (one_thread : Outcome) → Has (ByOneThread options.times) one_thread → MatchResult result (Agrees options Has one_thread) (λ fault. fault ≡ Memory)
   pub fault : IfErr result (λ fault. fault ≢ Memory → IsFault fault)
   pub refuses : (fault : Fault) → IsFault fault → Refuses fault result
+
+-- of a capture, of the content of an input, and of all its bytes
+abbrev pub AnswersCapture : Options → PolicyFacts → List ℕ → Result Outcome Fault → Type 0
+AnswersCapture options policy capture result = IsAnswer options (λ judging. FiltersCapture judging policy capture) (IsFaultOfCapture capture) result
+
+abbrev pub AnswersContent : Options → PolicyFacts → Form → List ℕ → Result Outcome Fault → Type 0
+AnswersContent options policy form content result = IsAnswer options (λ judging. FiltersContent judging policy form content) (IsFaultOfContent form content) result
+
+abbrev pub AnswersInput : Options → List ℕ → Result Outcome Fault → Type 0
+AnswersInput options bytes result = IsAnswer options (λ judging. FiltersInput judging bytes) (IsFaultOfBytes bytes) result
 
 -- ---- reports
 

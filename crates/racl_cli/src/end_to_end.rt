@@ -3,8 +3,8 @@ ghost use Rattle.std.specs.Prelude.{◌≡◌, ◌≢◌, ◌+◌, ◌-◌, ◌<
 ghost use Rattle.acl_policy.specs.Policies.{policy_facts};
 ghost use Rattle.racl_io.specs.declared.fault.Fault.{Fault};
 ghost use Rattle.racl_io.specs.declared.fault.Fault.TheVariants.{Memory};
-ghost use Rattle.racl_io.specs.Faults.{IsFaultOfBytes, IsFaultOfCapture, IsFaultOfContent, IsInputFault, IsSystemFault, RefusesRead};
-ghost use Rattle.racl_cli.specs.Runs.{ByOneThread, FiltersCapture, FiltersContent, FiltersInput, HasOutcome, HasReported, HasRun, IsAnswer, Outcome};
+ghost use Rattle.racl_io.specs.Faults.{IsInputFault, IsSystemFault, RefusesRead};
+ghost use Rattle.racl_cli.specs.Runs.{AnswersCapture, AnswersContent, AnswersInput, ByOneThread, HasOutcome, HasReported, HasRun, Outcome};
 
 use crate::judging::verdicts_on;
 use crate::outcome::Judged;
@@ -25,7 +25,7 @@ fn judge_capture<T: Threads + Wait + Sync>(
     capture: &[u8],
 ) -> Result<Judged, Fault>
     requires times { filter.now.times ≡ options.now.times }
-    ensures { IsAnswer options.now (λ judging. FiltersCapture judging (policy_facts filter.now.policy) capture.now) (IsFaultOfCapture capture.now) result }
+    ensures { AnswersCapture options.now (policy_facts filter.now.policy) capture.now result }
 {
     let capture = read_capture(alloc, capture)?;
     let verdicts = verdicts_on(rt, alloc, options, filter, &capture.packets)?;
@@ -44,7 +44,7 @@ fn judge_content<T: Threads + Wait + Sync>(
     content: &[u8],
 ) -> Result<Judged, Fault>
     requires times { filter.now.times ≡ options.now.times }
-    ensures { IsAnswer options.now (λ judging. FiltersContent judging (policy_facts filter.now.policy) form content.now) (IsFaultOfContent form content.now) result }
+    ensures { AnswersContent options.now (policy_facts filter.now.policy) form content.now result }
 {
     match form {
         Form::Binary => judge_capture(rt, alloc, options, filter, content),
@@ -61,7 +61,7 @@ fn judge_input<T: Threads + Wait + Sync>(
     options: &Options,
     bytes: &[u8],
 ) -> Result<Judged, Fault>
-    ensures { IsAnswer options.now (λ judging. FiltersInput judging bytes.now) (IsFaultOfBytes bytes.now) result }
+    ensures { AnswersInput options.now bytes.now result }
 {
     let Some(input) = parts(bytes) else {
         return Err(Fault::NoCapture);

@@ -1,5 +1,5 @@
-//! The digits of a number, kept while it is counted up.
-ghost use Rattle.std.specs.Prelude.{◌≡◌, ℕ, ◌+◌, ◌<◌, ◌≤◌, ◌^◌, ◌++◌, decimal, drop, length};
+//! The digits of numbers, and of one that is counted up.
+ghost use Rattle.std.specs.Prelude.{◌≡◌, ℕ, ◌+◌, ◌-◌, ◌*◌, ◌<◌, ◌≤◌, ◌^◌, ◌++◌, decimal, drop, length};
 
 use crate::piece::Piece;
 use itoa::write_digits;
@@ -39,19 +39,13 @@ impl Numeral {
         }
     }
 
-    /// Counts one more. Only each tenth number is written anew.
-    pub fn count(&mut self)
-        requires { self.old + 1 < 2 ^ 64 }
-        ensures { self.new ≡ self.old + 1 }
+    pub fn number(&self) -> u64
+        ensures { result ≡ self.now }
     {
-        if self.digits[END - 1] == b'9' {
-            *self = Numeral::of(self.number + 1);
-        } else {
-            self.digits[END - 1] += 1;
-            self.number += 1;
-        }
+        self.number
     }
 
+    #[inline(always)]
     pub fn push(&self, piece: &mut Piece)
         requires { length piece.old + 24 ≤ 65536 }
         ensures text { piece.new ≡ piece.old ++ decimal self.now }
@@ -59,5 +53,59 @@ impl Numeral {
     {
         let start = self.start;
         piece.push_first(&self.digits[start..start + END], END - start);
+    }
+}
+
+/// A number that is counted up: its last digit stands apart, so that the others are written once in ten times.
+#[derive(Drop)]
+pub struct Counter {
+    tens: Numeral,
+    last: u8,
+}
+
+impl Model for Counter {
+    ghost Value = { ℕ };
+
+    ghost view = { λ c. c.tens * 10 + c.last };
+
+    ghost invariant = { λ c. c.last < 10 };
+}
+
+impl Counter {
+    pub fn new() -> Counter
+        ensures { result ≡ 0 }
+    {
+        Counter {
+            tens: Numeral::of(0),
+            last: 0,
+        }
+    }
+
+    pub fn count(&mut self)
+        requires { self.old + 1 < 2 ^ 64 }
+        ensures { self.new ≡ self.old + 1 }
+    {
+        if self.last == 9 {
+            self.tens = Numeral::of(self.tens.number() + 1);
+            self.last = 0;
+        } else {
+            self.last += 1;
+        }
+    }
+
+    #[tactic(auto, using(crate::proofs::NumeralLemmas::tens_and_last, std::proofs::lemmas::Fmt::decimal_digit))]
+    #[inline(always)]
+    pub fn push(&self, piece: &mut Piece)
+        requires fits { self.now < 2 ^ 64 }
+        requires room { length piece.old + 25 ≤ 65536 }
+        ensures text { piece.new ≡ piece.old ++ decimal self.now }
+        ensures short { length piece.new ≤ length piece.old + 25 }
+    {
+        if self.tens.number() == 0 {
+            piece.push(&[b'0' + self.last]);
+            return;
+        }
+        self.tens.push(piece);
+        piece.push(&[b'0' + self.last]);
     }
 }

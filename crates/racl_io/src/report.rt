@@ -7,7 +7,7 @@ ghost use Rattle.racl_io.specs.declared.fault.Fault.TheVariants.{Memory, Write};
 
 use crate::device::Sink;
 use crate::fault::Fault;
-use crate::numeral::Numeral;
+use crate::numeral::{Counter, Numeral};
 use crate::piece::Piece;
 use crate::transfer::write_all;
 use flow_filter::Verdict;
@@ -26,22 +26,37 @@ pub struct Totals {
     pub truncated: bool,
 }
 
+/// A rule has few digits, which are pushed one by one.
+#[tactic(auto, using(std::proofs::lemmas::Fmt::decimal_digit, std::proofs::lemmas::Fmt::decimal_step, crate::proofs::NumeralLemmas::length_digit, crate::proofs::NumeralLemmas::length_step))]
+fn push_number(piece: &mut Piece, n: u64)
+    requires { length piece.old + length (decimal n) ≤ 65536 }
+    ensures { piece.new ≡ piece.old ++ decimal n }
+{
+    if n < 10 {
+        piece.push(&[b'0' + n as u8]);
+        return;
+    }
+    push_number(piece, n / 10);
+    piece.push(&[b'0' + (n % 10) as u8]);
+}
+
+#[inline(always)]
 fn push_rule(piece: &mut Piece, effect: &[u8], n: u16, rest: &[u8])
-    requires { length piece.old + length effect.now + length rest.now + 24 ≤ 65536 }
+    requires { length piece.old + length effect.now + length rest.now + 20 ≤ 65536 }
     ensures text { piece.new ≡ piece.old ++ (effect.now ++ (decimal n ++ rest.now)) }
-    ensures short { length piece.new ≤ length piece.old + length effect.now + length rest.now + 24 }
+    ensures short { length piece.new ≤ length piece.old + length effect.now + length rest.now + 20 }
 {
     piece.push(effect);
-    Numeral::of(u64::from(n)).push(piece);
+    push_number(piece, n as u64);
     piece.push(rest);
 }
 
 /// What stands behind a line's number. A constant piece costs no call, and the fewer they are the better.
 #[inline(always)]
 fn push_verdict(piece: &mut Piece, verdict: Verdict)
-    requires { length piece.old + 48 ≤ 65536 }
+    requires { length piece.old + 40 ≤ 65536 }
     ensures text { piece.new ≡ piece.old ++ (codes " " ++ (text_of verdict ++ codes "\n")) }
-    ensures short { length piece.new ≤ length piece.old + 48 }
+    ensures short { length piece.new ≤ length piece.old + 40 }
 {
     match verdict {
         Verdict::Session => piece.push(b" pass session\n"),
@@ -58,8 +73,9 @@ fn push_verdict(piece: &mut Piece, verdict: Verdict)
     }
 }
 
-fn push_line(piece: &mut Piece, number: &Numeral, verdict: Verdict)
-    requires { length piece.old + 72 ≤ 65536 }
+fn push_line(piece: &mut Piece, number: &Counter, verdict: Verdict)
+    requires fits { number.now < 2 ^ 64 }
+    requires room { length piece.old + 72 ≤ 65536 }
     ensures text { piece.new ≡ piece.old ++ line_of number.now verdict }
     ensures short { length piece.new ≤ length piece.old + 72 }
 {
@@ -68,7 +84,7 @@ fn push_line(piece: &mut Piece, number: &Numeral, verdict: Verdict)
 }
 
 /// The lines of the packets behind the counted ones, and how many of them pass.
-fn push_lines(piece: &mut Piece, number: &mut Numeral, verdicts: &[Verdict]) -> u64
+fn push_lines(piece: &mut Piece, number: &mut Counter, verdicts: &[Verdict]) -> u64
     requires empty { piece.old ≡ [] }
     requires few { length verdicts.now ≤ 900 }
     requires fits { number.old + length verdicts.now < 2 ^ 64 }
@@ -100,7 +116,7 @@ fn write_lines<W: Sink>(
     ensures failed { OnErr result (W.failures writer.new ≡ W.failures writer.old + 1) }
     ensures fault { IfErr result (λ e. e ≡ Write) }
 {
-    let mut number = Numeral::of(0);
+    let mut number = Counter::new();
     let mut passed = 0;
     let mut rest = verdicts;
     while !rest.is_empty() {
