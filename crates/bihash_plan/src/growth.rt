@@ -4,7 +4,7 @@ ghost use Rattle.std.specs.Prelude.{◌≡◌, ◌≤◌, ◌<◌, ◌+◌, ◌*
 ghost use Rattle.std.specs.Bool.{OnTrue, OnFalse};
 ghost use Rattle.bihash_words.specs.Sizes.{IsSound, sizes_of};
 ghost use Rattle.bihash_plan.specs.Blocks.{HasKey, IsCrowded, IsFree, IsLawfulBlock, IsNew, IsSized, NamesPage, pairs};
-ghost use Rattle.bihash_plan.specs.Pages.{page_of, paging_of};
+ghost use Rattle.bihash_plan.specs.Pages.{MayHavePages, page_of, paging_of};
 ghost use Rattle.bihash_plan.specs.Plans.{HasRoom, IsPlan, IsSafe, keys_of};
 
 use crate::fit::fits;
@@ -110,8 +110,7 @@ fn has_room<S: Shape>(
     key: &S::Key,
     size: u64,
 ) -> bool
-    requires shape { IsSound (sizes_of ⟦<S as Shape>⟧) }
-    requires small { log2 ≤ S.MAX_LOG2 }
+    requires pages { MayHavePages ⟦<S as Shape>⟧ log2 }
     requires sized { IsSized log2 (length places.now) }
     ensures within { IsTrue result → size ≤ S.MAX_LOG2 }
     ensures exact { IsLawfulBlock (paging_of ⟦<S as Shape>⟧) log2 linear places.now
@@ -138,8 +137,7 @@ fn has_other_page<S: Shape>(
     key: &S::Key,
     log2: u64,
 ) -> bool
-    requires shape { IsSound (sizes_of ⟦<S as Shape>⟧) }
-    requires small { log2 ≤ S.MAX_LOG2 }
+    requires pages { MayHavePages ⟦<S as Shape>⟧ log2 }
     requires short { length places.now < 2 ^ 62 }
     requires within { to ≤ length places.now }
     ensures other { let own = page_of (paging_of ⟦<S as Shape>⟧) log2 key.now in
@@ -158,8 +156,7 @@ fn has_other_page<S: Shape>(
 
 /// Whether the key that the place shows names the page.
 fn names_page<S: Shape>(places: &[(S::Key, u64)], i: usize, log2: u64, own: usize) -> bool
-    requires shape { IsSound (sizes_of ⟦<S as Shape>⟧) }
-    requires small { log2 ≤ S.MAX_LOG2 }
+    requires pages { MayHavePages ⟦<S as Shape>⟧ log2 }
     requires short { length places.now < 2 ^ 62 }
     requires inside { i < length places.now }
     ensures { IsTrue result ↔ NamesPage (paging_of ⟦<S as Shape>⟧) log2 own places.now i }

@@ -4,7 +4,7 @@ ghost use Rattle.std.specs.Prelude.{◌≡◌, ◌≢◌, ◌≤◌, ◌<◌, �
 ghost use Rattle.bihash_words.specs.Sizes.{IsSound, sizes_of};
 ghost use Rattle.bihash_plan.specs.Blocks.{IsCrowded, IsFirstFree, IsLawfulBlock, free};
 ghost use Rattle.bihash_plan.specs.Layouts.{IsNamed, IsRehash, IsTakenBefore};
-ghost use Rattle.bihash_plan.specs.Pages.{page_of, paging_of};
+ghost use Rattle.bihash_plan.specs.Pages.{MayHavePages, page_of, paging_of};
 
 use crate::place::{FREE, open_places};
 use crate::search::free_place;
@@ -56,8 +56,7 @@ fn put<S: Shape>(
     next: usize,
     out: &mut [(S::Key, u64)],
 ) -> usize
-    requires shape { IsSound (sizes_of ⟦<S as Shape>⟧) }
-    requires small { log2 ≤ S.MAX_LOG2 }
+    requires pages { MayHavePages ⟦<S as Shape>⟧ log2 }
     requires sized { length out.old ≡ 4 * 2 ^ log2 }
     requires within { next ≤ length out.old }
     ensures within { result ≤ length out.new }
@@ -83,8 +82,7 @@ fn first_free<S: Shape>(
     next: usize,
     key: &S::Key,
 ) -> Option<usize>
-    requires shape { IsSound (sizes_of ⟦<S as Shape>⟧) }
-    requires small { log2 ≤ S.MAX_LOG2 }
+    requires pages { MayHavePages ⟦<S as Shape>⟧ log2 }
     requires sized { length places.now ≡ 4 * 2 ^ log2 }
     requires within { next ≤ length places.now }
     ensures within { IfSome result (λ i. i < length places.now) }
