@@ -11,7 +11,8 @@ use Rattle.std.proofs.lemmas.List.Sorted.{IsPermutation-push_more, IsPermutation
 use Rattle.std.proofs.lemmas.List.Sums.{count_by-le-length, length-filter, sum_by-append, sum_by-cons, sum_by_push}
 use Rattle.std.proofs.lemmas.Nat.{pow_pos}
 use Rattle.std.proofs.lemmas.Option.{get_or_from_slice_get}
-use Rattle.bihash_plan.specs.Blocks.{HasKey, IsCrowded, IsFirstFree, IsLawfulBlock, IsNew, free, is_taken, pairs}
+use Rattle.bihash_words.specs.Patches.{free_mark}
+use Rattle.bihash_plan.specs.Blocks.{HasKey, IsCrowded, IsFirstFree, IsLawfulBlock, IsNew, is_taken, pairs}
 use Rattle.bihash_plan.specs.Layouts.{AreLaidOut, IsNamed, IsRehash, IsTakenBefore}
 use Rattle.bihash_plan.specs.Pages.{Paging, page_of}
 use Rattle.bihash_plan.specs.Plans.{IsGrowth, IsLinearSize}
@@ -39,7 +40,7 @@ pub record Suits {K : Type 0} (paging : Paging K) (log2 : ℕ) (linear : Bool) (
 pub put_laid : {K : Type 0} (paging : Paging K) (log2 : ℕ) (linear : Bool) (done out : List (K × ℕ))
     (pair : K × ℕ) (i : ℕ)
     → IsLaid paging log2 linear done out → IsFirstFree linear (page_of paging log2 pair.0) out i
-    → IsNew out pair.0 → pair.1 ≢ free → AllTaken done
+    → IsNew out pair.0 → pair.1 ≢ free_mark → AllTaken done
     → IsLaid paging log2 linear (done ++ pair ∷ []) (set out i pair)
 put_laid paging log2 linear done out pair i laid first new taken all_done = record {
   lawful = lawful_put paging log2 linear out i pair laid.lawful (free_inside first.vacant) first.reached new;
@@ -189,7 +190,7 @@ pub record IsLaidSoFar {K : Type 0} (paging : Paging K) (log2 : ℕ) (linear : B
 
 pub laid_none : {K : Type 0} (paging : Paging K) (log2 : ℕ) (linear : Bool) (old : List (K × ℕ)) (key : K)
     (out : List (K × ℕ)) (n : ℕ)
-    → log2 ≤ paging.max_log2 → length out ≡ 4 * 2 ^ log2 → out ≡ replicate n (key, free)
+    → log2 ≤ paging.max_log2 → length out ≡ 4 * 2 ^ log2 → out ≡ replicate n (key, free_mark)
     → IsLaidSoFar paging log2 linear old key 0 0 out
 laid_none {K} paging log2 linear old key out n small sized cleared = record {
   laid = record {
@@ -207,8 +208,8 @@ laid_none {K} paging log2 linear old key out n small sized cleared = record {
 }
   where
     free_all : AllFree out
-    free_all = All-same (λ place. is_taken place ≡ false) out (replicate n (key, free)) cleared
-        (All-replicate (λ place. is_taken place ≡ false) n (key, free) refl)
+    free_all = All-same (λ place. is_taken place ≡ false) out (replicate n (key, free_mark)) cleared
+        (All-replicate (λ place. is_taken place ≡ false) n (key, free_mark) refl)
 
     no_key : (k : K) (j : ℕ) → HasKey out k j → ⊥
     no_key k j h =
@@ -227,8 +228,8 @@ IsPlaced paging log2 linear pair before after next =
 pub laid_more : {K : Type 0} (paging : Paging K) (log2 : ℕ) (linear : Bool) (old : List (K × ℕ)) (key : K)
     (i next result : ℕ) (out after : List (K × ℕ)) (place : K × ℕ)
     → IsLaidSoFar paging log2 linear old key i next out → length out ≡ 4 * 2 ^ log2 → i < length old
-    → place ≡ get_or old i place → place.1 ≢ free
-    → (place.1 ≢ free → IsTakenBefore linear next out → (IsCrowded linear (page_of paging log2 place.0) out → ⊥)
+    → place ≡ get_or old i place → place.1 ≢ free_mark
+    → (place.1 ≢ free_mark → IsTakenBefore linear next out → (IsCrowded linear (page_of paging log2 place.0) out → ⊥)
     → IsPlaced paging log2 linear place out after result)
     → IsNamed paging old key log2 linear → IsLaidSoFar paging log2 linear old key (i + 1) result after
 laid_more {K} paging log2 linear old key i next result out after place so_far sized inside is taken placed named =
@@ -263,8 +264,8 @@ laid_more {K} paging log2 linear old key i next result out after place so_far si
 pub laid_last : {K : Type 0} (paging : Paging K) (log2 : ℕ) (linear : Bool) (old : List (K × ℕ)) (key : K)
     (value i next result : ℕ) (out after : List (K × ℕ))
     → IsLaidSoFar paging log2 linear old key i next out → length out ≡ 4 * 2 ^ log2 → length old ≤ i
-    → value ≢ free
-    → (value ≢ free → IsTakenBefore linear next out → (IsCrowded linear (page_of paging log2 key) out → ⊥)
+    → value ≢ free_mark
+    → (value ≢ free_mark → IsTakenBefore linear next out → (IsCrowded linear (page_of paging log2 key) out → ⊥)
     → IsPlaced paging log2 linear (key, value) out after result)
     → IsNamed paging old key log2 linear → IsRehash paging log2 linear old key value after
 laid_last {K} paging log2 linear old key value i next result out after so_far sized past taken placed named =
@@ -284,7 +285,7 @@ laid_last {K} paging log2 linear old key value i next result out after so_far si
 pub laid_same : {K : Type 0} (paging : Paging K) (log2 : ℕ) (linear : Bool) (old : List (K × ℕ)) (key : K)
     (i next : ℕ) (out : List (K × ℕ)) (place : K × ℕ)
     → IsLaidSoFar paging log2 linear old key i next out → i < length old → place ≡ get_or old i place
-    → place.1 ≡ free → IsLaidSoFar paging log2 linear old key (i + 1) next out
+    → place.1 ≡ free_mark → IsLaidSoFar paging log2 linear old key (i + 1) next out
 laid_same paging log2 linear old key i next out place so_far inside is vacant = record {
   laid = rw (pairs_same old i place inside is vacant) so_far.laid;
   before = so_far.before;

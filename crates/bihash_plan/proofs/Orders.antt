@@ -6,7 +6,8 @@ use Rattle.std.proofs.Math.Seq.{take-set-lt}
 use Rattle.std.proofs.lemmas.Bool.{both_ways, cases_eq, cases_lt, cases_order, eq-eqb, eqb-true, ne_eqb, not-false}
 use Rattle.std.proofs.lemmas.List.{append-nil, append_assoc, drop-set-add, drop-set-lt, get_or-drop, get_or-take, get_or_append_left, get_or_at, length-append, length-drop, length-take, set_at, take-set-le}
 use Rattle.std.proofs.lemmas.List.Elements.{All-drop, All-filter, All-head, All-tail, All-take, filter-append}
-use Rattle.bihash_plan.specs.Blocks.{IsFirstFree, IsFree, free, is_taken, pairs}
+use Rattle.bihash_words.specs.Patches.{free_mark}
+use Rattle.bihash_plan.specs.Blocks.{IsFirstFree, IsFree, is_taken, pairs}
 use Rattle.bihash_plan.specs.Layouts.{AreInOrder, AreLaidOut}
 use Rattle.bihash_plan.specs.Pages.{Paging, page_of}
 use Rattle.bihash_plan.proofs.Pairs.{is_taken-free}
@@ -21,12 +22,12 @@ cons_not_nil x xs e = cc
 
 -- places without a pair: the first is free, and so are the others
 no_pairs : {K : Type 0} (place : K × ℕ) (more : List (K × ℕ))
-    → pairs (place ∷ more) ≡ [] → (place.1 ≡ free) × (pairs more ≡ [])
+    → pairs (place ∷ more) ≡ [] → (place.1 ≡ free_mark) × (pairs more ≡ [])
 no_pairs place more = by_taken (is_taken place) refl
   where
     by_taken : (taken : Bool)
         → is_taken place ≡ taken → cond taken (place ∷ pairs more) (pairs more) ≡ []
-        → (place.1 ≡ free) × (pairs more ≡ [])
+        → (place.1 ≡ free_mark) × (pairs more ≡ [])
     by_taken true is none = absurd (cons_not_nil place (pairs more) none)
     by_taken false is none = (eqb-true _ _ (not-false _ is), none)
 
@@ -34,8 +35,8 @@ no_pairs place more = by_taken (is_taken place) refl
 front_taken : {K : Type 0} (ps rest : List (K × ℕ)) (n : ℕ)
     → AllTaken ps → n < length ps → IsFree (ps ++ rest) n → ⊥
 front_taken {K} ps rest n taken inside vacant =
-    let d : K × ℕ = (vacant.key, free) in
-    let value : (get_or ps n d).1 ≡ free = ap (λ place. place.1) (sym (get_or_append_left ps rest d n inside))
+    let d : K × ℕ = (vacant.key, free_mark) in
+    let value : (get_or ps n d).1 ≡ free_mark = ap (λ place. place.1) (sym (get_or_append_left ps rest d n inside))
     ∙ free_value_at d vacant in
     both_ways _ (is_taken-free (get_or ps n d) value) (taken n d inside)
 
@@ -79,7 +80,7 @@ get_or-run page places n d few = get_or-take 4 (drop (4 * page) places) n d few
 free_in_run : {K : Type 0} (page : ℕ) (places : List (K × ℕ)) (n : ℕ)
     → n < 4 → IsFree places (4 * page + n) → IsFree (run page places) n
 free_in_run {K} page places n few vacant =
-    let d : K × ℕ = (vacant.key, free) in
+    let d : K × ℕ = (vacant.key, free_mark) in
     free_at (run page places) n d (omega (
       arith,
       free_inside vacant,
@@ -91,7 +92,7 @@ free_in_run {K} page places n few vacant =
 free_of_run : {K : Type 0} (page : ℕ) (places : List (K × ℕ)) (n : ℕ)
     → IsFree (run page places) n → (n < 4) × IsFree places (4 * page + n)
 free_of_run {K} page places n vacant =
-    let d : K × ℕ = (vacant.key, free) in
+    let d : K × ℕ = (vacant.key, free_mark) in
     let few : n < 4 = omega (arith, free_inside vacant, length-take 4 (drop (4 * page) places)) in (
       few,
       free_at places (4 * page + n) d (omega (

@@ -5,13 +5,14 @@ use Rattle.std.proofs.lemmas.Bool.{eq-eqb, ne_eqb, not_from_false, not_from_true
 use Rattle.std.proofs.lemmas.List.{append-nil, map-append, take-append-drop}
 use Rattle.std.proofs.lemmas.List.Elements.{filter-append, filter_more}
 use Rattle.std.proofs.lemmas.List.Sums.{sum_by-append, sum_by-cons}
-use Rattle.bihash_plan.specs.Blocks.{free, is_taken, pairs}
+use Rattle.bihash_words.specs.Patches.{free_mark}
+use Rattle.bihash_plan.specs.Blocks.{is_taken, pairs}
 use Rattle.bihash_plan.specs.Plans.{keys_of}
 
-pub is_taken-pair : {K : Type 0} (place : K × ℕ) → place.1 ≢ free → is_taken place ≡ true
+pub is_taken-pair : {K : Type 0} (place : K × ℕ) → place.1 ≢ free_mark → is_taken place ≡ true
 is_taken-pair place taken = not_from_false _ (ne_eqb _ _ taken)
 
-pub is_taken-free : {K : Type 0} (place : K × ℕ) → place.1 ≡ free → is_taken place ≡ false
+pub is_taken-free : {K : Type 0} (place : K × ℕ) → place.1 ≡ free_mark → is_taken place ≡ false
 is_taken-free place is = not_from_true _ (eq-eqb _ _ is)
 
 pub pairs-append : {K : Type 0} (xs ys : List (K × ℕ)) → pairs (xs ++ ys) ≡ pairs xs ++ pairs ys
@@ -23,7 +24,7 @@ keys_of-append xs ys = ap (map (λ pair. pair.0)) (pairs-append xs ys)
 
 -- one more place that has a pair
 pub pairs_more : {K : Type 0} (places : List (K × ℕ)) (i : ℕ) (place : K × ℕ)
-    → i < length places → place ≡ get_or places i place → place.1 ≢ free
+    → i < length places → place ≡ get_or places i place → place.1 ≢ free_mark
     → pairs (take (i + 1) places) ≡ pairs (take i places) ++ place ∷ []
 pairs_more places i place inside is taken =
     filter_more is_taken places i place inside
@@ -32,7 +33,7 @@ pairs_more places i place inside is taken =
 
 -- one more place that is free
 pub pairs_same : {K : Type 0} (places : List (K × ℕ)) (i : ℕ) (place : K × ℕ)
-    → i < length places → place ≡ get_or places i place → place.1 ≡ free
+    → i < length places → place ≡ get_or places i place → place.1 ≡ free_mark
     → pairs (take (i + 1) places) ≡ pairs (take i places)
 pairs_same places i place inside is vacant =
     filter_more is_taken places i place inside
@@ -41,7 +42,7 @@ pairs_same places i place inside is vacant =
     ∙ append-nil (pairs (take i places))
 
 pub keys_more : {K : Type 0} (places : List (K × ℕ)) (i : ℕ) (place : K × ℕ)
-    → i < length places → place ≡ get_or places i place → place.1 ≢ free
+    → i < length places → place ≡ get_or places i place → place.1 ≢ free_mark
     → keys_of (take (i + 1) places) ≡ keys_of (take i places) ++ place.0 ∷ []
 keys_more places i place inside is taken =
     ap (map (λ pair. pair.0)) (pairs_more places i place inside is taken)

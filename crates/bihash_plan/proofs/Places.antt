@@ -1,11 +1,12 @@
 -- Lemmas on what stands at a place of a block.
 use Rattle.std.proofs.Common.{◌*◌, ◌^◌, ⊎_elim, arith, ◌≡◌, ◌≢◌, ◌<◌, ℕ, List, Some, length, get_or, refl, ap, ◌∙◌}
 use Rattle.std.proofs.lemmas.Option.{get_or_from_slice_get, slice_get-get_or, slice_get_read, slice_get_within}
-use Rattle.bihash_plan.specs.Blocks.{HasKey, IsFree, IsSized, free}
+use Rattle.bihash_words.specs.Patches.{free_mark}
+use Rattle.bihash_plan.specs.Blocks.{HasKey, IsFree, IsSized}
 
 -- a place that was read has a pair with the key, where it shows the key and no free place's value
 pub has_key_read : {K : Type 0} (places : List (K × ℕ)) (key : K) (i : ℕ) (place : K × ℕ)
-    → i < length places → place ≡ get_or places i place → place.1 ≢ free → place.0 ≡ key
+    → i < length places → place ≡ get_or places i place → place.1 ≢ free_mark → place.0 ≡ key
     → HasKey places key i
 has_key_read places key i place inside is taken same = record {
   value = place.1;
@@ -34,12 +35,12 @@ free_inside {places = places} {i = i} h = slice_get_within places i _ h.at
 
 -- a place is free where its value is a free place's
 pub free_at : {K : Type 0} (places : List (K × ℕ)) (i : ℕ) (d : K × ℕ)
-    → i < length places → (get_or places i d).1 ≡ free → IsFree places i
+    → i < length places → (get_or places i d).1 ≡ free_mark → IsFree places i
 free_at places i d inside is = record {
   key = (get_or places i d).0;
   at = slice_get-get_or places i d inside ∙ ap (λ v. Some ((get_or places i d).0, v)) is;
 }
 
 pub free_value_at : {K : Type 0} {places : List (K × ℕ)} {i : ℕ} (d : K × ℕ)
-    → IsFree places i → (get_or places i d).1 ≡ free
+    → IsFree places i → (get_or places i d).1 ≡ free_mark
 free_value_at {places = places} {i = i} d h = ap (λ place. place.1) (get_or_from_slice_get places i _ d h.at)

@@ -5,7 +5,8 @@ use Rattle.std.proofs.lemmas.Bool.{cases_eq}
 use Rattle.std.proofs.lemmas.List.{get_or-set_other, get_or-set_same, length-set, set-get_or, set_split}
 use Rattle.std.proofs.lemmas.List.Sorted.{IsPermutation-middle, IsPermutation-sym}
 use Rattle.std.proofs.lemmas.Option.{get_or_from_slice_get, slice_get-get_or}
-use Rattle.bihash_plan.specs.Blocks.{HasKey, IsFree, IsLawfulBlock, IsNew, IsOpen, free, pairs}
+use Rattle.bihash_words.specs.Patches.{free_mark}
+use Rattle.bihash_plan.specs.Blocks.{HasKey, IsFree, IsLawfulBlock, IsNew, IsOpen, pairs}
 use Rattle.bihash_plan.specs.Pages.{Paging, page_of}
 use Rattle.bihash_plan.proofs.Pairs.{is_taken-free, is_taken-pair, pairs-append}
 use Rattle.bihash_plan.proofs.Places.{free_inside, free_value_at, key_inside}
@@ -36,13 +37,13 @@ key_after_put {K} places i pair key j inside h =
 
 -- what is free afterwards was so before
 pub free_after_put : {K : Type 0} (places : List (K × ℕ)) (i : ℕ) (pair : K × ℕ) (j : ℕ)
-    → i < length places → pair.1 ≢ free → IsFree (set places i pair) j → (j ≢ i) × IsFree places j
+    → i < length places → pair.1 ≢ free_mark → IsFree (set places i pair) j → (j ≢ i) × IsFree places j
 free_after_put {K} places i pair j inside taken h =
-    let d : K × ℕ = (h.key, free) in
+    let d : K × ℕ = (h.key, free_mark) in
     let read : get_or (set places i pair) j d ≡ (
       h.key,
-      free,
-    ) = get_or_from_slice_get (set places i pair) j (h.key, free) d h.at in
+      free_mark,
+    ) = get_or_from_slice_get (set places i pair) j (h.key, free_mark) d h.at in
     let other : j ≢ i = λ here. taken (ap (λ p. p.1) (sym (ap (λ n. get_or (set places i pair) n d) here
     ∙ get_or-set_same places i pair d inside) ∙ read)) in (
       other,
@@ -91,9 +92,9 @@ lawful_put {K} paging log2 linear places i pair lawful inside reached new = reco
 
 -- the block has the pair besides those that it had
 pub pairs_put : {K : Type 0} (places : List (K × ℕ)) (i : ℕ) (pair : K × ℕ)
-    → IsFree places i → pair.1 ≢ free → IsPermutation (pair ∷ pairs places) (pairs (set places i pair))
+    → IsFree places i → pair.1 ≢ free_mark → IsPermutation (pair ∷ pairs places) (pairs (set places i pair))
 pairs_put {K} places i pair vacant taken =
-    let d : K × ℕ = (vacant.key, free) in
+    let d : K × ℕ = (vacant.key, free_mark) in
     let inside : i < length places = free_inside vacant in
     let front : List (K × ℕ) = take i places in
     let back : List (K × ℕ) = drop (suc i) places in

@@ -4,7 +4,7 @@ use Rattle.std.specs.Prelude.{count_by, replicate}
 use Rattle.std.proofs.lemmas.Bool.{cases_lt, cond-true, eq-eqb, ne_eqb}
 use Rattle.std.proofs.lemmas.List.{get_or-replicate, take_all}
 use Rattle.std.proofs.lemmas.List.Sums.{count_by-le-length, sum_by-cons, sum_by_push}
-use Rattle.bihash_plan.specs.Blocks.{free}
+use Rattle.bihash_words.specs.Patches.{free_mark}
 use Rattle.bihash_plan.specs.Pages.{Paging, page_of}
 use Rattle.bihash_plan.specs.Plans.{Fits, keys_of}
 use Rattle.bihash_plan.proofs.Pairs.{count_by-keys_of-take, count_by-none, keys_more}
@@ -85,7 +85,7 @@ fits_so_far {paging = paging} {log2 = log2} {key = key} places i fits = record {
 -- one more place that has a pair
 pub tally_more : {K : Type 0} {paging : Paging K} {log2 first : ℕ} {key : K} {counts : List ℕ}
     (places : List (K × ℕ)) (i : ℕ) (place : K × ℕ)
-    → i < length places → place ≡ get_or places i place → place.1 ≢ free
+    → i < length places → place ≡ get_or places i place → place.1 ≢ free_mark
     → IsTally paging log2 first (key ∷ keys_of (take i places) ++ place.0 ∷ []) counts
     → IsTally paging log2 first (key ∷ keys_of (take (i + 1) places)) counts
 tally_more {paging = paging} {log2 = log2} {first = first} {key = key} {counts = counts} places i place inside is taken tally =
@@ -95,7 +95,7 @@ tally_more {paging = paging} {log2 = log2} {first = first} {key = key} {counts =
 -- one more place whose pair does not fit
 pub window_full : {K : Type 0} {paging : Paging K} {log2 first : ℕ} {key : K} (places : List (K × ℕ))
     (i : ℕ) (place : K × ℕ)
-    → i < length places → place ≡ get_or places i place → place.1 ≢ free
+    → i < length places → place ≡ get_or places i place → place.1 ≢ free_mark
     → (FitsWindow paging log2 first (key ∷ keys_of (take i places) ++ place.0 ∷ []) → ⊥)
     → FitsWindow paging log2 first (key ∷ keys_of places) → ⊥
 window_full {paging = paging} {log2 = log2} {first = first} {key = key} places i place inside is taken refused fits =

@@ -1,13 +1,10 @@
 -- Lawful blocks: the places of a bucket, and where its pairs may stand. This is the table's own rule.
 use Rattle.std.specs.Prelude.{◌≡◌, ◌≢◌, ◌≤◌, ◌<◌, ◌⊎◌, ℕ, ◌-◌, ◌*◌, ◌/◌, ◌^◌, Bool, true, false, not, ◌==◌, List, length, filter, slice_get, Some}
+use Rattle.bihash_words.specs.Patches.{free_mark}
 use Rattle.bihash_plan.specs.Pages.{Paging, page_of}
 
--- the value of a free place
-abbrev pub free : ℕ
-free = 2 ^ 64 - 1
-
 abbrev pub is_taken : {K : Type 0} → K × ℕ → Bool
-is_taken place = not (place.1 == free)
+is_taken place = not (place.1 == free_mark)
 
 -- the pairs of a block, in the order of their places
 abbrev pub pairs : {K : Type 0} → List (K × ℕ) → List (K × ℕ)
@@ -17,12 +14,12 @@ pairs places = filter is_taken places
 pub record HasKey {K : Type 0} (places : List (K × ℕ)) (key : K) (i : ℕ) : Type 0 where
   pub value : ℕ
   pub at : slice_get places i ≡ Some (key, value)
-  pub taken : value ≢ free
+  pub taken : value ≢ free_mark
 
 -- place i is free, and the key that it shows means nothing
 pub record IsFree {K : Type 0} (places : List (K × ℕ)) (i : ℕ) : Type 0 where
   pub key : K
-  pub at : slice_get places i ≡ Some (key, free)
+  pub at : slice_get places i ≡ Some (key, free_mark)
 
 -- no pair of the block has the key
 abbrev pub IsNew : {K : Type 0} → List (K × ℕ) → K → Type 0

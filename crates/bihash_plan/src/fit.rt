@@ -7,8 +7,8 @@ ghost use Rattle.bihash_plan.specs.Pages.{MayHavePages, page_of, paging_of};
 ghost use Rattle.bihash_plan.specs.Plans.{Fits, keys_of};
 ghost use Rattle.bihash_plan.specs.Tallies.{FitsWindow, IsTally};
 
-use crate::place::{FREE, PAGE_PLACES, page, page_count};
-use bihash_words::Shape;
+use crate::place::{page, page_count};
+use bihash_words::{FREE, PAGE_PLACES, Shape};
 
 /// How many pages are counted at a time: as many as the largest block of the flow tables has.
 const WINDOW: usize = 64;

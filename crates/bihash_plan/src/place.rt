@@ -5,13 +5,7 @@ ghost use Rattle.bihash_words.specs.Sizes.{IsSound, sizes_of};
 ghost use Rattle.bihash_plan.specs.Blocks.{IsOpen, IsSized};
 ghost use Rattle.bihash_plan.specs.Pages.{MayHavePages, page_of, paging_of};
 
-use bihash_words::Shape;
-
-/// The value of a free place, which no stored value has.
-pub(crate) const FREE: u64 = u64::MAX;
-
-/// How many places a page has.
-pub(crate) const PAGE_PLACES: usize = 4;
+use bihash_words::{PAGE_PLACES, Shape};
 
 /// The page that the key's hash names in a block of `2^log2` pages.
 pub(crate) fn page<S: Shape>(key: &S::Key, log2: u64) -> usize

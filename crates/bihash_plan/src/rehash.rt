@@ -2,13 +2,14 @@
 
 ghost use Rattle.std.specs.Prelude.{◌≡◌, ◌≢◌, ◌≤◌, ◌<◌, ◌*◌, ◌^◌, ℕ, length, replicate, slice_set, IfSome, IfNone};
 ghost use Rattle.bihash_words.specs.Sizes.{IsSound, sizes_of};
-ghost use Rattle.bihash_plan.specs.Blocks.{IsCrowded, IsFirstFree, IsLawfulBlock, free};
+ghost use Rattle.bihash_words.specs.Patches.{free_mark};
+ghost use Rattle.bihash_plan.specs.Blocks.{IsCrowded, IsFirstFree, IsLawfulBlock};
 ghost use Rattle.bihash_plan.specs.Layouts.{IsNamed, IsRehash, IsTakenBefore};
 ghost use Rattle.bihash_plan.specs.Pages.{MayHavePages, page_of, paging_of};
 
-use crate::place::{FREE, open_places};
+use crate::place::open_places;
 use crate::search::free_place;
-use bihash_words::Shape;
+use bihash_words::{FREE, Shape};
 
 /// Writes a block of `2^log2` pages into `out`: the pairs in the order of their places and then
 /// the new one, each at the first free place open to its key. `plan` has to have named this block
@@ -24,7 +25,7 @@ pub fn lay<S: Shape>(
     requires shape { IsSound (sizes_of ⟦<S as Shape>⟧) }
     requires small { log2 ≤ S.MAX_LOG2 }
     requires sized { length out.old ≡ 4 * 2 ^ log2 }
-    ensures { IsNamed (paging_of ⟦<S as Shape>⟧) places.now key.now log2 linear → value ≢ free
+    ensures { IsNamed (paging_of ⟦<S as Shape>⟧) places.now key.now log2 linear → value ≢ free_mark
         → IsRehash (paging_of ⟦<S as Shape>⟧) log2 linear places.now key.now value out.new }
 {
     clear(*key, out);
@@ -40,7 +41,7 @@ pub fn lay<S: Shape>(
 
 /// Makes each place free.
 fn clear<K: Copy>(key: K, out: &mut [(K, u64)])
-    ensures { out.new ≡ replicate (length out.old) (key, free) }
+    ensures { out.new ≡ replicate (length out.old) (key, free_mark) }
 {
     for place in out.iter_mut() {
         *place = (key, FREE);
@@ -60,7 +61,7 @@ fn put<S: Shape>(
     requires sized { length out.old ≡ 4 * 2 ^ log2 }
     requires within { next ≤ length out.old }
     ensures within { result ≤ length out.new }
-    ensures placed { pair.1 ≢ free → IsTakenBefore linear next out.old
+    ensures placed { pair.1 ≢ free_mark → IsTakenBefore linear next out.old
         → (IsCrowded linear (page_of (paging_of ⟦<S as Shape>⟧) log2 pair.0) out.old → ⊥)
         → (i : ℕ) × IsFirstFree linear (page_of (paging_of ⟦<S as Shape>⟧) log2 pair.0) out.old i
         × (out.new ≡ slice_set out.old i pair) × IsTakenBefore linear result out.new }

@@ -5,8 +5,8 @@ ghost use Rattle.bihash_words.specs.Sizes.{IsSound, sizes_of};
 ghost use Rattle.bihash_plan.specs.Blocks.{HasKey, IsFree, IsLawfulBlock, IsNew, IsOpen, IsSized};
 ghost use Rattle.bihash_plan.specs.Pages.{page_of, paging_of};
 
-use crate::place::{FREE, open_places};
-use bihash_words::{Shape, is_same};
+use crate::place::open_places;
+use bihash_words::{FREE, Shape, is_same};
 
 /// The place where the key's pair stands. `places` has four places a page, and none where the
 /// bucket has no block. Where they are no lawful block, as in a read that a writer overtook, only

@@ -19,14 +19,14 @@ use Rattle.bihash_steps.specs.declared.view.LockedBucket.{LockedBucket}
 use Rattle.bihash_steps.specs.declared.view.HeldBlock.{HeldBlock}
 use Rattle.bihash_steps.specs.declared.view.OpenBucket.{OpenBucket}
 use Rattle.bihash_steps.specs.declared.view.View.{View}
-use Rattle.bihash_steps.proofs.SeesBucket.{bucket_fits, loads_bucket}
-use Rattle.bihash_steps.proofs.LocksBucket.{locks_bucket}
-use Rattle.bihash_steps.proofs.LockedWords.{held_bucket, loads_locked_word, stores_locked_word}
-use Rattle.bihash_steps.proofs.Unlocks.{unlocks_bucket, answers_call}
-use Rattle.bihash_steps.proofs.Opens.{loads_open_word, validates_call}
-use Rattle.bihash_steps.proofs.HeldWords.{stores_held_word}
-use Rattle.bihash_steps.proofs.Publish.{publishes_call}
-use Rattle.bihash_steps.proofs.Replace.{replaces_call}
+use Rattle.bihash_steps.proofs.bucket_steps.LoadBucket.{bucket_fits, loads_bucket}
+use Rattle.bihash_steps.proofs.bucket_steps.LockFrom.{locks_bucket}
+use Rattle.bihash_steps.proofs.bucket_steps.LockedWords.{held_bucket, loads_locked_word, stores_locked_word}
+use Rattle.bihash_steps.proofs.bucket_steps.Release.{unlocks_bucket, answers_call}
+use Rattle.bihash_steps.proofs.bucket_steps.OpenReads.{loads_open_word, validates_call}
+use Rattle.bihash_steps.proofs.pool_steps.StoreHeld.{stores_held_word}
+use Rattle.bihash_steps.proofs.bucket_steps.Publish.{publishes_call}
+use Rattle.bihash_steps.proofs.bucket_steps.PublishBlock.{replaces_call}
 
 -- a step may tell something else of what it tells
 pub tells : (holds : State (Unit {0}) View → Type 0) (slots id i : ℕ) (m : ViewOfSeat) (f : ℕ → ℕ) (t u : ℕ → ViewOfSeat → Type 0)

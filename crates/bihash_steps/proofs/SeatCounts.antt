@@ -1,5 +1,6 @@
 -- What a step makes of a caller: its state, the count of its numbers, and the stamp of its last call.
-use Rattle.std.proofs.Common.{◌≡◌, ◌⊎◌, ℕ, ◌+◌, ◌^◌, ◌≤◌, List, [], ◌∷◌, ◌++◌, length, refl, sym, ap, ◌∙◌, subst, inl, inr, arith, Option, Some}
+use Rattle.std.proofs.Common.{◌≡◌, ◌⊎◌, ℕ, ◌+◌, ◌^◌, ◌≤◌, List, [], ◌∷◌, ◌++◌, nat_eq, length, refl, sym, ap, ◌∙◌, subst, inl, inr, arith, Option, Some}
+use Rattle.std.proofs.lemmas.Bool.{eq-eqb, eqb-false, eqb-true}
 use mathlib.Core.Logic.{dite}
 use native.Mathlib.Decide.{ℕ_discrete}
 use Rattle.atomic_table.specs.Seated.{TableId}
@@ -7,7 +8,8 @@ use Rattle.bihash_words.specs.Sizes.{Sizes}
 use Rattle.bihash_steps.specs.Words.{returned_count_at}
 use Rattle.bihash_steps.specs.Seats.{CallerState, caller_state, with_view, CanAct, stamp_in, stamp_of}
 use Rattle.bihash_steps.specs.Steps.{ViewOfSeat}
-use Rattle.bihash_steps.specs.BucketSteps.{lock_counted, push_call, SeesOpen, SeesLocked, TellsLock}
+use Rattle.bihash_steps.specs.BucketCalls.{FindsBucket, TriesLock}
+use Rattle.bihash_steps.specs.BucketSteps.{lock_counted, push_call, SeesOpen, SeesLocked, TellsBucket, TellsLock}
 use Rattle.bihash_steps.specs.StoreSteps.{MayTakeReturned, TellsTakenReturned, MayTakeUnused, TellsTakenUnused}
 use Rattle.bihash_steps.specs.declared.view.Call.{Call}
 use Rattle.bihash_steps.specs.declared.view.Record.{Record}
@@ -106,3 +108,32 @@ pub state_next : (next : View → View) (t t' : TableId) (i i' : ℕ) (m m' : Vi
     → caller_state t i m.0 ≡ state → caller_state t' i' m'.0 ≡ with_view state (next state.view)
 state_next next t t' i i' m m' state row seat is before =
     (λ k. caller_state (row k) (seat k) (is k).0) ∙ ap (λ (s : CallerState). with_view s (next s.view)) before
+
+-- what a load of a bucket's word tells
+pub found_bucket : (z : Sizes) (b found word : ℕ) (t t' : TableId) (i i' : ℕ) (m m' : ViewOfSeat) (state : CallerState) → t' ≡ t → i' ≡ i
+    → word ≡ found → caller_state t i m.0 ≡ state → TellsBucket z b m found m' → FindsBucket z state (caller_state t' i' m'.0) b word
+found_bucket z b found word t t' i i' m m' state row seat stood before told =
+    subst (λ (w : ℕ). FindsBucket z state (caller_state t' i' m'.0) b w) (sym stood)
+    (subst (λ (s : CallerState). FindsBucket z s (caller_state t' i' m'.0) b found) before record {
+      same = λ k. caller_state (row k) (seat k) m'.0;
+      seen = told.seen;
+      lone = told.lone;
+      whole = told.whole;
+      lawful = told.lawful;
+    })
+
+-- what an exchange that may set the lock bit tells
+pub tried_lock : (z : Sizes) (b word from found : ℕ) (t t' : TableId) (i i' : ℕ) (m m' : ViewOfSeat) (state : CallerState) → t' ≡ t → i' ≡ i
+    → from ≡ word → caller_state t i m.0 ≡ state → TellsLock z b from m found m'
+    → TriesLock z state (caller_state t' i' m'.0) b word (nat_eq found from)
+tried_lock z b word from found t t' i i' m m' state row seat stood before told =
+    subst (λ (w : ℕ). TriesLock z state (caller_state t' i' m'.0) b w (nat_eq found from)) stood
+    (subst (λ (s : CallerState). TriesLock z s (caller_state t' i' m'.0) b from (nat_eq found from)) before record {
+      same = λ k. caller_state (row k) (seat k) m'.0;
+      taken = λ won. told.taken (eqb-true _ _ won);
+      not = λ lost. told.not (eqb-false _ _ lost);
+      lone = λ alone o noted home is. eq-eqb _ _ (told.lone alone o noted home is);
+      rests = λ won o noted home is l held. told.rests (eqb-true _ _ won) o noted home is l held;
+      whole = λ alone won. told.whole alone (eqb-true _ _ won);
+      lawful = told.lawful;
+    })

@@ -1,9 +1,10 @@
 -- The block of a bucket: pages of four places each, in which the pairs of a map stand.
-use Rattle.std.specs.Prelude.{◌≡◌, ◌≢◌, ℕ, ◌+◌, ◌-◌, ◌*◌, ◌/◌, ◌%◌, ◌^◌, ◌<◌, ◌≤◌, false, List, slice_index, Some, zero, suc}
+use Rattle.std.specs.Prelude.{◌≡◌, ◌≢◌, ℕ, ◌+◌, ◌*◌, ◌/◌, ◌^◌, ◌<◌, ◌≤◌, false, List, slice_index, Some, zero, suc}
 use Rattle.std.proofs.Math.ListN.{take, drop}
 use Rattle.std.specs.FinMap.{empty, get}
 use Rattle.bihash_words.specs.Maps.{Pairs}
-use Rattle.bihash_words.specs.Sizes.{Sizes}
+pub use Rattle.bihash_words.specs.Patches.{free_mark as free}
+use Rattle.bihash_words.specs.Sizes.{Sizes, page_in}
 use Rattle.bihash_steps.specs.Words.{place_words}
 use Rattle.bihash_steps.specs.declared.view.Extent.{Extent}
 
@@ -23,17 +24,13 @@ key_in z block i = take z.key_words (drop (i * place_words z) block)
 abbrev pub value_in : Sizes → List ℕ → ℕ → ℕ
 value_in z block i = slice_index block (i * place_words z + z.key_words)
 
--- the value of a free place
-abbrev pub free : ℕ
-free = 2 ^ 64 - 1
-
 -- place i has a pair
 abbrev pub HasPair : Sizes → Extent → List ℕ → ℕ → Type 0
 HasPair z e block i = (i < places e.page e.log2) × (value_in z block i ≢ free)
 
--- the page of a key: the bits of its hash behind those that name the bucket
+-- the page that the hash of a key names
 abbrev pub page_of : Sizes → ℕ → List ℕ → ℕ
-page_of z log2 key = z.hash key / 2 ^ z.log2_buckets % 2 ^ log2
+page_of z log2 key = page_in z.log2_buckets log2 (z.hash key)
 
 -- A lawful block of the map m: its pairs are those of the map, each key stands once and, unless the
 -- block is linear, in its page. A bucket without pairs has no block.

@@ -2,11 +2,9 @@
 use Rattle.std.specs.Prelude.{◌≡◌, ◌⊎◌, ℕ, ◌+◌, ◌^◌, ◌<◌, ◌≤◌, List, [], ◌∷◌, ◌++◌, length, slice_index, slice_set, true, false, Option, Some, None}
 use Rattle.std.specs.FinMap.{get}
 use Rattle.std.specs.List.{last_or}
-use Rattle.bihash_words.specs.Maps.{Pairs, changed}
+use Rattle.bihash_words.specs.Maps.{Event, Pairs, changed}
 use Rattle.bihash_words.specs.Sizes.{Sizes}
 use Rattle.bihash_words.specs.Words.{Fits, packed}
-use Rattle.bihash_words.specs.declared.patch.Change.{Change}
-use Rattle.bihash_words.specs.declared.patch.Reply.{Reply}
 use Rattle.bihash_words.specs.declared.patch.Reply.TheVariants.{Changed, NoPages}
 use Rattle.bihash_steps.specs.Words.{block_words}
 use Rattle.bihash_steps.specs.Histories.{IsKeyOf, IsPrefix, IsWrite, IsWriteList, IsAnswer, after, is_changed, store_of, write_of}
@@ -193,15 +191,15 @@ abbrev pub called : View → Call → View
 called v c = record v { records = push_call c v.records }
 
 -- a call on bucket b, `more` writes behind what is known of it
-abbrev pub call_of : View → ℕ → ℕ → List ℕ → Option ℕ → Change → Reply → Call
-call_of v b more key found change reply = record {
+abbrev pub call_of : View → ℕ → ℕ → Event → Call
+call_of v b more e = record {
   bucket = b;
   stamp = length (known_at v.known b) + more;
-  key = key;
-  found = found;
-  change = change;
-  reply = reply;
-  store = store_of reply v.notes.left;
+  key = e.key;
+  found = e.found;
+  change = e.change;
+  reply = e.reply;
+  store = store_of e.reply v.notes.left;
 }
 
 -- the map of bucket b, as far as it is known

@@ -1,5 +1,5 @@
 -- The writes of a bucket in their order, and when an answered call is legal on them.
-use Rattle.std.specs.Prelude.{◌≡◌, ℕ, ◌+◌, ◌^◌, ◌%◌, ◌≤◌, ◌++◌, Bool, true, false, List, [], ◌∷◌, length, Option, Some, None}
+use Rattle.std.specs.Prelude.{◌≡◌, ℕ, ◌+◌, ◌≤◌, ◌++◌, Bool, true, false, List, [], ◌∷◌, length, Option, Some, None}
 use Rattle.std.proofs.Math.ListN.{take}
 use lib.ListN.{get_elem?}
 use mathlib.Core.Option.{some}
@@ -9,6 +9,7 @@ use Rattle.bihash_words.specs.Patches.{IsStorable}
 use Rattle.bihash_words.specs.declared.patch.Reply.{Reply}
 use Rattle.bihash_words.specs.declared.patch.Reply.TheVariants.{Kept, Changed, Worn, Full, NoPages}
 use Rattle.bihash_words.specs.Sizes.{Sizes}
+pub use Rattle.bihash_words.specs.Sizes.{bucket_of}
 use Rattle.bihash_steps.specs.declared.view.Write.{Write}
 use Rattle.bihash_steps.specs.declared.view.Call.{Call}
 use Rattle.bihash_steps.specs.declared.view.PageStore.{PageStore}
@@ -16,10 +17,6 @@ use Rattle.bihash_steps.specs.declared.view.PageStore.{PageStore}
 -- what bounds the map of a bucket
 abbrev pub bounds_of : Sizes → Bounds
 bounds_of z = record { limit = z.limit; max_log2 = z.max_log2 }
-
--- the bucket of a key: the low bits of its hash
-abbrev pub bucket_of : Sizes → List ℕ → ℕ
-bucket_of z key = z.hash key % 2 ^ z.log2_buckets
 
 -- a key of this bucket
 pub record IsKeyOf (z : Sizes) (b : ℕ) (key : List ℕ) : Type 0 where

@@ -9,5 +9,8 @@ pub mod Views
 pub mod WordRule
 pub mod Steps
 pub mod Seats
+pub mod BucketCalls
+pub mod CallerCalls
 pub mod BucketSteps
 pub mod StoreSteps
+pub mod StoreCalls

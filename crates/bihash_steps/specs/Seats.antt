@@ -1,8 +1,9 @@
 -- What contracts see of a row and of its callers.
-use Rattle.std.specs.Prelude.{◌≡◌, ℕ, ◌≤◌, List, [], ◌∷◌, length, Option, Some, None}
+use Rattle.std.specs.Prelude.{◌≡◌, ℕ, ◌<◌, ◌≤◌, List, [], ◌∷◌, length, Option, Some, None}
 use Rattle.atomic_table.specs.Seated.{TableId}
 use Rattle.bihash_words.specs.Sizes.{Sizes, IsSound}
-use Rattle.bihash_steps.specs.Words.{all_words}
+use Rattle.bihash_steps.specs.Words.{all_words, buckets}
+use Rattle.bihash_steps.specs.Callers.{IsLawfulCaller}
 use Rattle.bihash_steps.specs.declared.view.Call.{Call}
 use Rattle.bihash_steps.specs.declared.view.Record.{Record}
 use Rattle.bihash_steps.specs.declared.view.View.{View}
@@ -19,6 +20,20 @@ caller_state row seat view = record { row = row; seat = seat; view = view }
 -- the same caller with another view
 abbrev pub with_view : CallerState → View → CallerState
 with_view c view = record c { view = view }
+
+-- the same caller, whatever it knows now
+abbrev pub IsSameSeat : CallerState → CallerState → Type 0
+IsSameSeat s t = t ≡ with_view s t.view
+
+-- the caller s with the view v, which is lawful
+pub record Becomes (z : Sizes) (s : CallerState) (v : View) (t : CallerState) : Type 0 where
+  pub view : t ≡ with_view s v
+  pub lawful : IsLawfulCaller z t.view
+
+-- the caller belongs to this row, which has bucket b
+pub record IsAt (z : Sizes) (row : TableId) (s : CallerState) (b : ℕ) : Type 0 where
+  pub own : s.row ≡ row
+  pub inside : b < buckets z
 
 -- a row has the words of its sizes
 pub record IsRow (z : Sizes) (t : TableId) : Type 0 where

@@ -15,8 +15,8 @@ use Rattle.bihash_steps.specs.declared.view.PageStore.{PageStore}
 use Rattle.bihash_steps.specs.declared.view.LockedStore.{LockedStore}
 use Rattle.bihash_steps.specs.declared.view.HeldBlock.{HeldBlock}
 use Rattle.bihash_steps.specs.declared.view.View.{View}
-use Rattle.bihash_steps.specs.declared.pool_word.PoolWord.{PoolWord}
-use Rattle.bihash_steps.specs.declared.pool_word.PoolWord.TheVariants.{Used, Count, Listed}
+use Rattle.bihash_steps.specs.declared.pool.word.PoolWord.{PoolWord}
+use Rattle.bihash_steps.specs.declared.pool.word.PoolWord.TheVariants.{Used, Count, Listed}
 
 -- the caller holds this of the page store, and this block; its notes are dropped
 abbrev pub holding : View → Option LockedStore → Option HeldBlock → View

@@ -1,39 +1,30 @@
 //! Steps on a bucket: its word, its lock, and the words of its block under the lock.
-ghost use Rattle.std.specs.Prelude.{◌≡◌, ◌⊎◌, ℕ, ◌+◌, ◌<◌, [], ◌∷◌, true, false, Some, None, slice_index};
+ghost use Rattle.std.specs.Prelude.{◌≡◌, [], ◌∷◌, Some, slice_index};
 ghost use Rattle.bihash_words.specs.Sizes.{sizes_of};
-ghost use Rattle.bihash_words.specs.Words.{Bucket, Fits, packed};
-ghost use Rattle.bihash_words.specs.declared.patch.Reply.TheVariants.{Changed};
-ghost use Rattle.bihash_steps.specs.Words.{buckets};
-ghost use Rattle.bihash_steps.specs.Callers.{IsLawfulCaller, known_at};
-ghost use Rattle.bihash_steps.specs.Buckets.{open_word};
-ghost use Rattle.bihash_steps.specs.BucketSteps.{SeesOpen, SeesLocked, TakesLock, unnoted, IsLockedWord, relocked, stored_in, HoldsClean, unlocked, call_of, MayAnswer, answered, MayPublish, written, RestsOn, IsOpenWord, reading, MayValidate, validated};
+ghost use Rattle.bihash_steps.specs.BucketCalls.{FindsBucket, IsValidated, MayLock, TriesLock, answer_at, write_at};
+ghost use Rattle.bihash_steps.specs.BucketSteps.{IsLockedWord, relocked, stored_in, HoldsClean, unlocked, MayAnswer, answered, MayPublish, written, IsOpenWord, reading, MayValidate};
 ghost use Rattle.bihash_steps.specs.StoreSteps.{MayReplace, replaced};
 ghost use Rattle.bihash_steps.specs.declared.view.LockedBucket.{LockedBucket};
-ghost use Rattle.bihash_steps.specs.declared.view.OpenBucket.{OpenBucket};
-ghost use Rattle.bihash_steps.specs.Seats.{with_view};
+ghost use Rattle.bihash_steps.specs.Seats.{Becomes, IsAt, with_view};
 
-use crate::bucket_plays::{
+use crate::event::Event;
+use crate::row::{CallerSeat, Row};
+use crate::view::Extent;
+use bihash_words::{BucketWord, Shape};
+use std::marker::Brand;
+
+mod plays;
+
+use plays::{
     Answers, Calling, LockedStores, LockedWords, Locks, OpenWords, Publishes, Releases, Replaces,
     Sees, Validates,
 };
-use crate::row::{CallerSeat, Row};
-use crate::view::Extent;
-use bihash_words::{BucketWord, Change, Reply, Shape};
-use std::marker::Brand;
 
 impl<S: Shape> Row<S> {
     /// The word of a bucket. A lone caller that holds no lock finds it unlocked.
     pub fn load_bucket(&self, caller: &mut CallerSeat<S>, bucket: usize) -> BucketWord
-        requires own { caller.old.row ≡ self.now }
-        requires inside { bucket < buckets (sizes_of S.Shape) }
-        ensures same { caller.new ≡ with_view caller.old caller.new.view }
-        ensures seen { SeesOpen (sizes_of S.Shape) caller.old.view bucket result caller.new.view
-            ⊎ SeesLocked caller.old.view result caller.new.view }
-        ensures lone { caller.old.view.lone ≡ true → caller.old.view.holds.bucket ≡ None
-            → SeesOpen (sizes_of S.Shape) caller.old.view bucket result caller.new.view }
-        ensures whole { caller.old.view.lone ≡ true
-            → known_at caller.new.view.known bucket ≡ known_at caller.old.view.known bucket }
-        ensures lawful { IsLawfulCaller (sizes_of S.Shape) caller.new.view }
+        requires at { IsAt (sizes_of S.Shape) self.now caller.old bucket }
+        ensures { FindsBucket (sizes_of S.Shape) caller.old caller.new bucket result }
     {
         let shared = &self.table.shared;
         BucketWord::of(shared.load::<Sees<S>>(&mut caller.seat, self.bucket_at(bucket)))
@@ -43,21 +34,9 @@ impl<S: Shape> Row<S> {
     /// lone caller that has just loaded the word finds it. What was read since the word was loaded holds
     /// under the lock.
     pub fn lock_from(&self, caller: &mut CallerSeat<S>, bucket: usize, word: BucketWord) -> bool
-        requires own { caller.old.row ≡ self.now }
-        requires inside { bucket < buckets (sizes_of S.Shape) }
-        requires free { caller.old.view.holds.bucket ≡ None }
-        requires unlocked { (x : Bucket) × Fits x × (word ≡ packed x) × (x.locked ≡ false) }
-        ensures same { caller.new ≡ with_view caller.old caller.new.view }
-        ensures taken { result ≡ true → TakesLock (sizes_of S.Shape) caller.old.view bucket word caller.new.view }
-        ensures not { result ≡ false → caller.new.view ≡ unnoted caller.old.view }
-        ensures lone { caller.old.view.lone ≡ true → (o : OpenBucket) → caller.old.view.notes.open_bucket ≡ Some o
-            → o.bucket ≡ bucket → word ≡ open_word o → result ≡ true }
-        ensures rests { result ≡ true → (o : OpenBucket) → caller.old.view.notes.open_bucket ≡ Some o
-            → o.bucket ≡ bucket → word ≡ open_word o → (l : LockedBucket)
-            → caller.new.view.holds.bucket ≡ Some l → RestsOn o l }
-        ensures whole { caller.old.view.lone ≡ true → result ≡ true
-            → known_at caller.new.view.known bucket ≡ known_at caller.old.view.known bucket }
-        ensures lawful { IsLawfulCaller (sizes_of S.Shape) caller.new.view }
+        requires at { IsAt (sizes_of S.Shape) self.now caller.old bucket }
+        requires may { MayLock caller.old.view word }
+        ensures { TriesLock (sizes_of S.Shape) caller.old caller.new bucket word result }
     {
         let at = self.bucket_at(bucket);
         let open = word.to_word();
@@ -105,43 +84,28 @@ impl<S: Shape> Row<S> {
         caller: &mut CallerSeat<S>,
         bucket: usize,
         word: BucketWord,
-        key: &S::Key,
-        found: Option<u64>,
-        change: Change,
-        reply: Reply,
+        event: &Event<'_, S>,
     ) -> bool
-        requires own { caller.old.row ≡ self.now }
-        requires inside { bucket < buckets (sizes_of S.Shape) }
+        requires at { IsAt (sizes_of S.Shape) self.now caller.old bucket }
         requires may { MayValidate (sizes_of S.Shape) caller.old.view bucket word
-            (call_of caller.old.view bucket 0 (S.words_of key.now) found change reply) }
-        ensures valid { result ≡ true → caller.new ≡ with_view caller.old (validated caller.old.view
-            (call_of caller.old.view bucket 0 (S.words_of key.now) found change reply)) }
-        ensures not { result ≡ false → caller.new ≡ with_view caller.old (unnoted caller.old.view) }
-        ensures lone { caller.old.view.lone ≡ true → result ≡ true }
-        ensures lawful { IsLawfulCaller (sizes_of S.Shape) caller.new.view }
+            (answer_at ⟦<S as Shape>⟧ caller.old.view bucket event.now) }
+        ensures { IsValidated (sizes_of S.Shape) caller.old caller.new
+            (answer_at ⟦<S as Shape>⟧ caller.old.view bucket event.now) result }
     {
-        self.validate_as::<Brand>(caller, bucket, word, key, found, change, reply)
+        self.validate_as::<Brand>(caller, bucket, word, event)
     }
 
-    // The same for the call that `E` names.
+    // The same for the call that `E` names: it is that of the event.
     fn validate_as<E: Calling>(
         &self,
         caller: &mut CallerSeat<S>,
         bucket: usize,
         word: BucketWord,
-        key: &S::Key,
-        found: Option<u64>,
-        change: Change,
-        reply: Reply,
+        _event: &Event<'_, S>,
     ) -> bool
-        requires own { caller.old.row ≡ self.now }
-        requires inside { bucket < buckets (sizes_of S.Shape) }
-        requires told { E.call ≡ call_of caller.old.view bucket 0 (S.words_of key.now) found change reply }
+        requires at { IsAt (sizes_of S.Shape) self.now caller.old bucket }
         requires may { MayValidate (sizes_of S.Shape) caller.old.view bucket word E.call }
-        ensures valid { result ≡ true → caller.new ≡ with_view caller.old (validated caller.old.view E.call) }
-        ensures not { result ≡ false → caller.new ≡ with_view caller.old (unnoted caller.old.view) }
-        ensures lone { caller.old.view.lone ≡ true → result ≡ true }
-        ensures lawful { IsLawfulCaller (sizes_of S.Shape) caller.new.view }
+        ensures { IsValidated (sizes_of S.Shape) caller.old caller.new E.call result }
     {
         let shared = &self.table.shared;
         let here = shared.load::<Validates<S, E>>(&mut caller.seat, self.bucket_at(bucket));
@@ -155,11 +119,9 @@ impl<S: Shape> Row<S> {
 
     /// Opens the lock of a bucket in whose block nothing was stored, without an answer.
     pub fn release(&self, caller: &mut CallerSeat<S>, bucket: usize, word: BucketWord)
-        requires own { caller.old.row ≡ self.now }
-        requires inside { bucket < buckets (sizes_of S.Shape) }
+        requires at { IsAt (sizes_of S.Shape) self.now caller.old bucket }
         requires clean { HoldsClean caller.old.view bucket word }
-        ensures view { caller.new ≡ with_view caller.old (unlocked caller.old.view) }
-        ensures lawful { IsLawfulCaller (sizes_of S.Shape) caller.new.view }
+        ensures { Becomes (sizes_of S.Shape) caller.old (unlocked caller.old.view) caller.new }
     {
         let shared = &self.table.shared;
         shared.store::<Releases<S>>(&mut caller.seat, self.bucket_at(bucket), word.to_word());
@@ -172,39 +134,28 @@ impl<S: Shape> Row<S> {
         caller: &mut CallerSeat<S>,
         bucket: usize,
         word: BucketWord,
-        key: &S::Key,
-        found: Option<u64>,
-        change: Change,
-        reply: Reply,
+        event: &Event<'_, S>,
     )
-        requires own { caller.old.row ≡ self.now }
-        requires inside { bucket < buckets (sizes_of S.Shape) }
+        requires at { IsAt (sizes_of S.Shape) self.now caller.old bucket }
         requires may { MayAnswer (sizes_of S.Shape) caller.old.view bucket word
-            (call_of caller.old.view bucket 0 (S.words_of key.now) found change reply) }
-        ensures view { caller.new ≡ with_view caller.old (answered caller.old.view
-            (call_of caller.old.view bucket 0 (S.words_of key.now) found change reply)) }
-        ensures lawful { IsLawfulCaller (sizes_of S.Shape) caller.new.view }
+            (answer_at ⟦<S as Shape>⟧ caller.old.view bucket event.now) }
+        ensures { Becomes (sizes_of S.Shape) caller.old
+            (answered caller.old.view (answer_at ⟦<S as Shape>⟧ caller.old.view bucket event.now)) caller.new }
     {
-        self.cancel_as::<Brand>(caller, bucket, word, key, found, change, reply);
+        self.cancel_as::<Brand>(caller, bucket, word, event);
     }
 
-    // The same for the call that `E` names.
+    // The same for the call that `E` names: it is that of the event.
     fn cancel_as<E: Calling>(
         &self,
         caller: &mut CallerSeat<S>,
         bucket: usize,
         word: BucketWord,
-        key: &S::Key,
-        found: Option<u64>,
-        change: Change,
-        reply: Reply,
+        _event: &Event<'_, S>,
     )
-        requires own { caller.old.row ≡ self.now }
-        requires inside { bucket < buckets (sizes_of S.Shape) }
-        requires told { E.call ≡ call_of caller.old.view bucket 0 (S.words_of key.now) found change reply }
+        requires at { IsAt (sizes_of S.Shape) self.now caller.old bucket }
         requires may { MayAnswer (sizes_of S.Shape) caller.old.view bucket word E.call }
-        ensures view { caller.new ≡ with_view caller.old (answered caller.old.view E.call) }
-        ensures lawful { IsLawfulCaller (sizes_of S.Shape) caller.new.view }
+        ensures { Becomes (sizes_of S.Shape) caller.old (answered caller.old.view E.call) caller.new }
     {
         let shared = &self.table.shared;
         shared.store::<Answers<S, E>>(&mut caller.seat, self.bucket_at(bucket), word.to_word());
@@ -217,37 +168,28 @@ impl<S: Shape> Row<S> {
         caller: &mut CallerSeat<S>,
         bucket: usize,
         word: BucketWord,
-        key: &S::Key,
-        found: Option<u64>,
-        change: Change,
+        event: &Event<'_, S>,
     )
-        requires own { caller.old.row ≡ self.now }
-        requires inside { bucket < buckets (sizes_of S.Shape) }
+        requires at { IsAt (sizes_of S.Shape) self.now caller.old bucket }
         requires may { MayPublish (sizes_of S.Shape) caller.old.view bucket word
-            (call_of caller.old.view bucket 1 (S.words_of key.now) found change (Changed found)) }
-        ensures view { caller.new ≡ with_view caller.old (written caller.old.view
-            (call_of caller.old.view bucket 1 (S.words_of key.now) found change (Changed found))) }
-        ensures lawful { IsLawfulCaller (sizes_of S.Shape) caller.new.view }
+            (write_at ⟦<S as Shape>⟧ caller.old.view bucket event.now) }
+        ensures { Becomes (sizes_of S.Shape) caller.old
+            (written caller.old.view (write_at ⟦<S as Shape>⟧ caller.old.view bucket event.now)) caller.new }
     {
-        self.publish_as::<Brand>(caller, bucket, word, key, found, change);
+        self.publish_as::<Brand>(caller, bucket, word, event);
     }
 
-    // The same for the call that `E` names.
+    // The same for the call that `E` names: it is that of the event.
     fn publish_as<E: Calling>(
         &self,
         caller: &mut CallerSeat<S>,
         bucket: usize,
         word: BucketWord,
-        key: &S::Key,
-        found: Option<u64>,
-        change: Change,
+        _event: &Event<'_, S>,
     )
-        requires own { caller.old.row ≡ self.now }
-        requires inside { bucket < buckets (sizes_of S.Shape) }
-        requires told { E.call ≡ call_of caller.old.view bucket 1 (S.words_of key.now) found change (Changed found) }
+        requires at { IsAt (sizes_of S.Shape) self.now caller.old bucket }
         requires may { MayPublish (sizes_of S.Shape) caller.old.view bucket word E.call }
-        ensures view { caller.new ≡ with_view caller.old (written caller.old.view E.call) }
-        ensures lawful { IsLawfulCaller (sizes_of S.Shape) caller.new.view }
+        ensures { Becomes (sizes_of S.Shape) caller.old (written caller.old.view E.call) caller.new }
     {
         let shared = &self.table.shared;
         let next = word.next(word.page(), word.log2(), word.linear());
@@ -263,38 +205,29 @@ impl<S: Shape> Row<S> {
         bucket: usize,
         word: BucketWord,
         extent: Extent,
-        key: &S::Key,
-        found: Option<u64>,
-        change: Change,
+        event: &Event<'_, S>,
     )
-        requires own { caller.old.row ≡ self.now }
-        requires inside { bucket < buckets (sizes_of S.Shape) }
+        requires at { IsAt (sizes_of S.Shape) self.now caller.old bucket }
         requires may { MayReplace (sizes_of S.Shape) caller.old.view bucket word extent
-            (call_of caller.old.view bucket 1 (S.words_of key.now) found change (Changed found)) }
-        ensures view { caller.new ≡ with_view caller.old (replaced caller.old.view
-            (call_of caller.old.view bucket 1 (S.words_of key.now) found change (Changed found))) }
-        ensures lawful { IsLawfulCaller (sizes_of S.Shape) caller.new.view }
+            (write_at ⟦<S as Shape>⟧ caller.old.view bucket event.now) }
+        ensures { Becomes (sizes_of S.Shape) caller.old
+            (replaced caller.old.view (write_at ⟦<S as Shape>⟧ caller.old.view bucket event.now)) caller.new }
     {
-        self.publish_block_as::<Brand>(caller, bucket, word, extent, key, found, change);
+        self.publish_block_as::<Brand>(caller, bucket, word, extent, event);
     }
 
-    // The same for the call that `E` names.
+    // The same for the call that `E` names: it is that of the event.
     fn publish_block_as<E: Calling>(
         &self,
         caller: &mut CallerSeat<S>,
         bucket: usize,
         word: BucketWord,
         extent: Extent,
-        key: &S::Key,
-        found: Option<u64>,
-        change: Change,
+        _event: &Event<'_, S>,
     )
-        requires own { caller.old.row ≡ self.now }
-        requires inside { bucket < buckets (sizes_of S.Shape) }
-        requires told { E.call ≡ call_of caller.old.view bucket 1 (S.words_of key.now) found change (Changed found) }
+        requires at { IsAt (sizes_of S.Shape) self.now caller.old bucket }
         requires may { MayReplace (sizes_of S.Shape) caller.old.view bucket word extent E.call }
-        ensures view { caller.new ≡ with_view caller.old (replaced caller.old.view E.call) }
-        ensures lawful { IsLawfulCaller (sizes_of S.Shape) caller.new.view }
+        ensures { Becomes (sizes_of S.Shape) caller.old (replaced caller.old.view E.call) caller.new }
     {
         let shared = &self.table.shared;
         let next = word.next(extent.page, extent.log2, extent.linear);

@@ -1,18 +1,21 @@
 //! Callers that are counted, split, joined and told of one another.
-ghost use Rattle.std.specs.Prelude.{◌≡◌, ◌≢◌, ℕ, ◌+◌, ◌<◌, ◌≤◌, true, false, length, IfOk, IfErr};
+ghost use Rattle.std.specs.Prelude.{◌≡◌, ℕ, ◌<◌, ◌≤◌, length, IfOk, IfErr};
 ghost use Rattle.bihash_words.specs.Sizes.{sizes_of, IsSound};
+ghost use Rattle.bihash_steps.specs.CallerCalls.{AreIdle, AreInformed, HasCounted, IsCut, IsIdle, IsJoined, MayCut, TakesNumber};
 ghost use Rattle.bihash_steps.specs.Callers.{IsLawfulCaller, Agrees};
-ghost use Rattle.bihash_steps.specs.Views.{nothing_held};
-ghost use Rattle.bihash_steps.specs.Steps.{HaveBearers, IsToldWhole, counted, numbered, recounted, first_numbers, other_numbers, parent, newcomer, IsRefused, informed_by, joined};
+ghost use Rattle.bihash_steps.specs.Steps.{parent, newcomer, IsRefused};
 ghost use Rattle.bihash_steps.specs.Seats.{with_view, stamp_of};
 
 use crate::faults::SplitFault;
-use crate::plays::{Counts, Cut, Joins, Keeping, Meets, Numbers};
 use crate::row::{Caller, CallerSeat, Row};
 use crate::scratch::Scratch;
 use bihash_words::Shape;
 use std::alloc::Global;
 use std::marker::{Brand, PhantomData};
+
+mod plays;
+
+use plays::{Counts, Cut, Joins, Keeping, Meets, Numbers};
 
 // Where the caller count stands.
 const COUNT: usize = 0;
@@ -22,12 +25,7 @@ impl<S: Shape> Row<S> {
     /// split of it succeeds.
     pub fn load_count(&self, caller: &mut CallerSeat<S>) -> u64
         requires own { caller.old.row ≡ self.now }
-        ensures view { caller.new ≡ with_view caller.old (counted caller.old.view result) }
-        ensures rises { caller.old.view.seen ≤ result }
-        ensures few { result ≤ S.CALLERS }
-        ensures lawful { IsLawfulCaller (sizes_of S.Shape) caller.new.view }
-        ensures bearers { HaveBearers (sizes_of S.Shape) caller.new.view }
-        ensures whole { caller.new.view.lone ≡ true → IsToldWhole (sizes_of S.Shape) caller.new.view }
+        ensures { HasCounted (sizes_of S.Shape) caller.old caller.new result }
     {
         self.table.shared.load::<Counts<S>>(&mut caller.seat, COUNT)
     }
@@ -36,11 +34,7 @@ impl<S: Shape> Row<S> {
     fn take_number(&self, caller: &mut CallerSeat<S>, count: u64) -> bool
         requires own { caller.old.row ≡ self.now }
         requires few { count < S.CALLERS }
-        ensures row { (caller.new.row ≡ caller.old.row) × (caller.new.seat ≡ caller.old.seat) }
-        ensures taken { result ≡ true → caller.new.view ≡ numbered caller.old.view count }
-        ensures not { result ≡ false → (found : ℕ) × (found ≢ count) × (caller.old.view.seen ≤ found)
-            × (caller.new.view ≡ recounted caller.old.view found) }
-        ensures lawful { IsLawfulCaller (sizes_of S.Shape) caller.new.view }
+        ensures { TakesNumber (sizes_of S.Shape) caller.old caller.new count result }
     {
         let found = self
             .table
@@ -61,16 +55,9 @@ impl<S: Shape> Row<S> {
         stamp: Option<(u64, u64)>,
     ) -> CallerSeat<S>
         requires own { caller.old.row ≡ self.now }
-        requires free { caller.old.view.holds ≡ nothing_held }
         requires kept { E.kept ≡ kept }
-        requires some { 1 ≤ kept }
-        requires less { kept < length caller.old.view.records }
-        requires stamped { stamp ≡ stamp_of (other_numbers E.kept caller.old.view).records }
-        ensures left { caller.new ≡ with_view caller.old (first_numbers E.kept caller.old.view) }
-        ensures right { (result.row ≡ caller.old.row) × (result.view ≡ other_numbers E.kept caller.old.view) }
-        ensures lawful { IsLawfulCaller (sizes_of S.Shape) caller.old.view
-            → IsLawfulCaller (sizes_of S.Shape) caller.new.view
-            × IsLawfulCaller (sizes_of S.Shape) result.view × Agrees caller.new.view result.view }
+        requires may { MayCut caller.old.view E.kept stamp }
+        ensures { IsCut (sizes_of S.Shape) caller.old caller.new result E.kept }
     {
         let seat = self.table.shared.split_seat::<Cut<E>>(&mut caller.seat);
         let numbers = caller.numbers - kept;
@@ -91,8 +78,7 @@ impl<S: Shape> Row<S> {
         alloc: Global,
         mut caller: Caller<S>,
     ) -> Result<(Caller<S>, Caller<S>), (SplitFault, Caller<S>)>
-        requires own { caller.seat.row ≡ self.now }
-        requires free { caller.seat.view.holds ≡ nothing_held }
+        requires idle { IsIdle self.now caller.seat }
         ensures split { IfOk result (λ r. (count : ℕ) × (caller.seat.view.seen ≤ count) × (count < S.CALLERS)
             × (r.0.seat ≡ with_view caller.seat (parent caller.seat.view count))
             × (r.1.seat.row ≡ caller.seat.row) × (r.1.seat.view ≡ newcomer caller.seat.view count)) }
@@ -122,11 +108,8 @@ impl<S: Shape> Row<S> {
 
     // The caller takes in the other one.
     fn take_in(&self, caller: &mut CallerSeat<S>, other: CallerSeat<S>)
-        requires own { (caller.old.row ≡ self.now) × (other.row ≡ self.now) }
-        requires free { (caller.old.view.holds ≡ nothing_held) × (other.view.holds ≡ nothing_held) }
-        ensures view { caller.new ≡ with_view caller.old (joined caller.old.view other.view) }
-        ensures lawful { IsLawfulCaller (sizes_of S.Shape) caller.new.view }
-        ensures agree { Agrees caller.old.view other.view }
+        requires idle { AreIdle self.now caller.old other }
+        ensures joined { IsJoined (sizes_of S.Shape) caller.old other caller.new }
         ensures some { 1 ≤ length other.view.records }
     {
         let CallerSeat {
@@ -144,11 +127,8 @@ impl<S: Shape> Row<S> {
     /// One caller with the numbers and records of both, each as it was. It knows what either knew, and
     /// acts under the first one's number.
     pub fn join(&self, mut caller: Caller<S>, other: Caller<S>) -> Caller<S>
-        requires own { (caller.seat.row ≡ self.now) × (other.seat.row ≡ self.now) }
-        requires free { (caller.seat.view.holds ≡ nothing_held) × (other.seat.view.holds ≡ nothing_held) }
-        ensures view { result.seat ≡ with_view caller.seat (joined caller.seat.view other.seat.view) }
-        ensures lawful { IsLawfulCaller (sizes_of S.Shape) result.seat.view }
-        ensures agree { Agrees caller.seat.view other.seat.view }
+        requires idle { AreIdle self.now caller.seat other.seat }
+        ensures { IsJoined (sizes_of S.Shape) caller.seat other.seat result.seat }
     {
         self.take_in(&mut caller.seat, other.seat);
         caller
@@ -156,16 +136,8 @@ impl<S: Shape> Row<S> {
 
     /// Both callers with their numbers and records. Each knows afterwards what either knew.
     pub fn meet(&self, mut caller: Caller<S>, other: Caller<S>) -> (Caller<S>, Caller<S>)
-        requires own { (caller.seat.row ≡ self.now) × (other.seat.row ≡ self.now) }
-        requires free { (caller.seat.view.holds ≡ nothing_held) × (other.seat.view.holds ≡ nothing_held) }
-        ensures first { result.0.seat
-            ≡ with_view caller.seat (informed_by caller.seat.view caller.seat.view other.seat.view) }
-        ensures second { (result.1.seat.row ≡ other.seat.row)
-            × (result.1.seat.view ≡ informed_by other.seat.view caller.seat.view other.seat.view) }
-        ensures lawful { IsLawfulCaller (sizes_of S.Shape) result.0.seat.view
-            × IsLawfulCaller (sizes_of S.Shape) result.1.seat.view }
-        ensures before { Agrees caller.seat.view other.seat.view }
-        ensures after { Agrees result.0.seat.view result.1.seat.view }
+        requires idle { AreIdle self.now caller.seat other.seat }
+        ensures { AreInformed (sizes_of S.Shape) caller.seat other.seat result.0.seat result.1.seat }
     {
         let Caller { seat, scratch } = other;
         let own = caller.seat.numbers;

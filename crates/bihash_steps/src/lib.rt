@@ -1,23 +1,21 @@
 //! The words of a shared session table under one rule, and the atomic steps on them.
 #![tactic(auto)]
 
-mod bucket_plays;
 mod buckets;
 mod callers;
+mod event;
 mod faults;
 mod open;
 mod places;
-mod plays;
 mod pool;
-mod pool_plays;
-mod pool_word;
 mod row;
 mod scratch;
 pub mod view;
 
+pub use event::Event;
 pub use faults::{CreateFault, SplitFault};
 pub use open::open_row;
-pub use pool_word::PoolWord;
+pub use pool::PoolWord;
 pub use row::{Caller, CallerSeat, Row};
 pub use scratch::Scratch;
 

@@ -7,7 +7,7 @@ ghost use Rattle.bihash_steps.specs.StoreSteps;
 ghost use Rattle.bihash_steps.specs.StoreSteps.{IsInStore};
 ghost use Rattle.bihash_steps.specs.declared.view.PageStore.{PageStore};
 
-use crate::pool_word::PoolWord;
+use crate::pool::PoolWord;
 use crate::row::Row;
 use bihash_words::Shape;
 

@@ -1,30 +1,31 @@
 //! Steps on the page store under its allocation lock, and on a block that no bucket has.
-ghost use Rattle.std.specs.Prelude.{◌≡◌, ℕ, ◌+◌, true, false, Some, None, slice_index};
+ghost use Rattle.std.specs.Prelude.{◌≡◌, ◌+◌, false, Some, None, slice_index};
 ghost use Rattle.bihash_words.specs.Sizes.{sizes_of};
 ghost use Rattle.bihash_steps.specs.PageStores.{returned_in};
-ghost use Rattle.bihash_steps.specs.BucketSteps.{unnoted};
-ghost use Rattle.bihash_steps.specs.StoreSteps.{holding, LocksStore, store_opened, IsInStore, word_in, HasRoomFor, unlisted, grown, TakesBlock, MayTakeReturned, MayTakeUnused, IsHeldWord, stored_at, MayList, listing, MayReturn, relisted};
+ghost use Rattle.bihash_steps.specs.StoreCalls.{ReadsStore, TriesStoreLock};
+ghost use Rattle.bihash_steps.specs.StoreSteps.{holding, store_opened, IsInStore, unlisted, grown, TakesBlock, MayTakeReturned, MayTakeUnused, IsHeldWord, stored_at, MayList, listing, MayReturn, relisted};
 ghost use Rattle.bihash_steps.specs.declared.view.LockedStore.{LockedStore};
 ghost use Rattle.bihash_steps.specs.declared.view.HeldBlock.{HeldBlock};
 ghost use Rattle.bihash_steps.specs.Seats.{with_view};
 
 use crate::places::{ALLOCATION_LOCK, USED_MARK};
-use crate::pool_plays::{
-    HeldStores, Lists, PoolLocks, PoolOpens, PoolWords, Returns, TakesReturned, TakesUnused,
-};
-use crate::pool_word::PoolWord;
 use crate::row::{CallerSeat, Row};
 use bihash_words::Shape;
+
+mod plays;
+mod word;
+
+use plays::{
+    HeldStores, Lists, PoolLocks, PoolOpens, PoolWords, Returns, TakesReturned, TakesUnused,
+};
+pub use word::PoolWord;
 
 impl<S: Shape> Row<S> {
     /// Takes the allocation lock, and says whether it was open. A lone caller that doesn't hold it takes
     /// it.
     pub fn pool_lock(&self, caller: &mut CallerSeat<S>) -> bool
         requires own { caller.old.row ≡ self.now }
-        ensures same { caller.new ≡ with_view caller.old caller.new.view }
-        ensures taken { result ≡ true → LocksStore (sizes_of S.Shape) caller.old.view caller.new.view }
-        ensures not { result ≡ false → caller.new.view ≡ unnoted caller.old.view }
-        ensures lone { caller.old.view.lone ≡ true → caller.old.view.holds.store ≡ None → result ≡ true }
+        ensures { TriesStoreLock (sizes_of S.Shape) caller.old caller.new result }
     {
         let shared = &self.table.shared;
         shared.compare_exchange::<PoolLocks<S>>(&mut caller.seat, ALLOCATION_LOCK, 0, 1) == 0
@@ -35,9 +36,7 @@ impl<S: Shape> Row<S> {
         requires own { caller.old.row ≡ self.now }
         requires locked { (n : LockedStore) × (caller.old.view.holds.store ≡ Some n)
             × IsInStore (sizes_of S.Shape) n.store word }
-        ensures same { caller.new ≡ caller.old }
-        ensures value { (n : LockedStore) → caller.old.view.holds.store ≡ Some n → result ≡ word_in n.store word }
-        ensures room { HasRoomFor (sizes_of S.Shape) caller.old.view.holds.block word result }
+        ensures { ReadsStore (sizes_of S.Shape) caller.old caller.new word result }
     {
         let shared = &self.table.shared;
         shared.load::<PoolWords<S>>(&mut caller.seat, self.pool_word_at(word))

@@ -1,7 +1,7 @@
 //! The lists that a caller works with while it splits a block.
 ghost use Rattle.std.specs.Prelude.{◌≡◌, ℕ, ◌*◌, ◌^◌, ◌≤◌, length};
 
-use bihash_words::Shape;
+use bihash_words::{FREE, Shape};
 use std::alloc::{AllocError, Global};
 
 /// Room for all pairs of a bucket twice: as they stood, and as they will stand.
@@ -21,7 +21,7 @@ impl<S: Shape> Scratch<S> {
     {
         let places = 4 << S::MAX_LOG2;
         let no_words = [0; 8];
-        let no_pair = (S::key(&no_words[..S::WORDS]), u64::MAX);
+        let no_pair = (S::key(&no_words[..S::WORDS]), FREE);
         let old_places = Vec::from_elem(alloc, no_pair, places)?;
         let new_places = Vec::from_elem(alloc, no_pair, places)?;
         Ok(Scratch {

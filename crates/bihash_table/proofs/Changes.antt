@@ -8,6 +8,7 @@ use Rattle.bihash_steps.specs.Words.{place_words}
 use Rattle.bihash_steps.specs.Histories.{bounds_of, bucket_of}
 use Rattle.bihash_steps.specs.Callers.{known_at}
 use Rattle.bihash_steps.specs.Blocks.{HasPair, free, value_in}
+use Rattle.bihash_steps.specs.BucketCalls.{event}
 use Rattle.bihash_steps.specs.BucketSteps.{MayPublish, call_of, map_now, relocked, stored_in, written}
 use Rattle.bihash_steps.specs.Seats.{CallerState, with_view}
 use Rattle.bihash_steps.specs.declared.view.LockedBucket.{LockedBucket}
@@ -54,7 +55,7 @@ module _ (z : Sizes) (v : View) (b word : ℕ) (l : LockedBucket) (has : HasLock
     filled_is : w' ≡ relocked v (Some (record l { now = with_value z h.now i value; stored = true }))
     filled_is = stored_is z v b word l has w i vacant.inside key z.key_words h w' z.key_words value is
 
-    pub may_fill : MayPublish z w' b word (call_of w' b 1 key None (Set value) (Changed None))
+    pub may_fill : MayPublish z w' b word (call_of w' b 1 (event key None (Set value) (Changed None)))
     may_fill = may_publish z v b word l has key long home None (Set value) w' _ filled_is (sym new) unworn storable
         (enter_step (bounds_of z) (map_now v b) (length (known_at v.known b)) key value (sym new) unworn
         (few_pairs z l.extent l.now (map_now v b) i has.pairs vacant.inside vacant.free))
@@ -64,7 +65,7 @@ module _ (z : Sizes) (v : View) (b word : ℕ) (l : LockedBucket) (has : HasLock
         (key_stored z v b word l has w i vacant.inside key z.key_words h w' value refl long is)
         (value_stored z v b word l has w i vacant.inside key z.key_words h w' value refl long is))
 
-    pub filled : (u : View) → u ≡ written w' (call_of w' b 1 key None (Set value) (Changed None))
+    pub filled : (u : View) → u ≡ written w' (call_of w' b 1 (event key None (Set value) (Changed None)))
         → IsAnswered z v u (record { key = key; found = None; change = Set value; reply = Changed None })
     filled = published z v b word l has key long home None (Set value) w' _ filled_is
 
@@ -80,7 +81,7 @@ module _ (z : Sizes) (v : View) (b word : ℕ) (l : LockedBucket) (has : HasLock
       overwritten_is = stored_is z v b word l has v i pair.pair.0 key z.key_words
           (stored_before z v b word l has i key pair.stands) w' z.key_words value is
 
-      pub may_overwrite : MayPublish z w' b word (call_of w' b 1 key (Some old) (Set value) (Changed (Some old)))
+      pub may_overwrite : MayPublish z w' b word (call_of w' b 1 (event key (Some old) (Set value) (Changed (Some old))))
       may_overwrite = let h = stored_before z v b word l has i key pair.stands in
           may_publish z v b word l has key long home (Some old) (Set value) w' _ overwritten_is there unworn storable
           (set_step (bounds_of z) (map_now v b) (length (known_at v.known b)) key old value there other unworn)
@@ -90,7 +91,7 @@ module _ (z : Sizes) (v : View) (b word : ℕ) (l : LockedBucket) (has : HasLock
           (key_stored z v b word l has v i pair.pair.0 key z.key_words h w' value refl long is)
           (value_stored z v b word l has v i pair.pair.0 key z.key_words h w' value refl long is))
 
-      pub overwritten : (u : View) → u ≡ written w' (call_of w' b 1 key (Some old) (Set value) (Changed (Some old)))
+      pub overwritten : (u : View) → u ≡ written w' (call_of w' b 1 (event key (Some old) (Set value) (Changed (Some old))))
           → IsAnswered z v u (record { key = key; found = Some old; change = Set value; reply = Changed (Some old) })
       overwritten = published z v b word l has key long home (Some old) (Set value) w' _ overwritten_is
 
@@ -100,7 +101,7 @@ module _ (z : Sizes) (v : View) (b word : ℕ) (l : LockedBucket) (has : HasLock
       freed_is : w' ≡ relocked v (Some (record l { now = with_value z l.now i free; stored = true }))
       freed_is = stored_is z v b word l has v i pair.pair.0 key 0 (stored_none z v b word l has i key) w' z.key_words free is
 
-      pub may_remove : MayPublish z w' b word (call_of w' b 1 key (Some old) Remove (Changed (Some old)))
+      pub may_remove : MayPublish z w' b word (call_of w' b 1 (event key (Some old) Remove (Changed (Some old))))
       may_remove = let h = stored_none z v b word l has i key in
           may_publish z v b word l has key long home (Some old) Remove w' _ freed_is there unworn tt
           (remove_step (bounds_of z) (map_now v b) (length (known_at v.known b)) key old there unworn)
@@ -108,6 +109,6 @@ module _ (z : Sizes) (v : View) (b word : ℕ) (l : LockedBucket) (has : HasLock
           (stored_placed z v b word l has v i pair.pair.0 key 0 h w' z.key_words free is (omega arith))
           key pair (stored_here z v b word l has v i pair.pair.0 key 0 h w' z.key_words free is (omega arith)) k apart left)
 
-      pub removed : (u : View) → u ≡ written w' (call_of w' b 1 key (Some old) Remove (Changed (Some old)))
+      pub removed : (u : View) → u ≡ written w' (call_of w' b 1 (event key (Some old) Remove (Changed (Some old))))
           → IsAnswered z v u (record { key = key; found = Some old; change = Remove; reply = Changed (Some old) })
       removed = published z v b word l has key long home (Some old) Remove w' _ freed_is

@@ -3,17 +3,17 @@ use Rattle.std.proofs.Common.{◌≡◌, ◌≢◌, ◌∙◌, ◌<◌, ◌≤�
 use Rattle.std.specs.FinMap.{get, insert, len, remove}
 use Rattle.std.specs.Prelude.{if◌then◌else◌, nat_lt}
 use Rattle.std.proofs.lemmas.Bool.{le-ltb, lt-ltb}
-use Rattle.bihash_words.specs.Maps.{Answers, Bounds, Crowded, Entering, Event, Exhausted, Pairs, Present, Step, effect_of, most_pairs, row_with}
+use Rattle.bihash_words.specs.Maps.{Answers, Bounds, Crowded, Entering, Exhausted, Pairs, Present, Step, effect_of, most_pairs, row_with}
 use Rattle.bihash_words.specs.Patches.{free_mark}
 use Rattle.bihash_words.specs.Sizes.{Sizes}
 use Rattle.bihash_words.specs.declared.patch.Change.{Change}
 use Rattle.bihash_words.specs.declared.patch.Change.TheVariants.{Set, Remove}
-use Rattle.bihash_words.specs.declared.patch.Reply.{Reply}
 use Rattle.bihash_words.specs.declared.patch.Reply.TheVariants.{Changed, Full, NoPages}
 use Rattle.bihash_steps.specs.Histories.{IsKeyOf, IsWrite, bounds_of}
 use Rattle.bihash_steps.specs.Callers.{known_at}
 use Rattle.bihash_steps.specs.PageStores.{returned_in}
 use Rattle.bihash_steps.specs.Views.{no_notes}
+use Rattle.bihash_steps.specs.BucketCalls.{event}
 use Rattle.bihash_steps.specs.BucketSteps.{HoldsClean, MayAnswer, MayWrite, acting, call_of, map_now}
 use Rattle.bihash_steps.specs.StoreSteps.{holding}
 use Rattle.bihash_steps.specs.declared.view.Holdings.{Holdings}
@@ -26,9 +26,6 @@ use Rattle.bihash_table.specs.Copying.{IsWanting}
 use Rattle.bihash_table.specs.Locked.{HasLock}
 
 -- ---- The rows of a call
-
-abbrev event : List ℕ → Option ℕ → Change → Reply → Event
-event key found change reply = record { key = key; found = found; change = change; reply = reply }
 
 -- a new key in a map with room
 entering_row : (b : Bounds) (pairs n value : ℕ) → n < b.limit → pairs < most_pairs b
@@ -108,7 +105,7 @@ module _ (z : Sizes) (v : View) (b word : ℕ) (l : LockedBucket) (key : List �
   pub may_write : (store : Option LockedStore) (block : Option HeldBlock) (found : Option ℕ) (change : Change)
       → found ≡ get (map_now v b) key
       → IsWrite z b (length (known_at v.known b)) (map_now v b) (record { by = acting v.records; key = key; change = change })
-      → MayWrite z (holding v store block) b word (call_of v b 1 key found change (Changed found))
+      → MayWrite z (holding v store block) b word (call_of v b 1 (event key found change (Changed found)))
   may_write store block found change is write = record {
     lock = l;
     held = held_bucket;
@@ -148,7 +145,7 @@ module _ (z : Sizes) (v : View) (b word : ℕ) (l : LockedBucket) (key : List �
 
   -- the bucket has no room for a new pair
   pub may_crowd : (value : ℕ) → most_pairs (bounds_of z) ≤ len (map_now v b) → get (map_now v b) key ≡ None
-      → MayAnswer z v b word (call_of v b 0 key None (Set value) Full)
+      → MayAnswer z v b word (call_of v b 0 (event key None (Set value) Full))
   may_crowd value full absent = record {
     clean = clean;
     bucket = refl;
@@ -163,7 +160,7 @@ module _ (z : Sizes) (v : View) (b word : ℕ) (l : LockedBucket) (key : List �
   -- the page store has no block for it
   pub may_want : (value log2 left : ℕ) (store : PageStore) → len (map_now v b) < most_pairs (bounds_of z)
       → get (map_now v b) key ≡ None → log2 ≤ z.max_log2 → IsWanting z store log2 left
-      → MayAnswer z (looked_at v store) b word (call_of (looked_at v store) b 0 key None (Set value) (NoPages log2 left))
+      → MayAnswer z (looked_at v store) b word (call_of (looked_at v store) b 0 (event key None (Set value) (NoPages log2 left)))
   may_want value log2 left store room absent small wanting = record {
     clean = record { lock = l; held = held_bucket; bucket = lock.bucket; stood = lock.stood; clean = lock.clean };
     bucket = refl;

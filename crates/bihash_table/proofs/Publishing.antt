@@ -10,6 +10,7 @@ use Rattle.bihash_words.specs.declared.patch.Reply.TheVariants.{Changed, NoPages
 use Rattle.bihash_steps.specs.Histories.{bounds_of, bucket_of, is_changed}
 use Rattle.bihash_steps.specs.Callers.{known_at}
 use Rattle.bihash_steps.specs.Blocks.{IsBlockOf}
+use Rattle.bihash_steps.specs.BucketCalls.{event}
 use Rattle.bihash_steps.specs.BucketSteps.{MayAnswer, MayPublish, call_of, map_now, relocked, written}
 use Rattle.bihash_steps.specs.declared.view.Holdings.{Holdings}
 use Rattle.bihash_steps.specs.declared.view.LockedBucket.{LockedBucket}
@@ -24,7 +25,7 @@ module _ (z : Sizes) (v : View) (b word : ℕ) (l : LockedBucket) (has : HasLock
   pub may_answer : (reply : Reply) → is_changed reply ≡ false → ((log2 left : ℕ) → reply ≡ NoPages log2 left → ⊥)
       → Step (bounds_of z) (map_now v b) (length (known_at v.known b))
       (record { key = key; found = found; change = change; reply = reply }) (map_now v b)
-      → MayAnswer z v b word (call_of v b 0 key found change reply)
+      → MayAnswer z v b word (call_of v b 0 (event key found change reply))
   may_answer reply reads paged step =
       let stamp : length (known_at v.known b) + 0 ≡ length (known_at v.known b) = omega arith in
       record {
@@ -51,9 +52,9 @@ module _ (z : Sizes) (v : View) (b word : ℕ) (l : LockedBucket) (has : HasLock
         (record { key = key; found = get (map_now v b) key; change = change; reply = Changed (get (map_now v b) key) })
         (changed (map_now v b) key change)
         → IsBlockOf z l.extent now (changed (map_now v b) key change)
-        → MayPublish z w b word (call_of w b 1 key found change (Changed found))
+        → MayPublish z w b word (call_of w b 1 (event key found change (Changed found)))
     may_publish there unworn storable step pairs =
-        subst (λ (u : View). MayPublish z u b word (call_of u b 1 key found change (Changed found))) (sym is) (record {
+        subst (λ (u : View). MayPublish z u b word (call_of u b 1 (event key found change (Changed found)))) (sym is) (record {
           write = record {
             lock = record l { now = now; stored = true };
             held = refl;
@@ -77,12 +78,12 @@ module _ (z : Sizes) (v : View) (b word : ℕ) (l : LockedBucket) (has : HasLock
         })
 
     -- it was answered
-    pub published : (u : View) → u ≡ written w (call_of w b 1 key found change (Changed found))
+    pub published : (u : View) → u ≡ written w (call_of w b 1 (event key found change (Changed found)))
         → IsAnswered z v u (record { key = key; found = found; change = change; reply = Changed found })
     published u done =
-        let all : u ≡ written (relocked v (Some (record l { now = now; stored = true }))) (call_of v b 1 key found change (Changed found)) =
-        done ∙ ap (λ (x : View). written x (call_of x b 1 key found change (Changed found))) is in
-        let here : View = written v (call_of v b 1 key found change (Changed found)) in
+        let all : u ≡ written (relocked v (Some (record l { now = now; stored = true }))) (call_of v b 1 (event key found change (Changed found))) =
+        done ∙ ap (λ (x : View). written x (call_of x b 1 (event key found change (Changed found)))) is in
+        let here : View = written v (call_of v b 1 (event key found change (Changed found))) in
         let notes = ap (λ (x : View). x.notes) all in
         written_from_lock z v u b word l (record { key = key; found = found; change = change; reply = Changed found }) has home refl
         (all ∙ (ap (λ (h : Holdings). record here { holds = record h { bucket = None } }) has.held

@@ -51,9 +51,9 @@ module _ (z : Sizes) (v w : View) (b word : ℕ) (l : LockedBucket) (e : Event) 
 
   -- the call was no write: nothing more is known
   pub answered_noting : (noted : Option PageStore)
-      → w ≡ answered v (record (call_of v b 0 e.key e.found e.change e.reply) { store = store_of e.reply noted }) → IsAnswered z v w e
+      → w ≡ answered v (record (call_of v b 0 e) { store = store_of e.reply noted }) → IsAnswered z v w e
   answered_noting noted is =
-      let c : Call = record (call_of v b 0 e.key e.found e.change e.reply) { store = store_of e.reply noted } in
+      let c : Call = record (call_of v b 0 e) { store = store_of e.reply noted } in
       let H : List Write = known_at v.known b in
       let kept : v.known.writes ≡ set v.known.writes b H = sym (set-get_or v.known.writes b []) in
       let stamp : length H + 0 ≡ length H = omega arith in
@@ -70,15 +70,15 @@ module _ (z : Sizes) (v w : View) (b word : ℕ) (l : LockedBucket) (e : Event) 
       ∙ (ap (λ (ws : List (List Write)). At (length H) ws v.holds) kept
       ∙ ap (λ (h : Holdings). At (length H) (set v.known.writes b H) h) has.held)))
 
-  pub answered_from_lock : w ≡ answered v (call_of v b 0 e.key e.found e.change e.reply) → IsAnswered z v w e
+  pub answered_from_lock : w ≡ answered v (call_of v b 0 e) → IsAnswered z v w e
   answered_from_lock = answered_noting v.notes.left
 
   -- the call was a write: it is known, and stands last
-  pub written_from_lock : is_changed e.reply ≡ true → w ≡ record (written v (call_of v b 1 e.key e.found e.change e.reply)) { holds = nothing_held; notes = w.notes }
+  pub written_from_lock : is_changed e.reply ≡ true → w ≡ record (written v (call_of v b 1 e)) { holds = nothing_held; notes = w.notes }
       → IsAnswered z v w e
   written_from_lock changes is =
       let H : List Write = known_at v.known b in
-      let x : Write = write_of (acting v.records) (call_of v b 1 e.key e.found e.change e.reply) in
+      let x : Write = write_of (acting v.records) (call_of v b 1 e) in
       let stamp : length H + 1 ≡ length (H ++ x ∷ []) = sym (length-append H (x ∷ [])) in
       is_left v.notes.left (H ++ x ∷ []) (record { rest = x ∷ []; whole = refl })
       (rw changes (let long = length-append H (x ∷ []) in omega arith))

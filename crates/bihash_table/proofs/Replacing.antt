@@ -12,6 +12,7 @@ use Rattle.bihash_words.specs.declared.patch.Reply.TheVariants.{Changed, NoPages
 use Rattle.bihash_steps.specs.Histories.{IsKeyOf, bounds_of}
 use Rattle.bihash_steps.specs.Callers.{known_at}
 use Rattle.bihash_steps.specs.Blocks.{HasPair, IsBlockOf, key_in, no_block, places, value_in}
+use Rattle.bihash_steps.specs.BucketCalls.{event}
 use Rattle.bihash_steps.specs.BucketSteps.{MayAnswer, answered, call_of, map_now}
 use Rattle.bihash_steps.specs.StoreSteps.{LocksStore, MayReplace, TakesBlock, holding, replaced, store_opened}
 use Rattle.bihash_steps.specs.Seats.{CallerState, with_view}
@@ -92,10 +93,10 @@ module _ (z : Sizes) (v : View) (b word : ℕ) (l : LockedBucket) (key : List �
       → value ≢ free_mark → len (map_now v b) < most_pairs (bounds_of z) → get (map_now v b) key ≡ None
       → page + 2 ^ log2 ≤ z.pages + 1 → IsBlockOf z (extent_of page log2 linear) words (insert (map_now v b) key value)
       → (u : View) → u ≡ holding v (Some n) (Some (block_of page log2 words))
-      → MayReplace z u b word (extent_of page log2 linear) (call_of u b 1 key None (Set value) (Changed None))
+      → MayReplace z u b word (extent_of page log2 linear) (call_of u b 1 (event key None (Set value) (Changed None)))
   may_enter value n page log2 linear words storable room absent near pairs u is =
       subst (λ (x : View). MayReplace z x b word (extent_of page log2 linear)
-      (call_of x b 1 key None (Set value) (Changed None))) (sym is)
+      (call_of x b 1 (event key None (Set value) (Changed None)))) (sym is)
       (record {
         write = may_write z v b word l key lock home unworn (Some n) (Some (block_of page log2 words)) None (Set value)
             (sym absent) (entering z v b word l key lock home unworn value storable room absent);
@@ -110,9 +111,9 @@ module _ (z : Sizes) (v : View) (b word : ℕ) (l : LockedBucket) (key : List �
   pub may_empty : (n : LockedStore) (old : ℕ) → get (map_now v b) key ≡ Some old → 1 ≤ z.pages
       → IsBlockOf z no_block [] (remove (map_now v b) key)
       → (u : View) → u ≡ holding v (Some n) None
-      → MayReplace z u b word no_block (call_of u b 1 key (Some old) Remove (Changed (Some old)))
+      → MayReplace z u b word no_block (call_of u b 1 (event key (Some old) Remove (Changed (Some old))))
   may_empty n old there some pairs u is =
-      subst (λ (x : View). MayReplace z x b word no_block (call_of x b 1 key (Some old) Remove (Changed (Some old))))
+      subst (λ (x : View). MayReplace z x b word no_block (call_of x b 1 (event key (Some old) Remove (Changed (Some old)))))
       (sym is)
       (record {
         write = may_write z v b word l key lock home unworn (Some n) None (Some old) Remove
@@ -136,15 +137,24 @@ looked z s t u w same locks still opens =
     ap (λ (c : CallerState). c.view) (opens (locked_on locks.store) (ap (λ (x : View). x.holds.store) there))
     ∙ ap (λ (x : View). store_opened x (locked_on locks.store)) there
 
+-- it is the same caller
+pub looked_same : (z : Sizes) (s t u w : CallerState) → t ≡ with_view s t.view → LocksStore z s.view t.view → u ≡ t
+    → ((n : LockedStore) → u.view.holds.store ≡ Some n → w ≡ with_view u (store_opened u.view n)) → w ≡ with_view s w.view
+looked_same z s t u w same locks still opens =
+    let opened = opens (locked_on locks.store)
+    (ap (λ (c : CallerState). c.view.holds.store) still ∙ ap (λ (x : View). x.holds.store) locks.is) in
+    (opened ∙ ap (λ (x : View). with_view u x) (ap (λ (c : CallerState). c.view) (sym opened)))
+    ∙ ap (λ (c : CallerState). with_view c w.view) (still ∙ same)
+
 -- the call may be answered so
 pub may_refuse : (z : Sizes) (v u : View) (b word : ℕ) (l : LockedBucket) (key : List ℕ) (value log2 left : ℕ)
     (store : PageStore)
     → HasLock z v b word l → IsKeyOf z b key → length (known_at v.known b) < z.limit
     → len (map_now v b) < most_pairs (bounds_of z) → get (map_now v b) key ≡ None → log2 ≤ z.max_log2
     → IsWanting z store log2 left → u ≡ looked_at v store
-    → MayAnswer z u b word (call_of u b 0 key None (Set value) (NoPages log2 left))
+    → MayAnswer z u b word (call_of u b 0 (event key None (Set value) (NoPages log2 left)))
 may_refuse z v u b word l key value log2 left store lock home unworn room absent small wanting is =
-    subst (λ (x : View). MayAnswer z x b word (call_of x b 0 key None (Set value) (NoPages log2 left))) (sym is)
+    subst (λ (x : View). MayAnswer z x b word (call_of x b 0 (event key None (Set value) (NoPages log2 left)))) (sym is)
     (may_want z v b word l key lock home unworn value log2 left store room absent small wanting)
 
 -- ---- What stays of the caller
@@ -164,16 +174,16 @@ ready_same g s u page log2 block ready = seen_same s u ready.is
 pub published : (s t u : CallerState) (n : LockedStore) (block : Option HeldBlock) (b : ℕ) (key : List ℕ) (found : Option ℕ)
     (change : Change)
     → t ≡ with_view s (holding s.view (Some n) block)
-    → u ≡ with_view t (replaced t.view (call_of t.view b 1 key found change (Changed found)))
-    → u.view ≡ replaced (holding s.view (Some n) block) (call_of s.view b 1 key found change (Changed found))
+    → u ≡ with_view t (replaced t.view (call_of t.view b 1 (event key found change (Changed found))))
+    → u.view ≡ replaced (holding s.view (Some n) block) (call_of s.view b 1 (event key found change (Changed found)))
 published s t u n block b key found change ready is = ap (λ (c : CallerState). c.view) is
-    ∙ ap (λ (c : CallerState). replaced c.view (call_of c.view b 1 key found change (Changed found))) ready
+    ∙ ap (λ (c : CallerState). replaced c.view (call_of c.view b 1 (event key found change (Changed found)))) ready
 
 pub was_answered : (s t : CallerState) (b : ℕ) (key : List ℕ) (found : Option ℕ) (change : Change) (reply : Reply) (v : View)
-    → s.view ≡ v → t ≡ with_view s (answered s.view (call_of s.view b 0 key found change reply))
-    → t.view ≡ answered v (call_of v b 0 key found change reply)
+    → s.view ≡ v → t ≡ with_view s (answered s.view (call_of s.view b 0 (event key found change reply)))
+    → t.view ≡ answered v (call_of v b 0 (event key found change reply))
 was_answered s t b key found change reply v e is = ap (λ (c : CallerState). c.view) is
-    ∙ ap (λ (x : View). answered x (call_of x b 0 key found change reply)) e
+    ∙ ap (λ (x : View). answered x (call_of x b 0 (event key found change reply))) e
 
 -- ---- The last pair goes
 

@@ -1,5 +1,5 @@
 -- A bucket that was seen without its lock: what reads add to it, its lock, and answers without the lock.
-use Rattle.std.proofs.Common.{◌≡◌, ◌∙◌, ℕ, ◌+◌, ◌≤◌, false, List, [], ◌∷◌, length, le_refl, set, refl, sym, ap, subst, arith, Some}
+use Rattle.std.proofs.Common.{◌≡◌, ◌∙◌, ℕ, ◌+◌, ◌≤◌, false, List, [], length, le_refl, set, refl, sym, ap, subst, arith, Some}
 use lib.Seq.{set-get_or}
 use Rattle.bihash_words.specs.Maps.{Pairs, Event, Step}
 use Rattle.bihash_words.specs.Sizes.{Sizes}
@@ -117,7 +117,7 @@ seen_records z v x y b word s t = ap (λ (u : View). u.records) t.is ∙ ap (λ 
 module _ (z : Sizes) (y : View) (b word : ℕ) {P : Extent → List ℕ → Type 0} (h : HasSeen z y b word P) (e : Event) where
   -- the call, as an answer that is no write
   abbrev answer_call : Call
-  answer_call = call_of y b 0 e.key e.found e.change e.reply
+  answer_call = call_of y b 0 e
 
   pub seen_answer : IsKeyOf z b e.key → is_changed e.reply ≡ false → ((log2 left : ℕ) → e.reply ≡ NoPages log2 left → ⊥)
       → (P h.seen.extent h.seen.block.open_bucket.block

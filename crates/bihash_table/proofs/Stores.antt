@@ -16,6 +16,7 @@ use Rattle.bihash_steps.specs.Buckets.{word_of}
 use Rattle.bihash_steps.specs.PageStores.{returned_in}
 use Rattle.bihash_steps.specs.Views.{no_notes, nothing_held}
 use Rattle.bihash_steps.specs.Seats.{CallerState, with_view}
+use Rattle.bihash_steps.specs.BucketCalls.{event}
 use Rattle.bihash_steps.specs.BucketSteps.{answered, call_of, called, last_call, push_call, unlocked, unnoted}
 use Rattle.bihash_steps.specs.StoreSteps.{LocksStore, TakesBlock, freed, grown, holding, old_block, relisted, replaced, store_opened, unlisted}
 use Rattle.bihash_steps.specs.declared.view.Call.{Call}
@@ -183,7 +184,7 @@ pub left_written : (z : Sizes) (v u w : View) (b word : ℕ) (l : LockedBucket) 
     (e : Event)
     → HasLock z v b word l → bucket_of z e.key ≡ b
     → is_changed e.reply ≡ true
-    → u ≡ replaced (holding v (Some n) block) (call_of v b 1 e.key e.found e.change e.reply) → Released u w
+    → u ≡ replaced (holding v (Some n) block) (call_of v b 1 e) → Released u w
     → IsAnswered z v w e
 left_written z v u w b word l n block e lock home changes is gone =
     written_from_lock z v w b word l e lock home changes (gone.is
@@ -217,10 +218,10 @@ turned_away z v u w b word l lock not opened =
 -- the allocation lock was taken and opened, and then the call was answered
 pub left_answered : (z : Sizes) (v w : View) (b word : ℕ) (l : LockedBucket) (store : PageStore) (e : Event)
     → HasLock z v b word l → bucket_of z e.key ≡ b
-    → w ≡ answered (looked_at v store) (call_of (looked_at v store) b 0 e.key e.found e.change e.reply)
+    → w ≡ answered (looked_at v store) (call_of (looked_at v store) b 0 e)
     → IsAnswered z v w e
 left_answered z v w b word l store e lock home is = answered_noting z v w b word l e lock home (Some store)
-    (is ∙ (λ i. record (called v (call_of (looked_at v store) b 0 e.key e.found e.change e.reply)) {
+    (is ∙ (λ i. record (called v (call_of (looked_at v store) b 0 e)) {
       holds = record { bucket = None; store = (ap (λ (h : Holdings). h.store) (sym lock.held)) i; block = v.holds.block };
       notes = no_notes;
     }))
@@ -235,9 +236,9 @@ last_pushed c d (r ∷ rs) is = let same : Some c ≡ Some d = sym (last_of r.ca
 
 -- the entry of a refusal comes behind all known writes, and bears what was noted
 pub bears_noted : (v w : View) (b : ℕ) (store : PageStore) (key : List ℕ) (found : Option ℕ) (change : Change) (log2 left : ℕ)
-    → w ≡ answered (looked_at v store) (call_of (looked_at v store) b 0 key found change (NoPages log2 left)) → Bears w b store
+    → w ≡ answered (looked_at v store) (call_of (looked_at v store) b 0 (event key found change (NoPages log2 left))) → Bears w b store
 bears_noted v w b store key found change log2 left is c last =
-    let entry : Call = call_of (looked_at v store) b 0 key found change (NoPages log2 left) in
+    let entry : Call = call_of (looked_at v store) b 0 (event key found change (NoPages log2 left)) in
     let same : entry ≡ c = last_pushed entry c v.records (ap (λ (u : View). last_call u.records) (sym is) ∙ last) in
     let stamp : entry.stamp ≡ length (known_at w.known b) =
     (let n : ℕ = length (known_at v.known b) in let plus : n + 0 ≡ n = omega arith in plus)

@@ -4,12 +4,7 @@ ghost use Rattle.bihash_words.specs.Sizes.{sizes_of};
 ghost use Rattle.bihash_table.specs.Scans.{CountsPlaces, NamesBlock};
 
 use bihash_words::{BucketWord, Shape};
-
-/// The value of a free place, which no stored value has.
-pub(crate) const FREE: u64 = u64::MAX;
-
-/// How many places a page has.
-pub(crate) const PAGE_PLACES: usize = 4;
+pub(crate) use bihash_words::{FREE, PAGE_PLACES};
 
 /// How many pages a block has.
 pub(crate) fn page_count(log2: u64) -> usize

@@ -8,7 +8,7 @@ use crate::lock::look;
 use crate::reads::{find_pair, value_found};
 use crate::sessions::Sessions;
 use crate::site::Site;
-use bihash_steps::Caller;
+use bihash_steps::{Caller, Event};
 use bihash_words::{Change, Reply, Shape};
 use crossbeam_utils::Backoff;
 use std::sync::Wait;
@@ -28,33 +28,44 @@ impl<S: Shape> Sessions<S> {
         };
         let pair = find_pair(&self.row, seat, word, &site);
         let found = value_found(pair);
-        let reply = Reply::Kept(found);
-        if self.row.validate(
-            seat,
-            site.bucket,
-            word,
-            site.key,
+        let event = Event {
+            key: site.key,
             found,
-            Change::Keep,
-            reply,
-        ) {
+            change: Change::Keep,
+            reply: Reply::Kept(found),
+        };
+        if self.row.validate(seat, site.bucket, word, &event) {
             return Ok(found);
         }
         Err(Contended)
     }
 
-    /// The same. It tries again until it meets no other caller's lock.
+    /// The same. It tries again until no other caller holds the bucket's lock or changes it meanwhile.
     pub fn search<R: Wait>(&self, rt: &R, caller: &mut Caller<S>, key: &S::Key) -> Option<u64>
+        requires own { caller.old.seat.row ≡ self.now.row }
+        requires free { caller.old.seat.view.holds ≡ nothing_held }
+        ensures { TellsSearch ⟦<S as Shape>⟧ caller.old.seat caller.new.seat key.now result }
+    {
+        let Ok(found) = self.try_search(caller, key) else {
+            return self.search_again(rt, caller, key);
+        };
+        found
+    }
+
+    // The same behind a try that met another caller, which is seldom. It stands apart, so that the first try is
+    // straight code.
+    #[inline(never)]
+    fn search_again<R: Wait>(&self, rt: &R, caller: &mut Caller<S>, key: &S::Key) -> Option<u64>
         requires own { caller.old.seat.row ≡ self.now.row }
         requires free { caller.old.seat.view.holds ≡ nothing_held }
         ensures { TellsSearch ⟦<S as Shape>⟧ caller.old.seat caller.new.seat key.now result }
     {
         let backoff = Backoff::new();
         for _ in rt.forever() {
+            backoff.snooze();
             if let Ok(found) = self.try_search(caller, key) {
                 return found;
             }
-            backoff.snooze();
         }
         unreachable!()
     }

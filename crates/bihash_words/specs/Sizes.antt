@@ -1,5 +1,5 @@
 -- The sizes of a table and the hash of its keys, as one value that definitions take.
-use Rattle.std.specs.Prelude.{ℕ, ◌+◌, ◌^◌, ◌%◌, ◌<◌, ◌≤◌, List}
+use Rattle.std.specs.Prelude.{ℕ, ◌+◌, ◌/◌, ◌^◌, ◌%◌, ◌<◌, ◌≤◌, List}
 use Rattle.bihash_words.specs.declared.shape.Shape.{Ghosts}
 
 pub record Sizes : Type 0 where
@@ -26,6 +26,10 @@ sizes_of s = record {
 -- the bucket of a key: the lowest bits of its hash
 abbrev pub bucket_of : Sizes → List ℕ → ℕ
 bucket_of z key = z.hash key % 2 ^ z.log2_buckets
+
+-- the page that a hash names in a block of 2 ^ log2 pages: the bits behind those that name the bucket
+abbrev pub page_in : ℕ → ℕ → ℕ → ℕ
+page_in log2_buckets log2 hash = hash / 2 ^ log2_buckets % 2 ^ log2
 
 -- the sizes that a table may have
 pub record IsSound (z : Sizes) : Type 0 where

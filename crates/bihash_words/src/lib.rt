@@ -24,8 +24,8 @@ pub use maps::{
     each_call_has_one_answer, maps_stay_bounded, other_keys_stay, refusals_change_nothing,
     replies_tell_what_was_found, runs_join_and_part, taken_values_stand,
 };
-pub use patch::{Add, AddIfAbsent, Change, Delete, Patch, Reply, Touch};
-pub use shape::{Shape, is_same};
+pub use patch::{Add, AddIfAbsent, Change, Delete, FREE, Patch, Reply, Touch};
+pub use shape::{PAGE_PLACES, Shape, is_same};
 pub use tiny::Tiny;
 
 #[cfg(test)]

@@ -4,6 +4,9 @@ ghost use Rattle.bihash_words.specs.declared.patch.Change.{Change};
 ghost use Rattle.bihash_words.specs.declared.patch.Change.TheVariants.{Set, Remove};
 ghost use Rattle.bihash_words.specs.Patches.{IsStorable, free_mark, set_if_absent, set_if_present};
 
+/// The value of a free place, all ones. No decision sets it.
+pub const FREE: u64 = u64::MAX;
+
 /// What becomes of a key's value.
 #[derive(Clone, Copy, Debug, PartialEq, Eq)]
 pub enum Change {

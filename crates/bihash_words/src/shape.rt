@@ -1,6 +1,9 @@
 //! The shape of a table: how large it is, and what its keys are.
 ghost use Rattle.std.specs.Prelude.{◌≡◌, ◌↔◌, ◌<◌, ◌≤◌, ℕ, IsTrue, List, length, slice_index};
 
+/// How many places a page has.
+pub const PAGE_PLACES: usize = 4;
+
 /// How large a table is, and what its keys are. A key is seen as its words, which a table stores.
 ///
 /// Each constant has a ghost member of its name, so that contracts can speak of it.

@@ -1,5 +1,6 @@
 //! A search that takes no lock, made step by step while another caller gives the page away that it reads.
 use super::{Eight, add, remove, search, two_callers};
+use bihash_steps::Event;
 use bihash_table::stamp;
 use bihash_words::{Change, Reply};
 use std::test::Fail;
@@ -36,8 +37,13 @@ fn read_across_a_moved_page(rt: HostRuntime) -> Result<(), Fail> {
     if value != 9 {
         return Err("page 1 does not have the other pair")?;
     }
-    let found = Some(value);
-    assert!(rt; !row.validate(seat, 0, word, &key, found, Change::Keep, Reply::Kept(found)));
+    let event = Event {
+        key: &key,
+        found: Some(value),
+        change: Change::Keep,
+        reply: Reply::Kept(Some(value)),
+    };
+    assert!(rt; !row.validate(seat, 0, word, &event));
     assert_eq!(rt; seat.stamp(), None);
     assert_eq!(rt; search(&table, &mut second, &key)?, None);
     assert_eq!(rt; stamp(&second), Some((0, 2)));

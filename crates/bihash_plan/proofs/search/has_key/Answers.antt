@@ -1,11 +1,11 @@
 use Rattle.std.proofs.Common.{ap, sym, not, true, ◌==◌, ◌∙◌, ◌≡◌, ℕ}
 use Rattle.std.proofs.lemmas.Bool.{eq-eqb}
-use Rattle.bihash_plan.specs.Blocks.{free}
+use Rattle.bihash_words.specs.Patches.{free_mark}
 use Rattle.bihash_plan.proofs.Places.{has_key_read, pair_read}
 use Rattle.bihash_plan.proofs.search.has_key.Goals as goal
 
-not_both : (value : ℕ) → value ≡ free → not (value == free) ≡ true → ⊥
-not_both value is taken = let e = eq-eqb value free is in cc
+not_both : (value : ℕ) → value ≡ free_mark → not (value == free_mark) ≡ true → ⊥
+not_both value is taken = let e = eq-eqb value free_mark is in cc
 
 pub returns-then-value : goal.returns-then-value
 returns-then-value g c =

@@ -7,15 +7,17 @@ use Rattle.bihash_table.proofs.Opened.{open_word_is, not_taken}
 use Rattle.bihash_table.proofs.Sights.{locks_seen}
 use Rattle.bihash_table.proofs.lock.lock_seen.Goals as goal
 
-pub lock_from-requires-clause-inside : goal.lock_from-requires-clause-inside
-lock_from-requires-clause-inside g c = c.requires.seen.inside
+pub lock_from-requires-clause-at : goal.lock_from-requires-clause-at
+lock_from-requires-clause-at g c = record { own = c.requires.own; inside = c.requires.seen.inside }
 
-pub lock_from-requires-clause-free : goal.lock_from-requires-clause-free
-lock_from-requires-clause-free g c = ap (λ (h : Holdings). h.bucket) c.requires.seen.held
-
-pub lock_from-requires-clause-unlocked : goal.lock_from-requires-clause-unlocked
-lock_from-requires-clause-unlocked g c = let h = c.requires.seen in
-    (word_of h.extent false h.block.open_bucket.version, h.block.fits, h.block.stood, refl)
+pub lock_from-requires-clause-may : goal.lock_from-requires-clause-may
+lock_from-requires-clause-may g c = let h = c.requires.seen in record {
+  free = ap (λ (h : Holdings). h.bucket) h.held;
+  bucket = word_of h.extent false h.block.open_bucket.version;
+  fits = h.block.fits;
+  stood = h.block.stood;
+  unlocked = refl;
+}
 
 pub returns : goal.returns
 returns g c = let h = c.requires.seen in let told = c.lock_from.ensures in record {

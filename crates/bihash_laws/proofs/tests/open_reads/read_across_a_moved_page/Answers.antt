@@ -12,6 +12,7 @@ use Rattle.bihash_steps.specs.Callers.{known_at, opening_at}
 use Rattle.bihash_steps.specs.Blocks.{IsBlockOf, free, places}
 use Rattle.bihash_steps.specs.Buckets.{Reads, word_of}
 use Rattle.bihash_steps.specs.Seats.{CallerState}
+use Rattle.bihash_steps.specs.BucketCalls.{event}
 use Rattle.bihash_steps.specs.BucketSteps.{IsOpenWord, MayValidate, SeesOpen, call_of, map_now, open_on, read_more, reading}
 use Rattle.bihash_steps.specs.declared.view.Known.{Known}
 use Rattle.bihash_steps.specs.declared.view.View.{View}
@@ -80,7 +81,7 @@ module _ (z : Sizes) (v u : View) (b word : ℕ) (s : SeesOpen z v b word u) (fi
         ap Some here ∙ (sym (ok.mapped 0 (first_place, λ none. taken (here ∙ none))) ∙ ap (get m) stands)
 
     may_answer : (w : View) → IsKeyOf z b key → w.known ≡ u.known → Noted w reads
-        → MayValidate z w b word (call_of w b 0 key (Some value) Keep (Kept (Some value)))
+        → MayValidate z w b word (call_of w b 0 (event key (Some value) Keep (Kept (Some value))))
     may_answer w home same noted = record {
       open_bucket = record (open_on b (length s.history) s.extent s.block) { reads = reads };
       noted = noted;

@@ -2,7 +2,7 @@ use Rattle.std.proofs.Common.{rules}
 use Rattle.bihash_words.specs.Sizes.{sizes_of}
 use Rattle.bihash_steps.specs.BucketSteps.{MayAnswer}
 use Rattle.bihash_steps.proofs.Addresses.{answers_at}
-use Rattle.bihash_steps.proofs.NextWords.{counted_answer}
+use Rattle.bihash_steps.proofs.bucket_steps.NextWords.{counted_answer}
 use Rattle.bihash_steps.proofs.SeatCounts.{of_seat}
 use Rattle.bihash_steps.proofs.row.Row.cancel_as.Goals as goal
 

@@ -1,6 +1,6 @@
 use Rattle.std.proofs.Common.{rules}
 use Rattle.bihash_steps.proofs.CountWord.{some_words}
-use Rattle.bihash_steps.proofs.Counting.{loads_count}
+use Rattle.bihash_steps.proofs.caller_steps.LoadCount.{loads_count}
 use Rattle.bihash_steps.proofs.SeatCounts.{can_act}
 use Rattle.bihash_steps.proofs.row.Row.load_count.Goals as goal
 

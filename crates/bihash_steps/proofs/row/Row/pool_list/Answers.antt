@@ -3,7 +3,7 @@ use Rattle.bihash_words.specs.Sizes.{sizes_of}
 use Rattle.bihash_steps.specs.Seats.{CallerState}
 use Rattle.bihash_steps.specs.StoreSteps.{MayList, holding, listing}
 use Rattle.bihash_steps.proofs.SeatCounts.{can_act, counted_next, state_next, of_seat}
-use Rattle.bihash_steps.proofs.StoreLists.{lists_page}
+use Rattle.bihash_steps.proofs.pool_steps.PoolReturn.{lists_page}
 use Rattle.bihash_steps.proofs.row.Row.pool_list.Goals as goal
 
 pub store-requires : goal.store-requires

@@ -1,6 +1,6 @@
 use Rattle.std.proofs.Common.{rules, refl}
 use Rattle.bihash_steps.proofs.SeatCounts.{counted_next}
-use Rattle.bihash_steps.proofs.StoreLoads.{loads_pool}
+use Rattle.bihash_steps.proofs.pool_steps.PoolLoad.{loads_pool}
 use Rattle.bihash_steps.proofs.row.Row.pool_load.Goals as goal
 
 pub load-requires : goal.load-requires

@@ -1,7 +1,7 @@
 use Rattle.std.proofs.Common.{rules}
 use Rattle.bihash_steps.proofs.Bounds.{some_front}
 use Rattle.bihash_steps.proofs.SeatCounts.{can_act}
-use Rattle.bihash_steps.proofs.StoreLock.{locks_store}
+use Rattle.bihash_steps.proofs.pool_steps.PoolLock.{locks_store}
 use Rattle.bihash_steps.proofs.row.Row.pool_lock.Goals as goal
 
 pub compare_exchange-requires : goal.compare_exchange-requires

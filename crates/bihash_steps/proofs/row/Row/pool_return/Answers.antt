@@ -5,7 +5,7 @@ use Rattle.bihash_steps.specs.Words.{list_words}
 use Rattle.bihash_steps.specs.Seats.{CallerState}
 use Rattle.bihash_steps.specs.StoreSteps.{MayReturn, holding, relisted}
 use Rattle.bihash_steps.proofs.SeatCounts.{can_act, counted_next, state_next, of_seat}
-use Rattle.bihash_steps.proofs.StoreLists.{returns_block}
+use Rattle.bihash_steps.proofs.pool_steps.PoolReturn.{returns_block}
 use Rattle.bihash_steps.proofs.row.Row.pool_return.Goals as goal
 
 pub overflow_add-count : goal.overflow_add-count

@@ -2,7 +2,7 @@ use Rattle.std.proofs.Common.{rules}
 use Rattle.bihash_words.specs.Sizes.{sizes_of}
 use Rattle.bihash_steps.specs.StoreSteps.{MayTakeReturned}
 use Rattle.bihash_steps.proofs.SeatCounts.{can_act, counted_returned, of_seat}
-use Rattle.bihash_steps.proofs.StoreTakes.{takes_returned_block}
+use Rattle.bihash_steps.proofs.pool_steps.PoolTake.{takes_returned_block}
 use Rattle.bihash_steps.proofs.row.Row.pool_take_returned.Goals as goal
 
 pub store-requires : goal.store-requires

@@ -3,7 +3,7 @@ use Rattle.bihash_words.specs.Sizes.{sizes_of}
 use Rattle.bihash_steps.specs.StoreSteps.{MayTakeUnused}
 use Rattle.bihash_steps.proofs.Bounds.{some_front}
 use Rattle.bihash_steps.proofs.SeatCounts.{can_act, counted_unused, of_seat}
-use Rattle.bihash_steps.proofs.StoreTakes.{takes_unused_block}
+use Rattle.bihash_steps.proofs.pool_steps.PoolTake.{takes_unused_block}
 use Rattle.bihash_steps.proofs.row.Row.pool_take_unused.Goals as goal
 
 pub store-requires : goal.store-requires

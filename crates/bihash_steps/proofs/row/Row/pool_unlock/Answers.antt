@@ -2,7 +2,7 @@ use Rattle.std.proofs.Common.{rules, ◌∙◌, ap}
 use Rattle.bihash_steps.specs.Seats.{CallerState}
 use Rattle.bihash_steps.proofs.Bounds.{some_front}
 use Rattle.bihash_steps.proofs.SeatCounts.{can_act}
-use Rattle.bihash_steps.proofs.StoreLock.{opens_store}
+use Rattle.bihash_steps.proofs.pool_steps.PoolLock.{opens_store}
 use Rattle.bihash_steps.proofs.row.Row.pool_unlock.Goals as goal
 
 pub store-requires : goal.store-requires

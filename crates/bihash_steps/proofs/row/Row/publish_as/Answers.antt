@@ -2,7 +2,7 @@ use Rattle.std.proofs.Common.{rules, refl, arith, ◌∙◌}
 use Rattle.bihash_words.specs.Sizes.{sizes_of}
 use Rattle.bihash_steps.specs.BucketSteps.{MayPublish, written}
 use Rattle.bihash_steps.proofs.Addresses.{publishes_at}
-use Rattle.bihash_steps.proofs.NextWords.{next_is, version_rises, counted_write}
+use Rattle.bihash_steps.proofs.bucket_steps.NextWords.{next_is, version_rises, counted_write}
 use Rattle.bihash_steps.proofs.SeatCounts.{can_act, of_seat}
 use Rattle.bihash_steps.proofs.row.Row.publish_as.Goals as goal
 

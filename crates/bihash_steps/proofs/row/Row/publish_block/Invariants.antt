@@ -1,6 +1,5 @@
-use Rattle.bihash_steps.specs.BucketSteps.{call_of}
-use Rattle.bihash_words.specs.declared.patch.Reply.TheVariants.{Changed}
+use Rattle.bihash_steps.specs.BucketCalls.{write_at}
 use Rattle.bihash_steps.proofs.row.Row.publish_block.Given as goal
 
 abbrev pub ghosts-publish_block_as : goal.ghosts-publish_block_as
-ghosts-publish_block_as g a = record { call = call_of a.caller.now.view a.bucket 1 (g.S.Shape.words_of a.key.now) a.found a.change (Changed a.found) }
+ghosts-publish_block_as g a = record { call = write_at g.S.Shape a.caller.now.view a.bucket a._event.now }

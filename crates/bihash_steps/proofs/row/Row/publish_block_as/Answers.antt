@@ -4,7 +4,7 @@ use Rattle.bihash_words.specs.Sizes.{sizes_of}
 use Rattle.bihash_steps.specs.Buckets.{word_of}
 use Rattle.bihash_steps.specs.StoreSteps.{MayReplace, replaced}
 use Rattle.bihash_steps.proofs.Addresses.{replaces_at}
-use Rattle.bihash_steps.proofs.NextWords.{version_rises, counted_write}
+use Rattle.bihash_steps.proofs.bucket_steps.NextWords.{version_rises, counted_write}
 use Rattle.bihash_steps.proofs.SeatCounts.{can_act, of_seat}
 use Rattle.bihash_steps.proofs.row.Row.publish_block_as.Goals as goal
 

@@ -1,6 +1,7 @@
-use Rattle.std.proofs.Common.{rules, ap, sym, ◌∙◌, ◌≡◌, length}
+use Rattle.std.proofs.Common.{rules, ap, arith, sym, ◌∙◌, ◌≡◌, ◌+◌, ◌<◌, length, length-append}
 use Rattle.bihash_steps.specs.Seats.{CallerState}
-use Rattle.bihash_steps.proofs.Splits.{old_caller, new_caller, new_stamp}
+use Rattle.bihash_steps.specs.declared.view.View.{View}
+use Rattle.bihash_steps.proofs.caller_steps.Split.{old_caller, new_caller, new_stamp}
 use Rattle.bihash_steps.proofs.row.Row.split.Goals as goal
 
 pub returns-clause-split : goal.returns-clause-split
@@ -19,11 +20,18 @@ returns-clause-split g c =
       new_caller c.args.caller.seat _ _ _ _ load.view take.row.0 take.row.1 number all _ cut.right.1,
     )
 
-pub cut-seat-requires-clause-stamped : goal.cut-seat-requires-clause-stamped
-cut-seat-requires-clause-stamped g c =
+pub cut-seat-requires-clause-may : goal.cut-seat-requires-clause-may
+cut-seat-requires-clause-may g c =
     let load = c.load_count-count.ensures in
     let take = c.take_number.ensures in
     let number = take.taken c.if-not-take_number.false in
     let all : length c.args.caller.seat.view.records ≡ c.seat.inside.numbers
     = ap (λ (k : CallerState). length k.view.records) (sym (c.seat.view_is ∙ load.view)) ∙ c.seat.invariant.1.count in
-    sym (new_stamp c.args.caller.seat _ _ _ _ load.view take.row.0 take.row.1 number all)
+    let long = ap (λ (v : View). length v.records) number
+    ∙ (length-append _ _ ∙ (ap (λ (k : CallerState). length k.view.records + 1) load.view ∙ ap (λ n. n + 1) all)) in
+    let less : c.seat.inside.numbers < length c.take_number.new.caller.view.records = omega arith in record {
+      free = search rules;
+      some = search rules;
+      less = less;
+      stamped = sym (new_stamp c.args.caller.seat _ _ _ _ load.view take.row.0 take.row.1 number all);
+    }

@@ -1,6 +1,6 @@
 use Rattle.std.proofs.Common.{rules, arith}
 use Rattle.bihash_steps.proofs.CountWord.{some_words}
-use Rattle.bihash_steps.proofs.Counting.{takes_number}
+use Rattle.bihash_steps.proofs.caller_steps.LoadCount.{takes_number}
 use Rattle.bihash_steps.proofs.row.Row.take_number.Goals as goal
 
 pub compare_exchange-found-requires : goal.compare_exchange-found-requires

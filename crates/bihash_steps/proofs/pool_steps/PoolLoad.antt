@@ -14,10 +14,10 @@ use Rattle.bihash_steps.specs.declared.view.PageStore.{PageStore}
 use Rattle.bihash_steps.specs.declared.view.LockedStore.{LockedStore}
 use Rattle.bihash_steps.specs.declared.view.HeldBlock.{HeldBlock}
 use Rattle.bihash_steps.specs.declared.view.View.{View}
-use Rattle.bihash_steps.specs.declared.pool_word.PoolWord.{PoolWord}
-use Rattle.bihash_steps.specs.declared.pool_word.PoolWord.TheVariants.{Used, Count, Listed}
-use Rattle.bihash_steps.proofs.Room.{room_for}
-use Rattle.bihash_steps.proofs.StoreFrame.{held_store, same_rule}
+use Rattle.bihash_steps.specs.declared.pool.word.PoolWord.{PoolWord}
+use Rattle.bihash_steps.specs.declared.pool.word.PoolWord.TheVariants.{Used, Count, Listed}
+use Rattle.bihash_steps.proofs.pool_steps.Room.{room_for}
+use Rattle.bihash_steps.proofs.pool_steps.PoolFrame.{held_store, same_rule}
 
 module _ (z : Sizes) where
   module _ (s : State (Unit {0}) View) (r : WordRule z s) (id : ℕ) (v : View) (at : get_elem? s.views id ≡ some v) (n : LockedStore)

@@ -19,16 +19,16 @@ use Rattle.bihash_steps.specs.declared.view.LockedBucket.{LockedBucket}
 use Rattle.bihash_steps.specs.declared.view.View.{View}
 use Rattle.bihash_steps.proofs.KnownLists.{lawful_here, lawful_set}
 use Rattle.bihash_steps.proofs.CountWord.{stays_at, others_apart}
-use Rattle.bihash_steps.proofs.Counting.{unnoted_view}
+use Rattle.bihash_steps.proofs.caller_steps.LoadCount.{unnoted_view}
 use Rattle.bihash_steps.proofs.Frames.{free_none, free_own}
 use Rattle.bihash_steps.proofs.Runs.{beside_bucket, block_keeps, front_still, store_still, count_still, bucket_behind, bucket_inside}
 use Rattle.bihash_steps.proofs.Pushed.{counted_numbers, counted_whole, counted_number, counted_short, counted-length}
 use Rattle.bihash_steps.proofs.Whole.{whole_known}
 use Rattle.bihash_steps.proofs.Informed.{known_learned, learned_informed, counted_informed}
-use Rattle.bihash_steps.proofs.Relocks.{relocked_rule}
-use Rattle.bihash_steps.proofs.SeesBucket.{is_found}
-use Rattle.bihash_steps.proofs.WordFields.{unlocked_word}
-use Rattle.bihash_steps.proofs.Opens.{rests_on}
+use Rattle.bihash_steps.proofs.bucket_steps.Relocks.{relocked_rule}
+use Rattle.bihash_steps.proofs.bucket_steps.LoadBucket.{is_found}
+use Rattle.bihash_steps.proofs.bucket_steps.WordFields.{unlocked_word}
+use Rattle.bihash_steps.proofs.bucket_steps.OpenReads.{rests_on}
 
 module _ (z : Sizes) where
   -- the rule stands where a bucket that nobody has locked gets locked

@@ -24,11 +24,11 @@ use Rattle.bihash_steps.specs.declared.view.View.{View}
 use Rattle.bihash_steps.proofs.KnownLists.{lawful_here}
 use Rattle.bihash_steps.proofs.Lists.{there}
 use Rattle.bihash_steps.proofs.CountWord.{stays_at, others_apart}
-use Rattle.bihash_steps.proofs.Counting.{unnoted_view}
+use Rattle.bihash_steps.proofs.caller_steps.LoadCount.{unnoted_view}
 use Rattle.bihash_steps.proofs.Pushed.{push_numbers, push_whole, push_short, push-length, push_renumbers}
 use Rattle.bihash_steps.proofs.Whole.{prefix_whole}
 use Rattle.bihash_steps.proofs.Informed.{answered_informed, bears_own}
-use Rattle.bihash_steps.proofs.WordFields.{unlocked_word}
+use Rattle.bihash_steps.proofs.bucket_steps.WordFields.{unlocked_word}
 
 module _ (z : Sizes) (s : State (Unit {0}) View) (r : WordRule z s) where
   -- while the holder of its lock, if any, stored no word of a block, the block stands

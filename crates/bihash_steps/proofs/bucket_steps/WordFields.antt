@@ -8,7 +8,7 @@ use Rattle.bihash_steps.specs.Words.{buckets, bucket_at}
 use Rattle.bihash_steps.specs.Buckets.{word_of}
 use Rattle.bihash_steps.specs.WordRule.{WordRule}
 use Rattle.bihash_steps.specs.declared.view.View.{View}
-use Rattle.bihash_steps.proofs.SeesBucket.{bucket_fits}
+use Rattle.bihash_steps.proofs.bucket_steps.LoadBucket.{bucket_fits}
 
 few_bit : (mark : Bool) → bit mark ≤ 1
 few_bit true = omega arith

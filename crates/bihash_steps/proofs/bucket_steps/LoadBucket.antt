@@ -25,7 +25,7 @@ use Rattle.bihash_steps.specs.declared.view.View.{View}
 use Rattle.bihash_steps.proofs.KnownLists.{lawful_here}
 use Rattle.bihash_steps.proofs.Lists.{there}
 use Rattle.bihash_steps.proofs.CountWord.{stays_at, others_apart, not_lone}
-use Rattle.bihash_steps.proofs.Counting.{unnoted_view}
+use Rattle.bihash_steps.proofs.caller_steps.LoadCount.{unnoted_view}
 use Rattle.bihash_steps.proofs.Runs.{extent_near_end}
 use Rattle.bihash_steps.proofs.Whole.{whole_known}
 use Rattle.bihash_steps.proofs.Informed.{known_learned, known_else, learned_informed}

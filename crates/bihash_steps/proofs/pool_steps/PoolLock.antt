@@ -24,8 +24,8 @@ use Rattle.bihash_steps.proofs.Lists.{there}
 use Rattle.bihash_steps.proofs.CountWord.{front, not_lone}
 use Rattle.bihash_steps.proofs.Frames.{free_none, free_own}
 use Rattle.bihash_steps.proofs.Runs.{block_keeps, runs_still}
-use Rattle.bihash_steps.proofs.StoreWords.{list_still}
-use Rattle.bihash_steps.proofs.StoreFrame.{after_store, unnoted_rule, word_inside, held_store, store_moved}
+use Rattle.bihash_steps.proofs.pool_steps.PoolWords.{list_still}
+use Rattle.bihash_steps.proofs.pool_steps.PoolFrame.{after_store, unnoted_rule, word_inside, held_store, store_moved}
 
 free_lock : (lock : Option ℕ) → bit (is_some lock) ≡ 0 → lock ≡ None
 free_lock None e = refl

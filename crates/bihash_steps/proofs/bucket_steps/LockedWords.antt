@@ -22,7 +22,7 @@ use Rattle.bihash_steps.specs.declared.view.View.{View}
 use Rattle.bihash_steps.proofs.CountWord.{stays_at, others_apart}
 use Rattle.bihash_steps.proofs.Frames.{Beside, free_own, stands_beside}
 use Rattle.bihash_steps.proofs.Runs.{beside_block, stored_stands, store_still, count_still, bucket_behind, page_behind, word_of_block}
-use Rattle.bihash_steps.proofs.Relocks.{relocked_rule}
+use Rattle.bihash_steps.proofs.bucket_steps.Relocks.{relocked_rule}
 
 module _ (z : Sizes) (s : State (Unit {0}) View) (r : WordRule z s) (id : ℕ) (v : View) (l : LockedBucket) (at : get_elem? s.views id ≡ some v)
     (is : v.holds.bucket ≡ Some l) where

@@ -21,9 +21,9 @@ use Rattle.bihash_steps.specs.declared.view.LockedStore.{LockedStore}
 use Rattle.bihash_steps.specs.declared.view.HeldBlock.{HeldBlock}
 use Rattle.bihash_steps.specs.declared.view.View.{View}
 use Rattle.bihash_steps.proofs.CountWord.{others_apart, stays_at}
-use Rattle.bihash_steps.proofs.Counting.{unnoted_view}
+use Rattle.bihash_steps.proofs.caller_steps.LoadCount.{unnoted_view}
 use Rattle.bihash_steps.proofs.Frames.{Free, free_none, free_own, grows_not, keeps_refl, moved}
-use Rattle.bihash_steps.proofs.Relocks.{same_informed}
+use Rattle.bihash_steps.proofs.bucket_steps.Relocks.{same_informed}
 use Rattle.bihash_steps.proofs.Runs.{beside_store, front_still, count_still}
 
 -- seat id has stored this word at i, and has the view w

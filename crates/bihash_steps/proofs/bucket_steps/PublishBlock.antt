@@ -31,7 +31,7 @@ use Rattle.bihash_steps.proofs.Runs.{front_still, store_still}
 use Rattle.bihash_steps.proofs.Exchange.{passes}
 use Rattle.bihash_steps.proofs.Put.{put, put_here, put_else}
 use Rattle.bihash_steps.proofs.Pushed.{push-length}
-use Rattle.bihash_steps.proofs.Publish.{state_after, no_shorter, held_bucket, bucket_in, Settles, writes_word}
+use Rattle.bihash_steps.proofs.bucket_steps.Publish.{state_after, no_shorter, held_bucket, bucket_in, Settles, writes_word}
 
 -- ---- One write more
 

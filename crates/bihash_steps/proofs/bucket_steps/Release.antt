@@ -24,8 +24,8 @@ use Rattle.bihash_steps.proofs.Frames.{free_none, free_own}
 use Rattle.bihash_steps.proofs.Runs.{beside_bucket, block_keeps, front_still, store_still, count_still, bucket_behind, bucket_inside}
 use Rattle.bihash_steps.proofs.Pushed.{push_numbers, push_whole, push_number, push_short, push-length}
 use Rattle.bihash_steps.proofs.Informed.{answered_informed, bears_own}
-use Rattle.bihash_steps.proofs.Relocks.{relocking, relocked_rule}
-use Rattle.bihash_steps.proofs.LockedWords.{held_bucket, holder_acts, one_lock}
+use Rattle.bihash_steps.proofs.bucket_steps.Relocks.{relocking, relocked_rule}
+use Rattle.bihash_steps.proofs.bucket_steps.LockedWords.{held_bucket, holder_acts, one_lock}
 
 module _ (z : Sizes) where
   -- the records that the seat has behind the step

@@ -33,7 +33,7 @@ use Rattle.bihash_steps.proofs.Frames.{Keeps, Undisturbed, store_keeps, store_lo
 use Rattle.bihash_steps.proofs.Runs.{beside_bucket, block_keeps, front_still, store_still, count_still, bucket_behind, bucket_inside, runs_still}
 use Rattle.bihash_steps.proofs.Put.{put, put_here, put_else}
 use Rattle.bihash_steps.proofs.Pushed.{push-length, push_numbers, push_whole, push_number, push_short, acting_is}
-use Rattle.bihash_steps.proofs.Written.{after_last, list_more, bearers_more, written_informed}
+use Rattle.bihash_steps.proofs.bucket_steps.Written.{after_last, list_more, bearers_more, written_informed}
 
 -- the bucket behind a write that gives it this block
 abbrev pub state_after : BucketState → Write → Extent → List ℕ → BucketState

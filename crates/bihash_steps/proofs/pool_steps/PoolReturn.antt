@@ -20,8 +20,8 @@ use Rattle.bihash_steps.proofs.CountWord.{front}
 use Rattle.bihash_steps.proofs.Frames.{list_inside}
 use Rattle.bihash_steps.proofs.Runs.{block_keeps, runs_still}
 use Rattle.bihash_steps.proofs.Exchange.{parted_relisted}
-use Rattle.bihash_steps.proofs.StoreWords.{list_behind, list_still, same_list}
-use Rattle.bihash_steps.proofs.StoreFrame.{after_store, word_inside, held_store, known_store, known_runs, held_moved}
+use Rattle.bihash_steps.proofs.pool_steps.PoolWords.{list_behind, list_still, same_list}
+use Rattle.bihash_steps.proofs.pool_steps.PoolFrame.{after_store, word_inside, held_store, known_store, known_runs, held_moved}
 
 first_at : (xs : List ℕ) (page k : ℕ) → k < length xs → slice_index (xs ++ page ∷ []) k ≡ slice_index xs k
 first_at [] page k h = absurd (omega arith)

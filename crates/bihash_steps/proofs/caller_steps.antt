@@ -1,0 +1,4 @@
+-- The steps on callers and their numbers.
+pub mod LoadCount
+pub mod CutAndJoin
+pub mod Split

@@ -1,0 +1,68 @@
+-- What the steps on a bucket leave of their caller: s is the caller before the step, t behind it.
+use Rattle.std.specs.Prelude.{◌≡◌, ◌⊎◌, ℕ, true, false, Bool, List, Option, Some, None}
+use Rattle.bihash_words.specs.Maps
+use Rattle.bihash_words.specs.Sizes.{Sizes}
+use Rattle.bihash_words.specs.Words.{Bucket, Fits, packed}
+use Rattle.bihash_words.specs.declared.patch.Change.{Change}
+use Rattle.bihash_words.specs.declared.patch.Reply.{Reply}
+use Rattle.bihash_words.specs.declared.shape.Shape.{Ghosts}
+use Rattle.bihash_steps.specs.Callers.{IsLawfulCaller, known_at}
+use Rattle.bihash_steps.specs.Buckets.{open_word}
+use Rattle.bihash_steps.specs.BucketSteps.{RestsOn, SeesLocked, SeesOpen, TakesLock, call_of, unnoted, validated}
+use Rattle.bihash_steps.specs.Seats.{CallerState, IsSameSeat, with_view}
+use Rattle.bihash_steps.specs.declared.event.Event.{Event}
+use Rattle.bihash_steps.specs.declared.view.Call.{Call}
+use Rattle.bihash_steps.specs.declared.view.LockedBucket.{LockedBucket}
+use Rattle.bihash_steps.specs.declared.view.OpenBucket.{OpenBucket}
+use Rattle.bihash_steps.specs.declared.view.View.{View}
+
+-- what was found at a key, what was decided on it, and the reply
+abbrev pub event : List ℕ → Option ℕ → Change → Reply → Maps.Event
+event key found change reply = record { key = key; found = found; change = change; reply = reply }
+
+-- the event, with the words of its key
+abbrev pub in_words : {A K : Type 0} (g : Ghosts A K) → Event A K → Maps.Event
+in_words g e = event (g.words_of e.key.now) e.found e.change e.reply
+
+-- the entry of a call on bucket b that is no write, and that of a write
+abbrev pub answer_at : {A K : Type 0} (g : Ghosts A K) → View → ℕ → Event A K → Call
+answer_at g v b e = call_of v b 0 (in_words g e)
+
+abbrev pub write_at : {A K : Type 0} (g : Ghosts A K) → View → ℕ → Event A K → Call
+write_at g v b e = call_of v b 1 (in_words g e)
+
+-- A bucket's word was loaded. A lone caller that holds no lock finds it unlocked, and knew the history before.
+pub record FindsBucket (z : Sizes) (s t : CallerState) (b word : ℕ) : Type 0 where
+  pub same : IsSameSeat s t
+  pub seen : SeesOpen z s.view b word t.view ⊎ SeesLocked s.view word t.view
+  pub lone : s.view.lone ≡ true → s.view.holds.bucket ≡ None → SeesOpen z s.view b word t.view
+  pub whole : s.view.lone ≡ true → known_at t.view.known b ≡ known_at s.view.known b
+  pub lawful : IsLawfulCaller z t.view
+
+-- a caller that has no lock may take that of a bucket with this unlocked word
+pub record MayLock (v : View) (word : ℕ) : Type 0 where
+  pub free : v.holds.bucket ≡ None
+  pub bucket : Bucket
+  pub fits : Fits bucket
+  pub stood : word ≡ packed bucket
+  pub unlocked : bucket.locked ≡ false
+
+-- The lock of bucket b was taken from this word, or not. A lone caller that has just loaded the word takes it,
+-- and what was read since the word was loaded holds under the lock.
+pub record TriesLock (z : Sizes) (s t : CallerState) (b word : ℕ) (locked : Bool) : Type 0 where
+  pub same : IsSameSeat s t
+  pub taken : locked ≡ true → TakesLock z s.view b word t.view
+  pub not : locked ≡ false → t.view ≡ unnoted s.view
+  pub lone : s.view.lone ≡ true → (o : OpenBucket) → s.view.notes.open_bucket ≡ Some o → o.bucket ≡ b
+      → word ≡ open_word o → locked ≡ true
+  pub rests : locked ≡ true → (o : OpenBucket) → s.view.notes.open_bucket ≡ Some o → o.bucket ≡ b
+      → word ≡ open_word o → (l : LockedBucket) → t.view.holds.bucket ≡ Some l → RestsOn o l
+  pub whole : s.view.lone ≡ true → locked ≡ true → known_at t.view.known b ≡ known_at s.view.known b
+  pub lawful : IsLawfulCaller z t.view
+
+-- the call was answered where the bucket had the word that was noted; a lone caller finds it
+pub record IsValidated (z : Sizes) (s t : CallerState) (c : Call) (here : Bool) : Type 0 where
+  pub valid : here ≡ true → t ≡ with_view s (validated s.view c)
+  pub not : here ≡ false → t ≡ with_view s (unnoted s.view)
+  pub lone : s.view.lone ≡ true → here ≡ true
+  pub lawful : IsLawfulCaller z t.view
