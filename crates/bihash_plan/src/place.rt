@@ -4,6 +4,7 @@ ghost use Rattle.std.specs.Prelude.{◌≡◌, ◌≤◌, ◌<◌, ◌+◌, ◌^
 ghost use Rattle.bihash_words.specs.Sizes.{IsSound, sizes_of};
 ghost use Rattle.bihash_plan.specs.Blocks.{IsOpen, IsSized};
 ghost use Rattle.bihash_plan.specs.Pages.{MayHavePages, page_of, paging_of};
+ghost use Rattle.bihash_plan.specs.Searches.{MayHavePlaces};
 
 use bihash_words::{PAGE_PLACES, Shape};
 
@@ -31,8 +32,7 @@ pub(crate) fn open_places<S: Shape>(
     linear: bool,
     key: &S::Key,
 ) -> (usize, usize)
-    requires pages { MayHavePages ⟦<S as Shape>⟧ log2 }
-    requires sized { IsSized log2 count }
+    requires { MayHavePlaces ⟦<S as Shape>⟧ log2 count }
     ensures order { result.0 ≤ result.1 }
     ensures within { result.1 ≤ count }
     ensures exact { (i : ℕ) → i < count
