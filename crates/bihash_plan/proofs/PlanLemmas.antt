@@ -9,6 +9,7 @@ use Rattle.bihash_plan.specs.declared.outcome.Plan.{Plan}
 use Rattle.bihash_plan.specs.declared.outcome.Plan.TheVariants.{InPlace, Grow, Full}
 use Rattle.bihash_plan.specs.Blocks.{IsCrowded, IsFirstFree, IsFree, IsLawfulBlock, IsNew, is_taken, pairs}
 use Rattle.bihash_plan.specs.Pages.{Paging, page_of}
+use Rattle.bihash_plan.specs.Searches.{IsOnlyPlan}
 use Rattle.bihash_plan.specs.Plans.{CanBecomeLinear, HasRoom, IsExhausted, IsGrowth, IsLinearSize, IsPlan, IsSplit, NeedsLinear, keys_of}
 use Rattle.bihash_plan.proofs.Counts.{count_by-all, count_by-missing}
 use Rattle.bihash_plan.proofs.Pairs.{is_taken-free, is_taken-pair}
@@ -128,7 +129,7 @@ grows_or_not paging log2 linear (place ∷ places) key size true (needs, inl e) 
 grows_or_not paging log2 linear (place ∷ places) key size true (needs, inr e) b = b.1 e.1
 
 -- a key has one plan
-pub plan_only : {K : Type 0} (paging : Paging K) (log2 : ℕ) (linear : Bool) (places : List (K × ℕ))
+plan_only : {K : Type 0} (paging : Paging K) (log2 : ℕ) (linear : Bool) (places : List (K × ℕ))
     (key : K) (a b : Plan)
     → IsLawfulBlock paging log2 linear places → IsPlan paging log2 linear places key a
     → IsPlan paging log2 linear places key b → a ≡ b
@@ -264,7 +265,7 @@ filled_plan paging log2 linear places key (Grow size mark) full new p = absurd
 filled_plan paging log2 linear places key Full full new p = refl
 
 -- a new key is refused exactly where the bucket holds as many pairs as the largest block
-pub full_exactly : {K : Type 0} (paging : Paging K) (log2 : ℕ) (linear : Bool) (places : List (K × ℕ))
+full_exactly : {K : Type 0} (paging : Paging K) (log2 : ℕ) (linear : Bool) (places : List (K × ℕ))
     (key : K) (plan : Plan)
     → IsLawfulBlock paging log2 linear places → IsPlan paging log2 linear places key plan → IsNew places key
     → (plan ≡ Full) ↔ (length (pairs places) ≡ 4 * 2 ^ paging.max_log2)
@@ -274,3 +275,14 @@ full_exactly paging log2 linear places key plan lawful is new = (
   λ count. filled_plan paging log2 linear places key plan
       (filled paging log2 linear places lawful count) new is,
 )
+
+-- a plan of a lawful block is the only one, and refuses where it is to
+pub only_plan : {K : Type 0} (paging : Paging K) (log2 : ℕ) (linear : Bool) (places : List (K × ℕ))
+    (key : K) (plan : Plan)
+    → IsLawfulBlock paging log2 linear places → IsPlan paging log2 linear places key plan
+    → IsOnlyPlan paging log2 linear places key plan
+only_plan paging log2 linear places key plan lawful is = record {
+  exact = is;
+  only = λ other other_is. plan_only paging log2 linear places key other plan lawful other_is is;
+  full = full_exactly paging log2 linear places key plan lawful is;
+}

@@ -2,4 +2,5 @@ pub mod Blocks
 pub mod Layouts
 pub mod Pages
 pub mod Plans
+pub mod Searches
 pub mod Tallies

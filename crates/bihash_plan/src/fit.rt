@@ -3,7 +3,7 @@
 ghost use Rattle.std.specs.Prelude.{◌≡◌, ◌≤◌, ◌<◌, ◌+◌, ◌^◌, ◌↔◌, [], ◌∷◌, ◌++◌, ℕ, List, IsTrue, length};
 ghost use Rattle.std.specs.Bool.{OnTrue, OnFalse};
 ghost use Rattle.bihash_words.specs.Sizes.{IsSound, sizes_of};
-ghost use Rattle.bihash_plan.specs.Pages.{page_of, paging_of};
+ghost use Rattle.bihash_plan.specs.Pages.{MayHavePages, page_of, paging_of};
 ghost use Rattle.bihash_plan.specs.Plans.{Fits, keys_of};
 ghost use Rattle.bihash_plan.specs.Tallies.{FitsWindow, IsTally};
 
@@ -16,8 +16,7 @@ const WINDOW: usize = 64;
 /// Whether no page of a block of `2^log2` pages is named by more than four of the pairs and the
 /// new key.
 pub(crate) fn fits<S: Shape>(places: &[(S::Key, u64)], key: &S::Key, log2: u64) -> bool
-    requires shape { IsSound (sizes_of ⟦<S as Shape>⟧) }
-    requires small { log2 ≤ S.MAX_LOG2 }
+    requires pages { MayHavePages ⟦<S as Shape>⟧ log2 }
     requires short { length places.now < 2 ^ 62 }
     ensures { IsTrue result ↔ Fits (paging_of ⟦<S as Shape>⟧) log2 (key.now ∷ keys_of places.now) }
 {
@@ -31,8 +30,7 @@ pub(crate) fn fits<S: Shape>(places: &[(S::Key, u64)], key: &S::Key, log2: u64) 
 
 /// Whether none of the pages of a window, from `first` on, is named by more than four of them.
 fn fits_window<S: Shape>(places: &[(S::Key, u64)], key: &S::Key, log2: u64, first: usize) -> bool
-    requires shape { IsSound (sizes_of ⟦<S as Shape>⟧) }
-    requires small { log2 ≤ S.MAX_LOG2 }
+    requires pages { MayHavePages ⟦<S as Shape>⟧ log2 }
     requires short { length places.now < 2 ^ 62 }
     ensures { IsTrue result ↔ FitsWindow (paging_of ⟦<S as Shape>⟧) log2 first (key.now ∷ keys_of places.now) }
 {
@@ -52,8 +50,7 @@ fn fits_window<S: Shape>(places: &[(S::Key, u64)], key: &S::Key, log2: u64, firs
 /// Counts one more key at its page, where that is a page of the window. False where four keys have
 /// named that page already.
 fn count<S: Shape>(counts: &mut [u8], first: usize, log2: u64, key: &S::Key) -> bool
-    requires shape { IsSound (sizes_of ⟦<S as Shape>⟧) }
-    requires small { log2 ≤ S.MAX_LOG2 }
+    requires pages { MayHavePages ⟦<S as Shape>⟧ log2 }
     requires long { length counts.old ≡ 64 }
     ensures counted { (keys : List S.Key) → IsTally (paging_of ⟦<S as Shape>⟧) log2 first keys counts.old
         → OnTrue result (IsTally (paging_of ⟦<S as Shape>⟧) log2 first (keys ++ key.now ∷ []) counts.new) }

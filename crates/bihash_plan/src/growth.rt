@@ -4,8 +4,9 @@ ghost use Rattle.std.specs.Prelude.{◌≡◌, ◌≤◌, ◌<◌, ◌+◌, ◌*
 ghost use Rattle.std.specs.Bool.{OnTrue, OnFalse};
 ghost use Rattle.bihash_words.specs.Sizes.{IsSound, sizes_of};
 ghost use Rattle.bihash_plan.specs.Blocks.{HasKey, IsCrowded, IsFree, IsLawfulBlock, IsNew, IsSized, NamesPage, pairs};
-ghost use Rattle.bihash_plan.specs.Pages.{page_of, paging_of};
+ghost use Rattle.bihash_plan.specs.Pages.{MayHavePages, page_of, paging_of};
 ghost use Rattle.bihash_plan.specs.Plans.{HasRoom, IsPlan, IsSafe, keys_of};
+ghost use Rattle.bihash_plan.specs.Searches.{IsOnlyPlan, IsPlace, IsRange, MayHavePlaces};
 
 use crate::fit::fits;
 use crate::outcome::Plan;
@@ -21,19 +22,12 @@ use bihash_words::Shape;
 /// In a block that isn't linear the four places of one page decide. All places are looked at only
 /// where that page is full and the block has the greatest size.
 pub fn plan<S: Shape>(places: &[(S::Key, u64)], log2: u64, linear: bool, key: &S::Key) -> Plan
-    requires shape { IsSound (sizes_of ⟦<S as Shape>⟧) }
-    requires small { log2 ≤ S.MAX_LOG2 }
-    requires sized { IsSized log2 (length places.now) }
+    requires { MayHavePlaces ⟦<S as Shape>⟧ log2 (length places.now) }
 
     ensures safe { IsSafe (paging_of ⟦<S as Shape>⟧) places.now key.now result }
     ensures without_block { length places.now ≡ 0 → result ≡ Plan.Grow 0 false }
-    ensures exact { IsLawfulBlock (paging_of ⟦<S as Shape>⟧) log2 linear places.now
-        → IsPlan (paging_of ⟦<S as Shape>⟧) log2 linear places.now key.now result }
-    ensures only { IsLawfulBlock (paging_of ⟦<S as Shape>⟧) log2 linear places.now
-        → (other : Plan) → IsPlan (paging_of ⟦<S as Shape>⟧) log2 linear places.now key.now other → other ≡ result }
-    // A new key is refused exactly where the bucket holds as many pairs as the largest block.
-    ensures full { IsLawfulBlock (paging_of ⟦<S as Shape>⟧) log2 linear places.now → IsNew places.now key.now
-        → ((result ≡ Plan.Full) ↔ (length (pairs places.now) ≡ 4 * 2 ^ S.MAX_LOG2)) }
+    ensures lawful { IsLawfulBlock (paging_of ⟦<S as Shape>⟧) log2 linear places.now
+        → IsOnlyPlan (paging_of ⟦<S as Shape>⟧) log2 linear places.now key.now result }
 {
     let (from, to) = open_places::<S>(places.len(), log2, linear, key);
     if let Some(i) = place_of_key::<S>(places, from, to, key) {
@@ -48,9 +42,7 @@ pub fn plan<S: Shape>(places: &[(S::Key, u64)], log2: u64, linear: bool, key: &S
 /// The plan of a new key to which no free place is open: `plan` where the caller has looked for the key and
 /// for a free place already.
 pub fn larger<S: Shape>(places: &[(S::Key, u64)], log2: u64, linear: bool, key: &S::Key) -> Plan
-    requires shape { IsSound (sizes_of ⟦<S as Shape>⟧) }
-    requires small { log2 ≤ S.MAX_LOG2 }
-    requires sized { IsSized log2 (length places.now) }
+    requires { MayHavePlaces ⟦<S as Shape>⟧ log2 (length places.now) }
 
     ensures safe { IsSafe (paging_of ⟦<S as Shape>⟧) places.now key.now result }
     ensures without_block { length places.now ≡ 0 → result ≡ Plan.Grow 0 false }
@@ -110,9 +102,7 @@ fn has_room<S: Shape>(
     key: &S::Key,
     size: u64,
 ) -> bool
-    requires shape { IsSound (sizes_of ⟦<S as Shape>⟧) }
-    requires small { log2 ≤ S.MAX_LOG2 }
-    requires sized { IsSized log2 (length places.now) }
+    requires { MayHavePlaces ⟦<S as Shape>⟧ log2 (length places.now) }
     ensures within { IsTrue result → size ≤ S.MAX_LOG2 }
     ensures exact { IsLawfulBlock (paging_of ⟦<S as Shape>⟧) log2 linear places.now
         → IsCrowded linear (page_of (paging_of ⟦<S as Shape>⟧) log2 key.now) places.now
@@ -138,10 +128,8 @@ fn has_other_page<S: Shape>(
     key: &S::Key,
     log2: u64,
 ) -> bool
-    requires shape { IsSound (sizes_of ⟦<S as Shape>⟧) }
-    requires small { log2 ≤ S.MAX_LOG2 }
-    requires short { length places.now < 2 ^ 62 }
-    requires within { to ≤ length places.now }
+    requires pages { MayHavePages ⟦<S as Shape>⟧ log2 }
+    requires range { IsRange places.now to }
     ensures other { let own = page_of (paging_of ⟦<S as Shape>⟧) log2 key.now in
         OnTrue result ((i : ℕ) × (from ≤ i) × (i < to) × (NamesPage (paging_of ⟦<S as Shape>⟧) log2 own places.now i → ⊥)) }
     ensures same { let own = page_of (paging_of ⟦<S as Shape>⟧) log2 key.now in
@@ -158,10 +146,8 @@ fn has_other_page<S: Shape>(
 
 /// Whether the key that the place shows names the page.
 fn names_page<S: Shape>(places: &[(S::Key, u64)], i: usize, log2: u64, own: usize) -> bool
-    requires shape { IsSound (sizes_of ⟦<S as Shape>⟧) }
-    requires small { log2 ≤ S.MAX_LOG2 }
-    requires short { length places.now < 2 ^ 62 }
-    requires inside { i < length places.now }
+    requires pages { MayHavePages ⟦<S as Shape>⟧ log2 }
+    requires place { IsPlace places.now i }
     ensures { IsTrue result ↔ NamesPage (paging_of ⟦<S as Shape>⟧) log2 own places.now i }
 {
     page::<S>(&places[i].0, log2) == own

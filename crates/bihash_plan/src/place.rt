@@ -3,14 +3,14 @@
 ghost use Rattle.std.specs.Prelude.{◌≡◌, ◌≤◌, ◌<◌, ◌+◌, ◌^◌, ◌↔◌, ℕ};
 ghost use Rattle.bihash_words.specs.Sizes.{IsSound, sizes_of};
 ghost use Rattle.bihash_plan.specs.Blocks.{IsOpen, IsSized};
-ghost use Rattle.bihash_plan.specs.Pages.{page_of, paging_of};
+ghost use Rattle.bihash_plan.specs.Pages.{MayHavePages, page_of, paging_of};
+ghost use Rattle.bihash_plan.specs.Searches.{MayHavePlaces};
 
 use bihash_words::{PAGE_PLACES, Shape};
 
 /// The page that the key's hash names in a block of `2^log2` pages.
 pub(crate) fn page<S: Shape>(key: &S::Key, log2: u64) -> usize
-    requires shape { IsSound (sizes_of ⟦<S as Shape>⟧) }
-    requires small { log2 ≤ S.MAX_LOG2 }
+    requires pages { MayHavePages ⟦<S as Shape>⟧ log2 }
     ensures { result ≡ page_of (paging_of ⟦<S as Shape>⟧) log2 key.now }
 {
     let hash = S::hash(key);
@@ -32,9 +32,7 @@ pub(crate) fn open_places<S: Shape>(
     linear: bool,
     key: &S::Key,
 ) -> (usize, usize)
-    requires shape { IsSound (sizes_of ⟦<S as Shape>⟧) }
-    requires small { log2 ≤ S.MAX_LOG2 }
-    requires sized { IsSized log2 count }
+    requires { MayHavePlaces ⟦<S as Shape>⟧ log2 count }
     ensures order { result.0 ≤ result.1 }
     ensures within { result.1 ≤ count }
     ensures exact { (i : ℕ) → i < count

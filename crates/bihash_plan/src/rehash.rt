@@ -5,7 +5,8 @@ ghost use Rattle.bihash_words.specs.Sizes.{IsSound, sizes_of};
 ghost use Rattle.bihash_words.specs.Patches.{free_mark};
 ghost use Rattle.bihash_plan.specs.Blocks.{IsCrowded, IsFirstFree, IsLawfulBlock};
 ghost use Rattle.bihash_plan.specs.Layouts.{IsNamed, IsRehash, IsTakenBefore};
-ghost use Rattle.bihash_plan.specs.Pages.{page_of, paging_of};
+ghost use Rattle.bihash_plan.specs.Pages.{MayHavePages, page_of, paging_of};
+ghost use Rattle.bihash_plan.specs.Searches.{HasPlaces};
 
 use crate::place::open_places;
 use crate::search::free_place;
@@ -22,9 +23,7 @@ pub fn lay<S: Shape>(
     linear: bool,
     out: &mut [(S::Key, u64)],
 )
-    requires shape { IsSound (sizes_of ⟦<S as Shape>⟧) }
-    requires small { log2 ≤ S.MAX_LOG2 }
-    requires sized { length out.old ≡ 4 * 2 ^ log2 }
+    requires { HasPlaces ⟦<S as Shape>⟧ log2 (length out.old) }
     ensures { IsNamed (paging_of ⟦<S as Shape>⟧) places.now key.now log2 linear → value ≢ free_mark
         → IsRehash (paging_of ⟦<S as Shape>⟧) log2 linear places.now key.now value out.new }
 {
@@ -57,9 +56,7 @@ fn put<S: Shape>(
     next: usize,
     out: &mut [(S::Key, u64)],
 ) -> usize
-    requires shape { IsSound (sizes_of ⟦<S as Shape>⟧) }
-    requires small { log2 ≤ S.MAX_LOG2 }
-    requires sized { length out.old ≡ 4 * 2 ^ log2 }
+    requires places { HasPlaces ⟦<S as Shape>⟧ log2 (length out.old) }
     requires within { next ≤ length out.old }
     ensures within { result ≤ length out.new }
     ensures placed { pair.1 ≢ free_mark → IsTakenBefore linear next out.old
@@ -84,9 +81,7 @@ fn first_free<S: Shape>(
     next: usize,
     key: &S::Key,
 ) -> Option<usize>
-    requires shape { IsSound (sizes_of ⟦<S as Shape>⟧) }
-    requires small { log2 ≤ S.MAX_LOG2 }
-    requires sized { length places.now ≡ 4 * 2 ^ log2 }
+    requires places { HasPlaces ⟦<S as Shape>⟧ log2 (length places.now) }
     requires within { next ≤ length places.now }
     ensures within { IfSome result (λ i. i < length places.now) }
     ensures found { IsTakenBefore linear next places.now

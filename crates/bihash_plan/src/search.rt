@@ -4,6 +4,7 @@ ghost use Rattle.std.specs.Prelude.{◌≡◌, ◌≤◌, ◌<◌, ◌^◌, ◌�
 ghost use Rattle.bihash_words.specs.Sizes.{IsSound, sizes_of};
 ghost use Rattle.bihash_plan.specs.Blocks.{HasKey, IsFree, IsLawfulBlock, IsNew, IsOpen, IsSized};
 ghost use Rattle.bihash_plan.specs.Pages.{page_of, paging_of};
+ghost use Rattle.bihash_plan.specs.Searches.{IsPlace, IsPlaceOfKey, IsRange, MayHavePlaces};
 
 use crate::place::open_places;
 use bihash_words::{FREE, Shape, is_same};
@@ -17,18 +18,14 @@ pub fn find<S: Shape>(
     linear: bool,
     key: &S::Key,
 ) -> Option<usize>
-    requires shape { IsSound (sizes_of ⟦<S as Shape>⟧) }
-    requires small { log2 ≤ S.MAX_LOG2 }
-    requires sized { IsSized log2 (length places.now) }
+    requires { MayHavePlaces ⟦<S as Shape>⟧ log2 (length places.now) }
 
     ensures found { IfSome result (HasKey places.now key.now) }
     ensures open_only { IfNone result ((i : ℕ) → IsOpen linear (page_of (paging_of ⟦<S as Shape>⟧) log2 key.now) i
         → HasKey places.now key.now i → ⊥) }
     // On a lawful block the answer is the key's place, and None exactly where no pair has the key.
-    ensures place { IsLawfulBlock (paging_of ⟦<S as Shape>⟧) log2 linear places.now
-        → (i : ℕ) → HasKey places.now key.now i → result ≡ Some i }
-    ensures none { IsLawfulBlock (paging_of ⟦<S as Shape>⟧) log2 linear places.now
-        → ((result ≡ None) ↔ IsNew places.now key.now) }
+    ensures lawful { IsLawfulBlock (paging_of ⟦<S as Shape>⟧) log2 linear places.now
+        → IsPlaceOfKey places.now key.now result }
 {
     let (from, to) = open_places::<S>(places.len(), log2, linear, key);
     place_of_key::<S>(places, from, to, key)
@@ -42,8 +39,7 @@ pub(crate) fn place_of_key<S: Shape>(
     key: &S::Key,
 ) -> Option<usize>
     requires shape { IsSound (sizes_of ⟦<S as Shape>⟧) }
-    requires short { length places.now < 2 ^ 62 }
-    requires within { to ≤ length places.now }
+    requires range { IsRange places.now to }
     ensures found { IfSome result (HasKey places.now key.now) }
     ensures none { IfNone result ((i : ℕ) → from ≤ i → i < to → HasKey places.now key.now i → ⊥) }
 {
@@ -57,8 +53,7 @@ pub(crate) fn place_of_key<S: Shape>(
 
 /// The first free place, among those from one place to before another.
 pub(crate) fn free_place<K: Copy>(places: &[(K, u64)], from: usize, to: usize) -> Option<usize>
-    requires short { length places.now < 2 ^ 62 }
-    requires within { to ≤ length places.now }
+    requires range { IsRange places.now to }
     ensures found { IfSome result (λ i. (from ≤ i) × (i < to) × IsFree places.now i) }
     ensures first { IfSome result (λ i. (j : ℕ) → from ≤ j → j < i → IsFree places.now j → ⊥) }
     ensures none { IfNone result ((i : ℕ) → from ≤ i → i < to → IsFree places.now i → ⊥) }
@@ -74,8 +69,7 @@ pub(crate) fn free_place<K: Copy>(places: &[(K, u64)], from: usize, to: usize) -
 /// Whether a pair with the key stands at the place.
 fn has_key<S: Shape>(places: &[(S::Key, u64)], i: usize, key: &S::Key) -> bool
     requires shape { IsSound (sizes_of ⟦<S as Shape>⟧) }
-    requires short { length places.now < 2 ^ 62 }
-    requires inside { i < length places.now }
+    requires place { IsPlace places.now i }
     ensures { IsTrue result ↔ HasKey places.now key.now i }
 {
     let (other, value) = &places[i];
@@ -84,8 +78,7 @@ fn has_key<S: Shape>(places: &[(S::Key, u64)], i: usize, key: &S::Key) -> bool
 
 /// Whether the place is free.
 fn is_free<K: Copy>(places: &[(K, u64)], i: usize) -> bool
-    requires short { length places.now < 2 ^ 62 }
-    requires inside { i < length places.now }
+    requires place { IsPlace places.now i }
     ensures { IsTrue result ↔ IsFree places.now i }
 {
     places[i].1 == FREE

@@ -22,6 +22,6 @@ page_is paging log2 page places i d h = ap (λ place. page_of paging log2 place.
 
 pub returns : goal.returns
 returns g c = (
-  λ yes. named _ _ _ _ _ _ c.requires.inside (sym c.page.ensures ∙ eqb-true _ _ yes),
+  λ yes. named _ _ _ _ _ _ c.requires.place.inside (sym c.page.ensures ∙ eqb-true _ _ yes),
   λ h. eq-eqb _ _ (c.page.ensures ∙ page_is _ _ _ _ _ _ h),
 )

@@ -5,7 +5,7 @@ use Rattle.bihash_plan.proofs.rehash.lay.Goals as goal
 pub loop-pair-init : goal.loop-pair-init
 loop-pair-init g c = record {
   within = omega arith;
-  laid = λ _. laid_none _ _ _ _ _ _ _ c.requires.small (omega arith) c.clear.ensures;
+  laid = λ _. laid_none _ _ _ _ _ _ _ c.requires.pages.small (omega arith) c.clear.ensures;
 }
 
 pub loop-pair-preserved-then-pair : goal.loop-pair-preserved-then-pair

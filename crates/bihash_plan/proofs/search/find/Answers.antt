@@ -34,11 +34,7 @@ pub returns-clause-open_only : goal.returns-clause-open_only
 returns-clause-open_only g c = open_only _ _ _ _ _ _ _
     (λ i inside. (c.open_places-from.ensures.exact i inside).1) c.place_of_key.ensures.none
 
-pub returns-clause-place : goal.returns-clause-place
-returns-clause-place g c = found_is _ _ _ _ _ _ c.place_of_key.ensures.found (returns-clause-open_only g c)
-
-pub returns-clause-none : goal.returns-clause-none
-returns-clause-none g c = λ lawful. (
-  λ none i h. absent i _ none (returns-clause-place g c lawful i h),
-  none_is _ _ _ c.place_of_key.ensures.found,
-)
+pub returns-clause-lawful : goal.returns-clause-lawful
+returns-clause-lawful g c = λ lawful.
+    let place = found_is _ _ _ _ _ _ c.place_of_key.ensures.found (returns-clause-open_only g c) lawful in
+    record { place = place; none = (λ none i h. absent i _ none (place i h), none_is _ _ _ c.place_of_key.ensures.found) }

@@ -10,7 +10,7 @@ not_both value is taken = let e = eq-eqb value free_mark is in cc
 pub returns-then-value : goal.returns-then-value
 returns-then-value g c =
     let law = g.met.S.Shape.key_of_words in (
-      λ yes. has_key_read _ _ _ _ c.requires.inside c.index-places-i.is c.if-value.true (sym (law _)
+      λ yes. has_key_read _ _ _ _ c.requires.place.inside c.index-places-i.is c.if-value.true (sym (law _)
           ∙ ap g.S.Shape.key_of (c.is_same.ensures.0 yes) ∙ law _),
       λ h. c.is_same.ensures.1 (ap (λ place. g.S.Shape.words_of place.0) (pair_read _ c.index-places-i.is h)),
     )
