@@ -13,7 +13,7 @@ use Rattle.bihash_steps.specs.StoreSteps.{IsHeldWord, holding, stored_at}
 use Rattle.bihash_steps.specs.Seats.{CallerState, with_view}
 use Rattle.bihash_steps.specs.declared.view.HeldBlock.{HeldBlock}
 use Rattle.bihash_steps.specs.declared.view.View.{View}
-use Rattle.bihash_table.specs.Copying.{HasBlock, with_words}
+use Rattle.bihash_table.specs.Copying.{HasBlock, IsPlaced, with_words}
 use Rattle.bihash_table.specs.Places.{ArePlaces}
 use Rattle.bihash_table.proofs.PlaceReads.{all_same, place_inside, word_of_key}
 
@@ -201,16 +201,6 @@ pub next_word : (z : Sizes) (s t : CallerState) (page place words i k : ℕ) (h 
 next_word z s t page place words i k h key has inside is few stored =
     held_word z t.view page place words k (record h { words = stored.words })
     (still_held z s t page h stored.words has stored.is stored.long) inside is few
-
--- a place was stored, and none before it
-pub record IsPlaced {A K : Type 0} (g : Ghosts A K) (s t : CallerState) (h : HeldBlock) (place : ℕ) (key : K)
-    (value : ℕ) : Type 0 where
-  pub words : List ℕ
-  pub is : t ≡ with_view s (with_words s.view h words)
-  pub long : length words ≡ length h.words
-  pub key_is : value ≢ free → key_in (sizes_of g) words place ≡ g.words_of key
-  pub value_is : value_in (sizes_of g) words place ≡ value
-  pub before : (k : ℕ) → k < place * place_words (sizes_of g) → slice_index words k ≡ slice_index h.words k
 
 pub placed : {A K : Type 0} (g : Ghosts A K) (s t u : CallerState) (page place words count i value : ℕ) (h : HeldBlock)
     (key : K)

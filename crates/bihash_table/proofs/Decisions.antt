@@ -5,12 +5,9 @@ use Rattle.std.specs.FinMap.{get, len}
 use Rattle.std.specs.Prelude.{if◌then◌else◌, nat_lt}
 use Rattle.bihash_words.specs.declared.patch.Change.{Change}
 use Rattle.bihash_words.specs.declared.patch.Change.TheVariants.{Keep, Set, Remove}
-use Rattle.bihash_words.specs.declared.patch.Reply.{Reply}
 use Rattle.bihash_words.specs.declared.patch.Reply.TheVariants.{Changed, Kept, Worn}
-use Rattle.bihash_words.specs.Maps.{Answers, Bounds, Crowded, Entering, Event, Exhausted, Pairs, Present, Step, changed, effect_of, most_pairs, row_with}
-
-abbrev pub event : List ℕ → Option ℕ → Change → Reply → Event
-event key found change reply = record { key = key; found = found; change = change; reply = reply }
+use Rattle.bihash_words.specs.Maps.{Answers, Bounds, Crowded, Entering, Exhausted, Pairs, Present, Step, changed, effect_of, most_pairs, row_with}
+use Rattle.bihash_steps.specs.BucketCalls.{event}
 
 -- a decision that changes nothing
 pub kept_step : (b : Bounds) (m : Pairs) (n : ℕ) (key : List ℕ) (found : Option ℕ) (change : Change)

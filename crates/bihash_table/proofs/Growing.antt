@@ -6,6 +6,8 @@ use Rattle.bihash_words.specs.declared.shape.Shape.{Ghosts}
 use Rattle.bihash_words.specs.Maps.{most_pairs}
 use Rattle.bihash_words.specs.Patches.{free_mark}
 use Rattle.bihash_words.specs.Sizes.{sizes_of}
+use Rattle.bihash_words.specs.declared.patch.Change.TheVariants.{Set}
+use Rattle.bihash_words.specs.declared.patch.Reply.TheVariants.{Full}
 use Rattle.bihash_words.specs.Words.{Bucket, Fits, packed}
 use Rattle.bihash_plan.specs.Blocks.{IsCrowded, IsLawfulBlock, IsNew}
 use Rattle.bihash_plan.specs.Layouts.{IsNamed, IsRehash}
@@ -17,17 +19,17 @@ use Rattle.bihash_steps.specs.Histories.{bounds_of}
 use Rattle.bihash_steps.specs.Blocks.{IsBlockOf}
 use Rattle.bihash_steps.specs.BucketSteps.{map_now}
 use Rattle.bihash_steps.specs.declared.view.LockedBucket.{LockedBucket}
-use Rattle.bihash_steps.specs.declared.view.PageStore.{PageStore}
 use Rattle.bihash_steps.specs.declared.view.View.{View}
-use Rattle.bihash_table.specs.Copying.{IsWanting}
+use Rattle.bihash_steps.specs.BucketCalls.{event}
 use Rattle.bihash_table.specs.Locked.{HasLock}
 use Rattle.bihash_table.specs.Places.{ArePlaces}
-use Rattle.bihash_table.specs.Seen.{HasSeen, IsFullFor, IsNewAndCrowded, LocksSeen}
-use Rattle.bihash_table.specs.Shortage.{Bears, IsShortage}
+use Rattle.bihash_table.specs.Seen.{HasSeen, IsAnswerOf, IsNewAndCrowded, LocksSeen}
+use Rattle.bihash_table.specs.Shortage.{IsPlanned}
 use Rattle.bihash_table.proofs.Bridge.{AreKeyWords, block_of_rehash, extent_of}
+use Rattle.bihash_table.proofs.Entering.{crowds}
 use Rattle.bihash_table.proofs.LookedAt.{pair_value}
 use Rattle.bihash_table.proofs.OpenPlaces.{word_tells}
-use Rattle.bihash_table.proofs.Planning.{has_room, hold, is_full, is_named, is_shortage, of_keys, planned}
+use Rattle.bihash_table.proofs.Planning.{has_room, hold, is_full, is_named, is_planned, of_keys, planned}
 use Rattle.bihash_table.proofs.Seeing.{word_notes}
 use Rattle.bihash_table.proofs.Sights.{seen_as, told_locked}
 use Rattle.bihash_table.proofs.Stores.{linear_is, log2_is}
@@ -39,15 +41,17 @@ module _ {A K : Type 0} (g : Ghosts A K) (keys : AreKeyWords g) (v : View) (b wo
     (plan : Plan) (exact : IsLawfulBlock (paging_of g) log2 linear ps → IsNew ps key
     → IsCrowded linear (page_of (paging_of g) log2 key) ps → IsPlan (paging_of g) log2 linear ps key plan) where
   -- a plan that isn't a larger block
-  pub full_seen : ((size : ℕ) (mark : Bool) → plan ≡ Grow size mark → ⊥) → HasSeen (sizes_of g) v b word (IsFullFor (sizes_of g) (g.words_of key))
-  full_seen other = let z = sizes_of g in let e = h.seen.extent in let block = h.seen.block.open_bucket.block in
+  pub full_seen : ((size : ℕ) (mark : Bool) → plan ≡ Grow size mark → ⊥) → (value n : ℕ) → n < g.LIMIT
+      → HasSeen (sizes_of g) v b word (IsAnswerOf (sizes_of g) n (event (g.words_of key) None (Set value) Full))
+  full_seen other value n unworn = let z = sizes_of g in let e = h.seen.extent in let block = h.seen.block.open_bucket.block in
       let tells = word_notes z v word e h.seen.block in
       seen_as z v b word h (λ told m pairs.
       let absent : get m (g.words_of key) ≡ None = sym (pair_value z e block (g.words_of key) m None told.0.0 pairs) in (
-        absent,
-        is_full g keys e block m key h.seen.block.size pairs told.0.1 absent ps told.1 plan
+        m,
+        crowds (bounds_of z) m n (g.words_of key) value unworn
+            (is_full g keys e block m key h.seen.block.size pairs told.0.1 absent ps told.1 plan
             (planned g keys e block m key h.seen.block.size pairs told.0.1 absent ps told.1 log2 linear plan
-            (log2_is z word e tells log2 log2_told) (linear_is z word e tells linear linear_told) exact) other,
+            (log2_is z word e tells log2 log2_told) (linear_is z word e tells linear linear_told) exact) other) absent,
       ))
 
   -- ---- Behind the lock
@@ -88,8 +92,6 @@ module _ {A K : Type 0} (g : Ghosts A K) (keys : AreKeyWords g) (v : View) (b wo
           absent_there
           (lays (is_named g keys e block m key has.size has.pairs told.0.1 absent_there ps told.1 size mark named) storable) there
 
-      pub short_there : (w : View) → map_now w b ≡ map_now u b → (left : ℕ) (store : PageStore) → IsWanting (sizes_of g) store size left
-          → Bears w b store → IsShortage g w b key size left
-      short_there w same left store wanting bears =
-          is_shortage g keys k.locked.lock.extent k.locked.lock.now (map_now u b) key has.size has.pairs told.0.1 absent_there ps told.1
-          w b same size left mark store named wanting bears
+      pub planned_there : IsPlanned g (map_now u b) key size mark
+      planned_there = is_planned g keys k.locked.lock.extent k.locked.lock.now (map_now u b) key has.size has.pairs told.0.1 absent_there ps told.1
+          size mark named

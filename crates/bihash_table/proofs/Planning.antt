@@ -21,7 +21,7 @@ use Rattle.bihash_steps.specs.declared.view.PageStore.{PageStore}
 use Rattle.bihash_steps.specs.declared.view.View.{View}
 use Rattle.bihash_table.specs.Copying.{IsWanting}
 use Rattle.bihash_table.specs.Places.{ArePlaces, IsCrowdedFor}
-use Rattle.bihash_table.specs.Shortage.{Bears, HoldMap, IsShortage}
+use Rattle.bihash_table.specs.Shortage.{Bears, HoldMap, IsPlanned, IsShortage}
 use Rattle.bihash_table.proofs.Bridge.{AreKeyWords, AreKeysOf, are_keys, count_places, hold_map, lawful_places}
 use Rattle.bihash_table.proofs.Count.{few_pairs, few_places, full_block}
 
@@ -163,20 +163,32 @@ module _ {A K : Type 0} (g : Ghosts A K) (keys : AreKeyWords g) (e : Extent) (bl
     plan = plan;
   }
 
-  pub is_shortage : (w : View) (b : ℕ) → map_now w b ≡ m → (log2 left : ℕ) (linear : Bool) (store : PageStore)
-      → IsPlan (paging_of g) e.log2 e.linear ps key (Grow log2 linear)
-      → IsWanting (sizes_of g) store log2 left → Bears w b store → IsShortage g w b key log2 left
-  is_shortage w b same log2 left linear store plan wanting bears = record {
+  pub is_planned : (log2 : ℕ) (linear : Bool) → IsPlan (paging_of g) e.log2 e.linear ps key (Grow log2 linear)
+      → IsPlanned g m key log2 linear
+  is_planned log2 linear plan = record {
     places = ps;
     was_log2 = e.log2;
     was_linear = e.linear;
-    linear = linear;
     lawful = lawful;
-    map = subst (HoldMap g ps) (sym same) hold;
+    map = hold;
     plan = plan;
-    store = store;
-    bears = bears;
-    none = wanting.none;
-    unused = wanting.unused;
-    few = wanting.few;
   }
+
+-- in the page store that the entry bears, the block that was planned is wanting
+pub is_shortage : {A K : Type 0} (g : Ghosts A K) (m : Pairs) (key : K) (w : View) (b : ℕ) → map_now w b ≡ m → (log2 left : ℕ) (linear : Bool)
+    (store : PageStore) → IsPlanned g m key log2 linear → IsWanting (sizes_of g) store log2 left → Bears w b store
+    → IsShortage g w b key log2 left
+is_shortage g m key w b same log2 left linear store p wanting bears = record {
+  places = p.places;
+  was_log2 = p.was_log2;
+  was_linear = p.was_linear;
+  linear = linear;
+  lawful = p.lawful;
+  map = subst (HoldMap g p.places) (sym same) p.map;
+  plan = p.plan;
+  store = store;
+  bears = bears;
+  none = wanting.none;
+  unused = wanting.unused;
+  few = wanting.few;
+}

@@ -8,6 +8,7 @@ use Rattle.bihash_steps.specs.Views.{nothing_held}
 use Rattle.bihash_steps.specs.BucketSteps.{learned, push_call}
 use Rattle.bihash_steps.specs.declared.view.Write.{Write}
 use Rattle.bihash_steps.specs.declared.view.PageStore.{PageStore}
+use Rattle.bihash_steps.specs.declared.view.Record.{Record}
 use Rattle.bihash_steps.specs.declared.view.View.{View}
 use Rattle.bihash_table.specs.Answers.{entry_of, own_writes, with_locks}
 use Rattle.bihash_table.specs.Promise.{IsAnswered, IsTurnedAway}
@@ -26,7 +27,7 @@ pub record LeavesEntry (z : Sizes) (v w : View) (e : Event) : Type 0 where
   pub alone : v.lone ≡ true → length history
       ≤ length (known_at v.known (bucket_of z e.key)) + own_writes e.reply
 
--- the call met another caller's lock, as one equation
+-- the call was turned away, as one equation
 pub record LeavesNone (z : Sizes) (v w : View) (b : ℕ) : Type 0 where
   pub history : List Write
   pub begins : IsPrefix (known_at v.known b) history
@@ -37,6 +38,19 @@ pub record LeavesNone (z : Sizes) (v w : View) (b : ℕ) : Type 0 where
     notes = w.notes;
   }
   pub alone : v.lone ≡ true → length history ≤ length (known_at v.known b)
+
+-- field by field the view is this one
+one_view : (v w : View) (b : ℕ) (history : List Write) (records : List Record) → w.known ≡ (learned v b history).known → w.records ≡ records
+    → w.seen ≡ v.seen → w.lone ≡ v.lone → w.holds ≡ nothing_held
+    → w ≡ record (learned v b history) { records = records; holds = nothing_held; notes = w.notes }
+one_view v w b history records known recorded seen lone free = λ i. record {
+  records = recorded i;
+  known = known i;
+  seen = seen i;
+  lone = lone i;
+  holds = free i;
+  notes = w.notes;
+}
 
 module _ (z : Sizes) (v w : View) where
   pub answered_by : (e : Event) → LeavesEntry z v w e → IsAnswered z v w e
@@ -59,14 +73,7 @@ module _ (z : Sizes) (v w : View) where
     begins = a.begins;
     locks = a.locks;
     noted = a.noted;
-    is = λ i. record {
-      records = a.records i;
-      known = a.known i;
-      seen = a.seen i;
-      lone = a.lone i;
-      holds = a.free i;
-      notes = w.notes;
-    };
+    is = one_view v w (bucket_of z e.key) a.history _ a.known a.records a.seen a.lone a.free;
     alone = a.alone;
   }
 
@@ -88,13 +95,6 @@ module _ (z : Sizes) (v w : View) where
     history = a.history;
     begins = a.begins;
     locks = a.locks;
-    is = λ i. record {
-      records = a.records i;
-      known = a.known i;
-      seen = a.seen i;
-      lone = a.lone i;
-      holds = a.free i;
-      notes = w.notes;
-    };
+    is = one_view v w b a.history _ a.known a.records a.seen a.lone a.free;
     alone = a.alone;
   }

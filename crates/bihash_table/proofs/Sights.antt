@@ -1,5 +1,5 @@
 -- A bucket that was seen without its lock: what reads add to it, its lock, and answers without the lock.
-use Rattle.std.proofs.Common.{◌≡◌, ◌∙◌, ℕ, ◌+◌, ◌≤◌, false, List, [], ◌∷◌, length, le_refl, set, refl, sym, ap, subst, arith, Some}
+use Rattle.std.proofs.Common.{◌≡◌, ◌∙◌, ℕ, ◌+◌, ◌≤◌, false, List, [], length, le_refl, set, refl, sym, ap, subst, arith, Some}
 use lib.Seq.{set-get_or}
 use Rattle.bihash_words.specs.Maps.{Pairs, Event, Step}
 use Rattle.bihash_words.specs.Sizes.{Sizes}

@@ -1,7 +1,8 @@
 -- One try of an update: answered without the lock, turned away, or answered behind the lock.
-use Rattle.std.proofs.Common.{◌≡◌, ◌≢◌, ◌∙◌, ℕ, Bool, true, false, true≢false, List, Option, Some, Result, Ok, Err, refl, sym, ap, subst, eq-eqb}
-use Rattle.std.specs.Prelude.{IfOk, IfErr, is_ok, if◌then◌else◌}
+use Rattle.std.proofs.Common.{◌≡◌, ◌≢◌, ◌∙◌, ◌<◌, ℕ, Bool, true, false, true≢false, List, length, Option, Some, Result, Ok, Err, refl, sym, ap, subst, eq-eqb}
+use Rattle.std.specs.Prelude.{IfOk, if◌then◌else◌}
 use Rattle.bihash_words.specs.Maps.{Event, effect_of}
+use Rattle.bihash_words.specs.Patches.{IsStorable}
 use Rattle.bihash_words.specs.Sizes.{Sizes, sizes_of}
 use Rattle.bihash_words.specs.declared.shape.Shape.{Ghosts}
 use Rattle.bihash_words.specs.declared.patch.Change.{Change}
@@ -9,25 +10,27 @@ use Rattle.bihash_words.specs.declared.patch.Change.TheVariants.{Keep, Set}
 use Rattle.bihash_words.specs.declared.patch.Reply.{Reply}
 use Rattle.bihash_words.specs.declared.patch.Reply.TheVariants.{Changed, NoPages}
 use Rattle.bihash_steps.specs.Histories.{bucket_of}
-use Rattle.bihash_steps.specs.Callers.{IsLawfulCaller}
-use Rattle.bihash_steps.specs.BucketCalls.{event}
+use Rattle.bihash_steps.specs.Callers.{IsLawfulCaller, known_at}
 use Rattle.bihash_steps.specs.BucketSteps.{call_of, unnoted, validated}
 use Rattle.bihash_steps.specs.Seats.{CallerState, with_view}
 use Rattle.bihash_steps.specs.declared.view.Extent.{Extent}
 use Rattle.bihash_steps.specs.declared.view.View.{View}
+use Rattle.bihash_steps.specs.declared.view.Write.{Write}
+use Rattle.bihash_steps.specs.BucketCalls.{event}
 use Rattle.bihash_table.specs.Answers.{locks_of}
 use Rattle.bihash_table.specs.Promise.{IsAnswered, IsTurnedAway, IsUpdated}
-use Rattle.bihash_table.specs.OpenReads.{IsPairIn, Saw, value_of}
-use Rattle.bihash_table.specs.Seen.{HasSeen, IsValueOf, LocksSeen}
+use Rattle.bihash_table.specs.Locked.{IsPairBeside, UnderLock}
+use Rattle.bihash_table.specs.OpenReads.{HasRead, IsPairIn, OtherPairTells, value_of}
+use Rattle.bihash_table.specs.Seen.{HasSeen, IsValueOf, TellsLock}
 use Rattle.bihash_table.specs.Shortage.{IsShortage}
-use Rattle.bihash_table.specs.Tries.{Tried, TookAtMost, is_without_lock, try_locks}
+use Rattle.bihash_table.specs.Tries.{Finished, Tried, TookAtMost, is_without_lock, try_locks}
 use Rattle.bihash_table.specs.declared.contended.Contended.{Contended}
 use Rattle.bihash_table.proofs.Composed.{IsAhead, ahead_answered, ahead_turned_away, locked_ahead}
 use Rattle.bihash_table.proofs.LockCounts.{took_behind, took_no_lock, took_one_lock, took_then}
 use Rattle.bihash_table.proofs.LookedAt.{pair_value}
 use Rattle.bihash_table.proofs.Opened.{not_taken}
-use Rattle.bihash_table.proofs.SameCallers.{same_but_view, same_through, view_is}
-use Rattle.bihash_table.proofs.Sights.{answer_locks, answer_seen, saw_ahead, saw_records, seen_as}
+use Rattle.bihash_table.proofs.SameCallers.{own_through, same_but_view, same_through, view_is}
+use Rattle.bihash_table.proofs.Sights.{answer_locks, answer_seen, saw_ahead, saw_known, saw_records, seen_as, told_locked}
 
 -- to set another value is no change that keeps the one that was found
 pub other_value : (value old : ℕ) → effect_of (Set value) (Some old) ≢ Keep → value ≢ old
@@ -39,29 +42,35 @@ pub value_seen : (z : Sizes) (v : View) (b word : ℕ) (key : List ℕ) (pair : 
 value_seen z v b word key pair found is h = seen_as z v b word h (λ told m pairs.
     is ∙ pair_value z h.seen.extent h.seen.block.open_bucket.block key m pair told pairs)
 
-module _ {A K : Type 0} (g : Ghosts A K) (s t : CallerState) (b : ℕ) (key : K) (found : Option ℕ) (change : Change) where
-  -- the bucket was locked or changed
+module _ {A K : Type 0} (g : Ghosts A K) (s t : CallerState) (b : ℕ) (key : K) (found : Option ℕ) (change : Change)
+    (home : bucket_of (sizes_of g) (g.words_of key) ≡ b) where
+  -- the bucket was locked or changed, or the allocation lock was held
   pub tried_away : (refused : Contended) → t ≡ with_view s t.view → IsTurnedAway (sizes_of g) s.view t.view b
-      → t.view.records ≡ s.view.records → (s.view.lone ≡ true → ⊥) → IsLawfulCaller (sizes_of g) t.view
-      → Tried g s t b key found change (Err refused)
-  tried_away refused same away records crowd lawful = record {
+      → locks_of t.view.records ≡ locks_of s.view.records → (s.view.lone ≡ true → ⊥) → IsLawfulCaller (sizes_of g) t.view
+      → Tried g s t key found change (Err refused)
+  tried_away refused same away locks crowd lawful = record {
     same = same;
     answered = tt;
     no_pages = tt;
-    locks = took_no_lock s.view t.view (ap locks_of records) 1;
-    contended = away;
+    locks = took_no_lock s.view t.view locks 1;
+    contended = subst (IsTurnedAway (sizes_of g) s.view t.view) (sym home) away;
     lone = λ lone. absurd (crowd lone);
     lawful = lawful;
   }
+
+  -- the lock was not taken
+  pub tried_not : {word : ℕ} {won : Bool} (refused : Contended) → TellsLock (sizes_of g) s t b word won → won ≡ false
+      → Tried g s t key found change (Err refused)
+  tried_not refused told lost = tried_away refused told.same (told.turned_away lost) (ap locks_of (told.no_lock lost))
+      (λ lone. true≢false (sym (told.lone lone) ∙ lost)) told.lawful
 
   -- ---- Without the lock
 
   module _ (word : ℕ) {P : Extent → List ℕ → Type 0} (h : HasSeen (sizes_of g) s.view b word P)
       (lawful : IsLawfulCaller (sizes_of g) t.view) where
     pub tried_valid : (reply : Reply) → t ≡ with_view s (validated s.view (call_of s.view b 0 (event (g.words_of key) found change reply)))
-        → bucket_of (sizes_of g) (g.words_of key) ≡ b → ((log2 left : ℕ) → reply ≡ NoPages log2 left → ⊥)
-        → Tried g s t b key found change (Ok reply)
-    tried_valid reply is home paged = let now = view_is s t _ is in let e : Event = event (g.words_of key) found change reply in record {
+        → ((log2 left : ℕ) → reply ≡ NoPages log2 left → ⊥) → Tried g s t key found change (Ok reply)
+    tried_valid reply is paged = let now = view_is s t _ is in let e : Event = event (g.words_of key) found change reply in record {
       same = same_but_view s t _ is;
       answered = answer_seen (sizes_of g) s.view b word h e t.view now home;
       no_pages = λ log2 left short. absurd (paged log2 left short);
@@ -72,16 +81,53 @@ module _ {A K : Type 0} (g : Ghosts A K) (s t : CallerState) (b : ℕ) (key : K)
     }
 
     pub tried_invalid : (refused : Contended) → t ≡ with_view s (unnoted s.view) → (s.view.lone ≡ true → ⊥)
-        → Tried g s t b key found change (Err refused)
+        → Tried g s t key found change (Err refused)
     tried_invalid refused is crowd = tried_away refused (same_but_view s t _ is)
-        (not_taken (sizes_of g) s.view t.view b h.seen.held (view_is s t _ is)) (ap (λ (k : CallerState). k.view.records) is) crowd lawful
+        (not_taken (sizes_of g) s.view t.view b h.seen.held (view_is s t _ is)) (ap (λ (k : CallerState). locks_of k.view.records) is) crowd lawful
+
+-- ---- Under the lock
+
+module _ {A K : Type 0} (g : Ghosts A K) (s t : CallerState) (key : K) (found : Option ℕ) (change : Change)
+    (same : t ≡ with_view s t.view) (lawful : IsLawfulCaller (sizes_of g) t.view)
+    (locks : locks_of t.view.records ≡ locks_of s.view.records) where
+  pub finished : (reply : Reply) → IsAnswered (sizes_of g) s.view t.view (event (g.words_of key) found change reply)
+      → ((log2 left : ℕ) → reply ≡ NoPages log2 left
+      → IsShortage g t.view (bucket_of (sizes_of g) (g.words_of key)) key log2 left)
+      → is_without_lock reply ≡ false → Finished g s t key found change (Ok reply)
+  finished reply answered short paid = record {
+    tried = record {
+      same = same;
+      answered = answered;
+      no_pages = short;
+      locks = took_no_lock s.view t.view locks (try_locks (Ok reply));
+      contended = tt;
+      lone = λ _. refl;
+      lawful = lawful;
+    };
+    paid = paid;
+    no_lock = locks;
+  }
+
+  -- a write
+  pub finished_write : IsAnswered (sizes_of g) s.view t.view (event (g.words_of key) found change (Changed found))
+      → Finished g s t key found change (Ok (Changed found))
+  finished_write answered = finished (Changed found) answered (λ log2 left short. absurd (let c : ⊥ = cc in c)) refl
+
+  -- the allocation lock was held
+  pub finished_away : (refused : Contended) (b : ℕ) → bucket_of (sizes_of g) (g.words_of key) ≡ b → IsTurnedAway (sizes_of g) s.view t.view b
+      → (s.view.lone ≡ true → ⊥) → Finished g s t key found change (Err refused)
+  finished_away refused b home away crowd = record {
+    tried = tried_away g s t b key found change home refused same away locks crowd lawful;
+    paid = tt;
+    no_lock = locks;
+  }
 
 -- ---- From an earlier view
 
 module _ {A K : Type 0} (g : Ghosts A K) (s u t : CallerState) (b : ℕ) (key : K) (found : Option ℕ) (change : Change)
     (same : u ≡ with_view s u.view) (a : IsAhead s.view u.view b) (home : bucket_of (sizes_of g) (g.words_of key) ≡ b) where
   tried_ahead : (r : Result Reply Contended) → TookAtMost s.view t.view (try_locks r)
-      → Tried g u t b key found change r → Tried g s t b key found change r
+      → Tried g u t key found change r → Tried g s t key found change r
   tried_ahead (Ok reply) locks h = record {
     same = same_through s u t _ same h.same;
     answered = ahead_answered (sizes_of g) s.view u.view t.view b (event (g.words_of key) found change reply) home a h.answered;
@@ -91,101 +137,84 @@ module _ {A K : Type 0} (g : Ghosts A K) (s u t : CallerState) (b : ℕ) (key : 
     lone = λ _. refl;
     lawful = h.lawful;
   }
-  tried_ahead (Err refused) locks h = record {
+  tried_ahead (Err refused) locks h = let z : Sizes = sizes_of g in record {
     same = same_through s u t _ same h.same;
     answered = tt;
     no_pages = tt;
     locks = locks;
-    contended = ahead_turned_away (sizes_of g) s.view u.view t.view b a h.contended;
+    contended = ahead_turned_away z s.view u.view t.view (bucket_of z (g.words_of key)) (subst (IsAhead s.view u.view) (sym home) a) h.contended;
     lone = λ lone. h.lone (ap (λ (v : View). v.lone) a.is ∙ lone);
     lawful = h.lawful;
   }
 
   pub tried_seen : locks_of u.view.records ≡ locks_of s.view.records → (r : Result Reply Contended)
-      → Tried g u t b key found change r → Tried g s t b key found change r
+      → Tried g u t key found change r → Tried g s t key found change r
   tried_seen locks r h = tried_ahead r (took_behind s.view u.view t.view (try_locks r) locks h.locks) h
 
 -- words of the block were read before
-pub tried_saw : {A K : Type 0} (g : Ghosts A K) (s u t : CallerState) (b : ℕ) (key : K) (found : Option ℕ) (change : Change)
-    {Q : Extent → List ℕ → Type 0} → u ≡ with_view s u.view → Saw s.view u.view Q → bucket_of (sizes_of g) (g.words_of key) ≡ b
-    → (r : Result Reply Contended) → Tried g u t b key found change r → Tried g s t b key found change r
-tried_saw g s u t b key found change same saw home = tried_seen g s u t b key found change same (saw_ahead s.view u.view b saw) home
-    (ap locks_of (saw_records s.view u.view b saw))
+pub tried_read : {A K : Type 0} (g : Ghosts A K) (s u t : CallerState) (b : ℕ) (key : K) (found : Option ℕ) (change : Change)
+    {Q : Extent → List ℕ → Type 0} → HasRead s u Q → bucket_of (sizes_of g) (g.words_of key) ≡ b
+    → (r : Result Reply Contended) → Tried g u t key found change r → Tried g s t key found change r
+tried_read g s u t b key found change read home = tried_seen g s u t b key found change read.same (saw_ahead s.view u.view b read.saw) home
+    (ap locks_of (saw_records s.view u.view b read.saw))
 
--- ---- Behind the lock
-
+-- the lock was taken before
 module _ {A K : Type 0} (g : Ghosts A K) (s u t : CallerState) (b word : ℕ) (key : K) (found : Option ℕ) (change : Change)
-    (same : u ≡ with_view s u.view) (k : LocksSeen (sizes_of g) s.view u.view b word)
-    (home : bucket_of (sizes_of g) (g.words_of key) ≡ b) (now : t ≡ with_view u t.view)
-    (lawful : IsLawfulCaller (sizes_of g) t.view) (locks : locks_of t.view.records ≡ locks_of u.view.records) where
-  -- the lock was taken once
-  took_one : TookAtMost s.view t.view 1
-  took_one = took_then s.view u.view t.view 1 0 (took_one_lock s.view u.view (sizes_of g) b word k.locked) (took_no_lock u.view t.view locks 0)
+    {won : Bool} (told : TellsLock (sizes_of g) s u b word won) (taken : won ≡ true)
+    (home : bucket_of (sizes_of g) (g.words_of key) ≡ b) where
+  took_one : locks_of t.view.records ≡ locks_of u.view.records → TookAtMost s.view t.view 1
+  took_one locks = took_then s.view u.view t.view 1 0 (took_one_lock s.view u.view (sizes_of g) b word (told.locked taken).locked)
+      (took_no_lock u.view t.view locks 0)
 
-  pub tried_locked : (r : Result Reply Contended)
-      → IfOk r (λ reply. IsAnswered (sizes_of g) u.view t.view (event (g.words_of key) found change reply))
-      → IfOk r (λ reply. (log2 left : ℕ) → reply ≡ NoPages log2 left → IsShortage g t.view b key log2 left)
-      → IfOk r (λ reply. is_without_lock reply ≡ false)
-      → IfErr r (λ _. IsTurnedAway (sizes_of g) u.view t.view b) → (u.view.lone ≡ true → is_ok r ≡ true)
-      → Tried g s t b key found change r
-  tried_locked (Ok reply) answered no_pages paid away lone =
-      tried_ahead g s u t b key found change same (locked_ahead (sizes_of g) s.view u.view b word k.locked) home (Ok reply)
-      (subst (λ (free : Bool). TookAtMost s.view t.view (if free then 0 else 1)) (sym paid) took_one) (record {
-        same = now;
-        answered = answered;
-        no_pages = no_pages;
-        locks = took_no_lock u.view t.view locks (try_locks (Ok reply));
-        contended = tt;
-        lone = λ _. refl;
-        lawful = lawful;
-      })
-  tried_locked (Err refused) answered no_pages paid away lone =
-      tried_ahead g s u t b key found change same (locked_ahead (sizes_of g) s.view u.view b word k.locked) home (Err refused) took_one
-      (record {
-        same = now;
-        answered = tt;
-        no_pages = tt;
-        locks = took_no_lock u.view t.view locks 1;
-        contended = away;
-        lone = lone;
-        lawful = lawful;
-      })
+  pub tried_locked : (r : Result Reply Contended) → Finished g u t key found change r → Tried g s t key found change r
+  tried_locked (Ok reply) h =
+      tried_ahead g s u t b key found change told.same (locked_ahead (sizes_of g) s.view u.view b word (told.locked taken).locked) home (Ok reply)
+      (subst (λ (free : Bool). TookAtMost s.view t.view (if free then 0 else 1)) (sym h.paid) (took_one h.no_lock)) h.tried
+  tried_locked (Err refused) h =
+      tried_ahead g s u t b key found change told.same (locked_ahead (sizes_of g) s.view u.view b word (told.locked taken).locked) home (Err refused)
+      (took_one h.no_lock) h.tried
 
-  -- a write
-  pub tried_write : (reply : Reply) → reply ≡ Changed found
-      → IsAnswered (sizes_of g) u.view t.view (event (g.words_of key) found change reply) → Tried g s t b key found change (Ok reply)
-  tried_write reply is answered = tried_locked (Ok reply) answered
-      (λ log2 left short. absurd (let clash : Changed found ≡ NoPages log2 left = sym is ∙ short in let c : ⊥ = cc in c))
-      (ap is_without_lock is) tt (λ _. refl)
+-- what was seen is told under the lock, and the change may be made there
+pub under_lock : {A K : Type 0} (g : Ghosts A K) {row : _} (s u : CallerState) (b word : ℕ) (change : Change) {won : Bool} {P : Extent → List ℕ → Type 0}
+    → s.row ≡ row → length (known_at s.view.known b) < g.LIMIT → IsStorable change → HasSeen (sizes_of g) s.view b word P
+    → TellsLock (sizes_of g) s u b word won → won ≡ true → UnderLock (sizes_of g) row u b word change P
+under_lock g s u b word change own unworn storable h told taken = let k = told.locked taken in record {
+  own = own_through s u u.view told.same own;
+  lock = k.locked.lock;
+  has = k.locked.has;
+  unworn = subst (λ (l : List Write). length l < g.LIMIT) (sym k.known) unworn;
+  storable = storable;
+  told = told_locked (sizes_of g) s.view u.view b word h k;
+}
 
-  -- a write, where it was made
-  pub tried_change : (r : Result Reply Contended)
-      → IfOk r (λ reply. (reply ≡ Changed found) × IsAnswered (sizes_of g) u.view t.view (event (g.words_of key) found change reply))
-      → IfErr r (λ _. IsTurnedAway (sizes_of g) u.view t.view b) → (u.view.lone ≡ true → is_ok r ≡ true)
-      → Tried g s t b key found change r
-  tried_change (Ok reply) done away lone = tried_write reply done.0 done.1
-  tried_change (Err refused) done away lone = tried_locked (Err refused) tt tt tt away lone
+pub under_as : {z : Sizes} {row : _} {s : CallerState} {b word : ℕ} {change : Change} {P Q : Extent → List ℕ → Type 0}
+    → (h : UnderLock z row s b word change P) → (P h.lock.extent h.lock.now → Q h.lock.extent h.lock.now) → UnderLock z row s b word change Q
+under_as h more = record {
+  own = h.own;
+  lock = h.lock;
+  has = h.has;
+  unworn = h.unworn;
+  storable = h.storable;
+  told = more h.told;
+}
+
+-- whether another pair stands there was told
+pub beside : (z : Sizes) (key : List ℕ) (pair : ℕ × ℕ) {other is : Bool} → other ≡ is → (e : Extent) (block : List ℕ)
+    → IsPairIn z key (Some pair) e block × OtherPairTells z pair.0 other e block → IsPairBeside z key pair is e block
+beside z key pair same e block told = (told.0, subst (λ (t : Bool). OtherPairTells z pair.0 t e block) same told.1)
+
+-- a change that is wanted is so behind reads too
+pub unworn_read : {A K : Type 0} (g : Ghosts A K) (s u : CallerState) (b : ℕ) {Q : Extent → List ℕ → Type 0} → HasRead s u Q
+    → length (known_at s.view.known b) < g.LIMIT → length (known_at u.view.known b) < g.LIMIT
+unworn_read g s u b read unworn = subst (λ (l : List Write). length l < g.LIMIT) (sym (saw_known s.view u.view b read.saw)) unworn
 
 -- ---- What the public call tells
 
-module _ {A K : Type 0} (g : Ghosts A K) (s t : CallerState) (b : ℕ) (key : K) (found : Option ℕ) (change : Change)
-    (home : bucket_of (sizes_of g) (g.words_of key) ≡ b) where
-  pub update_answered : (decision : Option ℕ → Change) → change ≡ decision found → (r : Result Reply Contended)
-      → Tried g s t b key found change r → IfOk r (IsUpdated (sizes_of g) s.view t.view (g.words_of key) decision)
-  update_answered decision is (Ok reply) h = record {
-    found = found;
-    answered = subst (λ (c : Change). IsAnswered (sizes_of g) s.view t.view (event (g.words_of key) found c reply)) is h.answered;
-  }
-  update_answered decision is (Err refused) h = tt
-
-  pub update_away : (r : Result Reply Contended) → Tried g s t b key found change r
-      → IfErr r (λ _. IsTurnedAway (sizes_of g) s.view t.view (bucket_of (sizes_of g) (g.words_of key)))
-  update_away (Ok reply) h = tt
-  update_away (Err refused) h = subst (IsTurnedAway (sizes_of g) s.view t.view) (sym home) h.contended
-
-  pub update_short : (r : Result Reply Contended) → Tried g s t b key found change r
-      → IfOk r (λ reply. (log2 left : ℕ) → reply ≡ NoPages log2 left
-      → IsShortage g t.view (bucket_of (sizes_of g) (g.words_of key)) key log2 left)
-  update_short (Ok reply) h = λ log2 left is.
-      subst (λ (c : ℕ). IsShortage g t.view c key log2 left) (sym home) (h.no_pages log2 left is)
-  update_short (Err refused) h = tt
+pub update_answered : {A K : Type 0} (g : Ghosts A K) (s t : CallerState) (key : K) (found : Option ℕ) (change : Change)
+    (decision : Option ℕ → Change) → change ≡ decision found → (r : Result Reply Contended)
+    → Tried g s t key found change r → IfOk r (IsUpdated (sizes_of g) s.view t.view (g.words_of key) decision)
+update_answered g s t key found change decision is (Ok reply) h = record {
+  found = found;
+  answered = subst (λ (c : Change). IsAnswered (sizes_of g) s.view t.view (event (g.words_of key) found c reply)) is h.answered;
+}
+update_answered g s t key found change decision is (Err refused) h = tt

@@ -1,7 +1,9 @@
 -- What copies of a block to places and back rest on, and what taking and giving back a block leaves.
-use Rattle.std.specs.Prelude.{◌≡◌, ℕ, ◌+◌, ◌-◌, ◌^◌, ◌<◌, ◌≤◌, List, [], length, slice_index, false, Some, None}
-use Rattle.bihash_words.specs.Sizes.{Sizes}
-use Rattle.bihash_steps.specs.Words.{block_words, list_words}
+use Rattle.std.specs.Prelude.{◌≡◌, ◌≢◌, ℕ, ◌+◌, ◌-◌, ◌*◌, ◌^◌, ◌<◌, ◌≤◌, List, [], length, slice_index, false, Some, None}
+use Rattle.bihash_words.specs.Sizes.{IsSound, Sizes, sizes_of}
+use Rattle.bihash_words.specs.declared.shape.Shape.{Ghosts}
+use Rattle.bihash_steps.specs.Words.{block_words, list_words, place_words}
+use Rattle.bihash_steps.specs.Blocks.{free, key_in, places, value_in}
 use Rattle.bihash_steps.specs.PageStores.{returned_in}
 use Rattle.bihash_steps.specs.Views.{no_notes, nothing_held}
 use Rattle.bihash_steps.specs.StoreSteps.{TakesBlock, grown, holding, old_block, unlisted}
@@ -11,6 +13,8 @@ use Rattle.bihash_steps.specs.declared.view.LockedStore.{LockedStore}
 use Rattle.bihash_steps.specs.declared.view.HeldBlock.{HeldBlock}
 use Rattle.bihash_steps.specs.declared.view.PageStore.{PageStore}
 use Rattle.bihash_steps.specs.declared.view.View.{View}
+use Rattle.bihash_table.specs.Places.{ArePlaces}
+use Rattle.bihash_table.specs.Scans.{IsWordOf}
 
 -- the caller holds this block, which begins at this page, and has no note
 pub record HasBlock (z : Sizes) (v : View) (page : ℕ) (h : HeldBlock) : Type 0 where
@@ -24,6 +28,28 @@ pub record HasBlock (z : Sizes) (v : View) (page : ℕ) (h : HeldBlock) : Type 0
 -- the view with other words in the held block
 abbrev pub with_words : View → HeldBlock → List ℕ → View
 with_words v h words = holding v v.holds.store (Some (record h { words = words }))
+
+-- a place was stored, and none before it
+pub record IsPlaced {A K : Type 0} (g : Ghosts A K) (s t : CallerState) (h : HeldBlock) (place : ℕ) (key : K)
+    (value : ℕ) : Type 0 where
+  pub words : List ℕ
+  pub is : t ≡ with_view s (with_words s.view h words)
+  pub long : length words ≡ length h.words
+  pub key_is : value ≢ free → key_in (sizes_of g) words place ≡ g.words_of key
+  pub value_is : value_in (sizes_of g) words place ≡ value
+  pub before : (k : ℕ) → k < place * place_words (sizes_of g) → slice_index words k ≡ slice_index h.words k
+
+-- these places were written into the held block, as many as it has
+abbrev pub AreWritten : {A K : Type 0} → Ghosts A K → CallerState → CallerState → HeldBlock → List (K × ℕ) → Type 0
+AreWritten g s t h ps = (words : List ℕ) × (t ≡ with_view s (with_words s.view h words)) × ArePlaces g ps words
+
+-- The caller of this row holds a block that begins at this page and has so many places at least.
+pub record HoldsBlock (z : Sizes) (row : _) (s : CallerState) (page count : ℕ) : Type 0 where
+  pub own : s.row ≡ row
+  pub sound : IsSound z
+  pub block : HeldBlock
+  pub has : HasBlock z s.view page block
+  pub inside : count ≤ places page block.log2
 
 -- the caller has the allocation lock, and no block
 pub record HasStore (z : Sizes) (v : View) (n : LockedStore) : Type 0 where
@@ -61,6 +87,25 @@ pub record HoldsOld (v : View) (n : LockedStore) (e : Extent) (words : List ℕ)
   pub store : v.holds.store ≡ Some n
   pub block : v.holds.block ≡ old_block e.page e.log2 words
   pub settled : n.store.unpublished ≡ false
+
+-- The caller of this row has the allocation lock, and may give back this block.
+pub record MayReturn (z : Sizes) (row : _) (s : CallerState) (log2 page : ℕ) : Type 0 where
+  pub own : s.row ≡ row
+  pub sound : IsSound z
+  pub small : log2 ≤ z.max_log2
+  pub store : LockedStore
+  pub block : HeldBlock
+  pub may : MayGiveBack s.view log2 page store block
+
+-- The caller of this row has the allocation lock, and the block that the bucket of this word had.
+pub record MayLeave (z : Sizes) (row : _) (s : CallerState) (word : ℕ) : Type 0 where
+  pub own : s.row ≡ row
+  pub sound : IsSound z
+  pub store : LockedStore
+  pub extent : Extent
+  pub words : List ℕ
+  pub names : IsWordOf z word extent
+  pub holds : HoldsOld s.view store extent words
 
 -- the same view, which notes what it does, with the allocation lock and without a block
 abbrev pub with_store : View → LockedStore → View → View

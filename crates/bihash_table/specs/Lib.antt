@@ -2,6 +2,7 @@ pub mod Answers
 pub mod Calls
 pub mod Closing
 pub mod Copying
+pub mod Laid
 pub mod Locked
 pub mod OpenReads
 pub mod PairLists

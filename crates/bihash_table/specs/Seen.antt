@@ -1,9 +1,15 @@
 -- A bucket that was seen without its lock, with what was read of it, and its lock behind that.
-use Rattle.std.specs.Prelude.{◌≡◌, ◌≤◌, ℕ, Bool, true, false, List, Option, None, Some, IfSome, IfNone, is_some}
-use Rattle.std.specs.FinMap.{get, len}
-use Rattle.bihash_words.specs.Maps.{Pairs, most_pairs}
-use Rattle.bihash_words.specs.Sizes.{Sizes}
-use Rattle.bihash_steps.specs.Histories.{bounds_of}
+use Rattle.std.specs.Prelude.{◌≡◌, ◌≢◌, ◌<◌, ℕ, Bool, true, false, List, length, Option, None, Some, IfSome, IfNone, is_some}
+use Rattle.std.specs.FinMap.{get}
+use Rattle.bihash_words.specs.Maps.{Event, Pairs, Step, effect_of}
+use Rattle.bihash_words.specs.Patches.{IsStorable}
+use Rattle.bihash_words.specs.Sizes.{Sizes, sizes_of}
+use Rattle.bihash_words.specs.declared.patch.Change.{Change}
+use Rattle.bihash_words.specs.declared.patch.Change.TheVariants.{Keep, Set}
+use Rattle.bihash_words.specs.declared.patch.Reply.{Reply}
+use Rattle.bihash_words.specs.declared.patch.Reply.TheVariants.{NoPages}
+use Rattle.bihash_words.specs.declared.shape.Shape.{Ghosts}
+use Rattle.bihash_steps.specs.Histories.{bounds_of, is_changed}
 use Rattle.bihash_steps.specs.Callers.{IsLawfulCaller, known_at}
 use Rattle.bihash_steps.specs.Blocks.{IsBlockOf}
 use Rattle.bihash_steps.specs.Buckets.{Reads}
@@ -12,8 +18,9 @@ use Rattle.bihash_steps.specs.Seats.{CallerState, with_view}
 use Rattle.bihash_steps.specs.declared.view.Extent.{Extent}
 use Rattle.bihash_steps.specs.declared.view.OpenBucket.{OpenBucket}
 use Rattle.bihash_steps.specs.declared.view.View.{View}
+use Rattle.bihash_steps.specs.BucketCalls.{event}
 use Rattle.bihash_table.specs.Locked.{IsLocked}
-use Rattle.bihash_table.specs.OpenReads.{HasOpen, IsOpened, IsPairIn}
+use Rattle.bihash_table.specs.OpenReads.{HasOpen, IsOpened, IsPairIn, value_of}
 use Rattle.bihash_table.specs.Promise.{IsTurnedAway}
 use Rattle.bihash_table.specs.Places.{IsCrowdedFor}
 
@@ -27,13 +34,13 @@ pub record HasSeen (z : Sizes) (v : View) (b word : ℕ) (tells : Extent → Lis
 abbrev pub IsValueOf : Sizes → List ℕ → Option ℕ → Extent → List ℕ → Type 0
 IsValueOf z key found e block = (m : Pairs) → IsBlockOf z e block m → found ≡ get m key
 
+-- a call may be answered so behind n writes of the bucket, whose map doesn't change
+abbrev pub IsAnswerOf : Sizes → ℕ → Event → Extent → List ℕ → Type 0
+IsAnswerOf z n call e block = (m : Pairs) → IsBlockOf z e block m → (m' : Pairs) × Step (bounds_of z) m n call m'
+
 -- the key is new, and no free place is open to it
 abbrev pub IsNewAndCrowded : Sizes → List ℕ → Extent → List ℕ → Type 0
 IsNewAndCrowded z key e block = IsPairIn z key None e block × IsCrowdedFor z e block key
-
--- the key is new, and the bucket holds as many pairs as it may
-abbrev pub IsFullFor : Sizes → List ℕ → Extent → List ℕ → Type 0
-IsFullFor z key e block = (m : Pairs) → IsBlockOf z e block m → (get m key ≡ None) × (most_pairs (bounds_of z) ≤ len m)
 
 -- The lock was taken where the bucket was seen: nobody wrote since, and the words that were read are those
 -- of the block.
@@ -64,3 +71,37 @@ pub record TellsLock (z : Sizes) (s t : CallerState) (b word : ℕ) (won : Bool)
   pub no_lock : won ≡ false → t.view.records ≡ s.view.records
   pub lone : s.view.lone ≡ true → won ≡ true
   pub lawful : IsLawfulCaller z t.view
+
+-- ---- What a call may do on what was seen
+
+-- The caller of this row saw bucket b, and may give this reply, which is no write and no refusal for want of pages.
+pub record MayReply {A K : Type 0} (g : Ghosts A K) (row : _) (s : CallerState) (b word : ℕ) (key : K)
+    (found : Option ℕ) (change : Change) (reply : Reply) : Type 0 where
+  pub own : s.row ≡ row
+  pub seen : HasSeen (sizes_of g) s.view b word (IsAnswerOf (sizes_of g) (length (known_at s.view.known b))
+      (event (g.words_of key) found change reply))
+  pub reads : is_changed reply ≡ false
+  pub paged : (log2 left : ℕ) → reply ≡ NoPages log2 left → ⊥
+
+-- The caller of this row saw bucket b, and what a look for the key's pair found there.
+pub record Found {A K : Type 0} (g : Ghosts A K) (row : _) (s : CallerState) (b word : ℕ) (key : K)
+    (pair : Option (ℕ × ℕ)) : Type 0 where
+  pub own : s.row ≡ row
+  pub seen : HasSeen (sizes_of g) s.view b word (IsPairIn (sizes_of g) (g.words_of key) pair)
+
+-- The same, where a change of that was decided and the version isn't used up.
+pub record WantsChange {A K : Type 0} (g : Ghosts A K) (row : _) (s : CallerState) (b word : ℕ) (key : K)
+    (pair : Option (ℕ × ℕ)) (change : Change) : Type 0 where
+  pub own : s.row ≡ row
+  pub seen : HasSeen (sizes_of g) s.view b word (IsPairIn (sizes_of g) (g.words_of key) pair)
+  pub unworn : length (known_at s.view.known b) < g.LIMIT
+  pub wanted : effect_of change (value_of pair) ≢ Keep
+  pub storable : IsStorable change
+
+-- The caller of this row saw bucket b, which has no free place for a new key that is to have this value.
+pub record WantsRoom {A K : Type 0} (g : Ghosts A K) (row : _) (s : CallerState) (b word : ℕ) (key : K)
+    (value : ℕ) : Type 0 where
+  pub own : s.row ≡ row
+  pub seen : HasSeen (sizes_of g) s.view b word (IsNewAndCrowded (sizes_of g) (g.words_of key))
+  pub unworn : length (known_at s.view.known b) < g.LIMIT
+  pub storable : IsStorable (Set value)

@@ -19,6 +19,15 @@ pub record HoldMap {A K : Type 0} (g : Ghosts A K) (places : List (K × ℕ)) (m
   pub mapped : (key : K) (i : ℕ) (h : HasKey places key i) → get m (g.words_of key) ≡ Some h.value
   pub found : (key : K) (value : ℕ) → get m (g.words_of key) ≡ Some value → (i : ℕ) × HasKey places key i
 
+-- the new key wants a block of 2 ^ log2 pages, as the plan of a block that holds the map says
+pub record IsPlanned {A K : Type 0} (g : Ghosts A K) (m : Pairs) (key : K) (log2 : ℕ) (linear : Bool) : Type 0 where
+  pub places : List (K × ℕ)
+  pub was_log2 : ℕ
+  pub was_linear : Bool
+  pub lawful : IsLawfulBlock (paging_of g) was_log2 was_linear places
+  pub map : HoldMap g places m
+  pub plan : IsPlan (paging_of g) was_log2 was_linear places key (Grow log2 linear)
+
 -- the entry of the last call comes behind all writes that are known of bucket b, and bears this page store
 abbrev pub Bears : View → ℕ → PageStore → Type 0
 Bears w b store = (c : Call) → last_call w.records ≡ Some c

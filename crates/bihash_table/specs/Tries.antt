@@ -5,8 +5,9 @@ use Rattle.bihash_words.specs.declared.shape.Shape.{Ghosts}
 use Rattle.bihash_words.specs.declared.patch.Change.{Change}
 use Rattle.bihash_words.specs.declared.patch.Reply.{Reply}
 use Rattle.bihash_words.specs.declared.patch.Reply.TheVariants.{Kept, Changed, Worn, Full, NoPages}
-use Rattle.bihash_steps.specs.BucketCalls.{event}
+use Rattle.bihash_steps.specs.Histories.{bucket_of}
 use Rattle.bihash_steps.specs.Callers.{IsLawfulCaller}
+use Rattle.bihash_steps.specs.BucketCalls.{event}
 use Rattle.bihash_steps.specs.Seats.{CallerState, with_view}
 use Rattle.bihash_steps.specs.declared.view.View.{View}
 use Rattle.bihash_table.specs.Answers.{locks_of}
@@ -40,15 +41,23 @@ pub record TookByTries (v w : View) (reply : Reply) : Type 0 where
   pub alone : v.lone ≡ true → tries ≡ 1
   pub took : TookAtMost v w (tries - 1 + try_locks (Ok reply))
 
--- One try of an update, on a value that was found and what was decided on it: it was answered, or it met
--- another caller's lock. A lone caller meets none.
-pub record Tried {A K : Type 0} (g : Ghosts A K) (s t : CallerState) (b : ℕ) (key : K) (found : Option ℕ)
-    (change : Change) (r : Result Reply Contended) : Type 0 where
+-- One try of an update, on a value that was found and what was decided on it: it was answered, or turned away. A
+-- lone caller is answered.
+pub record Tried {A K : Type 0} (g : Ghosts A K) (s t : CallerState) (key : K) (found : Option ℕ) (change : Change)
+    (r : Result Reply Contended) : Type 0 where
   pub same : t ≡ with_view s t.view
   pub answered : IfOk r (λ reply. IsAnswered (sizes_of g) s.view t.view (event (g.words_of key) found change reply))
   pub no_pages : IfOk r (λ reply. (log2 left : ℕ) → reply ≡ NoPages log2 left
-      → IsShortage g t.view b key log2 left)
+      → IsShortage g t.view (bucket_of (sizes_of g) (g.words_of key)) key log2 left)
   pub locks : TookAtMost s.view t.view (try_locks r)
-  pub contended : IfErr r (λ _. IsTurnedAway (sizes_of g) s.view t.view b)
+  pub contended : IfErr r (λ _. IsTurnedAway (sizes_of g) s.view t.view (bucket_of (sizes_of g) (g.words_of key)))
   pub lone : s.view.lone ≡ true → is_ok r ≡ true
   pub lawful : IsLawfulCaller (sizes_of g) t.view
+
+-- the end of a try that has the lock of the bucket: it takes no other, and is turned away or gives a reply that is
+-- given under the lock
+pub record Finished {A K : Type 0} (g : Ghosts A K) (s t : CallerState) (key : K) (found : Option ℕ) (change : Change)
+    (r : Result Reply Contended) : Type 0 where
+  pub tried : Tried g s t key found change r
+  pub paid : IfOk r (λ reply. is_without_lock reply ≡ false)
+  pub no_lock : locks_of t.view.records ≡ locks_of s.view.records

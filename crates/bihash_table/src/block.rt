@@ -1,12 +1,9 @@
 //! Places of keys and values that are written into a block.
-ghost use Rattle.std.specs.Prelude.{◌≡◌, ◌≢◌, ◌<◌, ◌≤◌, ◌+◌, ◌*◌, ℕ, List, length, slice_index};
-ghost use Rattle.bihash_words.specs.Sizes.{sizes_of, IsSound};
-ghost use Rattle.bihash_steps.specs.Words.{place_words};
-ghost use Rattle.bihash_steps.specs.Blocks.{free, places, key_in, value_in};
-ghost use Rattle.bihash_steps.specs.Seats.{with_view};
+ghost use Rattle.std.specs.Prelude.{◌≡◌, ◌≢◌, ◌≤◌, ◌+◌, length};
+ghost use Rattle.bihash_words.specs.Sizes.{sizes_of};
+ghost use Rattle.bihash_steps.specs.Blocks.{free, places};
 ghost use Rattle.bihash_steps.specs.declared.view.HeldBlock.{HeldBlock};
-ghost use Rattle.bihash_table.specs.Copying.{HasBlock, with_words};
-ghost use Rattle.bihash_table.specs.Places.{ArePlaces};
+ghost use Rattle.bihash_table.specs.Copying.{AreWritten, HasBlock, HoldsBlock, IsPlaced};
 
 use crate::places::FREE;
 use bihash_steps::{CallerSeat, Row};
@@ -19,13 +16,10 @@ pub(crate) fn write_block<S: Shape>(
     page: u64,
     block: &[(S::Key, u64)],
 )
-    requires own { seat.old.row ≡ row.now }
-    requires shape { IsSound (sizes_of S.Shape) }
-    requires block { (h : HeldBlock) × HasBlock (sizes_of S.Shape) seat.old.view page h
-        × (length block.now ≡ places page h.log2) }
-    ensures written { (h : HeldBlock) → HasBlock (sizes_of S.Shape) seat.old.view page h
-        → (words : List ℕ) × (seat.new ≡ with_view seat.old (with_words seat.old.view h words))
-        × ArePlaces ⟦<S as Shape>⟧ block.now words }
+    requires held { HoldsBlock (sizes_of S.Shape) row.now seat.old page 0 }
+    requires whole { (h : HeldBlock) → HasBlock (sizes_of S.Shape) seat.old.view page h → length block.now ≡ places page h.log2 }
+    ensures { (h : HeldBlock) → HasBlock (sizes_of S.Shape) seat.old.view page h
+        → AreWritten ⟦<S as Shape>⟧ seat.old seat.new h block.now }
 {
     for place in 0..block.len() {
         let (key, value) = &block[place];
@@ -42,16 +36,9 @@ fn write_place<S: Shape>(
     key: &S::Key,
     value: u64,
 )
-    requires own { seat.old.row ≡ row.now }
-    requires shape { IsSound (sizes_of S.Shape) }
-    requires block { (h : HeldBlock) × HasBlock (sizes_of S.Shape) seat.old.view page h
-        × (place < places page h.log2) }
-    ensures written { (h : HeldBlock) → HasBlock (sizes_of S.Shape) seat.old.view page h
-        → (words : List ℕ) × (seat.new ≡ with_view seat.old (with_words seat.old.view h words))
-        × (length words ≡ length h.words)
-        × (value ≢ free → key_in (sizes_of S.Shape) words place ≡ S.words_of key.now)
-        × (value_in (sizes_of S.Shape) words place ≡ value)
-        × ((k : ℕ) → k < place * place_words (sizes_of S.Shape) → slice_index words k ≡ slice_index h.words k) }
+    requires { HoldsBlock (sizes_of S.Shape) row.now seat.old page (place + 1) }
+    ensures { (h : HeldBlock) → HasBlock (sizes_of S.Shape) seat.old.view page h
+        → IsPlaced ⟦<S as Shape>⟧ seat.old seat.new h place key.now value }
 {
     let first = place * (S::WORDS + 1);
     for i in 0..shown_words::<S>(value) {

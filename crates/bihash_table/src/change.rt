@@ -1,25 +1,17 @@
 //! Changes that a bucket's block has room for, and answers that leave it.
-ghost use Rattle.std.specs.Prelude.{◌≡◌, ◌≢◌, ◌<◌, ◌≤◌, ◌+◌, ◌*◌, length, slice_index, None, Some, IfOk};
-ghost use Rattle.std.specs.FinMap.{get};
-ghost use Rattle.bihash_words.specs.Maps.{effect_of};
-ghost use Rattle.bihash_words.specs.Patches.{free_mark};
+ghost use Rattle.std.specs.Prelude.{◌≡◌, ◌≢◌, ◌<◌, ◌≤◌, ◌+◌, ◌*◌, true, slice_index, None, Some, Ok};
 ghost use Rattle.bihash_words.specs.Sizes.{sizes_of};
-ghost use Rattle.bihash_words.specs.declared.patch.Change.TheVariants.{Keep, Set, Remove};
-ghost use Rattle.bihash_words.specs.declared.patch.Reply.TheVariants.{Kept, Changed, Worn, Full};
+ghost use Rattle.bihash_words.specs.declared.patch.Change.TheVariants.{Set, Remove};
 ghost use Rattle.bihash_steps.specs.Words.{place_words};
-ghost use Rattle.bihash_steps.specs.Blocks.{places, value_in};
-ghost use Rattle.bihash_steps.specs.Callers.{IsLawfulCaller, known_at};
-ghost use Rattle.bihash_steps.specs.BucketSteps.{map_now, relocked, stored_in};
+ghost use Rattle.bihash_steps.specs.Blocks.{places};
+ghost use Rattle.bihash_steps.specs.BucketSteps.{relocked, stored_in};
 ghost use Rattle.bihash_steps.specs.declared.view.LockedBucket.{LockedBucket};
 ghost use Rattle.bihash_steps.specs.Seats.{with_view};
-ghost use Rattle.bihash_table.specs.Answers.{locks_of};
-ghost use Rattle.bihash_table.specs.Promise.{IsAnswered};
-ghost use Rattle.bihash_table.specs.Locked.{HasLock};
+ghost use Rattle.bihash_table.specs.Locked.{HasLock, IsPairBeside, IsPlaceForNew, UnderLock};
 ghost use Rattle.bihash_table.specs.OpenReads.{IsPairIn};
-ghost use Rattle.bihash_table.specs.Places.{HasPairOf, IsFreeFor};
-ghost use Rattle.bihash_table.specs.Seen.{HasSeen, IsFullFor, IsValueOf};
-ghost use Rattle.bihash_table.specs.Stores.{HasOtherPair, HasStored, HoldsPlace};
-ghost use Rattle.bihash_table.specs.Tries.{Tried};
+ghost use Rattle.bihash_table.specs.Seen.{MayReply, WantsChange};
+ghost use Rattle.bihash_table.specs.Stores.{HasStored, HoldsPlace};
+ghost use Rattle.bihash_table.specs.Tries.{Finished, Tried};
 
 use crate::contended::Contended;
 use crate::grow::remove_last;
@@ -30,83 +22,23 @@ use crate::site::Seen;
 use bihash_steps::{CallerSeat, Event, Row};
 use bihash_words::{BucketWord, Change, Reply, Shape};
 
-/// Answers that nothing is to be changed, where the bucket still has the word that was seen.
-pub(crate) fn keep<S: Shape>(
+/// Gives a reply that is no write, where the bucket still has the word that was seen.
+pub(crate) fn answer<S: Shape>(
     row: &Row<S>,
     seat: &mut CallerSeat<S>,
     seen: &Seen<'_, S>,
     found: Option<u64>,
     change: Change,
+    reply: Reply,
 ) -> Result<Reply, Contended>
-    requires own { seat.old.row ≡ row.now }
-    requires seen { HasSeen (sizes_of S.Shape) seat.old.view seen.now.site.bucket seen.now.word
-        (IsValueOf (sizes_of S.Shape) (S.words_of seen.now.site.key.now) found) }
-    requires idle { effect_of change found ≡ Keep }
-    ensures kept { IfOk result (λ reply. reply ≡ Kept found) }
-    ensures tried { Tried ⟦<S as Shape>⟧ seat.old seat.new seen.now.site.bucket seen.now.site.key.now found change result }
+    requires { MayReply ⟦<S as Shape>⟧ row.now seat.old seen.now.site.bucket seen.now.word seen.now.site.key.now
+        found change reply }
+    ensures { Tried ⟦<S as Shape>⟧ seat.old seat.new seen.now.site.key.now found change result }
 {
-    let reply = Reply::Kept(found);
     let event = Event {
         key: seen.site.key,
         found,
         change,
-        reply,
-    };
-    if !row.validate(seat, seen.site.bucket, seen.word, &event) {
-        return Err(Contended);
-    }
-    Ok(reply)
-}
-
-/// Answers that a change was wanted where the version is used up, where the bucket still has the word that
-/// was seen.
-pub(crate) fn refuse<S: Shape>(
-    row: &Row<S>,
-    seat: &mut CallerSeat<S>,
-    seen: &Seen<'_, S>,
-    found: Option<u64>,
-    change: Change,
-) -> Result<Reply, Contended>
-    requires own { seat.old.row ≡ row.now }
-    requires seen { HasSeen (sizes_of S.Shape) seat.old.view seen.now.site.bucket seen.now.word
-        (IsValueOf (sizes_of S.Shape) (S.words_of seen.now.site.key.now) found) }
-    requires wanted { effect_of change found ≢ Keep }
-    requires worn { length (known_at seat.old.view.known seen.now.site.bucket) ≡ S.LIMIT }
-    ensures refused { IfOk result (λ reply. reply ≡ Worn found) }
-    ensures tried { Tried ⟦<S as Shape>⟧ seat.old seat.new seen.now.site.bucket seen.now.site.key.now found change result }
-{
-    let reply = Reply::Worn(found);
-    let event = Event {
-        key: seen.site.key,
-        found,
-        change,
-        reply,
-    };
-    if !row.validate(seat, seen.site.bucket, seen.word, &event) {
-        return Err(Contended);
-    }
-    Ok(reply)
-}
-
-/// Answers that the bucket has no room for a new key, where it still has the word that was seen.
-pub(crate) fn crowd<S: Shape>(
-    row: &Row<S>,
-    seat: &mut CallerSeat<S>,
-    seen: &Seen<'_, S>,
-    value: u64,
-) -> Result<Reply, Contended>
-    requires own { seat.old.row ≡ row.now }
-    requires seen { HasSeen (sizes_of S.Shape) seat.old.view seen.now.site.bucket seen.now.word
-        (IsFullFor (sizes_of S.Shape) (S.words_of seen.now.site.key.now)) }
-    requires unworn { length (known_at seat.old.view.known seen.now.site.bucket) < S.LIMIT }
-    ensures full { IfOk result (λ reply. reply ≡ Full) }
-    ensures tried { Tried ⟦<S as Shape>⟧ seat.old seat.new seen.now.site.bucket seen.now.site.key.now None (Set value) result }
-{
-    let reply = Reply::Full;
-    let event = Event {
-        key: seen.site.key,
-        found: None,
-        change: Change::Set(value),
         reply,
     };
     if !row.validate(seat, seen.site.bucket, seen.word, &event) {
@@ -123,19 +55,10 @@ pub(crate) fn overwrite<S: Shape>(
     pair: (usize, u64),
     value: u64,
 ) -> Reply
-    requires own { seat.old.row ≡ row.now }
-    requires lock { (l : LockedBucket) × HasLock (sizes_of S.Shape) seat.old.view seen.now.site.bucket seen.now.word l
-        × HasPairOf (sizes_of S.Shape) l.extent l.now (S.words_of seen.now.site.key.now) pair.0
-        × (value_in (sizes_of S.Shape) l.now pair.0 ≡ pair.1) }
-    requires unworn { length (known_at seat.old.view.known seen.now.site.bucket) < S.LIMIT }
+    requires held { UnderLock (sizes_of S.Shape) row.now seat.old seen.now.site.bucket seen.now.word (Set value)
+        (IsPairIn (sizes_of S.Shape) (S.words_of seen.now.site.key.now) (Some pair)) }
     requires other { value ≢ pair.1 }
-    requires storable { value ≢ free_mark }
-    ensures same { seat.new ≡ with_view seat.old seat.new.view }
-    ensures changed { result ≡ Changed (Some pair.1) }
-    ensures answered { IsAnswered (sizes_of S.Shape) seat.old.view seat.new.view
-        (record { key = S.words_of seen.now.site.key.now; found = Some pair.1; change = Set value; reply = result }) }
-    ensures locks { locks_of seat.new.view.records ≡ locks_of seat.old.view.records }
-    ensures lawful { IsLawfulCaller (sizes_of S.Shape) seat.new.view }
+    ensures { Finished ⟦<S as Shape>⟧ seat.old seat.new seen.now.site.key.now (Some pair.1) (Set value) (Ok result) }
 {
     store_word(row, seat, seen.word, pair.0, S::WORDS, value);
     let event = Event {
@@ -156,18 +79,9 @@ pub(crate) fn fill<S: Shape>(
     place: usize,
     value: u64,
 ) -> Reply
-    requires own { seat.old.row ≡ row.now }
-    requires lock { (l : LockedBucket) × HasLock (sizes_of S.Shape) seat.old.view seen.now.site.bucket seen.now.word l
-        × IsFreeFor (sizes_of S.Shape) l.extent l.now (S.words_of seen.now.site.key.now) place }
-    requires unworn { length (known_at seat.old.view.known seen.now.site.bucket) < S.LIMIT }
-    requires new { get (map_now seat.old.view seen.now.site.bucket) (S.words_of seen.now.site.key.now) ≡ None }
-    requires storable { value ≢ free_mark }
-    ensures same { seat.new ≡ with_view seat.old seat.new.view }
-    ensures changed { result ≡ Changed None }
-    ensures answered { IsAnswered (sizes_of S.Shape) seat.old.view seat.new.view
-        (record { key = S.words_of seen.now.site.key.now; found = None; change = Set value; reply = result }) }
-    ensures locks { locks_of seat.new.view.records ≡ locks_of seat.old.view.records }
-    ensures lawful { IsLawfulCaller (sizes_of S.Shape) seat.new.view }
+    requires { UnderLock (sizes_of S.Shape) row.now seat.old seen.now.site.bucket seen.now.word (Set value)
+        (IsPlaceForNew (sizes_of S.Shape) (S.words_of seen.now.site.key.now) place) }
+    ensures { Finished ⟦<S as Shape>⟧ seat.old seat.new seen.now.site.key.now None (Set value) (Ok result) }
 {
     store_key(row, seat, seen, place);
     store_word(row, seat, seen.word, place, S::WORDS, value);
@@ -189,18 +103,16 @@ pub(crate) fn remove<S: Shape>(
     seen: &Seen<'_, S>,
     pair: (usize, u64),
 ) -> Result<Reply, Contended>
-    requires own { seat.old.row ≡ row.now }
-    requires seen { HasSeen (sizes_of S.Shape) seat.old.view seen.now.site.bucket seen.now.word
-        (IsPairIn (sizes_of S.Shape) (S.words_of seen.now.site.key.now) (Some pair)) }
-    requires unworn { length (known_at seat.old.view.known seen.now.site.bucket) < S.LIMIT }
-    ensures { Tried ⟦<S as Shape>⟧ seat.old seat.new seen.now.site.bucket seen.now.site.key.now (Some pair.1) Remove result }
+    requires { WantsChange ⟦<S as Shape>⟧ row.now seat.old seen.now.site.bucket seen.now.word seen.now.site.key.now
+        (Some pair) Remove }
+    ensures { Tried ⟦<S as Shape>⟧ seat.old seat.new seen.now.site.key.now (Some pair.1) Remove result }
 {
     let other = has_other_pair(row, seat, seen.word, pair.0);
     if !lock_seen(row, seat, seen.site.bucket, seen.word) {
         return Err(Contended);
     }
     if !other {
-        return remove_last(row, seat, seen, pair.1);
+        return remove_last(row, seat, seen, pair);
     }
     Ok(vacate(row, seat, seen, pair))
 }
@@ -212,18 +124,9 @@ fn vacate<S: Shape>(
     seen: &Seen<'_, S>,
     pair: (usize, u64),
 ) -> Reply
-    requires own { seat.old.row ≡ row.now }
-    requires lock { (l : LockedBucket) × HasLock (sizes_of S.Shape) seat.old.view seen.now.site.bucket seen.now.word l
-        × HasPairOf (sizes_of S.Shape) l.extent l.now (S.words_of seen.now.site.key.now) pair.0
-        × (value_in (sizes_of S.Shape) l.now pair.0 ≡ pair.1)
-        × HasOtherPair (sizes_of S.Shape) l pair.0 }
-    requires unworn { length (known_at seat.old.view.known seen.now.site.bucket) < S.LIMIT }
-    ensures same { seat.new ≡ with_view seat.old seat.new.view }
-    ensures changed { result ≡ Changed (Some pair.1) }
-    ensures answered { IsAnswered (sizes_of S.Shape) seat.old.view seat.new.view
-        (record { key = S.words_of seen.now.site.key.now; found = Some pair.1; change = Remove; reply = result }) }
-    ensures locks { locks_of seat.new.view.records ≡ locks_of seat.old.view.records }
-    ensures lawful { IsLawfulCaller (sizes_of S.Shape) seat.new.view }
+    requires { UnderLock (sizes_of S.Shape) row.now seat.old seen.now.site.bucket seen.now.word Remove
+        (IsPairBeside (sizes_of S.Shape) (S.words_of seen.now.site.key.now) pair true) }
+    ensures { Finished ⟦<S as Shape>⟧ seat.old seat.new seen.now.site.key.now (Some pair.1) Remove (Ok result) }
 {
     store_word(row, seat, seen.word, pair.0, S::WORDS, FREE);
     let event = Event {

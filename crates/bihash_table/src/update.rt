@@ -1,18 +1,16 @@
 //! Updates, one try each.
-ghost use Rattle.std.specs.Prelude.{◌≡◌, ◌≢◌, ◌==◌, ◌<◌, true, false, length, None, Option, Some};
+ghost use Rattle.std.specs.Prelude.{◌≡◌, ◌≢◌, ◌==◌, true, false, None, Option, Some};
 ghost use Rattle.bihash_words.specs.Maps.{effect_of};
 ghost use Rattle.bihash_words.specs.Patches.{IsStorable};
-ghost use Rattle.bihash_words.specs.Sizes.{sizes_of};
 ghost use Rattle.bihash_words.specs.Words.{Bucket, Fits, packed};
-ghost use Rattle.bihash_words.specs.declared.patch.Change.TheVariants.{Keep, Set};
-ghost use Rattle.bihash_steps.specs.Callers.{known_at};
+ghost use Rattle.bihash_words.specs.declared.patch.Change.TheVariants.{Keep};
 ghost use Rattle.bihash_steps.specs.Views.{nothing_held};
 ghost use Rattle.bihash_table.specs.Calls.{TellsUpdateTry};
-ghost use Rattle.bihash_table.specs.OpenReads.{IsPairIn, value_of};
-ghost use Rattle.bihash_table.specs.Seen.{HasSeen};
+ghost use Rattle.bihash_table.specs.OpenReads.{value_of};
+ghost use Rattle.bihash_table.specs.Seen.{Found, WantsChange};
 ghost use Rattle.bihash_table.specs.Tries.{Tried};
 
-use crate::change::{fill, keep, overwrite, refuse, remove};
+use crate::change::{answer, fill, overwrite, remove};
 use crate::contended::Contended;
 use crate::grow::enter_larger;
 use crate::lock::{lock_seen, look};
@@ -58,20 +56,17 @@ fn make<S: Shape>(
     pair: Option<(usize, u64)>,
     change: Change,
 ) -> Result<Reply, Contended>
-    requires own { caller.old.seat.row ≡ row.now }
-    requires seen { HasSeen (sizes_of S.Shape) caller.old.seat.view seen.now.site.bucket seen.now.word
-        (IsPairIn (sizes_of S.Shape) (S.words_of seen.now.site.key.now) pair) }
+    requires found { Found ⟦<S as Shape>⟧ row.now caller.old.seat seen.now.site.bucket seen.now.word seen.now.site.key.now pair }
     requires storable { IsStorable change }
-    ensures { Tried ⟦<S as Shape>⟧ caller.old.seat caller.new.seat seen.now.site.bucket seen.now.site.key.now (value_of pair)
-        change result }
+    ensures { Tried ⟦<S as Shape>⟧ caller.old.seat caller.new.seat seen.now.site.key.now (value_of pair) change result }
 {
     let found = value_found(pair);
     let seat = &mut caller.seat;
     if is_idle(change, found) {
-        return keep(row, seat, seen, found, change);
+        return answer(row, seat, seen, found, change, Reply::Kept(found));
     }
     if is_worn::<S>(seen.word) {
-        return refuse(row, seat, seen, found, change);
+        return answer(row, seat, seen, found, change, Reply::Worn(found));
     }
     match pair {
         Some(held) => change_pair(row, seat, seen, held, change),
@@ -108,13 +103,9 @@ fn change_pair<S: Shape>(
     pair: (usize, u64),
     change: Change,
 ) -> Result<Reply, Contended>
-    requires own { seat.old.row ≡ row.now }
-    requires seen { HasSeen (sizes_of S.Shape) seat.old.view seen.now.site.bucket seen.now.word
-        (IsPairIn (sizes_of S.Shape) (S.words_of seen.now.site.key.now) (Some pair)) }
-    requires unworn { length (known_at seat.old.view.known seen.now.site.bucket) < S.LIMIT }
-    requires wanted { effect_of change (Some pair.1) ≢ Keep }
-    requires storable { IsStorable change }
-    ensures { Tried ⟦<S as Shape>⟧ seat.old seat.new seen.now.site.bucket seen.now.site.key.now (Some pair.1) change result }
+    requires { WantsChange ⟦<S as Shape>⟧ row.now seat.old seen.now.site.bucket seen.now.word seen.now.site.key.now
+        (Some pair) change }
+    ensures { Tried ⟦<S as Shape>⟧ seat.old seat.new seen.now.site.key.now (Some pair.1) change result }
 {
     match change {
         Change::Set(value) => {
@@ -136,13 +127,9 @@ fn enter_new<S: Shape>(
     seen: &Seen<'_, S>,
     change: Change,
 ) -> Result<Reply, Contended>
-    requires own { caller.old.seat.row ≡ row.now }
-    requires seen { HasSeen (sizes_of S.Shape) caller.old.seat.view seen.now.site.bucket seen.now.word
-        (IsPairIn (sizes_of S.Shape) (S.words_of seen.now.site.key.now) None) }
-    requires unworn { length (known_at caller.old.seat.view.known seen.now.site.bucket) < S.LIMIT }
-    requires wanted { effect_of change None ≢ Keep }
-    requires storable { IsStorable change }
-    ensures { Tried ⟦<S as Shape>⟧ caller.old.seat caller.new.seat seen.now.site.bucket seen.now.site.key.now None change result }
+    requires { WantsChange ⟦<S as Shape>⟧ row.now caller.old.seat seen.now.site.bucket seen.now.word seen.now.site.key.now
+        None change }
+    ensures { Tried ⟦<S as Shape>⟧ caller.old.seat caller.new.seat seen.now.site.key.now None change result }
 {
     let Change::Set(value) = change else {
         unreachable!();

@@ -14,9 +14,9 @@ loop-i-init g c = record {
 
 pub store_held-requires-clause-word : goal.store_held-requires-clause-word
 store_held-requires-clause-word g c = next_word (sizes_of g.S.Shape) c.args.seat.now c.loop-i.seat c.args.page c.args.place
-    c.WORDS.result c.loop-i.i c.loop-i.i c.requires.block.0 (g.S.Shape.words_of c.args.key.now) c.requires.block.1
-    c.requires.block.2 c.WORDS.ensures (omega arith)
-    (c.loop-i.invariant.stored c.requires.block.0 c.requires.block.1)
+    c.WORDS.result c.loop-i.i c.loop-i.i c.requires.block (g.S.Shape.words_of c.args.key.now) c.requires.has
+    (let room = c.requires.inside in omega arith) c.WORDS.ensures (omega arith)
+    (c.loop-i.invariant.stored c.requires.block c.requires.has)
 
 pub loop-i-preserved : goal.loop-i-preserved
 loop-i-preserved g c = record {
@@ -24,28 +24,25 @@ loop-i-preserved g c = record {
       (g.S.Shape.words_of c.args.key.now) (c.args.place * (c.WORDS.result + 1)) c.loop-i.i c.word.result
       (c.loop-i.invariant.stored h has)
       (stored_inside (sizes_of g.S.Shape) c.args.seat.now.view c.args.page c.args.place c.WORDS.result c.loop-i.i
-      c.requires.block.0 h c.requires.block.1 has c.requires.block.2 c.WORDS.ensures (omega arith))
+      c.requires.block h c.requires.has has (let room = c.requires.inside in omega arith) c.WORDS.ensures (omega arith))
       c.word.ensures.word c.store_held.ensures;
   counted = λ _. c.word.ensures.counted;
 }
 
 pub store_held-requires-2-clause-word : goal.store_held-requires-2-clause-word
 store_held-requires-2-clause-word g c = next_word (sizes_of g.S.Shape) c.args.seat.now c.loop-i.seat c.args.page c.args.place
-    c.WORDS.result c.loop-i.i c.WORDS-2.result c.requires.block.0 (g.S.Shape.words_of c.args.key.now) c.requires.block.1
-    c.requires.block.2 c.WORDS.ensures (omega arith)
-    (c.loop-i.invariant.stored c.requires.block.0 c.requires.block.1)
+    c.WORDS.result c.loop-i.i c.WORDS-2.result c.requires.block (g.S.Shape.words_of c.args.key.now) c.requires.has
+    (let room = c.requires.inside in omega arith) c.WORDS.ensures (omega arith)
+    (c.loop-i.invariant.stored c.requires.block c.requires.has)
 
 pub returns : goal.returns
-returns g c = record {
-  written = λ h has.
-      let there : c.args.place < places c.args.page h.log2 =
-      subst (λ (b : HeldBlock). c.args.place < places c.args.page b.log2) (same_block c.requires.block.1 has)
-      c.requires.block.2 in
-      let p = placed g.S.Shape c.args.seat.now c.loop-i.seat c.store_held-2.new.caller c.args.page c.args.place
-      c.WORDS.result c.WORDS-2.result c.loop-i.i c.args.value h c.args.key.now has there c.WORDS.ensures
-      c.WORDS-2.ensures (λ taken. let all = c.shown_words-i-end.ensures.all taken in omega arith)
-      (λ taken. let all = c.shown_words-i-end.ensures.all taken in c.loop-i.invariant.counted (omega arith))
-      (c.loop-i.invariant.stored h has)
-      c.store_held-2.ensures in
-      (p.words, p.is, p.long, p.key_is, p.value_is, p.before);
-}
+returns g c = λ h has.
+    let room = c.requires.inside in
+    let there : c.args.place < places c.args.page h.log2 =
+    subst (λ (b : HeldBlock). c.args.place < places c.args.page b.log2) (same_block c.requires.has has) (omega arith) in
+    placed g.S.Shape c.args.seat.now c.loop-i.seat c.store_held-2.new.caller c.args.page c.args.place
+    c.WORDS.result c.WORDS-2.result c.loop-i.i c.args.value h c.args.key.now has there c.WORDS.ensures
+    c.WORDS-2.ensures (λ taken. let all = c.shown_words-i-end.ensures.all taken in omega arith)
+    (λ taken. let all = c.shown_words-i-end.ensures.all taken in c.loop-i.invariant.counted (omega arith))
+    (c.loop-i.invariant.stored h has)
+    c.store_held-2.ensures

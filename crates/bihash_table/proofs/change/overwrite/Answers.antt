@@ -1,53 +1,53 @@
-use Rattle.std.proofs.Common.{◌∙◌, ap, sym}
+use Rattle.std.proofs.Common.{◌∙◌, Some, ap, sym}
 use Rattle.bihash_words.specs.Sizes.{sizes_of}
+use Rattle.bihash_words.specs.declared.patch.Change.TheVariants.{Set}
 use Rattle.bihash_steps.specs.Seats.{CallerState}
 use Rattle.bihash_steps.specs.declared.view.Holdings.{Holdings}
 use Rattle.bihash_table.specs.Answers.{locks_of}
 use Rattle.bihash_table.proofs.Changes.{may_overwrite, overwritten, value_is_stored}
 use Rattle.bihash_table.proofs.LockCounts.{locks_pushed}
-use Rattle.bihash_table.proofs.SameCallers.{same_but_view, same_through, view_is}
+use Rattle.bihash_table.proofs.SameCallers.{own_through, same_but_view, same_through, view_is}
 use Rattle.bihash_table.proofs.Storing.{holds_place}
+use Rattle.bihash_table.proofs.Tries.{finished_write}
 use Rattle.bihash_table.proofs.change.overwrite.Goals as goal
+
+pub store_word-requires-clause-own : goal.store_word-requires-clause-own
+store_word-requires-clause-own g c = c.requires.held.own
 
 pub store_word-requires-clause-place : goal.store_word-requires-clause-place
 store_word-requires-clause-place g c =
-    let lock = c.requires.lock in
-    holds_place (sizes_of g.S.Shape) c.args.seat.now.view c.args.seen.now.site.bucket c.args.seen.now.word lock.0 lock.1 c.args.pair.0 lock.2.pair.0
+    let h = c.requires.held in
+    holds_place (sizes_of g.S.Shape) c.args.seat.now.view c.args.seen.now.site.bucket c.args.seen.now.word h.lock h.has c.args.pair.0 h.told.0.pair.0
 
 pub publish-requires-clause-at : goal.publish-requires-clause-at
 publish-requires-clause-at g c =
-    let step = c.store_word.ensures c.requires.lock.0 (ap (λ (h : Holdings). h.bucket) c.requires.lock.1.held) in
-    record { own = ap (λ (k : CallerState). k.row) step ∙ c.requires.own; inside = c.requires.lock.1.inside }
+    let h = c.requires.held in
+    record { own = own_through c.args.seat.now _ _ (c.store_word.ensures h.lock (ap (λ (k : Holdings). k.bucket) h.has.held)) h.own; inside = h.has.inside }
 
 pub publish-requires-clause-may : goal.publish-requires-clause-may
 publish-requires-clause-may g c =
-    let lock = c.requires.lock in
-    let step = c.store_word.ensures lock.0 (ap (λ (h : Holdings). h.bucket) lock.1.held) in
-    may_overwrite (sizes_of g.S.Shape) c.args.seat.now.view c.args.seen.now.site.bucket c.args.seen.now.word lock.0 lock.1
-    (g.S.Shape.words_of c.args.seen.now.site.key.now) c.args.seen.now.site.counted (sym c.args.seen.now.site.home) c.requires.unworn
-    c.args.pair.0 c.args.pair.1 lock.2 lock.3 c.args.value c.requires.other c.requires.storable c.store_word.new.seat.view
-    (value_is_stored (sizes_of g.S.Shape) c.args.seat.now c.store_word.new.seat lock.0
-    c.args.pair.0 c.args.value c.WORDS.result c.WORDS.ensures step)
+    let z = sizes_of g.S.Shape in
+    let site = c.args.seen.now.site in
+    let h = c.requires.held in
+    let step = c.store_word.ensures h.lock (ap (λ (k : Holdings). k.bucket) h.has.held) in
+    may_overwrite z c.args.seat.now.view site.bucket c.args.seen.now.word h.lock h.has
+    (g.S.Shape.words_of site.key.now) site.counted (sym site.home) h.unworn
+    c.args.pair.0 c.args.pair.1 h.told.0 (sym h.told.1) c.args.value c.requires.other h.storable c.store_word.new.seat.view
+    (value_is_stored z c.args.seat.now c.store_word.new.seat h.lock c.args.pair.0 c.args.value c.WORDS.result c.WORDS.ensures step)
 
-pub returns-clause-same : goal.returns-clause-same
-returns-clause-same g c =
-    let step = c.store_word.ensures c.requires.lock.0 (ap (λ (h : Holdings). h.bucket) c.requires.lock.1.held) in
-    same_through c.args.seat.now c.store_word.new.seat c.publish.new.caller _
-    (same_but_view c.args.seat.now c.store_word.new.seat _ step) c.publish.ensures.view
-
-pub returns-clause-answered : goal.returns-clause-answered
-returns-clause-answered g c =
-    let lock = c.requires.lock in
-    let step = c.store_word.ensures lock.0 (ap (λ (h : Holdings). h.bucket) lock.1.held) in
-    overwritten (sizes_of g.S.Shape) c.args.seat.now.view c.args.seen.now.site.bucket c.args.seen.now.word lock.0 lock.1
-    (g.S.Shape.words_of c.args.seen.now.site.key.now) c.args.seen.now.site.counted (sym c.args.seen.now.site.home) c.requires.unworn
-    c.args.pair.0 c.args.pair.1 lock.2 lock.3 c.args.value c.requires.other c.requires.storable c.store_word.new.seat.view
-    (value_is_stored (sizes_of g.S.Shape) c.args.seat.now c.store_word.new.seat lock.0
-    c.args.pair.0 c.args.value c.WORDS.result c.WORDS.ensures step)
-    c.publish.new.caller.view (view_is c.store_word.new.seat c.publish.new.caller _ c.publish.ensures.view)
-
-pub returns-clause-locks : goal.returns-clause-locks
-returns-clause-locks g c =
-    let step = c.store_word.ensures c.requires.lock.0 (ap (λ (h : Holdings). h.bucket) c.requires.lock.1.held) in
-    locks_pushed _ _ _ (ap (λ (k : CallerState). k.view.records) c.publish.ensures.view)
-    ∙ ap (λ (k : CallerState). locks_of k.view.records) step
+pub returns : goal.returns
+returns g c =
+    let z = sizes_of g.S.Shape in
+    let site = c.args.seen.now.site in
+    let h = c.requires.held in
+    let step = c.store_word.ensures h.lock (ap (λ (k : Holdings). k.bucket) h.has.held) in
+    let done = c.publish.ensures.view in
+    finished_write g.S.Shape c.args.seat.now c.publish.new.caller site.key.now (Some c.args.pair.1) (Set c.args.value)
+    (same_through c.args.seat.now c.store_word.new.seat c.publish.new.caller _ (same_but_view c.args.seat.now c.store_word.new.seat _ step) done)
+    c.publish.ensures.lawful
+    (locks_pushed _ _ _ (ap (λ (k : CallerState). k.view.records) done) ∙ ap (λ (k : CallerState). locks_of k.view.records) step)
+    (overwritten z c.args.seat.now.view site.bucket c.args.seen.now.word h.lock h.has
+    (g.S.Shape.words_of site.key.now) site.counted (sym site.home) h.unworn
+    c.args.pair.0 c.args.pair.1 h.told.0 (sym h.told.1) c.args.value c.requires.other h.storable c.store_word.new.seat.view
+    (value_is_stored z c.args.seat.now c.store_word.new.seat h.lock c.args.pair.0 c.args.value c.WORDS.result c.WORDS.ensures step)
+    c.publish.new.caller.view (view_is c.store_word.new.seat c.publish.new.caller _ done))

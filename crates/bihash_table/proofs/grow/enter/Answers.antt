@@ -1,128 +1,148 @@
-use Rattle.std.proofs.Common.{◌≡◌, ◌∙◌, ◌*◌, ◌^◌, false, Some, None, ap, arith, refl, subst, sym}
+use Rattle.std.proofs.Common.{◌≡◌, ◌∙◌, ◌*◌, ◌^◌, ℕ, false, true≢false, Some, None, ap, arith, refl, subst, sym}
 use Rattle.bihash_words.specs.Sizes.{sizes_of}
 use Rattle.bihash_words.specs.declared.patch.Change.TheVariants.{Set}
+use Rattle.bihash_words.specs.declared.patch.Reply.{Reply}
 use Rattle.bihash_words.specs.declared.patch.Reply.TheVariants.{Changed, NoPages}
-use Rattle.bihash_steps.specs.BucketCalls.{event}
-use Rattle.bihash_steps.specs.BucketSteps.{call_of, map_now}
+use Rattle.bihash_steps.specs.BucketSteps.{call_of, map_now, unlocked}
 use Rattle.bihash_steps.specs.Seats.{CallerState, with_view}
+use Rattle.bihash_steps.specs.declared.view.HeldBlock.{HeldBlock}
 use Rattle.bihash_steps.specs.declared.view.Holdings.{Holdings}
 use Rattle.bihash_steps.specs.declared.view.View.{View}
+use Rattle.bihash_steps.specs.BucketCalls.{event}
 use Rattle.bihash_table.specs.Answers.{locks_of}
-use Rattle.bihash_table.specs.Copying.{IsWanting}
+use Rattle.bihash_table.specs.Shortage.{IsShortage}
 use Rattle.bihash_table.proofs.Entering.{looked_at}
+use Rattle.bihash_table.proofs.Copies.{same_block}
+use Rattle.bihash_table.proofs.LookedAt.{pair_value}
 use Rattle.bihash_table.proofs.LockCounts.{locks_pushed}
 use Rattle.bihash_table.proofs.OpenPlaces.{word_tells}
+use Rattle.bihash_table.proofs.Planning.{is_shortage}
 use Rattle.bihash_table.proofs.Replacing.{block_held, block_of, is_ready, locked_on, looked, looked_same, may_enter, may_refuse, published, ready_same, same_through, seen_same, store_held, was_answered}
+use Rattle.bihash_table.proofs.SameCallers.{own_through}
 use Rattle.bihash_table.proofs.Stores.{bears_noted, holds_old, left_answered, left_written, some_places, still_lawful, turned_away}
+use Rattle.bihash_table.proofs.Tries.{finished, finished_away, finished_write}
 use Rattle.bihash_table.proofs.grow.enter.Goals as goal
 
-pub returns-then-not-pool_lock-clause-contended : goal.returns-then-not-pool_lock-clause-contended
-returns-then-not-pool_lock-clause-contended g c = turned_away (sizes_of g.S.Shape) c.args.seat.now.view
-    c.pool_lock.new.caller.view c.release.new.caller.view c.args.seen.now.site.bucket c.args.seen.now.word c.requires.lock.0 c.requires.lock.1
-    (c.pool_lock.ensures.not c.if-not-pool_lock.true) (ap (λ (s : CallerState). s.view) c.release.ensures.view)
+pub returns-then-not-pool_lock : goal.returns-then-not-pool_lock
+returns-then-not-pool_lock g c =
+    let site = c.args.seen.now.site in
+    let s = c.args.seat.now in
+    let h = c.requires.held in
+    let not = c.pool_lock.ensures.not c.if-not-pool_lock.true in
+    finished_away g.S.Shape s c.release.new.caller site.key.now None (Set c.args.value)
+    (seen_same s c.release.new.caller (c.release.ensures.view ∙ ap (λ (k : CallerState). with_view k (unlocked k.view)) c.pool_lock.ensures.same))
+    c.release.ensures.lawful (ap (λ (k : CallerState). locks_of k.view.records) c.release.ensures.view ∙ ap (λ (v : View). locks_of v.records) not)
+    _ site.bucket (sym site.home)
+    (turned_away (sizes_of g.S.Shape) s.view c.pool_lock.new.caller.view c.release.new.caller.view site.bucket c.args.seen.now.word h.lock h.has
+    not (ap (λ (k : CallerState). k.view) c.release.ensures.view))
+    (λ lone. true≢false (sym (c.pool_lock.ensures.lone lone (ap (λ (k : Holdings). k.store) h.has.held)) ∙ c.if-not-pool_lock.true))
+
+pub take_block-requires-clause-own : goal.take_block-requires-clause-own
+take_block-requires-clause-own g c = own_through c.args.seat.now _ _ c.pool_lock.ensures.same c.requires.held.own
+
+pub pool_unlock-requires-clause-own : goal.pool_unlock-requires-clause-own
+pool_unlock-requires-clause-own g c = ap (λ (s : CallerState). s.row) c.in-Err.ensures.refused.0
+    ∙ own_through c.args.seat.now _ _ c.pool_lock.ensures.same c.requires.held.own
 
 pub take_block-requires-clause-store : goal.take_block-requires-clause-store
 take_block-requires-clause-store g c =
     let locks = c.pool_lock.ensures.taken c.if-not-pool_lock.false in (
       locked_on locks.store,
       store_held g.S.Shape c.args.seat.now c.pool_lock.new.caller c.pool_lock.ensures.same locks
-          (ap (λ (h : Holdings). h.block) c.requires.lock.1.held) 0 c.args.size.log2,
+          (ap (λ (h : Holdings). h.block) c.requires.held.has.held) 0 c.args.size.log2,
     )
 
-pub write_block-requires-clause-block : goal.write_block-requires-clause-block
-write_block-requires-clause-block g c =
+pub write_block-requires-clause-held : goal.write_block-requires-clause-held
+write_block-requires-clause-held g c =
     let locks = c.pool_lock.ensures.taken c.if-not-pool_lock.false in
     let held = block_held g.S.Shape c.args.seat.now c.pool_lock.new.caller c.pool_lock.ensures.same locks
-    (ap (λ (h : Holdings). h.block) c.requires.lock.1.held) c.in-Ok.page c.args.size.log2 c.take_block.new.seat
+    (ap (λ (h : Holdings). h.block) c.requires.held.has.held) c.in-Ok.page c.args.size.log2 c.take_block.new.seat
+    c.in-Ok.ensures.same c.in-Ok.ensures.taken in record {
+      own = own_through c.pool_lock.new.caller _ _ c.in-Ok.ensures.same (own_through c.args.seat.now _ _ c.pool_lock.ensures.same c.requires.held.own);
+      sound = c.is_sound.ensures;
+      block = held.0;
+      has = held.1;
+      inside = omega arith;
+    }
+
+pub write_block-requires-clause-whole : goal.write_block-requires-clause-whole
+write_block-requires-clause-whole g c = λ h has.
+    let locks = c.pool_lock.ensures.taken c.if-not-pool_lock.false in
+    let held = block_held g.S.Shape c.args.seat.now c.pool_lock.new.caller c.pool_lock.ensures.same locks
+    (ap (λ (h : Holdings). h.block) c.requires.held.has.held) c.in-Ok.page c.args.size.log2 c.take_block.new.seat
     c.in-Ok.ensures.same c.in-Ok.ensures.taken in
-    let some = held.1.some_page in (
-      held.0,
-      held.1,
-      some_places c.in-Ok.page held.0.log2 _ (λ none. absurd (omega arith))
-          (c.requires.sized ∙ ap (λ n. 4 * 2 ^ n) (sym held.2)),
-    )
+    let some = held.1.some_page in
+    some_places c.in-Ok.page h.log2 _ (λ none. absurd (omega arith))
+    (c.requires.sized ∙ ap (λ n. 4 * 2 ^ n) (sym held.2 ∙ ap (λ (b : HeldBlock). b.log2) (same_block held.1 has)))
 
 pub publish_block-requires-clause-at : goal.publish_block-requires-clause-at
 publish_block-requires-clause-at g c =
     let locks = c.pool_lock.ensures.taken c.if-not-pool_lock.false in
     let ready = is_ready g.S.Shape c.args.seat.now c.pool_lock.new.caller c.pool_lock.ensures.same locks
-    (ap (λ (h : Holdings). h.block) c.requires.lock.1.held) c.in-Ok.page c.args.size.log2 c.take_block.new.seat
-    c.in-Ok.ensures.same c.in-Ok.ensures.taken c.args.block.now c.write_block.new.seat c.write_block.ensures.written in
-    record { own = ap (λ (s : CallerState). s.row) ready.is ∙ c.requires.own; inside = c.requires.lock.1.inside }
+    (ap (λ (h : Holdings). h.block) c.requires.held.has.held) c.in-Ok.page c.args.size.log2 c.take_block.new.seat
+    c.in-Ok.ensures.same c.in-Ok.ensures.taken c.args.block.now c.write_block.new.seat c.write_block.ensures in
+    record { own = ap (λ (s : CallerState). s.row) ready.is ∙ c.requires.held.own; inside = c.requires.held.has.inside }
 
 pub publish_block-requires-clause-may : goal.publish_block-requires-clause-may
 publish_block-requires-clause-may g c =
     let z = sizes_of g.S.Shape in
     let locks = c.pool_lock.ensures.taken c.if-not-pool_lock.false in
     let ready = is_ready g.S.Shape c.args.seat.now c.pool_lock.new.caller c.pool_lock.ensures.same locks
-    (ap (λ (h : Holdings). h.block) c.requires.lock.1.held) c.in-Ok.page c.args.size.log2 c.take_block.new.seat
-    c.in-Ok.ensures.same c.in-Ok.ensures.taken c.args.block.now c.write_block.new.seat c.write_block.ensures.written in
-    may_enter z c.args.seat.now.view c.args.seen.now.site.bucket c.args.seen.now.word c.requires.lock.0 (g.S.Shape.words_of c.args.seen.now.site.key.now)
-    c.requires.lock.1 (record { long = c.args.seen.now.site.counted; home = sym c.args.seen.now.site.home }) c.requires.unworn c.args.value
-    (locked_on ready.left) c.in-Ok.page c.args.size.log2 c.args.size.linear ready.words c.requires.storable c.requires.room
-    c.requires.new ready.near (c.requires.laid c.in-Ok.page ready.words ready.some_page ready.places)
+    (ap (λ (h : Holdings). h.block) c.requires.held.has.held) c.in-Ok.page c.args.size.log2 c.take_block.new.seat
+    c.in-Ok.ensures.same c.in-Ok.ensures.taken c.args.block.now c.write_block.new.seat c.write_block.ensures in
+    may_enter z c.args.seat.now.view c.args.seen.now.site.bucket c.args.seen.now.word c.requires.held.lock (g.S.Shape.words_of c.args.seen.now.site.key.now)
+    c.requires.held.has (record { long = c.args.seen.now.site.counted; home = sym c.args.seen.now.site.home }) c.requires.held.unworn c.args.value
+    (locked_on ready.left) c.in-Ok.page c.args.size.log2 c.args.size.linear ready.words c.requires.held.storable c.requires.room
+    (sym (pair_value (sizes_of g.S.Shape) c.requires.held.lock.extent c.requires.held.lock.now (g.S.Shape.words_of c.args.seen.now.site.key.now)
+    (map_now c.args.seat.now.view c.args.seen.now.site.bucket) None c.requires.held.told c.requires.held.has.pairs)) ready.near (c.requires.laid c.in-Ok.page ready.words ready.some_page ready.places)
     c.write_block.new.seat.view (ap (λ (s : CallerState). s.view) ready.is)
 
-pub leave_store-requires-clause-own : goal.leave_store-requires-clause-own
-leave_store-requires-clause-own g c =
+pub leave_store-requires : goal.leave_store-requires
+leave_store-requires g c =
+    let z = sizes_of g.S.Shape in let s = c.args.seat.now in let site = c.args.seen.now.site in
+    let key = g.S.Shape.words_of site.key.now in
+    let h = c.requires.held in
     let locks = c.pool_lock.ensures.taken c.if-not-pool_lock.false in
     let ready = is_ready g.S.Shape c.args.seat.now c.pool_lock.new.caller c.pool_lock.ensures.same locks
-    (ap (λ (h : Holdings). h.block) c.requires.lock.1.held) c.in-Ok.page c.args.size.log2 c.take_block.new.seat
-    c.in-Ok.ensures.same c.in-Ok.ensures.taken c.args.block.now c.write_block.new.seat c.write_block.ensures.written in
-    let there : c.publish_block.new.caller.row ≡ c.write_block.new.seat.row =
-    ap (λ (s : CallerState). s.row) c.publish_block.ensures.view in
-    let before : c.write_block.new.seat.row ≡ c.args.seat.now.row = ap (λ (s : CallerState). s.row) ready.is in
-    there ∙ (before ∙ c.requires.own)
-
-pub leave_store-requires-clause-block : goal.leave_store-requires-clause-block
-leave_store-requires-clause-block g c =
-    let z = sizes_of g.S.Shape in
-    let v = c.args.seat.now.view in
-    let l = c.requires.lock.0 in
-    let locks = c.pool_lock.ensures.taken c.if-not-pool_lock.false in
-    let ready = is_ready g.S.Shape c.args.seat.now c.pool_lock.new.caller c.pool_lock.ensures.same locks
-    (ap (λ (h : Holdings). h.block) c.requires.lock.1.held) c.in-Ok.page c.args.size.log2 c.take_block.new.seat
-    c.in-Ok.ensures.same c.in-Ok.ensures.taken c.args.block.now c.write_block.new.seat c.write_block.ensures.written in
-    let n = locked_on ready.left in
-    let block = Some (block_of c.in-Ok.page c.args.size.log2 ready.words) in (
-      record n { store = record n.store { unpublished = false } },
-      l.extent,
-      l.now,
-      word_tells z v c.args.seen.now.site.bucket c.args.seen.now.word l c.requires.lock.1,
-      holds_old z v c.publish_block.new.caller.view c.args.seen.now.site.bucket c.args.seen.now.word l n block
-          (call_of v c.args.seen.now.site.bucket 1 (event (g.S.Shape.words_of c.args.seen.now.site.key.now) None (Set c.args.value) (Changed None)))
-          c.requires.lock.1
-          (published c.args.seat.now c.write_block.new.seat c.publish_block.new.caller n block c.args.seen.now.site.bucket
-          (g.S.Shape.words_of c.args.seen.now.site.key.now) None (Set c.args.value) ready.is c.publish_block.ensures.view),
-    )
-
-pub returns-in-Ok-clause-same : goal.returns-in-Ok-clause-same
-returns-in-Ok-clause-same g c =
-    let locks = c.pool_lock.ensures.taken c.if-not-pool_lock.false in
-    let ready = is_ready g.S.Shape c.args.seat.now c.pool_lock.new.caller c.pool_lock.ensures.same locks
-    (ap (λ (h : Holdings). h.block) c.requires.lock.1.held) c.in-Ok.page c.args.size.log2 c.take_block.new.seat
-    c.in-Ok.ensures.same c.in-Ok.ensures.taken c.args.block.now c.write_block.new.seat c.write_block.ensures.written in
-    same_through c.args.seat.now c.write_block.new.seat c.publish_block.new.caller c.leave_store.new.seat
-    (ready_same g.S.Shape c.args.seat.now c.write_block.new.seat c.in-Ok.page c.args.size.log2 c.args.block.now ready)
-    (seen_same c.write_block.new.seat c.publish_block.new.caller c.publish_block.ensures.view) c.leave_store.ensures.same
-
-pub returns-in-Ok-clause-answered : goal.returns-in-Ok-clause-answered
-returns-in-Ok-clause-answered g c =
-    let z = sizes_of g.S.Shape in
-    let v = c.args.seat.now.view in
-    let l = c.requires.lock.0 in
-    let locks = c.pool_lock.ensures.taken c.if-not-pool_lock.false in
-    let ready = is_ready g.S.Shape c.args.seat.now c.pool_lock.new.caller c.pool_lock.ensures.same locks
-    (ap (λ (h : Holdings). h.block) c.requires.lock.1.held) c.in-Ok.page c.args.size.log2 c.take_block.new.seat
-    c.in-Ok.ensures.same c.in-Ok.ensures.taken c.args.block.now c.write_block.new.seat c.write_block.ensures.written in
+    (ap (λ (h : Holdings). h.block) c.requires.held.has.held) c.in-Ok.page c.args.size.log2 c.take_block.new.seat
+    c.in-Ok.ensures.same c.in-Ok.ensures.taken c.args.block.now c.write_block.new.seat c.write_block.ensures in
     let n = locked_on ready.left in
     let block = Some (block_of c.in-Ok.page c.args.size.log2 ready.words) in
-    left_written z v c.publish_block.new.caller.view c.leave_store.new.seat.view c.args.seen.now.site.bucket c.args.seen.now.word l n block
-    (record { key = g.S.Shape.words_of c.args.seen.now.site.key.now; found = None; change = Set c.args.value; reply = Changed None })
-    c.requires.lock.1 (sym c.args.seen.now.site.home) refl
-    (published c.args.seat.now c.write_block.new.seat c.publish_block.new.caller n block c.args.seen.now.site.bucket
-    (g.S.Shape.words_of c.args.seen.now.site.key.now) None (Set c.args.value) ready.is c.publish_block.ensures.view)
-    c.leave_store.ensures.left
+    let done = published s c.write_block.new.seat c.publish_block.new.caller n block site.bucket key None (Set c.args.value)
+    ready.is c.publish_block.ensures.view in record {
+      own = own_through c.write_block.new.seat _ _ c.publish_block.ensures.view (own_through s _ _ ready.is h.own);
+      sound = c.is_sound.ensures;
+      store = record n { store = record n.store { unpublished = false } };
+      extent = h.lock.extent;
+      words = h.lock.now;
+      names = word_tells z s.view site.bucket c.args.seen.now.word h.lock h.has;
+      holds = holds_old z s.view c.publish_block.new.caller.view site.bucket c.args.seen.now.word h.lock n block
+          (call_of s.view site.bucket 1 (event key None (Set c.args.value) (Changed None))) h.has done;
+    }
+
+pub returns-in-Ok : goal.returns-in-Ok
+returns-in-Ok g c =
+    let z = sizes_of g.S.Shape in let s = c.args.seat.now in let site = c.args.seen.now.site in
+    let key = g.S.Shape.words_of site.key.now in
+    let h = c.requires.held in
+    let locks = c.pool_lock.ensures.taken c.if-not-pool_lock.false in
+    let ready = is_ready g.S.Shape c.args.seat.now c.pool_lock.new.caller c.pool_lock.ensures.same locks
+    (ap (λ (h : Holdings). h.block) c.requires.held.has.held) c.in-Ok.page c.args.size.log2 c.take_block.new.seat
+    c.in-Ok.ensures.same c.in-Ok.ensures.taken c.args.block.now c.write_block.new.seat c.write_block.ensures in
+    let n = locked_on ready.left in
+    let block = Some (block_of c.in-Ok.page c.args.size.log2 ready.words) in
+    let done = published s c.write_block.new.seat c.publish_block.new.caller n block site.bucket key None (Set c.args.value)
+    ready.is c.publish_block.ensures.view in
+    finished_write g.S.Shape s c.leave_store.new.seat site.key.now None (Set c.args.value)
+    (same_through s c.write_block.new.seat c.publish_block.new.caller c.leave_store.new.seat
+    (ready_same g.S.Shape s c.write_block.new.seat c.in-Ok.page c.args.size.log2 c.args.block.now ready)
+    (seen_same c.write_block.new.seat c.publish_block.new.caller c.publish_block.ensures.view) c.leave_store.ensures.same)
+    (still_lawful z c.publish_block.new.caller.view c.leave_store.new.seat.view c.leave_store.ensures.left c.publish_block.ensures.lawful)
+    (ap (λ (v : View). locks_of v.records) c.leave_store.ensures.left.is
+    ∙ (locks_pushed _ _ _ (ap (λ (s : CallerState). s.view.records) c.publish_block.ensures.view)
+    ∙ ap (λ (s : CallerState). locks_of s.view.records) ready.is))
+    (left_written z s.view c.publish_block.new.caller.view c.leave_store.new.seat.view site.bucket c.args.seen.now.word h.lock n block
+    (event key None (Set c.args.value) (Changed None)) h.has (sym site.home) refl done c.leave_store.ensures.left)
 
 pub pool_unlock-requires-clause-settled : goal.pool_unlock-requires-clause-settled
 pool_unlock-requires-clause-settled g c =
@@ -132,98 +152,61 @@ pool_unlock-requires-clause-settled g c =
       locks.settled,
     )
 
+pub release-requires-clause-at : goal.release-requires-clause-at
+release-requires-clause-at g c = let h = c.requires.held in
+    record { own = own_through c.args.seat.now _ _ c.pool_lock.ensures.same h.own; inside = h.has.inside }
+
 pub cancel-requires-clause-at : goal.cancel-requires-clause-at
 cancel-requires-clause-at g c =
+    let h = c.requires.held in
     let locks = c.pool_lock.ensures.taken c.if-not-pool_lock.false in
     let opened = looked_same (sizes_of g.S.Shape) c.args.seat.now c.pool_lock.new.caller c.take_block.new.seat c.pool_unlock.new.caller
     c.pool_lock.ensures.same locks c.in-Err.ensures.refused.0 c.pool_unlock.ensures in
-    record { own = ap (λ (s : CallerState). s.row) opened ∙ c.requires.own; inside = c.requires.lock.1.inside }
-
-pub returns-in-Err-clause-same : goal.returns-in-Err-clause-same
-returns-in-Err-clause-same g c =
-    let locks = c.pool_lock.ensures.taken c.if-not-pool_lock.false in
-    seen_same c.pool_unlock.new.caller c.cancel.new.caller c.cancel.ensures.view
-    ∙ ap (λ (s : CallerState). with_view s c.cancel.new.caller.view)
-    (looked_same (sizes_of g.S.Shape) c.args.seat.now c.pool_lock.new.caller c.take_block.new.seat c.pool_unlock.new.caller
-    c.pool_lock.ensures.same locks c.in-Err.ensures.refused.0 c.pool_unlock.ensures)
+    record { own = own_through c.args.seat.now _ _ opened h.own; inside = h.has.inside }
 
 pub cancel-requires-clause-may : goal.cancel-requires-clause-may
 cancel-requires-clause-may g c =
     let z = sizes_of g.S.Shape in
     let locks = c.pool_lock.ensures.taken c.if-not-pool_lock.false in
     let store = store_held g.S.Shape c.args.seat.now c.pool_lock.new.caller c.pool_lock.ensures.same locks
-    (ap (λ (h : Holdings). h.block) c.requires.lock.1.held) 0 c.args.size.log2 in
-    may_refuse z c.args.seat.now.view c.pool_unlock.new.caller.view c.args.seen.now.site.bucket c.args.seen.now.word c.requires.lock.0
-    (g.S.Shape.words_of c.args.seen.now.site.key.now) c.args.value c.args.size.log2 c.in-Err.left locks.store c.requires.lock.1
-    (record { long = c.args.seen.now.site.counted; home = sym c.args.seen.now.site.home }) c.requires.unworn c.requires.room c.requires.new
+    (ap (λ (h : Holdings). h.block) c.requires.held.has.held) 0 c.args.size.log2 in
+    may_refuse z c.args.seat.now.view c.pool_unlock.new.caller.view c.args.seen.now.site.bucket c.args.seen.now.word c.requires.held.lock
+    (g.S.Shape.words_of c.args.seen.now.site.key.now) c.args.value c.args.size.log2 c.in-Err.left locks.store c.requires.held.has
+    (record { long = c.args.seen.now.site.counted; home = sym c.args.seen.now.site.home }) c.requires.held.unworn c.requires.room (sym (pair_value (sizes_of g.S.Shape) c.requires.held.lock.extent c.requires.held.lock.now (g.S.Shape.words_of c.args.seen.now.site.key.now)
+    (map_now c.args.seat.now.view c.args.seen.now.site.bucket) None c.requires.held.told c.requires.held.has.pairs))
     c.requires.small (c.in-Err.ensures.refused.1 (locked_on locks.store) store)
     (looked z c.args.seat.now c.pool_lock.new.caller c.take_block.new.seat c.pool_unlock.new.caller
     c.pool_lock.ensures.same locks c.in-Err.ensures.refused.0 c.pool_unlock.ensures)
 
-pub returns-in-Err-clause-answered : goal.returns-in-Err-clause-answered
-returns-in-Err-clause-answered g c =
-    let z = sizes_of g.S.Shape in
+pub returns-in-Err : goal.returns-in-Err
+returns-in-Err g c =
+    let z = sizes_of g.S.Shape in let s = c.args.seat.now in let site = c.args.seen.now.site in
+    let key = g.S.Shape.words_of site.key.now in
+    let h = c.requires.held in
     let locks = c.pool_lock.ensures.taken c.if-not-pool_lock.false in
-    left_answered z c.args.seat.now.view c.cancel.new.caller.view c.args.seen.now.site.bucket c.args.seen.now.word c.requires.lock.0 locks.store
-    (record {
-      key = g.S.Shape.words_of c.args.seen.now.site.key.now;
-      found = None;
-      change = Set c.args.value;
-      reply = NoPages c.args.size.log2 c.in-Err.left;
-    })
-    c.requires.lock.1 (sym c.args.seen.now.site.home)
-    (was_answered c.pool_unlock.new.caller c.cancel.new.caller c.args.seen.now.site.bucket (g.S.Shape.words_of c.args.seen.now.site.key.now) None
-    (Set c.args.value) (NoPages c.args.size.log2 c.in-Err.left) (looked_at c.args.seat.now.view locks.store)
-    (looked z c.args.seat.now c.pool_lock.new.caller c.take_block.new.seat c.pool_unlock.new.caller
-    c.pool_lock.ensures.same locks c.in-Err.ensures.refused.0 c.pool_unlock.ensures) c.cancel.ensures.view)
-
-pub returns-in-Err-clause-no_pages : goal.returns-in-Err-clause-no_pages
-returns-in-Err-clause-no_pages g c = λ wanted left e.
-    let z = sizes_of g.S.Shape in
-    let locks = c.pool_lock.ensures.taken c.if-not-pool_lock.false in
-    let store = store_held g.S.Shape c.args.seat.now c.pool_lock.new.caller c.pool_lock.ensures.same locks
-    (ap (λ (h : Holdings). h.block) c.requires.lock.1.held) 0 c.args.size.log2 in
-    let key = g.S.Shape.words_of c.args.seen.now.site.key.now in
-    let refused = was_answered c.pool_unlock.new.caller c.cancel.new.caller c.args.seen.now.site.bucket key None
-    (Set c.args.value) (NoPages c.args.size.log2 c.in-Err.left) (looked_at c.args.seat.now.view locks.store)
-    (looked z c.args.seat.now c.pool_lock.new.caller c.take_block.new.seat c.pool_unlock.new.caller
-    c.pool_lock.ensures.same locks c.in-Err.ensures.refused.0 c.pool_unlock.ensures) c.cancel.ensures.view in
-    let same : wanted ≡ c.args.size.log2 = cc in
-    let few : c.in-Err.left ≡ left = cc in (
-      same,
-      ap (λ (x : View). map_now x c.args.seen.now.site.bucket) refused,
-      (
-        locks.store,
-        subst (λ n. IsWanting z locks.store c.args.size.log2 n) few
-            (c.in-Err.ensures.refused.1 (locked_on locks.store) store),
-        bears_noted c.args.seat.now.view c.cancel.new.caller.view c.args.seen.now.site.bucket locks.store key None (Set c.args.value) c.args.size.log2
-            c.in-Err.left refused,
-      ),
-    )
-
-pub returns-in-Ok-clause-lawful : goal.returns-in-Ok-clause-lawful
-returns-in-Ok-clause-lawful g c = still_lawful (sizes_of g.S.Shape) c.publish_block.new.caller.view c.leave_store.new.seat.view
-    c.leave_store.ensures.left c.publish_block.ensures.lawful
-
-pub returns-then-not-pool_lock-clause-locks : goal.returns-then-not-pool_lock-clause-locks
-returns-then-not-pool_lock-clause-locks g c = ap (λ (s : CallerState). locks_of s.view.records) c.release.ensures.view
-    ∙ ap (λ (v : View). locks_of v.records) (c.pool_lock.ensures.not c.if-not-pool_lock.true)
-
-pub returns-in-Ok-clause-locks : goal.returns-in-Ok-clause-locks
-returns-in-Ok-clause-locks g c =
-    let locks = c.pool_lock.ensures.taken c.if-not-pool_lock.false in
-    let ready = is_ready g.S.Shape c.args.seat.now c.pool_lock.new.caller c.pool_lock.ensures.same locks
-    (ap (λ (h : Holdings). h.block) c.requires.lock.1.held) c.in-Ok.page c.args.size.log2 c.take_block.new.seat
-    c.in-Ok.ensures.same c.in-Ok.ensures.taken c.args.block.now c.write_block.new.seat c.write_block.ensures.written in
-    ap (λ (v : View). locks_of v.records) c.leave_store.ensures.left.is
-    ∙ (locks_pushed _ _ _ (ap (λ (s : CallerState). s.view.records) c.publish_block.ensures.view)
-    ∙ ap (λ (s : CallerState). locks_of s.view.records) ready.is)
-
-pub returns-in-Err-clause-locks : goal.returns-in-Err-clause-locks
-returns-in-Err-clause-locks g c =
-    let locks = c.pool_lock.ensures.taken c.if-not-pool_lock.false in
-    locks_pushed _ c.args.seat.now.view.records _ (ap (λ (v : View). v.records)
-    (was_answered c.pool_unlock.new.caller c.cancel.new.caller c.args.seen.now.site.bucket (g.S.Shape.words_of c.args.seen.now.site.key.now) None
-    (Set c.args.value) (NoPages c.args.size.log2 c.in-Err.left) (looked_at c.args.seat.now.view locks.store)
-    (looked (sizes_of g.S.Shape) c.args.seat.now c.pool_lock.new.caller c.take_block.new.seat c.pool_unlock.new.caller
-    c.pool_lock.ensures.same locks c.in-Err.ensures.refused.0 c.pool_unlock.ensures) c.cancel.ensures.view))
+    let store = store_held g.S.Shape s c.pool_lock.new.caller c.pool_lock.ensures.same locks
+    (ap (λ (k : Holdings). k.block) h.has.held) 0 c.args.size.log2 in
+    let opened = looked z s c.pool_lock.new.caller c.take_block.new.seat c.pool_unlock.new.caller
+    c.pool_lock.ensures.same locks c.in-Err.ensures.refused.0 c.pool_unlock.ensures in
+    let reply : Reply = NoPages c.args.size.log2 c.in-Err.left in
+    let refused = was_answered c.pool_unlock.new.caller c.cancel.new.caller site.bucket key None (Set c.args.value) reply
+    (looked_at s.view locks.store) opened c.cancel.ensures.view in
+    let t = c.cancel.new.caller in
+    finished g.S.Shape s t site.key.now None (Set c.args.value)
+    (seen_same c.pool_unlock.new.caller t c.cancel.ensures.view ∙ ap (λ (k : CallerState). with_view k t.view)
+    (looked_same z s c.pool_lock.new.caller c.take_block.new.seat c.pool_unlock.new.caller c.pool_lock.ensures.same locks
+    c.in-Err.ensures.refused.0 c.pool_unlock.ensures))
+    c.cancel.ensures.lawful
+    (locks_pushed _ s.view.records _ (ap (λ (v : View). v.records) refused))
+    reply
+    (left_answered z s.view t.view site.bucket c.args.seen.now.word h.lock locks.store (event key None (Set c.args.value) reply)
+    h.has (sym site.home) refused)
+    (λ wanted left e.
+    let size : c.args.size.log2 ≡ wanted = cc in
+    let few : c.in-Err.left ≡ left = cc in
+    subst (λ (b : ℕ). IsShortage g.S.Shape t.view b site.key.now wanted left) site.home
+    (subst (λ (x : ℕ × ℕ). IsShortage g.S.Shape t.view site.bucket site.key.now x.0 x.1) (λ i. (size i, few i))
+    (is_shortage g.S.Shape _ site.key.now t.view site.bucket (ap (λ (x : View). map_now x site.bucket) refused) c.args.size.log2 c.in-Err.left
+    c.args.size.linear locks.store c.requires.planned (c.in-Err.ensures.refused.1 (locked_on locks.store) store)
+    (bears_noted s.view t.view site.bucket locks.store key None (Set c.args.value) c.args.size.log2 c.in-Err.left refused))))
+    refl

@@ -3,6 +3,9 @@ use Rattle.bihash_steps.specs.Seats.{CallerState}
 use Rattle.bihash_table.proofs.Stores.{released}
 use Rattle.bihash_table.proofs.grow.leave_store.Goals as goal
 
+pub give_back_old-requires : goal.give_back_old-requires
+give_back_old-requires g c = c.requires
+
 pub pool_unlock-requires-clause-own : goal.pool_unlock-requires-clause-own
 pool_unlock-requires-clause-own g c = ap (λ (s : CallerState). s.row) c.give_back_old.ensures.is ∙ c.requires.own
 

@@ -1,91 +1,93 @@
-use Rattle.std.proofs.Common.{◌∙◌, false, Some, None, ap, refl, sym}
+use Rattle.std.proofs.Common.{◌∙◌, false, true≢false, Some, None, ap, refl, sym}
 use Rattle.bihash_words.specs.Sizes.{sizes_of}
 use Rattle.bihash_words.specs.declared.patch.Change.TheVariants.{Remove}
 use Rattle.bihash_words.specs.declared.patch.Reply.TheVariants.{Changed}
-use Rattle.bihash_steps.specs.BucketCalls.{event}
-use Rattle.bihash_steps.specs.BucketSteps.{call_of, map_now}
+use Rattle.bihash_steps.specs.BucketSteps.{call_of, map_now, unlocked}
 use Rattle.bihash_steps.specs.Seats.{CallerState, with_view}
+use Rattle.bihash_steps.specs.declared.view.Holdings.{Holdings}
 use Rattle.bihash_steps.specs.declared.view.View.{View}
+use Rattle.bihash_steps.specs.BucketCalls.{event}
 use Rattle.bihash_table.specs.Answers.{locks_of}
 use Rattle.bihash_table.proofs.LockCounts.{locks_pushed}
 use Rattle.bihash_table.proofs.OpenPlaces.{word_tells}
-use Rattle.bihash_table.proofs.Replacing.{emptied, found_there, locked_on, may_empty, published, store_only}
+use Rattle.bihash_table.proofs.Replacing.{emptied, found_there, locked_on, may_empty, published, same_through, seen_same, store_only}
+use Rattle.bihash_table.proofs.SameCallers.{own_through}
 use Rattle.bihash_table.proofs.Stores.{holds_old, left_written, still_lawful, turned_away}
+use Rattle.bihash_table.proofs.Tries.{finished_away, finished_write}
 use Rattle.bihash_table.proofs.grow.remove_last.Goals as goal
 
-pub returns-then-not-pool_lock-clause-contended : goal.returns-then-not-pool_lock-clause-contended
-returns-then-not-pool_lock-clause-contended g c = turned_away (sizes_of g.S.Shape) c.args.seat.now.view
-    c.pool_lock.new.caller.view c.release.new.caller.view c.args.seen.now.site.bucket c.args.seen.now.word c.requires.lock.0 c.requires.lock.2
-    (c.pool_lock.ensures.not c.if-not-pool_lock.true) (ap (λ (s : CallerState). s.view) c.release.ensures.view)
+pub returns-then-not-pool_lock : goal.returns-then-not-pool_lock
+returns-then-not-pool_lock g c =
+    let site = c.args.seen.now.site in
+    let s = c.args.seat.now in
+    let h = c.requires in
+    let not = c.pool_lock.ensures.not c.if-not-pool_lock.true in
+    finished_away g.S.Shape s c.release.new.caller site.key.now (Some c.args.pair.1) Remove
+    (seen_same s c.release.new.caller (c.release.ensures.view ∙ ap (λ (k : CallerState). with_view k (unlocked k.view)) c.pool_lock.ensures.same))
+    c.release.ensures.lawful (ap (λ (k : CallerState). locks_of k.view.records) c.release.ensures.view ∙ ap (λ (v : View). locks_of v.records) not)
+    _ site.bucket (sym site.home)
+    (turned_away (sizes_of g.S.Shape) s.view c.pool_lock.new.caller.view c.release.new.caller.view site.bucket c.args.seen.now.word h.lock h.has
+    not (ap (λ (k : CallerState). k.view) c.release.ensures.view))
+    (λ lone. true≢false (sym (c.pool_lock.ensures.lone lone (ap (λ (k : Holdings). k.store) h.has.held)) ∙ c.if-not-pool_lock.true))
+
+pub release-requires-clause-at : goal.release-requires-clause-at
+release-requires-clause-at g c = let h = c.requires in
+    record { own = own_through c.args.seat.now _ _ c.pool_lock.ensures.same h.own; inside = h.has.inside }
+
+pub publish_block-requires-clause-at : goal.publish_block-requires-clause-at
+publish_block-requires-clause-at g c = let h = c.requires in
+    record { own = own_through c.args.seat.now _ _ c.pool_lock.ensures.same h.own; inside = h.has.inside }
 
 pub publish_block-requires-clause-may : goal.publish_block-requires-clause-may
 publish_block-requires-clause-may g c =
-    let z = sizes_of g.S.Shape in
-    let v = c.args.seat.now.view in
-    let l = c.requires.lock.0 in
-    let key = g.S.Shape.words_of c.args.seen.now.site.key.now in
+    let z = sizes_of g.S.Shape in let s = c.args.seat.now in let site = c.args.seen.now.site in
+    let key = g.S.Shape.words_of site.key.now in
+    let h = c.requires in
     let locks = c.pool_lock.ensures.taken c.if-not-pool_lock.false in
-    may_empty z v c.args.seen.now.site.bucket c.args.seen.now.word l key c.requires.lock.2
-    (record { long = c.args.seen.now.site.counted; home = sym c.args.seen.now.site.home }) c.requires.unworn (locked_on locks.store)
-    c.args.found
-    (found_there z l.extent l.now key (map_now v c.args.seen.now.site.bucket) c.requires.lock.1 c.args.found c.requires.lock.2.pairs
-    c.requires.lock.3 c.requires.lock.4)
+    let n = locked_on locks.store in
+    may_empty z s.view site.bucket c.args.seen.now.word h.lock key h.has (record { long = site.counted; home = sym site.home }) h.unworn n
+    c.args.pair.1
+    (found_there z h.lock.extent h.lock.now key (map_now s.view site.bucket) c.args.pair.0 c.args.pair.1 h.has.pairs h.told.0.0 (sym h.told.0.1))
     c.is_sound.ensures.some_page
-    (emptied z l.extent l.now key (map_now v c.args.seen.now.site.bucket) c.requires.lock.1 c.requires.lock.2.pairs c.requires.lock.3
-    c.requires.lock.5)
-    c.pool_lock.new.caller.view (store_only z v c.pool_lock.new.caller.view c.args.seen.now.site.bucket c.args.seen.now.word l c.requires.lock.2 locks)
+    (emptied z h.lock.extent h.lock.now key (map_now s.view site.bucket) c.args.pair.0 h.has.pairs h.told.0.0 h.told.1)
+    c.pool_lock.new.caller.view (store_only z s.view c.pool_lock.new.caller.view site.bucket c.args.seen.now.word h.lock h.has locks)
 
-pub leave_store-requires-clause-block : goal.leave_store-requires-clause-block
-leave_store-requires-clause-block g c =
-    let z = sizes_of g.S.Shape in
-    let v = c.args.seat.now.view in
-    let l = c.requires.lock.0 in
-    let key = g.S.Shape.words_of c.args.seen.now.site.key.now in
+pub leave_store-requires : goal.leave_store-requires
+leave_store-requires g c =
+    let z = sizes_of g.S.Shape in let s = c.args.seat.now in let site = c.args.seen.now.site in
+    let key = g.S.Shape.words_of site.key.now in
+    let h = c.requires in
     let locks = c.pool_lock.ensures.taken c.if-not-pool_lock.false in
-    let n = locked_on locks.store in (
-      record n { store = record n.store { unpublished = false } },
-      l.extent,
-      l.now,
-      word_tells z v c.args.seen.now.site.bucket c.args.seen.now.word l c.requires.lock.2,
-      holds_old z v c.publish_block.new.caller.view c.args.seen.now.site.bucket c.args.seen.now.word l n None
-          (call_of v c.args.seen.now.site.bucket 1 (event key (Some c.args.found) Remove (Changed (Some c.args.found))))
-          c.requires.lock.2
-          (published c.args.seat.now c.pool_lock.new.caller c.publish_block.new.caller n None c.args.seen.now.site.bucket key
-          (Some c.args.found) Remove (c.pool_lock.ensures.same ∙ ap (with_view c.args.seat.now)
-          (store_only z v c.pool_lock.new.caller.view c.args.seen.now.site.bucket c.args.seen.now.word l c.requires.lock.2 locks))
-          c.publish_block.ensures.view),
-    )
+    let n = locked_on locks.store in
+    let done = published s c.pool_lock.new.caller c.publish_block.new.caller n None site.bucket key (Some c.args.pair.1) Remove
+    (c.pool_lock.ensures.same ∙ ap (with_view s) (store_only z s.view c.pool_lock.new.caller.view site.bucket c.args.seen.now.word h.lock h.has locks))
+    c.publish_block.ensures.view in record {
+      own = own_through c.pool_lock.new.caller _ _ c.publish_block.ensures.view (own_through s _ _ c.pool_lock.ensures.same h.own);
+      sound = c.is_sound.ensures;
+      store = record n { store = record n.store { unpublished = false } };
+      extent = h.lock.extent;
+      words = h.lock.now;
+      names = word_tells z s.view site.bucket c.args.seen.now.word h.lock h.has;
+      holds = holds_old z s.view c.publish_block.new.caller.view site.bucket c.args.seen.now.word h.lock n None
+          (call_of s.view site.bucket 1 (event key (Some c.args.pair.1) Remove (Changed (Some c.args.pair.1)))) h.has done;
+    }
 
-pub returns-clause-answered : goal.returns-clause-answered
-returns-clause-answered g c =
-    let z = sizes_of g.S.Shape in
-    let v = c.args.seat.now.view in
-    let l = c.requires.lock.0 in
-    let key = g.S.Shape.words_of c.args.seen.now.site.key.now in
+pub returns : goal.returns
+returns g c =
+    let z = sizes_of g.S.Shape in let s = c.args.seat.now in let site = c.args.seen.now.site in
+    let key = g.S.Shape.words_of site.key.now in
+    let h = c.requires in
     let locks = c.pool_lock.ensures.taken c.if-not-pool_lock.false in
-    let n = locked_on locks.store in (
-      refl,
-      left_written z v c.publish_block.new.caller.view c.leave_store.new.seat.view c.args.seen.now.site.bucket c.args.seen.now.word l n None
-          (record { key = key; found = Some c.args.found; change = Remove; reply = Changed (Some c.args.found) })
-          c.requires.lock.2 (sym c.args.seen.now.site.home) refl
-          (published c.args.seat.now c.pool_lock.new.caller c.publish_block.new.caller n None c.args.seen.now.site.bucket key
-          (Some c.args.found) Remove (c.pool_lock.ensures.same ∙ ap (with_view c.args.seat.now)
-          (store_only z v c.pool_lock.new.caller.view c.args.seen.now.site.bucket c.args.seen.now.word l c.requires.lock.2 locks))
-          c.publish_block.ensures.view)
-          c.leave_store.ensures.left,
-    )
-
-pub returns-clause-lawful : goal.returns-clause-lawful
-returns-clause-lawful g c = still_lawful (sizes_of g.S.Shape) c.publish_block.new.caller.view c.leave_store.new.seat.view
-    c.leave_store.ensures.left c.publish_block.ensures.lawful
-
-pub returns-then-not-pool_lock-clause-locks : goal.returns-then-not-pool_lock-clause-locks
-returns-then-not-pool_lock-clause-locks g c = ap (λ (s : CallerState). locks_of s.view.records) c.release.ensures.view
-    ∙ ap (λ (v : View). locks_of v.records) (c.pool_lock.ensures.not c.if-not-pool_lock.true)
-
-pub returns-clause-locks : goal.returns-clause-locks
-returns-clause-locks g c =
-    let locks = c.pool_lock.ensures.taken c.if-not-pool_lock.false in
-    ap (λ (v : View). locks_of v.records) c.leave_store.ensures.left.is
+    let n = locked_on locks.store in
+    let done = published s c.pool_lock.new.caller c.publish_block.new.caller n None site.bucket key (Some c.args.pair.1) Remove
+    (c.pool_lock.ensures.same ∙ ap (with_view s) (store_only z s.view c.pool_lock.new.caller.view site.bucket c.args.seen.now.word h.lock h.has locks))
+    c.publish_block.ensures.view in
+    finished_write g.S.Shape s c.leave_store.new.seat site.key.now (Some c.args.pair.1) Remove
+    (same_through s c.pool_lock.new.caller c.publish_block.new.caller c.leave_store.new.seat c.pool_lock.ensures.same
+    (seen_same c.pool_lock.new.caller c.publish_block.new.caller c.publish_block.ensures.view) c.leave_store.ensures.same)
+    (still_lawful z c.publish_block.new.caller.view c.leave_store.new.seat.view c.leave_store.ensures.left c.publish_block.ensures.lawful)
+    (ap (λ (v : View). locks_of v.records) c.leave_store.ensures.left.is
     ∙ (locks_pushed _ _ _ (ap (λ (s : CallerState). s.view.records) c.publish_block.ensures.view)
-    ∙ ap (λ (v : View). locks_of v.records) locks.is)
+    ∙ ap (λ (v : View). locks_of v.records) locks.is))
+    (left_written z s.view c.publish_block.new.caller.view c.leave_store.new.seat.view site.bucket c.args.seen.now.word h.lock n None
+    (event key (Some c.args.pair.1) Remove (Changed (Some c.args.pair.1))) h.has (sym site.home) refl done c.leave_store.ensures.left)

@@ -25,6 +25,9 @@ gave_back s t u w log2 page n h may same listed returned =
     ∙ ap (λ p. with_view s (holding s.view (Some (record { store = relisted n.store log2 p; listed = None })) None))
     may.same_page
 
+pub pool_load-count-requires-clause-own : goal.pool_load-count-requires-clause-own
+pool_load-count-requires-clause-own g c = c.requires.own
+
 pub returns : goal.returns
 returns g c = λ n h may. gave_back c.args.seat.now c.pool_load-count.new.caller c.pool_list.new.caller
     c.pool_return.new.caller c.args.log2 c.args.page n h may c.pool_load-count.ensures.same c.pool_list.ensures

@@ -1,74 +1,82 @@
-use Rattle.std.proofs.Common.{◌≢◌, ◌∙◌, ℕ, Option, ap, subst, sym}
-use Rattle.bihash_words.specs.Maps.{effect_of}
+use Rattle.std.proofs.Common.{◌≢◌, ◌∙◌, ℕ, Option, ap, refl, subst, sym}
 use Rattle.bihash_words.specs.Sizes.{sizes_of}
+use Rattle.bihash_words.specs.Maps.{effect_of}
 use Rattle.bihash_words.specs.declared.patch.Change.TheVariants.{Keep}
-use Rattle.bihash_table.specs.OpenReads.{IsPairIn, value_of}
-use Rattle.bihash_table.specs.Seen.{HasSeen}
+use Rattle.bihash_steps.specs.Histories.{bounds_of}
+use Rattle.bihash_table.specs.OpenReads.{value_of}
+use Rattle.bihash_table.specs.Seen.{Found}
 use Rattle.bihash_table.specs.Tries.{Tried}
+use Rattle.bihash_table.proofs.Decisions.{kept_step, worn_step}
+use Rattle.bihash_table.proofs.Sights.{seen_as}
 use Rattle.bihash_table.proofs.Tries.{value_seen}
 use Rattle.bihash_table.proofs.Versions.{unworn, worn}
 use Rattle.bihash_table.proofs.update.make.Goals as goal
 
-pub keep-requires-clause-seen : goal.keep-requires-clause-seen
-keep-requires-clause-seen g c = value_seen (sizes_of g.S.Shape) _ _ _ _ _ _ c.value_found-found.ensures c.requires.seen
+pub answer-requires : goal.answer-requires
+answer-requires g c =
+    let z = sizes_of g.S.Shape in
+    let h = c.requires.found in record {
+      own = h.own;
+      seen = seen_as z _ _ _ (value_seen z _ _ _ _ _ _ c.value_found-found.ensures h.seen) (λ told m pairs.
+          (m, kept_step (bounds_of z) m _ _ _ _ (told m pairs) (c.is_idle.ensures.yes c.if-is_idle.true)));
+      reads = refl;
+      paged = λ log2 left e. absurd cc;
+    }
 
 pub returns-then-is_idle : goal.returns-then-is_idle
 returns-then-is_idle g c = let site = c.args.seen.now.site in
-    subst (λ (f : Option ℕ). Tried g.S.Shape c.args.caller.now.seat c.keep.new.seat site.bucket site.key.now f c.args.change c.keep.result)
-    c.value_found-found.ensures c.keep.ensures.tried
+    subst (λ (f : Option ℕ). Tried g.S.Shape c.args.caller.now.seat c.answer.new.seat site.key.now f c.args.change c.answer.result)
+    c.value_found-found.ensures c.answer.ensures
 
-pub refuse-requires-clause-seen : goal.refuse-requires-clause-seen
-refuse-requires-clause-seen g c = value_seen (sizes_of g.S.Shape) _ _ _ _ _ _ c.value_found-found.ensures c.requires.seen
-
-pub refuse-requires-clause-wanted : goal.refuse-requires-clause-wanted
-refuse-requires-clause-wanted g c = c.is_idle.ensures.no c.if-is_idle.false
-
-pub refuse-requires-clause-worn : goal.refuse-requires-clause-worn
-refuse-requires-clause-worn g c = worn (sizes_of g.S.Shape) _ _ _ c.requires.seen.seen c.is_worn.result c.is_worn.ensures c.if-is_worn.true
+pub answer-requires-then-is_worn : goal.answer-requires-then-is_worn
+answer-requires-then-is_worn g c =
+    let z = sizes_of g.S.Shape in
+    let h = c.requires.found in record {
+      own = h.own;
+      seen = seen_as z _ _ _ (value_seen z _ _ _ _ _ _ c.value_found-found.ensures h.seen) (λ told m pairs. (
+        m,
+        worn_step (bounds_of z) m _ _ _ _ (told m pairs) (c.is_idle.ensures.no c.if-is_idle.false)
+            (worn z _ _ _ h.seen.seen c.is_worn.result c.is_worn.ensures c.if-is_worn.true),
+      ));
+      reads = refl;
+      paged = λ log2 left e. absurd cc;
+    }
 
 pub returns-then-is_worn : goal.returns-then-is_worn
 returns-then-is_worn g c = let site = c.args.seen.now.site in
-    subst (λ (f : Option ℕ). Tried g.S.Shape c.args.caller.now.seat c.refuse.new.seat site.bucket site.key.now f c.args.change
-    c.refuse.result) c.value_found-found.ensures c.refuse.ensures.tried
+    subst (λ (f : Option ℕ). Tried g.S.Shape c.args.caller.now.seat c.answer-then-is_worn.new.seat site.key.now f c.args.change
+    c.answer-then-is_worn.result) c.value_found-found.ensures c.answer-then-is_worn.ensures
 
-pub change_pair-requires-clause-seen : goal.change_pair-requires-clause-seen
-change_pair-requires-clause-seen g c =
-    let z = sizes_of g.S.Shape in
-    let site = c.args.seen.now.site in
-    subst (λ (p : Option (ℕ × ℕ)). HasSeen z c.args.caller.now.seat.view site.bucket c.args.seen.now.word
-    (IsPairIn z (g.S.Shape.words_of site.key.now) p)) c.in-Some.is c.requires.seen
-
-pub change_pair-requires-clause-unworn : goal.change_pair-requires-clause-unworn
-change_pair-requires-clause-unworn g c =
-    unworn (sizes_of g.S.Shape) _ _ _ c.requires.seen.seen c.is_worn.result c.is_worn.ensures c.if-is_worn.false
-
-pub change_pair-requires-clause-wanted : goal.change_pair-requires-clause-wanted
-change_pair-requires-clause-wanted g c =
-    subst (λ (f : Option ℕ). effect_of c.args.change f ≢ Keep) (c.value_found-found.ensures ∙ ap value_of c.in-Some.is)
-    (c.is_idle.ensures.no c.if-is_idle.false)
+pub change_pair-requires : goal.change_pair-requires
+change_pair-requires g c =
+    let h = subst (λ (p : Option (ℕ × ℕ)). Found g.S.Shape c.args.row.now c.args.caller.now.seat c.args.seen.now.site.bucket c.args.seen.now.word
+    c.args.seen.now.site.key.now p) c.in-Some.is c.requires.found in record {
+      own = h.own;
+      seen = h.seen;
+      unworn = unworn (sizes_of g.S.Shape) _ _ _ h.seen.seen c.is_worn.result c.is_worn.ensures c.if-is_worn.false;
+      wanted = subst (λ (f : Option ℕ). effect_of c.args.change f ≢ Keep) (c.value_found-found.ensures ∙ ap value_of c.in-Some.is)
+          (c.is_idle.ensures.no c.if-is_idle.false);
+      storable = c.requires.storable;
+    }
 
 pub returns-in-Some : goal.returns-in-Some
 returns-in-Some g c = let site = c.args.seen.now.site in
-    subst (λ (f : Option ℕ). Tried g.S.Shape c.args.caller.now.seat c.change_pair.new.seat site.bucket site.key.now f c.args.change
+    subst (λ (f : Option ℕ). Tried g.S.Shape c.args.caller.now.seat c.change_pair.new.seat site.key.now f c.args.change
     c.change_pair.result) (sym (ap value_of c.in-Some.is)) c.change_pair.ensures
 
-pub enter_new-requires-clause-seen : goal.enter_new-requires-clause-seen
-enter_new-requires-clause-seen g c =
-    let z = sizes_of g.S.Shape in
-    let site = c.args.seen.now.site in
-    subst (λ (p : Option (ℕ × ℕ)). HasSeen z c.args.caller.now.seat.view site.bucket c.args.seen.now.word
-    (IsPairIn z (g.S.Shape.words_of site.key.now) p)) c.in-None.is c.requires.seen
-
-pub enter_new-requires-clause-unworn : goal.enter_new-requires-clause-unworn
-enter_new-requires-clause-unworn g c =
-    unworn (sizes_of g.S.Shape) _ _ _ c.requires.seen.seen c.is_worn.result c.is_worn.ensures c.if-is_worn.false
-
-pub enter_new-requires-clause-wanted : goal.enter_new-requires-clause-wanted
-enter_new-requires-clause-wanted g c =
-    subst (λ (f : Option ℕ). effect_of c.args.change f ≢ Keep) (c.value_found-found.ensures ∙ ap value_of c.in-None.is)
-    (c.is_idle.ensures.no c.if-is_idle.false)
+pub enter_new-requires : goal.enter_new-requires
+enter_new-requires g c =
+    let h = subst (λ (p : Option (ℕ × ℕ)). Found g.S.Shape c.args.row.now c.args.caller.now.seat c.args.seen.now.site.bucket c.args.seen.now.word
+    c.args.seen.now.site.key.now p) c.in-None.is c.requires.found in record {
+      own = h.own;
+      seen = h.seen;
+      unworn = unworn (sizes_of g.S.Shape) _ _ _ h.seen.seen c.is_worn.result c.is_worn.ensures c.if-is_worn.false;
+      wanted = subst (λ (f : Option ℕ). effect_of c.args.change f ≢ Keep) (c.value_found-found.ensures ∙ ap value_of c.in-None.is)
+          (c.is_idle.ensures.no c.if-is_idle.false);
+      storable = c.requires.storable;
+    }
 
 pub returns-in-None : goal.returns-in-None
 returns-in-None g c = let site = c.args.seen.now.site in
-    subst (λ (f : Option ℕ). Tried g.S.Shape c.args.caller.now.seat c.enter_new.new.caller.seat site.bucket site.key.now f c.args.change
+    subst (λ (f : Option ℕ). Tried g.S.Shape c.args.caller.now.seat c.enter_new.new.caller.seat site.key.now f c.args.change
     c.enter_new.result) (sym (ap value_of c.in-None.is)) c.enter_new.ensures

@@ -4,9 +4,9 @@ use Rattle.bihash_steps.specs.Histories.{bucket_of}
 use Rattle.bihash_steps.specs.Seats.{with_view}
 use Rattle.bihash_table.specs.Promise.{IsTurnedAway}
 use Rattle.bihash_table.specs.Tries.{TookAtMost}
-use Rattle.bihash_table.proofs.sessions.Sessions.update.Given as goal
+use Rattle.bihash_table.proofs.sessions.Sessions.update_again.Given as goal
 
--- each try so far met another caller's lock and took one lock at most, and there was none where the caller is lone
+-- each try so far was turned away and took one lock at most, and there was none where the caller is lone
 abbrev pub invariant-loop : goal.invariant-loop
 invariant-loop g l = record {
   next : (goal.iterator-loop g).can_next l.iterator';
