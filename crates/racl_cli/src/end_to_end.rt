@@ -10,7 +10,7 @@ ghost use Rattle.racl_cli.specs.Runs.{Accepts, ByOneThread, FiltersCapture, Filt
 use crate::judging::verdicts_on;
 use acl_policy::read_policy;
 use flow_workers::Filter;
-use packet_view::read_capture;
+use packet_view::check_capture;
 use racl_io::{
     Fault, Form, Report, Sink, Source, Totals, decoded, parts, read_input, report_on, write_all,
 };
@@ -33,9 +33,9 @@ fn report_capture<T: Threads + Wait + Sync>(
     ensures fault { IfErr result (λ fault. fault ≢ Memory → IsFaultOfCapture capture.now fault) }
     ensures refuses { (fault : Fault) → IsFaultOfCapture capture.now fault → Refuses fault result }
 {
-    let capture = read_capture(alloc, capture)?;
-    let verdicts = verdicts_on(rt, alloc, options, filter, &capture.packets)?;
-    let report = report_on(alloc, &verdicts, capture.truncated)?;
+    let checked = check_capture(capture)?;
+    let verdicts = verdicts_on(rt, alloc, options, filter, checked.records)?;
+    let report = report_on(alloc, &verdicts, checked.truncated)?;
     Ok(report)
 }
 
