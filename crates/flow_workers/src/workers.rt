@@ -125,18 +125,19 @@ where
 /// The verdicts on the packets, in their order, by so many workers at once over new tables. A worker whose thread
 /// can't be made is run by the calling thread. `Memory`: memory was refused.
 pub fn run_workers<
+    't,
     'a,
     A: Shape + Send + Sync,
     B: Shape + Send + Sync,
     R: Threads + Wait + Sync,
     G: Gate + Sync,
 >(
-    rt: &R,
+    rt: &'t R,
     alloc: Global,
-    filter: &'a Filter,
+    filter: &'t Filter,
     packets: Packets<'a>,
     workers: usize,
-    gate: &G,
+    gate: &'t G,
     dealing: Dealing,
 ) -> Result<Vec<Verdict>, RunFault>
 where
@@ -147,13 +148,13 @@ where
     requires few { workers ≤ 16 }
     ensures judged { IfOk result (λ v. AreJudged
         (record { layout = layout_of ⟦<A as Shape>⟧ ⟦<B as Shape>⟧; dealing = dealing; workers = workers })
-        filter.now.times (policy_facts filter.now.policy) (held packets) v.items) }
+        filter.now.times (policy_facts filter.now.policy) (held packets.entry) v.items) }
     ensures one_report { IfOk result (λ v. (dealing ≡ Bucket) ⊎ (workers ≡ 1) → HavePages v.items
         → AreVerdicts (layout_of ⟦<A as Shape>⟧ ⟦<B as Shape>⟧) filter.now.times (policy_facts filter.now.policy)
-        (held packets) v.items) }
+        (held packets.entry) v.items) }
     ensures pages { IfOk result (λ v. (are : AreJudged
         (record { layout = layout_of ⟦<A as Shape>⟧ ⟦<B as Shape>⟧; dealing = dealing; workers = workers })
-        filter.now.times (policy_facts filter.now.policy) (held packets) v.items) (family : Family)
+        filter.now.times (policy_facts filter.now.policy) (held packets.entry) v.items) (family : Family)
         → AreFew (layout_of ⟦<A as Shape>⟧ ⟦<B as Shape>⟧) filter.now.times family are.judged
         → All (HasPagesIn filter.now.times family) are.judged) }
 {

@@ -48,9 +48,9 @@ pub fn verdicts_on<'a, T: Threads + Wait + Sync>(
     packets: Records<'a>,
 ) -> Result<Vec<Verdict>, Fault>
     requires times { filter.now.times ≡ options.now.times }
-    ensures by_workers { IfOk result (λ v. ByWorkers options.now (policy_facts filter.entry.now.policy) (packets_of packets) v.items) }
+    ensures by_workers { IfOk result (λ v. ByWorkers options.now (policy_facts filter.entry.now.policy) (packets_of packets.entry) v.items) }
     ensures by_one_thread { IfOk result (λ v. HavePages v.items
-        → ByOneThread options.now.times (policy_facts filter.entry.now.policy) (packets_of packets) v.items) }
+        → ByOneThread options.now.times (policy_facts filter.entry.now.policy) (packets_of packets.entry) v.items) }
     ensures memory { IfErr result (λ e. e ≡ Memory) }
 {
     flow_shapes_are_sound();

@@ -30,7 +30,7 @@ in_order-requires g c = (
     some_worker = c.requires.some;
     traced = c.in_ok-four.ensures.traced;
     said = c.in_ok-four.ensures.said;
-    count = sym c.count.ensures;
+    count = sym c.count-2.ensures;
   },
 )
 
@@ -50,7 +50,7 @@ returns-clause-judged g c =
       some_worker = c.requires.some;
       traced = p.traced;
       said = p.said;
-      count = sym c.count.ensures;
+      count = sym c.count-2.ensures;
     }))))
 
 pub returns-clause-one_report : goal.returns-clause-one_report
