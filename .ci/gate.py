@@ -1,6 +1,6 @@
 """Runs the gate and the checks, says how long each part took, and adds up what passed and failed.
 
-The gate is `rt ci`, which leaves the program that it proved in crates/racl/out, as LLVM builds it and as Rattle's own compiler
+The gate is `rt ci`, which leaves each program that it proved in crates/NAME/out, as LLVM builds it and as Rattle's own compiler
 does. Where all of it passed, the launcher takes the first one for the program of these sources, by the record that is written here.
 """
 import fcntl
@@ -11,7 +11,8 @@ import sys
 import time
 
 PROGRAM = "crates/racl/out/racl"
-BY_RATTLE = PROGRAM + ".by-rattle"
+TABLE_PROGRAM = "crates/table_under_pressure/out/table_under_pressure"
+BY_RATTLE = ".by-rattle"
 COUNTS = re.compile(r"(\d+) passed, (\d+) failed")
 
 # What the gate says of a crate as it comes to it.
@@ -63,9 +64,9 @@ class Times:
     def tell(self, total, used):
         names = [step for step, _ in STEPS]
         print("seconds from the gate's start until a crate was")
-        print(f"  {'':16}" + "".join(f"{it:>14}" for it in names))
+        print(f"  {'':22}" + "".join(f"{it:>14}" for it in names))
         for crate, at in self.steps.items():
-            print(f"  {crate:16}" + "".join(f"{at[it]:14.0f}" if it in at else f"{'':14}" for it in names))
+            print(f"  {crate:22}" + "".join(f"{at[it]:14.0f}" if it in at else f"{'':14}" for it in names))
         if self.edits_done is not None:
             print(f"  all edits were tried after {self.edits_done:.0f}")
         print(f"rt ci took {total:.0f} s and {used / 60:.1f} processor minutes")
@@ -93,7 +94,7 @@ def programs_after(has_passed, sources):
         program = "./racl"
     else:
         program = PROGRAM
-    return [program, *([BY_RATTLE] if os.path.exists(BY_RATTLE) else [])]
+    return [program, PROGRAM + BY_RATTLE]
 
 
 def main():
@@ -108,13 +109,13 @@ def main():
     start = time.monotonic()
     counts = [gate]
     if is_there:
-        built = [PROGRAM if it == "./racl" else it for it in programs]
+        built = [it + by for it in (PROGRAM, TABLE_PROGRAM) for by in ("", BY_RATTLE)]
         checks = (["checks/documents"], ["checks/launcher"], ["checks/run", *programs], ["checks/refused_memory", *built])
         counts += [counted(*followed(it, lambda _: None)) for it in checks]
     else:
         counts.append((0, 1))
     times.tell(total, ended.children_user + ended.children_system)
-    of = "the program that rt ci built" if is_there else "no program"
+    of = "the programs that rt ci built" if is_there else "no program"
     print(f"the checks of {of} took {time.monotonic() - start:.0f} s")
     passed, failed = (sum(it[part] for it in counts) for part in (0, 1))
     print(f"{passed} passed, {failed} failed")

@@ -12,10 +12,10 @@ use Rattle.packet_view.specs.declared.tuple.Mac.{Mac}
 use Rattle.acl_policy.specs.declared.policy.PolicyFault.{PolicyFault}
 use Rattle.acl_policy.specs.declared.policy.PolicyFault.TheVariants.{Memory, NotUtf8, BadLine, TooMany}
 use Rattle.acl_policy.specs.Lines.{Blank, IsLine, LineFacts, Own, Ruled}
-use Rattle.acl_policy.specs.Policies.{AreLines, HasRule, IsOnly, IsSurplus, IsWrong, PolicyFacts, Reads, most_rules, own_in, rule_in, rules_of}
+use Rattle.acl_policy.specs.Policies.{AreLines, HasRule, IsOnly, IsSurplus, IsWrong, PolicyFacts, Reads, own_in, rule_in, rules_of}
 use Rattle.acl_policy.specs.Reading.Lines.{line_in}
 use Rattle.acl_policy.specs.Reading.Policies.{Fails, HasRoom, LinesFail, line_added, rule_added, with_inbound, with_outbound}
-use Rattle.acl_policy.specs.Rules.{RuleFacts}
+use Rattle.acl_policy.specs.Rules.{RuleFacts, most_rules}
 use Rattle.acl_policy.proofs.LineLaws.{line_in-complete, line_in-sound}
 
 AreLines-push : (texts : List (List ℕ)) (readings : List LineFacts) (line : List ℕ) (reading : LineFacts)

@@ -11,9 +11,9 @@ use Rattle.packet_view.specs.declared.tuple.Mac.{Mac}
 use Rattle.acl_policy.specs.declared.policy.PolicyFault.{PolicyFault}
 use Rattle.acl_policy.specs.declared.policy.PolicyFault.TheVariants.{Memory, NotUtf8, BadLine, TooMany}
 use Rattle.acl_policy.specs.Lines.{IsLine, LineFacts, Own, Ruled}
-use Rattle.acl_policy.specs.Policies.{AreLines, HasRule, IsFirstFault, IsOnly, IsPolicyFault, IsPolicyText, IsSurplus, IsWrong, PolicyFacts, Reads, most_rules, own_in, rule_in, rules_of}
+use Rattle.acl_policy.specs.Policies.{AreLines, HasRule, IsFirstFault, IsOnly, IsPolicyFault, IsPolicyText, IsSurplus, IsWrong, PolicyFacts, Reads, own_in, rule_in, rules_of}
 use Rattle.acl_policy.specs.Reading.Policies.{LinesFail}
-use Rattle.acl_policy.specs.Rules.{RuleFacts}
+use Rattle.acl_policy.specs.Rules.{RuleFacts, most_rules}
 use Rattle.acl_policy.proofs.LineLaws.{line_in-complete}
 
 pub one_reading : (line : List ℕ) (a b : LineFacts) → IsLine line a → IsLine line b → a ≡ b

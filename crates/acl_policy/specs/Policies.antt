@@ -10,7 +10,7 @@ use Rattle.acl_policy.specs.declared.policy.Policy.{Policy}
 use Rattle.acl_policy.specs.declared.policy.PolicyFault.{PolicyFault}
 use Rattle.acl_policy.specs.declared.policy.PolicyFault.TheVariants.{Memory, NotUtf8, BadLine, TooMany}
 use Rattle.acl_policy.specs.Lines.{Blank, IsLine, LineFacts, Own, Ruled}
-use Rattle.acl_policy.specs.Rules.{RuleFacts, rule_facts}
+use Rattle.acl_policy.specs.Rules.{RuleFacts, most_rules, rule_facts}
 
 -- a policy as a value, without where its lists lie in memory and what its types keep
 pub record PolicyFacts : Type 0 where
@@ -21,10 +21,6 @@ pub record PolicyFacts : Type 0 where
 -- what a policy says
 abbrev pub policy_facts : Policy → PolicyFacts
 policy_facts p = record { own = p.own; inbound = map rule_facts p.inbound.items; outbound = map rule_facts p.outbound.items }
-
--- the greatest number of rules of one direction
-abbrev pub most_rules : ℕ
-most_rules = 4096
 
 -- the own address that a line names
 abbrev pub own_in : LineFacts → Option Mac

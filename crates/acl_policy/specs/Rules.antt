@@ -28,3 +28,7 @@ rule_facts r = record {
   value = r.value;
   mask = r.mask;
 }
+
+-- the greatest number of rules of one direction
+abbrev pub most_rules : ℕ
+most_rules = 4096

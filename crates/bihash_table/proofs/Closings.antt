@@ -4,10 +4,11 @@ use Rattle.std.specs.Prelude.{IfOk, IsErrAnd}
 use lib.Seq.{set-get_or}
 use Rattle.bihash_words.specs.Sizes.{Sizes, sizes_of}
 use Rattle.bihash_words.specs.declared.shape.Shape.{Ghosts}
-use Rattle.bihash_steps.specs.Blocks.{free, key_in, places, value_in}
+use Rattle.bihash_steps.specs.Blocks.{free, places}
 use Rattle.bihash_steps.specs.Callers.{known_at}
 use Rattle.bihash_steps.specs.Views.{nothing_held}
 use Rattle.bihash_steps.specs.BucketSteps.{reading, unlocked}
+use Rattle.bihash_steps.specs.Seats.{CallerState}
 use Rattle.bihash_steps.specs.declared.view.Extent.{Extent}
 use Rattle.bihash_steps.specs.declared.view.Known.{Known}
 use Rattle.bihash_steps.specs.declared.view.Notes.{Notes}
@@ -16,7 +17,7 @@ use Rattle.bihash_steps.specs.declared.view.View.{View}
 use Rattle.bihash_steps.specs.declared.view.Write.{Write}
 use Rattle.bihash_steps.proofs.Whole.{prefix_whole}
 use Rattle.bihash_table.specs.Answers.{locks_of, with_locks}
-use Rattle.bihash_table.specs.OpenReads.{IsOpened, NotesBlock, Saw}
+use Rattle.bihash_table.specs.OpenReads.{HasRead, IsOpened, NotesBlock, Saw, StandsAt}
 use Rattle.bihash_table.specs.PairLists.{AddsBlock, AddsPlaces, InPart, IsBlockIn, ListsBuckets, ListsPairs, TookLocks}
 use Rattle.bihash_table.specs.Seen.{LocksSeen}
 use Rattle.bihash_table.proofs.PairListLemmas.{part_all, part_free, part_more, part_none}
@@ -24,24 +25,24 @@ use Rattle.bihash_table.proofs.Composed.{with_locks_twice}
 use Rattle.bihash_table.proofs.Released.{with_locks-locks_of}
 use Rattle.bihash_table.proofs.Sights.{seen_first, told_locked}
 use Rattle.bihash_table.proofs.TakenLocks.{locked_known, took_lock}
-use Rattle.bihash_table.proofs.Seeing.{note_extent, saw_as, saw_nothing, saw_then}
+use Rattle.bihash_table.proofs.Seeing.{note_extent, read_as, read_nothing, read_then}
 
 module _ {A K : Type 0} (g : Ghosts A K) where
-  pub added_none : (v : View) (ps : List (K × ℕ)) → Saw v v (λ e block. AddsPlaces g 0 e block ps ps)
-  added_none v ps = saw_nothing v (λ e block known b has lists. part_none g known b e block ps lists.pairs)
+  pub added_none : (v : CallerState) (ps : List (K × ℕ)) → HasRead v v (λ e block. AddsPlaces g 0 e block ps ps)
+  added_none v ps = read_nothing v (λ e block known b has lists. part_none g known b e block ps lists.pairs)
 
-  module _ (u v w : View) (n : ℕ) (old ps : List (K × ℕ)) (pair : K × ℕ) (before : Saw u v (λ e block. AddsPlaces g n e block old ps))
-      (now : Saw v w (λ _ block. (key_in (sizes_of g) block n ≡ g.words_of pair.0) × (value_in (sizes_of g) block n ≡ pair.1))) where
-    pub added_free : pair.1 ≡ free → Saw u w (λ e block. AddsPlaces g (n + 1) e block old ps)
-    added_free is = saw_then u v w (λ o noted seen here known b has lists.
+  module _ (u v w : CallerState) (n : ℕ) (old ps : List (K × ℕ)) (pair : K × ℕ) (before : HasRead u v (λ e block. AddsPlaces g n e block old ps))
+      (now : HasRead v w (StandsAt g n pair)) where
+    pub added_free : pair.1 ≡ free → HasRead u w (λ e block. AddsPlaces g (n + 1) e block old ps)
+    added_free is = read_then u v w (λ o noted seen here known b has lists.
         part_free g known b o.extent o.block n ps (here.1 ∙ is) (seen known b has lists)) before now
 
-    pub added_pair : (word : ℕ) (e : Extent) → NotesBlock (sizes_of g) u word e → n < places e.page e.log2 → pair.1 ≢ free
-        → Saw u w (λ e block. AddsPlaces g (n + 1) e block old (ps ++ pair ∷ []))
-    added_pair word e h inside taken = saw_then u v w (λ o noted seen here known b has lists.
+    pub added_pair : (word : ℕ) (e : Extent) → NotesBlock (sizes_of g) u.view word e → n < places e.page e.log2 → pair.1 ≢ free
+        → HasRead u w (λ e block. AddsPlaces g (n + 1) e block old (ps ++ pair ∷ []))
+    added_pair word e h inside taken = read_then u v w (λ o noted seen here known b has lists.
         part_more g known b o.extent o.block has n pair ps (record {
           pair = (
-            subst (λ (x : Extent). n < places x.page x.log2) (sym (note_extent (sizes_of g) u word e o h noted)) inside,
+            subst (λ (x : Extent). n < places x.page x.log2) (sym (note_extent (sizes_of g) u.view word e o h noted)) inside,
             λ is. taken (sym here.1 ∙ is),
           );
           key = sym here.0;
@@ -50,15 +51,15 @@ module _ {A K : Type 0} (g : Ghosts A K) where
 
     -- nothing is told where it was refused
     pub added_not : {T E : Type 0} (Q : E → Type 0) (P : T → Extent → List ℕ → Type 0) (r : Result T E) → IsErrAnd r Q
-        → Saw u w (λ e block. IfOk r (λ x. P x e block))
+        → HasRead u w (λ e block. IfOk r (λ x. P x e block))
     added_not Q P (Ok x) err = absurd err
-    added_not Q P (Err fault) err = saw_then u v w (λ o noted seen here. tt) before now
+    added_not Q P (Err fault) err = read_then u v w (λ o noted seen here. tt) before now
 
-  pub added_all : (u v : View) (n word : ℕ) (old ps : List (K × ℕ)) (e : Extent) → NotesBlock (sizes_of g) u word e → n ≡ places e.page e.log2
-      → Saw u v (λ e block. AddsPlaces g n e block old ps) → Saw u v (λ e block. AddsBlock g e block old ps)
-  added_all u v n word old ps e h all = saw_as u v (λ o noted seen known b has lists.
+  pub added_all : (u v : CallerState) (n word : ℕ) (old ps : List (K × ℕ)) (e : Extent) → NotesBlock (sizes_of g) u.view word e → n ≡ places e.page e.log2
+      → HasRead u v (λ e block. AddsPlaces g n e block old ps) → HasRead u v (λ e block. AddsBlock g e block old ps)
+  added_all u v n word old ps e h all = read_as u v (λ o noted seen known b has lists.
       let end : n ≡ places o.extent.page o.extent.log2 =
-      all ∙ ap (λ (x : Extent). places x.page x.log2) (sym (note_extent (sizes_of g) u word e o h noted)) in
+      all ∙ ap (λ (x : Extent). places x.page x.log2) (sym (note_extent (sizes_of g) u.view word e o h noted)) in
       part_all g known b o.extent o.block has ps lists.home
       (subst (λ (m : ℕ). ListsPairs g ps (InPart (sizes_of g) known b o.extent o.block m)) end (seen known b has lists)))
 

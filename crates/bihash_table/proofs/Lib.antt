@@ -10,6 +10,7 @@ pub mod Entering
 pub mod Growing
 pub mod Homes
 pub mod KeyOrders
+pub mod LockCounts
 pub mod LookedAt
 pub mod Opened
 pub mod OpenPlaces

@@ -13,3 +13,7 @@ same_but_view a b v is = is ∙ ap (with_view a) (sym (view_is a b v is))
 pub same_through : (a b c : CallerState) (v : View) → b ≡ with_view a b.view → c ≡ with_view b v → c ≡ with_view a c.view
 same_through a b c v first then =
     same_but_view a c v (then ∙ ap (λ (k : CallerState). with_view k v) first)
+
+-- the row stays
+pub own_through : (a b : CallerState) (v : View) {row : _} → b ≡ with_view a v → a.row ≡ row → b.row ≡ row
+own_through a b v is own = ap (λ (k : CallerState). k.row) is ∙ own

@@ -1,20 +1,22 @@
 -- What readers of an open bucket may conclude one behind the other.
-use Rattle.std.proofs.Common.{◌≡◌, ℕ, zero, suc, ◌+◌, ◌*◌, ◌<◌, List, [], ◌∷◌, ◌++◌, length, append_assoc, refl, sym, ap, ◌∙◌, subst, Option, Some, None}
+use Rattle.std.proofs.Common.{◌≡◌, ℕ, zero, suc, ◌+◌, ◌*◌, ◌<◌, ◌≤◌, arith, List, [], ◌∷◌, ◌++◌, length, append_assoc, refl, sym, ap, ◌∙◌, subst, Option, Some, None}
 use mathlib.Core.Option.{some, some-ne-none}
 use lib.ListN.{get_elem?}
 use Rattle.std.specs.Prelude.{slice_index}
-use Rattle.bihash_words.specs.Sizes.{Sizes}
+use Rattle.bihash_words.specs.Sizes.{IsSound, Sizes}
 use Rattle.bihash_steps.specs.Words.{block_words, place_words}
 use Rattle.bihash_steps.specs.Blocks.{places}
 use Rattle.bihash_steps.specs.Buckets.{Reads}
 use Rattle.bihash_steps.specs.BucketSteps.{IsOpenWord, read_more, reading}
+use Rattle.bihash_steps.specs.Seats.{CallerState, with_view}
 use Rattle.bihash_steps.specs.declared.view.Extent.{Extent}
 use Rattle.bihash_steps.specs.declared.view.OpenBucket.{OpenBucket}
 use Rattle.bihash_steps.specs.declared.view.View.{View}
 use Rattle.bihash_steps.proofs.Lists.{at_behind}
-use Rattle.bihash_table.specs.OpenReads.{NotesBlock, Saw}
-use Rattle.bihash_table.specs.Scans.{IsWordOf}
+use Rattle.bihash_table.specs.OpenReads.{HasOpen, HasRead, MayRead, NotesBlock, Saw}
+use Rattle.bihash_table.specs.Scans.{IsWordOf, NamesBlock}
 use Rattle.bihash_table.proofs.PlaceReads.{place_inside}
+use Rattle.bihash_table.proofs.SameCallers.{own_through, same_but_view, same_through, view_is}
 
 -- ---- Words that were read
 
@@ -93,6 +95,46 @@ module _ {P : Extent → List ℕ → Type 0} where
 pub saw_word : (v w : View) (k n : ℕ) → w ≡ reading v ((k, n) ∷ []) → Saw v w (λ _ block. n ≡ slice_index block k)
 saw_word v w k n is = record { more = (k, n) ∷ []; is = is; told = λ o noted reads. reads 0 (k, n) refl }
 
+-- ---- A caller that reads
+
+module _ {P : Extent → List ℕ → Type 0} where
+  pub read_nothing : (s : CallerState) → ((e : Extent) (block : List ℕ) → P e block) → HasRead s s P
+  read_nothing s all = record { same = refl; saw = saw_nothing s.view all }
+
+  module _ {Q : Extent → List ℕ → Type 0} where
+    pub read_as : (s t : CallerState) → ((o : OpenBucket) → s.view.notes.open_bucket ≡ Some o → P o.extent o.block → Q o.extent o.block)
+        → HasRead s t P → HasRead s t Q
+    read_as s t more h = record { same = h.same; saw = saw_as s.view t.view more h.saw }
+
+    -- what was read first, and then
+    pub read_then : {R : Extent → List ℕ → Type 0} (s t u : CallerState)
+        → ((o : OpenBucket) → s.view.notes.open_bucket ≡ Some o → P o.extent o.block → Q o.extent o.block → R o.extent o.block)
+        → HasRead s t P → HasRead t u Q → HasRead s u R
+    read_then s t u more h k = record {
+      same = same_through s t u u.view h.same k.same;
+      saw = saw_then s.view t.view u.view more h.saw k.saw;
+    }
+
+    pub read_both : (s t u : CallerState) → HasRead s t P → HasRead t u Q → HasRead s u (λ e block. P e block × Q e block)
+    read_both s t u h k = read_then s t u (λ o noted first then. (first, then)) h k
+
+-- the caller may read on
+abbrev pub may_still : {z : Sizes} {row : _} {s t : CallerState} {word n m : ℕ} {P : Extent → List ℕ → Type 0} → HasRead s t P
+    → (h : MayRead z row s word n) → m ≤ places h.extent.page h.extent.log2 → MayRead z row t word m
+may_still {z} {row} {s} {t} {word} before h inside = record {
+  own = own_through s t t.view before.same h.own;
+  extent = h.extent;
+  block = still_noted z s.view t.view word h.extent before.saw h.block;
+  inside = inside;
+}
+
+-- and what it may read of more places
+pub may_less : {z : Sizes} {row : _} {s : CallerState} {word n m : ℕ} → MayRead z row s word n → m ≤ n → MayRead z row s word m
+may_less h less = record { own = h.own; extent = h.extent; block = h.block; inside = let room = h.inside in omega arith }
+
+pub may_read : {z : Sizes} {row : _} {s : CallerState} {b word : ℕ} → s.row ≡ row → HasOpen z s.view b word → MayRead z row s word 0
+may_read own h = record { own = own; extent = h.extent; block = h.block; inside = omega arith }
+
 -- ---- The block that was noted
 
 pub one_note : (z : Sizes) (v : View) (word : ℕ) (e : Extent) (o : OpenBucket) (h : NotesBlock z v word e) → v.notes.open_bucket ≡ Some o
@@ -111,6 +153,9 @@ note_size z v word e o h noted = subst (λ (y : OpenBucket). length y.block ≡ 
 pub word_notes : (z : Sizes) (v : View) (word : ℕ) (e : Extent) → NotesBlock z v word e → IsWordOf z word e
 word_notes z v word e h = record { version = h.open_bucket.version; fits = h.fits; stood = h.stood; small = h.small }
 
+pub names_block : {z : Sizes} {row : _} {s : CallerState} {word n : ℕ} → IsSound z → MayRead z row s word n → NamesBlock z word
+names_block {z} {row} {s} {word} sound h = record { sound = sound; extent = h.extent; names = word_notes z s.view word h.extent h.block }
+
 pub open_word_of_place : (z : Sizes) (v : View) (word page i k : ℕ) (e : Extent) → NotesBlock z v word e → page ≡ e.page
     → i < places e.page e.log2 → k < place_words z → IsOpenWord z v page (i * place_words z + k)
 open_word_of_place z v word page i k e h is inside low = record {
@@ -122,7 +167,10 @@ open_word_of_place z v word page i k e h is inside low = record {
 }
 
 -- word k of a place, where a place has one word more than a key
-pub saw_word_of_place : (v w : View) (words words' i k n : ℕ) → words ≡ words' → w ≡ reading v ((i * (words + 1) + k, n) ∷ [])
-    → Saw v w (λ _ block. n ≡ slice_index block (i * (words' + 1) + k))
-saw_word_of_place v w words words' i k n same is = saw_word v w (i * (words' + 1) + k) n
-    (is ∙ ap (λ (x : ℕ). reading v ((i * (x + 1) + k, n) ∷ [])) same)
+pub read_word_of_place : (s t : CallerState) (words words' i k n : ℕ) → words ≡ words'
+    → t ≡ with_view s (reading s.view ((i * (words + 1) + k, n) ∷ [])) → HasRead s t (λ _ block. n ≡ slice_index block (i * (words' + 1) + k))
+read_word_of_place s t words words' i k n same is = record {
+  same = same_but_view s t _ is;
+  saw = saw_word s.view t.view (i * (words' + 1) + k) n
+      (view_is s t _ is ∙ ap (λ (x : ℕ). reading s.view ((i * (x + 1) + k, n) ∷ [])) same);
+}

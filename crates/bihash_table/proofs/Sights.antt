@@ -23,6 +23,7 @@ use Rattle.bihash_table.specs.Promise.{IsAnswered}
 use Rattle.bihash_table.specs.OpenReads.{HasOpen, IsOpened, Saw}
 use Rattle.bihash_table.specs.Seen.{HasSeen, LocksSeen}
 use Rattle.bihash_table.proofs.Composed.{IsAhead}
+use Rattle.bihash_table.proofs.LockCounts.{locks_pushed}
 use Rattle.bihash_table.proofs.Opened.{locked_behind, reads_rest, rests_here, same_known, same_map}
 use Rattle.bihash_table.proofs.Promised.{answered_by}
 use Rattle.bihash_table.proofs.Released.{with_locks-locks_of}
@@ -140,13 +141,9 @@ module _ (z : Sizes) (y : View) (b word : ℕ) {P : Extent → List ℕ → Type
         store = refl;
       }
 
-  pushed_locks : (c : Call) (rs : List Record) → locks_of (push_call c rs) ≡ locks_of rs
-  pushed_locks c [] = refl
-  pushed_locks c (r ∷ rs) = refl
-
   module _ (w : View) (is : w ≡ validated y answer_call) where
     pub answer_locks : locks_of w.records ≡ locks_of y.records
-    answer_locks = ap (λ (u : View). locks_of u.records) is ∙ pushed_locks answer_call y.records
+    answer_locks = locks_pushed answer_call y.records w.records (ap (λ (u : View). u.records) is)
 
     pub answer_seen : bucket_of z e.key ≡ b → IsAnswered z y w e
     answer_seen home =

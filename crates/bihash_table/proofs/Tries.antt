@@ -19,9 +19,10 @@ use Rattle.bihash_table.specs.Promise.{IsAnswered, IsTurnedAway, IsUpdated}
 use Rattle.bihash_table.specs.OpenReads.{IsPairIn, Saw, value_of}
 use Rattle.bihash_table.specs.Seen.{HasSeen, IsValueOf, LocksSeen}
 use Rattle.bihash_table.specs.Shortage.{IsShortage}
-use Rattle.bihash_table.specs.Tries.{Tried, event, is_without_lock}
+use Rattle.bihash_table.specs.Tries.{Tried, TookAtMost, event, is_without_lock, try_locks}
 use Rattle.bihash_table.specs.declared.contended.Contended.{Contended}
 use Rattle.bihash_table.proofs.Composed.{IsAhead, ahead_answered, ahead_turned_away, locked_ahead}
+use Rattle.bihash_table.proofs.LockCounts.{took_behind, took_no_lock, took_one_lock, took_then}
 use Rattle.bihash_table.proofs.LookedAt.{pair_value}
 use Rattle.bihash_table.proofs.Opened.{not_taken}
 use Rattle.bihash_table.proofs.SameCallers.{same_but_view, same_through, view_is}
@@ -33,19 +34,20 @@ other_value value old wanted same = wanted (ap (λ (t : Bool). if t then Keep el
 
 -- the value of the pair that was found is what the map has at the key
 pub value_seen : (z : Sizes) (v : View) (b word : ℕ) (key : List ℕ) (pair : Option (ℕ × ℕ)) (found : Option ℕ) → found ≡ value_of pair
-    → HasSeen z v b word (λ e block. IsPairIn z e block key pair) → HasSeen z v b word (IsValueOf z key found)
+    → HasSeen z v b word (IsPairIn z key pair) → HasSeen z v b word (IsValueOf z key found)
 value_seen z v b word key pair found is h = seen_as z v b word h (λ told m pairs.
     is ∙ pair_value z h.seen.extent h.seen.block.open_bucket.block key m pair told pairs)
 
 module _ {A K : Type 0} (g : Ghosts A K) (s t : CallerState) (b : ℕ) (key : K) (found : Option ℕ) (change : Change) where
   -- the bucket was locked or changed
   pub tried_away : (refused : Contended) → t ≡ with_view s t.view → IsTurnedAway (sizes_of g) s.view t.view b
-      → (s.view.lone ≡ true → ⊥) → IsLawfulCaller (sizes_of g) t.view → Tried g s t b key found change (Err refused)
-  tried_away refused same away crowd lawful = record {
+      → t.view.records ≡ s.view.records → (s.view.lone ≡ true → ⊥) → IsLawfulCaller (sizes_of g) t.view
+      → Tried g s t b key found change (Err refused)
+  tried_away refused same away records crowd lawful = record {
     same = same;
     answered = tt;
     no_pages = tt;
-    no_lock = tt;
+    locks = took_no_lock s.view t.view (ap locks_of records) 1;
     contended = away;
     lone = λ lone. absurd (crowd lone);
     lawful = lawful;
@@ -62,7 +64,7 @@ module _ {A K : Type 0} (g : Ghosts A K) (s t : CallerState) (b : ℕ) (key : K)
       same = same_but_view s t _ is;
       answered = answer_seen (sizes_of g) s.view b word h e t.view now home;
       no_pages = λ log2 left short. absurd (paged log2 left short);
-      no_lock = λ _. answer_locks (sizes_of g) s.view b word h e t.view now;
+      locks = took_no_lock s.view t.view (answer_locks (sizes_of g) s.view b word h e t.view now) (try_locks (Ok reply));
       contended = tt;
       lone = λ _. refl;
       lawful = lawful;
@@ -71,20 +73,19 @@ module _ {A K : Type 0} (g : Ghosts A K) (s t : CallerState) (b : ℕ) (key : K)
     pub tried_invalid : (refused : Contended) → t ≡ with_view s (unnoted s.view) → (s.view.lone ≡ true → ⊥)
         → Tried g s t b key found change (Err refused)
     tried_invalid refused is crowd = tried_away refused (same_but_view s t _ is)
-        (not_taken (sizes_of g) s.view t.view b h.seen.held (view_is s t _ is)) crowd lawful
+        (not_taken (sizes_of g) s.view t.view b h.seen.held (view_is s t _ is)) (ap (λ (k : CallerState). k.view.records) is) crowd lawful
 
 -- ---- From an earlier view
 
 module _ {A K : Type 0} (g : Ghosts A K) (s u t : CallerState) (b : ℕ) (key : K) (found : Option ℕ) (change : Change)
     (same : u ≡ with_view s u.view) (a : IsAhead s.view u.view b) (home : bucket_of (sizes_of g) (g.words_of key) ≡ b) where
-  pub tried_ahead : (r : Result Reply Contended)
-      → IfOk r (λ reply. is_without_lock reply ≡ true → locks_of u.view.records ≡ locks_of s.view.records)
+  tried_ahead : (r : Result Reply Contended) → TookAtMost s.view t.view (try_locks r)
       → Tried g u t b key found change r → Tried g s t b key found change r
   tried_ahead (Ok reply) locks h = record {
     same = same_through s u t _ same h.same;
     answered = ahead_answered (sizes_of g) s.view u.view t.view b (event (g.words_of key) found change reply) home a h.answered;
     no_pages = h.no_pages;
-    no_lock = λ free. h.no_lock free ∙ locks free;
+    locks = locks;
     contended = tt;
     lone = λ _. refl;
     lawful = h.lawful;
@@ -93,7 +94,7 @@ module _ {A K : Type 0} (g : Ghosts A K) (s u t : CallerState) (b : ℕ) (key : 
     same = same_through s u t _ same h.same;
     answered = tt;
     no_pages = tt;
-    no_lock = tt;
+    locks = locks;
     contended = ahead_turned_away (sizes_of g) s.view u.view t.view b a h.contended;
     lone = λ lone. h.lone (ap (λ (v : View). v.lone) a.is ∙ lone);
     lawful = h.lawful;
@@ -101,8 +102,7 @@ module _ {A K : Type 0} (g : Ghosts A K) (s u t : CallerState) (b : ℕ) (key : 
 
   pub tried_seen : locks_of u.view.records ≡ locks_of s.view.records → (r : Result Reply Contended)
       → Tried g u t b key found change r → Tried g s t b key found change r
-  tried_seen locks (Ok reply) h = tried_ahead (Ok reply) (λ _. locks) h
-  tried_seen locks (Err refused) h = tried_ahead (Err refused) tt h
+  tried_seen locks r h = tried_ahead r (took_behind s.view u.view t.view (try_locks r) locks h.locks) h
 
 -- words of the block were read before
 pub tried_saw : {A K : Type 0} (g : Ghosts A K) (s u t : CallerState) (b : ℕ) (key : K) (found : Option ℕ) (change : Change)
@@ -116,7 +116,11 @@ tried_saw g s u t b key found change same saw home = tried_seen g s u t b key fo
 module _ {A K : Type 0} (g : Ghosts A K) (s u t : CallerState) (b word : ℕ) (key : K) (found : Option ℕ) (change : Change)
     (same : u ≡ with_view s u.view) (k : LocksSeen (sizes_of g) s.view u.view b word)
     (home : bucket_of (sizes_of g) (g.words_of key) ≡ b) (now : t ≡ with_view u t.view)
-    (lawful : IsLawfulCaller (sizes_of g) t.view) where
+    (lawful : IsLawfulCaller (sizes_of g) t.view) (locks : locks_of t.view.records ≡ locks_of u.view.records) where
+  -- the lock was taken once
+  took_one : TookAtMost s.view t.view 1
+  took_one = took_then s.view u.view t.view 1 0 (took_one_lock s.view u.view (sizes_of g) b word k.locked) (took_no_lock u.view t.view locks 0)
+
   pub tried_locked : (r : Result Reply Contended)
       → IfOk r (λ reply. IsAnswered (sizes_of g) u.view t.view (event (g.words_of key) found change reply))
       → IfOk r (λ reply. (log2 left : ℕ) → reply ≡ NoPages log2 left → IsShortage g t.view b key log2 left)
@@ -125,18 +129,26 @@ module _ {A K : Type 0} (g : Ghosts A K) (s u t : CallerState) (b word : ℕ) (k
       → Tried g s t b key found change r
   tried_locked (Ok reply) answered no_pages paid away lone =
       tried_ahead g s u t b key found change same (locked_ahead (sizes_of g) s.view u.view b word k.locked) home (Ok reply)
-      (λ free. absurd (true≢false (sym free ∙ paid))) (record {
+      (subst (λ (free : Bool). TookAtMost s.view t.view (if free then 0 else 1)) (sym paid) took_one) (record {
         same = now;
         answered = answered;
         no_pages = no_pages;
-        no_lock = λ free. absurd (true≢false (sym free ∙ paid));
+        locks = took_no_lock u.view t.view locks (try_locks (Ok reply));
         contended = tt;
         lone = λ _. refl;
         lawful = lawful;
       })
   tried_locked (Err refused) answered no_pages paid away lone =
-      tried_ahead g s u t b key found change same (locked_ahead (sizes_of g) s.view u.view b word k.locked) home (Err refused) tt
-      (record { same = now; answered = tt; no_pages = tt; no_lock = tt; contended = away; lone = lone; lawful = lawful })
+      tried_ahead g s u t b key found change same (locked_ahead (sizes_of g) s.view u.view b word k.locked) home (Err refused) took_one
+      (record {
+        same = now;
+        answered = tt;
+        no_pages = tt;
+        locks = took_no_lock u.view t.view locks 1;
+        contended = away;
+        lone = lone;
+        lawful = lawful;
+      })
 
   -- a write
   pub tried_write : (reply : Reply) → reply ≡ Changed found

@@ -1,18 +1,20 @@
 -- A bucket that was seen without its lock, with what was read of it, and its lock behind that.
-use Rattle.std.specs.Prelude.{◌≡◌, ◌≤◌, ℕ, List, Option, None, Some}
+use Rattle.std.specs.Prelude.{◌≡◌, ◌≤◌, ℕ, Bool, true, false, List, Option, None, Some, IfSome, IfNone, is_some}
 use Rattle.std.specs.FinMap.{get, len}
 use Rattle.bihash_words.specs.Maps.{Pairs, most_pairs}
 use Rattle.bihash_words.specs.Sizes.{Sizes}
 use Rattle.bihash_steps.specs.Histories.{bounds_of}
-use Rattle.bihash_steps.specs.Callers.{known_at}
+use Rattle.bihash_steps.specs.Callers.{IsLawfulCaller, known_at}
 use Rattle.bihash_steps.specs.Blocks.{IsBlockOf}
 use Rattle.bihash_steps.specs.Buckets.{Reads}
 use Rattle.bihash_steps.specs.BucketSteps.{map_now}
+use Rattle.bihash_steps.specs.Seats.{CallerState, with_view}
 use Rattle.bihash_steps.specs.declared.view.Extent.{Extent}
 use Rattle.bihash_steps.specs.declared.view.OpenBucket.{OpenBucket}
 use Rattle.bihash_steps.specs.declared.view.View.{View}
 use Rattle.bihash_table.specs.Locked.{IsLocked}
-use Rattle.bihash_table.specs.OpenReads.{HasOpen, IsPairIn}
+use Rattle.bihash_table.specs.OpenReads.{HasOpen, IsOpened, IsPairIn}
+use Rattle.bihash_table.specs.Promise.{IsTurnedAway}
 use Rattle.bihash_table.specs.Places.{IsCrowdedFor}
 
 -- The caller saw bucket b without its lock, and read words of its block since. What they tell of the block
@@ -27,7 +29,7 @@ IsValueOf z key found e block = (m : Pairs) → IsBlockOf z e block m → found 
 
 -- the key is new, and no free place is open to it
 abbrev pub IsNewAndCrowded : Sizes → List ℕ → Extent → List ℕ → Type 0
-IsNewAndCrowded z key e block = IsPairIn z e block key None × IsCrowdedFor z e block key
+IsNewAndCrowded z key e block = IsPairIn z key None e block × IsCrowdedFor z e block key
 
 -- the key is new, and the bucket holds as many pairs as it may
 abbrev pub IsFullFor : Sizes → List ℕ → Extent → List ℕ → Type 0
@@ -44,3 +46,21 @@ pub record LocksSeen (z : Sizes) (v w : View) (b word : ℕ) : Type 0 where
   pub extent : locked.lock.extent ≡ bucket.extent
   pub block : locked.lock.now ≡ bucket.block
   pub reads : Reads bucket.reads bucket.block
+
+-- a look at bucket b, which a lone caller finds unlocked: its word where it was
+pub record TellsLook (z : Sizes) (s t : CallerState) (b : ℕ) (r : Option ℕ) : Type 0 where
+  pub same : t ≡ with_view s t.view
+  pub opened : IfSome r (IsOpened z s.view t.view b)
+  pub turned_away : IfNone r (IsTurnedAway z s.view t.view b)
+  pub no_lock : IfNone r (t.view.records ≡ s.view.records)
+  pub lone : s.view.lone ≡ true → is_some r ≡ true
+  pub lawful : IsLawfulCaller z t.view
+
+-- a try to lock bucket b from the word that it was seen with, at which a lone caller succeeds
+pub record TellsLock (z : Sizes) (s t : CallerState) (b word : ℕ) (won : Bool) : Type 0 where
+  pub same : t ≡ with_view s t.view
+  pub locked : won ≡ true → LocksSeen z s.view t.view b word
+  pub turned_away : won ≡ false → IsTurnedAway z s.view t.view b
+  pub no_lock : won ≡ false → t.view.records ≡ s.view.records
+  pub lone : s.view.lone ≡ true → won ≡ true
+  pub lawful : IsLawfulCaller z t.view

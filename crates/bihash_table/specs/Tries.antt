@@ -1,5 +1,5 @@
 -- What one try of an update leaves of its caller.
-use Rattle.std.specs.Prelude.{◌≡◌, ℕ, Bool, true, false, List, Option, Result, IfOk, IfErr, is_ok}
+use Rattle.std.specs.Prelude.{◌≡◌, ◌≤◌, ℕ, ◌+◌, ◌-◌, Bool, true, false, if◌then◌else◌, List, Option, Result, Ok, Err, IfOk, IfErr, is_ok}
 use Rattle.bihash_words.specs.Maps.{Event}
 use Rattle.bihash_words.specs.Sizes.{sizes_of}
 use Rattle.bihash_words.specs.declared.shape.Shape.{Ghosts}
@@ -8,6 +8,7 @@ use Rattle.bihash_words.specs.declared.patch.Reply.{Reply}
 use Rattle.bihash_words.specs.declared.patch.Reply.TheVariants.{Kept, Changed, Worn, Full, NoPages}
 use Rattle.bihash_steps.specs.Callers.{IsLawfulCaller}
 use Rattle.bihash_steps.specs.Seats.{CallerState, with_view}
+use Rattle.bihash_steps.specs.declared.view.View.{View}
 use Rattle.bihash_table.specs.Answers.{locks_of}
 use Rattle.bihash_table.specs.Promise.{IsAnswered, IsTurnedAway}
 use Rattle.bihash_table.specs.Shortage.{IsShortage}
@@ -21,6 +22,24 @@ is_without_lock (Worn found) = true
 is_without_lock Full = true
 is_without_lock (NoPages log2 left) = false
 
+-- how many locks of buckets one try takes at most: none where its reply is given without the lock
+abbrev pub try_locks : Result Reply Contended → ℕ
+try_locks (Ok reply) = if is_without_lock reply then 0 else 1
+try_locks (Err refused) = 1
+
+-- from the view v to w the caller took this many locks of buckets at most
+pub record TookAtMost (v w : View) (most : ℕ) : Type 0 where
+  pub rises : locks_of v.records ≤ locks_of w.records
+  pub few : locks_of w.records ≤ locks_of v.records + most
+
+-- A call tried so often until it was answered so. Each try but the last took one lock at most, and the last what
+-- its reply allows. A lone caller tries once.
+pub record TookByTries (v w : View) (reply : Reply) : Type 0 where
+  pub tries : ℕ
+  pub some : 1 ≤ tries
+  pub alone : v.lone ≡ true → tries ≡ 1
+  pub took : TookAtMost v w (tries - 1 + try_locks (Ok reply))
+
 -- what was found at a key, what was decided on it, and the reply
 abbrev pub event : List ℕ → Option ℕ → Change → Reply → Event
 event key found change reply = record { key = key; found = found; change = change; reply = reply }
@@ -33,7 +52,7 @@ pub record Tried {A K : Type 0} (g : Ghosts A K) (s t : CallerState) (b : ℕ) (
   pub answered : IfOk r (λ reply. IsAnswered (sizes_of g) s.view t.view (event (g.words_of key) found change reply))
   pub no_pages : IfOk r (λ reply. (log2 left : ℕ) → reply ≡ NoPages log2 left
       → IsShortage g t.view b key log2 left)
-  pub no_lock : IfOk r (λ reply. is_without_lock reply ≡ true → locks_of t.view.records ≡ locks_of s.view.records)
+  pub locks : TookAtMost s.view t.view (try_locks r)
   pub contended : IfErr r (λ _. IsTurnedAway (sizes_of g) s.view t.view b)
   pub lone : s.view.lone ≡ true → is_ok r ≡ true
   pub lawful : IsLawfulCaller (sizes_of g) t.view

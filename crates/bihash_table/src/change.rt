@@ -12,6 +12,7 @@ ghost use Rattle.bihash_steps.specs.Callers.{IsLawfulCaller, known_at};
 ghost use Rattle.bihash_steps.specs.BucketSteps.{map_now, relocked, stored_in};
 ghost use Rattle.bihash_steps.specs.declared.view.LockedBucket.{LockedBucket};
 ghost use Rattle.bihash_steps.specs.Seats.{with_view};
+ghost use Rattle.bihash_table.specs.Answers.{locks_of};
 ghost use Rattle.bihash_table.specs.Promise.{IsAnswered};
 ghost use Rattle.bihash_table.specs.Locked.{HasLock};
 ghost use Rattle.bihash_table.specs.OpenReads.{IsPairIn};
@@ -139,6 +140,7 @@ pub(crate) fn overwrite<S: Shape>(
     ensures changed { result ≡ Changed (Some pair.1) }
     ensures answered { IsAnswered (sizes_of S.Shape) seat.old.view seat.new.view
         (record { key = S.words_of seen.now.site.key.now; found = Some pair.1; change = Set value; reply = result }) }
+    ensures locks { locks_of seat.new.view.records ≡ locks_of seat.old.view.records }
     ensures lawful { IsLawfulCaller (sizes_of S.Shape) seat.new.view }
 {
     store_word(row, seat, seen.word, pair.0, S::WORDS, value);
@@ -171,6 +173,7 @@ pub(crate) fn fill<S: Shape>(
     ensures changed { result ≡ Changed None }
     ensures answered { IsAnswered (sizes_of S.Shape) seat.old.view seat.new.view
         (record { key = S.words_of seen.now.site.key.now; found = None; change = Set value; reply = result }) }
+    ensures locks { locks_of seat.new.view.records ≡ locks_of seat.old.view.records }
     ensures lawful { IsLawfulCaller (sizes_of S.Shape) seat.new.view }
 {
     store_key(row, seat, seen, place);
@@ -195,7 +198,7 @@ pub(crate) fn remove<S: Shape>(
 ) -> Result<Reply, Contended>
     requires own { seat.old.row ≡ row.now }
     requires seen { HasSeen (sizes_of S.Shape) seat.old.view seen.now.site.bucket seen.now.word
-        (λ e block. IsPairIn (sizes_of S.Shape) e block (S.words_of seen.now.site.key.now) (Some pair)) }
+        (IsPairIn (sizes_of S.Shape) (S.words_of seen.now.site.key.now) (Some pair)) }
     requires unworn { length (known_at seat.old.view.known seen.now.site.bucket) < S.LIMIT }
     ensures { Tried ⟦<S as Shape>⟧ seat.old seat.new seen.now.site.bucket seen.now.site.key.now (Some pair.1) Remove result }
 {
@@ -226,6 +229,7 @@ fn vacate<S: Shape>(
     ensures changed { result ≡ Changed (Some pair.1) }
     ensures answered { IsAnswered (sizes_of S.Shape) seat.old.view seat.new.view
         (record { key = S.words_of seen.now.site.key.now; found = Some pair.1; change = Remove; reply = result }) }
+    ensures locks { locks_of seat.new.view.records ≡ locks_of seat.old.view.records }
     ensures lawful { IsLawfulCaller (sizes_of S.Shape) seat.new.view }
 {
     store_word(row, seat, seen.word, pair.0, S::WORDS, FREE);

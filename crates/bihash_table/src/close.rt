@@ -8,8 +8,7 @@ ghost use Rattle.bihash_steps.specs.Words.{buckets};
 ghost use Rattle.bihash_steps.specs.Callers.{IsLawfulCaller};
 ghost use Rattle.bihash_steps.specs.Views.{nothing_held};
 ghost use Rattle.bihash_steps.specs.Seats.{with_view};
-ghost use Rattle.bihash_steps.specs.declared.view.Extent.{Extent};
-ghost use Rattle.bihash_table.specs.OpenReads.{NotesBlock, Saw};
+ghost use Rattle.bihash_table.specs.OpenReads.{HasRead, MayRead};
 ghost use Rattle.bihash_table.specs.Closing.{ArePairsOf, IsCloseRefused, WasWhole};
 ghost use Rattle.bihash_table.specs.PairLists.{AddsBlock, ListsBuckets, TookLocks};
 
@@ -113,10 +112,8 @@ fn read_pairs<S: Shape>(
     word: BucketWord,
     pairs: &mut Vec<(S::Key, u64)>,
 ) -> Result<(), AllocError>
-    requires own { seat.old.row ≡ row.now }
-    requires open { (e : Extent) × NotesBlock (sizes_of S.Shape) seat.old.view word e }
-    ensures same { seat.new ≡ with_view seat.old seat.new.view }
-    ensures saw { Saw seat.old.view seat.new.view (λ e block.
+    requires { MayRead (sizes_of S.Shape) row.now seat.old word 0 }
+    ensures { HasRead seat.old seat.new (λ e block.
         IfOk result (λ _. AddsBlock ⟦<S as Shape>⟧ e block pairs.old.items pairs.new.items)) }
 {
     row.is_sound();

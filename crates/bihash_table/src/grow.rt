@@ -15,6 +15,7 @@ ghost use Rattle.bihash_steps.specs.declared.view.LockedBucket.{LockedBucket};
 ghost use Rattle.bihash_steps.specs.declared.view.LockedStore.{LockedStore};
 ghost use Rattle.bihash_steps.specs.declared.view.PageStore.{PageStore};
 ghost use Rattle.bihash_steps.specs.Seats.{with_view};
+ghost use Rattle.bihash_table.specs.Answers.{locks_of};
 ghost use Rattle.bihash_table.specs.Promise.{IsAnswered, IsTurnedAway};
 ghost use Rattle.bihash_table.specs.Copying.{GivenBack, HoldsOld, IsWanting, Released};
 ghost use Rattle.bihash_table.specs.Locked.{HasLock};
@@ -133,6 +134,7 @@ fn enter<S: Shape>(
         × (map_now seat.new.view seen.now.site.bucket ≡ map_now seat.old.view seen.now.site.bucket)
         × ((store : PageStore) × IsWanting (sizes_of S.Shape) store size.log2 left × Bears seat.new.view seen.now.site.bucket store)) }
     ensures contended { IfErr result (λ _. IsTurnedAway (sizes_of S.Shape) seat.old.view seat.new.view seen.now.site.bucket) }
+    ensures locks { locks_of seat.new.view.records ≡ locks_of seat.old.view.records }
     ensures lone { seat.old.view.lone ≡ true → is_ok result ≡ true }
     ensures lawful { IsLawfulCaller (sizes_of S.Shape) seat.new.view }
 {
@@ -207,6 +209,7 @@ pub(crate) fn remove_last<S: Shape>(
         × IsAnswered (sizes_of S.Shape) seat.old.view seat.new.view
         (record { key = S.words_of seen.now.site.key.now; found = Some found; change = Remove; reply = reply })) }
     ensures contended { IfErr result (λ _. IsTurnedAway (sizes_of S.Shape) seat.old.view seat.new.view seen.now.site.bucket) }
+    ensures locks { locks_of seat.new.view.records ≡ locks_of seat.old.view.records }
     ensures lone { seat.old.view.lone ≡ true → is_ok result ≡ true }
     ensures lawful { IsLawfulCaller (sizes_of S.Shape) seat.new.view }
 {

@@ -1,13 +1,10 @@
 //! A look at a bucket, and its lock.
-ghost use Rattle.std.specs.Prelude.{◌≡◌, ◌<◌, true, false, IfSome, IfNone, is_some};
+ghost use Rattle.std.specs.Prelude.{◌≡◌, ◌<◌};
 ghost use Rattle.bihash_words.specs.Sizes.{sizes_of};
 ghost use Rattle.bihash_steps.specs.Words.{buckets};
-ghost use Rattle.bihash_steps.specs.Callers.{IsLawfulCaller};
 ghost use Rattle.bihash_steps.specs.Views.{nothing_held};
-ghost use Rattle.bihash_steps.specs.Seats.{with_view};
-ghost use Rattle.bihash_table.specs.Promise.{IsTurnedAway};
-ghost use Rattle.bihash_table.specs.OpenReads.{HasOpen, IsOpened};
-ghost use Rattle.bihash_table.specs.Seen.{LocksSeen};
+ghost use Rattle.bihash_table.specs.OpenReads.{HasOpen};
+ghost use Rattle.bihash_table.specs.Seen.{TellsLock, TellsLook};
 
 use bihash_steps::{CallerSeat, Row};
 use bihash_words::{BucketWord, Shape};
@@ -21,12 +18,7 @@ pub(crate) fn look<S: Shape>(
     requires own { seat.old.row ≡ row.now }
     requires free { seat.old.view.holds ≡ nothing_held }
     requires inside { bucket < buckets (sizes_of S.Shape) }
-    ensures same { seat.new ≡ with_view seat.old seat.new.view }
-    ensures opened { IfSome result (IsOpened (sizes_of S.Shape) seat.old.view seat.new.view bucket) }
-    ensures turned_away { IfNone result (IsTurnedAway (sizes_of S.Shape) seat.old.view seat.new.view bucket) }
-    ensures no_lock { IfNone result (seat.new.view.records ≡ seat.old.view.records) }
-    ensures lone { seat.old.view.lone ≡ true → is_some result ≡ true }
-    ensures lawful { IsLawfulCaller (sizes_of S.Shape) seat.new.view }
+    ensures { TellsLook (sizes_of S.Shape) seat.old seat.new bucket result }
 {
     let word = row.load_bucket(seat, bucket);
     if word.locked() {
@@ -45,11 +37,7 @@ pub(crate) fn lock_seen<S: Shape>(
 ) -> bool
     requires own { seat.old.row ≡ row.now }
     requires seen { HasOpen (sizes_of S.Shape) seat.old.view bucket word }
-    ensures same { seat.new ≡ with_view seat.old seat.new.view }
-    ensures locked { result ≡ true → LocksSeen (sizes_of S.Shape) seat.old.view seat.new.view bucket word }
-    ensures turned_away { result ≡ false → IsTurnedAway (sizes_of S.Shape) seat.old.view seat.new.view bucket }
-    ensures lone { seat.old.view.lone ≡ true → result ≡ true }
-    ensures lawful { IsLawfulCaller (sizes_of S.Shape) seat.new.view }
+    ensures { TellsLock (sizes_of S.Shape) seat.old seat.new bucket word result }
 {
     row.lock_from(seat, bucket, word)
 }

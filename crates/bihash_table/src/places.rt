@@ -1,9 +1,7 @@
 //! The places of a block: how many it has, and what marks a free one.
 ghost use Rattle.std.specs.Prelude.{◌≡◌, ◌*◌, ◌^◌, ◌≤◌};
-ghost use Rattle.bihash_words.specs.Sizes.{IsSound, sizes_of};
-ghost use Rattle.bihash_steps.specs.Blocks.{places};
-ghost use Rattle.bihash_steps.specs.declared.view.Extent.{Extent};
-ghost use Rattle.bihash_table.specs.Scans.{IsWordOf};
+ghost use Rattle.bihash_words.specs.Sizes.{sizes_of};
+ghost use Rattle.bihash_table.specs.Scans.{CountsPlaces, NamesBlock};
 
 use bihash_words::{BucketWord, Shape};
 
@@ -32,10 +30,8 @@ pub(crate) fn places_of(log2: u64) -> usize
 
 /// How many places the block of a bucket has whose word is this.
 pub(crate) fn place_count<S: Shape>(word: BucketWord) -> usize
-    requires shape { IsSound (sizes_of S.Shape) }
-    requires word { (e : Extent) × IsWordOf (sizes_of S.Shape) word e }
-    ensures count { (e : Extent) → IsWordOf (sizes_of S.Shape) word e → result ≡ places e.page e.log2 }
-    ensures few { result ≤ 4 * 2 ^ S.MAX_LOG2 }
+    requires { NamesBlock (sizes_of S.Shape) word }
+    ensures { CountsPlaces (sizes_of S.Shape) word result }
 {
     if word.page() == 0 {
         return 0;

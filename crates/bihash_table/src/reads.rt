@@ -1,13 +1,9 @@
 //! Searches of the block of an open bucket. What they find holds on the condition that the words they
 //! load are the block's, which a step on the bucket's word tells afterwards.
-ghost use Rattle.std.specs.Prelude.{◌≡◌, ◌+◌, ◌-◌, ◌*◌, ◌/◌, ◌^◌, ◌<◌, ◌≤◌, true, false, ◌≢◌, slice_index};
-ghost use Rattle.bihash_words.specs.Sizes.{IsSound, sizes_of};
-ghost use Rattle.bihash_steps.specs.Words.{place_words};
-ghost use Rattle.bihash_steps.specs.Blocks.{places};
-ghost use Rattle.bihash_steps.specs.Seats.{with_view};
-ghost use Rattle.bihash_steps.specs.declared.view.Extent.{Extent};
-ghost use Rattle.bihash_table.specs.Scans.{IsWordOf, AreOpenTo};
-ghost use Rattle.bihash_table.specs.OpenReads.{NotesBlock, Saw, LastWordTells, AreMarks, first_set, later_set, set_count, IsValueAt, IsPairAmong, IsPairIn, IsFirstFreeIn, OtherPairTells, value_of};
+ghost use Rattle.std.specs.Prelude.{◌≡◌, ◌+◌, ◌*◌, ◌^◌, ◌<◌, ◌≤◌};
+ghost use Rattle.bihash_words.specs.Sizes.{sizes_of};
+ghost use Rattle.bihash_table.specs.Scans.{NamesBlock, AreOpenPages};
+ghost use Rattle.bihash_table.specs.OpenReads.{HasRead, MayRead, IsWordAt, LastWordTells, AreMarks, first_set, later_set, set_count, TellsValue, IsPairAmong, IsPairIn, IsFirstFreeIn, OtherPairTells, value_of};
 
 use crate::places::{FREE, PAGE_PLACES, page_count, place_count};
 use crate::site::Site;
@@ -23,11 +19,8 @@ pub(crate) fn find_pair<S: Shape>(
     word: BucketWord,
     site: &Site<'_, S>,
 ) -> Option<(usize, u64)>
-    requires own { seat.old.row ≡ row.now }
-    requires open { (e : Extent) × NotesBlock (sizes_of S.Shape) seat.old.view word e }
-    ensures same { seat.new ≡ with_view seat.old seat.new.view }
-    ensures saw { Saw seat.old.view seat.new.view (λ e block.
-        IsPairIn (sizes_of S.Shape) e block (S.words_of site.now.key.now) result) }
+    requires { MayRead (sizes_of S.Shape) row.now seat.old word 0 }
+    ensures { HasRead seat.old seat.new (IsPairIn (sizes_of S.Shape) (S.words_of site.now.key.now) result) }
 {
     row.is_sound();
     let (from, to) = open_pages(word, site);
@@ -54,11 +47,8 @@ pub(crate) fn find_free<S: Shape>(
     word: BucketWord,
     site: &Site<'_, S>,
 ) -> Option<usize>
-    requires own { seat.old.row ≡ row.now }
-    requires open { (e : Extent) × NotesBlock (sizes_of S.Shape) seat.old.view word e }
-    ensures same { seat.new ≡ with_view seat.old seat.new.view }
-    ensures saw { Saw seat.old.view seat.new.view (λ e block.
-        IsFirstFreeIn (sizes_of S.Shape) e block (S.words_of site.now.key.now) result) }
+    requires { MayRead (sizes_of S.Shape) row.now seat.old word 0 }
+    ensures { HasRead seat.old seat.new (IsFirstFreeIn (sizes_of S.Shape) (S.words_of site.now.key.now) result) }
 {
     row.is_sound();
     let (from, to) = open_pages(word, site);
@@ -77,10 +67,8 @@ pub(crate) fn has_other_pair<S: Shape>(
     word: BucketWord,
     place: usize,
 ) -> bool
-    requires own { seat.old.row ≡ row.now }
-    requires open { (e : Extent) × NotesBlock (sizes_of S.Shape) seat.old.view word e }
-    ensures same { seat.new ≡ with_view seat.old seat.new.view }
-    ensures saw { Saw seat.old.view seat.new.view (λ e block. OtherPairTells (sizes_of S.Shape) e block place result) }
+    requires { MayRead (sizes_of S.Shape) row.now seat.old word 0 }
+    ensures { HasRead seat.old seat.new (OtherPairTells (sizes_of S.Shape) place result) }
 {
     row.is_sound();
     for k in 0..place_count::<S>(word) {
@@ -102,12 +90,9 @@ pub(crate) fn load_word<S: Shape>(
     place: usize,
     i: usize,
 ) -> u64
-    requires own { seat.old.row ≡ row.now }
-    requires open { (e : Extent) × NotesBlock (sizes_of S.Shape) seat.old.view word e × (place < places e.page e.log2) }
+    requires read { MayRead (sizes_of S.Shape) row.now seat.old word (place + 1) }
     requires inside { i ≤ S.WORDS }
-    ensures same { seat.new ≡ with_view seat.old seat.new.view }
-    ensures saw { Saw seat.old.view seat.new.view (λ _ block.
-        result ≡ slice_index block (place * place_words (sizes_of S.Shape) + i)) }
+    ensures { HasRead seat.old seat.new (IsWordAt (sizes_of S.Shape) place i result) }
 {
     row.is_sound();
     row.load_open(seat, word.page(), place * (S::WORDS + 1) + i)
@@ -116,12 +101,8 @@ pub(crate) fn load_word<S: Shape>(
 // The pages of an open block that may hold the key, as the first of them and the one behind the last: the
 // one that its hash names or, where the block is linear, each.
 fn open_pages<S: Shape>(word: BucketWord, site: &Site<'_, S>) -> (usize, usize)
-    requires sound { IsSound (sizes_of S.Shape) }
-    requires block { (e : Extent) × IsWordOf (sizes_of S.Shape) word e }
-    ensures order { result.0 ≤ result.1 }
-    ensures few { result.1 ≤ 2 ^ 24 }
-    ensures pages { (e : Extent) → IsWordOf (sizes_of S.Shape) word e
-        → AreOpenTo (sizes_of S.Shape) e (S.words_of site.now.key.now) (4 * result.0) (4 * result.1) }
+    requires { NamesBlock (sizes_of S.Shape) word }
+    ensures { AreOpenPages (sizes_of S.Shape) word (S.words_of site.now.key.now) result.0 result.1 }
 {
     if word.page() == 0 {
         return (0, 0);
@@ -142,13 +123,10 @@ fn pair_in_page<S: Shape>(
     page: usize,
     site: &Site<'_, S>,
 ) -> Option<(usize, u64)>
-    requires own { seat.old.row ≡ row.now }
-    requires open { (e : Extent) × NotesBlock (sizes_of S.Shape) seat.old.view word e
-        × (4 * (page + 1) ≤ places e.page e.log2) }
+    requires read { MayRead (sizes_of S.Shape) row.now seat.old word (4 * (page + 1)) }
     requires few { page < 2 ^ 24 }
-    ensures same { seat.new ≡ with_view seat.old seat.new.view }
-    ensures saw { Saw seat.old.view seat.new.view (λ e block.
-        IsPairAmong (sizes_of S.Shape) e block (S.words_of site.now.key.now) (4 * page) (4 * (page + 1)) result) }
+    ensures { HasRead seat.old seat.new (IsPairAmong (sizes_of S.Shape) (S.words_of site.now.key.now)
+        (4 * page) (4 * (page + 1)) result) }
 {
     let first = PAGE_PLACES * page;
     let mut marks = marks(row, seat, word, first, site);
@@ -203,11 +181,8 @@ fn marks<S: Shape>(
     first: usize,
     site: &Site<'_, S>,
 ) -> (bool, bool, bool, bool)
-    requires own { seat.old.row ≡ row.now }
-    requires open { (e : Extent) × NotesBlock (sizes_of S.Shape) seat.old.view word e × (first + 4 ≤ places e.page e.log2) }
-    ensures same { seat.new ≡ with_view seat.old seat.new.view }
-    ensures saw { Saw seat.old.view seat.new.view (λ e block.
-        AreMarks (sizes_of S.Shape) e block (S.words_of site.now.key.now) first result) }
+    requires { MayRead (sizes_of S.Shape) row.now seat.old word (first + 4) }
+    ensures { HasRead seat.old seat.new (AreMarks (sizes_of S.Shape) (S.words_of site.now.key.now) first result) }
 {
     let a = has_last(row, seat, word, first, site);
     let b = has_last(row, seat, word, first + 1, site);
@@ -224,11 +199,8 @@ fn has_last<S: Shape>(
     place: usize,
     site: &Site<'_, S>,
 ) -> bool
-    requires own { seat.old.row ≡ row.now }
-    requires open { (e : Extent) × NotesBlock (sizes_of S.Shape) seat.old.view word e × (place < places e.page e.log2) }
-    ensures same { seat.new ≡ with_view seat.old seat.new.view }
-    ensures saw { Saw seat.old.view seat.new.view (λ e block.
-        LastWordTells (sizes_of S.Shape) e block (S.words_of site.now.key.now) place result) }
+    requires { MayRead (sizes_of S.Shape) row.now seat.old word (place + 1) }
+    ensures { HasRead seat.old seat.new (LastWordTells (sizes_of S.Shape) (S.words_of site.now.key.now) place result) }
 {
     row.is_sound();
     load_word(row, seat, word, place, S::WORDS - 1) == site.last
@@ -243,12 +215,8 @@ fn value_at<S: Shape>(
     place: usize,
     site: &Site<'_, S>,
 ) -> Option<u64>
-    requires own { seat.old.row ≡ row.now }
-    requires open { (e : Extent) × NotesBlock (sizes_of S.Shape) seat.old.view word e × (place < places e.page e.log2) }
-    ensures same { seat.new ≡ with_view seat.old seat.new.view }
-    ensures saw { Saw seat.old.view seat.new.view (λ e block.
-        LastWordTells (sizes_of S.Shape) e block (S.words_of site.now.key.now) place true
-        → IsValueAt (sizes_of S.Shape) e block (S.words_of site.now.key.now) place result) }
+    requires { MayRead (sizes_of S.Shape) row.now seat.old word (place + 1) }
+    ensures { HasRead seat.old seat.new (TellsValue (sizes_of S.Shape) (S.words_of site.now.key.now) place result) }
 {
     row.is_sound();
     for i in 0..S::WORDS - 1 {

@@ -1,12 +1,7 @@
 //! Searches: one try, and a search that waits for its turn.
-ghost use Rattle.std.specs.Prelude.{◌≡◌, true, IfOk, IfErr, is_ok};
-ghost use Rattle.bihash_words.specs.Sizes.{sizes_of};
-ghost use Rattle.bihash_steps.specs.Histories.{bucket_of};
-ghost use Rattle.bihash_steps.specs.Callers.{IsLawfulCaller};
+ghost use Rattle.std.specs.Prelude.{◌≡◌};
 ghost use Rattle.bihash_steps.specs.Views.{nothing_held};
-ghost use Rattle.bihash_steps.specs.Seats.{with_view};
-ghost use Rattle.bihash_table.specs.Answers.{locks_of, search_of};
-ghost use Rattle.bihash_table.specs.Promise.{IsAnswered, IsTurnedAway};
+ghost use Rattle.bihash_table.specs.Calls.{TellsSearch, TellsSearchTry};
 
 use crate::contended::Contended;
 use crate::lock::look;
@@ -23,14 +18,7 @@ impl<S: Shape> Sessions<S> {
     pub fn try_search(&self, caller: &mut Caller<S>, key: &S::Key) -> Result<Option<u64>, Contended>
         requires own { caller.old.seat.row ≡ self.now.row }
         requires free { caller.old.seat.view.holds ≡ nothing_held }
-        ensures same { caller.new.seat ≡ with_view caller.old.seat caller.new.seat.view }
-        ensures answered { IfOk result (λ found. IsAnswered (sizes_of S.Shape) caller.old.seat.view caller.new.seat.view
-            (search_of (S.words_of key.now) found)) }
-        ensures contended { IfErr result (λ _. IsTurnedAway (sizes_of S.Shape) caller.old.seat.view caller.new.seat.view
-            (bucket_of (sizes_of S.Shape) (S.words_of key.now))) }
-        ensures no_lock { locks_of caller.new.seat.view.records ≡ locks_of caller.old.seat.view.records }
-        ensures lone { caller.old.seat.view.lone ≡ true → is_ok result ≡ true }
-        ensures lawful { IsLawfulCaller (sizes_of S.Shape) caller.new.seat.view }
+        ensures { TellsSearchTry ⟦<S as Shape>⟧ caller.old.seat caller.new.seat key.now result }
     {
         self.row.is_sound();
         let site = Site::of(key);
@@ -59,11 +47,7 @@ impl<S: Shape> Sessions<S> {
     pub fn search<R: Wait>(&self, rt: &R, caller: &mut Caller<S>, key: &S::Key) -> Option<u64>
         requires own { caller.old.seat.row ≡ self.now.row }
         requires free { caller.old.seat.view.holds ≡ nothing_held }
-        ensures same { caller.new.seat ≡ with_view caller.old.seat caller.new.seat.view }
-        ensures answered { IsAnswered (sizes_of S.Shape) caller.old.seat.view caller.new.seat.view
-            (search_of (S.words_of key.now) result) }
-        ensures no_lock { locks_of caller.new.seat.view.records ≡ locks_of caller.old.seat.view.records }
-        ensures lawful { IsLawfulCaller (sizes_of S.Shape) caller.new.seat.view }
+        ensures { TellsSearch ⟦<S as Shape>⟧ caller.old.seat caller.new.seat key.now result }
     {
         let backoff = Backoff::new();
         for _ in rt.forever() {

@@ -1,12 +1,10 @@
 //! Copies of the block of an open bucket, from its words to places of keys and values. They are the
 //! block's on the condition that the words they load are.
-ghost use Rattle.std.specs.Prelude.{◌≡◌, ◌<◌, length};
+ghost use Rattle.std.specs.Prelude.{◌≡◌, ◌+◌, length};
 ghost use Rattle.bihash_words.specs.Sizes.{sizes_of};
-ghost use Rattle.bihash_steps.specs.Blocks.{places, key_in, value_in};
-ghost use Rattle.bihash_steps.specs.Seats.{with_view};
-ghost use Rattle.bihash_steps.specs.declared.view.Extent.{Extent};
 ghost use Rattle.bihash_table.specs.Places.{ArePlaces};
-ghost use Rattle.bihash_table.specs.OpenReads.{NotesBlock, Saw};
+ghost use Rattle.bihash_table.specs.Scans.{CountsPlaces};
+ghost use Rattle.bihash_table.specs.OpenReads.{HasRead, MayRead, StandsAt};
 
 use crate::reads::load_word;
 use bihash_steps::{CallerSeat, Row};
@@ -22,12 +20,10 @@ pub(crate) fn read_block<S: Shape>(
     word: BucketWord,
     out: &mut [(S::Key, u64)],
 )
-    requires own { seat.old.row ≡ row.now }
-    requires open { (e : Extent) × NotesBlock (sizes_of S.Shape) seat.old.view word e
-        × (length out.old ≡ places e.page e.log2) }
-    ensures same { seat.new ≡ with_view seat.old seat.new.view }
+    requires read { MayRead (sizes_of S.Shape) row.now seat.old word 0 }
+    requires sized { CountsPlaces (sizes_of S.Shape) word (length out.old) }
     ensures sized { length out.new ≡ length out.old }
-    ensures saw { Saw seat.old.view seat.new.view (λ _ block. ArePlaces ⟦<S as Shape>⟧ out.new block) }
+    ensures read { HasRead seat.old seat.new (λ _ block. ArePlaces ⟦<S as Shape>⟧ out.new block) }
 {
     for place in 0..out.len() {
         out[place] = read_place(row, seat, word, place);
@@ -41,12 +37,8 @@ pub(crate) fn read_place<S: Shape>(
     word: BucketWord,
     place: usize,
 ) -> (S::Key, u64)
-    requires own { seat.old.row ≡ row.now }
-    requires open { (e : Extent) × NotesBlock (sizes_of S.Shape) seat.old.view word e × (place < places e.page e.log2) }
-    ensures same { seat.new ≡ with_view seat.old seat.new.view }
-    ensures saw { Saw seat.old.view seat.new.view (λ _ block.
-        (key_in (sizes_of S.Shape) block place ≡ S.words_of result.0)
-        × (value_in (sizes_of S.Shape) block place ≡ result.1)) }
+    requires { MayRead (sizes_of S.Shape) row.now seat.old word (place + 1) }
+    ensures { HasRead seat.old seat.new (StandsAt ⟦<S as Shape>⟧ place result) }
 {
     row.is_sound();
     let mut words = [0u64; MOST_WORDS];

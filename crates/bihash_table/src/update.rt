@@ -1,21 +1,16 @@
 //! Updates, one try each.
-ghost use Rattle.std.specs.Prelude.{◌≡◌, ◌≢◌, ◌==◌, ◌<◌, true, false, ℕ, length, None, Option, Some, IfOk, IfErr, is_ok};
+ghost use Rattle.std.specs.Prelude.{◌≡◌, ◌≢◌, ◌==◌, ◌<◌, true, false, length, None, Option, Some};
 ghost use Rattle.bihash_words.specs.Maps.{effect_of};
 ghost use Rattle.bihash_words.specs.Patches.{IsStorable};
 ghost use Rattle.bihash_words.specs.Sizes.{sizes_of};
 ghost use Rattle.bihash_words.specs.Words.{Bucket, Fits, packed};
 ghost use Rattle.bihash_words.specs.declared.patch.Change.TheVariants.{Keep, Set};
-ghost use Rattle.bihash_words.specs.declared.patch.Reply.TheVariants.{NoPages};
-ghost use Rattle.bihash_steps.specs.Histories.{bucket_of};
-ghost use Rattle.bihash_steps.specs.Callers.{IsLawfulCaller, known_at};
+ghost use Rattle.bihash_steps.specs.Callers.{known_at};
 ghost use Rattle.bihash_steps.specs.Views.{nothing_held};
-ghost use Rattle.bihash_steps.specs.Seats.{with_view};
-ghost use Rattle.bihash_table.specs.Answers.{locks_of};
-ghost use Rattle.bihash_table.specs.Promise.{IsUpdated, IsTurnedAway};
+ghost use Rattle.bihash_table.specs.Calls.{TellsUpdateTry};
 ghost use Rattle.bihash_table.specs.OpenReads.{IsPairIn, value_of};
 ghost use Rattle.bihash_table.specs.Seen.{HasSeen};
-ghost use Rattle.bihash_table.specs.Shortage.{IsShortage};
-ghost use Rattle.bihash_table.specs.Tries.{Tried, is_without_lock};
+ghost use Rattle.bihash_table.specs.Tries.{Tried};
 
 use crate::change::{fill, keep, overwrite, refuse, remove};
 use crate::contended::Contended;
@@ -39,18 +34,7 @@ impl<S: Shape> Sessions<S> {
     ) -> Result<Reply, Contended>
         requires own { caller.old.seat.row ≡ self.now.row }
         requires free { caller.old.seat.view.holds ≡ nothing_held }
-        ensures same { caller.new.seat ≡ with_view caller.old.seat caller.new.seat.view }
-        ensures answered { IfOk result (IsUpdated (sizes_of S.Shape) caller.old.seat.view caller.new.seat.view
-            (S.words_of key.now) (P.decision patch.now)) }
-        ensures no_pages { IfOk result (λ reply. (log2 left : ℕ) → reply ≡ NoPages log2 left
-            → IsShortage ⟦<S as Shape>⟧ caller.new.seat.view (bucket_of (sizes_of S.Shape) (S.words_of key.now))
-            key.now log2 left) }
-        ensures no_lock { IfOk result (λ reply. is_without_lock reply ≡ true
-            → locks_of caller.new.seat.view.records ≡ locks_of caller.old.seat.view.records) }
-        ensures contended { IfErr result (λ _. IsTurnedAway (sizes_of S.Shape) caller.old.seat.view caller.new.seat.view
-            (bucket_of (sizes_of S.Shape) (S.words_of key.now))) }
-        ensures lone { caller.old.seat.view.lone ≡ true → is_ok result ≡ true }
-        ensures lawful { IsLawfulCaller (sizes_of S.Shape) caller.new.seat.view }
+        ensures { TellsUpdateTry ⟦<S as Shape>⟧ caller.old.seat caller.new.seat key.now (P.decision patch.now) result }
     {
         self.row.is_sound();
         let site = Site::of(key);
@@ -75,7 +59,7 @@ fn make<S: Shape>(
 ) -> Result<Reply, Contended>
     requires own { caller.old.seat.row ≡ row.now }
     requires seen { HasSeen (sizes_of S.Shape) caller.old.seat.view seen.now.site.bucket seen.now.word
-        (λ e block. IsPairIn (sizes_of S.Shape) e block (S.words_of seen.now.site.key.now) pair) }
+        (IsPairIn (sizes_of S.Shape) (S.words_of seen.now.site.key.now) pair) }
     requires storable { IsStorable change }
     ensures { Tried ⟦<S as Shape>⟧ caller.old.seat caller.new.seat seen.now.site.bucket seen.now.site.key.now (value_of pair)
         change result }
@@ -124,7 +108,7 @@ fn change_pair<S: Shape>(
 ) -> Result<Reply, Contended>
     requires own { seat.old.row ≡ row.now }
     requires seen { HasSeen (sizes_of S.Shape) seat.old.view seen.now.site.bucket seen.now.word
-        (λ e block. IsPairIn (sizes_of S.Shape) e block (S.words_of seen.now.site.key.now) (Some pair)) }
+        (IsPairIn (sizes_of S.Shape) (S.words_of seen.now.site.key.now) (Some pair)) }
     requires unworn { length (known_at seat.old.view.known seen.now.site.bucket) < S.LIMIT }
     requires wanted { effect_of change (Some pair.1) ≢ Keep }
     requires storable { IsStorable change }
@@ -151,7 +135,7 @@ fn enter_new<S: Shape>(
 ) -> Result<Reply, Contended>
     requires own { caller.old.seat.row ≡ row.now }
     requires seen { HasSeen (sizes_of S.Shape) caller.old.seat.view seen.now.site.bucket seen.now.word
-        (λ e block. IsPairIn (sizes_of S.Shape) e block (S.words_of seen.now.site.key.now) None) }
+        (IsPairIn (sizes_of S.Shape) (S.words_of seen.now.site.key.now) None) }
     requires unworn { length (known_at caller.old.seat.view.known seen.now.site.bucket) < S.LIMIT }
     requires wanted { effect_of change None ≢ Keep }
     requires storable { IsStorable change }

@@ -1,17 +1,9 @@
 //! Updates that wait for their turn: one of any decision, and the four fixed ones.
-ghost use Rattle.std.specs.Prelude.{◌≡◌, ◌≢◌, ℕ, true};
-ghost use Rattle.bihash_words.specs.Sizes.{sizes_of};
+ghost use Rattle.std.specs.Prelude.{◌≡◌, ◌≢◌};
 ghost use Rattle.bihash_words.specs.Patches.{free_mark, set_if_absent, set_if_present};
 ghost use Rattle.bihash_words.specs.declared.patch.Change.TheVariants.{Set, Remove};
-ghost use Rattle.bihash_words.specs.declared.patch.Reply.TheVariants.{NoPages};
-ghost use Rattle.bihash_steps.specs.Histories.{bucket_of};
-ghost use Rattle.bihash_steps.specs.Callers.{IsLawfulCaller};
 ghost use Rattle.bihash_steps.specs.Views.{nothing_held};
-ghost use Rattle.bihash_steps.specs.Seats.{with_view};
-ghost use Rattle.bihash_table.specs.Answers.{locks_of};
-ghost use Rattle.bihash_table.specs.Promise.{IsUpdated};
-ghost use Rattle.bihash_table.specs.Shortage.{IsShortage};
-ghost use Rattle.bihash_table.specs.Tries.{is_without_lock};
+ghost use Rattle.bihash_table.specs.Calls.{TellsUpdate};
 
 use crate::sessions::Sessions;
 use bihash_steps::Caller;
@@ -31,15 +23,7 @@ impl<S: Shape> Sessions<S> {
     ) -> Reply
         requires own { caller.old.seat.row ≡ self.now.row }
         requires free { caller.old.seat.view.holds ≡ nothing_held }
-        ensures same { caller.new.seat ≡ with_view caller.old.seat caller.new.seat.view }
-        ensures answered { IsUpdated (sizes_of S.Shape) caller.old.seat.view caller.new.seat.view
-            (S.words_of key.now) (P.decision patch.now) result }
-        ensures no_lock { caller.old.seat.view.lone ≡ true → is_without_lock result ≡ true
-            → locks_of caller.new.seat.view.records ≡ locks_of caller.old.seat.view.records }
-        ensures no_pages { (log2 left : ℕ) → result ≡ NoPages log2 left
-            → IsShortage ⟦<S as Shape>⟧ caller.new.seat.view (bucket_of (sizes_of S.Shape) (S.words_of key.now))
-            key.now log2 left }
-        ensures lawful { IsLawfulCaller (sizes_of S.Shape) caller.new.seat.view }
+        ensures { TellsUpdate ⟦<S as Shape>⟧ caller.old.seat caller.new.seat key.now (P.decision patch.now) result }
     {
         let backoff = Backoff::new();
         for _ in rt.forever() {
@@ -56,15 +40,7 @@ impl<S: Shape> Sessions<S> {
         requires own { caller.old.seat.row ≡ self.now.row }
         requires free { caller.old.seat.view.holds ≡ nothing_held }
         requires storable { value ≢ free_mark }
-        ensures same { caller.new.seat ≡ with_view caller.old.seat caller.new.seat.view }
-        ensures answered { IsUpdated (sizes_of S.Shape) caller.old.seat.view caller.new.seat.view
-            (S.words_of key.now) (λ _. Set value) result }
-        ensures no_lock { caller.old.seat.view.lone ≡ true → is_without_lock result ≡ true
-            → locks_of caller.new.seat.view.records ≡ locks_of caller.old.seat.view.records }
-        ensures no_pages { (log2 left : ℕ) → result ≡ NoPages log2 left
-            → IsShortage ⟦<S as Shape>⟧ caller.new.seat.view (bucket_of (sizes_of S.Shape) (S.words_of key.now))
-            key.now log2 left }
-        ensures lawful { IsLawfulCaller (sizes_of S.Shape) caller.new.seat.view }
+        ensures { TellsUpdate ⟦<S as Shape>⟧ caller.old.seat caller.new.seat key.now (λ _. Set value) result }
     {
         self.update(rt, caller, key, &Add { value })
     }
@@ -80,15 +56,7 @@ impl<S: Shape> Sessions<S> {
         requires own { caller.old.seat.row ≡ self.now.row }
         requires free { caller.old.seat.view.holds ≡ nothing_held }
         requires storable { value ≢ free_mark }
-        ensures same { caller.new.seat ≡ with_view caller.old.seat caller.new.seat.view }
-        ensures answered { IsUpdated (sizes_of S.Shape) caller.old.seat.view caller.new.seat.view
-            (S.words_of key.now) (set_if_absent value) result }
-        ensures no_lock { caller.old.seat.view.lone ≡ true → is_without_lock result ≡ true
-            → locks_of caller.new.seat.view.records ≡ locks_of caller.old.seat.view.records }
-        ensures no_pages { (log2 left : ℕ) → result ≡ NoPages log2 left
-            → IsShortage ⟦<S as Shape>⟧ caller.new.seat.view (bucket_of (sizes_of S.Shape) (S.words_of key.now))
-            key.now log2 left }
-        ensures lawful { IsLawfulCaller (sizes_of S.Shape) caller.new.seat.view }
+        ensures { TellsUpdate ⟦<S as Shape>⟧ caller.old.seat caller.new.seat key.now (set_if_absent value) result }
     {
         self.update(rt, caller, key, &AddIfAbsent { value })
     }
@@ -98,15 +66,7 @@ impl<S: Shape> Sessions<S> {
         requires own { caller.old.seat.row ≡ self.now.row }
         requires free { caller.old.seat.view.holds ≡ nothing_held }
         requires storable { value ≢ free_mark }
-        ensures same { caller.new.seat ≡ with_view caller.old.seat caller.new.seat.view }
-        ensures answered { IsUpdated (sizes_of S.Shape) caller.old.seat.view caller.new.seat.view
-            (S.words_of key.now) (set_if_present value) result }
-        ensures no_lock { caller.old.seat.view.lone ≡ true → is_without_lock result ≡ true
-            → locks_of caller.new.seat.view.records ≡ locks_of caller.old.seat.view.records }
-        ensures no_pages { (log2 left : ℕ) → result ≡ NoPages log2 left
-            → IsShortage ⟦<S as Shape>⟧ caller.new.seat.view (bucket_of (sizes_of S.Shape) (S.words_of key.now))
-            key.now log2 left }
-        ensures lawful { IsLawfulCaller (sizes_of S.Shape) caller.new.seat.view }
+        ensures { TellsUpdate ⟦<S as Shape>⟧ caller.old.seat caller.new.seat key.now (set_if_present value) result }
     {
         self.update(rt, caller, key, &Touch { value })
     }
@@ -115,15 +75,7 @@ impl<S: Shape> Sessions<S> {
     pub fn remove<R: Wait>(&self, rt: &R, caller: &mut Caller<S>, key: &S::Key) -> Reply
         requires own { caller.old.seat.row ≡ self.now.row }
         requires free { caller.old.seat.view.holds ≡ nothing_held }
-        ensures same { caller.new.seat ≡ with_view caller.old.seat caller.new.seat.view }
-        ensures answered { IsUpdated (sizes_of S.Shape) caller.old.seat.view caller.new.seat.view
-            (S.words_of key.now) (λ _. Remove) result }
-        ensures no_lock { caller.old.seat.view.lone ≡ true → is_without_lock result ≡ true
-            → locks_of caller.new.seat.view.records ≡ locks_of caller.old.seat.view.records }
-        ensures no_pages { (log2 left : ℕ) → result ≡ NoPages log2 left
-            → IsShortage ⟦<S as Shape>⟧ caller.new.seat.view (bucket_of (sizes_of S.Shape) (S.words_of key.now))
-            key.now log2 left }
-        ensures lawful { IsLawfulCaller (sizes_of S.Shape) caller.new.seat.view }
+        ensures { TellsUpdate ⟦<S as Shape>⟧ caller.old.seat caller.new.seat key.now (λ _. Remove) result }
     {
         self.update(rt, caller, key, &Delete)
     }

@@ -7,6 +7,7 @@ pub mod PacketFlows
 pub mod Passing
 pub mod PreparedRules
 pub mod Readings
+pub mod RuleSearches
 pub mod Rulesets
 pub mod Updates
 pub mod Verdicts

@@ -1,8 +1,9 @@
 //! What a packet does to its flow's session, where the rules are asked only if no session is live.
-ghost use Rattle.std.specs.Prelude.{◌≡◌, ◌<◌, ◌+◌, ◌^◌};
+ghost use Rattle.std.specs.Prelude.{◌≡◌, ◌<◌};
 ghost use Rattle.std.specs.Option.{ForSome};
 ghost use Rattle.packet_view.specs.Tuples.{facts};
 ghost use Rattle.acl_policy.specs.Matching.{IsDecision};
+ghost use Rattle.acl_policy.specs.Rules.{most_rules};
 ghost use Rattle.flow_filter.specs.Readings.{Ruling};
 ghost use Rattle.flow_filter.specs.Rulesets.{rules_in};
 
@@ -36,7 +37,7 @@ struct Decided<D: HasRuling> {
     ruling: Option<(usize, Action)>,
     of: PhantomData<D>,
     ghost is: { ruling ≡ D.ruling },
-    ghost few: { ForSome ruling (λ decided. decided.0 + 1 < 2 ^ 64) },
+    ghost few: { ForSome ruling (λ decided. decided.0 < most_rules) },
 }
 
 /// What a packet does to its flow's session. The rules are asked once at most, and not at all where a
@@ -79,7 +80,7 @@ impl<'a, D: HasRuling> LazyPatch<'a, D> {
 
     fn ruling(&self) -> Option<(usize, Action)>
         ensures is { result ≡ D.ruling }
-        ensures few { ForSome result (λ decided. decided.0 + 1 < 2 ^ 64) }
+        ensures few { ForSome result (λ decided. decided.0 < most_rules) }
     {
         let decided = match self.decided.replace(None) {
             Some(decided) => decided,
@@ -94,7 +95,7 @@ impl<'a, D: HasRuling> LazyPatch<'a, D> {
     fn decider(&self, found: Option<u64>) -> Decider
         ensures is { result ≡ decider_of (facts_of ⟦<D as HasRuling>⟧ self.now) found D.ruling }
         ensures few { (ruling : Ruling) → result ≡ Decider.Rules ruling
-            → ForSome ruling (λ decided. decided.0 + 1 < 2 ^ 64) }
+            → ForSome ruling (λ decided. decided.0 < most_rules) }
     {
         let unruled = patch_of(&self.times, &self.packet, None);
         if unruled.live_session(found).is_some() {

@@ -7,6 +7,7 @@ mod laws;
 mod lazy_patch;
 mod packet_flow;
 mod prepared_rules;
+mod rule_search;
 mod ruleset;
 mod update;
 mod verdict;
@@ -20,6 +21,7 @@ pub use laws::{
 pub use lazy_patch::{HasRuling, LazyPatch};
 pub use packet_flow::PacketFlow;
 pub use prepared_rules::PreparedRules;
+pub use rule_search::RuleSearch;
 pub use ruleset::Ruleset;
 pub use verdict::Verdict;
 pub use verdicts::verdict_of_rules;

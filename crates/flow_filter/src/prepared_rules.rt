@@ -1,9 +1,10 @@
 //! The rules of a filter, prepared once for many packets.
-ghost use Rattle.std.specs.Prelude.{◌≡◌, IfOk, map};
+ghost use Rattle.std.specs.Prelude.{◌≡◌, ◌≤◌, IfOk, length, map};
 ghost use Rattle.std.specs.Option.{ForSome};
-ghost use Rattle.acl_policy.specs.Rules.{rule_facts};
+ghost use Rattle.acl_policy.specs.Rules.{most_rules, rule_facts};
 ghost use Rattle.flow_filter.specs.Rulesets.{rules_in};
 
+use crate::rule_search::RuleSearch;
 use crate::ruleset::Ruleset;
 use acl_policy::Rule;
 use rule_index::{RuleIndex, worth_preparing};
@@ -32,11 +33,13 @@ pub fn index_of(
 
 /// The rules by their index, where they have one.
 pub fn searched<'a>(rules: &'a [Rule], index: &'a Option<RuleIndex>) -> Ruleset<'a>
-    requires { ForSome index.now (λ index. index.rules.items ≡ rules.now) }
+    requires few { length rules.now ≤ most_rules }
+    requires index { ForSome index.now (λ index. index.rules.items ≡ rules.now) }
     ensures { rules_in result ≡ map rule_facts rules.now }
 {
-    match index {
-        Some(index) => Ruleset::Indexed(index),
-        None => Ruleset::Listed(rules),
-    }
+    let search = match index {
+        Some(index) => RuleSearch::Indexed(index),
+        None => RuleSearch::Listed(rules),
+    };
+    Ruleset { search }
 }

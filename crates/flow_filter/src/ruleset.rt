@@ -1,34 +1,37 @@
 //! The rules of one direction, as they are searched.
-ghost use Rattle.std.specs.Prelude.{◌≡◌, ◌<◌, ◌+◌, ◌^◌};
-ghost use Rattle.std.specs.Option.{ForSome};
-ghost use Rattle.acl_policy.specs.Matching.{IsDecision};
-ghost use Rattle.packet_view.specs.Tuples.{facts};
-ghost use Rattle.flow_filter.specs.Readings.{Ruling};
-ghost use Rattle.flow_filter.specs.Rulesets.{rules_in};
+ghost use Rattle.std.specs.Prelude.{◌≤◌, length};
+ghost use Rattle.acl_policy.specs.Rules.{most_rules};
+ghost use Rattle.flow_filter.specs.RuleSearches.{searched_rules};
 
-use acl_policy::{Action, Rule, first_match};
+use crate::rule_search::RuleSearch;
+use acl_policy::{Action, first_match};
 use packet_view::Tuple;
-use rule_index::RuleIndex;
 
 /// The rules of one direction, as they are searched.
 #[derive(Clone, Copy)]
-pub enum Ruleset<'a> {
-    /// One after the other.
-    Listed(&'a [Rule]),
-    /// By their index.
-    Indexed(&'a RuleIndex),
+pub struct Ruleset<'a> {
+    pub search: RuleSearch<'a>,
+    pub ghost few: { length (searched_rules search) ≤ most_rules },
 }
 
 impl Ruleset<'_> {
+    ghost use Rattle.std.specs.Prelude.{◌≡◌, ◌<◌};
+    ghost use Rattle.std.specs.Option.{ForSome};
+    ghost use Rattle.acl_policy.specs.Matching.{IsDecision};
+    ghost use Rattle.acl_policy.specs.Rules.{most_rules};
+    ghost use Rattle.packet_view.specs.Tuples.{facts};
+    ghost use Rattle.flow_filter.specs.Readings.{Ruling};
+    ghost use Rattle.flow_filter.specs.Rulesets.{rules_in};
+
     /// The first rule that matches, by its place from 0, and what it does. `None`: no rule matches.
     pub fn first_match(&self, tuple: &Tuple) -> Option<(usize, Action)>
         ensures decided { IsDecision (rules_in self.now) (facts tuple.now) result }
         ensures only { (other : Ruling) → IsDecision (rules_in self.now) (facts tuple.now) other → other ≡ result }
-        ensures few { ForSome result (λ decided. decided.0 + 1 < 2 ^ 64) }
+        ensures few { ForSome result (λ decided. decided.0 < most_rules) }
     {
-        match self {
-            Ruleset::Listed(rules) => first_match(rules, tuple),
-            Ruleset::Indexed(index) => index.first_match(tuple),
+        match self.search {
+            RuleSearch::Listed(rules) => first_match(rules, tuple),
+            RuleSearch::Indexed(index) => index.first_match(tuple),
         }
     }
 }

@@ -8,11 +8,11 @@ pub enum Verdict {
     /// A live session lets it through.
     Session,
     /// A reflecting rule lets it through and enters a session.
-    Reflect(usize),
+    Reflect(u16),
     /// A rule lets it through.
-    Permit(usize),
+    Permit(u16),
     /// A rule drops it.
-    Deny(usize),
+    Deny(u16),
     /// No rule matches, so it is dropped.
     ByDefault,
     /// The session's bucket takes no more writes.
@@ -28,6 +28,9 @@ pub enum Verdict {
     /// The packet ends within its transport header.
     Short,
 }
+
+// A list of verdicts is as long as its capture.
+const _: () = prove!(size_of::<Verdict>() == 4);
 
 impl Verdict {
     /// Whether the packet goes through.

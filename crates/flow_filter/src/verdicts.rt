@@ -1,6 +1,7 @@
 //! What the rules and the reply to its one update say of a packet.
-ghost use Rattle.std.specs.Prelude.{◌≡◌, ◌<◌, ◌+◌, ◌^◌, false};
+ghost use Rattle.std.specs.Prelude.{◌≡◌, ◌<◌, ◌+◌, false};
 ghost use Rattle.std.specs.Option.{ForSome};
+ghost use Rattle.acl_policy.specs.Rules.{most_rules};
 ghost use Rattle.bihash_words.specs.Maps.{found_by};
 ghost use Rattle.session_state.specs.Decisions.{is_live_for, patch_facts};
 ghost use Rattle.flow_filter.specs.Verdicts;
@@ -10,20 +11,28 @@ use acl_policy::Action;
 use bihash_words::Reply;
 use session_state::PacketPatch;
 
+/// The number of the rule at a place.
+fn number_of(place: usize) -> u16
+    requires { place < most_rules }
+    ensures { result ≡ place + 1 }
+{
+    place as u16 + 1
+}
+
 /// The verdict on a packet that takes no part in sessions, by the rule that decides it.
 pub fn verdict_of_rules(ruling: Option<(usize, Action)>) -> Verdict
-    requires { ForSome ruling (λ decided. decided.0 + 1 < 2 ^ 64) }
+    requires { ForSome ruling (λ decided. decided.0 < most_rules) }
     ensures { result ≡ Verdicts.verdict_of_rules ruling }
 {
     match ruling {
         None => Verdict::ByDefault,
-        Some((i, Action::Deny)) => Verdict::Deny(i + 1),
-        Some((i, Action::Permit | Action::Reflect)) => Verdict::Permit(i + 1),
+        Some((i, Action::Deny)) => Verdict::Deny(number_of(i)),
+        Some((i, Action::Permit | Action::Reflect)) => Verdict::Permit(number_of(i)),
     }
 }
 
 fn verdict_reflected(ruling: Option<(usize, Action)>, reply: Reply) -> Verdict
-    requires { ForSome ruling (λ decided. decided.0 + 1 < 2 ^ 64) }
+    requires { ForSome ruling (λ decided. decided.0 < most_rules) }
     ensures { result ≡ Verdicts.verdict_reflected ruling reply }
 {
     let Some((i, _)) = ruling else {
@@ -33,7 +42,7 @@ fn verdict_reflected(ruling: Option<(usize, Action)>, reply: Reply) -> Verdict
         Reply::Worn(_) => Verdict::Worn,
         Reply::Full => Verdict::Full,
         Reply::NoPages { .. } => Verdict::NoPages,
-        Reply::Kept(_) | Reply::Changed(_) => Verdict::Reflect(i + 1),
+        Reply::Kept(_) | Reply::Changed(_) => Verdict::Reflect(number_of(i)),
     }
 }
 
@@ -54,7 +63,7 @@ pub fn verdict_without_session(
     reply: Reply,
 ) -> Verdict
     requires none { is_live_for (patch_facts patch.now) (found_by reply) ≡ false }
-    requires few { ForSome ruling (λ decided. decided.0 + 1 < 2 ^ 64) }
+    requires few { ForSome ruling (λ decided. decided.0 < most_rules) }
     ensures { result ≡ Verdicts.verdict_of (patch_facts patch.now) ruling (found_by reply) reply }
 {
     if patch.reflects {

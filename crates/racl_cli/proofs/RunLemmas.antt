@@ -7,7 +7,7 @@ use Rattle.racl_io.specs.declared.fault.Fault.{Fault}
 use Rattle.racl_io.specs.declared.fault.Fault.TheVariants.{Memory, Read, TooLarge, NoCapture, NotUtf8, BadLine, TooMany, Hex, Short, Magic, Version, LinkType, LongRecord, Write}
 use Rattle.racl_io.specs.declared.input.Form.{Form}
 use Rattle.racl_io.specs.declared.input.Form.TheVariants.{Binary, Hexadecimal}
-use Rattle.racl_io.specs.Faults.{IsDeviceFault, IsFaultOfBytes, IsFaultOfCapture, IsFaultOfContent, IsFaultOfParts, IsInputFault, policy_fault}
+use Rattle.racl_io.specs.Faults.{IsSystemFault, IsFaultOfBytes, IsFaultOfCapture, IsFaultOfContent, IsFaultOfParts, IsInputFault, policy_fault}
 use Rattle.racl_io.specs.Inputs.{IsContent, IsInput, Parts, most_bytes}
 use Rattle.racl_io.proofs.InputLemmas.{one_input}
 
@@ -72,7 +72,7 @@ excluded_by_input (Some input) bytes Excludes read excludes = λ fault of.
     excludes fault (fault_of_few bytes fault read.few (subst (λ b. IsInputFault b fault) (sym read.whole) of))
 
 -- a fault is want of memory or a device's, or what else it is said to be
-pub device_or : (fault : Fault) (P : Type 0) → (fault ≢ Memory → P) → IsDeviceFault fault ⊎ P
+pub device_or : (fault : Fault) (P : Type 0) → (fault ≢ Memory → P) → IsSystemFault fault ⊎ P
 device_or Memory P other = inl tt
 device_or Read P other = inl tt
 device_or Write P other = inl tt

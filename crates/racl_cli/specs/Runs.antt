@@ -1,5 +1,5 @@
 -- What a run has filtered, from the bytes of its input.
-use Rattle.std.specs.Prelude.{◌≡◌, ◌≤◌, ℕ, Bool, List, length, Option, IfSome, Result, MatchResult, All}
+use Rattle.std.specs.Prelude.{◌≡◌, ◌≢◌, ◌≤◌, ℕ, Bool, List, length, Option, IfSome, IfOk, IfErr, Result, MatchResult, All}
 use Rattle.std.specs.Io.KnownBytes.{Appends}
 use Rattle.packet_view.specs.Captures.{IsCapture, Seen, end_of}
 use Rattle.packet_view.specs.declared.tuple.Family.{Family}
@@ -15,8 +15,8 @@ use Rattle.racl_words.specs.declared.settings.Options.{Options}
 use Rattle.racl_io.specs.declared.fault.Fault.{Fault}
 use Rattle.racl_io.specs.declared.fault.Fault.TheVariants.{Memory}
 use Rattle.racl_io.specs.declared.input.Form.{Form}
-use Rattle.racl_io.specs.declared.report.Report.{Report}
 use Rattle.racl_io.specs.declared.report.Totals.{Totals}
+use Rattle.racl_io.specs.Faults.{Refuses}
 use Rattle.racl_io.specs.Inputs.{IsContent, IsInput, Parts, most_bytes}
 use Rattle.racl_io.specs.Reports.{report_of, totals_of}
 
@@ -87,29 +87,20 @@ pub record IsReached (options : Options) (Has : Judging → Outcome → Type 0) 
   pub by_workers : Has (ByWorkers options) outcome
   pub by_one_thread : HavePages outcome.verdicts → Has (ByOneThread options.times) outcome
 
--- ---- reports
-
--- the report tells the outcome
-pub record Tells (outcome : Outcome) (report : Report) : Type 0 where
-  pub text : report.text.items ≡ report_of outcome.verdicts outcome.truncated
-  pub totals : report.totals ≡ totals_of outcome.verdicts outcome.truncated
-
--- the report tells an outcome that was reached
-pub record IsReport (options : Options) (Has : Judging → Outcome → Type 0) (report : Report) : Type 0 where
-  pub outcome : Outcome
-  pub reached : IsReached options Has outcome
-  pub tells : Tells outcome report
-
--- the report tells the outcome of the one-thread filter, or one of workers that says no-pages
-pub record Agrees (options : Options) (Has : Judging → Outcome → Type 0) (one_thread : Outcome) (report : Report) : Type 0 where
-  pub outcome : Outcome
+-- workers came to the outcome, and it is that of the one-thread filter or says no-pages
+pub record Agrees (options : Options) (Has : Judging → Outcome → Type 0) (one_thread outcome : Outcome) : Type 0 where
   pub by_workers : Has (ByWorkers options) outcome
   pub same : HavePages outcome.verdicts → outcome ≡ one_thread
-  pub tells : Tells outcome report
 
--- nothing but such a report is answered, or want of memory
-abbrev pub Accepts : Options → (Judging → Outcome → Type 0) → Outcome → Result Report Fault → Type 0
-Accepts options Has one_thread result = MatchResult result (Agrees options Has one_thread) (λ fault. fault ≡ Memory)
+-- What is answered of something that has outcomes and faults. What is right gets an outcome, what has a fault gets that
+-- fault, and either may get want of memory.
+pub record IsAnswer (options : Options) (Has : Judging → Outcome → Type 0) (IsFault : Fault → Type 0) (result : Result Outcome Fault) : Type 0 where
+  pub ok : IfOk result (IsReached options Has)
+  pub accepts : (one_thread : Outcome) → Has (ByOneThread options.times) one_thread → MatchResult result (Agrees options Has one_thread) (λ fault. fault ≡ Memory)
+  pub fault : IfErr result (λ fault. fault ≢ Memory → IsFault fault)
+  pub refuses : (fault : Fault) → IsFault fault → Refuses fault result
+
+-- ---- reports
 
 -- behind what was written before stands the report that tells the outcome, and the totals are its
 abbrev pub Reported : Outcome → Option (List ℕ) → Option (List ℕ) → Totals → Type 0

@@ -3,78 +3,65 @@ ghost use Rattle.std.specs.Prelude.{◌≡◌, ◌≢◌, ◌+◌, ◌-◌, ◌<
 ghost use Rattle.acl_policy.specs.Policies.{policy_facts};
 ghost use Rattle.racl_io.specs.declared.fault.Fault.{Fault};
 ghost use Rattle.racl_io.specs.declared.fault.Fault.TheVariants.{Memory};
-ghost use Rattle.racl_io.specs.Faults.{IsFaultOfBytes, IsFaultOfCapture, IsFaultOfContent, IsInputFault, IsDeviceFault, Refuses, RefusesRead};
-ghost use Rattle.racl_io.specs.Inputs.{parts_of};
-ghost use Rattle.racl_cli.specs.Runs.{Accepts, ByOneThread, FiltersCapture, FiltersContent, FiltersInput, HasOutcome, HasReported, HasRun, IsReport, Outcome};
+ghost use Rattle.racl_io.specs.Faults.{IsFaultOfBytes, IsFaultOfCapture, IsFaultOfContent, IsInputFault, IsSystemFault, RefusesRead};
+ghost use Rattle.racl_cli.specs.Runs.{ByOneThread, FiltersCapture, FiltersContent, FiltersInput, HasOutcome, HasReported, HasRun, IsAnswer, Outcome};
 
 use crate::judging::verdicts_on;
+use crate::outcome::Judged;
 use acl_policy::read_policy;
 use flow_workers::Filter;
 use packet_view::check_capture;
-use racl_io::{
-    Fault, Form, Report, Sink, Source, Totals, decoded, parts, read_input, report_on, write_all,
-};
+use racl_io::{Fault, Form, Sink, Source, Totals, decoded, parts, read_input, write_report};
 use racl_words::Options;
 use std::alloc::Global;
 use std::sync::Wait;
 use std::thread::Threads;
 
-fn report_capture<T: Threads + Wait + Sync>(
+fn judge_capture<T: Threads + Wait + Sync>(
     rt: &T,
     alloc: Global,
     options: &Options,
     filter: &Filter,
     capture: &[u8],
-) -> Result<Report, Fault>
+) -> Result<Judged, Fault>
     requires times { filter.now.times ≡ options.now.times }
-    ensures ok { IfOk result (IsReport options.now (λ judging. FiltersCapture judging (policy_facts filter.now.policy) capture.now)) }
-    ensures accepts { (outcome : Outcome) → FiltersCapture (ByOneThread options.now.times) (policy_facts filter.now.policy) capture.now outcome
-        → Accepts options.now (λ judging. FiltersCapture judging (policy_facts filter.now.policy) capture.now) outcome result }
-    ensures fault { IfErr result (λ fault. fault ≢ Memory → IsFaultOfCapture capture.now fault) }
-    ensures refuses { (fault : Fault) → IsFaultOfCapture capture.now fault → Refuses fault result }
+    ensures { IsAnswer options.now (λ judging. FiltersCapture judging (policy_facts filter.now.policy) capture.now) (IsFaultOfCapture capture.now) result }
 {
     let checked = check_capture(capture)?;
     let verdicts = verdicts_on(rt, alloc, options, filter, checked.records)?;
-    let report = report_on(alloc, &verdicts, checked.truncated)?;
-    Ok(report)
+    Ok(Judged {
+        verdicts,
+        truncated: checked.truncated,
+    })
 }
 
-fn report_content<T: Threads + Wait + Sync>(
+fn judge_content<T: Threads + Wait + Sync>(
     rt: &T,
     alloc: Global,
     options: &Options,
     filter: &Filter,
     form: Form,
     content: &[u8],
-) -> Result<Report, Fault>
+) -> Result<Judged, Fault>
     requires times { filter.now.times ≡ options.now.times }
-    ensures ok { IfOk result (IsReport options.now (λ judging. FiltersContent judging (policy_facts filter.now.policy) form content.now)) }
-    ensures accepts { (outcome : Outcome) → FiltersContent (ByOneThread options.now.times) (policy_facts filter.now.policy) form content.now outcome
-        → Accepts options.now (λ judging. FiltersContent judging (policy_facts filter.now.policy) form content.now) outcome result }
-    ensures fault { IfErr result (λ fault. fault ≢ Memory → IsFaultOfContent form content.now fault) }
-    ensures refuses { (fault : Fault) → IsFaultOfContent form content.now fault → Refuses fault result }
+    ensures { IsAnswer options.now (λ judging. FiltersContent judging (policy_facts filter.now.policy) form content.now) (IsFaultOfContent form content.now) result }
 {
     match form {
-        Form::Binary => report_capture(rt, alloc, options, filter, content),
+        Form::Binary => judge_capture(rt, alloc, options, filter, content),
         Form::Hexadecimal => {
             let capture = decoded(alloc, content)?;
-            report_capture(rt, alloc, options, filter, &capture)
+            judge_capture(rt, alloc, options, filter, &capture)
         }
     }
 }
 
-/// The report on an input.
-fn report_input<T: Threads + Wait + Sync>(
+fn judge_input<T: Threads + Wait + Sync>(
     rt: &T,
     alloc: Global,
     options: &Options,
     bytes: &[u8],
-) -> Result<Report, Fault>
-    ensures ok { IfOk result (IsReport options.now (λ judging. FiltersInput judging bytes.now)) }
-    ensures accepts { (outcome : Outcome) → FiltersInput (ByOneThread options.now.times) bytes.now outcome
-        → Accepts options.now (λ judging. FiltersInput judging bytes.now) outcome result }
-    ensures fault { IfErr result (λ fault. fault ≢ Memory → IsFaultOfBytes bytes.now fault) }
-    ensures refuses { (fault : Fault) → IsFaultOfBytes bytes.now fault → Refuses fault result }
+) -> Result<Judged, Fault>
+    ensures { IsAnswer options.now (λ judging. FiltersInput judging bytes.now) (IsFaultOfBytes bytes.now) result }
 {
     let Some(input) = parts(bytes) else {
         return Err(Fault::NoCapture);
@@ -84,7 +71,7 @@ fn report_input<T: Threads + Wait + Sync>(
         policy,
         times: options.times,
     };
-    report_content(rt, alloc, options, &filter, input.form, input.content)
+    judge_content(rt, alloc, options, &filter, input.form, input.content)
 }
 
 /// Reads an input, filters its capture by its policy, and writes the report.
@@ -106,10 +93,10 @@ pub fn run<R: Source, W: Sink, T: Threads + Wait + Sync>(
     // An input that is right is answered by its report, or memory ran out or a device failed.
     ensures accepts { IfSome (R.bytes reader.old) (λ bytes. (outcome : Outcome)
         → HasOutcome (ByOneThread options.now.times) bytes outcome
-        → MatchResult result (HasReported options.now bytes outcome (W.bytes writer.old) (W.bytes writer.new)) IsDeviceFault) }
+        → MatchResult result (HasReported options.now bytes outcome (W.bytes writer.old) (W.bytes writer.new)) IsSystemFault) }
 
     // A fault of the input is answered where its cause stands first, and then nothing else of the input.
-    ensures fault { IfErr result (λ fault. IsDeviceFault fault ⊎ IfSome (R.bytes reader.old) (λ bytes. IsInputFault bytes fault)) }
+    ensures fault { IfErr result (λ fault. IsSystemFault fault ⊎ IfSome (R.bytes reader.old) (λ bytes. IsInputFault bytes fault)) }
     ensures refuses { IfSome (R.bytes reader.old) (λ bytes. (fault : Fault) → IsInputFault bytes fault → RefusesRead fault result) }
 
     // A device's fault is answered where it failed, and it failed once.
@@ -120,7 +107,6 @@ pub fn run<R: Source, W: Sink, T: Threads + Wait + Sync>(
     ensures unwritten { IfErr result (λ fault. fault ≢ Fault.Write → writer.new ≡ writer.old) }
 {
     let bytes = read_input(alloc, reader)?;
-    let report = report_input(rt, alloc, options, &bytes)?;
-    write_all(writer, &report.text)?;
-    Ok(report.totals)
+    let judged = judge_input(rt, alloc, options, &bytes)?;
+    write_report(alloc, writer, &judged.verdicts, judged.truncated)
 }

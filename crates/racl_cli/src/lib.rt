@@ -7,6 +7,7 @@ mod exits;
 mod judging;
 mod laws;
 mod message;
+mod outcome;
 
 pub use end_to_end::run;
 pub use exits::{ending, failure_ending, status, words_ending};

@@ -68,9 +68,9 @@ Refuses fault result = MatchResult result (λ _. ⊥) (λ found. (found ≡ faul
 abbrev pub RefusesRead : {X : Type 0} → Fault → Result X Fault → Type 0
 RefusesRead fault result = MatchResult result (λ _. ⊥) (λ found. (found ≡ fault) ⊎ (found ≡ Memory) ⊎ (found ≡ Read))
 
--- want of memory, or a device that failed
-abbrev pub IsDeviceFault : Fault → Type 0
-IsDeviceFault Memory = Unit {0}
-IsDeviceFault Read = Unit {0}
-IsDeviceFault Write = Unit {0}
-IsDeviceFault _ = ⊥
+-- no fault of the input: want of memory, or a device that failed
+abbrev pub IsSystemFault : Fault → Type 0
+IsSystemFault Memory = Unit {0}
+IsSystemFault Read = Unit {0}
+IsSystemFault Write = Unit {0}
+IsSystemFault _ = ⊥

@@ -6,6 +6,8 @@ mod content;
 mod device;
 mod fault;
 mod input;
+mod numeral;
+mod piece;
 mod report;
 mod transfer;
 
@@ -13,7 +15,7 @@ pub use content::decoded;
 pub use device::{Device, DeviceFault, Sink, Source};
 pub use fault::Fault;
 pub use input::{Form, Input, parts};
-pub use report::{Report, Totals, report_on};
+pub use report::{Totals, write_report};
 pub use transfer::{MOST_BYTES, read_input, write_all};
 
 #[cfg(test)]

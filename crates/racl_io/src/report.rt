@@ -1,11 +1,20 @@
-//! The report on a capture, in one buffer.
-ghost use Rattle.std.specs.Prelude.{◌≡◌, ◌++◌, ◌<◌, ◌^◌, IfOk, OnOk, codes, length, decimal, vec_len};
+//! The report on a capture, written in pieces.
+ghost use Rattle.std.specs.Prelude.{◌≡◌, ◌≢◌, ◌+◌, ◌-◌, ◌<◌, ◌≤◌, ◌^◌, ◌++◌, ◌⊎◌, ◌↔◌, [], IfOk, IfErr, OnOk, OnErr, Err, codes, length, decimal};
+ghost use Rattle.std.specs.Io.KnownBytes.{Appends};
 ghost use Rattle.racl_io.specs.Reports;
 ghost use Rattle.racl_io.specs.Reports.{text_of, line_of, lines_from, report_of, totals_of, totals_line, truncation_line};
+ghost use Rattle.racl_io.specs.declared.fault.Fault.TheVariants.{Memory, Write};
 
+use crate::device::Sink;
+use crate::fault::Fault;
+use crate::numeral::Numeral;
+use crate::piece::Piece;
+use crate::transfer::write_all;
 use flow_filter::Verdict;
-use itoa::Buffer;
-use std::alloc::{AllocError, Global};
+use std::alloc::Global;
+
+/// How many packets have their lines in one piece. A line has at most 72 bytes.
+const LINES: usize = 900;
 
 /// How many packets were judged, and what became of them.
 #[derive(Clone, Copy, Debug, PartialEq, Eq)]
@@ -17,99 +26,139 @@ pub struct Totals {
     pub truncated: bool,
 }
 
-/// A report's text and totals.
-#[derive(Debug, Drop)]
-pub struct Report {
-    pub text: Vec<u8>,
-    pub totals: Totals,
-}
-
-fn push_number(out: &mut Vec<u8>, n: u64) -> Result<(), AllocError>
-    ensures { OnOk result (out.new.items ≡ out.old.items ++ decimal n) }
+fn push_rule(piece: &mut Piece, effect: &[u8], n: u16, rest: &[u8])
+    requires { length piece.old + length effect.now + length rest.now + 24 ≤ 65536 }
+    ensures text { piece.new ≡ piece.old ++ (effect.now ++ (decimal n ++ rest.now)) }
+    ensures short { length piece.new ≤ length piece.old + length effect.now + length rest.now + 24 }
 {
-    let mut buffer = Buffer::new();
-    out.extend_from_slice(buffer.format(n).as_bytes())
-}
-
-fn push_rule(out: &mut Vec<u8>, effect: &[u8], n: usize, rest: &[u8]) -> Result<(), AllocError>
-    ensures { OnOk result (out.new.items ≡ out.old.items ++ (effect.now ++ (decimal n ++ rest.now))) }
-{
-    out.extend_from_slice(effect)?;
-    push_number(out, n as u64)?;
-    out.extend_from_slice(rest)
+    piece.push(effect);
+    Numeral::of(u64::from(n)).push(piece);
+    piece.push(rest);
 }
 
 /// What stands behind a line's number. A constant piece costs no call, and the fewer they are the better.
-fn push_verdict(out: &mut Vec<u8>, verdict: Verdict) -> Result<(), AllocError>
-    ensures { OnOk result (out.new.items ≡ out.old.items ++ (codes " " ++ (text_of verdict ++ codes "\n"))) }
+#[inline(always)]
+fn push_verdict(piece: &mut Piece, verdict: Verdict)
+    requires { length piece.old + 48 ≤ 65536 }
+    ensures text { piece.new ≡ piece.old ++ (codes " " ++ (text_of verdict ++ codes "\n")) }
+    ensures short { length piece.new ≤ length piece.old + 48 }
 {
     match verdict {
-        Verdict::Session => out.extend_from_slice(b" pass session\n"),
-        Verdict::Reflect(n) => push_rule(out, b" pass rule ", n, b" reflect\n"),
-        Verdict::Permit(n) => push_rule(out, b" pass rule ", n, b"\n"),
-        Verdict::Deny(n) => push_rule(out, b" drop rule ", n, b"\n"),
-        Verdict::ByDefault => out.extend_from_slice(b" drop default\n"),
-        Verdict::Worn => out.extend_from_slice(b" drop worn\n"),
-        Verdict::Full => out.extend_from_slice(b" drop full\n"),
-        Verdict::NoPages => out.extend_from_slice(b" drop no-pages\n"),
-        Verdict::NotIp => out.extend_from_slice(b" pass not-ip\n"),
-        Verdict::Malformed => out.extend_from_slice(b" drop malformed\n"),
-        Verdict::Short => out.extend_from_slice(b" drop short\n"),
+        Verdict::Session => piece.push(b" pass session\n"),
+        Verdict::Reflect(n) => push_rule(piece, b" pass rule ", n, b" reflect\n"),
+        Verdict::Permit(n) => push_rule(piece, b" pass rule ", n, b"\n"),
+        Verdict::Deny(n) => push_rule(piece, b" drop rule ", n, b"\n"),
+        Verdict::ByDefault => piece.push(b" drop default\n"),
+        Verdict::Worn => piece.push(b" drop worn\n"),
+        Verdict::Full => piece.push(b" drop full\n"),
+        Verdict::NoPages => piece.push(b" drop no-pages\n"),
+        Verdict::NotIp => piece.push(b" pass not-ip\n"),
+        Verdict::Malformed => piece.push(b" drop malformed\n"),
+        Verdict::Short => piece.push(b" drop short\n"),
     }
 }
 
-fn push_line(out: &mut Vec<u8>, number: u64, verdict: Verdict) -> Result<(), AllocError>
-    ensures { OnOk result (out.new.items ≡ out.old.items ++ line_of number verdict) }
+fn push_line(piece: &mut Piece, number: &Numeral, verdict: Verdict)
+    requires { length piece.old + 72 ≤ 65536 }
+    ensures text { piece.new ≡ piece.old ++ line_of number.now verdict }
+    ensures short { length piece.new ≤ length piece.old + 72 }
 {
-    push_number(out, number)?;
-    push_verdict(out, verdict)
+    number.push(piece);
+    push_verdict(piece, verdict);
 }
 
-fn push_totals(out: &mut Vec<u8>, totals: &Totals) -> Result<(), AllocError>
-    ensures { OnOk result (out.new.items ≡ out.old.items ++ totals_line totals.now) }
+/// The lines of the packets behind the counted ones, and how many of them pass.
+fn push_lines(piece: &mut Piece, number: &mut Numeral, verdicts: &[Verdict]) -> u64
+    requires empty { piece.old ≡ [] }
+    requires few { length verdicts.now ≤ 900 }
+    requires fits { number.old + length verdicts.now < 2 ^ 64 }
+    ensures text { piece.new ≡ lines_from (number.old + 1) verdicts.now }
+    ensures number { number.new ≡ number.old + length verdicts.now }
+    ensures passed { result ≡ Reports.passed verdicts.now }
 {
-    out.extend_from_slice(b"packets ")?;
-    push_number(out, totals.packets)?;
-    out.extend_from_slice(b" pass ")?;
-    push_number(out, totals.passed)?;
-    out.extend_from_slice(b" drop ")?;
-    push_number(out, totals.dropped)?;
-    out.extend_from_slice(b"\n")
-}
-
-fn push_truncation(out: &mut Vec<u8>, totals: &Totals) -> Result<(), AllocError>
-    ensures { OnOk result (out.new.items ≡ out.old.items ++ truncation_line totals.now.truncated totals.now.packets) }
-{
-    if !totals.truncated {
-        return Ok(());
+    let mut passed = 0;
+    for verdict in verdicts {
+        number.count();
+        push_line(piece, number, *verdict);
+        if verdict.passes() {
+            passed += 1;
+        }
     }
-    out.extend_from_slice(b"truncated after ")?;
-    push_number(out, totals.packets)?;
-    out.extend_from_slice(b"\n")
+    passed
 }
 
-/// The report of the verdicts in the order of their packets.
-pub fn report_on(alloc: Global, verdicts: &[Verdict], truncated: bool) -> Result<Report, AllocError>
-    ensures text { IfOk result (λ r. r.text.items ≡ report_of verdicts.now truncated) }
-    ensures totals { IfOk result (λ r. r.totals ≡ totals_of verdicts.now truncated) }
+/// Writes the lines of all packets, and answers how many of them pass.
+fn write_lines<W: Sink>(
+    writer: &mut W,
+    piece: &mut Piece,
+    verdicts: &[Verdict],
+) -> Result<u64, Fault>
+    requires { W.failures writer.old < 2 ^ 64 - 1 }
+    ensures whole { OnOk result (Appends (W.bytes writer.old) (W.bytes writer.new) (lines_from 1 verdicts.now)) }
+    ensures passed { IfOk result (λ n. n ≡ Reports.passed verdicts.now) }
+    ensures ok { OnOk result (W.failures writer.new ≡ W.failures writer.old) }
+    ensures failed { OnErr result (W.failures writer.new ≡ W.failures writer.old + 1) }
+    ensures fault { IfErr result (λ e. e ≡ Write) }
 {
-    let mut text = Vec::new(alloc);
-    let mut totals = Totals {
-        packets: 0,
-        passed: 0,
-        dropped: 0,
+    let mut number = Numeral::of(0);
+    let mut passed = 0;
+    let mut rest = verdicts;
+    while !rest.is_empty() {
+        let (first, others) = rest.split_at(rest.len().min(LINES));
+        piece.clear();
+        passed += push_lines(piece, &mut number, first);
+        write_all(writer, piece.as_slice())?;
+        rest = others;
+    }
+    Ok(passed)
+}
+
+fn push_end(piece: &mut Piece, totals: &Totals)
+    requires { piece.old ≡ [] }
+    ensures { piece.new ≡ truncation_line totals.now.truncated totals.now.packets ++ totals_line totals.now }
+{
+    let packets = Numeral::of(totals.packets);
+    if totals.truncated {
+        piece.push(b"truncated after ");
+        packets.push(piece);
+        piece.push(b"\n");
+    }
+    piece.push(b"packets ");
+    packets.push(piece);
+    piece.push(b" pass ");
+    Numeral::of(totals.passed).push(piece);
+    piece.push(b" drop ");
+    Numeral::of(totals.dropped).push(piece);
+    piece.push(b"\n");
+}
+
+/// Writes the report of the verdicts in the order of their packets, in pieces whose room is asked for before the first
+/// of them is written.
+pub fn write_report<W: Sink>(
+    alloc: Global,
+    writer: &mut W,
+    verdicts: &[Verdict],
+    truncated: bool,
+) -> Result<Totals, Fault>
+    requires { W.failures writer.old < 2 ^ 64 - 1 }
+    ensures whole { OnOk result (Appends (W.bytes writer.old) (W.bytes writer.new) (report_of verdicts.now truncated)) }
+    ensures totals { IfOk result (λ totals. totals ≡ totals_of verdicts.now truncated) }
+    ensures fault { IfErr result (λ e. (e ≡ Memory) ⊎ (e ≡ Write)) }
+    ensures write { (result ≡ Err Write) ↔ (W.failures writer.new ≡ W.failures writer.old + 1) }
+    ensures steady { result ≢ Err Write → W.failures writer.new ≡ W.failures writer.old }
+    ensures unwritten { IfErr result (λ fault. fault ≢ Write → writer.new ≡ writer.old) }
+{
+    let mut piece = Piece::new(alloc)?;
+    let packets = verdicts.len() as u64;
+    let passed = write_lines(writer, &mut piece, verdicts)?;
+    let totals = Totals {
+        packets,
+        passed,
+        dropped: packets - passed,
         truncated,
     };
-    for verdict in verdicts {
-        totals.packets += 1;
-        if verdict.passes() {
-            totals.passed += 1;
-        } else {
-            totals.dropped += 1;
-        }
-        push_line(&mut text, totals.packets, *verdict)?;
-    }
-    push_truncation(&mut text, &totals)?;
-    push_totals(&mut text, &totals)?;
-    Ok(Report { text, totals })
+    piece.clear();
+    push_end(&mut piece, &totals);
+    write_all(writer, piece.as_slice())?;
+    Ok(totals)
 }

@@ -56,11 +56,18 @@ const ABOUT: &str = "Judges the packets of a capture by ordered rules and by ses
 const USAGE: &str = "racl [OPTIONS] < INPUT";
 
 const AFTER_HELP: &str =
-    "INPUT is a policy, a line `pcap` or `hex`, and the capture in that form. The report goes to \
-    standard output.
+    "INPUT is a policy, a line `pcap` or `hex`, and the capture in that form: at most 67108864 bytes \
+    in all. The report goes to standard output.
 
-Exit status: 0 done, 1 fault in the input, 2 fault in the words, 3 done but the capture was cut \
-    off, 4 memory or device.";
+Example:
+  racl --workers 4 --udp 60 < examples/first_path.racl
+
+Exit status:
+  0  done
+  1  fault in the input
+  2  fault in the words
+  3  done, but the capture was cut off
+  4  memory or device";
 
 fn command<'a>(alloc: Global) -> Result<Command<'a>, AllocError>
     ensures { IfOk result (λ c. app_of c ≡ racl) }
@@ -78,19 +85,19 @@ fn command<'a>(alloc: Global) -> Result<Command<'a>, AllocError>
             alloc,
             "tcp-established",
             "86400",
-            "How long an established TCP session stays",
+            "How long an established TCP session stays, 1 to 4294967295",
         ))?
         .arg(timeout_option(
             alloc,
             "tcp-transient",
             "120",
-            "How long any other TCP session stays",
+            "How long any other TCP session stays, 1 to 4294967295",
         ))?
         .arg(timeout_option(
             alloc,
             "udp",
             "600",
-            "How long a session of UDP or echo stays",
+            "How long a session of UDP or echo stays, 1 to 4294967295",
         ))
 }
 

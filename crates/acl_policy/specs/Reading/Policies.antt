@@ -4,8 +4,8 @@ use Rattle.packet_view.specs.declared.tuple.Direction.TheVariants.{Inbound, Outb
 use Rattle.acl_policy.specs.declared.policy.PolicyFault.{PolicyFault}
 use Rattle.acl_policy.specs.declared.policy.PolicyFault.TheVariants.{Memory, NotUtf8, BadLine, TooMany}
 use Rattle.acl_policy.specs.Lines.{Blank, LineFacts, Own, Ruled}
-use Rattle.acl_policy.specs.Policies.{HasRule, IsFirstFault, IsSurplus, IsWrong, PolicyFacts, most_rules, rules_of}
-use Rattle.acl_policy.specs.Rules.{RuleFacts}
+use Rattle.acl_policy.specs.Policies.{HasRule, IsFirstFault, IsSurplus, IsWrong, PolicyFacts, rules_of}
+use Rattle.acl_policy.specs.Rules.{RuleFacts, most_rules}
 
 -- the rules of a direction with one more, which the line with this number has
 unfoldable pub rule_added : ℕ → List RuleFacts → RuleFacts → Result (List RuleFacts) PolicyFault

@@ -6,6 +6,7 @@ ghost use Rattle.flow_filter.specs.PacketFlows.{IsRulingOn};
 use super::{HasRuling, LazyPatch};
 use crate::filter::ReadyFilter;
 use crate::packet_flow::PacketFlow;
+use crate::rule_search::RuleSearch;
 use crate::ruleset::Ruleset;
 use crate::verdict::Verdict;
 use acl_policy::{Action, Rule};
@@ -88,10 +89,12 @@ fn outcome_of(
 /// What comes of the UDP packet in a second, where every UDP packet meets this action.
 fn udp_outcome(action: Action, moment: u32, reply: Reply, found: Option<u64>) -> Option<Outcome> {
     let rules = [udp_rule(action)];
+    let search = RuleSearch::Listed(&rules);
+    let listed = Ruleset { search };
     let filter = ReadyFilter {
         own: None,
-        inbound: Ruleset::Listed(&rules),
-        outbound: Ruleset::Listed(&[]),
+        inbound: listed,
+        outbound: listed,
         times: TIMES,
     };
     let tuple = udp();

@@ -1,6 +1,9 @@
-//! The lines of a report.
+//! The lines of a report, and where it is written in several pieces.
+ghost use Rattle.std.specs.Prelude.{None};
 
-use crate::report::report_on;
+use crate::device::{Device, DeviceFault, Sink};
+use crate::fault::Fault;
+use crate::report::write_report;
 use flow_filter::Verdict;
 use std::test::Fail;
 
@@ -34,16 +37,62 @@ fn a_line_for_each_verdict(rt: HostRuntime) -> Result<(), Fail> {
 truncated after 11
 packets 11 pass 4 drop 7
 ";
-    let report = report_on(rt.alloc(), &verdicts, true)?;
-    assert_eq!(rt; report.text.as_slice(), lines.as_bytes());
-    assert_eq!(rt;
-        (
-            report.totals.packets,
-            report.totals.passed,
-            report.totals.dropped
-        ),
-        (11, 4, 7)
-    );
-    assert!(rt; report.totals.truncated);
+    let mut writer = Device::new(Vec::new(rt.alloc()));
+    let totals = write_report(rt.alloc(), &mut writer, &verdicts, true)?;
+    assert_eq!(rt; writer.inner.as_slice(), lines.as_bytes());
+    assert_eq!(rt; (totals.packets, totals.passed, totals.dropped), (11, 4, 7));
+    assert!(rt; totals.truncated);
+    Ok(())
+}
+
+/// Takes what it is given, and fails once it has made its writes.
+#[derive(Drop)]
+struct Counted {
+    writes: usize,
+    taken: usize,
+    failures: u64,
+}
+
+impl Sink for Counted {
+    ghost bytes = { λ _. None };
+
+    ghost failures = { λ c. c.failures };
+
+    fn write(&mut self, buf: &[u8]) -> Result<usize, DeviceFault> {
+        if self.writes == 0 {
+            self.failures += 1;
+            return Err(DeviceFault);
+        }
+        self.writes -= 1;
+        self.taken = self.taken.saturating_add(buf.len());
+        Ok(buf.len())
+    }
+}
+
+#[test]
+fn pieces(rt: HostRuntime) -> Result<(), Fail> {
+    let alloc = rt.alloc();
+    let verdicts = vec![in alloc; Verdict::Deny(4096); 2000]?;
+    // 9 numbers of one digit, 90 of two, 900 of three and 1001 of four, and 16 bytes behind each.
+    let lines = 9 + 180 + 2700 + 4004 + 2000 * 16;
+    let end = "packets 2000 pass 0 drop 2000\n".len();
+    for writes in 0..4 {
+        let mut writer = Counted {
+            writes,
+            taken: 0,
+            failures: 0,
+        };
+        let outcome = write_report(alloc, &mut writer, &verdicts, false);
+        assert_eq!(rt; outcome.err(), Some(Fault::Write), "after {writes} writes");
+        assert!(rt; writer.taken < lines + end);
+    }
+    let mut writer = Counted {
+        writes: 4,
+        taken: 0,
+        failures: 0,
+    };
+    let totals = write_report(alloc, &mut writer, &verdicts, false)?;
+    assert_eq!(rt; (totals.packets, totals.dropped), (2000, 2000));
+    assert_eq!(rt; writer.taken, lines + end);
     Ok(())
 }

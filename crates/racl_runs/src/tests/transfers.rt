@@ -6,7 +6,7 @@ use racl_cli::{Device, DeviceFault, Fault, Sink, Source, run, status};
 use std::alloc::Global;
 use std::test::Fail;
 
-/// Gives one byte a read, and fails once it has made its reads.
+/// Gives one byte a read. Once it has made its reads it fails, and then goes on.
 #[derive(Drop)]
 struct Drip<'a> {
     rest: &'a [u8],
@@ -22,6 +22,7 @@ impl Source for Drip<'_> {
     fn read(&mut self, buf: &mut [u8]) -> Result<usize, DeviceFault> {
         if self.reads == 0 {
             self.failures += 1;
+            self.reads = usize::MAX;
             return Err(DeviceFault);
         }
         self.reads -= 1;
@@ -32,7 +33,7 @@ impl Source for Drip<'_> {
     }
 }
 
-/// Takes one byte a write, and fails once it has made its writes.
+/// Takes one byte a write. Once it has made its writes it fails, and then goes on.
 #[derive(Drop)]
 struct Trickle {
     taken: Vec<u8>,
@@ -52,6 +53,7 @@ impl Sink for Trickle {
         };
         if self.writes == 0 || self.taken.push(*first).is_err() {
             self.failures += 1;
+            self.writes = usize::MAX;
             return Err(DeviceFault);
         }
         self.writes -= 1;
@@ -114,6 +116,7 @@ fn failing_reads(rt: HostRuntime) {
         let outcome = run(&rt, alloc, &defaults(1), &mut reader, &mut writer);
         assert_eq!(rt; outcome, Err(Fault::Read), "after {reads} reads");
         assert_eq!(rt; status(&outcome), 4);
+        assert_eq!(rt; reader.failures, 1, "after {reads} reads");
         assert_eq!(rt; writer.taken.len(), 0, "after {reads} reads");
     }
 }
@@ -127,6 +130,7 @@ fn failing_writes(rt: HostRuntime) {
         let outcome = run(&rt, alloc, &defaults(1), &mut reader, &mut writer);
         assert_eq!(rt; outcome, Err(Fault::Write), "after {writes} writes");
         assert_eq!(rt; status(&outcome), 4);
+        assert_eq!(rt; writer.failures, 1, "after {writes} writes");
         assert_eq!(rt; writer.taken.len(), writes);
         assert!(rt; FIRST_REPORT.as_bytes().starts_with(&writer.taken));
     }

@@ -1,7 +1,10 @@
 use Rattle.std.proofs.Common.{◌∙◌, ap, sym}
 use Rattle.bihash_words.specs.Sizes.{sizes_of}
+use Rattle.bihash_steps.specs.declared.view.View.{View}
 use Rattle.bihash_steps.specs.Seats.{CallerState}
+use Rattle.bihash_table.specs.Answers.{locks_of}
 use Rattle.bihash_table.proofs.Changes.{filled, may_fill, value_is_stored}
+use Rattle.bihash_table.proofs.LockCounts.{locks_pushed}
 use Rattle.bihash_table.proofs.SameCallers.{same_through, view_is}
 use Rattle.bihash_table.proofs.Storing.{held_now, holds_stored}
 use Rattle.bihash_table.proofs.change.fill.Goals as goal
@@ -53,3 +56,12 @@ returns-clause-answered g c =
     (value_is_stored z c.store_key.new.seat c.store_word.new.seat (record lock.0 { now = h.now; stored = h.stored })
     c.args.place c.args.value c.WORDS.result c.WORDS.ensures step)
     c.publish.new.caller.view (view_is c.store_word.new.seat c.publish.new.caller _ c.publish.ensures.view)
+
+pub returns-clause-locks : goal.returns-clause-locks
+returns-clause-locks g c =
+    let lock = c.requires.lock in
+    let h = c.store_key.ensures.stored lock.0 lock.1 in
+    let step = c.store_word.ensures _ (held_now (sizes_of g.S.Shape) c.args.seat.now.view c.args.seen.now.site.bucket c.args.seen.now.word lock.0 lock.1
+    c.store_key.new.seat.view c.args.place lock.2.inside (g.S.Shape.words_of c.args.seen.now.site.key.now) g.S.Shape.WORDS h) in
+    locks_pushed _ _ _ (ap (λ (k : CallerState). k.view.records) c.publish.ensures.view)
+    ∙ (ap (λ (k : CallerState). locks_of k.view.records) step ∙ ap (λ (v : View). locks_of v.records) h.is)

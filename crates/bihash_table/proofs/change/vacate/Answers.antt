@@ -2,7 +2,9 @@ use Rattle.std.proofs.Common.{◌∙◌, ap, sym}
 use Rattle.bihash_words.specs.Sizes.{sizes_of}
 use Rattle.bihash_steps.specs.Seats.{CallerState}
 use Rattle.bihash_steps.specs.declared.view.Holdings.{Holdings}
+use Rattle.bihash_table.specs.Answers.{locks_of}
 use Rattle.bihash_table.proofs.Changes.{may_remove, removed, value_is_stored}
+use Rattle.bihash_table.proofs.LockCounts.{locks_pushed}
 use Rattle.bihash_table.proofs.SameCallers.{same_but_view, same_through, view_is}
 use Rattle.bihash_table.proofs.Storing.{holds_place}
 use Rattle.bihash_table.proofs.change.vacate.Goals as goal
@@ -43,3 +45,9 @@ returns-clause-answered g c =
     (value_is_stored (sizes_of g.S.Shape) c.args.seat.now c.store_word.new.seat lock.0
     c.args.pair.0 _ c.WORDS.result c.WORDS.ensures step)
     c.publish.new.caller.view (view_is c.store_word.new.seat c.publish.new.caller _ c.publish.ensures.view)
+
+pub returns-clause-locks : goal.returns-clause-locks
+returns-clause-locks g c =
+    let step = c.store_word.ensures c.requires.lock.0 (ap (λ (h : Holdings). h.bucket) c.requires.lock.1.held) in
+    locks_pushed _ _ _ (ap (λ (k : CallerState). k.view.records) c.publish.ensures.view)
+    ∙ ap (λ (k : CallerState). locks_of k.view.records) step

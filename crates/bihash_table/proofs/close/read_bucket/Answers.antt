@@ -3,12 +3,14 @@ use Rattle.bihash_words.specs.Sizes.{sizes_of}
 use Rattle.bihash_steps.specs.BucketSteps.{unlocked}
 use Rattle.bihash_steps.specs.Seats.{CallerState}
 use Rattle.bihash_table.specs.PairLists.{TookLocks}
+use Rattle.bihash_table.proofs.SameCallers.{own_through}
+use Rattle.bihash_table.proofs.Seeing.{may_read}
 use Rattle.bihash_table.proofs.Sights.{seen_first}
 use Rattle.bihash_table.proofs.Closings.{took_read, bucket_if_ok}
 use Rattle.bihash_table.proofs.close.read_bucket.Goals as goal
 
-pub read_pairs-read-requires-clause-open : goal.read_pairs-read-requires-clause-open
-read_pairs-read-requires-clause-open g c = (c.in-Some.ensures.opened.has.extent, c.in-Some.ensures.opened.has.block)
+pub read_pairs-read-requires : goal.read_pairs-read-requires
+read_pairs-read-requires g c = may_read (own_through c.args.seat.now _ _ c.look.ensures.same c.requires.own) c.in-Some.ensures.opened.has
 
 pub lock_seen-requires-clause-seen : goal.lock_seen-requires-clause-seen
 lock_seen-requires-clause-seen g c =

@@ -6,8 +6,10 @@ use Rattle.bihash_steps.specs.BucketSteps.{call_of, map_now}
 use Rattle.bihash_steps.specs.Seats.{CallerState}
 use Rattle.bihash_steps.specs.declared.view.Holdings.{Holdings}
 use Rattle.bihash_steps.specs.declared.view.View.{View}
+use Rattle.bihash_table.specs.Answers.{locks_of}
 use Rattle.bihash_table.specs.Copying.{IsWanting}
 use Rattle.bihash_table.proofs.Entering.{looked_at}
+use Rattle.bihash_table.proofs.LockCounts.{locks_pushed}
 use Rattle.bihash_table.proofs.OpenPlaces.{word_tells}
 use Rattle.bihash_table.proofs.Replacing.{block_held, block_of, is_ready, locked_on, looked, may_enter, may_refuse, published, ready_same, same_through, seen_same, store_held, was_answered}
 use Rattle.bihash_table.proofs.Stores.{bears_noted, holds_old, left_answered, left_written, some_places, still_lawful, turned_away}
@@ -186,3 +188,26 @@ returns-in-Err-clause-no_pages g c = λ wanted left e.
 pub returns-in-Ok-clause-lawful : goal.returns-in-Ok-clause-lawful
 returns-in-Ok-clause-lawful g c = still_lawful (sizes_of g.S.Shape) c.publish_block.new.caller.view c.leave_store.new.seat.view
     c.leave_store.ensures.left c.publish_block.ensures.lawful
+
+pub returns-then-not-pool_lock-clause-locks : goal.returns-then-not-pool_lock-clause-locks
+returns-then-not-pool_lock-clause-locks g c = ap (λ (s : CallerState). locks_of s.view.records) c.release.ensures.view
+    ∙ ap (λ (v : View). locks_of v.records) (c.pool_lock.ensures.not c.if-not-pool_lock.true)
+
+pub returns-in-Ok-clause-locks : goal.returns-in-Ok-clause-locks
+returns-in-Ok-clause-locks g c =
+    let locks = c.pool_lock.ensures.taken c.if-not-pool_lock.false in
+    let ready = is_ready g.S.Shape c.args.seat.now c.pool_lock.new.caller c.pool_lock.ensures.same locks
+    (ap (λ (h : Holdings). h.block) c.requires.lock.1.held) c.in-Ok.page c.args.size.log2 c.take_block.new.seat
+    c.in-Ok.ensures.same c.in-Ok.ensures.taken c.args.block.now c.write_block.new.seat c.write_block.ensures.written in
+    ap (λ (v : View). locks_of v.records) c.leave_store.ensures.left.is
+    ∙ (locks_pushed _ _ _ (ap (λ (s : CallerState). s.view.records) c.publish_block.ensures.view)
+    ∙ ap (λ (s : CallerState). locks_of s.view.records) ready.is)
+
+pub returns-in-Err-clause-locks : goal.returns-in-Err-clause-locks
+returns-in-Err-clause-locks g c =
+    let locks = c.pool_lock.ensures.taken c.if-not-pool_lock.false in
+    locks_pushed _ c.args.seat.now.view.records _ (ap (λ (v : View). v.records)
+    (was_answered c.pool_unlock.new.caller c.cancel.new.caller c.args.seen.now.site.bucket (g.S.Shape.words_of c.args.seen.now.site.key.now) None
+    (Set c.args.value) (NoPages c.args.size.log2 c.in-Err.left) (looked_at c.args.seat.now.view locks.store)
+    (looked (sizes_of g.S.Shape) c.args.seat.now c.pool_lock.new.caller c.take_block.new.seat c.pool_unlock.new.caller
+    c.pool_lock.ensures.same locks c.in-Err.ensures.refused.0 c.pool_unlock.ensures) c.cancel.ensures.view))

@@ -1,31 +1,29 @@
-use Rattle.std.proofs.Common.{◌≤◌, ◌<◌, ◌∙◌, ◌^◌, ℕ, List, None, Result, Ok, Err, IfOk, ap, arith, length, length-take, pow_mono, refl, subst, sym, true≢false}
+use Rattle.std.proofs.Common.{◌≤◌, ◌<◌, ◌∙◌, ◌^◌, ℕ, List, None, Result, Ok, Err, IfOk, ap, arith, length, length-take, length-take-le, pow_mono, refl, subst, sym, true≢false}
 use Rattle.bihash_words.specs.Sizes.{sizes_of}
 use Rattle.bihash_words.specs.declared.patch.Change.TheVariants.{Set}
 use Rattle.bihash_plan.specs.declared.outcome.Plan.TheVariants.{Grow}
 use Rattle.bihash_steps.specs.Blocks.{places}
 use Rattle.bihash_steps.specs.declared.view.Write.{Write}
+use Rattle.bihash_table.specs.Scans.{CountsPlaces}
 use Rattle.bihash_table.specs.Shortage.{IsShortage}
 use Rattle.bihash_table.proofs.Bridge.{AreKeyWords, sized}
 use Rattle.bihash_table.proofs.Growing.{absent_there, full_seen, laid_there, room_there, short_there}
-use Rattle.bihash_table.proofs.Seeing.{word_notes}
+use Rattle.bihash_table.proofs.Seeing.{may_read, names_block, word_notes}
 use Rattle.bihash_table.proofs.Sights.{saw_known, seen_more}
 use Rattle.bihash_table.proofs.Stores.{log2_is}
 use Rattle.bihash_table.proofs.Planning.{places_read}
 use Rattle.bihash_table.proofs.Tries.{tried_away, tried_locked, tried_saw}
 use Rattle.bihash_table.proofs.grow.enter_as_planned.Goals as goal
 
-pub read_block-requires-clause-open : goal.read_block-requires-clause-open
-read_block-requires-clause-open g c =
-    let z = sizes_of g.S.Shape in
-    let v = c.args.seat.now.view in
-    let h = c.requires.seen.seen in
-    let e = h.extent in
-    let tells = word_notes z v c.args.seen.now.word e h.block in (
-      e,
-      h.block,
-      places_read e.page e.page e.log2 c.place_count.result _ c.args.old.now refl
-          (c.place_count.ensures.count e tells) c.place_count.ensures.few c.requires.old_room,
-    )
+pub place_count-requires : goal.place_count-requires
+place_count-requires g c = names_block c.is_sound.ensures (may_read {s = c.args.seat.now} c.requires.own c.requires.seen.seen)
+
+pub read_block-requires-clause-read : goal.read_block-requires-clause-read
+read_block-requires-clause-read g c = may_read c.requires.own c.requires.seen.seen
+
+pub read_block-requires-clause-sized : goal.read_block-requires-clause-sized
+read_block-requires-clause-sized g c = subst (CountsPlaces (sizes_of g.S.Shape) c.args.seen.now.word) (sym (length-take-le c.place_count.result
+    c.args.old.now (omega (arith, c.place_count.ensures.few, c.requires.old_room)))) c.place_count.ensures
 
 pub larger-requires-clause-small : goal.larger-requires-clause-small
 larger-requires-clause-small g c =
@@ -55,7 +53,7 @@ crowd-requires-clause-seen g c =
     let site = c.args.seen.now.site in
     let b = site.bucket in
     let y = c.read_block.new.seat in
-    let h = seen_more z c.args.seat.now.view y.view b c.args.seen.now.word c.read_block.ensures.saw c.requires.seen in
+    let h = seen_more z c.args.seat.now.view y.view b c.args.seen.now.word c.read_block.ensures.read.saw c.requires.seen in
     let keys : AreKeyWords g.S.Shape = record { law = g.met.S.Shape.key_of_words } in
     full_seen g.S.Shape keys y.view b c.args.seen.now.word site.key.now c.read_block.new.out h c.log2.result c.linear.result
     c.log2.ensures c.linear.ensures c.larger.result c.larger.ensures.exact c.in_default.not-Grow
@@ -63,13 +61,13 @@ crowd-requires-clause-seen g c =
 pub crowd-requires-clause-unworn : goal.crowd-requires-clause-unworn
 crowd-requires-clause-unworn g c =
     subst (λ (l : List Write). length l < g.S.Shape.LIMIT)
-    (sym (saw_known c.args.seat.now.view c.read_block.new.seat.view c.args.seen.now.site.bucket c.read_block.ensures.saw)) c.requires.unworn
+    (sym (saw_known c.args.seat.now.view c.read_block.new.seat.view c.args.seen.now.site.bucket c.read_block.ensures.read.saw)) c.requires.unworn
 
 pub returns-in_default : goal.returns-in_default
 returns-in_default g c =
     let site = c.args.seen.now.site in
     tried_saw g.S.Shape c.args.seat.now c.read_block.new.seat c.crowd.new.seat site.bucket site.key.now None (Set c.args.value)
-    c.read_block.ensures.same c.read_block.ensures.saw (sym site.home) c.crowd.result c.crowd.ensures.tried
+    c.read_block.ensures.read.same c.read_block.ensures.read.saw (sym site.home) c.crowd.result c.crowd.ensures.tried
 
 pub slice_bounds-new-end : goal.slice_bounds-new-end
 slice_bounds-new-end g c =
@@ -95,16 +93,17 @@ lock_seen-requires-clause-seen g c =
     let site = c.args.seen.now.site in
     let b = site.bucket in
     let y = c.read_block.new.seat in
-    let h = seen_more z c.args.seat.now.view y.view b c.args.seen.now.word c.read_block.ensures.saw c.requires.seen in
+    let h = seen_more z c.args.seat.now.view y.view b c.args.seen.now.word c.read_block.ensures.read.saw c.requires.seen in
     h.seen
 
 pub returns-then-not-lock_seen : goal.returns-then-not-lock_seen
 returns-then-not-lock_seen g c =
     let site = c.args.seen.now.site in
     tried_saw g.S.Shape c.args.seat.now c.read_block.new.seat c.lock_seen.new.seat site.bucket site.key.now None (Set c.args.value)
-    c.read_block.ensures.same c.read_block.ensures.saw (sym site.home) (Err _)
+    c.read_block.ensures.read.same c.read_block.ensures.read.saw (sym site.home) (Err _)
     (tried_away g.S.Shape c.read_block.new.seat c.lock_seen.new.seat site.bucket site.key.now None (Set c.args.value) _
     c.lock_seen.ensures.same (c.lock_seen.ensures.turned_away c.if-not-lock_seen.true)
+    (c.lock_seen.ensures.no_lock c.if-not-lock_seen.true)
     (λ lone. true≢false (sym (c.lock_seen.ensures.lone lone) ∙ c.if-not-lock_seen.true)) c.lock_seen.ensures.lawful)
 
 pub enter-requires-clause-lock : goal.enter-requires-clause-lock
@@ -115,7 +114,7 @@ pub enter-requires-clause-unworn : goal.enter-requires-clause-unworn
 enter-requires-clause-unworn g c =
     let k = c.lock_seen.ensures.locked c.if-not-lock_seen.false in
     subst (λ (l : List Write). length l < g.S.Shape.LIMIT)
-    (sym (k.known ∙ saw_known c.args.seat.now.view c.read_block.new.seat.view c.args.seen.now.site.bucket c.read_block.ensures.saw))
+    (sym (k.known ∙ saw_known c.args.seat.now.view c.read_block.new.seat.view c.args.seen.now.site.bucket c.read_block.ensures.read.saw))
     c.requires.unworn
 
 pub enter-requires-clause-new : goal.enter-requires-clause-new
@@ -124,7 +123,7 @@ enter-requires-clause-new g c =
     let site = c.args.seen.now.site in
     let b = site.bucket in
     let y = c.read_block.new.seat in
-    let h = seen_more z c.args.seat.now.view y.view b c.args.seen.now.word c.read_block.ensures.saw c.requires.seen in
+    let h = seen_more z c.args.seat.now.view y.view b c.args.seen.now.word c.read_block.ensures.read.saw c.requires.seen in
     let k = c.lock_seen.ensures.locked c.if-not-lock_seen.false in
     let keys : AreKeyWords g.S.Shape = record { law = g.met.S.Shape.key_of_words } in
     let u = c.lock_seen.new.seat in
@@ -137,7 +136,7 @@ enter-requires-clause-room g c =
     let site = c.args.seen.now.site in
     let b = site.bucket in
     let y = c.read_block.new.seat in
-    let h = seen_more z c.args.seat.now.view y.view b c.args.seen.now.word c.read_block.ensures.saw c.requires.seen in
+    let h = seen_more z c.args.seat.now.view y.view b c.args.seen.now.word c.read_block.ensures.read.saw c.requires.seen in
     let k = c.lock_seen.ensures.locked c.if-not-lock_seen.false in
     let keys : AreKeyWords g.S.Shape = record { law = g.met.S.Shape.key_of_words } in
     let u = c.lock_seen.new.seat in
@@ -157,7 +156,7 @@ enter-requires-clause-laid g c =
     let site = c.args.seen.now.site in
     let b = site.bucket in
     let y = c.read_block.new.seat in
-    let h = seen_more z c.args.seat.now.view y.view b c.args.seen.now.word c.read_block.ensures.saw c.requires.seen in
+    let h = seen_more z c.args.seat.now.view y.view b c.args.seen.now.word c.read_block.ensures.read.saw c.requires.seen in
     let k = c.lock_seen.ensures.locked c.if-not-lock_seen.false in
     let keys : AreKeyWords g.S.Shape = record { law = g.met.S.Shape.key_of_words } in
     let u = c.lock_seen.new.seat in
@@ -175,16 +174,16 @@ returns g c =
     let site = c.args.seen.now.site in
     let b = site.bucket in
     let y = c.read_block.new.seat in
-    let h = seen_more z c.args.seat.now.view y.view b c.args.seen.now.word c.read_block.ensures.saw c.requires.seen in
+    let h = seen_more z c.args.seat.now.view y.view b c.args.seen.now.word c.read_block.ensures.read.saw c.requires.seen in
     let k = c.lock_seen.ensures.locked c.if-not-lock_seen.false in
     let keys : AreKeyWords g.S.Shape = record { law = g.met.S.Shape.key_of_words } in
     let u = c.lock_seen.new.seat in
     let t = c.enter.new.seat in
     let home = sym site.home in
     tried_saw g.S.Shape c.args.seat.now y t b site.key.now None (Set c.args.value)
-    c.read_block.ensures.same c.read_block.ensures.saw home c.enter.result
+    c.read_block.ensures.read.same c.read_block.ensures.read.saw home c.enter.result
     (tried_locked g.S.Shape y u t b c.args.seen.now.word site.key.now None (Set c.args.value) c.lock_seen.ensures.same k home
-    c.enter.ensures.same c.enter.ensures.lawful c.enter.result c.enter.ensures.answered
+    c.enter.ensures.same c.enter.ensures.lawful c.enter.ensures.locks c.enter.result c.enter.ensures.answered
     (weaker c.enter.result (λ reply told_of wanted left e.
     let w = told_of wanted left e in
     subst (λ (n : ℕ). IsShortage g.S.Shape t.view b site.key.now n left) (sym w.0)

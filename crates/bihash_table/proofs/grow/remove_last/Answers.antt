@@ -4,6 +4,9 @@ use Rattle.bihash_words.specs.declared.patch.Change.TheVariants.{Remove}
 use Rattle.bihash_words.specs.declared.patch.Reply.TheVariants.{Changed}
 use Rattle.bihash_steps.specs.BucketSteps.{call_of, map_now}
 use Rattle.bihash_steps.specs.Seats.{CallerState, with_view}
+use Rattle.bihash_steps.specs.declared.view.View.{View}
+use Rattle.bihash_table.specs.Answers.{locks_of}
+use Rattle.bihash_table.proofs.LockCounts.{locks_pushed}
 use Rattle.bihash_table.proofs.OpenPlaces.{word_tells}
 use Rattle.bihash_table.proofs.Replacing.{emptied, found_there, locked_on, may_empty, published, store_only}
 use Rattle.bihash_table.proofs.Stores.{holds_old, left_written, still_lawful, turned_away}
@@ -74,3 +77,14 @@ returns-clause-answered g c =
 pub returns-clause-lawful : goal.returns-clause-lawful
 returns-clause-lawful g c = still_lawful (sizes_of g.S.Shape) c.publish_block.new.caller.view c.leave_store.new.seat.view
     c.leave_store.ensures.left c.publish_block.ensures.lawful
+
+pub returns-then-not-pool_lock-clause-locks : goal.returns-then-not-pool_lock-clause-locks
+returns-then-not-pool_lock-clause-locks g c = ap (λ (s : CallerState). locks_of s.view.records) c.release.ensures.view
+    ∙ ap (λ (v : View). locks_of v.records) (c.pool_lock.ensures.not c.if-not-pool_lock.true)
+
+pub returns-clause-locks : goal.returns-clause-locks
+returns-clause-locks g c =
+    let locks = c.pool_lock.ensures.taken c.if-not-pool_lock.false in
+    ap (λ (v : View). locks_of v.records) c.leave_store.ensures.left.is
+    ∙ (locks_pushed _ _ _ (ap (λ (s : CallerState). s.view.records) c.publish_block.ensures.view)
+    ∙ ap (λ (v : View). locks_of v.records) locks.is)

@@ -2,6 +2,7 @@ use Rattle.std.proofs.Common.{false, refl, ap}
 use Rattle.bihash_words.specs.Sizes.{sizes_of}
 use Rattle.bihash_steps.specs.Buckets.{word_of}
 use Rattle.bihash_steps.specs.declared.view.Holdings.{Holdings}
+use Rattle.bihash_steps.specs.declared.view.View.{View}
 use Rattle.bihash_table.proofs.Opened.{open_word_is, not_taken}
 use Rattle.bihash_table.proofs.Sights.{locks_seen}
 use Rattle.bihash_table.proofs.lock.lock_seen.Goals as goal
@@ -16,14 +17,13 @@ pub lock_from-requires-clause-unlocked : goal.lock_from-requires-clause-unlocked
 lock_from-requires-clause-unlocked g c = let h = c.requires.seen in
     (word_of h.extent false h.block.open_bucket.version, h.block.fits, h.block.stood, refl)
 
-pub returns-clause-locked : goal.returns-clause-locked
-returns-clause-locked g c = λ won. let h = c.requires.seen in
-    locks_seen (sizes_of g.S.Shape) _ _ _ _ h (c.lock_from.ensures.taken won)
-    (c.lock_from.ensures.rests won h.block.open_bucket h.block.noted h.bucket (open_word_is (sizes_of g.S.Shape) _ _ _ h))
-
-pub returns-clause-turned_away : goal.returns-clause-turned_away
-returns-clause-turned_away g c = λ lost. not_taken (sizes_of g.S.Shape) _ _ _ c.requires.seen.held (c.lock_from.ensures.not lost)
-
-pub returns-clause-lone : goal.returns-clause-lone
-returns-clause-lone g c = λ lone. let h = c.requires.seen in
-    c.lock_from.ensures.lone lone h.block.open_bucket h.block.noted h.bucket (open_word_is (sizes_of g.S.Shape) _ _ _ h)
+pub returns : goal.returns
+returns g c = let h = c.requires.seen in let told = c.lock_from.ensures in record {
+  same = told.same;
+  locked = λ won. locks_seen (sizes_of g.S.Shape) _ _ _ _ h (told.taken won)
+      (told.rests won h.block.open_bucket h.block.noted h.bucket (open_word_is (sizes_of g.S.Shape) _ _ _ h));
+  turned_away = λ lost. not_taken (sizes_of g.S.Shape) _ _ _ h.held (told.not lost);
+  no_lock = λ lost. ap (λ (v : View). v.records) (told.not lost);
+  lone = λ lone. told.lone lone h.block.open_bucket h.block.noted h.bucket (open_word_is (sizes_of g.S.Shape) _ _ _ h);
+  lawful = told.lawful;
+}

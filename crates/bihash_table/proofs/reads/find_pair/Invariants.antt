@@ -1,13 +1,10 @@
-use Rattle.std.proofs.Common.{◌≡◌, ◌*◌}
+use Rattle.std.proofs.Common.{◌*◌}
 use Rattle.bihash_words.specs.Sizes.{sizes_of}
-use Rattle.bihash_steps.specs.Seats.{with_view}
-use Rattle.bihash_table.specs.OpenReads.{Saw}
+use Rattle.bihash_table.specs.OpenReads.{HasRead}
 use Rattle.bihash_table.proofs.LookedAt.{NoneAmong}
 use Rattle.bihash_table.proofs.reads.find_pair.Given as goal
 
 -- the pages so far don't hold the key
 abbrev pub invariant-loop-page : goal.invariant-loop-page
-invariant-loop-page g l = record {
-  same : l.seat ≡ with_view l.initial.seat l.seat.view;
-  none_yet : Saw l.initial.seat.view l.seat.view (NoneAmong (sizes_of g.S.Shape) (g.S.Shape.words_of l.site.key.now) (4 * l.from) (4 * l.page));
-}
+invariant-loop-page g l = HasRead l.initial.seat l.seat
+    (NoneAmong (sizes_of g.S.Shape) (g.S.Shape.words_of l.site.key.now) (4 * l.from) (4 * l.page))

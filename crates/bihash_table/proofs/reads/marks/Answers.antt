@@ -1,30 +1,23 @@
 use Rattle.std.proofs.Common.{arith}
 use Rattle.bihash_words.specs.Sizes.{sizes_of}
-use Rattle.bihash_table.proofs.Seeing.{still_noted}
+use Rattle.bihash_table.proofs.Seeing.{may_less, may_still}
 use Rattle.bihash_table.proofs.LookedAt.{all_marks}
 use Rattle.bihash_table.proofs.reads.marks.Goals as goal
 
-pub has_last-b-requires-clause-open : goal.has_last-b-requires-clause-open
-has_last-b-requires-clause-open g c = let o = c.requires.open in let room = o.2 in
-    (o.0, still_noted (sizes_of g.S.Shape) _ _ _ _ c.has_last-a.ensures.saw o.1, omega arith)
+pub has_last-a-requires : goal.has_last-a-requires
+has_last-a-requires g c = may_less c.requires (omega arith)
 
-pub has_last-c-requires-clause-open : goal.has_last-c-requires-clause-open
-has_last-c-requires-clause-open g c = let o = c.requires.open in let room = o.2 in (
-  o.0,
-  still_noted (sizes_of g.S.Shape) _ _ _ _ c.has_last-b.ensures.saw
-      (still_noted (sizes_of g.S.Shape) _ _ _ _ c.has_last-a.ensures.saw o.1),
-  omega arith,
-)
+pub has_last-b-requires : goal.has_last-b-requires
+has_last-b-requires g c = let room = c.requires.inside in may_still c.has_last-a.ensures c.requires (omega arith)
 
-pub has_last-d-requires-clause-open : goal.has_last-d-requires-clause-open
-has_last-d-requires-clause-open g c = let o = c.requires.open in let room = o.2 in (
-  o.0,
-  still_noted (sizes_of g.S.Shape) _ _ _ _ c.has_last-c.ensures.saw
-      (still_noted (sizes_of g.S.Shape) _ _ _ _ c.has_last-b.ensures.saw
-      (still_noted (sizes_of g.S.Shape) _ _ _ _ c.has_last-a.ensures.saw o.1)),
-  omega arith,
-)
+pub has_last-c-requires : goal.has_last-c-requires
+has_last-c-requires g c = let room = c.requires.inside in
+    may_still c.has_last-b.ensures (may_still c.has_last-a.ensures c.requires room) (omega arith)
 
-pub returns-clause-saw : goal.returns-clause-saw
-returns-clause-saw g c = all_marks (sizes_of g.S.Shape) (g.S.Shape.words_of c.args.site.now.key.now) c.args.first _ _ _ _ _ _ _ _ _
-    c.has_last-a.ensures.saw c.has_last-b.ensures.saw c.has_last-c.ensures.saw c.has_last-d.ensures.saw
+pub has_last-d-requires : goal.has_last-d-requires
+has_last-d-requires g c = let room = c.requires.inside in
+    may_still c.has_last-c.ensures (may_still c.has_last-b.ensures (may_still c.has_last-a.ensures c.requires room) room) (omega arith)
+
+pub returns : goal.returns
+returns g c = all_marks (sizes_of g.S.Shape) (g.S.Shape.words_of c.args.site.now.key.now) c.args.first _ _ _ _ _ _ _ _ _
+    c.has_last-a.ensures c.has_last-b.ensures c.has_last-c.ensures c.has_last-d.ensures

@@ -1,14 +1,12 @@
 use Rattle.std.proofs.Common.{◌≡◌, length}
 use Rattle.bihash_words.specs.Sizes.{sizes_of}
-use Rattle.bihash_steps.specs.Seats.{with_view}
-use Rattle.bihash_table.specs.OpenReads.{Saw}
+use Rattle.bihash_table.specs.OpenReads.{HasRead}
 use Rattle.bihash_table.proofs.Snapshots.{AreWords}
 use Rattle.bihash_table.proofs.snapshot.read_place.Given as goal
 
 -- the first words were read
 abbrev pub invariant-loop-i : goal.invariant-loop-i
 invariant-loop-i g l = record {
-  same : l.seat ≡ with_view l.initial.seat l.seat.view;
   wide : length l.words ≡ 8;
-  read : Saw l.initial.seat.view l.seat.view (AreWords (sizes_of g.S.Shape) l.place l.words l.i);
+  read : HasRead l.initial.seat l.seat (AreWords (sizes_of g.S.Shape) l.place l.words l.i);
 }

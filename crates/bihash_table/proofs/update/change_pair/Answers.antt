@@ -16,6 +16,7 @@ lock_seen-requires-clause-seen g c = c.requires.seen.seen
 pub returns-then-not-lock_seen : goal.returns-then-not-lock_seen
 returns-then-not-lock_seen g c =
     tried_away g.S.Shape _ _ _ _ _ _ _ c.lock_seen.ensures.same (c.lock_seen.ensures.turned_away c.if-not-lock_seen.true)
+    (c.lock_seen.ensures.no_lock c.if-not-lock_seen.true)
     (λ lone. true≢false (sym (c.lock_seen.ensures.lone lone) ∙ c.if-not-lock_seen.true)) c.lock_seen.ensures.lawful
 
 pub overwrite-requires-clause-lock : goal.overwrite-requires-clause-lock
@@ -40,7 +41,7 @@ returns-else-not-lock_seen g c = let site = c.args.seen.now.site in
     (Ok c.overwrite.result)) (sym c.in-Set.is)
     (tried_write g.S.Shape c.args.seat.now c.lock_seen.new.seat c.overwrite.new.seat site.bucket c.args.seen.now.word site.key.now _ _
     c.lock_seen.ensures.same (c.lock_seen.ensures.locked c.if-not-lock_seen.false) (sym site.home) c.overwrite.ensures.same
-    c.overwrite.ensures.lawful c.overwrite.result c.overwrite.ensures.changed c.overwrite.ensures.answered)
+    c.overwrite.ensures.lawful c.overwrite.ensures.locks c.overwrite.result c.overwrite.ensures.changed c.overwrite.ensures.answered)
 
 pub returns-in-Remove : goal.returns-in-Remove
 returns-in-Remove g c = let site = c.args.seen.now.site in

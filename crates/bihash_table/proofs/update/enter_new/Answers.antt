@@ -5,12 +5,13 @@ use Rattle.bihash_words.specs.declared.patch.Change.{Change}
 use Rattle.bihash_steps.specs.declared.view.Write.{Write}
 use Rattle.bihash_table.specs.Tries.{Tried}
 use Rattle.bihash_table.proofs.LookedAt.{pair_value}
+use Rattle.bihash_table.proofs.Seeing.{may_read}
 use Rattle.bihash_table.proofs.Sights.{saw_known, seen_more, told_locked}
 use Rattle.bihash_table.proofs.Tries.{tried_away, tried_saw, tried_write}
 use Rattle.bihash_table.proofs.update.enter_new.Goals as goal
 
-pub find_free-requires-clause-open : goal.find_free-requires-clause-open
-find_free-requires-clause-open g c = let h = c.requires.seen.seen in (h.extent, h.block)
+pub find_free-requires : goal.find_free-requires
+find_free-requires g c = may_read c.requires.own c.requires.seen.seen
 
 pub lock_seen-requires-clause-seen : goal.lock_seen-requires-clause-seen
 lock_seen-requires-clause-seen g c = (seen_more (sizes_of g.S.Shape) _ _ _ _ c.in-Some.ensures.saw c.requires.seen).seen
@@ -20,6 +21,7 @@ returns-then-not-lock_seen g c = let site = c.args.seen.now.site in
     tried_saw g.S.Shape c.args.caller.now.seat c.find_free.new.seat c.lock_seen.new.seat site.bucket site.key.now None c.args.change
     c.find_free.ensures.same c.in-Some.ensures.saw (sym site.home) (Err _)
     (tried_away g.S.Shape _ _ _ _ _ _ _ c.lock_seen.ensures.same (c.lock_seen.ensures.turned_away c.if-not-lock_seen.true)
+    (c.lock_seen.ensures.no_lock c.if-not-lock_seen.true)
     (λ lone. true≢false (sym (c.lock_seen.ensures.lone lone) ∙ c.if-not-lock_seen.true)) c.lock_seen.ensures.lawful)
 
 pub fill-requires-clause-lock : goal.fill-requires-clause-lock
@@ -51,7 +53,7 @@ returns-else-not-lock_seen g c = let site = c.args.seen.now.site in
     c.find_free.ensures.same c.in-Some.ensures.saw (sym site.home) (Ok c.fill.result)
     (tried_write g.S.Shape c.find_free.new.seat c.lock_seen.new.seat c.fill.new.seat site.bucket c.args.seen.now.word site.key.now _ _
     c.lock_seen.ensures.same (c.lock_seen.ensures.locked c.if-not-lock_seen.false) (sym site.home) c.fill.ensures.same
-    c.fill.ensures.lawful c.fill.result c.fill.ensures.changed c.fill.ensures.answered))
+    c.fill.ensures.lawful c.fill.ensures.locks c.fill.result c.fill.ensures.changed c.fill.ensures.answered))
 
 pub enter_larger-requires-clause-seen : goal.enter_larger-requires-clause-seen
 enter_larger-requires-clause-seen g c = seen_more (sizes_of g.S.Shape) _ _ _ _ c.in-None.ensures.saw c.requires.seen

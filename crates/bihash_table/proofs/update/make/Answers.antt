@@ -36,7 +36,7 @@ change_pair-requires-clause-seen g c =
     let z = sizes_of g.S.Shape in
     let site = c.args.seen.now.site in
     subst (λ (p : Option (ℕ × ℕ)). HasSeen z c.args.caller.now.seat.view site.bucket c.args.seen.now.word
-    (λ e block. IsPairIn z e block (g.S.Shape.words_of site.key.now) p)) c.in-Some.is c.requires.seen
+    (IsPairIn z (g.S.Shape.words_of site.key.now) p)) c.in-Some.is c.requires.seen
 
 pub change_pair-requires-clause-unworn : goal.change_pair-requires-clause-unworn
 change_pair-requires-clause-unworn g c =
@@ -57,7 +57,7 @@ enter_new-requires-clause-seen g c =
     let z = sizes_of g.S.Shape in
     let site = c.args.seen.now.site in
     subst (λ (p : Option (ℕ × ℕ)). HasSeen z c.args.caller.now.seat.view site.bucket c.args.seen.now.word
-    (λ e block. IsPairIn z e block (g.S.Shape.words_of site.key.now) p)) c.in-None.is c.requires.seen
+    (IsPairIn z (g.S.Shape.words_of site.key.now) p)) c.in-None.is c.requires.seen
 
 pub enter_new-requires-clause-unworn : goal.enter_new-requires-clause-unworn
 enter_new-requires-clause-unworn g c =

@@ -4,13 +4,14 @@ use Rattle.bihash_steps.specs.Histories.{bucket_of}
 use Rattle.bihash_table.specs.Answers.{locks_of}
 use Rattle.bihash_table.specs.Tries.{Tried}
 use Rattle.bihash_table.specs.OpenReads.{value_of}
-use Rattle.bihash_table.proofs.SameCallers.{same_through}
+use Rattle.bihash_table.proofs.SameCallers.{own_through, same_through}
+use Rattle.bihash_table.proofs.Seeing.{may_read}
 use Rattle.bihash_table.proofs.Sights.{seen_ahead, seen_first, seen_records}
 use Rattle.bihash_table.proofs.Tries.{tried_seen, update_answered, update_away, update_short}
 use Rattle.bihash_table.proofs.sessions.Sessions.try_update.Goals as goal
 
-pub find_pair-pair-requires-clause-open : goal.find_pair-pair-requires-clause-open
-find_pair-pair-requires-clause-open g c = let h = c.in-Some.ensures.opened.has in (h.extent, h.block)
+pub find_pair-pair-requires : goal.find_pair-pair-requires
+find_pair-pair-requires g c = may_read (own_through c.args.caller.now.seat _ _ c.look.ensures.same c.requires.own) c.in-Some.ensures.opened.has
 
 pub make-requires-clause-seen : goal.make-requires-clause-seen
 make-requires-clause-seen g c = seen_first (sizes_of g.S.Shape) _ _ _ _ c.find_pair-pair.ensures.saw c.in-Some.ensures.opened.has
@@ -41,7 +42,7 @@ returns g c =
       answered = update_answered g.S.Shape s t site.bucket key found change home (g.P.Patch.decision c.args.patch.now)
           (c.decide-change.ensures.decision ∙ ap (g.P.Patch.decision c.args.patch.now) c.value_found-found.ensures) r tried;
       no_pages = update_short g.S.Shape s t site.bucket key found change home r tried;
-      no_lock = tried.no_lock;
+      locks = tried.locks;
       contended = update_away g.S.Shape s t site.bucket key found change home r tried;
       lone = tried.lone;
       lawful = tried.lawful;

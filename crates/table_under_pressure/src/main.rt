@@ -1,0 +1,166 @@
+//! Makes, splits and closes a small table, and prints what each call answered. A call that was refused memory is made once
+//! more, after a line on what is there by then: so who refuses memory from outside sees that nothing changed.
+#![tactic(auto)]
+
+ghost use Rattle.std.specs.Prelude.{◌≡◌, IfOk, IfErr, IfSome};
+ghost use Rattle.bihash_steps.specs.Views.{nothing_held};
+
+use bihash_table::{Caller, CloseFault, Sessions, SplitFault, create, stamp};
+use bihash_words::{Add, Tiny};
+use std::io;
+use std::process::ExitCode;
+
+// Eight pages, and 1000 writes to a bucket.
+type Small = Tiny<8, 1000>;
+
+// What is added: so many pairs that their list grows, and last the one that is looked for.
+const ADDED: [(u64, u64); 5] = [(7, 1), (1, 2), (4, 3), (0, 4), (2, 5)];
+
+fn main(rt: HostRuntime) -> ExitCode {
+    match made_and_closed(&rt) {
+        Ok(true) => ExitCode::from(0),
+        Ok(false) | Err(_) => ExitCode::from(4),
+    }
+}
+
+// Whether a table was made, filled, and closed once its callers were joined: memory was refused to no call twice.
+fn made_and_closed(rt: &HostRuntime) -> io::Result<bool> {
+    let Some((table, caller)) = make(rt)? else {
+        return Ok(false);
+    };
+    let caller = fill(rt, &table, caller)?;
+    let Some((first, second)) = part(rt, &table, caller)? else {
+        return Ok(false);
+    };
+    let Err((table, first)) = close(rt, table, first)? else {
+        return Ok(false);
+    };
+    let both = told(rt, &table, table.join(first, second))?;
+    match close(rt, table, both)? {
+        Ok(()) => Ok(true),
+        Err((table, both)) => Ok(close(rt, table, both)?.is_ok()),
+    }
+}
+
+// A new table and its caller, at the second attempt where memory was refused to the first.
+fn make(rt: &HostRuntime) -> io::Result<Option<(Sessions<Small>, Caller<Small>)>>
+    ensures own { IfOk result (λ r. IfSome r (λ t. t.1.seat.row ≡ t.0.row)) }
+    ensures free { IfOk result (λ r. IfSome r (λ t. t.1.seat.view.holds ≡ nothing_held)) }
+{
+    for _ in 0..2 {
+        if let Ok(made) = create::<Small>(rt.alloc()) {
+            println!(rt; "create: done")?;
+            return Ok(Some(made));
+        }
+        println!(rt; "create: no memory")?;
+    }
+    Ok(None)
+}
+
+// The caller, which added what is to be added.
+fn fill(
+    rt: &HostRuntime,
+    table: &Sessions<Small>,
+    mut caller: Caller<Small>,
+) -> io::Result<Caller<Small>>
+    requires own { caller.seat.row ≡ table.now.row }
+    requires free { caller.seat.view.holds ≡ nothing_held }
+    ensures own { IfOk result (λ c. c.seat.row ≡ table.now.row) }
+    ensures free { IfOk result (λ c. c.seat.view.holds ≡ nothing_held) }
+{
+    for (key, value) in ADDED {
+        let reply = table.try_update(&mut caller, &[key, 0], &Add { value });
+        println!(rt; "add {key}: {reply:?}")?;
+    }
+    told(rt, table, caller)
+}
+
+// Two callers of the one, at the second attempt where memory was refused to the first.
+fn part(
+    rt: &HostRuntime,
+    table: &Sessions<Small>,
+    caller: Caller<Small>,
+) -> io::Result<Option<(Caller<Small>, Caller<Small>)>>
+    requires own { caller.seat.row ≡ table.now.row }
+    requires free { caller.seat.view.holds ≡ nothing_held }
+    ensures own { IfOk result (λ r. IfSome r (λ b. (b.0.seat.row ≡ table.now.row) × (b.1.seat.row ≡ table.now.row))) }
+    ensures free { IfOk result (λ r. IfSome r (λ b. (b.0.seat.view.holds ≡ nothing_held) × (b.1.seat.view.holds ≡ nothing_held))) }
+{
+    match split(rt, table, caller)? {
+        Ok(both) => Ok(Some(both)),
+        Err(caller) => Ok(split(rt, table, caller)?.ok()),
+    }
+}
+
+// The caller, and a new one; or the caller, as it is where its split was refused.
+fn split(
+    rt: &HostRuntime,
+    table: &Sessions<Small>,
+    caller: Caller<Small>,
+) -> io::Result<Result<(Caller<Small>, Caller<Small>), Caller<Small>>>
+    requires own { caller.seat.row ≡ table.now.row }
+    requires free { caller.seat.view.holds ≡ nothing_held }
+    ensures own { IfOk result (λ r. IfOk r (λ b. (b.0.seat.row ≡ table.now.row) × (b.1.seat.row ≡ table.now.row))
+        × IfErr r (λ c. c.seat.row ≡ table.now.row)) }
+    ensures free { IfOk result (λ r. IfOk r (λ b. (b.0.seat.view.holds ≡ nothing_held) × (b.1.seat.view.holds ≡ nothing_held))
+        × IfErr r (λ c. c.seat.view.holds ≡ nothing_held)) }
+{
+    match table.split(rt.alloc(), caller) {
+        Ok((first, second)) => {
+            println!(rt; "split: done")?;
+            Ok(Ok((told(rt, table, first)?, second)))
+        }
+        Err((fault, caller)) => {
+            let refused = fault == SplitFault::Memory;
+            println!(rt; "split: {}", if refused { "no memory" } else { "refused" })?;
+            Ok(Err(told(rt, table, caller)?))
+        }
+    }
+}
+
+// Nothing, where the table is closed and its pairs are printed; or the table and its caller, as they are where that was refused.
+fn close(
+    rt: &HostRuntime,
+    table: Sessions<Small>,
+    caller: Caller<Small>,
+) -> io::Result<Result<(), (Sessions<Small>, Caller<Small>)>>
+    requires own { caller.seat.row ≡ table.row }
+    requires free { caller.seat.view.holds ≡ nothing_held }
+    ensures own { IfOk result (λ r. IfErr r (λ t. (t.0.row ≡ table.row) × (t.1.seat.row ≡ table.row))) }
+    ensures free { IfOk result (λ r. IfErr r (λ t. t.1.seat.view.holds ≡ nothing_held)) }
+{
+    match table.close(rt.alloc(), caller) {
+        Ok(pairs) => {
+            println!(rt; "close: {pairs:?}")?;
+            Ok(Ok(()))
+        }
+        Err((fault, table, caller)) => {
+            let refused = fault == CloseFault::Memory;
+            println!(rt;
+                "close: {}",
+                if refused { "no memory" } else { "strangers" }
+            )?;
+            let caller = told(rt, &table, caller)?;
+            Ok(Err((table, caller)))
+        }
+    }
+}
+
+// The caller, after a line on its last stamp, its numbers, whether it is lone, and what it finds under the last added key.
+fn told(
+    rt: &HostRuntime,
+    table: &Sessions<Small>,
+    mut caller: Caller<Small>,
+) -> io::Result<Caller<Small>>
+    requires own { caller.seat.row ≡ table.now.row }
+    requires free { caller.seat.view.holds ≡ nothing_held }
+    ensures own { IfOk result (λ c. c.seat.row ≡ table.now.row) }
+    ensures free { IfOk result (λ c. c.seat.view.holds ≡ nothing_held) }
+{
+    let last = stamp(&caller);
+    let numbers = caller.seat.numbers();
+    let is_lone = table.is_lone(&mut caller);
+    let found = table.try_search(&mut caller, &[2, 0]);
+    println!(rt; "caller: {last:?}, {numbers}, {is_lone}, {found:?}")?;
+    Ok(caller)
+}
