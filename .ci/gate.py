@@ -1,7 +1,8 @@
 """Runs the gate and the checks, says how long each part took, and adds up what passed and failed.
 
-The gate is `rt ci`, which leaves each program that it proved in crates/NAME/out, as LLVM builds it and as Rattle's own compiler
-does. Where all of it passed, the launcher takes the first one for the program of these sources, by the record that is written here.
+The gate is `rt ci`, which leaves each program that it proved in crates/NAME/out, as LLVM builds it and as Rattle's own
+compiler does. Where all of it passed, the launcher takes the first one for the program of these sources, by the record
+that is written here.
 """
 import fcntl
 import os
@@ -28,7 +29,8 @@ EDITS_DONE = re.compile(r"rt: must-fail ")
 def followed(command, look):
     """Runs a command, passes its lines on as they come, and gives its status and its last line."""
     last = ""
-    with subprocess.Popen(command, stdout=subprocess.PIPE, stderr=subprocess.STDOUT, text=True, errors="replace") as child:
+    how = {"stdout": subprocess.PIPE, "stderr": subprocess.STDOUT, "text": True, "errors": "replace"}
+    with subprocess.Popen(command, **how) as child:
         for line in child.stdout:
             sys.stdout.write(line)
             sys.stdout.flush()
@@ -110,7 +112,8 @@ def main():
     counts = [gate]
     if is_there:
         built = [it + by for it in (PROGRAM, TABLE_PROGRAM) for by in ("", BY_RATTLE)]
-        checks = (["checks/documents"], ["checks/launcher"], ["checks/run", *programs], ["checks/refused_memory", *built])
+        checks = (["checks/documents"], ["checks/launcher"], ["checks/run", *programs],
+                  ["checks/refused_memory", *built])
         counts += [counted(*followed(it, lambda _: None)) for it in checks]
     else:
         counts.append((0, 1))

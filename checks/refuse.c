@@ -1,6 +1,6 @@
-// Counts the requests for memory and threads of the program that it is loaded into, with THREADS_ALONE those for threads
-// alone, and refuses those from REFUSE_FROM up to REFUSE_TO, counted from 1. Where ASKED_FD names a descriptor, their number
-// is written there at the end.
+// Counts the requests for memory and threads of the program that it is loaded into, with THREADS_ALONE those for
+// threads alone, and refuses those from REFUSE_FROM up to REFUSE_TO, counted from 1. Where ASKED_FD names a
+// descriptor, their number is written there at the end.
 #define _GNU_SOURCE
 #include <dlfcn.h>
 #include <errno.h>
@@ -12,7 +12,8 @@
 #include <sys/syscall.h>
 #include <unistd.h>
 
-extern void *__libc_malloc(size_t), *__libc_calloc(size_t, size_t), *__libc_realloc(void *, size_t), *__libc_memalign(size_t, size_t);
+extern void *__libc_malloc(size_t), *__libc_calloc(size_t, size_t);
+extern void *__libc_realloc(void *, size_t), *__libc_memalign(size_t, size_t);
 static atomic_long asked;
 static long from, to;
 static int counts, threads_alone;

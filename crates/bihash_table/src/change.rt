@@ -190,6 +190,7 @@ pub(crate) fn fill<S: Shape>(
 }
 
 /// Removes the key's pair. With the last pair the block goes too.
+#[inline(always)]
 pub(crate) fn remove<S: Shape>(
     row: &Row<S>,
     seat: &mut CallerSeat<S>,

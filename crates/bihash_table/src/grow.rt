@@ -40,6 +40,7 @@ use bihash_words::{BucketWord, Change, Reply, Shape};
 
 /// Enters a new pair that finds no place in the block that was seen: the block grows, or the call is
 /// refused.
+#[inline(never)]
 pub(crate) fn enter_larger<S: Shape>(
     row: &Row<S>,
     caller: &mut Caller<S>,
@@ -192,6 +193,7 @@ fn give_back_old<S: Shape>(row: &Row<S>, seat: &mut CallerSeat<S>, word: BucketW
 }
 
 /// Removes the last pair of a bucket, and gives its block back.
+#[inline(never)]
 pub(crate) fn remove_last<S: Shape>(
     row: &Row<S>,
     seat: &mut CallerSeat<S>,

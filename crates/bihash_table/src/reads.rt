@@ -116,6 +116,7 @@ fn open_pages<S: Shape>(word: BucketWord, site: &Site<'_, S>) -> (usize, usize)
 
 // The place and the value of the key's pair among the four places of a page. Where the last word of the
 // key stands is found without a branch for each place, and mostly it is at the pair or nowhere.
+#[inline(always)]
 fn pair_in_page<S: Shape>(
     row: &Row<S>,
     seat: &mut CallerSeat<S>,

@@ -50,6 +50,7 @@ impl<S: Shape> Sessions<S> {
 }
 
 // Makes the change that was decided on what was found, where it is one and the version isn't used up.
+#[inline(always)]
 fn make<S: Shape>(
     row: &Row<S>,
     caller: &mut Caller<S>,
@@ -99,6 +100,7 @@ fn is_worn<S: Shape>(word: BucketWord) -> bool
 }
 
 // Gives the key's pair another value, or removes it.
+#[inline(always)]
 fn change_pair<S: Shape>(
     row: &Row<S>,
     seat: &mut CallerSeat<S>,
@@ -127,6 +129,7 @@ fn change_pair<S: Shape>(
 }
 
 // Enters a pair of a new key: at a free place that is open to it, or in a larger block.
+#[inline(always)]
 fn enter_new<S: Shape>(
     row: &Row<S>,
     caller: &mut Caller<S>,

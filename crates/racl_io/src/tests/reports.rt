@@ -64,8 +64,16 @@ impl Sink for Counted {
             return Err(DeviceFault);
         }
         self.writes -= 1;
-        self.taken = self.taken.saturating_add(buf.len());
-        Ok(buf.len())
+        match buf.len() {
+            0 => {
+                self.failures += 1;
+                Ok(0)
+            }
+            count => {
+                self.taken = self.taken.saturating_add(count);
+                Ok(count)
+            }
+        }
     }
 }
 
