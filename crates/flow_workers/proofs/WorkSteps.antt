@@ -1,12 +1,11 @@
 -- One packet more of a worker.
-use Rattle.std.proofs.Common.{◌≡◌, ◌≢◌, ◌∙◌, ◌+◌, ◌<◌, ℕ, zero, suc, Bool, true, false, cond, List, [], ◌∷◌, ◌++◌, length, get_or, drop, map, Option, Some, None, ap, refl, sym, subst, arith, append_assoc, append-nil, add-one, eq-eqb}
+use Rattle.std.proofs.Common.{◌≡◌, ◌≢◌, ◌∙◌, ◌+◌, ◌<◌, ℕ, zero, suc, Bool, true, false, cond, List, [], ◌∷◌, ◌++◌, length, drop, map, Option, Some, None, ap, refl, sym, subst, arith, append_assoc, append-nil, add-one, eq-eqb}
 use Rattle.std.specs.Prelude.{if◌then◌else◌, ◌==◌, option_map, slice_get}
 use Rattle.std.specs.List.{All}
 use Rattle.std.proofs.lemmas.Bool.{ne_eqb}
 use Rattle.std.proofs.lemmas.List.Elements.{All-nil, All-push}
 use Rattle.std.proofs.lemmas.List.{map-append}
-use Rattle.packet_view.specs.Captures.{Seen, seen}
-use Rattle.packet_view.specs.declared.capture.Packet.{Packet}
+use Rattle.packet_view.specs.Captures.{Seen}
 use Rattle.packet_view.specs.Frames as frames
 use Rattle.packet_view.specs.Frames.{IsFrame}
 use Rattle.packet_view.specs.declared.tuple.Mac.{Mac}
@@ -271,33 +270,57 @@ work_push run w at v x y verdicts numbers more packet view verdict is mine j not
         verdict_of_event : Option Event → Verdict
         verdict_of_event e = verdict_on run.times (record { reading = j.judged.reading; event = e })
 
--- the packet at a place of a slice
-pub seen_at : (packets : List Packet) (at : ℕ) (d : Packet) → at < length packets → slice_get (map seen packets) at ≡ Some (seen (get_or packets at d))
-seen_at [] at d inside = absurd (omega arith)
-seen_at (p ∷ ps) zero d inside = refl
-seen_at (p ∷ ps) (suc at) d inside = seen_at ps at d (omega arith)
+-- ---- Packets that are taken one by one
+
+-- the packet that is taken next stands at the number of those that were taken
+pub stands_at : {X : Type 0} (xs ys : List X) (at : ℕ) (x : X) → drop at xs ≡ x ∷ ys → slice_get xs at ≡ Some x
+stands_at [] ys zero x e = absurd (let f : ⊥ = cc in f)
+stands_at [] ys (suc at) x e = absurd (let f : ⊥ = cc in f)
+stands_at (y ∷ xs) ys zero x e = let same : y ≡ x = cc in ap Some same
+stands_at (y ∷ xs) ys (suc at) x e = stands_at xs ys at x e
+
+left_behind_next : {X : Type 0} (xs ys : List X) (at : ℕ) (x : X) → drop at xs ≡ x ∷ ys → drop (suc at) xs ≡ ys
+left_behind_next [] ys zero x e = absurd (let f : ⊥ = cc in f)
+left_behind_next [] ys (suc at) x e = absurd (let f : ⊥ = cc in f)
+left_behind_next (y ∷ xs) ys zero x e = cc
+left_behind_next (y ∷ xs) ys (suc at) x e = left_behind_next xs ys at x e
+
+pub left_behind : {X : Type 0} (xs ys : List X) (at : ℕ) (x : X) → drop at xs ≡ x ∷ ys → drop (at + 1) xs ≡ ys
+left_behind xs ys at x e = ap (λ k. drop k xs) (add-one at) ∙ left_behind_next xs ys at x e
+
+pub taken_inside : {X : Type 0} (xs ys : List X) (at : ℕ) (x : X) → drop at xs ≡ x ∷ ys → at < length xs
+taken_inside [] ys zero x e = absurd (let f : ⊥ = cc in f)
+taken_inside [] ys (suc at) x e = absurd (let f : ⊥ = cc in f)
+taken_inside (y ∷ xs) ys zero x e = omega arith
+taken_inside (y ∷ xs) ys (suc at) x e = let inside = taken_inside xs ys at x e in omega arith
+
+nothing_left : {X : Type 0} (xs : List X) (at : ℕ) → xs ≡ [] → drop at xs ≡ []
+nothing_left [] zero none = refl
+nothing_left [] (suc at) none = refl
+nothing_left (x ∷ xs) at none = absurd (let f : ⊥ = cc in f)
 
 -- behind all packets nothing is left to look at
-no_views : (own : Option Mac) (packets : List Seen) (views : List frames.View) → AreViews own packets views → drop (length packets) views ≡ []
-no_views own [] [] all = refl
-no_views own [] (view ∷ views) all = absurd all
-no_views own (p ∷ ps) [] all = absurd all
-no_views own (p ∷ ps) (view ∷ views) all = no_views own ps views all.1
+no_views : (own : Option Mac) (packets : List Seen) (views : List frames.View) (at : ℕ) → AreViews own packets views → drop at packets ≡ [] → drop at views ≡ []
+no_views own [] [] at all none = nothing_left [] at refl
+no_views own [] (view ∷ views) at all none = absurd all
+no_views own (p ∷ ps) [] at all none = absurd all
+no_views own (p ∷ ps) (view ∷ views) zero all none = absurd (let f : ⊥ = cc in f)
+no_views own (p ∷ ps) (view ∷ views) (suc at) all none = no_views own ps views at all.1 none
 
-all_looked_at : (run : RunFacts) (w : ℕ) (v u : Views) (verdicts : List Verdict) (numbers : List ℕ)
-    (work : IsWorkUntil run w (length run.packets) v u verdicts numbers) (views : List frames.View) → AreViews run.policy.own run.packets views
+all_looked_at : (run : RunFacts) (w at : ℕ) (v u : Views) (verdicts : List Verdict) (numbers : List ℕ) → drop at run.packets ≡ []
+    → (work : IsWorkUntil run w at v u verdicts numbers) (views : List frames.View) → AreViews run.policy.own run.packets views
     → numbers_of work.trace ≡ numbers_from run.deal w 0 views
-all_looked_at run w v u verdicts numbers work views all =
-    sym (ap (λ vs. numbers_of work.trace ++ numbers_from run.deal w (length run.packets) vs) (no_views run.policy.own run.packets views all)
-    ∙ (ap (λ ns. numbers_of work.trace ++ ns) (no_numbers run.deal w (length run.packets)) ∙ append-nil (numbers_of work.trace)))
+all_looked_at run w at v u verdicts numbers none work views all =
+    sym (ap (λ vs. numbers_of work.trace ++ numbers_from run.deal w at vs) (no_views run.policy.own run.packets views at all none)
+    ∙ (ap (λ ns. numbers_of work.trace ++ ns) (no_numbers run.deal w at) ∙ append-nil (numbers_of work.trace)))
     ∙ work.dealt views all
 
 -- who has looked at all packets judged its own, all of them
-pub whole_work : (run : RunFacts) (w : ℕ) (v u : Views) (verdicts : List Verdict) (numbers : List ℕ)
-    → IsWorkUntil run w (length run.packets) v u verdicts numbers → IsWork run w v u verdicts numbers
-whole_work run w v u verdicts numbers work = record {
+pub whole_work : (run : RunFacts) (w at : ℕ) (v u : Views) (verdicts : List Verdict) (numbers : List ℕ) → drop at run.packets ≡ []
+    → IsWorkUntil run w at v u verdicts numbers → IsWork run w v u verdicts numbers
+whole_work run w at v u verdicts numbers none work = record {
   trace = work.trace;
-  is = record { items = work.items; of = work.of; dealt = all_looked_at run w v u verdicts numbers work };
+  is = record { items = work.items; of = work.of; dealt = all_looked_at run w at v u verdicts numbers none work };
   four = work.four;
   six = work.six;
   said = work.said;

@@ -1,6 +1,6 @@
 -- What a worker is given, and what it gives back.
-use Rattle.std.specs.Prelude.{◌<◌, map}
-use Rattle.packet_view.specs.Captures.{seen}
+use Rattle.std.specs.Prelude.{◌<◌}
+use Rattle.packet_view.specs.CheckedCaptures.{held}
 use Rattle.bihash_words.specs.declared.shape.Shape.{Ghosts}
 use Rattle.flow_filter.specs.Filters.{policy_in}
 use Rattle.flow_filter.specs.OneThread.{layout_of}
@@ -15,7 +15,7 @@ run_facts ga gb run = record {
   deal = record { layout = layout_of ga gb; dealing = run.dealing; workers = run.workers };
   times = run.filter.times;
   policy = policy_in run.filter;
-  packets = map seen run.packets.now;
+  packets = held run.packets;
 }
 
 pub record CanWork {A B R G K L : Type 0} (ga : Ghosts A K) (gb : Ghosts B L) (job : Job A B R G K L ga gb) : Type 0 where

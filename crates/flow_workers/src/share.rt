@@ -5,20 +5,39 @@ use bihash_table::Caller;
 use bihash_words::Shape;
 use flow_dealing::Dealing;
 use flow_filter::{ReadyFilter, Verdict};
-use packet_view::Packet;
+use packet_view::Packets;
 use std::alloc::Global;
 use std::sync::Wait;
 
-/// What all workers of a run share.
+/// What all workers of a run share. Each worker takes the packets from a copy of its own.
 #[derive(Drop)]
 pub struct Run<'t, 'a, A: Shape, B: Shape, R: Wait, G: Gate> {
     pub rt: &'t R,
     pub gate: &'t G,
     pub filter: ReadyFilter<'t>,
     pub tables: &'t Tables<A, B>,
-    pub packets: &'a [Packet<'a>],
+    pub packets: Packets<'a>,
     pub dealing: Dealing,
     pub workers: usize,
+}
+
+impl<'t, 'a, A: Shape, B: Shape, R: Wait, G: Gate> Run<'t, 'a, A, B, R, G> {
+    ghost use Rattle.std.specs.Prelude.{◌≡◌};
+
+    /// The run once more, for another worker.
+    pub fn again(&self) -> Run<'t, 'a, A, B, R, G>
+        ensures { result ≡ self.now }
+    {
+        Run {
+            rt: self.rt,
+            gate: self.gate,
+            filter: self.filter,
+            tables: self.tables,
+            packets: self.packets,
+            dealing: self.dealing,
+            workers: self.workers,
+        }
+    }
 }
 
 /// What a worker is given: its number, from 0, and callers of its own.

@@ -71,14 +71,18 @@ pub fn work<'t, 'a, A: Shape, B: Shape, R: Wait, G: Gate>(
         worker,
         mut callers,
     } = job;
-    let mut said = nothing_said(alloc, run.workers, run.packets.len())?;
-    for (at, packet) in run.packets.iter().enumerate() {
+    let mut packets = run.packets;
+    let mut said = nothing_said(alloc, run.workers, packets.count())?;
+    let mut taken = 0;
+    'packets: while let Some(packet) = packets.next() {
+        let at = taken;
+        taken += 1;
         let frame = view(packet.frame, run.filter.own);
         let flow = flow_in(&frame);
         if dealt_to::<A, B>(run.dealing, run.workers, at, &flow) != worker {
             continue;
         }
-        let viewed = ViewedPacket::new(packet, &frame, &flow);
+        let viewed = ViewedPacket::new(&packet, &frame, &flow);
         run.gate.before(worker, at);
         let verdict = judge_viewed(run.rt, &run.filter, run.tables, &mut callers, &viewed);
         run.gate.after(worker, at);

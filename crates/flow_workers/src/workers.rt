@@ -1,6 +1,6 @@
 //! Many workers at once.
-ghost use Rattle.std.specs.Prelude.{◌≡◌, ◌⊎◌, ◌<◌, ◌≤◌, ℕ, All, IfOk, length, map, slice_index_or};
-ghost use Rattle.packet_view.specs.Captures.{seen};
+ghost use Rattle.std.specs.Prelude.{◌≡◌, ◌⊎◌, ◌<◌, ◌≤◌, ℕ, All, IfOk, length, slice_index_or};
+ghost use Rattle.packet_view.specs.CheckedCaptures.{held};
 ghost use Rattle.packet_view.specs.declared.tuple.Family.{Family};
 ghost use Rattle.acl_policy.specs.Policies.{policy_facts};
 ghost use Rattle.flow_filter.specs.OneThread.{AreVerdicts, layout_of};
@@ -24,7 +24,7 @@ use crate::turn::Turn;
 use bihash_words::Shape;
 use flow_dealing::Dealing;
 use flow_filter::{Filter, Verdict};
-use packet_view::Packet;
+use packet_view::Packets;
 use std::alloc::{AllocError, Global};
 use std::sync::Wait;
 use std::thread::Threads;
@@ -46,32 +46,16 @@ fn turns_ahead<'t, 'a, A: Shape, B: Shape, R: Wait, G: Gate>(
         → IsAhead ⟦<A as Shape>⟧ ⟦<B as Shape>⟧ run.entry.tables.now
         (run_facts ⟦<A as Shape>⟧ ⟦<B as Shape>⟧ run.entry) i (slice_index_or v.items i d)) }
 {
-    let Run {
-        rt,
-        gate,
-        filter,
-        tables,
-        packets,
-        dealing,
-        workers,
-    } = run;
     let Callers { mut four, mut six } = callers;
-    let mut turns = Vec::with_capacity(alloc, workers)?;
-    for worker in 0..workers - 1 {
-        let (own_four, next_four) = split_one(rt, alloc, &tables.four, four)?;
-        let (own_six, next_six) = split_one(rt, alloc, &tables.six, six)?;
+    let last = run.workers - 1;
+    let mut turns = Vec::with_capacity(alloc, run.workers)?;
+    for worker in 0..last {
+        let (own_four, next_four) = split_one(run.rt, alloc, &run.tables.four, four)?;
+        let (own_six, next_six) = split_one(run.rt, alloc, &run.tables.six, six)?;
         four = next_four;
         six = next_six;
         turns.push(Turn::Ahead(Job {
-            run: Run {
-                rt,
-                gate,
-                filter,
-                tables,
-                packets,
-                dealing,
-                workers,
-            },
+            run: run.again(),
             alloc,
             worker,
             callers: Callers {
@@ -81,17 +65,9 @@ fn turns_ahead<'t, 'a, A: Shape, B: Shape, R: Wait, G: Gate>(
         }))?;
     }
     turns.push(Turn::Ahead(Job {
-        run: Run {
-            rt,
-            gate,
-            filter,
-            tables,
-            packets,
-            dealing,
-            workers,
-        },
+        run,
         alloc,
-        worker: workers - 1,
+        worker: last,
         callers: Callers { four, six },
     }))?;
     Ok(turns)
@@ -149,18 +125,19 @@ where
 /// The verdicts on the packets, in their order, by so many workers at once over new tables. A worker whose thread
 /// can't be made is run by the calling thread. `Memory`: memory was refused.
 pub fn run_workers<
+    't,
     'a,
     A: Shape + Send + Sync,
     B: Shape + Send + Sync,
     R: Threads + Wait + Sync,
     G: Gate + Sync,
 >(
-    rt: &R,
+    rt: &'t R,
     alloc: Global,
-    filter: &'a Filter,
-    packets: &'a [Packet<'a>],
+    filter: &'t Filter,
+    packets: Packets<'a>,
     workers: usize,
-    gate: &G,
+    gate: &'t G,
     dealing: Dealing,
 ) -> Result<Vec<Verdict>, RunFault>
 where
@@ -171,18 +148,18 @@ where
     requires few { workers ≤ 16 }
     ensures judged { IfOk result (λ v. AreJudged
         (record { layout = layout_of ⟦<A as Shape>⟧ ⟦<B as Shape>⟧; dealing = dealing; workers = workers })
-        filter.now.times (policy_facts filter.now.policy) (map seen packets.now) v.items) }
+        filter.now.times (policy_facts filter.now.policy) (held packets.entry) v.items) }
     ensures one_report { IfOk result (λ v. (dealing ≡ Bucket) ⊎ (workers ≡ 1) → HavePages v.items
         → AreVerdicts (layout_of ⟦<A as Shape>⟧ ⟦<B as Shape>⟧) filter.now.times (policy_facts filter.now.policy)
-        (map seen packets.now) v.items) }
+        (held packets.entry) v.items) }
     ensures pages { IfOk result (λ v. (are : AreJudged
         (record { layout = layout_of ⟦<A as Shape>⟧ ⟦<B as Shape>⟧; dealing = dealing; workers = workers })
-        filter.now.times (policy_facts filter.now.policy) (map seen packets.now) v.items) (family : Family)
+        filter.now.times (policy_facts filter.now.policy) (held packets.entry) v.items) (family : Family)
         → AreFew (layout_of ⟦<A as Shape>⟧ ⟦<B as Shape>⟧) filter.now.times family are.judged
         → All (HasPagesIn filter.now.times family) are.judged) }
 {
     let (tables, callers) = create_tables::<A, B>(alloc)?;
-    let prepared = filter.prepare(alloc, packets.len())?;
+    let prepared = filter.prepare(alloc, packets.count())?;
     let run = Run {
         rt,
         gate,
@@ -195,5 +172,5 @@ where
     let Parts { four, six, said } = work_all(alloc, run, callers)?;
     join_whole(rt, &tables.four, four);
     join_whole(rt, &tables.six, six);
-    Ok(in_order(alloc, said, packets.len())?)
+    Ok(in_order(alloc, said, packets.count())?)
 }

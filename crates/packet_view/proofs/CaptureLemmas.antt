@@ -1,12 +1,13 @@
 -- A capture is read in one way: with its packets and end, or with its first fault.
-use Rattle.std.proofs.Common.{◌≡◌, ◌≢◌, ◌⊎◌, ◌∙◌, ◌+◌, ℕ, List, drop, length, map, Result, Ok, Err, refl, sym, ap, inl, inr, subst}
+use Rattle.std.proofs.Common.{◌≡◌, ◌⊎◌, ◌∙◌, ◌+◌, ◌++◌, ℕ, List, [], ◌∷◌, drop, length, Result, Ok, Err, refl, sym, ap, inl, inr, subst}
 use Rattle.std.specs.Prelude.{IfOk, IfErr, MatchResult}
 use Rattle.packet_view.specs.declared.capture.Order.{Order}
-use Rattle.packet_view.specs.declared.capture.Capture.{Capture}
+use Rattle.packet_view.specs.declared.capture.CheckedCapture.{CheckedCapture}
 use Rattle.packet_view.specs.declared.capture.CaptureFault.{CaptureFault}
 use Rattle.packet_view.specs.declared.capture.CaptureFault.TheVariants as fault
-use Rattle.packet_view.specs.Captures.{AreRecords, End, HasHeader, HasRecord, IsCapture, IsCaptureFault, IsEnd, IsHeaderFault, IsTooLong, Part, Nothing, Cut, TooLong, Seen, Truncated, Whole, end_of, seen}
-use Rattle.packet_view.specs.RecordSteps.{Reads, part_of}
+use Rattle.packet_view.specs.CheckedCaptures.{packets_of}
+use Rattle.packet_view.specs.Captures.{AreRecords, End, HasHeader, HasRecord, IsCapture, IsCaptureFault, IsEnd, IsHeaderFault, IsTooLong, Part, Nothing, Cut, TooLong, Seen, Truncated, Whole, end_of}
+use Rattle.packet_view.specs.RecordSteps.{Checks, part_of}
 use Rattle.packet_view.proofs.RecordLemmas.{IsStop, Stops, part_only, records_once}
 
 pub fault_of_header : (bytes : List ℕ) (found : CaptureFault) → IsHeaderFault bytes found → IsCaptureFault bytes found
@@ -63,78 +64,75 @@ pub record IsHeaderOf (order : Order) (bytes : List ℕ) : Type 0 where
   pub none : (found : CaptureFault) → IsHeaderFault bytes found → ⊥
 
 module _ (order : Order) (bytes : List ℕ) (header : IsHeaderOf order bytes) where
-  pub reads_ok : (result : Result Capture CaptureFault) → Reads order (drop 24 bytes) result
-      → IfOk result (λ capture. IsCapture bytes (map seen capture.packets.items) (end_of capture.truncated))
-  reads_ok (Ok capture) (rest, all, end) = (order, rest, header.right, all, end)
-  reads_ok (Err found) h = tt
+  pub checks_ok : (result : Result CheckedCapture CaptureFault) → Checks order (drop 24 bytes) result
+      → IfOk result (λ checked. IsCapture bytes (packets_of checked.records) (end_of checked.truncated))
+  checks_ok (Ok checked) (rest, all, end) = (order, rest, header.right, all, end)
+  checks_ok (Err found) h = tt
 
-  pub reads_fault : (result : Result Capture CaptureFault) → Reads order (drop 24 bytes) result
-      → IfErr result (λ found. found ≢ fault.Memory → IsCaptureFault bytes found)
-  reads_fault (Ok capture) h = tt
-  reads_fault (Err (fault.LongRecord number)) (packets, rest, all, long, count) = λ _. (order, packets, rest, header.right, all, long, count)
-  reads_fault (Err fault.Memory) h = λ other. absurd (other refl)
-  reads_fault (Err fault.Short) h = absurd h
-  reads_fault (Err fault.Magic) h = absurd h
-  reads_fault (Err fault.Version) h = absurd h
-  reads_fault (Err fault.LinkType) h = absurd h
+  pub checks_fault : (result : Result CheckedCapture CaptureFault) → Checks order (drop 24 bytes) result → IfErr result (IsCaptureFault bytes)
+  checks_fault (Ok checked) h = tt
+  checks_fault (Err (fault.LongRecord number)) (packets, rest, all, long, count) = (order, packets, rest, header.right, all, long, count)
+  checks_fault (Err fault.Memory) h = absurd h
+  checks_fault (Err fault.Short) h = absurd h
+  checks_fault (Err fault.Magic) h = absurd h
+  checks_fault (Err fault.Version) h = absurd h
+  checks_fault (Err fault.LinkType) h = absurd h
 
-  pub reads_memory : (result : Result Capture CaptureFault) → Reads order (drop 24 bytes) result → IfErr result (λ found. found ≡ fault.Memory → HasRecord bytes)
-  reads_memory (Ok capture) h = tt
-  reads_memory (Err (fault.LongRecord number)) h = λ same. absurd (cc)
-  reads_memory (Err fault.Memory) (packet, rest, first) = λ same. (order, packet, rest, header.right, first)
-  reads_memory (Err fault.Short) h = absurd h
-  reads_memory (Err fault.Magic) h = absurd h
-  reads_memory (Err fault.Version) h = absurd h
-  reads_memory (Err fault.LinkType) h = absurd h
-
-  pub reads_accepts : (result : Result Capture CaptureFault) → Reads order (drop 24 bytes) result → (packets : List Seen) (end : End) → IsCapture bytes packets end
-      → MatchResult result (λ capture. (map seen capture.packets.items ≡ packets) × (end_of capture.truncated ≡ end)) (λ found. found ≡ fault.Memory)
-  reads_accepts (Ok capture) (rest, all, stop) packets end (other, left, right, same, last) =
+  pub checks_accepts : (result : Result CheckedCapture CaptureFault) → Checks order (drop 24 bytes) result → (packets : List Seen) (end : End) → IsCapture bytes packets end
+      → MatchResult result (λ checked. (packets_of checked.records ≡ packets) × (end_of checked.truncated ≡ end)) (λ _. ⊥)
+  checks_accepts (Ok checked) (rest, all, stop) packets end (other, left, right, same, last) =
       let e = header.one other right in
       let all_too : AreRecords order (drop 24 bytes) packets left = rw (← e) same in
       let last_too : IsEnd order left end = rw (← e) last in
-      let once = records_once order (drop 24 bytes) (map seen capture.packets.items) packets rest left all (end_stops order rest _ stop) all_too
+      let once = records_once order (drop 24 bytes) (packets_of checked.records) packets rest left all (end_stops order rest _ stop) all_too
       (end_stops order left end last_too) in
-      (once.0, same_end order left (end_of capture.truncated) end (rw (← once.1) stop) last_too)
-  reads_accepts (Err (fault.LongRecord number)) (packets, rest, all, long, count) others end (other, left, right, same, last) =
+      (once.0, same_end order left (end_of checked.truncated) end (rw (← once.1) stop) last_too)
+  checks_accepts (Err (fault.LongRecord number)) (packets, rest, all, long, count) others end (other, left, right, same, last) =
       let e = header.one other right in
       let all_too : AreRecords order (drop 24 bytes) others left = rw (← e) same in
       let last_too : IsEnd order left end = rw (← e) last in
       let once = records_once order (drop 24 bytes) packets others rest left all (long_stops order rest long) all_too (end_stops order left end last_too) in
-      absurd (not_both order left end last_too (rw (← once.1) long))
-  reads_accepts (Err fault.Memory) h packets end g = refl
-  reads_accepts (Err fault.Short) h packets end g = absurd h
-  reads_accepts (Err fault.Magic) h packets end g = absurd h
-  reads_accepts (Err fault.Version) h packets end g = absurd h
-  reads_accepts (Err fault.LinkType) h packets end g = absurd h
+      not_both order left end last_too (rw (← once.1) long)
+  checks_accepts (Err fault.Memory) h packets end g = h
+  checks_accepts (Err fault.Short) h packets end g = h
+  checks_accepts (Err fault.Magic) h packets end g = h
+  checks_accepts (Err fault.Version) h packets end g = h
+  checks_accepts (Err fault.LinkType) h packets end g = h
 
-  long_accepts : (result : Result Capture CaptureFault) → Reads order (drop 24 bytes) result → (number : ℕ) → IsCaptureFault bytes (fault.LongRecord number)
-      → MatchResult result (λ capture. ⊥) (λ found. (found ≡ fault.LongRecord number) ⊎ (found ≡ fault.Memory))
-  long_accepts (Ok capture) (rest, all, stop) number (other, packets, left, right, same, long, count) =
+  long_accepts : (result : Result CheckedCapture CaptureFault) → Checks order (drop 24 bytes) result → (number : ℕ) → IsCaptureFault bytes (fault.LongRecord number)
+      → result ≡ Err (fault.LongRecord number)
+  long_accepts (Ok checked) (rest, all, stop) number (other, packets, left, right, same, long, count) =
       let e = header.one other right in
       let all_too : AreRecords order (drop 24 bytes) packets left = rw (← e) same in
       let long_too : IsTooLong order left = rw (← e) long in
-      let once = records_once order (drop 24 bytes) (map seen capture.packets.items) packets rest left all (end_stops order rest _ stop) all_too
+      let once = records_once order (drop 24 bytes) (packets_of checked.records) packets rest left all (end_stops order rest _ stop) all_too
       (long_stops order left long_too) in
-      not_both order left (end_of capture.truncated) (rw (← once.1) stop) long_too
+      absurd (not_both order left (end_of checked.truncated) (rw (← once.1) stop) long_too)
   long_accepts (Err (fault.LongRecord n)) (packets, rest, all, long, count) number (other, others, left, right, same, long_other, count_other) =
       let e = header.one other right in
       let all_too : AreRecords order (drop 24 bytes) others left = rw (← e) same in
       let long_too : IsTooLong order left = rw (← e) long_other in
       let once = records_once order (drop 24 bytes) packets others rest left all (long_stops order rest long) all_too (long_stops order left long_too) in
       let counts : n ≡ number = count ∙ ap (λ (ps : List Seen). length ps + 1) once.0 ∙ sym count_other in
-      inl (ap fault.LongRecord counts)
-  long_accepts (Err fault.Memory) h number g = inr refl
+      ap (λ m. Err (fault.LongRecord m)) counts
+  long_accepts (Err fault.Memory) h number g = absurd h
   long_accepts (Err fault.Short) h number g = absurd h
   long_accepts (Err fault.Magic) h number g = absurd h
   long_accepts (Err fault.Version) h number g = absurd h
   long_accepts (Err fault.LinkType) h number g = absurd h
 
-  pub reads_refuses : (result : Result Capture CaptureFault) → Reads order (drop 24 bytes) result → (found : CaptureFault) → IsCaptureFault bytes found
-      → MatchResult result (λ capture. ⊥) (λ other. (other ≡ found) ⊎ (other ≡ fault.Memory))
-  reads_refuses result h (fault.LongRecord number) g = long_accepts result h number g
-  reads_refuses result h fault.Short g = absurd (header.none fault.Short g)
-  reads_refuses result h fault.Magic g = absurd (header.none fault.Magic g)
-  reads_refuses result h fault.Version g = absurd (header.none fault.Version g)
-  reads_refuses result h fault.LinkType g = absurd (header.none fault.LinkType g)
-  reads_refuses result h fault.Memory g = absurd g
+  pub checks_refuses : (result : Result CheckedCapture CaptureFault) → Checks order (drop 24 bytes) result → (found : CaptureFault) → IsCaptureFault bytes found
+      → result ≡ Err found
+  checks_refuses result h (fault.LongRecord number) g = long_accepts result h number g
+  checks_refuses result h fault.Short g = absurd (header.none fault.Short g)
+  checks_refuses result h fault.Magic g = absurd (header.none fault.Magic g)
+  checks_refuses result h fault.Version g = absurd (header.none fault.Version g)
+  checks_refuses result h fault.LinkType g = absurd (header.none fault.LinkType g)
+  checks_refuses result h fault.Memory g = absurd g
+
+-- a capture of a packet has a record
+pub has_record : (bytes : List ℕ) (packets : List Seen) (end : End) (before behind : List Seen) (packet : Seen) → IsCapture bytes packets end
+    → before ++ packet ∷ behind ≡ packets → HasRecord bytes
+has_record bytes [] end [] behind packet is e = absurd (let f : ⊥ = cc in f)
+has_record bytes [] end (x ∷ xs) behind packet is e = absurd (let f : ⊥ = cc in f)
+has_record bytes (first ∷ packets) end before behind packet (order, rest, header, (others, one, all), stop) e = (order, first, others, header, one)

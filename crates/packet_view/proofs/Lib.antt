@@ -8,6 +8,7 @@ pub mod LawLemmas
 pub mod PacketLemmas
 pub mod ReadingLemmas
 pub mod RecordLemmas
+pub mod RecordListLemmas
 pub mod Steps
 pub mod TrailingLemmas
 pub mod TransportLemmas

@@ -1,6 +1,6 @@
 -- What stands at the front of records is what the tests find there, and nothing else.
 use Rattle.std.proofs.Common.{◌≡◌, ◌∙◌, ◌≤◌, ℕ, List, [], ◌∷◌, ◌++◌, length, take, drop, nat_lt, ◌==◌, ◌-◌, ◌+◌, refl, sym, ap, subst, inl, inr, arith, lit≤}
-use Rattle.std.proofs.lemmas.List.{drop-drop, drop-append-le, drop_at, length-append, length-take-le, take-append-drop, take_at, take_rest, nil_from_length}
+use Rattle.std.proofs.lemmas.List.{drop-drop, drop-append-le, drop_at, length-append, length-drop, length-take-le, take-append-drop, take_at, take_rest, nil_from_length}
 use Rattle.std.proofs.lemmas.Grind.{common_steps}
 use Rattle.std.proofs.lemmas.Bool.{cond_both, eqb-true, ltb-true, ltb-false}
 use Rattle.std.proofs.lemmas.Bool.Decides.{nat_tests}
@@ -8,6 +8,7 @@ use Rattle.byteorder.specs.Numbers.{big_from-append, little_from-append}
 use Rattle.packet_view.specs.declared.capture.Order.{Order}
 use Rattle.packet_view.specs.declared.capture.Order.TheVariants.{Little, Big}
 use Rattle.packet_view.specs.Captures.{AreRecords, IsPart, IsRecord, Part, Record, Nothing, Cut, TooLong, Seen, kept_length, kept_limit, number_from}
+use Rattle.packet_view.specs.RecordLists.{bytes_of, front_packet, packets_in, record_length}
 use Rattle.packet_view.specs.RecordSteps.{part_of}
 
 -- a number lies in the front that holds its bytes
@@ -28,14 +29,19 @@ number_from-take order place width n bytes h long =
 
 -- a record that is whole is found
 found : (order : Order) (bytes : List ℕ) → 16 ≤ length bytes → kept_length order bytes ≤ kept_limit → 16 + kept_length order bytes ≤ length bytes
-    → part_of order bytes ≡ Record (record { moment = number_from order 0 4 bytes; frame = take (kept_length order bytes) (drop 16 bytes) })
-    (drop (16 + kept_length order bytes) bytes)
+    → part_of order bytes ≡ Record (front_packet order bytes) (drop (record_length order bytes) bytes)
 found order bytes long limit fits = grind (arith, nat_tests)
 
--- a record that is spelt out is found
-spelt_is_found : (order : Order) (header frame rest : List ℕ) (moment : ℕ) → IsRecord order header (record { moment = moment; frame = frame })
-    → Record (record { moment = moment; frame = frame }) rest ≡ part_of order (header ++ (frame ++ rest))
-spelt_is_found order header frame rest moment r =
+-- the record at the front of the bytes is this, and these are the bytes behind it
+pub record IsFront (order : Order) (bytes : List ℕ) (packet : Seen) (rest : List ℕ) : Type 0 where
+  pub packet-is : packet ≡ front_packet order bytes
+  pub rest-is : rest ≡ drop (record_length order bytes) bytes
+  pub size : length bytes ≡ record_length order bytes + length rest
+
+-- a record that is spelt out stands at the front
+spelt_front : (order : Order) (header frame rest : List ℕ) (moment : ℕ) → IsRecord order header (record { moment = moment; frame = frame })
+    → IsFront order (header ++ (frame ++ rest)) (record { moment = moment; frame = frame }) rest
+spelt_front order header frame rest moment r =
     let bytes : List ℕ = header ++ (frame ++ rest) in
     let kept : kept_length order bytes ≡ length frame = number_from-append order 8 4 header (frame ++ rest) (omega (arith, r.sixteen)) ∙ sym r.kept in
     let seconds : number_from order 0 4 bytes ≡ moment = number_from-append order 0 4 header (frame ++ rest) (omega (arith, r.sixteen)) ∙ sym r.moment in
@@ -44,12 +50,29 @@ spelt_is_found order header frame rest moment r =
     let front : take (kept_length order bytes) (drop 16 bytes) ≡ frame = ap (take (kept_length order bytes)) behind ∙ take_at frame rest (kept_length order bytes) (sym kept) in
     let left : drop (16 + kept_length order bytes) bytes ≡ rest =
     sym (drop-drop (kept_length order bytes) 16 bytes) ∙ ap (drop (kept_length order bytes)) behind ∙ drop_at frame rest (kept_length order bytes) (sym kept) in
-    let is_found = found order bytes (omega arith) (omega (arith, r.limit)) (omega arith) in
+    record { packet-is = cc; rest-is = sym left; size = omega arith }
+
+pub part_front : (order : Order) (bytes : List ℕ) (packet : Seen) (rest : List ℕ) → IsPart order bytes (Record packet rest) → IsFront order bytes packet rest
+part_front order bytes packet rest (header, spelt, r) =
+    subst (λ (b : List ℕ). IsFront order b packet rest) (sym spelt) (spelt_front order header packet.frame rest packet.moment r)
+
+record_is_found : (order : Order) (bytes : List ℕ) (packet : Seen) (rest : List ℕ) → IsPart order bytes (Record packet rest) → Record packet rest ≡ part_of order bytes
+record_is_found order bytes packet rest is =
+    let front = part_front order bytes packet rest is in
+    let packet-is = front.packet-is in
+    let rest-is = front.rest-is in
+    let kept : length packet.frame ≡ kept_length order bytes = ap (λ (p : Seen). length p.frame) packet-is ∙ length-take-le (kept_length order bytes) (drop 16 bytes) (let d = length-drop 16 bytes in let s = front.size in omega arith) in
+    let limit = is.2.limit in
+    let is_found = found order bytes (omega (arith, front.size)) (omega arith) (omega (arith, front.size)) in
     cc
 
 number_behind : (order : Order) (place width : ℕ) (bytes : List ℕ) → number_from order 0 width (drop place bytes) ≡ number_from order place width bytes
 number_behind Little place width bytes = refl
 number_behind Big place width bytes = refl
+
+-- a length that was read behind the first eight bytes is the one that the record's header says
+pub read_length : (order : Order) (bytes : List ℕ) (kept : ℕ) → kept ≡ number_from order 0 4 (take (length bytes - 8) (drop 8 bytes)) → kept ≡ kept_length order bytes
+read_length order bytes kept said = said ∙ ap (number_from order 0 4) (take_rest bytes 8) ∙ number_behind order 8 4 bytes
 
 -- a record that is cut out of the bytes is found
 pub cut_out : (order : Order) (bytes : List ℕ) (kept moment : ℕ) → 16 ≤ length bytes → kept ≡ number_from order 0 4 (take (length bytes - 8) (drop 8 bytes))
@@ -57,14 +80,14 @@ pub cut_out : (order : Order) (bytes : List ℕ) (kept moment : ℕ) → 16 ≤ 
     → Record (record { moment = moment; frame = take (16 + kept - 16) (drop 16 bytes) }) (take (length bytes - (16 + kept)) (drop (16 + kept) bytes))
     ≡ part_of order bytes
 cut_out order bytes kept moment long said limit fits seconds =
-    let same : kept ≡ kept_length order bytes = said ∙ ap (number_from order 0 4) (take_rest bytes 8) ∙ number_behind order 8 4 bytes in
+    let same = read_length order bytes kept said in
     let size : 16 + kept - 16 ≡ kept = omega arith in
     let behind : take (length bytes - (16 + kept)) (drop (16 + kept) bytes) ≡ drop (16 + kept) bytes = take_rest bytes (16 + kept) in
     let is_found = found order bytes long (omega arith) (omega arith) in
     cc
 
 pub part_only : (order : Order) (bytes : List ℕ) (part : Part) → IsPart order bytes part → part ≡ part_of order bytes
-part_only order bytes (Record packet rest) (header, spelt, r) = rw spelt (spelt_is_found order header packet.frame rest packet.moment r)
+part_only order bytes (Record packet rest) h = record_is_found order bytes packet rest h
 part_only order bytes Nothing h = rw h refl
 part_only order bytes Cut (inl h) = grind (arith, nat_tests)
 part_only order bytes Cut (inr h) = grind (arith, nat_tests)
@@ -75,8 +98,7 @@ spelt : (order : Order) (bytes : List ℕ) (kept : ℕ) → bytes ≡ take 16 by
 spelt order bytes kept = rw (← drop-drop kept 16 bytes, take-append-drop, take-append-drop) refl
 
 record_shown : (order : Order) (bytes : List ℕ) → 16 ≤ length bytes → kept_length order bytes ≤ kept_limit → 16 + kept_length order bytes ≤ length bytes
-    → IsPart order bytes (Record (record { moment = number_from order 0 4 bytes; frame = take (kept_length order bytes) (drop 16 bytes) })
-    (drop (16 + kept_length order bytes) bytes))
+    → IsPart order bytes (Record (front_packet order bytes) (drop (record_length order bytes) bytes))
 record_shown order bytes long limit fits = (
   take 16 bytes,
   spelt order bytes (kept_length order bytes),
@@ -106,12 +128,6 @@ pub AreRecords-push : (order : Order) (packet : Seen) (others bytes : List ℕ) 
 AreRecords-push order packet others bytes [] rest all more = (others, subst (λ (b : List ℕ). IsPart order b (Record packet others)) (sym all) more, refl)
 AreRecords-push order packet others bytes (first ∷ packets) rest (behind, one, all) more =
     (behind, one, AreRecords-push order packet others behind packets rest all more)
-
--- the first of whole records, where one more stands behind them
-pub first_record : (order : Order) (packet : Seen) (others bytes : List ℕ) (packets : List Seen) (rest : List ℕ) → AreRecords order bytes packets rest
-    → IsPart order rest (Record packet others) → (first : Seen) × (behind : List ℕ) × IsPart order bytes (Record first behind)
-first_record order packet others bytes [] rest all more = (packet, others, subst (λ (b : List ℕ). IsPart order b (Record packet others)) (sym all) more)
-first_record order packet others bytes (first ∷ packets) rest (behind, one, all) more = (first, behind, one)
 
 -- no record stands at the front
 abbrev pub IsStop : Part → Type 0

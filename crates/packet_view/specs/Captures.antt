@@ -1,5 +1,5 @@
 -- Captures: a header of 24 bytes, and records one behind another (the classic pcap format).
-use Rattle.std.specs.Prelude.{◌≡◌, ◌≢◌, ◌≤◌, ◌<◌, ◌⊎◌, ℕ, ◌+◌, ◌%◌, ◌^◌, Bool, true, false, List, [], ◌∷◌, ◌++◌, length, drop}
+use Rattle.std.specs.Prelude.{◌≡◌, ◌≢◌, ◌≤◌, ◌<◌, ◌⊎◌, ℕ, ◌+◌, ◌%◌, ◌^◌, Bool, true, false, List, [], ◌∷◌, ◌++◌, length, drop, Option, Some, None}
 use Rattle.byteorder.specs.Endian.{big_number, little_number}
 use Rattle.packet_view.specs.declared.capture.Order.{Order}
 use Rattle.packet_view.specs.declared.capture.Order.TheVariants.{Little, Big}
@@ -16,6 +16,11 @@ pub record Seen : Type 0 where
 
 abbrev pub seen : Packet → Seen
 seen packet = record { moment = packet.moment; frame = packet.frame.now }
+
+-- one packet was taken from these packets, and these are left; none is taken only where there is none
+abbrev pub Takes : List Seen → Option Packet → List Seen → Type 0
+Takes packets None left = (packets ≡ []) × (left ≡ [])
+Takes packets (Some packet) left = packets ≡ seen packet ∷ left
 
 -- how the records end: behind a whole one, or inside one
 pub data End : Type 0 where

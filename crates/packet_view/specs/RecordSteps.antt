@@ -1,10 +1,12 @@
 -- What the steps of the code make of records, which `Captures` says whole. The two are proved to agree.
-use Rattle.std.specs.Prelude.{◌≡◌, ℕ, ◌+◌, ◌-◌, ◌==◌, nat_lt, if◌then◌else◌, List, length, take, drop, map, Result, Ok, Err}
+use Rattle.std.specs.Prelude.{◌≡◌, ℕ, ◌+◌, ◌-◌, ◌==◌, nat_lt, if◌then◌else◌, List, length, drop, Result, Ok, Err}
 use Rattle.packet_view.specs.declared.capture.Order.{Order}
-use Rattle.packet_view.specs.declared.capture.Capture.{Capture}
+use Rattle.packet_view.specs.declared.capture.CheckedCapture.{CheckedCapture}
 use Rattle.packet_view.specs.declared.capture.CaptureFault.{CaptureFault}
-use Rattle.packet_view.specs.declared.capture.CaptureFault.TheVariants.{LongRecord, Memory}
-use Rattle.packet_view.specs.Captures.{AreRecords, IsEnd, IsPart, IsTooLong, Seen, end_of, seen, Part, Record, Nothing, Cut, TooLong, kept_length, kept_limit, number_from}
+use Rattle.packet_view.specs.declared.capture.CaptureFault.TheVariants.{LongRecord}
+use Rattle.packet_view.specs.CheckedCaptures.{packets_of}
+use Rattle.packet_view.specs.Captures.{AreRecords, IsEnd, IsTooLong, Seen, end_of, Part, Record, Nothing, Cut, TooLong, kept_length, kept_limit}
+use Rattle.packet_view.specs.RecordLists.{front_packet, record_length}
 
 abbrev pub part_of : Order → List ℕ → Part
 part_of order bytes =
@@ -12,15 +14,12 @@ part_of order bytes =
     else (if nat_lt (length bytes) 16 then Cut
     else (if nat_lt kept_limit (kept_length order bytes) then TooLong
     else (if nat_lt (length bytes - 16) (kept_length order bytes) then Cut
-    else Record (record { moment = number_from order 0 4 bytes; frame = take (kept_length order bytes) (drop 16 bytes) })
-    (drop (16 + kept_length order bytes) bytes))))
+    else Record (front_packet order bytes) (drop (record_length order bytes) bytes))))
 
--- the bytes behind a header are these records and end so, or the first record that is too long is of this number;
--- want of memory comes behind a whole record
-abbrev pub Reads : Order → List ℕ → Result Capture CaptureFault → Type 0
-Reads order bytes (Ok capture) =
-    (rest : List ℕ) × AreRecords order bytes (map seen capture.packets.items) rest × IsEnd order rest (end_of capture.truncated)
-Reads order bytes (Err (LongRecord number)) =
+-- the bytes behind a header are these records and end so, or the first record that is too long is of this number
+abbrev pub Checks : Order → List ℕ → Result CheckedCapture CaptureFault → Type 0
+Checks order bytes (Ok checked) =
+    (rest : List ℕ) × AreRecords order bytes (packets_of checked.records) rest × IsEnd order rest (end_of checked.truncated)
+Checks order bytes (Err (LongRecord number)) =
     (packets : List Seen) × (rest : List ℕ) × AreRecords order bytes packets rest × IsTooLong order rest × (number ≡ length packets + 1)
-Reads order bytes (Err Memory) = (packet : Seen) × (rest : List ℕ) × IsPart order bytes (Record packet rest)
-Reads order bytes (Err header_fault) = ⊥
+Checks order bytes (Err header_fault) = ⊥

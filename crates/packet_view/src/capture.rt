@@ -16,11 +16,13 @@ ghost use Rattle.packet_view.specs.Captures.{
   parted,
   seen,
 };
-ghost use Rattle.packet_view.specs.RecordSteps.{Reads, part_of};
+ghost use Rattle.packet_view.specs.CheckedCaptures.{packets_of};
+ghost use Rattle.packet_view.specs.RecordSteps.{Checks, part_of};
 ghost use Rattle.packet_view.specs.declared.capture.CaptureFault.{CaptureFault};
 ghost use Rattle.packet_view.specs.declared.capture.CaptureFault.TheVariants.{Memory};
 ghost use Rattle.packet_view.specs.declared.capture.Order.{Order};
 
+use crate::records::Records;
 use byteorder::{BigEndian, ByteOrder, LittleEndian};
 use std::alloc::{AllocError, AllocFailed, Global};
 
@@ -104,6 +106,13 @@ pub struct Capture<'a> {
     pub truncated: bool,
 }
 
+/// The records of a capture where they stand, and whether it ends inside a record.
+#[derive(Clone, Copy, Debug)]
+pub struct CheckedCapture<'a> {
+    pub records: Records<'a>,
+    pub truncated: bool,
+}
+
 #[inline]
 fn u16_in(order: Order, bytes: &[u8]) -> u16
     requires { 2 ≤ length bytes.now }
@@ -116,7 +125,7 @@ fn u16_in(order: Order, bytes: &[u8]) -> u16
 }
 
 #[inline]
-fn u32_in(order: Order, bytes: &[u8]) -> u32
+pub fn u32_in(order: Order, bytes: &[u8]) -> u32
     requires { 4 ≤ length bytes.now }
     ensures { result ≡ number_from order 0 4 bytes.now }
 {
@@ -194,41 +203,42 @@ pub fn next_record(rest: &[u8], order: Order) -> Piece<'_>
     front_piece(rest, order)
 }
 
-/// The packets of the records behind a header.
-fn read_records<'a>(
-    alloc: Global,
-    bytes: &'a [u8],
-    order: Order,
-) -> Result<Capture<'a>, CaptureFault>
-    ensures { Reads order bytes.entry.now result }
+/// The records behind a header.
+fn check_records(bytes: &[u8], order: Order) -> Result<CheckedCapture<'_>, CaptureFault>
+    ensures { Checks order bytes.now result }
 {
-    let mut packets = Vec::new(alloc);
     let mut rest = bytes;
+    let mut count = 0;
     'records: loop {
-        match next_record(rest, order) {
-            Piece::Whole {
-                moment,
-                frame,
-                rest: behind,
-            } => {
-                packets.push(Packet { moment, frame })?;
+        let truncated = match next_record(rest, order) {
+            Piece::Whole { rest: behind, .. } => {
                 rest = behind;
+                count += 1;
+                continue;
             }
-            Piece::End => {
-                return Ok(Capture {
-                    packets,
-                    truncated: false,
-                });
-            }
-            Piece::Truncated => {
-                return Ok(Capture {
-                    packets,
-                    truncated: true,
-                });
-            }
-            Piece::TooLong => return Err(CaptureFault::LongRecord(packets.len() as u64 + 1)),
-        }
+            Piece::End => false,
+            Piece::Truncated => true,
+            Piece::TooLong => return Err(CaptureFault::LongRecord(count as u64 + 1)),
+        };
+        let records = Records {
+            bytes,
+            order,
+            count,
+        };
+        return Ok(CheckedCapture { records, truncated });
     }
+}
+
+/// The records of a capture, each of which was looked at. No memory is asked for.
+pub fn check_capture(bytes: &[u8]) -> Result<CheckedCapture<'_>, CaptureFault>
+    ensures ok { IfOk result (λ checked. IsCapture bytes.now (packets_of checked.records) (end_of checked.truncated)) }
+    ensures fault { IfErr result (IsCaptureFault bytes.now) }
+    ensures accepts { (packets : List Seen) (end : End) → IsCapture bytes.now packets end →
+        MatchResult result (λ checked. (packets_of checked.records ≡ packets) × (end_of checked.truncated ≡ end)) (λ _. ⊥) }
+    ensures refuses { (fault : CaptureFault) → IsCaptureFault bytes.now fault → result ≡ Err fault }
+{
+    let order = capture_header(bytes)?;
+    check_records(&bytes[24..], order)
 }
 
 /// The packets of a capture. Memory is answered where a growth was refused, and none is asked for before a whole record.
@@ -241,6 +251,13 @@ pub fn read_capture<'a>(alloc: Global, bytes: &'a [u8]) -> Result<Capture<'a>, C
     ensures refuses { (fault : CaptureFault) → IsCaptureFault bytes.entry.now fault →
         MatchResult result (λ capture. ⊥) (λ found. (found ≡ fault) ⊎ (found ≡ Memory)) }
 {
-    let order = capture_header(bytes)?;
-    read_records(alloc, &bytes[24..], order)
+    let CheckedCapture {
+        mut records,
+        truncated,
+    } = check_capture(bytes)?;
+    let mut packets = Vec::new(alloc);
+    'packets: while let Some(packet) = records.next() {
+        packets.push(packet)?;
+    }
+    Ok(Capture { packets, truncated })
 }

@@ -8,17 +8,22 @@ mod ipv4;
 mod ipv6;
 mod laws;
 mod packet;
+mod packets;
+mod records;
 #[cfg(test)]
 mod tests;
 mod transport;
 mod tuple;
 
 pub use capture::{
-    Capture, CaptureFault, Order, Packet, Piece, capture_header, next_record, read_capture,
+    Capture, CaptureFault, CheckedCapture, Order, Packet, Piece, capture_header, check_capture,
+    next_record, read_capture,
 };
 pub use frame::{Frame, view};
 pub use laws::{
     a_cut_capture_keeps_its_front, bytes_behind_the_packet_are_not_seen,
     each_capture_has_one_reading, each_frame_has_one_view, own_address_decides_the_way_alone,
 };
+pub use packets::Packets;
+pub use records::Records;
 pub use tuple::{Direction, Family, Fields, Mac, Tuple};

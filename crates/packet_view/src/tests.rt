@@ -1,7 +1,7 @@
 //! Frames and captures byte by byte, with the views that the standards give them.
 use crate::{
-    Capture, CaptureFault, Direction, Family, Fields, Frame, Mac, Order, Piece, Tuple,
-    capture_header, next_record, read_capture, view,
+    Capture, CaptureFault, Direction, Family, Fields, Frame, Mac, Order, Packet, Packets, Piece,
+    Tuple, capture_header, check_capture, next_record, read_capture, view,
 };
 use std::test::Fail;
 
@@ -396,6 +396,65 @@ fn reads_the_packets_of_a_capture(rt: HostRuntime) -> Result<(), Fail> {
     assert_eq!(rt; big.packets[0].moment, 100);
     assert_eq!(rt; big.packets[0].frame, UDP.as_slice());
     Ok(())
+}
+
+#[test]
+fn takes_the_packets_of_a_capture_where_they_stand(rt: HostRuntime) -> Result<(), Fail> {
+    let checked = check_capture(&LITTLE[..197])?;
+    assert!(rt; checked.truncated);
+    let mut records = checked.records;
+    assert_eq!(rt; records.count(), 2);
+    for moment in [100u32, 105] {
+        let first = records.next();
+        assert_eq!(rt; first.map(|packet| packet.moment), Some(moment));
+        assert_eq!(rt; first.map(|packet| packet.frame.len()), Some(42));
+    }
+    assert_eq!(rt; records.count(), 0);
+    assert!(rt; records.next().is_none());
+
+    let big = check_capture(&BIG)?;
+    assert!(rt; !big.truncated);
+    assert_eq!(rt; front_of(Packets::Standing(big.records)), (1, Some(100), 0));
+    let mut records = big.records;
+    assert_eq!(rt;
+        records.next().map(|packet| packet.frame),
+        Some(UDP.as_slice())
+    );
+
+    let mut third = LITTLE;
+    [third[148], third[149], third[150]] = [0x01, 0x00, 0x04];
+    assert_eq!(rt;
+        check_capture(&third).err(),
+        Some(CaptureFault::LongRecord(3))
+    );
+    Ok(())
+}
+
+// How many packets there are, the moment of the first, and how many are left behind it.
+fn front_of(mut packets: Packets<'_>) -> (usize, Option<u32>, usize) {
+    let count = packets.count();
+    let moment = packets.next().map(|packet| packet.moment);
+    (count, moment, packets.count())
+}
+
+fn front_of_list<'a>(packets: &'a [Packet<'a>]) -> (usize, Option<u32>, usize) {
+    front_of(Packets::Listed(packets))
+}
+
+#[test]
+fn takes_listed_packets(rt: HostRuntime) {
+    let listed = [
+        Packet {
+            moment: 100,
+            frame: &UDP,
+        },
+        Packet {
+            moment: 105,
+            frame: &UDP,
+        },
+    ];
+    assert_eq!(rt; front_of_list(&listed), (2, Some(100), 1));
+    assert_eq!(rt; front_of_list(&listed[2..]), (0, None, 0));
 }
 
 #[test]

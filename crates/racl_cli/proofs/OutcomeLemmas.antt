@@ -165,15 +165,14 @@ no_marker_answers options bytes none = record {
 
 -- a capture that is refused
 pub capture_answers : (options : Options) (policy : PolicyFacts) (capture : List ℕ) (found : CaptureFault)
-    → ((packets : List Seen) (end : End) → IsCapture capture packets end → found ≡ packet.Memory)
-    → (found ≢ packet.Memory → IsCaptureFault capture found)
-    → ((cause : CaptureFault) → IsCaptureFault capture cause → (found ≡ cause) ⊎ (found ≡ packet.Memory))
+    → ((packets : List Seen) (end : End) → IsCapture capture packets end → ⊥) → IsCaptureFault capture found
+    → ((cause : CaptureFault) → IsCaptureFault capture cause → found ≡ cause)
     → AnswersCapture options policy capture (Err (capture_fault found))
 capture_answers options policy capture found accepts fails refuses = record {
   ok = tt;
-  accepts = λ one_thread filters. ap capture_fault (accepts filters.packets (end_of one_thread.truncated) filters.records);
-  fault = λ differs. (found, fails (λ same. differs (ap capture_fault same)), refl);
-  refuses = λ fault of. elim (refuses of.0 of.1) [ inl same ↦ inl (ap capture_fault same ∙ sym of.2) | inr memory ↦ inr (ap capture_fault memory) ];
+  accepts = λ one_thread filters. absurd (accepts filters.packets (end_of one_thread.truncated) filters.records);
+  fault = λ differs. (found, fails, refl);
+  refuses = λ fault of. inl (ap capture_fault (refuses of.0 of.1) ∙ sym of.2);
 }
 
 -- a capture whose packets were judged

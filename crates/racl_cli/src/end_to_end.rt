@@ -10,7 +10,7 @@ use crate::judging::verdicts_on;
 use crate::outcome::Judged;
 use acl_policy::read_policy;
 use flow_workers::Filter;
-use packet_view::read_capture;
+use packet_view::check_capture;
 use racl_io::{Fault, Form, Sink, Source, Totals, decoded, parts, read_input, write_report};
 use racl_words::Options;
 use std::alloc::Global;
@@ -27,11 +27,11 @@ fn judge_capture<T: Threads + Wait + Sync>(
     requires times { filter.now.times ≡ options.now.times }
     ensures { AnswersCapture options.now (policy_facts filter.now.policy) capture.now result }
 {
-    let capture = read_capture(alloc, capture)?;
-    let verdicts = verdicts_on(rt, alloc, options, filter, &capture.packets)?;
+    let checked = check_capture(capture)?;
+    let verdicts = verdicts_on(rt, alloc, options, filter, checked.records)?;
     Ok(Judged {
         verdicts,
-        truncated: capture.truncated,
+        truncated: checked.truncated,
     })
 }
 

@@ -1,6 +1,6 @@
 //! The packets of a capture through workers.
-ghost use Rattle.std.specs.Prelude.{◌≡◌, ◌≤◌, IfOk, IfErr, map};
-ghost use Rattle.packet_view.specs.Captures.{seen};
+ghost use Rattle.std.specs.Prelude.{◌≡◌, ◌≤◌, IfOk, IfErr};
+ghost use Rattle.packet_view.specs.CheckedCaptures.{packets_of};
 ghost use Rattle.acl_policy.specs.Policies.{policy_facts};
 ghost use Rattle.flow_dealing.specs.Runs.{HavePages};
 ghost use Rattle.racl_io.specs.declared.fault.Fault.TheVariants.{Memory};
@@ -8,7 +8,7 @@ ghost use Rattle.racl_cli.specs.Runs.{ByOneThread, ByWorkers};
 
 use bihash_words::{ShapeV4, ShapeV6, flow_shapes_are_sound};
 use flow_workers::{Dealing, Filter, Gate, Verdict, run_workers};
-use packet_view::Packet;
+use packet_view::{Packets, Records};
 use racl_io::Fault;
 use racl_words::Options;
 use std::alloc::Global;
@@ -45,21 +45,21 @@ pub fn verdicts_on<'a, T: Threads + Wait + Sync>(
     alloc: Global,
     options: &Options,
     filter: &'a Filter,
-    packets: &'a [Packet<'a>],
+    packets: Records<'a>,
 ) -> Result<Vec<Verdict>, Fault>
     requires times { filter.now.times ≡ options.now.times }
-    ensures by_workers { IfOk result (λ v. ByWorkers options.now (policy_facts filter.entry.now.policy) (map seen packets.entry.now) v.items) }
+    ensures by_workers { IfOk result (λ v. ByWorkers options.now (policy_facts filter.entry.now.policy) (packets_of packets.entry) v.items) }
     ensures by_one_thread { IfOk result (λ v. HavePages v.items
-        → ByOneThread options.now.times (policy_facts filter.entry.now.policy) (map seen packets.entry.now) v.items) }
+        → ByOneThread options.now.times (policy_facts filter.entry.now.policy) (packets_of packets.entry) v.items) }
     ensures memory { IfErr result (λ e. e ≡ Memory) }
 {
     flow_shapes_are_sound();
-    let workers = workers_for(options, packets.len());
+    let workers = workers_for(options, packets.count());
     match run_workers::<ShapeV4, ShapeV6, T, OpenGate>(
         rt,
         alloc,
         filter,
-        packets,
+        Packets::Standing(packets),
         workers,
         &OpenGate,
         Dealing::Bucket,

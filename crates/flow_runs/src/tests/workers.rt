@@ -4,7 +4,7 @@ ghost use Rattle.std.specs.Prelude.{◌≤◌};
 use super::{NAMES, filter_of, request};
 use bihash_words::{ShapeV4, ShapeV6, flow_shapes_are_sound};
 use flow_workers::{Dealing, Filter, Gate, Verdict, run_workers};
-use packet_view::Packet;
+use packet_view::{Packet, Packets};
 use std::alloc::{AllocError, Global};
 use std::sync::Wait;
 use std::sync::atomic::{AtomicBool, Ordering};
@@ -88,7 +88,13 @@ fn verdicts<'a, R: Threads + Wait + Sync, G: Gate + Sync>(
 {
     flow_shapes_are_sound();
     match run_workers::<ShapeV4, ShapeV6, R, G>(
-        rt, alloc, filter, packets, workers, gate, dealing,
+        rt,
+        alloc,
+        filter,
+        Packets::Listed(packets),
+        workers,
+        gate,
+        dealing,
     ) {
         Ok(verdicts) => Ok(verdicts),
         Err(_) => Err(AllocError),

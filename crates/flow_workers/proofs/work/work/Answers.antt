@@ -1,53 +1,52 @@
-use Rattle.std.proofs.Common.{◌≡◌, ◌∙◌, [], ap, sym, subst, length, arith}
+use Rattle.std.proofs.Common.{◌≡◌, ◌∙◌, ◌+◌, ◌≢◌, ℕ, [], ap, sym, subst, length, arith, refl}
 use Rattle.std.proofs.lemmas.Bool.{ne_eqb}
-use Rattle.std.proofs.lemmas.List.{length-map}
 use Rattle.packet_view.specs.Captures.{seen}
 use Rattle.packet_view.specs.Frames.{viewed}
 use Rattle.flow_dealing.specs.Dealings.{worker_of}
-use Rattle.flow_workers.specs.Callers.{views_of}
+use Rattle.packet_view.specs.CheckedCaptures.{held}
 use Rattle.flow_workers.specs.Jobs.{run_facts}
-use Rattle.flow_workers.proofs.WorkSteps.{IsWorkUntil, seen_at, whole_work, work_none, work_passed, work_push}
+use Rattle.flow_workers.proofs.WorkSteps.{IsAt, left_behind, stands_at, taken_inside, whole_work, work_none, work_passed, work_push}
 use Rattle.flow_workers.proofs.work.work.Goals as goal
 
-pub loop-at-init : goal.loop-at-init
-loop-at-init g c = record {
+pub packets-init : goal.packets-init
+packets-init g c = record {
   idle = c.requires.idle;
+  left = refl;
   done = rw c.in_ok-said.ensures.0 (rw c.in_ok-said.ensures.1 (work_none _ _ _));
 }
 
-pub loop-at-preserved-then-dealt_to-worker : goal.loop-at-preserved-then-dealt_to-worker
-loop-at-preserved-then-dealt_to-worker g c = record {
-  idle = c.loop-at.invariant.idle;
-  done = work_passed _ _ _ _ _ _ _ _ (viewed c.view-frame.result)
-      (record {
-        stands = seen_at c.args.job.run.packets.now c.loop-at.at (record { moment = 0; frame = record { ref_ptr = (0, 0); now = [] } }) c.loop-at-test.true;
-        shown = c.view-frame.ensures.shown;
-        only = c.view-frame.ensures.only;
-      })
-      (λ same. c.if-dealt_to-worker.true (c.dealt_to.ensures ∙ (ap (worker_of (run_facts g.A.Shape g.B.Shape c.args.job.run).deal c.loop-at.at) c.flow_in-flow.ensures.shown ∙ same))) c.loop-at.invariant.done;
-}
+pub overflow_add-taken : goal.overflow_add-taken
+overflow_add-taken g c =
+    let inside = taken_inside (held c.args.job.run.packets) _ c.packets.taken _ (c.packets.invariant.left ∙ c.in-Some.ensures) in
+    let count = c.count.ensures in
+    omega arith
 
-pub loop-at-preserved : goal.loop-at-preserved
-loop-at-preserved g c = record {
-  idle = c.judge_viewed-verdict.ensures.idle;
-  done = rw c.in_ok-say.ensures.verdicts
-      (work_push _ _ _ _ _ _ _ _ _ _ (viewed c.view-frame.result) _
-      (record {
-        stands = seen_at c.args.job.run.packets.now c.loop-at.at (record { moment = 0; frame = record { ref_ptr = (0, 0); now = [] } }) c.loop-at-test.true;
-        shown = c.view-frame.ensures.shown;
-        only = c.view-frame.ensures.only;
-      })
-      (sym (c.dealt_to.ensures ∙ ap (worker_of (run_facts g.A.Shape g.B.Shape c.args.job.run).deal c.loop-at.at) c.flow_in-flow.ensures.shown) ∙ c.if-dealt_to-worker.false) (c.judge_viewed-verdict.ensures.judged _ (c.new-viewed.ensures.seen _ c.view-frame.ensures.shown))
-      (λ several. c.in_ok-say.ensures.numbers (ne_eqb _ _ several)) c.loop-at.invariant.done);
-}
+pub packets-preserved-then-dealt_to-worker : goal.packets-preserved-then-dealt_to-worker
+packets-preserved-then-dealt_to-worker g c =
+    let taken = c.packets.invariant.left ∙ c.in-Some.ensures in
+    record {
+      idle = c.packets.invariant.idle;
+      left = left_behind _ _ c.packets.taken _ taken;
+      done = work_passed _ _ _ _ _ _ _ _ (viewed c.view-frame.result)
+          (record { stands = stands_at _ _ c.packets.taken _ taken; shown = c.view-frame.ensures.shown; only = c.view-frame.ensures.only })
+          (λ same. c.if-dealt_to-worker.true (c.dealt_to.ensures ∙ (ap (worker_of (run_facts g.A.Shape g.B.Shape c.args.job.run).deal c.packets.taken) c.flow_in-flow.ensures.shown ∙ same))) c.packets.invariant.done;
+    }
+
+pub packets-preserved : goal.packets-preserved
+packets-preserved g c =
+    let taken = c.packets.invariant.left ∙ c.in-Some.ensures in
+    record {
+      idle = c.judge_viewed-verdict.ensures.idle;
+      left = left_behind _ _ c.packets.taken _ taken;
+      done = rw c.in_ok-say.ensures.verdicts
+          (work_push _ _ _ _ _ _ _ _ _ _ (viewed c.view-frame.result) _
+          (record { stands = stands_at _ _ c.packets.taken _ taken; shown = c.view-frame.ensures.shown; only = c.view-frame.ensures.only })
+          (sym (c.dealt_to.ensures ∙ ap (worker_of (run_facts g.A.Shape g.B.Shape c.args.job.run).deal c.packets.taken) c.flow_in-flow.ensures.shown) ∙ c.if-dealt_to-worker.false) (c.judge_viewed-verdict.ensures.judged _ (c.new-viewed.ensures.seen _ c.view-frame.ensures.shown))
+          (λ several. c.in_ok-say.ensures.numbers (ne_eqb _ _ several)) c.packets.invariant.done);
+    }
 
 pub returns : goal.returns
-returns g c =
-    let all : c.loop-at.at ≡ length c.args.job.run.packets.now = let inside = c.loop-at.auto.at-end in let past = c.loop-at-test.false in omega arith in
-    let packets = c.args.job.run.packets.now in
-    record {
-      idle = c.loop-at.invariant.idle;
-      done = whole_work _ _ _ _ _ _ (subst (λ at. IsWorkUntil (run_facts g.A.Shape g.B.Shape c.args.job.run) c.args.job.worker at
-          (views_of g.A.Shape g.B.Shape c.args.job.callers) (views_of g.A.Shape g.B.Shape c.loop-at.callers)
-          c.loop-at.said.verdicts.items c.loop-at.said.numbers.items) (all ∙ sym (length-map packets seen)) c.loop-at.invariant.done);
-    }
+returns g c = record {
+  idle = c.packets.invariant.idle;
+  done = whole_work _ _ _ _ _ _ _ (c.packets.invariant.left ∙ c.in_default.ensures.0) c.packets.invariant.done;
+}

@@ -1,6 +1,5 @@
-use Rattle.std.proofs.Common.{arith, map, subst}
-use Rattle.std.proofs.lemmas.List.{length-map}
-use Rattle.packet_view.specs.Captures.{seen}
+use Rattle.std.proofs.Common.{arith, subst, sym}
+use Rattle.packet_view.specs.CheckedCaptures.{held}
 use Rattle.packet_view.specs.declared.tuple.Family.TheVariants.{V4, V6}
 use Rattle.acl_policy.specs.Policies.{policy_facts}
 use Rattle.flow_filter.specs.OneThread.{layout_of}
@@ -31,7 +30,7 @@ in_order-requires g c = (
     some_worker = c.requires.some;
     traced = c.in_ok-four.ensures.traced;
     said = c.in_ok-four.ensures.said;
-    count = length-map c.args.packets.now seen;
+    count = sym c.count-2.ensures;
   },
 )
 
@@ -39,7 +38,7 @@ pub returns-clause-judged : goal.returns-clause-judged
 returns-clause-judged g c =
     let p = c.in_ok-four.ensures in
     let deal : Deal = record { layout = layout_of g.A.Shape g.B.Shape; dealing = c.args.dealing; workers = c.args.workers } in
-    let packets = map seen c.args.packets.now in
+    let packets = held c.args.packets in
     let verdicts = c.in_ok-in_order.field-0.items in
     subst (λ t. AreJudged deal t (policy_facts c.args.filter.now.policy) packets verdicts) c.ready_with.ensures.times
     (subst (λ f. AreJudged deal c.ready_with.result.times f packets verdicts) c.ready_with.ensures.policy
@@ -51,7 +50,7 @@ returns-clause-judged g c =
       some_worker = c.requires.some;
       traced = p.traced;
       said = p.said;
-      count = length-map c.args.packets.now seen;
+      count = sym c.count-2.ensures;
     }))))
 
 pub returns-clause-one_report : goal.returns-clause-one_report

@@ -1,4 +1,4 @@
-use Rattle.std.proofs.Common.{◌≡◌, ◌∙◌, ◌<◌, ℕ, length, refl, sym, subst, arith}
+use Rattle.std.proofs.Common.{◌≡◌, ◌∙◌, ◌<◌, ℕ, ap, length, refl, sym, subst, arith}
 use Rattle.std.specs.Prelude.{slice_index_or}
 use Rattle.flow_workers.specs.Jobs.{run_facts}
 use Rattle.flow_workers.specs.Turns.{CanTake, IsAhead}
@@ -19,13 +19,13 @@ loop-worker-preserved g c =
       each = λ i d below. subst (λ xs. IsAhead g.A.Shape g.B.Shape c.args.run.tables.now run i (slice_index_or xs i d)) (sym c.in_ok-push.ensures.items)
           (below_push (λ k turn. IsAhead g.A.Shape g.B.Shape c.args.run.tables.now run k turn) c.loop-worker.turns.items _ (λ k e b. inv.each k e (omega arith))
           (record {
-            facts = refl;
-            own = refl;
+            facts = ap (run_facts g.A.Shape g.B.Shape) c.again.ensures;
+            own = ap (λ r. r.tables.now) c.again.ensures;
             worker = sym inv.count;
             can = record {
               shapes = c.requires.shapes;
-              few = let inside = c.loop-worker-test.true in omega arith;
-              idle = record { own = (four.own.0, six.own.0); free = (four.free.0, six.free.0); lawful = (four.lawful.0, six.lawful.0) };
+              few = rw c.again.ensures (let inside = c.loop-worker-test.true in omega arith);
+              idle = rw c.again.ensures record { own = (four.own.0, six.own.0); free = (four.free.0, six.free.0); lawful = (four.lawful.0, six.lawful.0) };
             };
             fresh = (four.fresh.0, six.fresh.0);
           }) i d (omega arith));

@@ -1,31 +1,25 @@
-use Rattle.std.proofs.Common.{ℕ, List, drop, subst}
-use Rattle.std.proofs.lemmas.List.{take_rest}
-use Rattle.packet_view.specs.RecordSteps.{Reads}
-use Rattle.packet_view.proofs.CaptureLemmas.{IsHeaderOf, reads_ok, reads_fault, reads_memory, reads_accepts, reads_refuses}
+use Rattle.std.proofs.Common.{◌∙◌, ◌++◌, append-nil, ap, map, sym}
+use Rattle.std.proofs.lemmas.Result.{err_from_is_err_and}
+use Rattle.packet_view.specs.Captures.{seen}
+use Rattle.packet_view.specs.CheckedCaptures.{packets_of}
+use Rattle.packet_view.proofs.CaptureLemmas.{has_record}
 use Rattle.packet_view.proofs.capture.read_capture.Goals as goal
-use Rattle.packet_view.proofs.capture.read_capture.Goals.{After-read_records}
 
-header : (c : After-read_records) → IsHeaderOf c.in_ok-order.order c.args.bytes.now
-header c = record {
-  right = c.in_ok-order.ensures.ok;
-  one = λ other right. let e = c.in_ok-order.ensures.accepts other right in cc;
-  none = λ found h. let e = c.in_ok-order.ensures.refuses found h in cc;
-}
+pub returns-in_err-records-clause-accepts : goal.returns-in_err-records-clause-accepts
+returns-in_err-records-clause-accepts c = λ packets end is. absurd (c.in_err-records.ensures.accepts packets end is)
 
-reads : (c : After-read_records) → Reads c.in_ok-order.order (drop 24 c.args.bytes.now) c.read_records.result
-reads c = subst (λ (bytes : List ℕ). Reads c.in_ok-order.order bytes c.read_records.result) (take_rest c.args.bytes.now 24) c.read_records.ensures
-
-pub returns-clause-ok : goal.returns-clause-ok
-returns-clause-ok c = reads_ok c.in_ok-order.order c.args.bytes.now (header c) c.read_records.result (reads c)
-
-pub returns-clause-fault : goal.returns-clause-fault
-returns-clause-fault c = reads_fault c.in_ok-order.order c.args.bytes.now (header c) c.read_records.result (reads c)
-
-pub returns-clause-memory : goal.returns-clause-memory
-returns-clause-memory c = reads_memory c.in_ok-order.order c.args.bytes.now (header c) c.read_records.result (reads c)
+pub returns-in_err-push-clause-memory : goal.returns-in_err-push-clause-memory
+returns-in_err-push-clause-memory c =
+    let given = err_from_is_err_and c.from_residual-in_err-push.result c.from_residual-in_err-push.ensures.1 in
+    let taken = c.in-Some.ensures in
+    rw given.1 (λ _. has_record c.args.bytes.now (packets_of c.in_ok-records.field-0.records) _ (map seen c.packets.packets.items) (packets_of c.next.new.self) (seen c.in-Some.packet)
+    c.in_ok-records.ensures.ok (ap (λ ps. map seen c.packets.packets.items ++ ps) (sym taken) ∙ c.packets.invariant))
 
 pub returns-clause-accepts : goal.returns-clause-accepts
-returns-clause-accepts c = reads_accepts c.in_ok-order.order c.args.bytes.now (header c) c.read_records.result (reads c)
-
-pub returns-clause-refuses : goal.returns-clause-refuses
-returns-clause-refuses c = reads_refuses c.in_ok-order.order c.args.bytes.now (header c) c.read_records.result (reads c)
+returns-clause-accepts c = λ packets end is.
+    let accepted = c.in_ok-records.ensures.accepts packets end is in
+    let none = c.in_default.ensures in
+    let all = append-nil (map seen c.packets.packets.items) in (
+      sym all ∙ (ap (λ ps. map seen c.packets.packets.items ++ ps) (sym none.0) ∙ (c.packets.invariant ∙ accepted.0)),
+      accepted.1,
+    )

@@ -1,0 +1,57 @@
+use Rattle.std.proofs.Common.{◌≡◌, ◌∙◌, ◌≤◌, ◌++◌, ◌∷◌, [], ◌+◌, List, ap, arith, length, refl, subst, sym, length-append}
+use Rattle.packet_view.specs.Captures.{AreRecords, IsEnd, Seen, end_of}
+use Rattle.packet_view.specs.RecordLists.{packets_in, bytes_of}
+use Rattle.packet_view.proofs.RecordLemmas.{AreRecords-push}
+use Rattle.packet_view.proofs.RecordListLemmas.{records_few, records_listed, records_within}
+use Rattle.packet_view.proofs.capture.check_records.Goals as goal
+use Rattle.packet_view.proofs.capture.check_records.Goals.{in-End, in-Truncated}
+
+pub records-init : goal.records-init
+records-init c = ([], refl, refl)
+
+pub overflow_add-count : goal.overflow_add-count
+overflow_add-count c =
+    let (packets, all, count) = c.records.invariant in
+    let few = records_within c.args.order c.args.bytes.now packets c.records.rest.now all in
+    omega arith
+
+pub records-preserved : goal.records-preserved
+records-preserved c =
+    let (packets, all, count) = c.records.invariant in
+    let packet : Seen = record { moment = c.in-Whole.moment; frame = c.in-Whole.frame.now } in
+    let pushed = length-append packets (packet ∷ []) in (
+      packets ++ packet ∷ [],
+      AreRecords-push c.args.order packet c.in-Whole.behind.now c.args.bytes.now packets c.records.rest.now all c.in-Whole.ensures.shown,
+      omega arith,
+    )
+
+pub overflow_add-result : goal.overflow_add-result
+overflow_add-result c =
+    let (packets, all, count) = c.records.invariant in
+    let few = records_within c.args.order c.args.bytes.now packets c.records.rest.now all in
+    omega arith
+
+pub returns-in-TooLong : goal.returns-in-TooLong
+returns-in-TooLong c =
+    let (packets, all, count) = c.records.invariant in
+    (packets, c.records.rest.now, all, c.in-TooLong.ensures.shown, ap (λ n. n + 1) (sym count))
+
+pub invariant_of-records : goal.invariant_of-records
+invariant_of-records c =
+    let (packets, all, count) = c.records.invariant in
+    let listed = records_listed c.args.order c.args.bytes.now packets c.records.rest.now all in
+    let size = listed.1 in
+    record { whole = subst (λ n. bytes_of c.args.order n c.args.bytes.now ≤ length c.args.bytes.now) count (omega arith) }
+
+pub returns-in-records : goal.returns-in-records
+returns-in-records c =
+    let (packets, all, count) = c.records.invariant in
+    let listed = records_listed c.args.order c.args.bytes.now packets c.records.rest.now all in
+    let same : packets ≡ packets_in c.args.order c.records.count c.args.bytes.now = listed.0 ∙ ap (λ n. packets_in c.args.order n c.args.bytes.now) count in (
+      c.records.rest.now,
+      subst (λ (ps : List Seen). AreRecords c.args.order c.args.bytes.now ps c.records.rest.now) same all,
+      elim c.match-next_record.branch [
+        | in-End w ↦ subst (λ t. IsEnd c.args.order c.records.rest.now (end_of t)) (sym w.truncated-is) w.in-End.ensures.shown
+        | in-Truncated w ↦ subst (λ t. IsEnd c.args.order c.records.rest.now (end_of t)) (sym w.truncated-is) w.in-Truncated.ensures.shown
+      ],
+    )

@@ -1,0 +1,49 @@
+//! Packets that are taken one by one.
+ghost use Rattle.std.specs.Prelude.{◌≡◌, length};
+ghost use Rattle.packet_view.specs.Captures.{Takes};
+ghost use Rattle.packet_view.specs.CheckedCaptures.{held};
+
+use crate::capture::Packet;
+use crate::records::Records;
+
+/// Packets that are taken one by one, in their order. A copy has a front of its own.
+#[derive(Clone, Copy, Debug)]
+pub enum Packets<'a> {
+    /// From a list.
+    Listed(&'a [Packet<'a>]),
+    /// From a capture's records, where they stand.
+    Standing(Records<'a>),
+}
+
+impl<'a> Packets<'a> {
+    /// How many packets are left.
+    pub fn count(&self) -> usize
+        ensures { result ≡ length (held self.now) }
+    {
+        match self {
+            Packets::Listed(packets) => packets.len(),
+            Packets::Standing(records) => records.count(),
+        }
+    }
+
+    /// Takes the first packet that is left.
+    #[inline]
+    pub fn next(&mut self) -> Option<Packet<'a>>
+        ensures { Takes (held self.old) result (held self.new) }
+    {
+        match *self {
+            Packets::Listed(packets) => {
+                if packets.is_empty() {
+                    return None;
+                }
+                *self = Packets::Listed(&packets[1..]);
+                Some(packets[0])
+            }
+            Packets::Standing(mut records) => {
+                let packet = records.next();
+                *self = Packets::Standing(records);
+                packet
+            }
+        }
+    }
+}
