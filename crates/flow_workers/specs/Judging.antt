@@ -41,7 +41,7 @@ abbrev pub IsAway : Layout → FlowKey → Views → Views → Type 0
 IsAway l (Four key) v w = IsTurnedAway l.four v.four w.four (bucket_of l.four key) × (w.six ≡ v.six)
 IsAway l (Six key) v w = IsTurnedAway l.six v.six w.six (bucket_of l.six key) × (w.four ≡ v.four)
 
--- The packet met another caller; only a packet with a flow can.
+-- The packet met another caller's change or lock; only a packet with a flow can.
 pub record IsRefused (l : Layout) (times : Timeouts) (policy : PolicyFacts) (packet : Seen) (v w : Views) : Type 0 where
   pub reading : Reading
   pub read : IsReading policy packet reading

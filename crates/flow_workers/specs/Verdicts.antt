@@ -18,7 +18,7 @@ abbrev pub HasVerdict : {A B K L : Type 0} (ga : Ghosts A K) (gb : Ghosts B L) �
 HasVerdict ga gb times policy s old new verdict =
     IsJudged (layout_of ga gb) times policy s (views_of ga gb old) (views_of ga gb new) verdict
 
--- the packet met another caller
+-- the packet met another caller's change or lock
 abbrev pub HasNoVerdict : {A B K L : Type 0} (ga : Ghosts A K) (gb : Ghosts B L) → Timeouts → PolicyFacts → Seen
     → Callers A B K L ga gb → Callers A B K L ga gb → Type 0
 HasNoVerdict ga gb times policy s old new = IsRefused (layout_of ga gb) times policy s (views_of ga gb old) (views_of ga gb new)

@@ -77,7 +77,7 @@ fn judge_as<A: Shape, B: Shape, D: HasRuling, R: Wait>(
     }
 }
 
-/// The verdict on a packet that was viewed. It waits where another caller holds a lock.
+/// The verdict on a packet that was viewed. It tries again where another caller's change or lock was met.
 pub fn judge_viewed<A: Shape, B: Shape, R: Wait>(
     rt: &R,
     filter: &ReadyFilter<'_>,
@@ -97,7 +97,7 @@ pub fn judge_viewed<A: Shape, B: Shape, R: Wait>(
     judge_as::<A, B, Brand, R>(rt, filter, tables, callers, packet)
 }
 
-/// The verdict on a packet. It waits where another caller holds a lock.
+/// The verdict on a packet. It tries again where another caller's change or lock was met.
 pub fn judge<A: Shape, B: Shape, R: Wait>(
     rt: &R,
     filter: &Filter,
@@ -121,8 +121,8 @@ pub fn judge<A: Shape, B: Shape, R: Wait>(
     judge_viewed(rt, &filter, tables, callers, &packet)
 }
 
-/// The verdict on a packet, by one try. `Contended`: another caller's lock was met. A packet that takes no part in
-/// sessions meets none, and nor does one whose callers are lone.
+/// The verdict on a packet, by one try. `Contended`: another caller's change or lock was met. A packet that takes no
+/// part in sessions meets none, and nor does one whose callers are lone.
 pub fn try_judge<A: Shape, B: Shape>(
     filter: &Filter,
     tables: &Tables<A, B>,
