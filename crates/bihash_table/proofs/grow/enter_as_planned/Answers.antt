@@ -24,27 +24,21 @@ pub read_block-requires-clause-sized : goal.read_block-requires-clause-sized
 read_block-requires-clause-sized g c = subst (CountsPlaces (sizes_of g.S.Shape) c.args.seen.now.word) (sym (length-take-le c.place_count.result
     c.args.old.now (omega (arith, c.place_count.ensures.few, c.requires.room.0)))) c.place_count.ensures
 
-pub larger-requires-clause-small : goal.larger-requires-clause-small
-larger-requires-clause-small g c =
-    let z = sizes_of g.S.Shape in
-    let v = c.args.seat.now.view in
-    let h = c.requires.wants.seen.seen in
-    let e = h.extent in
-    let tells = word_notes z v c.args.seen.now.word e h.block in
-    omega (arith, tells.small, log2_is z c.args.seen.now.word e tells c.log2.result c.log2.ensures)
-
-pub larger-requires-clause-sized : goal.larger-requires-clause-sized
-larger-requires-clause-sized g c =
+pub larger-requires : goal.larger-requires
+larger-requires g c =
     let z = sizes_of g.S.Shape in
     let v = c.args.seat.now.view in
     let h = c.requires.wants.seen.seen in
     let e = h.extent in
     let tells = word_notes z v c.args.seen.now.word e h.block in
     let log2_at = log2_is z c.args.seen.now.word e tells c.log2.result c.log2.ensures in
-    sized e.page c.log2.result (length c.read_block.new.out) (c.read_block.ensures.sized
-    ∙ places_read e.page e.page e.log2 c.place_count.result _ c.args.old.now refl
-    (c.place_count.ensures.count e tells) c.place_count.ensures.few c.requires.room.0
-    ∙ ap (places e.page) (sym log2_at))
+    record {
+      pages = record { shape = c.is_sound.ensures; small = omega (arith, tells.small, log2_at) };
+      sized = sized e.page c.log2.result (length c.read_block.new.out) (c.read_block.ensures.sized
+          ∙ places_read e.page e.page e.log2 c.place_count.result _ c.args.old.now refl
+          (c.place_count.ensures.count e tells) c.place_count.ensures.few c.requires.room.0
+          ∙ ap (places e.page) (sym log2_at));
+    }
 
 pub answer-requires : goal.answer-requires
 answer-requires g c =
@@ -81,11 +75,14 @@ slice_bounds-new-end-2 g c =
     let few : 2 ^ c.in-Grow.log2 ≤ 2 ^ g.S.Shape.MAX_LOG2 = pow_mono small in
     omega (arith, c.places_of.ensures, c.requires.room.1, length-take c.places_of.result c.args.new.now)
 
-pub lay-requires-clause-sized : goal.lay-requires-clause-sized
-lay-requires-clause-sized g c =
+pub lay-requires : goal.lay-requires
+lay-requires g c =
     let small : c.in-Grow.log2 ≤ g.S.Shape.MAX_LOG2 = c.in-Grow.ensures.safe in
     let few : 2 ^ c.in-Grow.log2 ≤ 2 ^ g.S.Shape.MAX_LOG2 = pow_mono small in
-    omega (arith, c.places_of.ensures, c.requires.room.1, length-take c.places_of.result c.args.new.now)
+    record {
+      pages = record { shape = c.is_sound.ensures; small = small };
+      sized = omega (arith, c.places_of.ensures, c.requires.room.1, length-take c.places_of.result c.args.new.now);
+    }
 
 pub lock_seen-requires-clause-own : goal.lock_seen-requires-clause-own
 lock_seen-requires-clause-own g c = own_through c.args.seat.now _ _ c.read_block.ensures.read.same c.requires.wants.own
