@@ -59,17 +59,3 @@ took_by_tries u v w n reply before first last =
       took = subst (λ (k : ℕ). TookAtMost u w (k + try_locks (Ok reply))) same
           (took_then u v w n (try_locks (Ok reply)) before last);
     }
-
--- one try was turned away, and the call was answered by more
-pub took_again : (u v w : View) (reply : Reply) → TookAtMost u v 1 → (u.lone ≡ true → ⊥) → TookByTries v w reply → TookByTries u w reply
-took_again u v w reply first crowd t =
-    let n : ℕ = t.tries in
-    let last : ℕ = try_locks (Ok reply) in
-    let some = t.some in
-    let same : 1 + (n - 1 + last) ≡ n + 1 - 1 + last = omega arith in
-    record {
-      tries = n + 1;
-      some = omega arith;
-      alone = λ lone. absurd (crowd lone);
-      took = subst (λ (k : ℕ). TookAtMost u w k) same (took_then u v w 1 (n - 1 + last) first t.took);
-    }

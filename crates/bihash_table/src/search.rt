@@ -46,26 +46,12 @@ impl<S: Shape> Sessions<S> {
         requires free { caller.old.seat.view.holds ≡ nothing_held }
         ensures { TellsSearch ⟦<S as Shape>⟧ caller.old.seat caller.new.seat key.now result }
     {
-        let Ok(found) = self.try_search(caller, key) else {
-            return self.search_again(rt, caller, key);
-        };
-        found
-    }
-
-    // The same behind a try that met another caller, which is seldom. It stands apart, so that the first try is
-    // straight code.
-    #[inline(never)]
-    fn search_again<R: Wait>(&self, rt: &R, caller: &mut Caller<S>, key: &S::Key) -> Option<u64>
-        requires own { caller.old.seat.row ≡ self.now.row }
-        requires free { caller.old.seat.view.holds ≡ nothing_held }
-        ensures { TellsSearch ⟦<S as Shape>⟧ caller.old.seat caller.new.seat key.now result }
-    {
         let backoff = Backoff::new();
         for _ in rt.forever() {
-            backoff.snooze();
             if let Ok(found) = self.try_search(caller, key) {
                 return found;
             }
+            backoff.snooze();
         }
         unreachable!()
     }

@@ -25,32 +25,12 @@ impl<S: Shape> Sessions<S> {
         requires free { caller.old.seat.view.holds ≡ nothing_held }
         ensures { TellsUpdate ⟦<S as Shape>⟧ caller.old.seat caller.new.seat key.now (P.decision patch.now) result }
     {
-        let Ok(reply) = self.try_update(caller, key, patch) else {
-            return self.update_again(rt, caller, key, patch);
-        };
-        reply
-    }
-
-    // The same behind a try that met another caller, which is seldom. It stands apart, so that the first try is
-    // straight code.
-    #[inline(never)]
-    fn update_again<P: Patch, R: Wait>(
-        &self,
-        rt: &R,
-        caller: &mut Caller<S>,
-        key: &S::Key,
-        patch: &P,
-    ) -> Reply
-        requires own { caller.old.seat.row ≡ self.now.row }
-        requires free { caller.old.seat.view.holds ≡ nothing_held }
-        ensures { TellsUpdate ⟦<S as Shape>⟧ caller.old.seat caller.new.seat key.now (P.decision patch.now) result }
-    {
         let backoff = Backoff::new();
         for _ in rt.forever() {
-            backoff.snooze();
             if let Ok(reply) = self.try_update(caller, key, patch) {
                 return reply;
             }
+            backoff.snooze();
         }
         unreachable!()
     }
