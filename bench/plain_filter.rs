@@ -132,7 +132,7 @@ fn rule(words: &[&str]) -> Rule {
     rule
 }
 
-/// The policy, and where the capture begins, which stands behind `pcap`.
+/// The policy, and where the capture begins, which follows `pcap`.
 fn read_policy(input: &[u8]) -> (Policy, usize) {
     let mut policy = Policy::default();
     let mut at = 0;

@@ -4,7 +4,7 @@ use Rattle.std.specs.Prelude.{option_map, position}
 use Rattle.std.specs.List.{zip}
 use Rattle.std.proofs.lemmas.Bool.{and_left, and_parts, and_right, cases_Bool, eqb-true}
 use Rattle.acl_policy.specs.Numerals.{ArePieces, IsGroup}
-use Rattle.acl_policy.specs.Reading.Prefixes.{cut_double_in, is_double}
+use Rattle.acl_policy.specs.inner.Reading.Prefixes.{cut_double_in, is_double}
 use Rattle.acl_policy.proofs.NumeralLaws.{Lacks}
 use Rattle.acl_policy.proofs.OptionLemmas.{map_some, same_some}
 use Rattle.acl_policy.proofs.PieceLaws.{Lacks-IsGroup}

@@ -2,7 +2,7 @@
 use Rattle.std.specs.Prelude.{slice_get, bit_and}
 use Rattle.std.proofs.Common.{◌≡◌, ◌<◌, ◌≤◌, ◌⊎◌, ℕ, zero, suc, List, [], ◌∷◌, Option, Some, None, refl, sym, subst, inl, inr, arith}
 use Rattle.std.proofs.lemmas.Bool.{cases_eq, cases_lt}
-use Rattle.packet_view.specs.Tuples.{Facts}
+use Rattle.packet_view.specs.Tuples.{TupleFacts}
 use Rattle.packet_view.specs.declared.tuple.Family.{Family}
 use Rattle.packet_view.specs.declared.tuple.Family.TheVariants.{V4, V6}
 use Rattle.packet_view.specs.declared.tuple.Fields.{Fields}
@@ -54,12 +54,12 @@ has_fields rule (Icmp kind code) = both (IsIn rule.first kind) (IsIn rule.second
 has_prefix : (family : Family) (prefix : ℕ × ℕ) (address : ℕ) → Decided (HoldsPrefix family prefix address)
 has_prefix family prefix address = cases_eq _ _
 
-holds_protocol : (rule : RuleFacts) (tuple : Facts) → Decided (HoldsProtocol rule tuple)
+holds_protocol : (rule : RuleFacts) (tuple : TupleFacts) → Decided (HoldsProtocol rule tuple)
 holds_protocol rule tuple =
     either (rule.proto ≡ 0) ((rule.proto ≡ tuple.proto) × HasFields rule tuple.fields) (cases_eq rule.proto 0)
     (both (rule.proto ≡ tuple.proto) (HasFields rule tuple.fields) (cases_eq rule.proto tuple.proto) (has_fields rule tuple.fields))
 
-matches : (rule : RuleFacts) (tuple : Facts) → Decided (Matches rule tuple)
+matches : (rule : RuleFacts) (tuple : TupleFacts) → Decided (Matches rule tuple)
 matches rule tuple =
     elim (same_family rule.family tuple.family) [
       | inl family ↦ elim (all_three (HoldsPrefix tuple.family rule.source tuple.source) (HoldsPrefix tuple.family rule.dest tuple.dest) (HoldsProtocol rule tuple)
@@ -71,25 +71,25 @@ matches rule tuple =
     ]
 
 -- no place before the rest holds a rule that matches, where the first one doesn't
-unmatched : (rule : RuleFacts) (rules : List RuleFacts) (tuple : Facts) (bound : ℕ) → (Matches rule tuple → ⊥)
+unmatched : (rule : RuleFacts) (rules : List RuleFacts) (tuple : TupleFacts) (bound : ℕ) → (Matches rule tuple → ⊥)
     → ((k : ℕ) (other : RuleFacts) → k < bound → slice_get rules k ≡ Some other → Matches other tuple → ⊥)
     → (k : ℕ) (other : RuleFacts) → k < suc bound → slice_get (rule ∷ rules) k ≡ Some other → Matches other tuple → ⊥
 unmatched rule rules tuple bound fails none zero other before read m = let same : rule ≡ other = cc in fails (subst (λ r. Matches r tuple) (sym same) m)
 unmatched rule rules tuple bound fails none (suc k) other before read m = let less : k < bound = omega (arith, before) in none k other less read m
 
-unmatched_all : (rule : RuleFacts) (rules : List RuleFacts) (tuple : Facts) → (Matches rule tuple → ⊥) → DecidesByDefault rules tuple
+unmatched_all : (rule : RuleFacts) (rules : List RuleFacts) (tuple : TupleFacts) → (Matches rule tuple → ⊥) → DecidesByDefault rules tuple
     → (k : ℕ) (other : RuleFacts) → slice_get (rule ∷ rules) k ≡ Some other → Matches other tuple → ⊥
 unmatched_all rule rules tuple fails none zero other read m = let same : rule ≡ other = cc in fails (subst (λ r. Matches r tuple) (sym same) m)
 unmatched_all rule rules tuple fails none (suc k) other read m = none k other read m
 
--- behind a rule that doesn't match, what decides the rest decides
-behind : (rule : RuleFacts) (rules : List RuleFacts) (tuple : Facts) → (Matches rule tuple → ⊥) → (decision : Option (ℕ × Action)) → IsDecision rules tuple decision
+-- after a rule that doesn't match, what decides the rest decides
+behind : (rule : RuleFacts) (rules : List RuleFacts) (tuple : TupleFacts) → (Matches rule tuple → ⊥) → (decision : Option (ℕ × Action)) → IsDecision rules tuple decision
     → (found : Option (ℕ × Action)) × IsDecision (rule ∷ rules) tuple found
 behind rule rules tuple fails None none = (None, unmatched_all rule rules tuple fails none)
 behind rule rules tuple fails (Some (i, action)) (other, read, m, is, first) =
     (Some (suc i, action), (other, read, m, is, unmatched rule rules tuple i fails first))
 
-pub some_decision : (rules : List RuleFacts) (tuple : Facts) → (decision : Option (ℕ × Action)) × IsDecision rules tuple decision
+pub some_decision : (rules : List RuleFacts) (tuple : TupleFacts) → (decision : Option (ℕ × Action)) × IsDecision rules tuple decision
 some_decision [] tuple = (None, λ k other read m. cc)
 some_decision (rule ∷ rules) tuple =
     elim (matches rule tuple) [

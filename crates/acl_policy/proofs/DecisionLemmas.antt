@@ -3,7 +3,7 @@ use Rattle.std.proofs.Common.{◌≡◌, ℕ, List, Option, Some, None, map, sym
 use Rattle.std.specs.Prelude.{slice_get, option_map}
 use Rattle.std.proofs.lemmas.Bool.{cases_order}
 use Rattle.std.proofs.lemmas.Option.{slice_get-map}
-use Rattle.packet_view.specs.Tuples.{Facts}
+use Rattle.packet_view.specs.Tuples.{TupleFacts}
 use Rattle.acl_policy.specs.declared.rule.Action.{Action}
 use Rattle.acl_policy.specs.declared.rule.Rule.{Rule}
 use Rattle.acl_policy.specs.Matching.{Decides, IsDecision}
@@ -13,13 +13,13 @@ use Rattle.acl_policy.specs.Rules.{RuleFacts, rule_facts}
 pub slice_get-rule_facts : (rules : List Rule) (k : ℕ) (rule : Rule) → slice_get rules k ≡ Some rule → slice_get (map rule_facts rules) k ≡ Some (rule_facts rule)
 slice_get-rule_facts rules k rule read = slice_get-map rule_facts rules k ∙ ap (option_map rule_facts) read
 
-one_place : (rules : List RuleFacts) (tuple : Facts) (i j : ℕ) (a b : Action) → Decides rules tuple i a → Decides rules tuple j b → i ≡ j → b ≡ a
+one_place : (rules : List RuleFacts) (tuple : TupleFacts) (i j : ℕ) (a b : Action) → Decides rules tuple i a → Decides rules tuple j b → i ≡ j → b ≡ a
 one_place rules tuple i j a b one two same =
     let read : slice_get rules i ≡ Some two.0 = subst (λ (k : ℕ). slice_get rules k ≡ Some two.0) (sym same) two.1 in
     let rule : one.0 ≡ two.0 = cc (one.1, read) in
     two.3 ∙ sym (one.3 ∙ ap (λ (r : RuleFacts). r.action) rule)
 
-pub one_decision : (rules : List RuleFacts) (tuple : Facts) (a b : Option (ℕ × Action)) → IsDecision rules tuple a → IsDecision rules tuple b → b ≡ a
+pub one_decision : (rules : List RuleFacts) (tuple : TupleFacts) (a b : Option (ℕ × Action)) → IsDecision rules tuple a → IsDecision rules tuple b → b ≡ a
 one_decision rules tuple None None one two = cc
 one_decision rules tuple None (Some b) one two = absurd (one b.0 two.0 two.1 two.2)
 one_decision rules tuple (Some a) None one two = absurd (two a.0 one.0 one.1 one.2)

@@ -5,15 +5,15 @@ use Rattle.std.proofs.Math.Nat.{pow-suc}
 use Rattle.std.proofs.lemmas.Bool.{ne_eqb}
 use Rattle.std.proofs.lemmas.List.{length-append}
 use Rattle.acl_policy.specs.Numerals.{ArePieces, IsGroup, in_base}
-use Rattle.acl_policy.specs.Reading.{◌>>=◌}
-use Rattle.acl_policy.specs.Reading.Numerals.{cut_in, group_in}
-use Rattle.acl_policy.specs.Reading.Prefixes.{groups_after, groups_in, groups_step}
+use Rattle.acl_policy.specs.inner.Reading.{◌>>=◌}
+use Rattle.acl_policy.specs.inner.Reading.Numerals.{cut_in, group_in}
+use Rattle.acl_policy.specs.inner.Reading.Prefixes.{groups_after, groups_in, groups_step}
 use Rattle.acl_policy.proofs.GroupLemmas.{groups_after-suc, groups_in-none, groups_in-some}
 use Rattle.acl_policy.proofs.NumeralLaws.{cut_in-complete, cut_in-none, cut_in-sound, group_in-complete, group_in-sound}
 use Rattle.acl_policy.proofs.OptionLemmas.{bind_some, map_some, same_some}
 use Rattle.acl_policy.proofs.PieceLaws.{Lacks-IsGroup}
 
--- groups in a text, and the number that they make behind another
+-- groups in a text, and the number that they make after another
 pub record AreGroups (most number count : ℕ) (text : List ℕ) (made : ℕ × ℕ) : Type 0 where
   pub groups : List ℕ
   pub are : ArePieces 58 IsGroup text groups

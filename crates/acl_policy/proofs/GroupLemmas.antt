@@ -3,8 +3,8 @@ use Rattle.std.proofs.Common.{◌≡◌, ℕ, suc, ◌+◌, ◌-◌, ◌*◌, �
 use Rattle.std.proofs.Math.Nat.{mul-le-mul_right, pow-le-pow_right}
 use Rattle.std.proofs.lemmas.Bool.{cond-false, cond-true}
 use Rattle.std.proofs.lemmas.Grind.{pow_more}
-use Rattle.acl_policy.specs.Reading.Numerals.{cut_in}
-use Rattle.acl_policy.specs.Reading.Prefixes.{groups_after, groups_in, groups_step}
+use Rattle.acl_policy.specs.inner.Reading.Numerals.{cut_in}
+use Rattle.acl_policy.specs.inner.Reading.Prefixes.{groups_after, groups_in, groups_step}
 
 -- eight groups fit 128 bits
 pub groups-fit : (number group count : ℕ) → number < 65536 ^ count → group < 65536 → count < 8 → number * 65536 + group < 2 ^ 128

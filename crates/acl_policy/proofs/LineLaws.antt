@@ -9,10 +9,10 @@ use Rattle.packet_view.specs.declared.tuple.Family.TheVariants.{V4, V6}
 use Rattle.acl_policy.specs.declared.rule.Action.{Action}
 use Rattle.acl_policy.specs.declared.rule.Action.TheVariants.{Deny, Permit, Reflect}
 use Rattle.acl_policy.specs.Lines.{Blank, IsLine, LineFacts, Own, Ruled, Say, action_word, direction_word, family_word, traffic_of}
-use Rattle.acl_policy.specs.Reading.{next_in}
-use Rattle.acl_policy.specs.Reading.Lines.{action_in, direction_in, ends_in, family_in, head_in, line_in, own_line_in, rule_line_in, said_in}
-use Rattle.acl_policy.specs.Reading.Prefixes.{mac_in, prefix_in}
-use Rattle.acl_policy.specs.Reading.Traffic.{traffic_in}
+use Rattle.acl_policy.specs.inner.Reading.{next_in}
+use Rattle.acl_policy.specs.inner.Reading.Lines.{action_in, direction_in, ends_in, family_in, head_in, line_in, own_line_in, rule_line_in, said_in}
+use Rattle.acl_policy.specs.inner.Reading.Prefixes.{mac_in, prefix_in}
+use Rattle.acl_policy.specs.inner.Reading.Traffic.{traffic_in}
 use Rattle.acl_policy.specs.Words.{without_comment, words_of}
 use Rattle.acl_policy.proofs.OptionLemmas.{bind_some, bytes_eq-true, chosen, if_last-some, next_in-some, same_some}
 use Rattle.acl_policy.proofs.PieceLaws.{mac_in-complete, mac_in-sound}
@@ -62,7 +62,7 @@ family_in-complete : (family : Family) → family_in (family_word family) ≡ So
 family_in-complete V4 = refl
 family_in-complete V6 = refl
 
--- the first word and those behind it
+-- the first word and those after it
 next_is : (words : List (List ℕ)) (next : List ℕ × List (List ℕ)) → next_in words ≡ Some next → words ≡ next.0 ∷ next.1
 next_is words next found = next_in-some words next.0 next.1 found
 

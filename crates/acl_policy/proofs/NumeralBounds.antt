@@ -17,7 +17,7 @@ number-fits base n d i small below digit few =
     let more : i + 1 ≤ 5 = omega arith in
     omega (arith, number-lt base n d i small below digit, pow-le-pow_right {n = 16} (lit< tt) more)
 
--- The first digit behind a number makes the next one.
+-- The first digit after a number makes the next one.
 pub digits_value_after-drop : (base n i x : ℕ) (word : List ℕ) → i < length word → x ≡ digit_value (get_or word i 0)
     → digits_value_after base n (drop i word) ≡ digits_value_after base (n * base + x) (drop (i + 1) word)
 digits_value_after-drop base n i x word within digit = rw (add-one, drop-cons word i 0, digit) refl

@@ -7,7 +7,7 @@ use Rattle.std.specs.Str.{bytes_eq}
 use Rattle.std.specs.Str.Parse.{AllDigits, digits_value}
 use Rattle.std.proofs.lemmas.Bool.{and_from, and_parts, cases_Bool, eqb-false, eqb-true, eq-eqb, le-leb, leb-true, lt-ltb, ltb-true, ne_eqb, not-true, not_from_false}
 use Rattle.acl_policy.specs.Numerals.{IsGroup, IsNumber, IsOctet, IsPair, Spells}
-use Rattle.acl_policy.specs.Reading.Numerals.{cut_in, group_in, is_numeral, number_in, numeral_in, octet_in, pair_in}
+use Rattle.acl_policy.specs.inner.Reading.Numerals.{cut_in, group_in, is_numeral, number_in, numeral_in, octet_in, pair_in}
 use Rattle.acl_policy.proofs.OptionLemmas.{at_most-le, at_most-some, bind_some, bytes_eq-false, chosen, guarded, map_some, same_some}
 use Rattle.acl_policy.proofs.PlaceLemmas.{position-here, position-past}
 

@@ -4,7 +4,7 @@ use Rattle.std.specs.Prelude.{nat_le, option_map}
 use Rattle.std.specs.Str.{bytes_eq}
 use Rattle.std.proofs.lemmas.Bool.{false_from_ne_true, le-leb, leb-true}
 use Rattle.std.proofs.lemmas.Slice.Eq.{bytes_eq-Decides}
-use Rattle.acl_policy.specs.Reading.{at_most, if_last, next_in, ◌>>=◌}
+use Rattle.acl_policy.specs.inner.Reading.{at_most, if_last, next_in, ◌>>=◌}
 
 pub bind_some : {A B : Type 0} (o : Option A) (f : A → Option B) (y : B) → (o >>= f) ≡ Some y → (x : A) × (o ≡ Some x) × (f x ≡ Some y)
 bind_some None f y h = absurd (cc)

@@ -2,8 +2,8 @@
 use Rattle.std.proofs.Common.{◌≡◌, ℕ, false, List, [], ◌∷◌, ◌++◌, Option, Some, None, refl, sym, ap, ◌∙◌, subst, append_assoc}
 use Rattle.std.specs.Prelude.{option_map}
 use Rattle.std.specs.Str.{bytes_eq}
-use Rattle.acl_policy.specs.Reading.{next_in}
-use Rattle.acl_policy.specs.Reading.Traffic.{behind_in, flags_in, part_in, range_in, ranges_in, value_in}
+use Rattle.acl_policy.specs.inner.Reading.{next_in}
+use Rattle.acl_policy.specs.inner.Reading.Traffic.{behind_in, flags_in, part_in, range_in, ranges_in, value_in}
 use Rattle.acl_policy.specs.Traffic.{IsFlags, IsPart, IsRange, every}
 use Rattle.acl_policy.proofs.OptionLemmas.{bind_some, bytes_eq-same, bytes_eq-true, guarded, map_some, next_in-some, same_some}
 use Rattle.acl_policy.proofs.RangeLaws.{flags_in-complete, flags_in-sound, range_in-complete, range_in-sound}

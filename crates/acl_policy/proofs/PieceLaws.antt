@@ -4,8 +4,8 @@ use Rattle.std.specs.Char.{digit_value}
 use Rattle.packet_view.specs.declared.tuple.Mac.{Mac}
 use Rattle.acl_policy.specs.Numerals.{ArePieces, IsGroup, IsNumber, IsOctet, IsPair, in_base}
 use Rattle.acl_policy.specs.Prefixes.{IsFourParts, IsMac}
-use Rattle.acl_policy.specs.Reading.Numerals.{cut_in, octet_in, pair_in, piece_in}
-use Rattle.acl_policy.specs.Reading.Prefixes.{four_parts_in, mac_in}
+use Rattle.acl_policy.specs.inner.Reading.Numerals.{cut_in, octet_in, pair_in, piece_in}
+use Rattle.acl_policy.specs.inner.Reading.Prefixes.{four_parts_in, mac_in}
 use Rattle.acl_policy.proofs.NumeralLaws.{Lacks, Lacks-AllDigits, Lacks-append, cut_in-complete, cut_in-sound, octet_in-complete, octet_in-sound, pair_in-complete, pair_in-sound}
 use Rattle.acl_policy.proofs.OptionLemmas.{bind_some, map_some, same_some}
 

@@ -12,9 +12,9 @@ use Rattle.packet_view.specs.declared.tuple.Mac.{Mac}
 use Rattle.acl_policy.specs.declared.policy.PolicyFault.{PolicyFault}
 use Rattle.acl_policy.specs.declared.policy.PolicyFault.TheVariants.{Memory, NotUtf8, BadLine, TooMany}
 use Rattle.acl_policy.specs.Lines.{Blank, IsLine, LineFacts, Own, Ruled}
-use Rattle.acl_policy.specs.Policies.{AreLines, HasRule, IsOnly, IsSurplus, IsWrong, PolicyFacts, Reads, own_in, rule_in, rules_of}
-use Rattle.acl_policy.specs.Reading.Lines.{line_in}
-use Rattle.acl_policy.specs.Reading.Policies.{Fails, HasRoom, LinesFail, line_added, rule_added, with_inbound, with_outbound}
+use Rattle.acl_policy.specs.Policies.{AreLines, HasRule, IsOnly, IsSurplus, IsWrong, PolicyFacts, AreLinesOf, own_in, rule_in, rules_of}
+use Rattle.acl_policy.specs.inner.Reading.Lines.{line_in}
+use Rattle.acl_policy.specs.inner.Reading.Policies.{Fails, HasRoom, LinesFail, line_added, rule_added, with_inbound, with_outbound}
 use Rattle.acl_policy.specs.Rules.{RuleFacts, most_rules}
 use Rattle.acl_policy.proofs.LineLaws.{line_in-complete, line_in-sound}
 
@@ -33,12 +33,12 @@ more_rules direction rules readings reading are =
     ap (λ (rs : List RuleFacts). rs ++ cons_option (rule_in direction reading) []) are ∙ sym (filter_map-append (rule_in direction) readings (reading ∷ []))
 
 -- One line more, with what it says of the policy.
-Reads-push : (texts : List (List ℕ)) (line : List ℕ) (reading : LineFacts) (policy next : PolicyFacts) → (reads : Reads texts policy) → IsLine line reading
+AreLinesOf-push : (texts : List (List ℕ)) (line : List ℕ) (reading : LineFacts) (policy next : PolicyFacts) → (reads : AreLinesOf texts policy) → IsLine line reading
     → IsOnly (filter_map own_in (reads.readings ++ reading ∷ [])) next.own
     → next.inbound ≡ policy.inbound ++ cons_option (rule_in Inbound reading) []
     → next.outbound ≡ policy.outbound ++ cons_option (rule_in Outbound reading) []
-    → length next.inbound ≤ most_rules → length next.outbound ≤ most_rules → Reads (texts ++ line ∷ []) next
-Reads-push texts line reading policy next reads is own inbound outbound inbound_fits outbound_fits = record {
+    → length next.inbound ≤ most_rules → length next.outbound ≤ most_rules → AreLinesOf (texts ++ line ∷ []) next
+AreLinesOf-push texts line reading policy next reads is own inbound outbound inbound_fits outbound_fits = record {
   readings = reads.readings ++ reading ∷ [];
   lines = AreLines-push texts reads.readings line reading reads.lines is;
   own = own;
@@ -108,12 +108,12 @@ with_outbound-err policy (Err other) fault added = cc
 
 -- What is added to the policy of some lines is what one line more says.
 line_added-ok : (number : ℕ) (texts : List (List ℕ)) (line : List ℕ) (policy next : PolicyFacts) (said : Option LineFacts)
-    → line_in line ≡ said → Reads texts policy → line_added number policy said ≡ Ok next → Reads (texts ++ line ∷ []) next
+    → line_in line ≡ said → AreLinesOf texts policy → line_added number policy said ≡ Ok next → AreLinesOf (texts ++ line ∷ []) next
 line_added-ok number texts line policy next None found reads added = absurd (cc)
 line_added-ok number texts line policy next (Some Blank) found reads added =
     let same : policy ≡ next = cc in
-    subst (λ (p : PolicyFacts). Reads (texts ++ line ∷ []) p) same
-    (Reads-push texts line Blank policy policy reads (line_in-sound line Blank found) (same_own policy.own reads.readings Blank refl reads.own)
+    subst (λ (p : PolicyFacts). AreLinesOf (texts ++ line ∷ []) p) same
+    (AreLinesOf-push texts line Blank policy policy reads (line_in-sound line Blank found) (same_own policy.own reads.readings Blank refl reads.own)
     (sym (append-nil policy.inbound)) (sym (append-nil policy.outbound)) reads.inbound_fits reads.outbound_fits)
 line_added-ok number texts line policy next (Some (Own mac)) found reads added = elim (cases_Bool (is_some policy.own)) [
   | inl second ↦
@@ -122,38 +122,38 @@ line_added-ok number texts line policy next (Some (Own mac)) found reads added =
   | inr none ↦
       let named : line_added number policy (Some (Own mac)) ≡ Ok (record policy { own = Some mac }) = rw none refl in
       let same : record policy { own = Some mac } ≡ next = cc in
-      subst (λ (p : PolicyFacts). Reads (texts ++ line ∷ []) p) same
-      (Reads-push texts line (Own mac) policy (record policy { own = Some mac }) reads (line_in-sound line (Own mac) found) (first_own policy.own reads.readings mac none reads.own)
+      subst (λ (p : PolicyFacts). AreLinesOf (texts ++ line ∷ []) p) same
+      (AreLinesOf-push texts line (Own mac) policy (record policy { own = Some mac }) reads (line_in-sound line (Own mac) found) (first_own policy.own reads.readings mac none reads.own)
       (sym (append-nil policy.inbound)) (sym (append-nil policy.outbound)) reads.inbound_fits reads.outbound_fits)
 ]
 line_added-ok number texts line policy next (Some (Ruled Inbound rule)) found reads added =
     let more = with_inbound-ok policy next (rule_added number policy.inbound rule) added in
     let rules = rule_added-ok number policy.inbound more.0 rule more.1 in
-    subst (λ (p : PolicyFacts). Reads (texts ++ line ∷ []) p) (sym more.2)
-    (Reads-push texts line (Ruled Inbound rule) policy (record policy { inbound = more.0 }) reads (line_in-sound line (Ruled Inbound rule) found)
+    subst (λ (p : PolicyFacts). AreLinesOf (texts ++ line ∷ []) p) (sym more.2)
+    (AreLinesOf-push texts line (Ruled Inbound rule) policy (record policy { inbound = more.0 }) reads (line_in-sound line (Ruled Inbound rule) found)
     (same_own policy.own reads.readings (Ruled Inbound rule) refl reads.own) rules.0 (sym (append-nil policy.outbound)) rules.1 reads.outbound_fits)
 line_added-ok number texts line policy next (Some (Ruled Outbound rule)) found reads added =
     let more = with_outbound-ok policy next (rule_added number policy.outbound rule) added in
     let rules = rule_added-ok number policy.outbound more.0 rule more.1 in
-    subst (λ (p : PolicyFacts). Reads (texts ++ line ∷ []) p) (sym more.2)
-    (Reads-push texts line (Ruled Outbound rule) policy (record policy { outbound = more.0 }) reads (line_in-sound line (Ruled Outbound rule) found)
+    subst (λ (p : PolicyFacts). AreLinesOf (texts ++ line ∷ []) p) (sym more.2)
+    (AreLinesOf-push texts line (Ruled Outbound rule) policy (record policy { outbound = more.0 }) reads (line_in-sound line (Ruled Outbound rule) found)
     (same_own policy.own reads.readings (Ruled Outbound rule) refl reads.own) (sym (append-nil policy.inbound)) rules.0 reads.inbound_fits rules.1)
 
-pub Reads-line_added : (number : ℕ) (texts : List (List ℕ)) (line : List ℕ) (policy next : PolicyFacts)
-    → Reads texts policy → line_added number policy (line_in line) ≡ Ok next → Reads (texts ++ line ∷ []) next
-Reads-line_added number texts line policy next reads added = line_added-ok number texts line policy next (line_in line) refl reads added
+pub AreLinesOf-line_added : (number : ℕ) (texts : List (List ℕ)) (line : List ℕ) (policy next : PolicyFacts)
+    → AreLinesOf texts policy → line_added number policy (line_in line) ≡ Ok next → AreLinesOf (texts ++ line ∷ []) next
+AreLinesOf-line_added number texts line policy next reads added = line_added-ok number texts line policy next (line_in line) refl reads added
 
--- the fault of a line behind a policy
+-- the fault of a line after a policy
 abbrev pub IsFaultAt : PolicyFault → PolicyFacts → List ℕ → ℕ → Type 0
 IsFaultAt fault policy line number = ((fault ≡ BadLine number) × IsWrong policy line) ⊎ ((fault ≡ TooMany number) × IsSurplus policy line)
 
-full : (texts : List (List ℕ)) (policy : PolicyFacts) → Reads texts policy → (direction : Direction) → most_rules ≤ length (rules_of direction policy)
+full : (texts : List (List ℕ)) (policy : PolicyFacts) → AreLinesOf texts policy → (direction : Direction) → most_rules ≤ length (rules_of direction policy)
     → length (rules_of direction policy) ≡ most_rules
 full texts policy reads Inbound many = le_antisymm reads.inbound_fits many
 full texts policy reads Outbound many = le_antisymm reads.outbound_fits many
 
 pub line_added-err : (number : ℕ) (texts : List (List ℕ)) (line : List ℕ) (policy : PolicyFacts) (fault : PolicyFault) (said : Option LineFacts)
-    → line_in line ≡ said → Reads texts policy → line_added number policy said ≡ Err fault → IsFaultAt fault policy line number
+    → line_in line ≡ said → AreLinesOf texts policy → line_added number policy said ≡ Err fault → IsFaultAt fault policy line number
 line_added-err number texts line policy fault None found reads added =
     inl (cc, inl (λ reading is. let other = line_in-complete line reading is in cc))
 line_added-err number texts line policy fault (Some Blank) found reads added = absurd (cc)
@@ -173,7 +173,7 @@ line_added-err number texts line policy fault (Some (Ruled Outbound rule)) found
     inr (many.0, (Outbound, rule, line_in-sound line (Ruled Outbound rule) found, full texts policy reads Outbound many.1))
 
 LinesFail_from : (texts before after : List (List ℕ)) (line : List ℕ) (policy : PolicyFacts) (fault : PolicyFault) (number : ℕ)
-    → texts ≡ before ++ line ∷ after → number ≡ length before + 1 → Reads before policy → IsFaultAt fault policy line number → LinesFail texts fault
+    → texts ≡ before ++ line ∷ after → number ≡ length before + 1 → AreLinesOf before policy → IsFaultAt fault policy line number → LinesFail texts fault
 LinesFail_from texts before after line policy fault number split counted reads (inl wrong) =
     subst (λ (f : PolicyFault). LinesFail texts f) (sym wrong.0) (before, line, after, policy, split, counted, reads, wrong.1)
 LinesFail_from texts before after line policy fault number split counted reads (inr surplus) =
@@ -181,7 +181,7 @@ LinesFail_from texts before after line policy fault number split counted reads (
 
 -- a line for whose rule there is room
 HasRule-from_room : (texts before after : List (List ℕ)) (line : List ℕ) (policy : PolicyFacts) (said : Option LineFacts)
-    → line_in line ≡ said → texts ≡ before ++ line ∷ after → Reads before policy → HasRoom policy said → HasRule texts
+    → line_in line ≡ said → texts ≡ before ++ line ∷ after → AreLinesOf before policy → HasRoom policy said → HasRule texts
 HasRule-from_room texts before after line policy None found split reads room = absurd room
 HasRule-from_room texts before after line policy (Some Blank) found split reads room = absurd room
 HasRule-from_room texts before after line policy (Some (Own mac)) found split reads room = absurd room
@@ -189,7 +189,7 @@ HasRule-from_room texts before after line policy (Some (Ruled direction rule)) f
     (before, line, after, policy, direction, rule, split, reads, line_in-sound line (Ruled direction rule) found, room)
 
 pub LinesFail-line_added : (texts before after : List (List ℕ)) (line : List ℕ) (policy : PolicyFacts) (fault : PolicyFault) (number : ℕ)
-    → texts ≡ before ++ line ∷ after → number ≡ length before + 1 → Reads before policy
+    → texts ≡ before ++ line ∷ after → number ≡ length before + 1 → AreLinesOf before policy
     → Fails (HasRoom policy (line_in line)) (line_added number policy (line_in line)) fault → LinesFail texts fault
 LinesFail-line_added texts before after line policy Memory number split counted reads fails =
     HasRule-from_room texts before after line policy (line_in line) refl split reads fails
@@ -211,13 +211,13 @@ line_at texts k line within read =
     let short : k ≤ length texts = omega arith in
     (more, whole ∙ split, length-take-le k texts short)
 
-pub Reads-take : (number : ℕ) (texts : List (List ℕ)) (k : ℕ) (line : List ℕ) (policy next : PolicyFacts) → k < length texts → line ≡ get_or texts k line
-    → Reads (take k texts) policy → line_added number policy (line_in line) ≡ Ok next → Reads (take (k + 1) texts) next
-Reads-take number texts k line policy next within read reads added =
-    subst (λ (ls : List (List ℕ)). Reads ls next) (sym (line_at texts k line within read).0) (Reads-line_added number (take k texts) line policy next reads added)
+pub AreLinesOf-take : (number : ℕ) (texts : List (List ℕ)) (k : ℕ) (line : List ℕ) (policy next : PolicyFacts) → k < length texts → line ≡ get_or texts k line
+    → AreLinesOf (take k texts) policy → line_added number policy (line_in line) ≡ Ok next → AreLinesOf (take (k + 1) texts) next
+AreLinesOf-take number texts k line policy next within read reads added =
+    subst (λ (ls : List (List ℕ)). AreLinesOf ls next) (sym (line_at texts k line within read).0) (AreLinesOf-line_added number (take k texts) line policy next reads added)
 
 pub LinesFail-take : (number : ℕ) (texts : List (List ℕ)) (k : ℕ) (line : List ℕ) (policy : PolicyFacts) (fault : PolicyFault) → k < length texts → line ≡ get_or texts k line
-    → number ≡ k + 1 → Reads (take k texts) policy → Fails (HasRoom policy (line_in line)) (line_added number policy (line_in line)) fault → LinesFail texts fault
+    → number ≡ k + 1 → AreLinesOf (take k texts) policy → Fails (HasRoom policy (line_in line)) (line_added number policy (line_in line)) fault → LinesFail texts fault
 LinesFail-take number texts k line policy fault within read counted reads fails =
     let place = line_at texts k line within read in
     LinesFail-line_added texts (take k texts) (drop (k + 1) texts) line policy fault number place.1 (counted ∙ ap (λ (n : ℕ). n + 1) (sym place.2)) reads fails

@@ -9,9 +9,9 @@ use Rattle.packet_view.specs.declared.tuple.Family.{Family}
 use Rattle.packet_view.specs.declared.tuple.Family.TheVariants.{V4, V6}
 use Rattle.acl_policy.specs.Numerals.{IsGroup, IsNumber, IsOctet, in_base}
 use Rattle.acl_policy.specs.Prefixes.{IsAddress, IsEightGroups, IsPrefix, IsShortened}
-use Rattle.acl_policy.specs.Reading.{at_most, ◌>>=◌}
-use Rattle.acl_policy.specs.Reading.Numerals.{cut_in, number_in}
-use Rattle.acl_policy.specs.Reading.Prefixes.{address_in, all_groups, cut_double_in, groups_address_in, groups_in, prefix_in, prefix_in_parts, six_in_parts, spread}
+use Rattle.acl_policy.specs.inner.Reading.{at_most, ◌>>=◌}
+use Rattle.acl_policy.specs.inner.Reading.Numerals.{cut_in, number_in}
+use Rattle.acl_policy.specs.inner.Reading.Prefixes.{address_in, all_groups, cut_double_in, groups_address_in, groups_in, prefix_in, prefix_in_parts, six_in_parts, spread}
 use Rattle.acl_policy.specs.Widths.{width}
 use Rattle.acl_policy.proofs.ColonLaws.{IsSingle-groups, cut_double-complete, cut_double-none, cut_double-sound}
 use Rattle.acl_policy.proofs.GroupLaws.{groups_in-complete, groups_in-sound, in_base-append, in_base-replicate}

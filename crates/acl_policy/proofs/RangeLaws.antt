@@ -3,9 +3,9 @@ use Rattle.std.proofs.Common.{◌≡◌, ℕ, ◌≤◌, List, Option, Some, Non
 use Rattle.std.specs.Prelude.{nat_le, option_map}
 use Rattle.std.proofs.lemmas.Bool.{le-leb, leb-true}
 use Rattle.acl_policy.specs.Numerals.{IsNumber}
-use Rattle.acl_policy.specs.Reading.{at_most, ◌>>=◌}
-use Rattle.acl_policy.specs.Reading.Numerals.{cut_in, number_in, pair_in}
-use Rattle.acl_policy.specs.Reading.Traffic.{flags_in, number_up_to_in, range_in, range_in_parts}
+use Rattle.acl_policy.specs.inner.Reading.{at_most, ◌>>=◌}
+use Rattle.acl_policy.specs.inner.Reading.Numerals.{cut_in, number_in, pair_in}
+use Rattle.acl_policy.specs.inner.Reading.Traffic.{flags_in, number_up_to_in, range_in, range_in_parts}
 use Rattle.acl_policy.specs.Traffic.{IsFlags, IsRange}
 use Rattle.acl_policy.proofs.NumeralLaws.{cut_in-complete, cut_in-none, cut_in-sound, number_in-complete, number_in-sound, pair_in-complete, pair_in-sound}
 use Rattle.acl_policy.proofs.OptionLemmas.{at_most-le, at_most-some, bind_some, guarded, map_some, same_some}

@@ -11,8 +11,8 @@ use Rattle.packet_view.specs.declared.tuple.Mac.{Mac}
 use Rattle.acl_policy.specs.declared.policy.PolicyFault.{PolicyFault}
 use Rattle.acl_policy.specs.declared.policy.PolicyFault.TheVariants.{Memory, NotUtf8, BadLine, TooMany}
 use Rattle.acl_policy.specs.Lines.{IsLine, LineFacts, Own, Ruled}
-use Rattle.acl_policy.specs.Policies.{AreLines, HasRule, IsFirstFault, IsOnly, IsPolicyFault, IsPolicyText, IsSurplus, IsWrong, PolicyFacts, Reads, own_in, rule_in, rules_of}
-use Rattle.acl_policy.specs.Reading.Policies.{LinesFail}
+use Rattle.acl_policy.specs.Policies.{AreLines, HasRule, IsFirstFault, IsOnly, IsPolicyFault, IsPolicyText, IsSurplus, IsWrong, PolicyFacts, AreLinesOf, own_in, rule_in, rules_of}
+use Rattle.acl_policy.specs.inner.Reading.Policies.{LinesFail}
 use Rattle.acl_policy.specs.Rules.{RuleFacts, most_rules}
 use Rattle.acl_policy.proofs.LineLaws.{line_in-complete}
 
@@ -39,7 +39,7 @@ one_own macs None (Some b) first second = absurd (cc)
 one_own macs (Some a) None first second = absurd (cc)
 one_own macs (Some a) (Some b) first second = cc
 
-pub one_policy : (texts : List (List ℕ)) (a b : PolicyFacts) → Reads texts a → Reads texts b → a ≡ b
+pub one_policy : (texts : List (List ℕ)) (a b : PolicyFacts) → AreLinesOf texts a → AreLinesOf texts b → a ≡ b
 one_policy texts a b first second =
     let same : first.readings ≡ second.readings = one_lines texts first.readings second.readings first.lines second.lines in
     let own : a.own ≡ b.own = one_own (filter_map own_in second.readings) a.own b.own (subst (λ (rs : List LineFacts). IsOnly (filter_map own_in rs) a.own) same first.own) second.own in
@@ -49,7 +49,7 @@ one_policy texts a b first second =
     ∙ ap (λ (rules : List RuleFacts). record { own = b.own; inbound = rules; outbound = a.outbound }) inbound
     ∙ ap (λ (rules : List RuleFacts). record { own = b.own; inbound = b.inbound; outbound = rules }) outbound
 
--- the readings up to a line, its own, and those behind it
+-- the readings up to a line, its own, and those after it
 split_lines : (before : List (List ℕ)) (line : List ℕ) (after : List (List ℕ)) (readings : List LineFacts) → AreLines (before ++ line ∷ after) readings
     → (first : List LineFacts) × (reading : LineFacts) × (rest : List LineFacts) × (readings ≡ first ++ reading ∷ rest) × AreLines before first × IsLine line reading
 split_lines [] line after [] are = absurd are
@@ -70,11 +70,11 @@ length-IsOnly-some macs (Some mac) only some = ap length only ∙ omega arith
 -- what two kinds of fault are refuted by
 abbrev pub IsRefuted : (PolicyFacts → List ℕ → Type 0) → Type 0
 IsRefuted IsAtFault = (before : List (List ℕ)) (line : List ℕ) (after : List (List ℕ)) (whole policy : PolicyFacts)
-    → Reads (before ++ line ∷ after) whole → Reads before policy → IsAtFault policy line → ⊥
+    → AreLinesOf (before ++ line ∷ after) whole → AreLinesOf before policy → IsAtFault policy line → ⊥
 
 -- the readings of a text up to a line are those of the lines before it
 same_front : (before : List (List ℕ)) (line : List ℕ) (after : List (List ℕ)) (whole policy : PolicyFacts) (reading : LineFacts)
-    → (all : Reads (before ++ line ∷ after) whole) → (front : Reads before policy) → IsLine line reading
+    → (all : AreLinesOf (before ++ line ∷ after) whole) → (front : AreLinesOf before policy) → IsLine line reading
     → (rest : List LineFacts) × (all.readings ≡ front.readings ++ reading ∷ rest)
 same_front before line after whole policy reading all front is =
     let split = split_lines before line after all.readings all.lines in
@@ -94,7 +94,7 @@ IsWrong-refuted before line after whole policy all front (inr second) =
     let one = length-IsOnly-some (filter_map own_in front.readings) policy.own front.own second.2 in
     omega (arith, few, one, ap length macs, length-append (filter_map own_in front.readings) (second.0 ∷ filter_map own_in parts.0))
 
-rules_fit : (texts : List (List ℕ)) (policy : PolicyFacts) (direction : Direction) → (reads : Reads texts policy)
+rules_fit : (texts : List (List ℕ)) (policy : PolicyFacts) (direction : Direction) → (reads : AreLinesOf texts policy)
     → (rules_of direction policy ≡ filter_map (rule_in direction) reads.readings) × (length (rules_of direction policy) ≤ most_rules)
 rules_fit texts policy Inbound reads = (reads.inbound, reads.inbound_fits)
 rules_fit texts policy Outbound reads = (reads.outbound, reads.outbound_fits)
@@ -116,7 +116,7 @@ IsSurplus-refuted before line after whole policy all front surplus =
     let few = rules_fit before policy direction front in
     omega (arith, fits.1, ap length fits.0, ap length rules, ap length few.0, surplus.3, length-append (filter_map (rule_in direction) front.readings) (rule ∷ behind))
 
--- Two places in one list are the same, or one is behind the other.
+-- Two places in one list are the same, or one is after the other.
 abbrev pub Compares : List (List ℕ) → List ℕ → List (List ℕ) → List ℕ → Type 0
 Compares before line others other =
     ((before ≡ others) × (line ≡ other))
@@ -138,19 +138,19 @@ compared (t ∷ before) line after (u ∷ others) other behind same =
     let tail : before ++ line ∷ after ≡ others ++ other ∷ behind = cc in
     subst (λ (text : List ℕ). Compares (t ∷ before) line (text ∷ others) other) head (longer t before others line other (compared before line after others other behind tail))
 
--- Two faults of one text stand at one line, behind one policy.
+-- Two faults of one text are at one line, after one policy.
 one_line : (K L : PolicyFacts → List ℕ → Type 0) → IsRefuted K → IsRefuted L → (texts : List (List ℕ)) (n m : ℕ) → IsFirstFault K texts n → IsFirstFault L texts m
     → (n ≡ m) × ((policy : PolicyFacts) × (line : List ℕ) × K policy line × L policy line)
 one_line K L k l texts n m (before, line, after, policy, split, counted, reads, fault) (others, other, behind, rest, cut, count, reading, wrong) =
     elim (compared before line after others other behind (sym split ∙ cut)) [
       | inl same ↦
-          let here : Reads before rest = subst (λ (ls : List (List ℕ)). Reads ls rest) (sym same.0) reading in
+          let here : AreLinesOf before rest = subst (λ (ls : List (List ℕ)). AreLinesOf ls rest) (sym same.0) reading in
           let facts : rest ≡ policy = one_policy before rest policy here reads in
           let found : L policy other = subst (λ (p : PolicyFacts). L p other) facts wrong in
           (omega (arith, counted, count, ap length same.0), (policy, line, fault, subst (λ (t : List ℕ). L policy t) (sym same.1) found))
       | inr apart ↦ elim apart [
-        | inl front ↦ absurd (k before line front.0 rest policy (subst (λ (ls : List (List ℕ)). Reads ls rest) front.1 reading) reads fault)
-        | inr later ↦ absurd (l others other later.0 policy rest (subst (λ (ls : List (List ℕ)). Reads ls policy) later.1 reads) reading wrong)
+        | inl front ↦ absurd (k before line front.0 rest policy (subst (λ (ls : List (List ℕ)). AreLinesOf ls rest) front.1 reading) reads fault)
+        | inr later ↦ absurd (l others other later.0 policy rest (subst (λ (ls : List (List ℕ)). AreLinesOf ls policy) later.1 reads) reading wrong)
       ]
     ]
 
@@ -161,9 +161,9 @@ apart policy line (inr second) surplus =
     let same = one_reading line (Own second.0) (Ruled surplus.0 surplus.1) second.1 surplus.2 in
     absurd (cc)
 
-no_fault : (K : PolicyFacts → List ℕ → Type 0) → IsRefuted K → (texts : List (List ℕ)) (n : ℕ) (whole : PolicyFacts) → Reads texts whole → IsFirstFault K texts n → ⊥
+no_fault : (K : PolicyFacts → List ℕ → Type 0) → IsRefuted K → (texts : List (List ℕ)) (n : ℕ) (whole : PolicyFacts) → AreLinesOf texts whole → IsFirstFault K texts n → ⊥
 no_fault K k texts n whole all (before, line, after, policy, split, counted, reads, fault) =
-    k before line after whole policy (subst (λ (ls : List (List ℕ)). Reads ls whole) split all) reads fault
+    k before line after whole policy (subst (λ (ls : List (List ℕ)). AreLinesOf ls whole) split all) reads fault
 
 -- A text of a policy has no fault.
 pub policy_or_fault : (text : List ℕ) (policy : PolicyFacts) (fault : PolicyFault) → IsPolicyText text policy → IsPolicyFault text fault → ⊥
@@ -196,7 +196,7 @@ one_fault text (TooMany n) (TooMany m) first second =
 
 -- What was read is the policy of a text that has one, and the fault of a text that has one, unless memory ran out.
 pub accepted : {A : Type 0} (view : A → PolicyFacts) (text : List ℕ) (result : Result A PolicyFault) → IsUtf8 text
-    → IfOk result (λ read. Reads (lines text) (view read)) → IfErr result (LinesFail (lines text)) → (policy : PolicyFacts) → IsPolicyText text policy
+    → IfOk result (λ read. AreLinesOf (lines text) (view read)) → IfErr result (LinesFail (lines text)) → (policy : PolicyFacts) → IsPolicyText text policy
     → MatchResult result (λ read. view read ≡ policy) (λ fault. fault ≡ Memory)
 accepted view text (Ok read) utf8 ok fault policy is = one_policy (lines text) (view read) policy ok is.1
 accepted view text (Err Memory) utf8 ok fault policy is = refl
@@ -205,7 +205,7 @@ accepted view text (Err (BadLine n)) utf8 ok fault policy is = absurd (policy_or
 accepted view text (Err (TooMany n)) utf8 ok fault policy is = absurd (policy_or_fault text policy (TooMany n) is (utf8, fault))
 
 pub refused : {A : Type 0} (view : A → PolicyFacts) (text : List ℕ) (result : Result A PolicyFault) → IsUtf8 text
-    → IfOk result (λ read. Reads (lines text) (view read)) → IfErr result (LinesFail (lines text)) → (fault : PolicyFault) → IsPolicyFault text fault
+    → IfOk result (λ read. AreLinesOf (lines text) (view read)) → IfErr result (LinesFail (lines text)) → (fault : PolicyFault) → IsPolicyFault text fault
     → MatchResult result (λ _. ⊥) (λ found. (found ≡ fault) ⊎ (found ≡ Memory))
 refused view text (Ok read) utf8 ok found fault is = policy_or_fault text (view read) fault (utf8, ok) is
 refused view text (Err Memory) utf8 ok found fault is = inr refl
@@ -213,7 +213,7 @@ refused view text (Err NotUtf8) utf8 ok found fault is = absurd found
 refused view text (Err (BadLine n)) utf8 ok found fault is = inl (one_fault text (BadLine n) fault (utf8, found) is)
 refused view text (Err (TooMany n)) utf8 ok found fault is = inl (one_fault text (TooMany n) fault (utf8, found) is)
 
--- Want of memory comes of a rule.
+-- Out of memory comes of a rule.
 pub wanting : {A : Type 0} (text : List ℕ) (result : Result A PolicyFault) → IsUtf8 text → IfErr result (LinesFail (lines text))
     → IfErr result (λ fault. fault ≡ Memory → IsUtf8 text × HasRule (lines text))
 wanting text (Ok read) utf8 fault = tt

@@ -1,4 +1,4 @@
--- Protocols and what stands behind them are read as the grammar says.
+-- Protocols and what follows them are read as the grammar says.
 use Rattle.std.proofs.Common.{◌≡◌, ℕ, false, List, [], ◌∷◌, ◌++◌, Option, Some, refl, sym, ap, ◌∙◌, subst, lit≤, inl, inr}
 use Rattle.std.specs.Prelude.{codes}
 use Rattle.std.specs.Str.{bytes_eq}
@@ -6,8 +6,8 @@ use Rattle.std.proofs.lemmas.List.{append-nil}
 use Rattle.packet_view.specs.Addresses.{icmp_of}
 use Rattle.packet_view.specs.declared.tuple.Family.{Family}
 use Rattle.acl_policy.specs.declared.traffic.Traffic.{Traffic}
-use Rattle.acl_policy.specs.Reading.{◌>>=◌}
-use Rattle.acl_policy.specs.Reading.Traffic.{flags_in, made, part_in, parts_in, protocol_flags_in, protocol_in, protocol_ranges_in, traffic_in}
+use Rattle.acl_policy.specs.inner.Reading.{◌>>=◌}
+use Rattle.acl_policy.specs.inner.Reading.Traffic.{flags_in, made, part_in, parts_in, protocol_flags_in, protocol_in, protocol_ranges_in, traffic_in}
 use Rattle.acl_policy.specs.Traffic.{AreParts, IsFlags, IsProtocol, IsTraffic, OfIcmp, OfNone, OfTcp, OfUdp, Parts, every, parts_of}
 use Rattle.acl_policy.proofs.NumeralLaws.{bytes_eq-Lacks}
 use Rattle.acl_policy.proofs.OptionLemmas.{bind_some, bytes_eq-true, chosen, if_last-some, same_some}

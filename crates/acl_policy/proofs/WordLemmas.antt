@@ -4,7 +4,7 @@ use Rattle.std.specs.Prelude.{filter, option_map, position, unwrap_or}
 use Rattle.std.specs.List.{onto_first, position_or_len, slice_split}
 use Rattle.std.proofs.lemmas.Bool.{cases_Bool}
 use Rattle.std.proofs.lemmas.List.Splits.{slice_split-cons_yes, slice_split-cons_no}
-use Rattle.acl_policy.specs.Reading.{next_in}
+use Rattle.acl_policy.specs.inner.Reading.{next_in}
 use Rattle.acl_policy.specs.Words.{is_blank, is_word, words_of}
 use Rattle.acl_policy.proofs.PlaceLemmas.{position-here, position-past, unwrap_or-position}
 
@@ -15,7 +15,7 @@ words_of-blank : (b : ℕ) (bs : List ℕ) → is_blank b ≡ true → words_of 
 unfolding words_of
 words_of-blank b bs blank = ap (filter is_word) (slice_split-cons_yes is_blank b bs blank)
 
--- the part of a text up to its first blank, and the parts behind it
+-- the part of a text up to its first blank, and the parts after it
 part_and_rest : (bs : List ℕ) → (parts : List (List ℕ)) × (slice_split is_blank bs ≡ take (position_or_len is_blank bs) bs ∷ parts)
     × (filter is_word parts ≡ words_of (drop (position_or_len is_blank bs) bs))
 unfolding words_of
@@ -69,7 +69,7 @@ no_words (b ∷ bs) none = elim (cases_Bool (is_blank b)) [
       cc
 ]
 
--- the first word that begins at a place of a text, and the words behind it
+-- the first word that begins at a place of a text, and the words after it
 abbrev pub word_from : ℕ → List ℕ → Option (List ℕ × List (List ℕ))
 word_from i text =
     let rest = drop i text in

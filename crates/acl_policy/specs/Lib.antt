@@ -3,8 +3,8 @@ pub mod Matching
 pub mod Numerals
 pub mod Policies
 pub mod Prefixes
-pub mod Reading
 pub mod Rules
 pub mod Traffic
 pub mod Widths
 pub mod Words
+pub mod inner

@@ -36,7 +36,7 @@ family_word V6 = codes "ipv6"
 abbrev pub traffic_of : RuleFacts → Traffic
 traffic_of rule = record { proto = rule.proto; first = rule.first; second = rule.second; value = rule.value; mask = rule.mask }
 
--- A rule is a direction, an action, a family, two prefixes, and what stands behind them.
+-- A rule is a direction, an action, a family, two prefixes, and what follows them.
 abbrev pub IsRule : List (List ℕ) → Direction → RuleFacts → Type 0
 IsRule words direction rule =
     (source dest : List ℕ) × (rest : List (List ℕ))

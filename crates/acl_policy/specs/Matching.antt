@@ -3,7 +3,7 @@ use Rattle.std.specs.Prelude.{◌≡◌, ◌≤◌, ◌<◌, ◌⊎◌, ℕ, ◌
 use Rattle.packet_view.specs.declared.tuple.Family.{Family}
 use Rattle.packet_view.specs.declared.tuple.Fields.{Fields}
 use Rattle.packet_view.specs.declared.tuple.Fields.TheVariants.{Absent, Ports, Tcp, Icmp}
-use Rattle.packet_view.specs.Tuples.{Facts}
+use Rattle.packet_view.specs.Tuples.{TupleFacts}
 use Rattle.acl_policy.specs.declared.rule.Action.{Action}
 use Rattle.acl_policy.specs.Rules.{RuleFacts}
 use Rattle.acl_policy.specs.Widths.{width}
@@ -23,24 +23,24 @@ HasFields rule (Tcp from to flags) = IsIn rule.first from × IsIn rule.second to
 HasFields rule (Icmp kind code) = IsIn rule.first kind × IsIn rule.second code
 
 -- The protocol 0 of a rule is every protocol, whatever its fields are.
-abbrev pub HoldsProtocol : RuleFacts → Facts → Type 0
+abbrev pub HoldsProtocol : RuleFacts → TupleFacts → Type 0
 HoldsProtocol rule tuple = (rule.proto ≡ 0) ⊎ ((rule.proto ≡ tuple.proto) × HasFields rule tuple.fields)
 
-abbrev pub Matches : RuleFacts → Facts → Type 0
+abbrev pub Matches : RuleFacts → TupleFacts → Type 0
 Matches rule tuple =
     (rule.family ≡ tuple.family) × HoldsPrefix tuple.family rule.source tuple.source × HoldsPrefix tuple.family rule.dest tuple.dest
     × HoldsProtocol rule tuple
 
 -- The rule at a place, counted from 0, matches and has this action, and none before it matches.
-abbrev pub Decides : List RuleFacts → Facts → ℕ → Action → Type 0
+abbrev pub Decides : List RuleFacts → TupleFacts → ℕ → Action → Type 0
 Decides rules tuple i action =
     (rule : RuleFacts) × (slice_get rules i ≡ Some rule) × Matches rule tuple × (action ≡ rule.action)
     × ((k : ℕ) (other : RuleFacts) → k < i → slice_get rules k ≡ Some other → Matches other tuple → ⊥)
 
 -- No rule matches, and so the packet is denied.
-abbrev pub DecidesByDefault : List RuleFacts → Facts → Type 0
+abbrev pub DecidesByDefault : List RuleFacts → TupleFacts → Type 0
 DecidesByDefault rules tuple = (k : ℕ) (other : RuleFacts) → slice_get rules k ≡ Some other → Matches other tuple → ⊥
 
-abbrev pub IsDecision : List RuleFacts → Facts → Option (ℕ × Action) → Type 0
+abbrev pub IsDecision : List RuleFacts → TupleFacts → Option (ℕ × Action) → Type 0
 IsDecision rules tuple None = DecidesByDefault rules tuple
 IsDecision rules tuple (Some decision) = Decides rules tuple decision.0 decision.1

@@ -37,7 +37,7 @@ rule_in Inbound (Ruled Outbound rule) = None
 rule_in Outbound (Ruled Inbound rule) = None
 rule_in Outbound (Ruled Outbound rule) = Some rule
 
--- Each line says what stands at its place.
+-- Each line says what is at its place.
 abbrev pub AreLines : List (List ℕ) → List LineFacts → Type 0
 AreLines [] [] = Unit {0}
 AreLines [] (reading ∷ readings) = ⊥
@@ -50,7 +50,7 @@ IsOnly macs None = macs ≡ []
 IsOnly macs (Some mac) = macs ≡ mac ∷ []
 
 -- The lines say this policy: the own address where one line names it, and the rules of each direction in their order.
-pub record Reads (texts : List (List ℕ)) (policy : PolicyFacts) : Type 0 where
+pub record AreLinesOf (texts : List (List ℕ)) (policy : PolicyFacts) : Type 0 where
   pub readings : List LineFacts
   pub lines : AreLines texts readings
   pub own : IsOnly (filter_map own_in readings) policy.own
@@ -64,34 +64,34 @@ abbrev pub rules_of : Direction → PolicyFacts → List RuleFacts
 rules_of Inbound policy = policy.inbound
 rules_of Outbound policy = policy.outbound
 
--- A line behind this policy is of no form, or names a second own address.
+-- A line after this policy is of no form, or names a second own address.
 abbrev pub IsWrong : PolicyFacts → List ℕ → Type 0
 IsWrong policy line =
     ((reading : LineFacts) → IsLine line reading → ⊥)
     ⊎ ((mac : Mac) × IsLine line (Own mac) × IsSome policy.own)
 
--- A line behind this policy is a rule of a direction that has all its rules.
+-- A line after this policy is a rule of a direction that has all its rules.
 abbrev pub IsSurplus : PolicyFacts → List ℕ → Type 0
 IsSurplus policy line =
     (direction : Direction) × (rule : RuleFacts) × IsLine line (Ruled direction rule) × (length (rules_of direction policy) ≡ most_rules)
 
--- The line with this number, counted from 1, is the first at fault: those before it say a policy, behind which it is at fault.
+-- The line with this number, counted from 1, is the first at fault: those before it say a policy, after which it is at fault.
 abbrev pub IsFirstFault : (PolicyFacts → List ℕ → Type 0) → List (List ℕ) → ℕ → Type 0
 IsFirstFault IsAtFault texts number =
     (before : List (List ℕ)) × (line : List ℕ) × (after : List (List ℕ)) × (policy : PolicyFacts)
-    × (texts ≡ before ++ line ∷ after) × (number ≡ length before + 1) × Reads before policy × IsAtFault policy line
+    × (texts ≡ before ++ line ∷ after) × (number ≡ length before + 1) × AreLinesOf before policy × IsAtFault policy line
 
--- One of the lines is a rule for which there is room behind the policy that the lines before it say.
+-- One of the lines is a rule for which there is room after the policy that the lines before it say.
 abbrev pub HasRule : List (List ℕ) → Type 0
 HasRule texts =
     (before : List (List ℕ)) × (line : List ℕ) × (after : List (List ℕ)) × (policy : PolicyFacts) × (direction : Direction) × (rule : RuleFacts)
-    × (texts ≡ before ++ line ∷ after) × Reads before policy × IsLine line (Ruled direction rule) × (length (rules_of direction policy) < most_rules)
+    × (texts ≡ before ++ line ∷ after) × AreLinesOf before policy × IsLine line (Ruled direction rule) × (length (rules_of direction policy) < most_rules)
 
 -- The text says this policy.
 abbrev pub IsPolicyText : List ℕ → PolicyFacts → Type 0
-IsPolicyText text policy = IsUtf8 text × Reads (lines text) policy
+IsPolicyText text policy = IsUtf8 text × AreLinesOf (lines text) policy
 
--- The text has this fault, and none before it. Want of memory is no fault of a text.
+-- The text has this fault, and none before it. Out of memory is no fault of a text.
 abbrev pub IsPolicyFault : List ℕ → PolicyFault → Type 0
 IsPolicyFault text Memory = ⊥
 IsPolicyFault text NotUtf8 = ¬ IsUtf8 text

@@ -18,7 +18,7 @@ IsFourParts word address = (parts : List ℕ) × (length parts ≡ 4) × ArePiec
 abbrev pub IsEightGroups : List ℕ → ℕ → Type 0
 IsEightGroups word address = (groups : List ℕ) × (length groups ≡ 8) × ArePieces 58 IsGroup word groups × (address ≡ in_base 65536 groups)
 
--- Groups in front of "::" and behind it; "::" stands for as many groups of zeros as are missing, and for one at least.
+-- Groups in front of "::" and after it; "::" stands for as many groups of zeros as are missing, and for one at least.
 abbrev pub IsShortened : List ℕ → ℕ → Type 0
 IsShortened word address =
     (before after front back : List ℕ) × (missing : ℕ) × (word ≡ before ++ 58 ∷ 58 ∷ after)

@@ -1,4 +1,4 @@
--- The protocol of a rule and the parts behind it (ports, types and codes, flags), in this project's policy grammar.
+-- The protocol of a rule and the parts after it (ports, types and codes, flags), in this project's policy grammar.
 use Rattle.std.specs.Prelude.{◌≡◌, ◌≤◌, ◌⊎◌, ℕ, ◌==◌, List, [], ◌∷◌, ◌++◌, codes, if◌then◌else◌}
 use Rattle.packet_view.specs.Addresses.{icmp_of}
 use Rattle.packet_view.specs.declared.tuple.Family.{Family}
@@ -47,7 +47,7 @@ ArePorts words traffic =
     × IsPart (codes "sport") (IsRange 65535) every source traffic.first
     × IsPart (codes "dport") (IsRange 65535) every dest traffic.second
 
--- which parts may stand behind a protocol
+-- which parts may follow a protocol
 pub data Parts : Type 0 where
   OfTcp : Parts
   OfUdp : Parts
@@ -71,7 +71,7 @@ AreParts OfIcmp words traffic =
     × HasNoFlags traffic
 AreParts OfNone words traffic = (words ≡ []) × (traffic.first ≡ every) × (traffic.second ≡ every) × HasNoFlags traffic
 
--- What stands behind the addresses of a rule: nothing, and then it is every packet, or a protocol and its parts.
+-- What follows the addresses of a rule: nothing, and then it is every packet, or a protocol and its parts.
 abbrev pub IsTraffic : Family → List (List ℕ) → Traffic → Type 0
 IsTraffic family [] traffic = (traffic.proto ≡ 0) × AreParts OfNone [] traffic
 IsTraffic family (word ∷ words) traffic = IsProtocol family word traffic.proto × AreParts (parts_of family traffic.proto) words traffic

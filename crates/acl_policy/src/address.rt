@@ -1,15 +1,15 @@
 //! Addresses as text (RFC 4291, section 2.2, without an embedded IPv4 address).
 ghost use Rattle.std.specs.Prelude.{◌≡◌, ◌≤◌, ◌<◌, ◌^◌, ◌+◌, IfSome, length, option_map, position, zip, drop};
 ghost use Rattle.packet_view.specs.Addresses.{address_limit};
-ghost use Rattle.acl_policy.specs.Reading.Prefixes;
-ghost use Rattle.acl_policy.specs.Reading.Numerals.{octet_in, piece_in};
-ghost use Rattle.acl_policy.specs.Reading.Prefixes.{address_in, cut_double_in, four_parts_in, groups_address_in, groups_in, is_double};
+ghost use Rattle.acl_policy.specs.inner.Reading.Prefixes;
+ghost use Rattle.acl_policy.specs.inner.Reading.Numerals.{octet_in, piece_in};
+ghost use Rattle.acl_policy.specs.inner.Reading.Prefixes.{address_in, cut_double_in, four_parts_in, groups_address_in, groups_in, is_double};
 
 use crate::numeral::{group_of, octet_of};
 use crate::words::cut_at;
 use packet_view::Family;
 
-#[tactic(auto, unfolding(crate::specs::Reading::Numerals::piece_in))]
+#[tactic(auto, unfolding(crate::specs::inner::Reading::Numerals::piece_in))]
 fn octet_before_dot(text: &[u8]) -> Option<(u8, &[u8])>
     ensures { option_map (λ r. (r.0, r.1.now)) result ≡ piece_in 46 octet_in text.now }
 {
@@ -18,7 +18,7 @@ fn octet_before_dot(text: &[u8]) -> Option<(u8, &[u8])>
     Some((octet, rest))
 }
 
-#[tactic(auto, unfolding(crate::specs::Reading::Prefixes::four_parts_in))]
+#[tactic(auto, unfolding(crate::specs::inner::Reading::Prefixes::four_parts_in))]
 fn four_parts_of(text: &[u8]) -> Option<u32>
     ensures { result ≡ four_parts_in text.now }
 {
@@ -65,8 +65,8 @@ fn groups_of(text: &[u8]) -> Option<Groups>
     None
 }
 
-/// What stands before the first `::`, and what behind it.
-#[tactic(auto, unfolding(crate::specs::Reading::Prefixes::cut_double_in))]
+/// What stands before the first `::`, and what after it.
+#[tactic(auto, unfolding(crate::specs::inner::Reading::Prefixes::cut_double_in))]
 fn cut_at_double_colon(text: &[u8]) -> Option<(&[u8], &[u8])>
     ensures { option_map (λ r. (r.0.now, r.1.now)) result ≡ cut_double_in text.now }
 {
@@ -96,7 +96,7 @@ fn spread(front: Groups, back: Groups) -> Option<u128>
     Some(front.number * 65536u128.pow(8 - front.count) + back.number)
 }
 
-#[tactic(auto, unfolding(crate::specs::Reading::Prefixes::groups_address_in))]
+#[tactic(auto, unfolding(crate::specs::inner::Reading::Prefixes::groups_address_in))]
 fn groups_address_of(text: &[u8]) -> Option<u128>
     ensures { result ≡ groups_address_in text.now }
 {

@@ -1,6 +1,6 @@
 //! What a line of a policy says.
 ghost use Rattle.std.specs.Prelude.{◌≡◌, ◌≤◌, ◌<◌, IfSome, option_map};
-ghost use Rattle.acl_policy.specs.Reading.Lines.{action_in, direction_in, ends_in, family_in, head_in, line_facts, line_in, own_line_in, rule_line_in};
+ghost use Rattle.acl_policy.specs.inner.Reading.Lines.{action_in, direction_in, ends_in, family_in, head_in, line_facts, line_in, own_line_in, rule_line_in};
 ghost use Rattle.acl_policy.specs.Widths.{width};
 ghost use Rattle.acl_policy.specs.Words.{words_of};
 ghost use Rattle.packet_view.specs.Addresses.{address_limit};
@@ -55,8 +55,8 @@ fn family_of(word: &[u8]) -> Option<Family>
     }
 }
 
-/// The first three words of a rule, and the text behind them.
-#[tactic(auto, unfolding(crate::specs::Reading::Lines::head_in))]
+/// The first three words of a rule, and the text after them.
+#[tactic(auto, unfolding(crate::specs::inner::Reading::Lines::head_in))]
 fn head_of(text: &[u8]) -> Option<(Direction, Action, Family, &[u8])>
     ensures { option_map (λ r. (r.0, r.1, r.2, words_of r.3.now)) result ≡ head_in (words_of text.now) }
 {
@@ -69,8 +69,8 @@ fn head_of(text: &[u8]) -> Option<(Direction, Action, Family, &[u8])>
     Some((direction, action, family, text))
 }
 
-/// The prefixes of a rule, and the text behind them.
-#[tactic(auto, unfolding(crate::specs::Reading::Lines::ends_in))]
+/// The prefixes of a rule, and the text after them.
+#[tactic(auto, unfolding(crate::specs::inner::Reading::Lines::ends_in))]
 fn ends_of(family: Family, text: &[u8]) -> Option<((u128, u8), (u128, u8), &[u8])>
     ensures value { option_map (λ r. (r.0, r.1, words_of r.2.now)) result
         ≡ ends_in family (words_of text.now) }
@@ -86,7 +86,7 @@ fn ends_of(family: Family, text: &[u8]) -> Option<((u128, u8), (u128, u8), &[u8]
     Some((source, dest, text))
 }
 
-#[tactic(auto, unfolding(crate::specs::Reading::Lines::rule_line_in))]
+#[tactic(auto, unfolding(crate::specs::inner::Reading::Lines::rule_line_in))]
 fn rule_line_of(text: &[u8]) -> Option<Line>
     ensures { option_map line_facts result ≡ rule_line_in (words_of text.now) }
 {
@@ -107,7 +107,7 @@ fn rule_line_of(text: &[u8]) -> Option<Line>
     Some(Line::Ruled(direction, rule))
 }
 
-#[tactic(auto, unfolding(crate::specs::Reading::Lines::own_line_in))]
+#[tactic(auto, unfolding(crate::specs::inner::Reading::Lines::own_line_in))]
 fn own_line_of(text: &[u8]) -> Option<Line>
     ensures { option_map line_facts result ≡ own_line_in (words_of text.now) }
 {
@@ -121,7 +121,7 @@ fn own_line_of(text: &[u8]) -> Option<Line>
 }
 
 /// What a line says. `None`: it is of no form.
-#[tactic(auto, unfolding(crate::specs::Reading::Lines::line_in, crate::specs::Reading::Lines::said_in))]
+#[tactic(auto, unfolding(crate::specs::inner::Reading::Lines::line_in, crate::specs::inner::Reading::Lines::said_in))]
 pub fn line_of(line: &[u8]) -> Option<Line>
     ensures { option_map line_facts result ≡ line_in line.now }
 {

@@ -1,13 +1,13 @@
 //! The address of an Ethernet interface as text.
 ghost use Rattle.std.specs.Prelude.{◌≡◌, option_map};
-ghost use Rattle.acl_policy.specs.Reading.Numerals.{pair_in, piece_in};
-ghost use Rattle.acl_policy.specs.Reading.Prefixes.{mac_in};
+ghost use Rattle.acl_policy.specs.inner.Reading.Numerals.{pair_in, piece_in};
+ghost use Rattle.acl_policy.specs.inner.Reading.Prefixes.{mac_in};
 
 use crate::numeral::pair_of;
 use crate::words::cut_at;
 use packet_view::Mac;
 
-#[tactic(auto, unfolding(crate::specs::Reading::Numerals::piece_in))]
+#[tactic(auto, unfolding(crate::specs::inner::Reading::Numerals::piece_in))]
 fn pair_before_colon(text: &[u8]) -> Option<(u8, &[u8])>
     ensures { option_map (λ r. (r.0, r.1.now)) result ≡ piece_in 58 pair_in text.now }
 {
@@ -17,7 +17,7 @@ fn pair_before_colon(text: &[u8]) -> Option<(u8, &[u8])>
 }
 
 /// Six pairs of hexadecimal digits with `:` between them.
-#[tactic(auto, unfolding(crate::specs::Reading::Prefixes::mac_in))]
+#[tactic(auto, unfolding(crate::specs::inner::Reading::Prefixes::mac_in))]
 pub fn mac_of(text: &[u8]) -> Option<Mac>
     ensures { result ≡ mac_in text.now }
 {

@@ -5,7 +5,7 @@ ghost use Rattle.acl_policy.specs.Matching.{HasFields, HoldsPrefix, IsDecision, 
 ghost use Rattle.acl_policy.specs.Rules.{rule_facts};
 ghost use Rattle.acl_policy.specs.Widths.{width};
 ghost use Rattle.packet_view.specs.Addresses.{address_limit};
-ghost use Rattle.packet_view.specs.Tuples.{facts};
+ghost use Rattle.packet_view.specs.Tuples.{tuple_facts};
 
 use crate::family::width_of;
 use crate::rule::{Action, Rule};
@@ -52,7 +52,7 @@ fn has_fields(rule: &Rule, fields: &Fields) -> bool
 
 /// Whether a rule matches a packet. The tests come in the order of what they cost.
 pub fn is_match(rule: &Rule, tuple: &Tuple) -> bool
-    ensures { IsTrue result ↔ Matches (rule_facts rule.now) (facts tuple.now) }
+    ensures { IsTrue result ↔ Matches (rule_facts rule.now) (tuple_facts tuple.now) }
 {
     rule.family == tuple.family
         && (rule.proto == 0 || rule.proto == tuple.proto)
@@ -63,9 +63,9 @@ pub fn is_match(rule: &Rule, tuple: &Tuple) -> bool
 
 /// The first rule that matches, by its place from 0, and what it does. `None`: no rule matches.
 pub fn first_match(rules: &[Rule], tuple: &Tuple) -> Option<(usize, Action)>
-    ensures decided { IsDecision (map rule_facts rules.now) (facts tuple.now) result }
+    ensures decided { IsDecision (map rule_facts rules.now) (tuple_facts tuple.now) result }
     ensures only { (other : Option (ℕ × Action))
-        → IsDecision (map rule_facts rules.now) (facts tuple.now) other → other ≡ result }
+        → IsDecision (map rule_facts rules.now) (tuple_facts tuple.now) other → other ≡ result }
 {
     for (i, rule) in rules.iter().enumerate() {
         if is_match(rule, tuple) {

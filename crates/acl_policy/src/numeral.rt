@@ -1,9 +1,9 @@
 //! Numbers as digits.
 ghost use Rattle.std.specs.Prelude.{◌≡◌, ◌≤◌, ◌<◌, ◌^◌, IfSome};
-ghost use Rattle.acl_policy.specs.Reading.Numerals.{group_in, number_in, numeral_in, octet_in, pair_in};
+ghost use Rattle.acl_policy.specs.inner.Reading.Numerals.{group_in, number_in, numeral_in, octet_in, pair_in};
 
 /// The number that at least one and at most so many digits in a base spell. `None`: they don't.
-#[tactic(auto, unfolding(crate::specs::Reading::Numerals::numeral_in))]
+#[tactic(auto, unfolding(crate::specs::inner::Reading::Numerals::numeral_in))]
 fn numeral_of(word: &[u8], base: u32, most: usize) -> Option<u32>
     requires digits { 2 ≤ base }
     requires small_base { base ≤ 16 }
@@ -22,7 +22,7 @@ fn numeral_of(word: &[u8], base: u32, most: usize) -> Option<u32>
 }
 
 /// The number that one to five decimal digits spell.
-#[tactic(auto, unfolding(crate::specs::Reading::Numerals::number_in))]
+#[tactic(auto, unfolding(crate::specs::inner::Reading::Numerals::number_in))]
 pub fn number_of(word: &[u8]) -> Option<u32>
     ensures { result ≡ number_in word.now }
 {
@@ -30,7 +30,7 @@ pub fn number_of(word: &[u8]) -> Option<u32>
 }
 
 /// A part of an IPv4 address: at most 255, in one to three digits.
-#[tactic(auto, unfolding(crate::specs::Reading::Numerals::octet_in))]
+#[tactic(auto, unfolding(crate::specs::inner::Reading::Numerals::octet_in))]
 pub fn octet_of(word: &[u8]) -> Option<u8>
     ensures { result ≡ octet_in word.now }
 {
@@ -39,7 +39,7 @@ pub fn octet_of(word: &[u8]) -> Option<u8>
 }
 
 /// A group of an IPv6 address: one to four hexadecimal digits.
-#[tactic(auto, unfolding(crate::specs::Reading::Numerals::group_in))]
+#[tactic(auto, unfolding(crate::specs::inner::Reading::Numerals::group_in))]
 pub fn group_of(word: &[u8]) -> Option<u16>
     ensures { result ≡ group_in word.now }
 {
@@ -48,7 +48,7 @@ pub fn group_of(word: &[u8]) -> Option<u16>
 }
 
 /// Two hexadecimal digits.
-#[tactic(auto, unfolding(crate::specs::Reading::Numerals::pair_in))]
+#[tactic(auto, unfolding(crate::specs::inner::Reading::Numerals::pair_in))]
 pub fn pair_of(word: &[u8]) -> Option<u8>
     ensures { result ≡ pair_in word.now }
 {

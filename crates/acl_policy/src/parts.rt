@@ -1,6 +1,6 @@
-//! The parts of a rule behind its protocol: ranges of numbers, and flags.
+//! The parts of a rule after its protocol: ranges of numbers, and flags.
 ghost use Rattle.std.specs.Prelude.{◌≡◌, ◌≤◌, IfSome, codes, option_map};
-ghost use Rattle.acl_policy.specs.Reading.Traffic.{behind_in, flags_in, number_up_to_in, part_in, range_in, ranges_in};
+ghost use Rattle.acl_policy.specs.inner.Reading.Traffic.{behind_in, flags_in, number_up_to_in, part_in, range_in, ranges_in};
 ghost use Rattle.acl_policy.specs.Traffic.{every};
 ghost use Rattle.acl_policy.specs.Words.{words_of};
 
@@ -11,7 +11,7 @@ use crate::words::{cut_at, next_word};
 pub const EVERY: (u16, u16) = (0, u16::MAX);
 
 /// A number of one to five digits, and no more than `most`.
-#[tactic(auto, unfolding(crate::specs::Reading::Traffic::number_up_to_in))]
+#[tactic(auto, unfolding(crate::specs::inner::Reading::Traffic::number_up_to_in))]
 pub fn number_up_to(word: &[u8], most: u16) -> Option<u16>
     ensures value { result ≡ number_up_to_in most word.now }
     ensures within { IfSome result (λ number. number ≤ most) }
@@ -25,7 +25,7 @@ pub fn number_up_to(word: &[u8], most: u16) -> Option<u16>
 }
 
 /// One number, or the least and the greatest with `-` between them.
-#[tactic(auto, unfolding(crate::specs::Reading::Traffic::range_in))]
+#[tactic(auto, unfolding(crate::specs::inner::Reading::Traffic::range_in))]
 fn range_of(word: &[u8], most: u16) -> Option<(u16, u16)>
     ensures { result ≡ range_in most word.now }
 {
@@ -39,7 +39,7 @@ fn range_of(word: &[u8], most: u16) -> Option<(u16, u16)>
 }
 
 /// A value and a mask with `/` between them.
-#[tactic(auto, unfolding(crate::specs::Reading::Traffic::flags_in))]
+#[tactic(auto, unfolding(crate::specs::inner::Reading::Traffic::flags_in))]
 fn flags_of(word: &[u8]) -> Option<(u8, u8)>
     ensures { result ≡ flags_in word.now }
 {
@@ -49,8 +49,8 @@ fn flags_of(word: &[u8]) -> Option<(u8, u8)>
     Some((value, mask))
 }
 
-/// The text behind a name. `None`: the first word is another, or there is none.
-#[tactic(auto, unfolding(crate::specs::Reading::Traffic::behind_in))]
+/// The text after a name. `None`: the first word is another, or there is none.
+#[tactic(auto, unfolding(crate::specs::inner::Reading::Traffic::behind_in))]
 fn behind_name<'a>(text: &'a [u8], name: &[u8]) -> Option<&'a [u8]>
     ensures { option_map (λ rest. words_of rest.now) result ≡ behind_in name.now (words_of text.now) }
 {
@@ -58,9 +58,9 @@ fn behind_name<'a>(text: &'a [u8], name: &[u8]) -> Option<&'a [u8]>
     if word == name { Some(rest) } else { None }
 }
 
-/// The range of a part, and the text behind it. Where the text doesn't begin with the part's name,
+/// The range of a part, and the text after it. Where the text doesn't begin with the part's name,
 /// that is every number.
-#[tactic(auto, unfolding(crate::specs::Reading::Traffic::part_in))]
+#[tactic(auto, unfolding(crate::specs::inner::Reading::Traffic::part_in))]
 fn range_part<'a>(text: &'a [u8], name: &[u8], most: u16) -> Option<((u16, u16), &'a [u8])>
     ensures { option_map (λ r. (r.0, words_of r.1.now)) result
         ≡ part_in name.now (range_in most) every (words_of text.now) }
@@ -73,9 +73,9 @@ fn range_part<'a>(text: &'a [u8], name: &[u8], most: u16) -> Option<((u16, u16),
     Some((range, rest))
 }
 
-/// The flags of a rule, and the text behind them. Where the text doesn't begin with `flags`, no flag
+/// The flags of a rule, and the text after them. Where the text doesn't begin with `flags`, no flag
 /// counts.
-#[tactic(auto, unfolding(crate::specs::Reading::Traffic::part_in))]
+#[tactic(auto, unfolding(crate::specs::inner::Reading::Traffic::part_in))]
 pub fn flags_part(text: &[u8]) -> Option<((u8, u8), &[u8])>
     ensures { option_map (λ r. (r.0, words_of r.1.now)) result
         ≡ part_in (codes "flags") flags_in (0, 0) (words_of text.now) }
@@ -88,8 +88,8 @@ pub fn flags_part(text: &[u8]) -> Option<((u8, u8), &[u8])>
     Some((flags, rest))
 }
 
-/// Two parts with ranges, and the text behind them.
-#[tactic(auto, unfolding(crate::specs::Reading::Traffic::ranges_in))]
+/// Two parts with ranges, and the text after them.
+#[tactic(auto, unfolding(crate::specs::inner::Reading::Traffic::ranges_in))]
 pub fn ranges_of<'a>(
     text: &'a [u8],
     one: &[u8],

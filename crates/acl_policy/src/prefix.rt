@@ -1,6 +1,6 @@
 //! Prefixes as text (RFC 4632, section 3.1; RFC 4291, section 2.3).
 ghost use Rattle.std.specs.Prelude.{◌≡◌, ◌≤◌, ◌<◌, IfSome};
-ghost use Rattle.acl_policy.specs.Reading.Prefixes.{prefix_in};
+ghost use Rattle.acl_policy.specs.inner.Reading.Prefixes.{prefix_in};
 ghost use Rattle.acl_policy.specs.Widths.{width};
 ghost use Rattle.packet_view.specs.Addresses.{address_limit};
 
@@ -11,7 +11,7 @@ use crate::words::cut_at;
 use packet_view::Family;
 
 /// An address and how many of its first bits count: `any`, one address, or an address and a length.
-#[tactic(auto, unfolding(crate::specs::Reading::Prefixes::prefix_in))]
+#[tactic(auto, unfolding(crate::specs::inner::Reading::Prefixes::prefix_in))]
 pub fn prefix_of(family: Family, word: &[u8]) -> Option<(u128, u8)>
     ensures value { result ≡ prefix_in family word.now }
     ensures fits { IfSome result (λ prefix. prefix.0 < address_limit family) }

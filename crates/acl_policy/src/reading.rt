@@ -2,9 +2,9 @@
 ghost use Rattle.std.specs.Prelude.{◌≡◌, ◌≢◌, ◌≤◌, ◌<◌, ◌⊎◌, IfOk, IfErr, MatchResult, OnOk, length, map};
 ghost use Rattle.std.specs.Str.{IsUtf8};
 ghost use Rattle.std.specs.Str.Lines.{lines};
-ghost use Rattle.acl_policy.specs.Policies.{HasRule, IsPolicyFault, IsPolicyText, PolicyFacts, Reads, policy_facts};
-ghost use Rattle.acl_policy.specs.Reading.Lines.{line_in};
-ghost use Rattle.acl_policy.specs.Reading.Policies.{Fails, HasRoom, LinesFail, line_added, rule_added};
+ghost use Rattle.acl_policy.specs.Policies.{HasRule, IsPolicyFault, IsPolicyText, PolicyFacts, AreLinesOf, policy_facts};
+ghost use Rattle.acl_policy.specs.inner.Reading.Lines.{line_in};
+ghost use Rattle.acl_policy.specs.inner.Reading.Policies.{Fails, HasRoom, LinesFail, line_added, rule_added};
 ghost use Rattle.acl_policy.specs.Rules.{most_rules, rule_facts};
 
 use crate::line::{Line, line_of};
@@ -20,7 +20,7 @@ mod tests;
 const MOST_RULES: usize = 4096;
 
 /// Adds a rule to those of its direction. `number` is its line.
-#[tactic(auto, unfolding(crate::specs::Reading::Policies::rule_added))]
+#[tactic(auto, unfolding(crate::specs::inner::Reading::Policies::rule_added))]
 fn add_rule(rules: &mut Vec<Rule>, rule: Rule, number: u64) -> Result<(), PolicyFault>
     ensures ok { OnOk result (rule_added number (map rule_facts rules.old.items) (rule_facts rule)
         ≡ Ok (map rule_facts rules.new.items)) }
@@ -62,7 +62,7 @@ fn add_line(policy: &mut Policy, line: &[u8], number: u64) -> Result<(), PolicyF
 }
 
 fn read_lines(alloc: Global, text: &str) -> Result<Policy, PolicyFault>
-    ensures ok { IfOk result (λ policy. Reads (lines text.now) (policy_facts policy)) }
+    ensures ok { IfOk result (λ policy. AreLinesOf (lines text.now) (policy_facts policy)) }
     ensures fault { IfErr result (LinesFail (lines text.now)) }
 {
     let mut policy = Policy {
@@ -78,7 +78,7 @@ fn read_lines(alloc: Global, text: &str) -> Result<Policy, PolicyFault>
     Ok(policy)
 }
 
-/// Reads a policy from its text.
+/// AreLinesOf a policy from its text.
 ///
 /// An `Err` other than `Memory` names the first fault: bytes that aren't UTF-8 anywhere in the text,
 /// and else the first line that is wrong or one rule too many.
@@ -90,8 +90,8 @@ pub fn read_policy(alloc: Global, text: &[u8]) -> Result<Policy, PolicyFault>
     ensures memory { IfErr result (λ fault. fault ≡ PolicyFault.Memory
         → IsUtf8 text.now × HasRule (lines text.now)) }
 
-    // A text of a policy is refused for want of memory alone, and a text with a fault for that fault
-    // or want of memory.
+    // A text of a policy is refused only where memory ran out, and a text with a fault for that fault
+    // or out of memory.
     ensures accepts { (policy : PolicyFacts) → IsPolicyText text.now policy
         → MatchResult result (λ read. policy_facts read ≡ policy) (λ fault. fault ≡ PolicyFault.Memory) }
     ensures refuses { (fault : PolicyFault) → IsPolicyFault text.now fault

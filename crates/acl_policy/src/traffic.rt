@@ -1,6 +1,6 @@
-//! What a rule says beyond its addresses: the protocol, and the parts behind it.
+//! What a rule says beyond its addresses: the protocol, and the parts after it.
 ghost use Rattle.std.specs.Prelude.{◌≡◌, option_map};
-ghost use Rattle.acl_policy.specs.Reading.Traffic.{protocol_flags_in, protocol_in, protocol_ranges_in, parts_in, traffic_in};
+ghost use Rattle.acl_policy.specs.inner.Reading.Traffic.{protocol_flags_in, protocol_in, protocol_ranges_in, parts_in, traffic_in};
 ghost use Rattle.acl_policy.specs.Traffic.{parts_of};
 ghost use Rattle.acl_policy.specs.Words.{words_of};
 
@@ -24,7 +24,7 @@ pub struct Traffic {
 }
 
 /// The number of a protocol, and 0 for every protocol.
-#[tactic(auto, unfolding(crate::specs::Reading::Traffic::protocol_in))]
+#[tactic(auto, unfolding(crate::specs::inner::Reading::Traffic::protocol_in))]
 fn protocol_of(family: Family, word: &[u8]) -> Option<u8>
     ensures { result ≡ protocol_in family word.now }
 {
@@ -44,8 +44,8 @@ fn protocol_of(family: Family, word: &[u8]) -> Option<u8>
     Some(number as u8)
 }
 
-/// The ranges that may stand behind a protocol, and the text behind them: ports, or a type and a code.
-#[tactic(auto, unfolding(crate::specs::Reading::Traffic::protocol_ranges_in))]
+/// The ranges that may follow a protocol, and the text after them: ports, or a type and a code.
+#[tactic(auto, unfolding(crate::specs::inner::Reading::Traffic::protocol_ranges_in))]
 fn protocol_ranges(
     family: Family,
     proto: u8,
@@ -63,8 +63,8 @@ fn protocol_ranges(
     Some((EVERY, EVERY, text))
 }
 
-/// The flags that may stand behind a protocol, and the text behind them.
-#[tactic(auto, unfolding(crate::specs::Reading::Traffic::protocol_flags_in))]
+/// The flags that may follow a protocol, and the text after them.
+#[tactic(auto, unfolding(crate::specs::inner::Reading::Traffic::protocol_flags_in))]
 fn protocol_flags(family: Family, proto: u8, text: &[u8]) -> Option<((u8, u8), &[u8])>
     ensures { option_map (λ r. (r.0, words_of r.1.now)) result
         ≡ protocol_flags_in (parts_of family proto) (words_of text.now) }
@@ -76,7 +76,7 @@ fn protocol_flags(family: Family, proto: u8, text: &[u8]) -> Option<((u8, u8), &
     }
 }
 
-#[tactic(auto, unfolding(crate::specs::Reading::Traffic::parts_in))]
+#[tactic(auto, unfolding(crate::specs::inner::Reading::Traffic::parts_in))]
 fn parts_behind(family: Family, proto: u8, text: &[u8]) -> Option<Traffic>
     ensures { result ≡ parts_in (parts_of family proto) proto (words_of text.now) }
 {
@@ -95,8 +95,8 @@ fn parts_behind(family: Family, proto: u8, text: &[u8]) -> Option<Traffic>
     }
 }
 
-/// What stands behind the addresses of a rule: nothing, or a protocol and its parts.
-#[tactic(auto, unfolding(crate::specs::Reading::Traffic::traffic_in))]
+/// What follows the addresses of a rule: nothing, or a protocol and its parts.
+#[tactic(auto, unfolding(crate::specs::inner::Reading::Traffic::traffic_in))]
 pub fn traffic_of(family: Family, text: &[u8]) -> Option<Traffic>
     ensures { result ≡ traffic_in family (words_of text.now) }
 {

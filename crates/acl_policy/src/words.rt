@@ -1,7 +1,7 @@
 //! The words of a line, and the pieces of a word.
 ghost use Rattle.std.specs.Prelude.{◌≡◌, ◌<◌, ◌↔◌, ◌==◌, [], not, IsTrue, IfSome, length, option_map, position};
-ghost use Rattle.acl_policy.specs.Reading.{next_in};
-ghost use Rattle.acl_policy.specs.Reading.Numerals.{cut_in};
+ghost use Rattle.acl_policy.specs.inner.Reading.{next_in};
+ghost use Rattle.acl_policy.specs.inner.Reading.Numerals.{cut_in};
 ghost use Rattle.acl_policy.specs.Words;
 ghost use Rattle.acl_policy.specs.Words.{without_comment, words_of};
 
@@ -60,8 +60,8 @@ pub fn is_end(text: &[u8]) -> bool
     next_word(text).is_none()
 }
 
-/// What stands before the first such byte of a word, and what behind it.
-#[tactic(auto, unfolding(crate::specs::Reading::Numerals::cut_in))]
+/// What stands before the first such byte of a word, and what after it.
+#[tactic(auto, unfolding(crate::specs::inner::Reading::Numerals::cut_in))]
 pub fn cut_at(word: &[u8], byte: u8) -> Option<(&[u8], &[u8])>
     ensures { option_map (λ r. (r.0.now, r.1.now)) result ≡ cut_in byte word.now }
 {

@@ -72,7 +72,7 @@ module _ {A : Type 0} (moment : A → ℕ) where
   AreOrdered xs = (i j : ℕ) (x y : A) → i < j → get_elem? xs i ≡ some x → get_elem? xs j ≡ some y
       → 1 ≤ moment x → 1 ≤ moment y → moment x ≤ moment y
 
-  -- behind an element of a later moment none comes at this one
+  -- after an element of a later moment none comes at this one
   none_behind : (k : ℕ) (x : A) (xs : List A) → 1 ≤ k → AreOrdered (x ∷ xs) → k < moment x → at_moment k xs ≡ []
   none_behind k x xs some_moment ordered more = filter_none (λ y. eqb (moment y) k) xs (λ i y at. elim (eqb_tells (moment y) k) [
     | inl (is, h) ↦ let after = ordered 0 (suc i) x y (omega arith) refl at (omega arith) (omega arith) in absurd (omega arith)

@@ -29,7 +29,7 @@ module _ (z : Sizes) (b : ℕ) (opening : Pairs) (H : List Write) (by : ℕ) whe
         → (n ≤ c.stamp) × (is_changed c.reply ≡ true → n < c.stamp)
     has : (p : ℕ) → n ≤ p → p < length H → HasWrite calls b (p + 1)
 
-  -- a write that isn't the first call is one behind it
+  -- a write that isn't the first call is one after it
   behind : (c : Call) (cs : List Call) (number : ℕ) → HasWrite (c ∷ cs) b number
       → (c.bucket ≡ b → is_changed c.reply ≡ true → c.stamp ≡ number → ⊥) → HasWrite cs b number
   behind c cs number h other = go h.0 h.1 h.2 h.3 h.4 h.5
@@ -41,7 +41,7 @@ module _ (z : Sizes) (b : ℕ) (opening : Pairs) (H : List Write) (by : ℕ) whe
           (ap (λ (x : Call). x.stamp) same ∙ stamp))
       go (suc k) d at home wrote stamp = (k, d, at, home, wrote, stamp)
 
-  -- the calls behind the first, when m writes stand
+  -- the calls after the first, when m writes stand
   tail_left : (c : Call) (cs : List Call) (n m : ℕ) → AreLeft n (c ∷ cs) → n ≤ m → m ≤ length H
       → ((p : ℕ) → m ≤ p → c.bucket ≡ b → is_changed c.reply ≡ true → c.stamp ≡ p + 1 → ⊥)
       → ((k : ℕ) (d : Call) → get_elem? cs k ≡ some d → d.bucket ≡ b → (m ≤ d.stamp) × (is_changed d.reply ≡ true → m < d.stamp))
@@ -62,7 +62,7 @@ module _ (z : Sizes) (b : ℕ) (opening : Pairs) (H : List Write) (by : ℕ) whe
   follows : (c : Call) (cs : List Call) (n : ℕ) → AreLeft n (c ∷ cs) → (k : ℕ) (d : Call) → get_elem? cs k ≡ some d → MayFollow c d
   follows c cs n left k d at = left.rises 0 (suc k) c d (omega arith) refl at
 
-  -- a call that is no write stands behind n writes
+  -- a call that is no write follows n writes
   read_stamp : (c : Call) (cs : List Call) (n : ℕ) → AreLeft n (c ∷ cs) → c.bucket ≡ b → is_changed c.reply ≡ false → c.stamp ≡ n
   read_stamp c cs n left home read = elim (cases_lt n c.stamp) [
     | inl more ↦

@@ -7,7 +7,7 @@ use Rattle.std.proofs.lemmas.Bool.{cases_lt}
 use lib.Dec.{eqb, leb}
 use mathlib.Core.Option.{some, some-injective}
 use lib.ListN.{get_elem?}
-use Rattle.bihash_words.specs.Maps.{Answers, Bounds, Crowded, Entering, Event, Exhausted, Pairs, Present, Step, effect_of, most_pairs, row_with}
+use Rattle.bihash_words.specs.Maps.{Answers, Bounds, NoRoom, NewKey, Event, WornOut, Pairs, OldKey, IsEvent, effect_of, most_pairs, case_with}
 use Rattle.bihash_words.specs.Sizes.{Sizes}
 use Rattle.bihash_words.specs.declared.patch.Change.{Change}
 use Rattle.bihash_words.specs.declared.patch.Change.TheVariants.{Keep, Set, Remove}
@@ -25,12 +25,12 @@ use Rattle.bihash_laws.proofs.Moments.{AreOrdered, at_moment, filter_none, filte
 no_write : (e : Event) (reply : Reply) → e.reply ≡ reply → is_changed reply ≡ false → is_changed e.reply ≡ true → ⊥
 no_write e reply is kept wrote = true≢false (sym wrote ∙ (ap is_changed is ∙ kept))
 
-present_tells : (b : Bounds) (m n : Pairs) (e : Event) (s : Bool) → Answers (cond s Present Exhausted) b m e n → is_changed e.reply ≡ true
+present_tells : (b : Bounds) (m n : Pairs) (e : Event) (s : Bool) → Answers (cond s OldKey WornOut) b m e n → is_changed e.reply ≡ true
     → e.reply ≡ Changed e.found
 present_tells b m n e true h wrote = h.0
 present_tells b m n e false h wrote = absurd (no_write e _ h.0 refl wrote)
 
-enters_tells : (b : Bounds) (m n : Pairs) (e : Event) (s t : Bool) → Answers (cond s (cond t Entering Crowded) Exhausted) b m e n
+enters_tells : (b : Bounds) (m n : Pairs) (e : Event) (s t : Bool) → Answers (cond s (cond t NewKey NoRoom) WornOut) b m e n
     → is_changed e.reply ≡ true → e.reply ≡ Changed None
 enters_tells b m n e true true (inl h) wrote = h.0
 enters_tells b m n e true true (inr h) wrote = absurd (no_write e _ h.0.2 refl wrote)
@@ -38,7 +38,7 @@ enters_tells b m n e true false h wrote = absurd (no_write e _ h.0 refl wrote)
 enters_tells b m n e false t h wrote = absurd (no_write e _ h.0 refl wrote)
 
 row_tells : (b : Bounds) (m n : Pairs) (w k : ℕ) (e : Event) (found : Option ℕ) (effect : Change) → e.found ≡ found
-    → Answers (row_with b k w found effect) b m e n → is_changed e.reply ≡ true → e.reply ≡ Changed e.found
+    → Answers (case_with b k w found effect) b m e n → is_changed e.reply ≡ true → e.reply ≡ Changed e.found
 row_tells b m n w k e found Keep is h wrote = absurd (no_write e _ h.0 refl wrote)
 row_tells b m n w k e None (Set value) is h wrote =
     enters_tells b m n e (nat_lt w b.limit) (nat_lt k (most_pairs b)) h wrote ∙ ap Changed (sym is)
@@ -46,7 +46,7 @@ row_tells b m n w k e (Some old) (Set value) is h wrote = present_tells b m n e 
 row_tells b m n w k e found Remove is h wrote = present_tells b m n e (nat_lt w b.limit) h wrote
 
 -- a call that is answered Changed is told what it found
-pub change_tells : (b : Bounds) (m n : Pairs) (w : ℕ) (e : Event) → Step b m w e n → is_changed e.reply ≡ true
+pub change_tells : (b : Bounds) (m n : Pairs) (w : ℕ) (e : Event) → IsEvent b m w e n → is_changed e.reply ≡ true
     → e.reply ≡ Changed e.found
 change_tells b m n w e step = row_tells b m n w (len m) e e.found (effect_of e.change e.found) refl step.answers
 
@@ -66,7 +66,7 @@ call_of b n m w = record {
 
 -- ---- Moments
 
--- Behind n writes of bucket b the moment is 2n + 1, and that of write n is 2n. On another bucket it is 0.
+-- After n writes of bucket b the moment is 2n + 1, and that of write n is 2n. On another bucket it is 0.
 abbrev pub moment : ℕ → Call → ℕ
 moment b c = cond (eqb c.bucket b) (2 * c.stamp + cond (is_changed c.reply) 0 1) 0
 
@@ -143,7 +143,7 @@ module _ (z : Sizes) (b : ℕ) (opening : Pairs) (H : List Write) (by : ℕ) whe
           eqb-true home ∙ sym (leb-true (omega arith))
       go k c at (read home kept is) = eqb-true home ∙ sym (leb-true (omega arith))
 
-  -- none comes behind the last write and what was read there
+  -- none comes after the last write and what was read there
   pub none_later : (calls : List Call) → AreCalls calls → from_moment (moment b) (2 * length H + 2) calls ≡ []
   none_later calls law = filter_none (λ c. leb (2 * length H + 2) (moment b c)) calls (λ k c at. leb-false (go k c at (kind b c)))
     where

@@ -1,4 +1,4 @@
--- The calls of lawful records in one order: behind each write what was read there, record by record.
+-- The calls of lawful records in one order: after each write what was read there, record by record.
 use Rattle.std.proofs.Common.{◌≡◌, ◌⊎◌, ◌∙◌, ◌+◌, ◌*◌, ◌<◌, ◌≤◌, ℕ, suc, Bool, true, false, cond, true≢false, List, [], ◌∷◌, ◌++◌, length, map, ap, arith, refl, sym, subst, inl, inr}
 use Rattle.std.specs.List.{All, filter}
 use Rattle.std.proofs.lemmas.Bool.Decides.{eqb_tells}
@@ -6,7 +6,7 @@ use Rattle.std.proofs.lemmas.List.Elements.{All-cons, All-head, All-nil, All-tai
 use lib.Dec.{eqb}
 use mathlib.Core.Option.{some}
 use lib.ListN.{get_elem?}
-use Rattle.bihash_words.specs.Maps.{Pairs, Step, changed}
+use Rattle.bihash_words.specs.Maps.{Pairs, IsEvent, changed}
 use Rattle.bihash_words.specs.Sizes.{Sizes}
 use Rattle.bihash_steps.specs.Words.{buckets}
 use Rattle.bihash_steps.specs.Histories.{IsAnswer, IsLegal, after, bounds_of, event_of, event_of_write, is_changed, write_of}
@@ -30,13 +30,13 @@ pub record AreLawful (z : Sizes) (b : ℕ) (opening : Pairs) (H : List Write) (r
   pub own : (i n : ℕ) (r : Record) (w : Write) → get_elem? records i ≡ some r → get_elem? H n ≡ some w → w.by ≡ r.number
       → HasWrite r.calls b (n + 1)
   pub once : BearOnce records
-  pub steps : (n : ℕ) (w : Write) → get_elem? H n ≡ some w → Step (bounds_of z) (after opening H n) n (event_of_write (after opening H n) w)
+  pub steps : (n : ℕ) (w : Write) → get_elem? H n ≡ some w → IsEvent (bounds_of z) (after opening H n) n (event_of_write (after opening H n) w)
       (changed (after opening H n) w.key w.change)
 
 module _ (z : Sizes) (b : ℕ) (opening : Pairs) (H : List Write) (records : List Record) where
   -- ---- The operations
 
-  -- each of these writes, which stand behind n others, with what was read behind it
+  -- each of these writes, which follow n others, with what was read after it
   abbrev pub writes_and_reads : ℕ → Pairs → List Write → List Operation
   writes_and_reads n m [] = []
   writes_and_reads n m (w ∷ ws) = operation w.by (call_of b n m w)
@@ -45,7 +45,7 @@ module _ (z : Sizes) (b : ℕ) (opening : Pairs) (H : List Write) (records : Lis
   abbrev pub operations : List Operation
   operations = operations_at b 1 records ++ writes_and_reads 0 opening H
 
-  -- these writes are what is left of the history behind n writes, that left the map m
+  -- these writes are what is left of the history after n writes, that left the map m
   record AreLeft (n : ℕ) (m : Pairs) (ws : List Write) : Type 0 where
     map : m ≡ after opening H n
     count : n + length ws ≡ length H
@@ -77,7 +77,7 @@ module _ (z : Sizes) (b : ℕ) (opening : Pairs) (H : List Write) (records : Lis
     home : t.call.bucket ≡ b
     ours : HasNumber records t.by
 
-  -- what is to be shown of the operations behind n writes that left the map m
+  -- what is to be shown of the operations after n writes that left the map m
   pub record AreGood (n : ℕ) (m : Pairs) (ws : List Write) (ts : List Operation) : Type 0 where
     pub run : IsRun z m n (calls_in ts) (after opening H (length H)) (length H)
     pub writes : writes_in ts ≡ ws
@@ -146,7 +146,7 @@ module _ (z : Sizes) (b : ℕ) (opening : Pairs) (H : List Write) (records : Lis
     one_write n m w ws ts is at good = record {
       run = (
         changed m w.key w.change,
-        subst (λ (p : Pairs). Step (bounds_of z) p n (event_of_write p w) (changed p w.key w.change)) (sym is) (law.steps n w at),
+        subst (λ (p : Pairs). IsEvent (bounds_of z) p n (event_of_write p w) (changed p w.key w.change)) (sym is) (law.steps n w at),
         good.run,
       );
       writes = ap (λ (x : List Write). w ∷ x) good.writes;

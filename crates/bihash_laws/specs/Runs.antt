@@ -24,12 +24,12 @@ use Rattle.bihash_table.specs.Promise.{IsAnswered}
 abbrev pub calls_on : ℕ → List Call → List Call
 calls_on b calls = filter (λ c. c.bucket == b) calls
 
--- how many writes there are behind a call that came behind n writes
+-- how many writes there are after a call that came after n writes
 abbrev pub writes_behind : ℕ → Call → ℕ
 writes_behind n c = n + writes_of c.reply
 
 -- The calls are a run of one bounded map: each is a step of the map that the one before it left. They lead
--- from the map m behind n writes to the map `last` behind `writes`.
+-- from the map m after n writes to the map `last` after `writes`.
 abbrev pub IsRun : Sizes → Pairs → ℕ → List Call → Pairs → ℕ → Type 0
 IsRun z m n calls last writes = events.IsRun (bounds_of z) m n (map event_of calls) last writes
 

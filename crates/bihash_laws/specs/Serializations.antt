@@ -52,7 +52,7 @@ pub record IsSerialization (z : Sizes) (b : ℕ) (opening : Pairs) (history : Li
 
 -- ---- One write
 
--- the write that stands behind n others on bucket b is a call of one of these records, at its stamp
+-- the write that follows n others on bucket b is a call of one of these records, at its stamp
 pub record IsCalled (b n : ℕ) (w : Write) (records : List Record) : Type 0 where
   pub at : ℕ
   pub record_at : Record

@@ -73,7 +73,7 @@ pub fn agreeing_callers_have_one_order()
 {}
 
 /// An answered call is legal on what is known of its bucket afterwards, which continues what was known
-/// before. What it found, unless it wrote, is what the map holds there. Its entry stands at the end of the
+/// before. What it found, unless it wrote, is what the map holds there. Its entry is at the end of the
 /// acting record, with the number of the bucket's known writes as its stamp. Nothing is learned of another
 /// bucket, and no other record changes.
 pub fn answers_are_the_maps()

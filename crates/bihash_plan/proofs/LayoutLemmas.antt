@@ -1,4 +1,4 @@
--- Lemmas on laying pairs out: what stands in the block so far, and that there is a place for each.
+-- Lemmas on laying pairs out: what is in the block so far, and that there is a place for each.
 use Rattle.std.proofs.Common.{◌≡◌, ◌≢◌, ◌<◌, ◌≤◌, ◌+◌, ◌*◌, ◌/◌, ◌^◌, ◌==◌, ◌&&◌, ℕ, Bool, true, false, cond, List, [], ◌∷◌, ◌++◌, length, get_or, set, take, drop, map, arith, ap, subst, refl, sym, ◌∙◌, inl, inr, ⊎_elim, add_comm}
 use Rattle.std.specs.Prelude.{count_by, replicate}
 use Rattle.std.specs.List.{sum_by}
@@ -181,7 +181,7 @@ pub named_suits : {K : Type 0} {paging : Paging K} {log2 : ℕ} {linear : Bool} 
 named_suits {paging = paging} {log2 = log2} {linear = linear} {places = places} {key = key} value named =
     growth_suits paging named.was_log2 log2 named.was_linear linear places key value named.lawful named.plan.2
 
--- what stands in the block after the first places: keys of these places alone
+-- what is in the block after the first places: keys of these places alone
 pub record IsLaidSoFar {K : Type 0} (paging : Paging K) (log2 : ℕ) (linear : Bool) (old : List (K × ℕ))
     (key : K) (i next : ℕ) (out : List (K × ℕ)) : Type 0 where
   pub laid : IsLaid paging log2 linear (pairs (take i old)) out

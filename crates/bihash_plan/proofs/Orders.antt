@@ -40,7 +40,7 @@ front_taken {K} ps rest n taken inside vacant =
     ∙ free_value_at d vacant in
     both_ways _ (is_taken-free (get_or ps n d) value) (taken n d inside)
 
--- a pair that goes to the first free place stands behind the others
+-- a pair that goes to the first free place follows the others
 in_order_put : {K : Type 0} (ps places : List (K × ℕ)) (n : ℕ) (pair : K × ℕ)
     → AllTaken ps → AreInOrder ps places → IsFree places n → ((j : ℕ) → j < n → IsFree places j → ⊥)
     → AreInOrder (ps ++ pair ∷ []) (set places n pair)

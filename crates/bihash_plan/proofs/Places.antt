@@ -1,4 +1,4 @@
--- Lemmas on what stands at a place of a block.
+-- Lemmas on what is at a place of a block.
 use Rattle.std.proofs.Common.{◌*◌, ◌^◌, ⊎_elim, arith, ◌≡◌, ◌≢◌, ◌<◌, ℕ, List, Some, length, get_or, refl, ap, ◌∙◌}
 use Rattle.std.proofs.lemmas.Option.{get_or_from_slice_get, slice_get-get_or, slice_get_read, slice_get_within}
 use Rattle.bihash_words.specs.Patches.{free_mark}

@@ -15,53 +15,12 @@ use Rattle.bihash_plan.proofs.Counts.{count_by-all, count_by-missing}
 use Rattle.bihash_plan.proofs.Pairs.{is_taken-free, is_taken-pair}
 use Rattle.bihash_plan.proofs.Places.{block_sized, free_at, free_inside, free_value_at, key_inside}
 
-pub grows_twice : {K : Type 0} (paging : Paging K) (log2 : ℕ) (linear : Bool) (places : List (K × ℕ))
-    (key : K)
-    → 0 < length places → HasRoom paging (key ∷ keys_of places) (log2 + 1)
-    → IsGrowth paging log2 linear places key (log2 + 1) false
-grows_twice paging log2 linear [] key some room = absurd (omega arith)
-grows_twice paging log2 linear (place ∷ places) key some room = (room, inl refl)
-
-pub grows_four_times : {K : Type 0} (paging : Paging K) (log2 : ℕ) (linear : Bool) (places : List (K × ℕ))
-    (key : K)
-    → 0 < length places → (HasRoom paging (key ∷ keys_of places) (log2 + 1) → ⊥)
-    → HasRoom paging (key ∷ keys_of places) (log2 + 2)
-    → IsGrowth paging log2 linear places key (log2 + 2) false
-grows_four_times paging log2 linear [] key some none room = absurd (omega arith)
-grows_four_times paging log2 linear (place ∷ places) key some none room = (room, inr (refl, none))
-
-pub grows_linear : {K : Type 0} (paging : Paging K) (log2 : ℕ) (linear : Bool) (places : List (K × ℕ))
-    (key : K)
-    → 0 < length places → NeedsLinear paging log2 (key ∷ keys_of places) → log2 < paging.max_log2
-    → IsGrowth paging log2 linear places key (log2 + 1) true
-grows_linear paging log2 linear [] key some needs below = absurd (omega arith)
-grows_linear paging log2 linear (place ∷ places) key some needs below = (needs, inl (refl, omega arith))
-
-pub becomes_linear : {K : Type 0} (paging : Paging K) (log2 : ℕ) (linear : Bool) (places : List (K × ℕ))
-    (key : K)
-    → 0 < length places → NeedsLinear paging log2 (key ∷ keys_of places)
-    → CanBecomeLinear paging log2 linear places
-    → IsGrowth paging log2 linear places key paging.max_log2 true
-becomes_linear paging log2 linear [] key some needs can = absurd (omega arith)
-becomes_linear paging log2 linear (place ∷ places) key some needs can = (needs, inr (refl, can))
-
 pub exhausted : {K : Type 0} (paging : Paging K) (log2 : ℕ) (linear : Bool) (places : List (K × ℕ))
     (key : K)
     → 0 < length places → paging.max_log2 ≤ log2
     → (CanBecomeLinear paging log2 linear places → ⊥) → IsExhausted paging log2 linear places key
 exhausted paging log2 linear [] key some greatest cannot = absurd (omega arith)
 exhausted paging log2 linear (place ∷ places) key some greatest cannot = (omega arith, cannot)
-
--- a bucket without a block takes one page
-pub plan_without_block : {K : Type 0} (paging : Paging K) (log2 : ℕ) (linear : Bool) (places : List (K × ℕ))
-    (key : K)
-    → length places ≡ 0 → IsPlan paging log2 linear places key (Grow 0 false)
-plan_without_block paging log2 linear [] key none = (
-  λ i h. absurd (omega (arith, key_inside h)),
-  λ i _ h. absurd (omega (arith, free_inside h)),
-  (refl, refl),
-)
-plan_without_block paging log2 linear (place ∷ places) key none = absurd (omega arith)
 
 -- there is one first free place
 first_free_only : {K : Type 0} (linear : Bool) (page : ℕ) (places : List (K × ℕ)) (i j : ℕ)

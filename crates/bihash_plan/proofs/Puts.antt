@@ -11,7 +11,7 @@ use Rattle.bihash_plan.specs.Pages.{Paging, page_of}
 use Rattle.bihash_plan.proofs.Pairs.{is_taken-free, is_taken-pair, pairs-append}
 use Rattle.bihash_plan.proofs.Places.{free_inside, free_value_at, key_inside}
 
--- the pair stands at its place, and each other key where it stood
+-- the pair is at its place, and each other key where it stood
 pub key_after_put : {K : Type 0} (places : List (K × ℕ)) (i : ℕ) (pair : K × ℕ) (key : K) (j : ℕ)
     → i < length places → HasKey (set places i pair) key j
     → ((j ≡ i) × (key ≡ pair.0)) ⊎ HasKey places key j

@@ -9,7 +9,7 @@ use Rattle.bihash_plan.specs.Pages.{Paging, page_of}
 use Rattle.bihash_plan.specs.Plans.{Fits, keys_of}
 use Rattle.bihash_plan.proofs.Pairs.{count_by-keys_of-take, count_by-none, keys_more}
 use Rattle.bihash_plan.proofs.PageLemmas.{page_of-lt}
-use Rattle.bihash_plan.specs.Tallies.{FitsWindow, IsTally}
+use Rattle.bihash_plan.specs.inner.Tallies.{FitsWindow, IsTally}
 
 -- what is counted for a page of the window
 pub tally_at : {K : Type 0} {paging : Paging K} {log2 first : ℕ} {keys : List K} {counts : List ℕ}
@@ -133,7 +133,3 @@ fits_from_windows paging log2 last keys enough few = record { few = each }
               )))) keys,
         ))
         (cases_lt page last)
-
-pub window_fits : {K : Type 0} {paging : Paging K} {log2 : ℕ} {keys : List K} (first : ℕ)
-    → Fits paging log2 keys → FitsWindow paging log2 first keys
-window_fits first fits = record { few = λ page low high. fits.few page }

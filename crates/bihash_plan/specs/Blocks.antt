@@ -10,7 +10,7 @@ is_taken place = not (place.1 == free_mark)
 abbrev pub pairs : {K : Type 0} → List (K × ℕ) → List (K × ℕ)
 pairs places = filter is_taken places
 
--- a pair with the key stands at place i
+-- a pair with the key is at place i
 pub record HasKey {K : Type 0} (places : List (K × ℕ)) (key : K) (i : ℕ) : Type 0 where
   pub value : ℕ
   pub at : slice_get places i ≡ Some (key, value)

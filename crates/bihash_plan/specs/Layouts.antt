@@ -14,7 +14,7 @@ pub record IsNamed {K : Type 0} (paging : Paging K) (places : List (K × ℕ)) (
   pub lawful : IsLawfulBlock paging was_log2 was_linear places
   pub plan : IsPlan paging was_log2 was_linear places key (Grow log2 linear)
 
--- the places hold these pairs in their order and are free behind them
+-- the places hold these pairs in their order and are free after them
 abbrev pub AreInOrder : {K : Type 0} → List (K × ℕ) → List (K × ℕ) → Type 0
 AreInOrder {K} ps places = (rest : List (K × ℕ)) × (places ≡ ps ++ rest) × (pairs rest ≡ [])
 

@@ -3,4 +3,4 @@ pub mod Layouts
 pub mod Pages
 pub mod Plans
 pub mod Searches
-pub mod Tallies
+pub mod inner

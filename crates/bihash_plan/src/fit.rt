@@ -5,7 +5,7 @@ ghost use Rattle.std.specs.Bool.{OnTrue, OnFalse};
 ghost use Rattle.bihash_words.specs.Sizes.{IsSound, sizes_of};
 ghost use Rattle.bihash_plan.specs.Pages.{MayHavePages, page_of, paging_of};
 ghost use Rattle.bihash_plan.specs.Plans.{Fits, keys_of};
-ghost use Rattle.bihash_plan.specs.Tallies.{FitsWindow, IsTally};
+ghost use Rattle.bihash_plan.specs.inner.Tallies.{FitsWindow, IsTally};
 
 use crate::place::{page, page_count};
 use bihash_words::{FREE, PAGE_PLACES, Shape};

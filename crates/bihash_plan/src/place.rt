@@ -25,7 +25,7 @@ pub(crate) fn page_count(log2: u64) -> usize
     1usize << log2
 }
 
-/// The places open to the key, as the first of them and the one behind the last.
+/// The places open to the key, as the first of them and the one after the last.
 pub(crate) fn open_places<S: Shape>(
     count: usize,
     log2: u64,

@@ -66,7 +66,7 @@ pub(crate) fn free_place<K: Copy>(places: &[(K, u64)], from: usize, to: usize) -
     None
 }
 
-/// Whether a pair with the key stands at the place.
+/// Whether a pair with the key is at the place.
 fn has_key<S: Shape>(places: &[(S::Key, u64)], i: usize, key: &S::Key) -> bool
     requires shape { IsSound (sizes_of ⟦<S as Shape>⟧) }
     requires place { IsPlace places.now i }

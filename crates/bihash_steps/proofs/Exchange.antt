@@ -165,7 +165,7 @@ module _ (pages used : ℕ) (x x' : ℕ → BucketState) (store store' : PageSto
       others never_used n m = refl
       others (held_by j) n m = run_set_other views id j w (λ h. m (ap held_by h))
 
-  -- the block of a seat passes behind the last of the list of its log2
+  -- the block of a seat passes after the last of the list of its log2
   pub gives_back : (log2 page : ℕ) → ((c : ℕ) → (x' c).extent ≡ (x c).extent)
       → returned_in store' log2 ≡ returned_in store log2 ++ page ∷ [] → ((m : ℕ) → m ≢ log2 → returned_in store' m ≡ returned_in store m)
       → run_in v.holds.block ≡ Some (record { page = page; log2 = log2 }) → run_in w.holds.block ≡ None
@@ -271,7 +271,7 @@ element [] i l = absurd (omega arith)
 element (x ∷ xs) zero l = refl
 element (x ∷ xs) (suc i) l = element xs i (omega arith)
 
--- what stands in a list of returned blocks
+-- what is in a list of returned blocks
 pub returned_run : (x : ℕ → BucketState) (store : PageStore) (views : List View) (log2 i : ℕ) → i < length (returned_in store log2)
     → runs_now x store views (returned_at log2 i) ≡ Some (record { page = slice_index (returned_in store log2) i; log2 = log2 })
 returned_run x store views log2 i l = ap (run_at log2) (element (returned_in store log2) i l)

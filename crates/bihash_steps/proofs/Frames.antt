@@ -1,4 +1,4 @@
--- What one seat's step on a bucket, or on the page store, may change, and that the rule stands behind it.
+-- What one seat's step on a bucket, or on the page store, may change, and that the rule follows it.
 use Rattle.std.proofs.Common.{◌≡◌, ◌≢◌, ◌⊎◌, ℕ, zero, suc, ◌+◌, ◌-◌, ◌*◌, ◌^◌, ◌<◌, ◌≤◌, false, List, [], ◌++◌, length, set, refl, sym, ap, ◌∙◌, subst, inl, inr, arith, le_refl, le_trans, append-nil, append_assoc, length-set, mul-le-mul_left, Option, Some, None}
 use mathlib.Core.Logic.{dite}
 use mathlib.Core.Option.{some, some-ne-none}
@@ -15,7 +15,7 @@ use Rattle.bihash_steps.specs.Callers.{HasNumber, known_at, opening_in}
 use Rattle.bihash_steps.specs.Blocks.{no_block}
 use Rattle.bihash_steps.specs.Partition.{PageRun, Owner, IsPartition, of_bucket, held_by, run_of}
 use Rattle.bihash_steps.specs.Buckets.{BucketState, IsBucket, HoldsBucket, HoldsBucketIf, IsOpenIf}
-use Rattle.bihash_steps.specs.PageStores.{StoreState, IsStore, IsShort, IsListedIf, HoldsStore, HoldsStoreIf, HoldsBlockIf, LeftIf, returned_in, writes_in, all_writes, run_in, run_held, runs_now}
+use Rattle.bihash_steps.specs.PageStores.{StoreState, IsStore, BearsOutOfPages, IsListedIf, HoldsStore, HoldsStoreIf, HoldsBlockIf, LeftIf, returned_in, writes_in, all_writes, run_in, run_held, runs_now}
 use Rattle.bihash_steps.specs.WordRule.{IsInformed, HaveMetIf, IsView, WordRule}
 use Rattle.bihash_steps.specs.declared.view.Write.{Write}
 use Rattle.bihash_steps.specs.declared.view.Call.{Call}
@@ -108,7 +108,7 @@ more_writes x x' more zero = omega arith
 more_writes x x' more (suc n) = let a = more_writes x x' more n in let b = more n in omega arith
 
 module _ (z : Sizes) where
-  pub more_short : (n n' : ℕ) (c : Call) (log2 left : ℕ) → n ≤ n' → IsShort z n c log2 left → IsShort z n' c log2 left
+  pub more_short : (n n' : ℕ) (c : Call) (log2 left : ℕ) → n ≤ n' → BearsOutOfPages z n c log2 left → BearsOutOfPages z n' c log2 left
   more_short n n' c log2 left h s = let m = mul-le-mul_left (2 ^ z.max_log2) h in let a : ℕ = 2 ^ z.max_log2 * n in
       let b : ℕ = 2 ^ z.max_log2 * n' in let l : a ≤ b = m in let o : z.pages ≤ left + a = s.taken in record {
         store = s.store;
@@ -172,7 +172,7 @@ module _ (z : Sizes) (words words' : List ℕ) (same : (i : ℕ) → 1 ≤ i →
     stands = same (list_at z i.log2 + length (returned_in store i.log2)) (omega arith) a.1 ∙ h.stands;
   }
 
-  -- the page store where its words are as they were, behind perhaps more writes
+  -- the page store where its words are as they were, after perhaps more writes
   pub store_keeps : (n n' : ℕ) (q : StoreState) → n ≤ n' → IsStore z words n q → IsStore z words' n' q
   store_keeps n n' q more ok = let f = front z in record {
     lock = same 1 (omega arith) (omega arith) ∙ ok.lock;
@@ -191,7 +191,7 @@ module _ (z : Sizes) (words words' : List ℕ) (same : (i : ℕ) → 1 ≤ i →
   store_lock_beside q j None h = tt
   store_lock_beside q j (Some l) h = record { held = h.held; store = h.store; listed = listed_beside q.store l.listed h.listed }
 
--- ---- The rule behind a move
+-- ---- The rule after a move
 
 module _ (z : Sizes) (s : State (Unit {0}) View) (r : WordRule z s) (b id : ℕ) (v w : View) (words' : List ℕ) (bucket' : ℕ → BucketState)
     (store' : StoreState) (m : Move z s r b id v w words' bucket' store') where

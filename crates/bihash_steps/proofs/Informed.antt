@@ -12,7 +12,7 @@ use Rattle.bihash_steps.specs.Words.{buckets}
 use Rattle.bihash_steps.specs.Histories.{IsPrefix, IsKeyOf, IsLegal, IsAnswer, after, is_changed, store_of}
 use Rattle.bihash_steps.specs.Callers.{known_at, opening_at, opening_in, MayFollow, Rises, HasWrite, IsLawful}
 use Rattle.bihash_steps.specs.WordRule.{TableState, IsInformed}
-use Rattle.bihash_steps.specs.BucketSteps.{learned, acting, push_call, lock_counted, map_now}
+use Rattle.bihash_steps.specs.BucketSteps.{with_history, acting, push_call, lock_counted, map_now}
 use Rattle.bihash_steps.specs.declared.view.Write.{Write}
 use Rattle.bihash_steps.specs.declared.view.Call.{Call}
 use Rattle.bihash_steps.specs.declared.view.Record.{Record}
@@ -33,17 +33,17 @@ bears_own (NoPages log2 left) store noted is = refl
 
 -- ---- A history is learned
 
-pub known_learned : (v : View) (b : ℕ) (history : List Write) → b < length v.known.writes → known_at (learned v b history).known b ≡ history
+pub known_learned : (v : View) (b : ℕ) (history : List Write) → b < length v.known.writes → known_at (with_history v b history).known b ≡ history
 known_learned v b history l = get_or-set_same v.known.writes b history [] l
 
-pub known_else : (v : View) (b c : ℕ) (history : List Write) → c ≢ b → known_at (learned v b history).known c ≡ known_at v.known c
+pub known_else : (v : View) (b c : ℕ) (history : List Write) → c ≢ b → known_at (with_history v b history).known c ≡ known_at v.known c
 known_else v b c history ne = get_or-set_other v.known.writes b c history [] ne
 
--- what was known of each bucket begins what is known behind a history that continues it
+-- what was known of each bucket begins what is known after a history that continues it
 pub learned_grows : (v : View) (b : ℕ) (history : List Write) → b < length v.known.writes → IsPrefix (known_at v.known b) history
-    → (c : ℕ) → IsPrefix (known_at v.known c) (known_at (learned v b history).known c)
+    → (c : ℕ) → IsPrefix (known_at v.known c) (known_at (with_history v b history).known c)
 learned_grows v b history l begins c = dite (ℕ_discrete c b)
-    (λ e. subst (λ (y : ℕ). IsPrefix (known_at v.known y) (known_at (learned v b history).known y)) (sym e)
+    (λ e. subst (λ (y : ℕ). IsPrefix (known_at v.known y) (known_at (with_history v b history).known y)) (sym e)
     (subst (IsPrefix (known_at v.known b)) (sym (known_learned v b history l)) begins))
     (λ ne. subst (IsPrefix (known_at v.known c)) (sym (known_else v b c history ne)) (prefix_refl (known_at v.known c)))
 
@@ -69,16 +69,16 @@ module _ (z : Sizes) where
   }
 
   pub learned_informed : (t : TableState) (v : View) (b : ℕ) → b < buckets z → IsInformed z t v.known v.records
-      → IsInformed z t (learned v b (t.bucket b).history).known v.records
-  learned_informed t v b inside i = more_known t v.known (learned v b (t.bucket b).history).known v.records refl
+      → IsInformed z t (with_history v b (t.bucket b).history).known v.records
+  learned_informed t v b inside i = more_known t v.known (with_history v b (t.bucket b).history).known v.records refl
       (length-set v.known.writes b (t.bucket b).history) (learned_grows v b (t.bucket b).history long (i.begins b inside)) begins i
     where
       long : b < length v.known.writes
       long = let w = i.wide in omega arith
 
-      begins : (c : ℕ) → c < buckets z → IsPrefix (known_at (learned v b (t.bucket b).history).known c) (t.bucket c).history
+      begins : (c : ℕ) → c < buckets z → IsPrefix (known_at (with_history v b (t.bucket b).history).known c) (t.bucket c).history
       begins c l = dite (ℕ_discrete c b)
-          (λ e. subst (λ (y : ℕ). IsPrefix (known_at (learned v b (t.bucket b).history).known y) (t.bucket y).history) (sym e)
+          (λ e. subst (λ (y : ℕ). IsPrefix (known_at (with_history v b (t.bucket b).history).known y) (t.bucket y).history) (sym e)
           (subst (λ (h : List Write). IsPrefix h (t.bucket b).history) (sym (known_learned v b (t.bucket b).history long))
           (prefix_refl (t.bucket b).history)))
           (λ ne. subst (λ (h : List Write). IsPrefix h (t.bucket c).history) (sym (known_else v b c (t.bucket b).history ne)) (i.begins c l))
@@ -101,7 +101,7 @@ module _ (z : Sizes) where
     own = λ k b n q w e l f is. let o = counted_at rs k q e in i.own k b n o.0 w o.1 l f (is ∙ sym o.2);
   }
 
-  -- ---- A call is put behind the others of the acting record
+  -- ---- A call is put after the others of the acting record
 
   -- what it takes that records with the call c stay lawful, where `known` holds what is known then
   pub record MayPush (known : Known) (rs : List Record) (c : Call) : Type 0 where

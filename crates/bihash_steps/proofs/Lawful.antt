@@ -73,7 +73,7 @@ parts_apart seen rs rs' has i k r q e f =
 
 -- ---- Parts of records
 
--- each record of `part` stands in `rs`, no two of them at one place
+-- each record of `part` is in `rs`, no two of them at one place
 pub record IsPart (part rs : List Record) : Type 0 where
   pub from : ℕ → ℕ
   pub apart : (i k : ℕ) → i ≢ k → from i ≢ from k

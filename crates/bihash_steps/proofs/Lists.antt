@@ -14,7 +14,7 @@ module _ {A : Type 0} where
   there (x ∷ xs) zero h = (x, refl)
   there (x ∷ xs) (suc i) h = there xs i (omega arith)
 
-  -- an element of a list that is one longer stands in the list or is its last
+  -- an element of a list that is one longer is in the list or is its last
   pub at_end : (l : List A) (a b : A) (j : ℕ) → get_elem? (l ++ a ∷ []) j ≡ some b → (get_elem? l j ≡ some b) ⊎ ((j ≡ length l) × (a ≡ b))
   at_end [] a b zero e = inr (refl, some-injective a b e)
   at_end [] a b (suc j) e = absurd (some-ne-none b (sym e))

@@ -18,11 +18,11 @@ prefix_refl h = record { rest = []; whole = sym (append-nil h) }
 pub prefix_length : (xs ys : List Write) → IsPrefix xs ys → length xs ≤ length ys
 prefix_length xs ys p = let e = ap length p.whole in let a = length-append xs p.rest in omega arith
 
--- an element of a beginning stands in the whole at its place
+-- an element of a beginning is in the whole at its place
 pub prefix_at : (xs ys : List Write) (n : ℕ) (w : Write) → IsPrefix xs ys → get_elem? xs n ≡ some w → get_elem? ys n ≡ some w
 prefix_at xs ys n w p e = ap (λ (l : List Write). get_elem? l n) p.whole ∙ at_longer xs p.rest n w e
 
--- an element of the whole below its length stands in the beginning
+-- an element of the whole below its length is in the beginning
 pub prefix_below : (xs ys : List Write) (n : ℕ) (w : Write) → IsPrefix xs ys → n < length xs → get_elem? ys n ≡ some w
     → get_elem? xs n ≡ some w
 prefix_below xs ys n w p l e = go xs n l (ap (λ (l : List Write). get_elem? l n) (sym p.whole) ∙ e)

@@ -5,7 +5,7 @@ use lib.ListN.{get_elem?}
 use Rattle.bihash_words.specs.Sizes.{Sizes}
 use Rattle.bihash_words.specs.declared.patch.Reply.TheVariants.{NoPages}
 use Rattle.bihash_steps.specs.Callers.{HasNumbers, HasNumber, IsWhole, MayFollow, Rises}
-use Rattle.bihash_steps.specs.PageStores.{HasCall, IsShort, AreShort}
+use Rattle.bihash_steps.specs.PageStores.{HasCall, BearsOutOfPages, BearOutOfPages}
 use Rattle.bihash_steps.specs.BucketSteps.{acting, push_call, lock_counted}
 use Rattle.bihash_steps.specs.declared.view.Call.{Call}
 use Rattle.bihash_steps.specs.declared.view.Record.{Record}
@@ -85,11 +85,11 @@ push_has c d rs h = elim (push_at c rs h.0 h.2 h.3) [
   | inr o ↦ inl (h.0, h.1, h.2, o.1, h.4)
 ]
 
-pub push_short : (z : Sizes) (writes : ℕ) (c : Call) (rs : List Record) → ((log2 left : ℕ) → c.reply ≡ NoPages log2 left → IsShort z writes c log2 left)
-    → AreShort z writes rs → AreShort z writes (push_call c rs)
+pub push_short : (z : Sizes) (writes : ℕ) (c : Call) (rs : List Record) → ((log2 left : ℕ) → c.reply ≡ NoPages log2 left → BearsOutOfPages z writes c log2 left)
+    → BearOutOfPages z writes rs → BearOutOfPages z writes (push_call c rs)
 push_short z writes c rs new short d h log2 left e = elim (push_has c d rs h) [
   | inl o ↦ short d o log2 left e
-  | inr o ↦ subst (λ (y : Call). IsShort z writes y log2 left) o (new log2 left (ap (λ (y : Call). y.reply) o ∙ e))
+  | inr o ↦ subst (λ (y : Call). BearsOutOfPages z writes y log2 left) o (new log2 left (ap (λ (y : Call). y.reply) o ∙ e))
 ]
 
 -- stamps rise where the last call may follow each before it
@@ -139,5 +139,5 @@ counted_number n rs = same_number rs (lock_counted rs) (counted_renumbers rs) n
 pub counted_has : (d : Call) (rs : List Record) → HasCall (lock_counted rs) d → HasCall rs d
 counted_has d rs h = let o = counted_at rs h.0 h.2 h.3 in (h.0, h.1, o.0, o.1, ap (λ (calls : List Call). get_elem? calls h.1) o.3 ∙ h.4)
 
-pub counted_short : (z : Sizes) (writes : ℕ) (rs : List Record) → AreShort z writes rs → AreShort z writes (lock_counted rs)
+pub counted_short : (z : Sizes) (writes : ℕ) (rs : List Record) → BearOutOfPages z writes rs → BearOutOfPages z writes (lock_counted rs)
 counted_short z writes rs short d h = short d (counted_has d rs h)

@@ -142,7 +142,7 @@ module _ (z : Sizes) where
     stands = front_still words i n k.page k.words before h.stands;
   }
 
-  -- a store behind the words of the page store leaves them
+  -- a store after the words of the page store leaves them
   pub store_still : (words : List ℕ) (i n : ℕ) → front_words z ≤ i → (k : ℕ) → 1 ≤ k → k < front_words z
       → slice_index (set words i n) k ≡ slice_index words k
   store_still words i n behind k some_word l = get_or-set_other words i k n 0 (λ e. omega arith)
@@ -172,7 +172,7 @@ module _ (z : Sizes) where
       let x : ℕ = p * n in let y : ℕ = 2 ^ log2 * n in let w : ℕ = z.pages * n in
       let m' : x + y ≤ w = subst (λ (t : ℕ). t ≤ w) e m in let h' : k < y = h in omega arith
 
--- a list stands behind a store of one of its words
+-- a list follows a store of one of its words
 pub stored_stands : (words : List ℕ) (at k n : ℕ) (xs : List ℕ) → at + k < length words → k < length xs → Stands words at xs
     → Stands (set words (at + k) n) at (set xs k n)
 stored_stands words at k n xs inside below stood i l = dite (ℕ_discrete i k)

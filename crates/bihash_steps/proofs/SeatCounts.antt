@@ -94,7 +94,7 @@ pub counted_unused : (z : Sizes) (mark log2 used : ℕ) (m m' : ViewOfSeat) (num
 counted_unused z mark log2 used m m' numbers stamp may is told h =
     counted_same m m' numbers stamp told.slots (ap (λ (v : View). v.records) (told.taken log2 used may.locked may is may.store).is) h
 
--- ---- The state behind a step
+-- ---- The state after a step
 
 -- what holds of the view that contracts see holds of the seat's
 pub of_seat : (P : View → Type 0) {t : TableId} {i : ℕ} {v : View} {state : CallerState} → caller_state t i v ≡ state → P state.view → P v

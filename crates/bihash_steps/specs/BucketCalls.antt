@@ -1,4 +1,4 @@
--- What the steps on a bucket leave of their caller: s is the caller before the step, t behind it.
+-- What the steps on a bucket leave of their caller: s is the caller before the step, t after it.
 use Rattle.std.specs.Prelude.{◌≡◌, ◌⊎◌, ℕ, true, false, Bool, List, Option, Some, None}
 use Rattle.bihash_words.specs.Maps
 use Rattle.bihash_words.specs.Sizes.{Sizes}
@@ -8,7 +8,7 @@ use Rattle.bihash_words.specs.declared.patch.Reply.{Reply}
 use Rattle.bihash_words.specs.declared.shape.Shape.{Ghosts}
 use Rattle.bihash_steps.specs.Callers.{IsLawfulCaller, known_at}
 use Rattle.bihash_steps.specs.Buckets.{open_word}
-use Rattle.bihash_steps.specs.BucketSteps.{RestsOn, SeesLocked, SeesOpen, TakesLock, call_of, unnoted, validated}
+use Rattle.bihash_steps.specs.BucketSteps.{RestsOn, SeesLocked, SeesOpen, TakesLock, call_of, without_notes, view_after_validate}
 use Rattle.bihash_steps.specs.Seats.{CallerState, IsSameSeat, with_view}
 use Rattle.bihash_steps.specs.declared.event.Event.{Event}
 use Rattle.bihash_steps.specs.declared.view.Call.{Call}
@@ -52,7 +52,7 @@ pub record MayLock (v : View) (word : ℕ) : Type 0 where
 pub record TriesLock (z : Sizes) (s t : CallerState) (b word : ℕ) (locked : Bool) : Type 0 where
   pub same : IsSameSeat s t
   pub taken : locked ≡ true → TakesLock z s.view b word t.view
-  pub not : locked ≡ false → t.view ≡ unnoted s.view
+  pub not : locked ≡ false → t.view ≡ without_notes s.view
   pub lone : s.view.lone ≡ true → (o : OpenBucket) → s.view.notes.open_bucket ≡ Some o → o.bucket ≡ b
       → word ≡ open_word o → locked ≡ true
   pub rests : locked ≡ true → (o : OpenBucket) → s.view.notes.open_bucket ≡ Some o → o.bucket ≡ b
@@ -62,7 +62,7 @@ pub record TriesLock (z : Sizes) (s t : CallerState) (b word : ℕ) (locked : Bo
 
 -- the call was answered where the bucket had the word that was noted; a lone caller finds it
 pub record IsValidated (z : Sizes) (s t : CallerState) (c : Call) (here : Bool) : Type 0 where
-  pub valid : here ≡ true → t ≡ with_view s (validated s.view c)
-  pub not : here ≡ false → t ≡ with_view s (unnoted s.view)
+  pub valid : here ≡ true → t ≡ with_view s (view_after_validate s.view c)
+  pub not : here ≡ false → t ≡ with_view s (without_notes s.view)
   pub lone : s.view.lone ≡ true → here ≡ true
   pub lawful : IsLawfulCaller z t.view

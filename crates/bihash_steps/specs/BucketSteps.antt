@@ -10,7 +10,7 @@ use Rattle.bihash_steps.specs.Words.{block_words}
 use Rattle.bihash_steps.specs.Histories.{IsKeyOf, IsPrefix, IsWrite, IsWriteList, IsAnswer, after, is_changed, store_of, write_of}
 use Rattle.bihash_steps.specs.Callers.{known_at, opening_at, IsLawfulCaller}
 use Rattle.bihash_steps.specs.Blocks.{IsBlockOf}
-use Rattle.bihash_steps.specs.Buckets.{Reads, word_of, open_word}
+use Rattle.bihash_steps.specs.Buckets.{AreReadIn, word_of, open_word}
 use Rattle.bihash_steps.specs.PageStores.{returned_in}
 use Rattle.bihash_steps.specs.Views.{no_notes}
 use Rattle.bihash_steps.specs.Steps.{ViewOfSeat}
@@ -26,12 +26,12 @@ use Rattle.bihash_steps.specs.declared.view.View.{View}
 -- ---- A load of a bucket's word
 
 -- what was noted is dropped
-abbrev pub unnoted : View → View
-unnoted v = record v { notes = no_notes }
+abbrev pub without_notes : View → View
+without_notes v = record v { notes = no_notes }
 
 -- the history of bucket b is known whole
-abbrev pub learned : View → ℕ → List Write → View
-learned v b history = record v { known = record v.known { writes = slice_set v.known.writes b history } }
+abbrev pub with_history : View → ℕ → List Write → View
+with_history v b history = record v { known = record v.known { writes = slice_set v.known.writes b history } }
 
 -- What a step that finds bucket b with this word, and so without its lock, tells of it: a history that
 -- continues what was known, and the block that holds the pairs which that leaves.
@@ -61,7 +61,7 @@ pub record SeesOpen (z : Sizes) (v : View) (b word : ℕ) (w : View) : Type 0 wh
   pub extent : Extent
   pub block : List ℕ
   pub found : IsFound z v b word history extent block
-  pub is : w ≡ record (learned v b history) {
+  pub is : w ≡ record (with_history v b history) {
     notes = record no_notes { open_bucket = Some (open_on b (length history) extent block) };
   }
 
@@ -71,7 +71,7 @@ pub record SeesLocked (v : View) (word : ℕ) (w : View) : Type 0 where
   pub version : ℕ
   pub fits : Fits (word_of extent true version)
   pub stood : word ≡ packed (word_of extent true version)
-  pub is : w ≡ unnoted v
+  pub is : w ≡ without_notes v
 
 -- a lone caller that has no lock finds none, and knew the history before
 pub record TellsBucket (z : Sizes) (b : ℕ) (m : ViewOfSeat) (found : ℕ) (m' : ViewOfSeat) : Type 0 where
@@ -111,7 +111,7 @@ pub record TakesLock (z : Sizes) (v : View) (b word : ℕ) (w : View) : Type 0 w
   pub extent : Extent
   pub block : List ℕ
   pub found : IsFound z v b word history extent block
-  pub is : w ≡ locking (learned v b history) (locked_on b (length history) extent block)
+  pub is : w ≡ locking (with_history v b history) (locked_on b (length history) extent block)
 
 -- What was read while the bucket was open holds under its lock: the block is the one that was noted, and
 -- the words that were read are its words.
@@ -119,13 +119,13 @@ pub record RestsOn (o : OpenBucket) (l : LockedBucket) : Type 0 where
   pub extent : l.extent ≡ o.extent
   pub version : l.version ≡ o.version
   pub block : l.was ≡ o.block
-  pub reads : Reads o.reads l.was
+  pub reads : AreReadIn o.reads l.was
 
 -- a lone caller that saw the bucket with this word takes its lock, and knew the history before
 pub record TellsLock (z : Sizes) (b word : ℕ) (m : ViewOfSeat) (found : ℕ) (m' : ViewOfSeat) : Type 0 where
   pub slots : m'.1 ≡ m.1
   pub taken : found ≡ word → TakesLock z m.0 b word m'.0
-  pub not : (found ≡ word → ⊥) → m'.0 ≡ unnoted m.0
+  pub not : (found ≡ word → ⊥) → m'.0 ≡ without_notes m.0
   pub lone : m.0.lone ≡ true → (o : OpenBucket) → m.0.notes.open_bucket ≡ Some o → o.bucket ≡ b
       → word ≡ open_word o → found ≡ word
   pub rests : found ≡ word → (o : OpenBucket) → m.0.notes.open_bucket ≡ Some o → o.bucket ≡ b
@@ -135,8 +135,8 @@ pub record TellsLock (z : Sizes) (b word : ℕ) (m : ViewOfSeat) (found : ℕ) (
 
 -- ---- The words of the block under the lock
 
-abbrev pub relocked : View → Option LockedBucket → View
-relocked v lock = record v { holds = record v.holds { bucket = lock }; notes = no_notes }
+abbrev pub with_lock : View → Option LockedBucket → View
+with_lock v lock = record v { holds = record v.holds { bucket = lock }; notes = no_notes }
 
 -- word k of the block that the caller has locked, which begins at this page
 pub record IsLockedWord (z : Sizes) (v : View) (page k : ℕ) : Type 0 where
@@ -156,7 +156,7 @@ stored_in l k word = record l { now = slice_set l.now k word; stored = true }
 
 abbrev pub TellsStored : ℕ → ℕ → ViewOfSeat → ViewOfSeat → Type 0
 TellsStored k word m m' = (l : LockedBucket) → m.0.holds.bucket ≡ Some l
-    → m' ≡ (relocked m.0 (Some (stored_in l k word)), m.1)
+    → m' ≡ (with_lock m.0 (Some (stored_in l k word)), m.1)
 
 -- ---- The old word is put back
 
@@ -169,8 +169,8 @@ pub record HoldsClean (v : View) (b word : ℕ) : Type 0 where
   pub clean : lock.stored ≡ false
 
 -- the lock was opened without an answer
-abbrev pub unlocked : View → View
-unlocked v = relocked v None
+abbrev pub without_lock : View → View
+without_lock v = with_lock v None
 
 -- the number that the caller acts under
 abbrev pub acting : List Record → ℕ
@@ -187,10 +187,10 @@ abbrev pub last_call : List Record → Option Call
 last_call [] = None
 last_call (r ∷ rs) = last_or None r.calls
 
-abbrev pub called : View → Call → View
-called v c = record v { records = push_call c v.records }
+abbrev pub with_call : View → Call → View
+with_call v c = record v { records = push_call c v.records }
 
--- a call on bucket b, `more` writes behind what is known of it
+-- a call on bucket b, `more` writes after what is known of it
 abbrev pub call_of : View → ℕ → ℕ → Event → Call
 call_of v b more e = record {
   bucket = b;
@@ -221,8 +221,8 @@ pub record MayAnswer (z : Sizes) (v : View) (b word : ℕ) (c : Call) : Type 0 w
   pub store : c.store ≡ store_of c.reply v.notes.left
 
 -- the call was answered, and the lock opened
-abbrev pub answered : View → Call → View
-answered v c = unlocked (called v c)
+abbrev pub view_after_answer : View → Call → View
+view_after_answer v c = without_lock (with_call v c)
 
 pub record TellsEvent (z : Sizes) (after : View → View) (m m' : ViewOfSeat) : Type 0 where
   pub seat : m' ≡ (after m.0, m.1)
@@ -246,7 +246,7 @@ pub record MayWrite (z : Sizes) (v : View) (b word : ℕ) (c : Call) : Type 0 wh
   pub store : c.store ≡ store_of c.reply v.notes.left
   pub write : IsWrite z b (length (known_at v.known b)) (map_now v b) (write_of (acting v.records) c)
 
--- the map behind the write
+-- the map after the write
 abbrev pub next_map : View → ℕ → Call → Pairs
 next_map v b c = changed (map_now v b) c.key c.change
 
@@ -255,10 +255,10 @@ pub record MayPublish (z : Sizes) (v : View) (b word : ℕ) (c : Call) : Type 0 
   pub write : MayWrite z v b word c
   pub pairs : IsBlockOf z write.lock.extent write.lock.now (next_map v b c)
 
--- the write stands at the end of the bucket's history, and the lock is open
-abbrev pub written : View → Call → View
-written v c = unlocked
-    (called (learned v c.bucket (known_at v.known c.bucket ++ write_of (acting v.records) c ∷ [])) c)
+-- the write is at the end of the bucket's history, and the lock is open
+abbrev pub view_after_write : View → Call → View
+view_after_write v c = without_lock
+    (with_call (with_history v c.bucket (known_at v.known c.bucket ++ write_of (acting v.records) c ∷ [])) c)
 
 -- ---- Without the lock
 
@@ -267,8 +267,8 @@ abbrev pub read_more : List (ℕ × ℕ) → Option OpenBucket → Option OpenBu
 read_more more None = None
 read_more more (Some o) = Some (record o { reads = more ++ o.reads })
 
-abbrev pub reading : View → List (ℕ × ℕ) → View
-reading v more = record v { notes = record v.notes { open_bucket = read_more more v.notes.open_bucket } }
+abbrev pub with_reading : View → List (ℕ × ℕ) → View
+with_reading v more = record v { notes = record v.notes { open_bucket = read_more more v.notes.open_bucket } }
 
 -- word k of the block that was noted of the open bucket, which begins at this page
 pub record IsOpenWord (z : Sizes) (v : View) (page k : ℕ) : Type 0 where
@@ -280,7 +280,7 @@ pub record IsOpenWord (z : Sizes) (v : View) (page k : ℕ) : Type 0 where
 
 -- the word is noted among those that were read
 abbrev pub TellsOpenWord : ℕ → ViewOfSeat → ℕ → ViewOfSeat → Type 0
-TellsOpenWord k m found m' = m' ≡ (reading m.0 ((k, found) ∷ []), m.1)
+TellsOpenWord k m found m' = m' ≡ (with_reading m.0 ((k, found) ∷ []), m.1)
 
 -- A call that is no write may be answered where the bucket is found with the word that was noted, if it
 -- is the answer at the bucket's map on the condition that the words that were read are the block's.
@@ -295,19 +295,19 @@ pub record MayValidate (z : Sizes) (v : View) (b word : ℕ) (c : Call) : Type 0
   pub stamp : c.stamp ≡ length (known_at v.known b)
   pub key : IsKeyOf z b c.key
   pub reads : is_changed c.reply ≡ false
-  pub answers : Reads open_bucket.reads open_bucket.block
+  pub answers : AreReadIn open_bucket.reads open_bucket.block
       → IsAnswer z (map_now v b) (length (known_at v.known b)) c
   pub pages : (log2 left : ℕ) → c.reply ≡ NoPages log2 left → ⊥
   pub store : c.store ≡ store_of c.reply v.notes.left
 
 -- the call was answered without a lock
-abbrev pub validated : View → Call → View
-validated v c = unnoted (called v c)
+abbrev pub view_after_validate : View → Call → View
+view_after_validate v c = without_notes (with_call v c)
 
 -- a lone caller finds the word that it noted
 pub record TellsValid (z : Sizes) (word : ℕ) (c : Call) (m : ViewOfSeat) (found : ℕ) (m' : ViewOfSeat) : Type 0 where
   pub slots : m'.1 ≡ m.1
-  pub valid : found ≡ word → m'.0 ≡ validated m.0 c
-  pub not : (found ≡ word → ⊥) → m'.0 ≡ unnoted m.0
+  pub valid : found ≡ word → m'.0 ≡ view_after_validate m.0 c
+  pub not : (found ≡ word → ⊥) → m'.0 ≡ without_notes m.0
   pub lone : m.0.lone ≡ true → found ≡ word
   pub lawful : IsLawfulCaller z m'.0

@@ -80,8 +80,8 @@ NotesLocks z x j lock = (b : ℕ) → b < buckets z → (x b).lock ≡ Some j �
 -- ---- Without its lock
 
 -- the words that were read are those of the block
-abbrev pub Reads : List (ℕ × ℕ) → List ℕ → Type 0
-Reads reads block = (i : ℕ) (p : ℕ × ℕ) → get_elem? reads i ≡ some p → p.1 ≡ slice_index block p.0
+abbrev pub AreReadIn : List (ℕ × ℕ) → List ℕ → Type 0
+AreReadIn reads block = (i : ℕ) (p : ℕ × ℕ) → get_elem? reads i ≡ some p → p.1 ≡ slice_index block p.0
 
 -- the word of the bucket, as it was seen
 abbrev pub open_word : OpenBucket → ℕ
@@ -96,13 +96,13 @@ pub record IsOpen (z : Sizes) (o : OpenBucket) (x : BucketState) : Type 0 where
   pub past : o.version ≤ length x.history
   pub extent : o.version ≡ length x.history → o.extent ≡ x.extent
   pub block : o.version ≡ length x.history → o.block ≡ x.block
-  pub reads : o.version ≡ length x.history → x.dirty ≡ false → Reads o.reads x.block
+  pub reads : o.version ≡ length x.history → x.dirty ≡ false → AreReadIn o.reads x.block
 
 abbrev pub IsOpenIf : Sizes → (ℕ → BucketState) → Option OpenBucket → Type 0
 IsOpenIf z x None = Unit {0}
 IsOpenIf z x (Some o) = IsOpen z o (x o.bucket)
 
--- the word that was seen stands there
+-- the word that was seen is there
 abbrev pub StandsStillIf : Sizes → List ℕ → Option OpenBucket → Type 0
 StandsStillIf z words None = Unit {0}
 StandsStillIf z words (Some o) = slice_index words (bucket_at z o.bucket) ≡ open_word o

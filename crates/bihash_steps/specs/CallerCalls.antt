@@ -1,10 +1,10 @@
--- What the steps on callers and their numbers ask, and what they leave: s is the caller before the step, t behind it.
+-- What the steps on callers and their numbers ask, and what they leave: s is the caller before the step, t after it.
 use Rattle.std.specs.Prelude.{◌≡◌, ◌≢◌, ℕ, ◌<◌, ◌≤◌, true, false, Bool, length, Option}
 use Rattle.atomic_table.specs.Seated.{TableId}
 use Rattle.bihash_words.specs.Sizes.{Sizes}
 use Rattle.bihash_steps.specs.Callers.{Agrees, IsLawfulCaller}
 use Rattle.bihash_steps.specs.Views.{nothing_held}
-use Rattle.bihash_steps.specs.Steps.{HaveBearers, IsToldWhole, counted, first_numbers, informed_by, joined, numbered, other_numbers, recounted}
+use Rattle.bihash_steps.specs.Steps.{HaveBearers, IsToldWhole, view_after_count, first_numbers, informed_by, view_after_join, view_after_number, other_numbers, recounted}
 use Rattle.bihash_steps.specs.Seats.{CallerState, stamp_of, with_view}
 use Rattle.bihash_steps.specs.declared.view.View.{View}
 
@@ -20,17 +20,17 @@ pub record AreIdle (row : TableId) (s other : CallerState) : Type 0 where
 
 -- The caller count was loaded. A caller with as many numbers is lone from then on, and knows what that tells it.
 pub record HasCounted (z : Sizes) (s t : CallerState) (count : ℕ) : Type 0 where
-  pub view : t ≡ with_view s (counted s.view count)
+  pub view : t ≡ with_view s (view_after_count s.view count)
   pub rises : s.view.seen ≤ count
   pub few : count ≤ z.callers
   pub lawful : IsLawfulCaller z t.view
   pub bearers : HaveBearers z t.view
   pub whole : t.view.lone ≡ true → IsToldWhole z t.view
 
--- the number behind this count was taken, or another count was found
+-- the number after this count was taken, or another count was found
 pub record TakesNumber (z : Sizes) (s t : CallerState) (count : ℕ) (won : Bool) : Type 0 where
   pub row : (t.row ≡ s.row) × (t.seat ≡ s.seat)
-  pub taken : won ≡ true → t.view ≡ numbered s.view count
+  pub taken : won ≡ true → t.view ≡ view_after_number s.view count
   pub not : won ≡ false → (found : ℕ) × (found ≢ count) × (s.view.seen ≤ found) × (t.view ≡ recounted s.view found)
   pub lawful : IsLawfulCaller z t.view
 
@@ -49,7 +49,7 @@ pub record IsCut (z : Sizes) (s t u : CallerState) (kept : ℕ) : Type 0 where
 
 -- the caller t has the numbers and records of s and the other
 pub record IsJoined (z : Sizes) (s other t : CallerState) : Type 0 where
-  pub view : t ≡ with_view s (joined s.view other.view)
+  pub view : t ≡ with_view s (view_after_join s.view other.view)
   pub lawful : IsLawfulCaller z t.view
   pub agree : Agrees s.view other.view
 

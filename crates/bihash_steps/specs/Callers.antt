@@ -28,7 +28,7 @@ opening_at known b = opening_in known.openings b
 abbrev pub known_at : Known → ℕ → List Write
 known_at known b = slice_index_or known.writes b []
 
--- d may come behind c in one record: on one bucket no stamp falls, and that of a write is greater than
+-- d may come after c in one record: on one bucket no stamp falls, and that of a write is greater than
 -- all before it
 abbrev pub MayFollow : Call → Call → Type 0
 MayFollow c d = c.bucket ≡ d.bucket → (c.stamp ≤ d.stamp)

@@ -4,7 +4,7 @@ use Rattle.std.proofs.Math.ListN.{take}
 use lib.ListN.{get_elem?}
 use mathlib.Core.Option.{some}
 use Rattle.std.specs.FinMap.{get}
-use Rattle.bihash_words.specs.Maps.{Pairs, Bounds, Event, Step, changed}
+use Rattle.bihash_words.specs.Maps.{Pairs, Bounds, Event, IsEvent, changed}
 use Rattle.bihash_words.specs.Patches.{IsStorable}
 use Rattle.bihash_words.specs.declared.patch.Reply.{Reply}
 use Rattle.bihash_words.specs.declared.patch.Reply.TheVariants.{Kept, Changed, Worn, Full, NoPages}
@@ -41,11 +41,11 @@ event_of_write m w = record {
   reply = Changed (get m w.key);
 }
 
--- a write of bucket b that stands behind n others, which left the map m
+-- a write of bucket b that follows n others, which left the map m
 pub record IsWrite (z : Sizes) (b n : ℕ) (m : Pairs) (w : Write) : Type 0 where
   pub key : IsKeyOf z b w.key
   pub storable : IsStorable w.change
-  pub changes : Step (bounds_of z) m n (event_of_write m w) (changed m w.key w.change)
+  pub changes : IsEvent (bounds_of z) m n (event_of_write m w) (changed m w.key w.change)
 
 -- a write list: at most `limit` writes, each of which changes the map that those before it left; the keys
 -- of the map that it starts from are the bucket's
@@ -78,9 +78,9 @@ store_of (NoPages log2 left) noted = noted
 abbrev pub event_of : Call → Event
 event_of c = record { key = c.key; found = c.found; change = c.change; reply = c.reply }
 
--- the call is what a bounded map answers at the map m, behind n writes
+-- the call is what a bounded map answers at the map m, after n writes
 abbrev pub IsAnswer : Sizes → Pairs → ℕ → Call → Type 0
-IsAnswer z m n c = (m' : Pairs) × Step (bounds_of z) m n (event_of c) m'
+IsAnswer z m n c = (m' : Pairs) × IsEvent (bounds_of z) m n (event_of c) m'
 
 -- the write that a call of this caller number made
 abbrev pub write_of : ℕ → Call → Write

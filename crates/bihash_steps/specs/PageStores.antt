@@ -35,7 +35,7 @@ writes_in x (suc n) = writes_in x n + length (x n).history
 abbrev pub all_writes : Sizes → (ℕ → BucketState) → ℕ
 all_writes z x = writes_in x (buckets z)
 
--- The words of the page store, behind so many writes. No more pages were handed out than the writes, and
+-- The words of the page store, after so many writes. No more pages were handed out than the writes, and
 -- one block that is not published yet, can have taken.
 pub record IsStore (z : Sizes) (words : List ℕ) (writes : ℕ) (q : StoreState) : Type 0 where
   pub lock : allocation_lock_of words ≡ bit (is_some q.lock)
@@ -50,7 +50,7 @@ pub record IsStore (z : Sizes) (words : List ℕ) (writes : ℕ) (q : StoreState
 
 -- ---- With the allocation lock
 
--- a page number stands behind the last of its list
+-- a page number follows the last of its list
 pub record IsListed (z : Sizes) (words : List ℕ) (store : PageStore) (i : ListedPage) : Type 0 where
   pub small : i.log2 ≤ z.max_log2
   pub room : length (returned_in store i.log2) < list_words z i.log2
@@ -105,7 +105,7 @@ runs_now x store views = runs_of (λ b. run_of (x b).extent.page (x b).extent.lo
 
 -- A call that found no block of this log2 bears the page store that it saw: none was returned there, and
 -- `left` pages were never used. So many writes took the others.
-pub record IsShort (z : Sizes) (writes : ℕ) (c : Call) (log2 left : ℕ) : Type 0 where
+pub record BearsOutOfPages (z : Sizes) (writes : ℕ) (c : Call) (log2 left : ℕ) : Type 0 where
   pub store : PageStore
   pub bears : c.store ≡ Some store
   pub none : returned_in store log2 ≡ []
@@ -117,9 +117,9 @@ HasCall records c = (i k : ℕ) × (r : Record) × (get_elem? records i ≡ some
     × (get_elem? r.calls k ≡ some c)
 
 -- each call of the records that was refused for want of pages tells what it saw, and what can be left
-abbrev pub AreShort : Sizes → ℕ → List Record → Type 0
-AreShort z writes records = (c : Call) → HasCall records c → (log2 left : ℕ)
-    → c.reply ≡ NoPages log2 left → IsShort z writes c log2 left
+abbrev pub BearOutOfPages : Sizes → ℕ → List Record → Type 0
+BearOutOfPages z writes records = (c : Call) → HasCall records c → (log2 left : ℕ)
+    → c.reply ≡ NoPages log2 left → BearsOutOfPages z writes c log2 left
 
 -- what was noted when the allocation lock was opened
 abbrev pub LeftIf : Sizes → ℕ → Option PageStore → Type 0

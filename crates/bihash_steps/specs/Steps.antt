@@ -6,7 +6,7 @@ use Rattle.atomic_table.specs.Table.{Me}
 use Rattle.bihash_words.specs.Sizes.{Sizes}
 use Rattle.bihash_steps.specs.Words.{buckets}
 use Rattle.bihash_steps.specs.Callers.{HasMadeAll, IsConsistent, IsLawfulCaller, IsWhole, KnowsOwn, known_at, known_writes}
-use Rattle.bihash_steps.specs.PageStores.{AreShort}
+use Rattle.bihash_steps.specs.PageStores.{BearOutOfPages}
 use Rattle.bihash_steps.specs.Views.{empty_record, nothing_known, nothing_held, no_notes}
 use Rattle.bihash_steps.specs.declared.view.Write.{Write}
 use Rattle.bihash_steps.specs.declared.view.Meeting.{Meeting}
@@ -22,8 +22,8 @@ ViewOfSeat = Me (Unit {0}) View
 
 -- The caller saw this count. It is lone where it has as many numbers. Notes of what stood still before a
 -- lone caller are dropped.
-abbrev pub counted : View → ℕ → View
-counted v count = record v { seen = count; lone = count == length v.records; notes = no_notes }
+abbrev pub view_after_count : View → ℕ → View
+view_after_count v count = record v { seen = count; lone = count == length v.records; notes = no_notes }
 
 -- each write that the caller knows bears a number from 1 to the count that it saw
 abbrev pub HaveBearers : Sizes → View → Type 0
@@ -35,10 +35,10 @@ HaveBearers z v = (b n : ℕ) (w : Write) → b < buckets z → get_elem? (known
 pub record IsToldWhole (z : Sizes) (v : View) : Type 0 where
   pub whole : IsWhole v.records v.seen
   pub made : HasMadeAll z v
-  pub short : AreShort z (known_writes v.known (buckets z)) v.records
+  pub short : BearOutOfPages z (known_writes v.known (buckets z)) v.records
 
 pub record TellsCount (z : Sizes) (m : ViewOfSeat) (found : ℕ) (m' : ViewOfSeat) : Type 0 where
-  pub seat : m' ≡ (counted m.0 found, m.1)
+  pub seat : m' ≡ (view_after_count m.0 found, m.1)
   pub rises : m.0.seen ≤ found
   pub few : found ≤ z.callers
   pub lawful : IsLawfulCaller z m'.0
@@ -48,8 +48,8 @@ pub record TellsCount (z : Sizes) (m : ViewOfSeat) (found : ℕ) (m' : ViewOfSea
 -- ---- An exchange of the caller count with the next
 
 -- the caller has the next number too
-abbrev pub numbered : View → ℕ → View
-numbered v count = record v {
+abbrev pub view_after_number : View → ℕ → View
+view_after_number v count = record v {
   records = v.records ++ empty_record (count + 1) ∷ [];
   seen = count + 1;
   lone = false;
@@ -62,7 +62,7 @@ recounted v count = record v { seen = count }
 pub record TellsNumber (z : Sizes) (count : ℕ) (m : ViewOfSeat) (found : ℕ)
     (m' : ViewOfSeat) : Type 0 where
   pub slots : m'.1 ≡ m.1
-  pub taken : found ≡ count → m'.0 ≡ numbered m.0 found
+  pub taken : found ≡ count → m'.0 ≡ view_after_number m.0 found
   pub not : found ≢ count → m'.0 ≡ recounted m.0 found
   pub rises : m.0.seen ≤ found
   pub few : length m.0.records ≤ found
@@ -83,7 +83,7 @@ other_numbers kept v = record v {
   notes = no_notes;
 }
 
--- the old caller behind a split that found this count: it has all that it had
+-- the old caller after a split that found this count: it has all that it had
 abbrev pub parent : View → ℕ → View
 parent v count = record v { seen = count + 1; lone = false; notes = no_notes }
 
@@ -98,9 +98,9 @@ newcomer v count = record (parent v count) {
 -- there are fewer and their count grew in the call.
 abbrev pub IsRefused : Sizes → View → SplitFault → View → Type 0
 IsRefused z v Memory w = w ≡ v
-IsRefused z v Numbers w = w ≡ counted v z.callers
+IsRefused z v Numbers w = w ≡ view_after_count v z.callers
 IsRefused z v Contended w = (count more : ℕ) × (v.seen ≤ count) × (count < z.callers) × (count < more)
-    × (w ≡ recounted (counted v count) more)
+    × (w ≡ recounted (view_after_count v count) more)
 
 -- ---- A seat takes in another's
 
@@ -123,12 +123,12 @@ informed_by u v w = record u {
 }
 
 -- one caller with the numbers and records of both
-abbrev pub joined : View → View → View
-joined v w = record (informed_by v v w) { records = v.records ++ w.records }
+abbrev pub view_after_join : View → View → View
+view_after_join v w = record (informed_by v v w) { records = v.records ++ w.records }
 
 -- the same, with a note of what both knew and did
 abbrev pub joining : View → View → View
-joining v w = record (joined v w) {
+joining v w = record (view_after_join v w) {
   notes = record no_notes {
     meeting = Some
         (record { first = v.known; second = w.known; first_records = v.records; second_records = w.records });
@@ -136,8 +136,8 @@ joining v w = record (joined v w) {
 }
 
 -- what is left of the other: it has no number, knows nothing and holds nothing
-abbrev pub spent : Sizes → View
-spent z = record {
+abbrev pub view_after_spending : Sizes → View
+view_after_spending z = record {
   records = [];
   known = nothing_known z;
   seen = 0;
@@ -146,7 +146,7 @@ spent z = record {
   notes = no_notes;
 }
 
--- a load behind it
+-- a load after it
 pub record TellsAgreement (z : Sizes) (m m' : ViewOfSeat) : Type 0 where
   pub seat : m' ≡ (record m.0 { notes = no_notes }, m.1)
   pub few : length m.0.records ≤ z.callers

@@ -1,7 +1,7 @@
--- What the steps on the page store leave of their caller: s is the caller before the step, t behind it.
+-- What the steps on the page store leave of their caller: s is the caller before the step, t after it.
 use Rattle.std.specs.Prelude.{◌≡◌, ℕ, true, false, Bool, Some, None}
 use Rattle.bihash_words.specs.Sizes.{Sizes}
-use Rattle.bihash_steps.specs.BucketSteps.{unnoted}
+use Rattle.bihash_steps.specs.BucketSteps.{without_notes}
 use Rattle.bihash_steps.specs.StoreSteps.{HasRoomFor, LocksStore, word_in}
 use Rattle.bihash_steps.specs.Seats.{CallerState, IsSameSeat}
 use Rattle.bihash_steps.specs.declared.pool.word.PoolWord.{PoolWord}
@@ -11,7 +11,7 @@ use Rattle.bihash_steps.specs.declared.view.LockedStore.{LockedStore}
 pub record TriesStoreLock (z : Sizes) (s t : CallerState) (locked : Bool) : Type 0 where
   pub same : IsSameSeat s t
   pub taken : locked ≡ true → LocksStore z s.view t.view
-  pub not : locked ≡ false → t.view ≡ unnoted s.view
+  pub not : locked ≡ false → t.view ≡ without_notes s.view
   pub lone : s.view.lone ≡ true → s.view.holds.store ≡ None → locked ≡ true
 
 -- a word of the page store was loaded

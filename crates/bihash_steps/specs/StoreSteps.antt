@@ -7,7 +7,7 @@ use Rattle.bihash_steps.specs.Blocks.{no_block, IsBlockOf}
 use Rattle.bihash_steps.specs.PageStores.{returned_in}
 use Rattle.bihash_steps.specs.Views.{no_notes}
 use Rattle.bihash_steps.specs.Steps.{ViewOfSeat}
-use Rattle.bihash_steps.specs.BucketSteps.{unnoted, MayWrite, next_map, written}
+use Rattle.bihash_steps.specs.BucketSteps.{without_notes, MayWrite, next_map, view_after_write}
 use Rattle.bihash_steps.specs.declared.view.Call.{Call}
 use Rattle.bihash_steps.specs.declared.view.Extent.{Extent}
 use Rattle.bihash_steps.specs.declared.view.LockedBucket.{LockedBucket}
@@ -40,7 +40,7 @@ pub record LocksStore (z : Sizes) (v w : View) : Type 0 where
 pub record TellsStoreLock (z : Sizes) (m : ViewOfSeat) (found : ℕ) (m' : ViewOfSeat) : Type 0 where
   pub slots : m'.1 ≡ m.1
   pub taken : found ≡ 0 → LocksStore z m.0 m'.0
-  pub not : found ≢ 0 → m'.0 ≡ unnoted m.0
+  pub not : found ≢ 0 → m'.0 ≡ without_notes m.0
   pub lone : m.0.lone ≡ true → m.0.holds.store ≡ None → found ≡ 0
 
 -- the lock was opened: what stood in the page store is noted, for a refusal for want of pages
@@ -155,7 +155,7 @@ stored_at h k word = record h { words = slice_set h.words k word }
 
 -- ---- A held block is given back
 
--- the page of the held block may be written behind the last of its list
+-- the page of the held block may be written after the last of its list
 pub record MayList (z : Sizes) (v : View) (log2 count page : ℕ) : Type 0 where
   pub locked : LockedStore
   pub store : v.holds.store ≡ Some locked
@@ -236,8 +236,8 @@ abbrev pub settled_in : Option LockedStore → Option LockedStore
 settled_in None = None
 settled_in (Some n) = Some (record n { store = record n.store { unpublished = false } })
 
--- the view behind a write that gives the bucket another block
-abbrev pub replaced : View → Call → View
-replaced v c = record (written v c) {
+-- the view after a write that gives the bucket another block
+abbrev pub view_after_replace : View → Call → View
+view_after_replace v c = record (view_after_write v c) {
   holds = record { bucket = None; store = settled_in v.holds.store; block = freed v.holds.bucket };
 }

@@ -11,7 +11,7 @@ use Rattle.bihash_steps.specs.Callers.{Openings, known_at, opening_in, IsLawful,
 use Rattle.bihash_steps.specs.Blocks.{no_block}
 use Rattle.bihash_steps.specs.Partition.{IsPartition}
 use Rattle.bihash_steps.specs.Buckets.{BucketState, IsBucket, HoldsBucketIf, NotesLocks, IsOpenIf, StandsStillIf}
-use Rattle.bihash_steps.specs.PageStores.{StoreState, IsStore, HoldsStoreIf, NotesStore, HoldsBlockIf, AreShort, LeftIf, all_writes, runs_now}
+use Rattle.bihash_steps.specs.PageStores.{StoreState, IsStore, HoldsStoreIf, NotesStore, HoldsBlockIf, BearOutOfPages, LeftIf, all_writes, runs_now}
 use Rattle.bihash_steps.specs.Views.{nothing_held}
 use Rattle.bihash_steps.specs.declared.view.Write.{Write}
 use Rattle.bihash_steps.specs.declared.view.Record.{Record}
@@ -69,7 +69,7 @@ pub record IsView (z : Sizes) (words : List ℕ) (count : ℕ) (t : TableState) 
   pub open_bucket : IsOpenIf z t.bucket v.notes.open_bucket
   pub still : v.lone ≡ true → StandsStillIf z words v.notes.open_bucket
   -- what it was told, and what it noted, of pages that were left
-  pub short : AreShort z (all_writes z t.bucket) v.records
+  pub short : BearOutOfPages z (all_writes z t.bucket) v.records
   pub left : LeftIf z (all_writes z t.bucket) v.notes.left
   pub meeting : HaveMetIf z t v.notes.meeting
 

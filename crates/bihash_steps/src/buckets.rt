@@ -2,8 +2,8 @@
 ghost use Rattle.std.specs.Prelude.{◌≡◌, [], ◌∷◌, Some, slice_index};
 ghost use Rattle.bihash_words.specs.Sizes.{sizes_of};
 ghost use Rattle.bihash_steps.specs.BucketCalls.{FindsBucket, IsValidated, MayLock, TriesLock, answer_at, write_at};
-ghost use Rattle.bihash_steps.specs.BucketSteps.{IsLockedWord, relocked, stored_in, HoldsClean, unlocked, MayAnswer, answered, MayPublish, written, IsOpenWord, reading, MayValidate};
-ghost use Rattle.bihash_steps.specs.StoreSteps.{MayReplace, replaced};
+ghost use Rattle.bihash_steps.specs.BucketSteps.{IsLockedWord, with_lock, stored_in, HoldsClean, without_lock, MayAnswer, view_after_answer, MayPublish, view_after_write, IsOpenWord, with_reading, MayValidate};
+ghost use Rattle.bihash_steps.specs.StoreSteps.{MayReplace, view_after_replace};
 ghost use Rattle.bihash_steps.specs.declared.view.LockedBucket.{LockedBucket};
 ghost use Rattle.bihash_steps.specs.Seats.{Becomes, IsAt, with_view};
 
@@ -61,7 +61,7 @@ impl<S: Shape> Row<S> {
         requires own { caller.old.row ≡ self.now }
         requires word { IsLockedWord (sizes_of S.Shape) caller.old.view page k }
         ensures { (l : LockedBucket) → caller.old.view.holds.bucket ≡ Some l
-            → caller.new ≡ with_view caller.old (relocked caller.old.view (Some (stored_in l k word))) }
+            → caller.new ≡ with_view caller.old (with_lock caller.old.view (Some (stored_in l k word))) }
     {
         let shared = &self.table.shared;
         shared.store::<LockedStores<S>>(&mut caller.seat, self.page_at(page, k), word);
@@ -71,7 +71,7 @@ impl<S: Shape> Row<S> {
     pub fn load_open(&self, caller: &mut CallerSeat<S>, page: u64, k: usize) -> u64
         requires own { caller.old.row ≡ self.now }
         requires word { IsOpenWord (sizes_of S.Shape) caller.old.view page k }
-        ensures { caller.new ≡ with_view caller.old (reading caller.old.view ((k, result) ∷ [])) }
+        ensures { caller.new ≡ with_view caller.old (with_reading caller.old.view ((k, result) ∷ [])) }
     {
         let shared = &self.table.shared;
         shared.load::<OpenWords<S>>(&mut caller.seat, self.page_at(page, k))
@@ -121,7 +121,7 @@ impl<S: Shape> Row<S> {
     pub fn release(&self, caller: &mut CallerSeat<S>, bucket: usize, word: BucketWord)
         requires at { IsAt (sizes_of S.Shape) self.now caller.old bucket }
         requires clean { HoldsClean caller.old.view bucket word }
-        ensures { Becomes (sizes_of S.Shape) caller.old (unlocked caller.old.view) caller.new }
+        ensures { Becomes (sizes_of S.Shape) caller.old (without_lock caller.old.view) caller.new }
     {
         let shared = &self.table.shared;
         shared.store::<Releases<S>>(&mut caller.seat, self.bucket_at(bucket), word.to_word());
@@ -140,7 +140,7 @@ impl<S: Shape> Row<S> {
         requires may { MayAnswer (sizes_of S.Shape) caller.old.view bucket word
             (answer_at ⟦<S as Shape>⟧ caller.old.view bucket event.now) }
         ensures { Becomes (sizes_of S.Shape) caller.old
-            (answered caller.old.view (answer_at ⟦<S as Shape>⟧ caller.old.view bucket event.now)) caller.new }
+            (view_after_answer caller.old.view (answer_at ⟦<S as Shape>⟧ caller.old.view bucket event.now)) caller.new }
     {
         self.cancel_as::<Brand>(caller, bucket, word, event);
     }
@@ -155,7 +155,7 @@ impl<S: Shape> Row<S> {
     )
         requires at { IsAt (sizes_of S.Shape) self.now caller.old bucket }
         requires may { MayAnswer (sizes_of S.Shape) caller.old.view bucket word E.call }
-        ensures { Becomes (sizes_of S.Shape) caller.old (answered caller.old.view E.call) caller.new }
+        ensures { Becomes (sizes_of S.Shape) caller.old (view_after_answer caller.old.view E.call) caller.new }
     {
         let shared = &self.table.shared;
         shared.store::<Answers<S, E>>(&mut caller.seat, self.bucket_at(bucket), word.to_word());
@@ -174,7 +174,7 @@ impl<S: Shape> Row<S> {
         requires may { MayPublish (sizes_of S.Shape) caller.old.view bucket word
             (write_at ⟦<S as Shape>⟧ caller.old.view bucket event.now) }
         ensures { Becomes (sizes_of S.Shape) caller.old
-            (written caller.old.view (write_at ⟦<S as Shape>⟧ caller.old.view bucket event.now)) caller.new }
+            (view_after_write caller.old.view (write_at ⟦<S as Shape>⟧ caller.old.view bucket event.now)) caller.new }
     {
         self.publish_as::<Brand>(caller, bucket, word, event);
     }
@@ -189,7 +189,7 @@ impl<S: Shape> Row<S> {
     )
         requires at { IsAt (sizes_of S.Shape) self.now caller.old bucket }
         requires may { MayPublish (sizes_of S.Shape) caller.old.view bucket word E.call }
-        ensures { Becomes (sizes_of S.Shape) caller.old (written caller.old.view E.call) caller.new }
+        ensures { Becomes (sizes_of S.Shape) caller.old (view_after_write caller.old.view E.call) caller.new }
     {
         let shared = &self.table.shared;
         let next = word.next(word.page(), word.log2(), word.linear());
@@ -211,7 +211,7 @@ impl<S: Shape> Row<S> {
         requires may { MayReplace (sizes_of S.Shape) caller.old.view bucket word extent
             (write_at ⟦<S as Shape>⟧ caller.old.view bucket event.now) }
         ensures { Becomes (sizes_of S.Shape) caller.old
-            (replaced caller.old.view (write_at ⟦<S as Shape>⟧ caller.old.view bucket event.now)) caller.new }
+            (view_after_replace caller.old.view (write_at ⟦<S as Shape>⟧ caller.old.view bucket event.now)) caller.new }
     {
         self.publish_block_as::<Brand>(caller, bucket, word, extent, event);
     }
@@ -227,7 +227,7 @@ impl<S: Shape> Row<S> {
     )
         requires at { IsAt (sizes_of S.Shape) self.now caller.old bucket }
         requires may { MayReplace (sizes_of S.Shape) caller.old.view bucket word extent E.call }
-        ensures { Becomes (sizes_of S.Shape) caller.old (replaced caller.old.view E.call) caller.new }
+        ensures { Becomes (sizes_of S.Shape) caller.old (view_after_replace caller.old.view E.call) caller.new }
     {
         let shared = &self.table.shared;
         let next = word.next(extent.page, extent.log2, extent.linear);

@@ -78,7 +78,7 @@ impl<S: Shape> Row<S> {
         shared.store::<HeldStores<S>>(&mut caller.seat, self.page_at(page, k), word);
     }
 
-    /// Writes the page of the block that the caller holds behind the `count` returned blocks of its log2.
+    /// Writes the page of the block that the caller holds after the `count` returned blocks of its log2.
     pub fn pool_list(&self, caller: &mut CallerSeat<S>, log2: u64, count: u64, page: u64)
         requires own { caller.old.row ≡ self.now }
         requires may { MayList (sizes_of S.Shape) caller.old.view log2 count page }
@@ -89,7 +89,7 @@ impl<S: Shape> Row<S> {
         shared.store::<Lists<S>>(&mut caller.seat, self.list_at(log2, count), page);
     }
 
-    /// Gives back the block that the caller holds, whose page stands behind the `count` returned blocks of
+    /// Gives back the block that the caller holds, whose page follows the `count` returned blocks of
     /// its log2.
     pub fn pool_return(&self, caller: &mut CallerSeat<S>, log2: u64, count: u64)
         requires own { caller.old.row ≡ self.now }

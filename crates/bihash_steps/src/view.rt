@@ -58,13 +58,13 @@ pub struct PageStore {
     pub unpublished: bool,
 }
 
-/// A page number that stands in the word behind the last of the returned blocks of this log2.
+/// A page number that is in the word after the last of the returned blocks of this log2.
 pub struct ListedPage {
     pub log2: u64,
     pub page: u64,
 }
 
-/// The page store under the allocation lock, and what was stored behind one of its lists.
+/// The page store under the allocation lock, and what was stored after one of its lists.
 pub struct LockedStore {
     pub store: PageStore,
     pub listed: Option<ListedPage>,

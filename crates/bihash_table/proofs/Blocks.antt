@@ -1,4 +1,4 @@
--- The block of a map behind a change at one place.
+-- The block of a map after a change at one place.
 use Rattle.std.proofs.Common.{◌≡◌, ◌≢◌, ◌∙◌, ◌/◌, ◌<◌, ℕ, false, List, Some, None, ap, sym, subst, ⊎_elim}
 use Rattle.std.specs.FinMap.{get, get-empty, insert, remove}
 use Rattle.std.proofs.lemmas.Bool.{cases_eq}
@@ -7,8 +7,8 @@ use Rattle.bihash_words.specs.Sizes.{Sizes}
 use Rattle.bihash_words.proofs.MapValues.{get_set, get_other, get_left, get_removed, same_or_other}
 use Rattle.bihash_steps.specs.Blocks.{IsBlockOf, HasPair, places, key_in, value_in, free, page_of}
 use Rattle.bihash_steps.specs.declared.view.Extent.{Extent}
-use Rattle.bihash_table.specs.Places.{HasPairOf, IsFreeFor, IsOpenTo}
-use Rattle.bihash_table.specs.Stores.{IsPlaceSet}
+use Rattle.bihash_table.specs.inner.Places.{HasPairOf, IsFreeFor, IsOpenTo}
+use Rattle.bihash_table.specs.inner.Stores.{IsPlaceSet}
 use Rattle.bihash_table.proofs.PlaceWords.{key_beside, value_beside}
 
 -- no other place changed
@@ -21,7 +21,7 @@ module _ (z : Sizes) (e : Extent) (block now : List ℕ) (m : Pairs) (i : ℕ) (
   keeps_pair : (k : ℕ) → k ≢ i → HasPair z e block k → HasPair z e now k
   keeps_pair k differ has = (has.0, λ none. has.1 (sym (value_beside z block now i placed k differ) ∙ none))
 
-  -- the pair of the key stands at place i, where its old one stood or none did
+  -- the pair of the key is at place i, where its old one stood or none did
   module _ (key : List ℕ) (value : ℕ) (inside : i < places e.page e.log2) (open_to : IsOpenTo z e key i)
       (only : (k : ℕ) → k ≢ i → HasPair z e block k → key_in z block k ≢ key)
       (own : HasPair z e block i → key_in z block i ≡ key) (storable : value ≢ free)
@@ -94,7 +94,7 @@ module _ (z : Sizes) (e : Extent) (block now : List ℕ) (m : Pairs) (i : ℕ) (
       (λ k differ other same. differ (pairs.once k i other has.pair (same ∙ sym has.stands)))
       (λ _. has.stands) storable key_is value_is
 
-  -- a pair of a new key stands at a place that was free
+  -- a pair of a new key is at a place that was free
   pub filled_block : (key : List ℕ) (value : ℕ) → get m key ≡ None → IsFreeFor z e block key i → value ≢ free
       → key_in z now i ≡ key → value_in z now i ≡ value → IsBlockOf z e now (insert m key value)
   filled_block key value new vacant storable key_is value_is =

@@ -17,8 +17,8 @@ use Rattle.bihash_plan.proofs.Places.{block_sized, key_inside}
 use Rattle.bihash_steps.specs.Words.{place_words, block_words}
 use Rattle.bihash_steps.specs.Blocks.{HasPair, IsBlockOf, key_in, page_of as word_page, places, value_in}
 use Rattle.bihash_steps.specs.declared.view.Extent.{Extent}
-use Rattle.bihash_table.specs.Places.{ArePlaces}
-use Rattle.bihash_table.specs.Shortage.{HoldMap}
+use Rattle.bihash_table.specs.inner.Places.{ArePlaces}
+use Rattle.bihash_table.specs.OutOfPages.{HoldMap}
 use Rattle.bihash_words.proofs.MapValues.{get_other, get_set, same_or_other}
 use Rattle.bihash_table.proofs.PlacePairs.{contains_pair, stands_at}
 

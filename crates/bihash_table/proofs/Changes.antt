@@ -9,14 +9,14 @@ use Rattle.bihash_steps.specs.Histories.{bounds_of, bucket_of}
 use Rattle.bihash_steps.specs.Callers.{known_at}
 use Rattle.bihash_steps.specs.Blocks.{HasPair, free, value_in}
 use Rattle.bihash_steps.specs.BucketCalls.{event}
-use Rattle.bihash_steps.specs.BucketSteps.{MayPublish, call_of, map_now, relocked, stored_in, written}
+use Rattle.bihash_steps.specs.BucketSteps.{MayPublish, call_of, map_now, with_lock, stored_in, view_after_write}
 use Rattle.bihash_steps.specs.Seats.{CallerState, with_view}
 use Rattle.bihash_steps.specs.declared.view.LockedBucket.{LockedBucket}
 use Rattle.bihash_steps.specs.declared.view.View.{View}
 use Rattle.bihash_table.specs.Promise.{IsAnswered}
-use Rattle.bihash_table.specs.Locked.{HasLock}
-use Rattle.bihash_table.specs.Places.{HasPairOf, IsFreeFor}
-use Rattle.bihash_table.specs.Stores.{HasStored}
+use Rattle.bihash_table.specs.inner.Locked.{HasLock}
+use Rattle.bihash_table.specs.inner.Places.{HasPairOf, IsFreeFor}
+use Rattle.bihash_table.specs.inner.Stores.{HasStored}
 use Rattle.bihash_table.proofs.Blocks.{filled_block, freed_block, overwritten_block}
 use Rattle.bihash_table.proofs.Count.{few_pairs}
 use Rattle.bihash_table.proofs.Decisions.{enter_step, remove_step, set_step}
@@ -30,18 +30,18 @@ pub found_there : (z : Sizes) (v : View) (b word : ℕ) (l : LockedBucket) → H
 found_there z v b word l has key i value pair is =
     sym (ap (get (map_now v b)) (sym pair.stands) ∙ (has.pairs.mapped i pair.pair ∙ ap Some is))
 
--- the word behind the key of place i gets this value
+-- the word after the key of place i gets this value
 abbrev pub IsValueStored : Sizes → View → LockedBucket → ℕ → ℕ → View → Type 0
-IsValueStored z w l i value w' = w' ≡ relocked w (Some (stored_in l (i * place_words z + z.key_words) value))
+IsValueStored z w l i value w' = w' ≡ with_lock w (Some (stored_in l (i * place_words z + z.key_words) value))
 
 pub value_is_stored : (z : Sizes) (a b : CallerState) (l : LockedBucket) (i value n : ℕ) → n ≡ z.key_words
-    → b ≡ with_view a (relocked a.view (Some (stored_in l (i * place_words z + n) value)))
+    → b ≡ with_view a (with_lock a.view (Some (stored_in l (i * place_words z + n) value)))
     → IsValueStored z a.view l i value b.view
 value_is_stored z a b l i value n is =
     view_stored a b l (i * place_words z + n) (i * place_words z + z.key_words) value value
     (ap (λ (m : ℕ). i * place_words z + m) is) refl
 
--- the words of the block behind that
+-- the words of the block after that
 abbrev with_value : Sizes → List ℕ → ℕ → ℕ → List ℕ
 with_value z block i value = set block (i * place_words z + z.key_words) value
 
@@ -52,7 +52,7 @@ module _ (z : Sizes) (v : View) (b word : ℕ) (l : LockedBucket) (has : HasLock
   module _ (i value : ℕ) (vacant : IsFreeFor z l.extent l.now key i) (new : get (map_now v b) key ≡ None)
       (storable : value ≢ free) (w : View) (h : HasStored z v w l i key z.key_words) (w' : View)
       (is : IsValueStored z w (record l { now = h.now; stored = h.stored }) i value w') where
-    filled_is : w' ≡ relocked v (Some (record l { now = with_value z h.now i value; stored = true }))
+    filled_is : w' ≡ with_lock v (Some (record l { now = with_value z h.now i value; stored = true }))
     filled_is = stored_is z v b word l has w i vacant.inside key z.key_words h w' z.key_words value is
 
     pub may_fill : MayPublish z w' b word (call_of w' b 1 (event key None (Set value) (Changed None)))
@@ -65,7 +65,7 @@ module _ (z : Sizes) (v : View) (b word : ℕ) (l : LockedBucket) (has : HasLock
         (key_stored z v b word l has w i vacant.inside key z.key_words h w' value refl long is)
         (value_stored z v b word l has w i vacant.inside key z.key_words h w' value refl long is))
 
-    pub filled : (u : View) → u ≡ written w' (call_of w' b 1 (event key None (Set value) (Changed None)))
+    pub filled : (u : View) → u ≡ view_after_write w' (call_of w' b 1 (event key None (Set value) (Changed None)))
         → IsAnswered z v u (record { key = key; found = None; change = Set value; reply = Changed None })
     filled = published z v b word l has key long home None (Set value) w' _ filled_is
 
@@ -77,7 +77,7 @@ module _ (z : Sizes) (v : View) (b word : ℕ) (l : LockedBucket) (has : HasLock
     -- it gets another value
     module _ (value : ℕ) (other : value ≢ old) (storable : value ≢ free) (w' : View)
         (is : IsValueStored z v l i value w') where
-      overwritten_is : w' ≡ relocked v (Some (record l { now = with_value z l.now i value; stored = true }))
+      overwritten_is : w' ≡ with_lock v (Some (record l { now = with_value z l.now i value; stored = true }))
       overwritten_is = stored_is z v b word l has v i pair.pair.0 key z.key_words
           (stored_before z v b word l has i key pair.stands) w' z.key_words value is
 
@@ -91,14 +91,14 @@ module _ (z : Sizes) (v : View) (b word : ℕ) (l : LockedBucket) (has : HasLock
           (key_stored z v b word l has v i pair.pair.0 key z.key_words h w' value refl long is)
           (value_stored z v b word l has v i pair.pair.0 key z.key_words h w' value refl long is))
 
-      pub overwritten : (u : View) → u ≡ written w' (call_of w' b 1 (event key (Some old) (Set value) (Changed (Some old))))
+      pub overwritten : (u : View) → u ≡ view_after_write w' (call_of w' b 1 (event key (Some old) (Set value) (Changed (Some old))))
           → IsAnswered z v u (record { key = key; found = Some old; change = Set value; reply = Changed (Some old) })
       overwritten = published z v b word l has key long home (Some old) (Set value) w' _ overwritten_is
 
     -- it goes, and another is left
     module _ (k : ℕ) (apart : k ≢ i) (left : HasPair z l.extent l.now k) (w' : View)
         (is : IsValueStored z v l i free w') where
-      freed_is : w' ≡ relocked v (Some (record l { now = with_value z l.now i free; stored = true }))
+      freed_is : w' ≡ with_lock v (Some (record l { now = with_value z l.now i free; stored = true }))
       freed_is = stored_is z v b word l has v i pair.pair.0 key 0 (stored_none z v b word l has i key) w' z.key_words free is
 
       pub may_remove : MayPublish z w' b word (call_of w' b 1 (event key (Some old) Remove (Changed (Some old))))
@@ -109,6 +109,6 @@ module _ (z : Sizes) (v : View) (b word : ℕ) (l : LockedBucket) (has : HasLock
           (stored_placed z v b word l has v i pair.pair.0 key 0 h w' z.key_words free is (omega arith))
           key pair (stored_here z v b word l has v i pair.pair.0 key 0 h w' z.key_words free is (omega arith)) k apart left)
 
-      pub removed : (u : View) → u ≡ written w' (call_of w' b 1 (event key (Some old) Remove (Changed (Some old))))
+      pub removed : (u : View) → u ≡ view_after_write w' (call_of w' b 1 (event key (Some old) Remove (Changed (Some old))))
           → IsAnswered z v u (record { key = key; found = Some old; change = Remove; reply = Changed (Some old) })
       removed = published z v b word l has key long home (Some old) Remove w' _ freed_is

@@ -7,7 +7,7 @@ use Rattle.bihash_words.specs.declared.shape.Shape.{Ghosts}
 use Rattle.bihash_steps.specs.Blocks.{free, places}
 use Rattle.bihash_steps.specs.Callers.{known_at}
 use Rattle.bihash_steps.specs.Views.{nothing_held}
-use Rattle.bihash_steps.specs.BucketSteps.{reading, unlocked}
+use Rattle.bihash_steps.specs.BucketSteps.{with_reading, without_lock}
 use Rattle.bihash_steps.specs.Seats.{CallerState}
 use Rattle.bihash_steps.specs.declared.view.Extent.{Extent}
 use Rattle.bihash_steps.specs.declared.view.Known.{Known}
@@ -17,9 +17,9 @@ use Rattle.bihash_steps.specs.declared.view.View.{View}
 use Rattle.bihash_steps.specs.declared.view.Write.{Write}
 use Rattle.bihash_steps.proofs.Whole.{prefix_whole}
 use Rattle.bihash_table.specs.Answers.{locks_of, with_locks}
-use Rattle.bihash_table.specs.OpenReads.{HasRead, IsOpened, NotesBlock, Saw, StandsAt}
-use Rattle.bihash_table.specs.PairLists.{AddsBlock, AddsPlaces, InPart, IsBlockIn, ListsBuckets, ListsPairs, TookLocks}
-use Rattle.bihash_table.specs.Seen.{LocksSeen}
+use Rattle.bihash_table.specs.inner.OpenReads.{HasRead, IsOpened, NotesBlock, Saw, StandsAt}
+use Rattle.bihash_table.specs.inner.PairLists.{AddsBlock, AddsPlaces, InPart, IsBlockIn, ListsBuckets, ListsPairs, TookLocks}
+use Rattle.bihash_table.specs.inner.Seen.{LocksSeen}
 use Rattle.bihash_table.proofs.PairListLemmas.{part_all, part_free, part_more, part_none}
 use Rattle.bihash_table.proofs.Composed.{with_locks_twice}
 use Rattle.bihash_table.proofs.Released.{with_locks-locks_of}
@@ -63,7 +63,7 @@ module _ {A K : Type 0} (g : Ghosts A K) where
       part_all g known b o.extent o.block has ps lists.home
       (subst (λ (m : ℕ). ListsPairs g ps (InPart (sizes_of g) known b o.extent o.block m)) end (seen known b has lists)))
 
--- ---- The lock behind the reads
+-- ---- The lock after the reads
 
 took_notes : (v w : View) (notes : Notes) → w ≡ record v { notes = notes } → TookLocks v w
 took_notes v w notes is = record {
@@ -92,11 +92,11 @@ module _ (z : Sizes) (v x y w : View) (b word : ℕ) (lone : v.lone ≡ true) (s
       })
 
   only_notes : y ≡ record v { notes = y.notes }
-  only_notes = let is = t.is ∙ ap (λ (u : View). reading u t.more) nothing_new in
+  only_notes = let is = t.is ∙ ap (λ (u : View). with_reading u t.more) nothing_new in
       is ∙ (λ i. record v { notes = sym (ap (λ (u : View). u.notes) is) i })
 
-  pub took_read : v.holds ≡ nothing_held → TookLocks v (unlocked w)
-  took_read free = took_both v y (unlocked w) (took_notes v y y.notes only_notes)
+  pub took_read : v.holds ≡ nothing_held → TookLocks v (without_lock w)
+  took_read free = took_both v y (without_lock w) (took_notes v y y.notes only_notes)
       (took_lock z y w b word (ap (λ (u : View). u.holds) only_notes ∙ free) k.locked k.known)
 
   pub known_behind : w.known ≡ v.known

@@ -10,14 +10,14 @@ use Rattle.bihash_steps.specs.Histories.{IsPrefix, bucket_of}
 use Rattle.bihash_steps.specs.Callers.{known_at}
 use Rattle.bihash_steps.specs.Buckets.{word_of}
 use Rattle.bihash_steps.specs.Views.{nothing_held}
-use Rattle.bihash_steps.specs.BucketSteps.{learned, lock_counted, push_call, SeesOpen, SeesLocked}
+use Rattle.bihash_steps.specs.BucketSteps.{with_history, lock_counted, push_call, SeesOpen, SeesLocked}
 use Rattle.bihash_steps.specs.declared.view.Write.{Write}
 use Rattle.bihash_steps.specs.declared.view.Record.{Record}
 use Rattle.bihash_steps.specs.declared.view.View.{View}
 use Rattle.bihash_steps.proofs.Prefixes.{prefix_refl}
 use Rattle.bihash_table.specs.Answers.{locks_of, with_locks, entry_of, own_writes}
-use Rattle.bihash_table.specs.Promise.{IsAnswered, IsTurnedAway, IsUpdated}
-use Rattle.bihash_table.specs.Locked.{IsLocked}
+use Rattle.bihash_table.specs.Promise.{IsAnswered, IsContended, IsUpdated}
+use Rattle.bihash_table.specs.inner.Locked.{IsLocked}
 use Rattle.bihash_table.proofs.Promised.{answered_as, answered_by, turned_away_as, turned_away_by}
 use Rattle.bihash_table.proofs.Released.{with_locks-locks_of}
 
@@ -46,14 +46,14 @@ prefix_through [] b h H p q = q
 prefix_through (x ∷ xs) zero h H p q = prefix_trans x h H p q
 prefix_through (x ∷ xs) (suc b) h H p q = prefix_through xs b h H p q
 
--- ---- A view behind others
+-- ---- A view after others
 
--- u is v behind steps that learned of bucket b and took locks
+-- u is v after steps that learned of bucket b and took locks
 pub record IsAhead (v u : View) (b : ℕ) : Type 0 where
   pub history : List Write
   pub begins : IsPrefix (known_at v.known b) history
   pub locks : ℕ
-  pub is : u ≡ record (learned v b history) { records = with_locks locks v.records; holds = u.holds; notes = u.notes }
+  pub is : u ≡ record (with_history v b history) { records = with_locks locks v.records; holds = u.holds; notes = u.notes }
   pub alone : v.lone ≡ true → length history ≤ length (known_at v.known b)
 
 pub locked_ahead : (z : Sizes) (v u : View) (b word : ℕ) → IsLocked z v u b word → IsAhead v u b
@@ -61,16 +61,16 @@ locked_ahead z v u b word s = let same = sym s.is in record {
   history = s.history;
   begins = s.begins;
   locks = locks_of v.records + 1;
-  is = s.is ∙ (λ i. record (learned v b s.history) { records = sym (with_one_more v.records) i; holds = (same i).holds; notes = (same i).notes });
+  is = s.is ∙ (λ i. record (with_history v b s.history) { records = sym (with_one_more v.records) i; holds = (same i).holds; notes = (same i).notes });
   alone = s.alone;
 }
 
-pub turned_away_ahead : (z : Sizes) (v u : View) (b : ℕ) → IsTurnedAway z v u b → IsAhead v u b
+pub turned_away_ahead : (z : Sizes) (v u : View) (b : ℕ) → IsContended z v u b → IsAhead v u b
 turned_away_ahead z v u b a = let s = turned_away_as z v u b a in let same = sym s.is in record {
   history = s.history;
   begins = s.begins;
   locks = s.locks;
-  is = s.is ∙ (λ i. record (learned v b s.history) { records = with_locks s.locks v.records; holds = (same i).holds; notes = u.notes });
+  is = s.is ∙ (λ i. record (with_history v b s.history) { records = with_locks s.locks v.records; holds = (same i).holds; notes = u.notes });
   alone = s.alone;
 }
 
@@ -94,12 +94,12 @@ module _ (z : Sizes) (v u w : View) where
   goes_on b H s p = prefix_through v.known.writes b s.history H s.begins
       (subst (λ (x : View). IsPrefix (known_at x.known b) H) s.is p)
 
-  pub ahead_turned_away : (b : ℕ) → IsAhead v u b → IsTurnedAway z u w b → IsTurnedAway z v w b
+  pub ahead_turned_away : (b : ℕ) → IsAhead v u b → IsContended z u w b → IsContended z v w b
   ahead_turned_away b s a = let t = turned_away_as z u w b a in turned_away_by z v w b record {
     history = t.history;
     begins = goes_on b t.history s t.begins;
     locks = t.locks;
-    is = t.is ∙ (ap (λ (x : View). record (learned x b t.history) {
+    is = t.is ∙ (ap (λ (x : View). record (with_history x b t.history) {
       records = with_locks t.locks x.records;
       holds = nothing_held;
       notes = w.notes;
@@ -119,7 +119,7 @@ module _ (z : Sizes) (v u w : View) where
     begins = goes_on b t.history s t.begins;
     locks = t.locks;
     noted = t.noted;
-    is = t.is ∙ (ap (λ (x : View). record (learned x b t.history) {
+    is = t.is ∙ (ap (λ (x : View). record (with_history x b t.history) {
       records = push_call (entry_of z (length t.history) e t.noted) (with_locks t.locks x.records);
       holds = nothing_held;
       notes = w.notes;
@@ -143,18 +143,18 @@ module _ (z : Sizes) (v u w : View) where
 
   -- ---- What was turned away, and tried again
 
-  pub again_turned_away : (b : ℕ) → IsTurnedAway z v u b → IsTurnedAway z u w b → IsTurnedAway z v w b
+  pub again_turned_away : (b : ℕ) → IsContended z v u b → IsContended z u w b → IsContended z v w b
   again_turned_away b s = ahead_turned_away b (turned_away_ahead z v u b s)
 
-  pub again_answered : (b : ℕ) (e : Event) → bucket_of z e.key ≡ b → IsTurnedAway z v u b → IsAnswered z u w e → IsAnswered z v w e
+  pub again_answered : (b : ℕ) (e : Event) → bucket_of z e.key ≡ b → IsContended z v u b → IsAnswered z u w e → IsAnswered z v w e
   again_answered b e home s = ahead_answered b e home (turned_away_ahead z v u b s)
 
-  pub again_updated : (b : ℕ) (key : List ℕ) (decision : Option ℕ → Change) (reply : Reply) → bucket_of z key ≡ b → IsTurnedAway z v u b
+  pub again_updated : (b : ℕ) (key : List ℕ) (decision : Option ℕ → Change) (reply : Reply) → bucket_of z key ≡ b → IsContended z v u b
       → IsUpdated z u w key decision reply → IsUpdated z v w key decision reply
   again_updated b key decision reply home s = ahead_updated b key decision reply home (turned_away_ahead z v u b s)
 
 -- before the first try
-pub not_yet_tried : (z : Sizes) (v : View) (b : ℕ) → v.holds ≡ nothing_held → IsTurnedAway z v v b
+pub not_yet_tried : (z : Sizes) (v : View) (b : ℕ) → v.holds ≡ nothing_held → IsContended z v v b
 not_yet_tried z v b free = turned_away_by z v v b record {
   history = known_at v.known b;
   begins = prefix_refl (known_at v.known b);
@@ -191,7 +191,7 @@ module _ (z : Sizes) (v u : View) (b word : ℕ) where
     | inr held ↦ held
   ]
 
-  pub locked_turns_away : v.holds ≡ nothing_held → SeesLocked v word u → IsTurnedAway z v u b
+  pub locked_turns_away : v.holds ≡ nothing_held → SeesLocked v word u → IsContended z v u b
   locked_turns_away free s = let notes = ap (λ (x : View). x.notes) s.is in turned_away_by z v u b record {
     history = known_at v.known b;
     begins = prefix_refl (known_at v.known b);

@@ -13,8 +13,8 @@ use Rattle.bihash_steps.specs.StoreSteps.{IsHeldWord, holding, stored_at}
 use Rattle.bihash_steps.specs.Seats.{CallerState, with_view}
 use Rattle.bihash_steps.specs.declared.view.HeldBlock.{HeldBlock}
 use Rattle.bihash_steps.specs.declared.view.View.{View}
-use Rattle.bihash_table.specs.Copying.{HasBlock, IsPlaced, with_words}
-use Rattle.bihash_table.specs.Places.{ArePlaces}
+use Rattle.bihash_table.specs.inner.Copying.{HasBlock, IsPlaced, with_words}
+use Rattle.bihash_table.specs.inner.Places.{ArePlaces}
 use Rattle.bihash_table.proofs.PlaceReads.{all_same, place_inside, word_of_key}
 
 pub words_counted : (z : Sizes) (page log2 : ℕ) → block_words z page log2 ≡ places page log2 * place_words z
@@ -48,7 +48,7 @@ read_more block words first i word inside before is k less = ⊎_elim
     (λ (there : k ≢ i). get_or-set_other words i k word 0 there ∙ before k (omega arith))
     (cases_eq k i)
 
--- what stands at a place afterwards was set or stood there
+-- what is at a place afterwards was set or stood there
 get_after : {X : Type 0} (xs : List X) (i j : ℕ) (x y : X)
     → i < length xs → slice_get (set xs i x) j ≡ Some y
     → ((j ≡ i) × (x ≡ y)) ⊎ ((j ≢ i) × (slice_get xs j ≡ Some y))

@@ -3,7 +3,7 @@ use Rattle.std.proofs.Common.{◌≡◌, ◌≢◌, ◌∙◌, ◌<◌, ◌≤�
 use Rattle.std.specs.FinMap.{get, insert, len, remove}
 use Rattle.std.specs.Prelude.{if◌then◌else◌, nat_lt}
 use Rattle.std.proofs.lemmas.Bool.{le-ltb, lt-ltb}
-use Rattle.bihash_words.specs.Maps.{Answers, Bounds, Crowded, Entering, Exhausted, Pairs, Present, Step, effect_of, most_pairs, row_with}
+use Rattle.bihash_words.specs.Maps.{Answers, Bounds, NoRoom, NewKey, WornOut, Pairs, OldKey, IsEvent, effect_of, most_pairs, case_with}
 use Rattle.bihash_words.specs.Patches.{free_mark}
 use Rattle.bihash_words.specs.Sizes.{Sizes}
 use Rattle.bihash_words.specs.declared.patch.Change.{Change}
@@ -22,31 +22,31 @@ use Rattle.bihash_steps.specs.declared.view.LockedStore.{LockedStore}
 use Rattle.bihash_steps.specs.declared.view.HeldBlock.{HeldBlock}
 use Rattle.bihash_steps.specs.declared.view.PageStore.{PageStore}
 use Rattle.bihash_steps.specs.declared.view.View.{View}
-use Rattle.bihash_table.specs.Copying.{IsWanting}
-use Rattle.bihash_table.specs.Locked.{HasLock}
+use Rattle.bihash_table.specs.inner.Copying.{LacksPages}
+use Rattle.bihash_table.specs.inner.Locked.{HasLock}
 
 -- ---- The rows of a call
 
 -- a new key in a map with room
 entering_row : (b : Bounds) (pairs n value : ℕ) → n < b.limit → pairs < most_pairs b
-    → row_with b pairs n None (Set value) ≡ Entering
+    → case_with b pairs n None (Set value) ≡ NewKey
 entering_row b pairs n value unworn room =
-    ap (λ t. if t then (if nat_lt pairs (most_pairs b) then Entering else Crowded) else Exhausted) (lt-ltb n b.limit unworn)
-    ∙ ap (λ t. if t then Entering else Crowded) (lt-ltb pairs (most_pairs b) room)
+    ap (λ t. if t then (if nat_lt pairs (most_pairs b) then NewKey else NoRoom) else WornOut) (lt-ltb n b.limit unworn)
+    ∙ ap (λ t. if t then NewKey else NoRoom) (lt-ltb pairs (most_pairs b) room)
 
 crowded_row : (b : Bounds) (pairs n value : ℕ) → n < b.limit → most_pairs b ≤ pairs
-    → row_with b pairs n None (Set value) ≡ Crowded
+    → case_with b pairs n None (Set value) ≡ NoRoom
 crowded_row b pairs n value unworn full =
-    ap (λ t. if t then (if nat_lt pairs (most_pairs b) then Entering else Crowded) else Exhausted) (lt-ltb n b.limit unworn)
-    ∙ ap (λ t. if t then Entering else Crowded) (le-ltb pairs (most_pairs b) full)
+    ap (λ t. if t then (if nat_lt pairs (most_pairs b) then NewKey else NoRoom) else WornOut) (lt-ltb n b.limit unworn)
+    ∙ ap (λ t. if t then NewKey else NoRoom) (le-ltb pairs (most_pairs b) full)
 
 -- a new pair is entered
 pub enters : (b : Bounds) (m : Pairs) (n : ℕ) (key : List ℕ) (value : ℕ) (found : Option ℕ)
     → n < b.limit → len m < most_pairs b → get m key ≡ None → found ≡ get m key
-    → Step b m n (event key found (Set value) (Changed found)) (insert m key value)
+    → IsEvent b m n (event key found (Set value) (Changed found)) (insert m key value)
 enters b m n key value found unworn room absent is = record {
   found = is;
-  answers = subst (λ f. Answers (row_with b (len m) n f (effect_of (Set value) f)) b m
+  answers = subst (λ f. Answers (case_with b (len m) n f (effect_of (Set value) f)) b m
       (event key f (Set value) (Changed f)) (insert m key value)) (sym (is ∙ absent))
       (subst (λ r. Answers r b m (event key None (Set value) (Changed None)) (insert m key value))
       (sym (entering_row b (len m) n value unworn room)) (inl (refl, refl)));
@@ -55,7 +55,7 @@ enters b m n key value found unworn room absent is = record {
 -- a new pair is refused for want of pages
 pub wants : (b : Bounds) (m : Pairs) (n : ℕ) (key : List ℕ) (value log2 left : ℕ)
     → n < b.limit → len m < most_pairs b → get m key ≡ None → log2 ≤ b.max_log2 → left < 2 ^ log2
-    → Step b m n (event key None (Set value) (NoPages log2 left)) m
+    → IsEvent b m n (event key None (Set value) (NoPages log2 left)) m
 wants b m n key value log2 left unworn room absent small few = record {
   found = sym absent;
   answers = subst (λ r. Answers r b m (event key None (Set value) (NoPages log2 left)) m)
@@ -65,7 +65,7 @@ wants b m n key value log2 left unworn room absent small few = record {
 -- a new pair finds no room
 pub crowds : (b : Bounds) (m : Pairs) (n : ℕ) (key : List ℕ) (value : ℕ)
     → n < b.limit → most_pairs b ≤ len m → get m key ≡ None
-    → Step b m n (event key None (Set value) Full) m
+    → IsEvent b m n (event key None (Set value) Full) m
 crowds b m n key value unworn full absent = record {
   found = sym absent;
   answers = subst (λ r. Answers r b m (event key None (Set value) Full) m)
@@ -75,18 +75,18 @@ crowds b m n key value unworn full absent = record {
 -- a pair is removed
 pub removes : (b : Bounds) (m : Pairs) (n : ℕ) (key : List ℕ) (old : ℕ) (found : Option ℕ)
     → n < b.limit → get m key ≡ Some old → found ≡ get m key
-    → Step b m n (event key found Remove (Changed found)) (remove m key)
+    → IsEvent b m n (event key found Remove (Changed found)) (remove m key)
 removes b m n key old found unworn there is = record {
   found = is;
-  answers = subst (λ f. Answers (row_with b (len m) n f (effect_of Remove f)) b m
+  answers = subst (λ f. Answers (case_with b (len m) n f (effect_of Remove f)) b m
       (event key f Remove (Changed f)) (remove m key)) (sym (is ∙ there))
       (subst (λ r. Answers r b m (event key (Some old) Remove (Changed (Some old))) (remove m key))
-      (sym (ap (λ t. if t then Present else Exhausted) (lt-ltb n b.limit unworn))) (refl, refl));
+      (sym (ap (λ t. if t then OldKey else WornOut) (lt-ltb n b.limit unworn))) (refl, refl));
 }
 
 -- ---- Writes and answers under the lock
 
--- the view behind a look at the page store
+-- the view after a look at the page store
 abbrev pub looked_at : View → PageStore → View
 looked_at v store = record v {
   holds = record { bucket = v.holds.bucket; store = None; block = v.holds.block };
@@ -143,23 +143,9 @@ module _ (z : Sizes) (v : View) (b word : ℕ) (l : LockedBucket) (key : List �
         there refl;
   }
 
-  -- the bucket has no room for a new pair
-  pub may_crowd : (value : ℕ) → most_pairs (bounds_of z) ≤ len (map_now v b) → get (map_now v b) key ≡ None
-      → MayAnswer z v b word (call_of v b 0 (event key None (Set value) Full))
-  may_crowd value full absent = record {
-    clean = clean;
-    bucket = refl;
-    stamp = omega arith;
-    key = home;
-    reads = refl;
-    answers = (map_now v b, crowds (bounds_of z) (map_now v b) (length (known_at v.known b)) key value unworn full absent);
-    short = λ log2 left e. absurd (let c : ⊥ = cc in c);
-    store = refl;
-  }
-
   -- the page store has no block for it
   pub may_want : (value log2 left : ℕ) (store : PageStore) → len (map_now v b) < most_pairs (bounds_of z)
-      → get (map_now v b) key ≡ None → log2 ≤ z.max_log2 → IsWanting z store log2 left
+      → get (map_now v b) key ≡ None → log2 ≤ z.max_log2 → LacksPages z store log2 left
       → MayAnswer z (looked_at v store) b word (call_of (looked_at v store) b 0 (event key None (Set value) (NoPages log2 left)))
   may_want value log2 left store room absent small wanting = record {
     clean = record { lock = l; held = held_bucket; bucket = lock.bucket; stood = lock.stood; clean = lock.clean };

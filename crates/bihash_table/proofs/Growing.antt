@@ -1,5 +1,5 @@
 -- A larger block that was planned and laid out from what was read of a bucket: what it is without the lock, and
--- behind it.
+-- after it.
 use Rattle.std.proofs.Common.{◌≡◌, ◌≢◌, ◌<◌, ◌≤◌, ℕ, Bool, List, None, subst, sym}
 use Rattle.std.specs.FinMap.{get, insert, len}
 use Rattle.bihash_words.specs.declared.shape.Shape.{Ghosts}
@@ -21,10 +21,10 @@ use Rattle.bihash_steps.specs.BucketSteps.{map_now}
 use Rattle.bihash_steps.specs.declared.view.LockedBucket.{LockedBucket}
 use Rattle.bihash_steps.specs.declared.view.View.{View}
 use Rattle.bihash_steps.specs.BucketCalls.{event}
-use Rattle.bihash_table.specs.Locked.{HasLock}
-use Rattle.bihash_table.specs.Places.{ArePlaces}
-use Rattle.bihash_table.specs.Seen.{HasSeen, IsAnswerOf, IsNewAndCrowded, LocksSeen}
-use Rattle.bihash_table.specs.Shortage.{IsPlanned}
+use Rattle.bihash_table.specs.inner.Locked.{HasLock}
+use Rattle.bihash_table.specs.inner.Places.{ArePlaces}
+use Rattle.bihash_table.specs.inner.Seen.{HasSeen, IsAnswerOf, IsNewAndCrowded, LocksSeen}
+use Rattle.bihash_table.specs.OutOfPages.{IsPlanned}
 use Rattle.bihash_table.proofs.Bridge.{AreKeyWords, block_of_rehash, extent_of}
 use Rattle.bihash_table.proofs.Entering.{crowds}
 use Rattle.bihash_table.proofs.LookedAt.{pair_value}
@@ -54,7 +54,7 @@ module _ {A K : Type 0} (g : Ghosts A K) (keys : AreKeyWords g) (v : View) (b wo
             (log2_is z word e tells log2 log2_told) (linear_is z word e tells linear linear_told) exact) other) absent,
       ))
 
-  -- ---- Behind the lock
+  -- ---- After the lock
 
   module _ (u : View) (k : LocksSeen (sizes_of g) v u b word) where
     lock : LockedBucket

@@ -1,4 +1,4 @@
--- How many locks of buckets the caller counts behind a step.
+-- How many locks of buckets the caller counts after a step.
 use Rattle.std.proofs.Common.{◌≡◌, ◌≤◌, ◌+◌, ◌-◌, ◌∙◌, ℕ, true, List, [], ◌∷◌, Ok, ap, arith, refl, subst, sym}
 use Rattle.bihash_words.specs.Sizes.{Sizes}
 use Rattle.bihash_words.specs.declared.patch.Reply.{Reply}
@@ -7,7 +7,7 @@ use Rattle.bihash_steps.specs.declared.view.Call.{Call}
 use Rattle.bihash_steps.specs.declared.view.Record.{Record}
 use Rattle.bihash_steps.specs.declared.view.View.{View}
 use Rattle.bihash_table.specs.Answers.{locks_of}
-use Rattle.bihash_table.specs.Locked.{IsLocked}
+use Rattle.bihash_table.specs.inner.Locked.{IsLocked}
 use Rattle.bihash_table.specs.Tries.{TookAtMost, TookByTries, try_locks}
 
 -- an entry is no lock

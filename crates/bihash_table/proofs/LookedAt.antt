@@ -10,9 +10,9 @@ use Rattle.bihash_steps.specs.Blocks.{HasPair, places, page_of, value_in, free, 
 use Rattle.bihash_steps.specs.declared.view.Extent.{Extent}
 use Rattle.bihash_steps.specs.declared.view.OpenBucket.{OpenBucket}
 use Rattle.bihash_steps.specs.Seats.{CallerState}
-use Rattle.bihash_table.specs.Places.{HasPairOf}
-use Rattle.bihash_table.specs.Scans.{AreOpenTo}
-use Rattle.bihash_table.specs.OpenReads.{NotesBlock, HasRead, LastWordTells, AreMarks, first_set, later_set, set_count, IsValueAt, TellsValue, IsPairAmong, IsPairIn, IsFirstFreeIn, OtherPairTells, value_of}
+use Rattle.bihash_table.specs.inner.Places.{HasPairOf}
+use Rattle.bihash_table.specs.inner.Scans.{AreOpenTo}
+use Rattle.bihash_table.specs.inner.OpenReads.{NotesBlock, HasRead, LastWordTells, AreMarks, first_set, later_set, set_count, IsValueAt, TellsValue, IsPairAmong, IsPairIn, IsFirstFreeIn, OtherPairTells, value_of}
 use Rattle.bihash_table.proofs.PlaceReads.{SameTo, word_of_key, all_same}
 use Rattle.bihash_table.proofs.Seeing.{read_as, read_both, read_nothing, read_then, note_extent}
 
@@ -77,7 +77,7 @@ module _ (z : Sizes) (key : List ℕ) (first : ℕ) where
   abbrev pub Marked : Bool × Bool × Bool × Bool → Extent → List ℕ → Type 0
   Marked marks e block = AreMarks z key first marks e block
 
-  -- the last word of the key stands at the first mark
+  -- the last word of the key is at the first mark
   first_tells : (e : Extent) (block : List ℕ) (marks : Bool × Bool × Bool × Bool) → set_count marks ≢ 0 → Marked marks e block
       → LastWordTells z key (first + first_set marks) true e block
   first_tells e block (true, b, c, d) some are = let at : first ≡ first + 0 = omega arith in

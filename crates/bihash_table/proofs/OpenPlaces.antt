@@ -5,8 +5,8 @@ use Rattle.bihash_steps.specs.Blocks.{places, page_of}
 use Rattle.bihash_steps.specs.declared.view.Extent.{Extent}
 use Rattle.bihash_steps.specs.declared.view.LockedBucket.{LockedBucket}
 use Rattle.bihash_steps.specs.declared.view.View.{View}
-use Rattle.bihash_table.specs.Locked.{HasLock}
-use Rattle.bihash_table.specs.Scans.{IsWordOf, AreOpenTo}
+use Rattle.bihash_table.specs.inner.Locked.{HasLock}
+use Rattle.bihash_table.specs.inner.Scans.{IsWordOf, AreOpenTo}
 
 some_places : (page log2 : ℕ) → page ≢ 0 → places page log2 ≡ 4 * 2 ^ log2
 some_places zero log2 some = absurd (some refl)
@@ -40,7 +40,7 @@ module _ (z : Sizes) (e : Extent) (key : List ℕ) where
         exact = λ i l. (λ among _. sym is ∙ omega arith, λ reached. let at : page ≡ i / 4 = is ∙ reached linear in (omega arith, omega arith));
       }
 
-  -- the same, where the page behind it is named
+  -- the same, where the page after it is named
   pub one_page_open : (page log2 : ℕ) → e.page ≢ 0 → e.linear ≡ false → log2 ≡ e.log2
       → page ≡ z.hash key / 2 ^ z.log2_buckets % 2 ^ log2 → AreOpenTo z e key (4 * page) (4 * (page + 1))
   one_page_open page log2 some linear same is = let up : 4 * page + 4 ≡ 4 * (page + 1) = omega arith in

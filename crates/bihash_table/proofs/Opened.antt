@@ -1,17 +1,17 @@
--- Calls without a lock: what was seen of the bucket, what its answer leaves of the caller, and the lock behind it.
+-- Calls without a lock: what was seen of the bucket, what its answer leaves of the caller, and the lock after it.
 use Rattle.std.proofs.Common.{◌≡◌, ◌∙◌, ℕ, ◌<◌, ◌≤◌, true, false, List, [], length, le_refl, refl, sym, ap, subst, arith, Option, Some}
 use lib.Seq.{set-get_or}
 use Rattle.std.specs.FinMap.{get}
-use Rattle.bihash_words.specs.Maps.{Pairs, Step}
+use Rattle.bihash_words.specs.Maps.{Pairs, IsEvent}
 use Rattle.bihash_words.specs.Sizes.{Sizes}
 use Rattle.bihash_words.specs.Words.{packed}
 use Rattle.bihash_steps.specs.Words.{buckets}
 use Rattle.bihash_steps.specs.Histories.{IsWriteList, after, bounds_of, bucket_of}
 use Rattle.bihash_steps.specs.Callers.{known_at, opening_at}
 use Rattle.bihash_steps.specs.Blocks.{IsBlockOf}
-use Rattle.bihash_steps.specs.Buckets.{Reads, word_of, open_word}
+use Rattle.bihash_steps.specs.Buckets.{AreReadIn, word_of, open_word}
 use Rattle.bihash_steps.specs.Views.{nothing_held, no_notes}
-use Rattle.bihash_steps.specs.BucketSteps.{open_on, locked_on, map_now, SeesOpen, TakesLock, RestsOn, unnoted}
+use Rattle.bihash_steps.specs.BucketSteps.{open_on, locked_on, map_now, SeesOpen, TakesLock, RestsOn, without_notes}
 use Rattle.bihash_steps.specs.declared.view.Write.{Write}
 use Rattle.bihash_steps.specs.declared.view.Extent.{Extent}
 use Rattle.bihash_steps.specs.declared.view.Holdings.{Holdings}
@@ -21,9 +21,9 @@ use Rattle.bihash_steps.proofs.Informed.{known_learned}
 use Rattle.bihash_steps.proofs.Prefixes.{prefix_refl}
 use Rattle.bihash_steps.proofs.Whole.{prefix_whole}
 use Rattle.bihash_table.specs.Answers.{locks_of, search_of}
-use Rattle.bihash_table.specs.Promise.{IsTurnedAway}
-use Rattle.bihash_table.specs.Locked.{IsLocked}
-use Rattle.bihash_table.specs.OpenReads.{HasOpen, IsOpened}
+use Rattle.bihash_table.specs.Promise.{IsContended}
+use Rattle.bihash_table.specs.inner.Locked.{IsLocked}
+use Rattle.bihash_table.specs.inner.OpenReads.{HasOpen, IsOpened}
 use Rattle.bihash_table.proofs.Promised.{turned_away_by}
 use Rattle.bihash_table.proofs.Released.{with_locks-locks_of}
 
@@ -69,17 +69,17 @@ module _ (z : Sizes) (v u : View) (b word : ℕ) (inside : b < buckets z) (free 
     };
   }
 
-pub lost_at : (z : Sizes) (key : List ℕ) (v w : View) (b : ℕ) → bucket_of z key ≡ b → IsTurnedAway z v w b → IsTurnedAway z v w (bucket_of z key)
-lost_at z key v w b home away = subst (IsTurnedAway z v w) (sym home) away
+pub lost_at : (z : Sizes) (key : List ℕ) (v w : View) (b : ℕ) → bucket_of z key ≡ b → IsContended z v w b → IsContended z v w (bucket_of z key)
+lost_at z key v w b home away = subst (IsContended z v w) (sym home) away
 
 -- a search is a call that leaves the map
 pub is_read : (z : Sizes) (key : List ℕ) (found : Option ℕ) (m : Pairs) (n : ℕ) → found ≡ get m key
-    → (m' : Pairs) × Step (bounds_of z) m n (search_of key found) m'
+    → (m' : Pairs) × IsEvent (bounds_of z) m n (search_of key found) m'
 is_read z key found m n is = (m, record { found = is; answers = (refl, refl) })
 
--- ---- The lock is taken behind the reads
+-- ---- The lock is taken after the reads
 
-pub not_taken : (z : Sizes) (v w : View) (b : ℕ) → v.holds ≡ nothing_held → w ≡ unnoted v → IsTurnedAway z v w b
+pub not_taken : (z : Sizes) (v w : View) (b : ℕ) → v.holds ≡ nothing_held → w ≡ without_notes v → IsContended z v w b
 not_taken z v w b free is = let notes = ap (λ (x : View). x.notes) is in turned_away_by z v w b record {
   history = known_at v.known b;
   begins = prefix_refl (known_at v.known b);
@@ -121,8 +121,8 @@ module _ (z : Sizes) (v w : View) (b word : ℕ) (h : HasOpen z v b word) (t : T
   same_map = now_map ∙ (λ i. after (opening_at v.known b) (sym (prefix_whole (known_at v.known b) t.history t.found.begins few_known) i)
       (length (sym (prefix_whole (known_at v.known b) t.history t.found.begins few_known) i)))
 
-  pub reads_rest : Reads h.block.open_bucket.reads h.block.open_bucket.block
-  reads_rest = subst (Reads h.block.open_bucket.reads) rests_here.block rests_here.reads
+  pub reads_rest : AreReadIn h.block.open_bucket.reads h.block.open_bucket.block
+  reads_rest = subst (AreReadIn h.block.open_bucket.reads) rests_here.block rests_here.reads
 
   abbrev pub locked_behind : IsLocked z v w b word
   locked_behind = record {

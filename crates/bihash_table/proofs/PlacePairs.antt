@@ -8,7 +8,7 @@ use Rattle.std.proofs.lemmas.Option.{get_or_from_slice_get, slice_get-get_or, sl
 use Rattle.bihash_plan.proofs.Pairs.{is_taken-free, is_taken-pair, pairs-append}
 use Rattle.bihash_plan.specs.Blocks.{HasKey, is_taken, pairs}
 
--- a pair that stands at a place is one of the pairs
+-- a pair that is at a place is one of the pairs
 pub contains_pair : {K : Type 0} (places : List (K × ℕ)) (key : K) (i : ℕ) (h : HasKey places key i)
     → Contains (pairs places) (key, h.value)
 contains_pair {K} places key i h =
@@ -24,7 +24,7 @@ contains_pair {K} places key i h =
     subst (λ ps. Contains ps pair) (sym whole)
     (Contains-append_right (pairs (take i places)) (pair ∷ pairs (drop (suc i) places)) pair (0, omega arith, refl))
 
--- each of the pairs stands at a place
+-- each of the pairs is at a place
 pub stands_at : {K : Type 0} (places : List (K × ℕ)) (key : K) (value : ℕ)
     → Contains (pairs places) (key, value) → (i : ℕ) × (h : HasKey places key i) × (h.value ≡ value)
 stands_at {K} places key value there =

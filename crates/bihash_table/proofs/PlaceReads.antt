@@ -8,7 +8,7 @@ use Rattle.bihash_steps.specs.BucketSteps.{IsLockedWord}
 use Rattle.bihash_steps.specs.declared.view.Holdings.{Holdings}
 use Rattle.bihash_steps.specs.declared.view.LockedBucket.{LockedBucket}
 use Rattle.bihash_steps.specs.declared.view.View.{View}
-use Rattle.bihash_table.specs.Locked.{HasLock}
+use Rattle.bihash_table.specs.inner.Locked.{HasLock}
 
 -- the first n words of the place are those of the key
 abbrev pub SameTo : Sizes → List ℕ → ℕ → List ℕ → ℕ → Type 0

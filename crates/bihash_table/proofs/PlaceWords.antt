@@ -6,7 +6,7 @@ use Rattle.std.proofs.lemmas.Nat.{row_fits}
 use Rattle.bihash_words.specs.Sizes.{Sizes}
 use Rattle.bihash_steps.specs.Words.{place_words}
 use Rattle.bihash_steps.specs.Blocks.{key_in, value_in}
-use Rattle.bihash_table.specs.Stores.{IsBeside, IsPlaceSet}
+use Rattle.bihash_table.specs.inner.Stores.{IsBeside, IsPlaceSet}
 use Rattle.bihash_table.proofs.PlaceReads.{word_of_key}
 
 beside_place : (z : Sizes) (i k j : ℕ) → k ≢ i → j < place_words z → IsBeside z i (k * place_words z + j)

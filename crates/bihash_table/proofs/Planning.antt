@@ -19,9 +19,9 @@ use Rattle.bihash_steps.specs.declared.view.Extent.{Extent}
 use Rattle.bihash_steps.specs.BucketSteps.{map_now}
 use Rattle.bihash_steps.specs.declared.view.PageStore.{PageStore}
 use Rattle.bihash_steps.specs.declared.view.View.{View}
-use Rattle.bihash_table.specs.Copying.{IsWanting}
-use Rattle.bihash_table.specs.Places.{ArePlaces, IsCrowdedFor}
-use Rattle.bihash_table.specs.Shortage.{Bears, HoldMap, IsPlanned, IsShortage}
+use Rattle.bihash_table.specs.inner.Copying.{LacksPages}
+use Rattle.bihash_table.specs.inner.Places.{ArePlaces, IsCrowdedFor}
+use Rattle.bihash_table.specs.OutOfPages.{Bears, HoldMap, IsPlanned, IsOutOfPages}
 use Rattle.bihash_table.proofs.Bridge.{AreKeyWords, AreKeysOf, are_keys, count_places, hold_map, lawful_places}
 use Rattle.bihash_table.proofs.Count.{few_pairs, few_places, full_block}
 
@@ -176,8 +176,8 @@ module _ {A K : Type 0} (g : Ghosts A K) (keys : AreKeyWords g) (e : Extent) (bl
 
 -- in the page store that the entry bears, the block that was planned is wanting
 pub is_shortage : {A K : Type 0} (g : Ghosts A K) (m : Pairs) (key : K) (w : View) (b : ℕ) → map_now w b ≡ m → (log2 left : ℕ) (linear : Bool)
-    (store : PageStore) → IsPlanned g m key log2 linear → IsWanting (sizes_of g) store log2 left → Bears w b store
-    → IsShortage g w b key log2 left
+    (store : PageStore) → IsPlanned g m key log2 linear → LacksPages (sizes_of g) store log2 left → Bears w b store
+    → IsOutOfPages g w b key log2 left
 is_shortage g m key w b same log2 left linear store p wanting bears = record {
   places = p.places;
   was_log2 = p.was_log2;

@@ -5,13 +5,13 @@ use Rattle.bihash_words.specs.Sizes.{Sizes}
 use Rattle.bihash_steps.specs.Histories.{IsPrefix, bucket_of}
 use Rattle.bihash_steps.specs.Callers.{known_at}
 use Rattle.bihash_steps.specs.Views.{nothing_held}
-use Rattle.bihash_steps.specs.BucketSteps.{learned, push_call}
+use Rattle.bihash_steps.specs.BucketSteps.{with_history, push_call}
 use Rattle.bihash_steps.specs.declared.view.Write.{Write}
 use Rattle.bihash_steps.specs.declared.view.PageStore.{PageStore}
 use Rattle.bihash_steps.specs.declared.view.Record.{Record}
 use Rattle.bihash_steps.specs.declared.view.View.{View}
 use Rattle.bihash_table.specs.Answers.{entry_of, own_writes, with_locks}
-use Rattle.bihash_table.specs.Promise.{IsAnswered, IsTurnedAway}
+use Rattle.bihash_table.specs.Promise.{IsAnswered, IsContended}
 
 -- the call was answered, as one equation
 pub record LeavesEntry (z : Sizes) (v w : View) (e : Event) : Type 0 where
@@ -19,7 +19,7 @@ pub record LeavesEntry (z : Sizes) (v w : View) (e : Event) : Type 0 where
   pub begins : IsPrefix (known_at v.known (bucket_of z e.key)) history
   pub locks : ℕ
   pub noted : Option PageStore
-  pub is : w ≡ record (learned v (bucket_of z e.key) history) {
+  pub is : w ≡ record (with_history v (bucket_of z e.key) history) {
     records = push_call (entry_of z (length history) e noted) (with_locks locks v.records);
     holds = nothing_held;
     notes = w.notes;
@@ -32,7 +32,7 @@ pub record LeavesNone (z : Sizes) (v w : View) (b : ℕ) : Type 0 where
   pub history : List Write
   pub begins : IsPrefix (known_at v.known b) history
   pub locks : ℕ
-  pub is : w ≡ record (learned v b history) {
+  pub is : w ≡ record (with_history v b history) {
     records = with_locks locks v.records;
     holds = nothing_held;
     notes = w.notes;
@@ -40,9 +40,9 @@ pub record LeavesNone (z : Sizes) (v w : View) (b : ℕ) : Type 0 where
   pub alone : v.lone ≡ true → length history ≤ length (known_at v.known b)
 
 -- field by field the view is this one
-one_view : (v w : View) (b : ℕ) (history : List Write) (records : List Record) → w.known ≡ (learned v b history).known → w.records ≡ records
+one_view : (v w : View) (b : ℕ) (history : List Write) (records : List Record) → w.known ≡ (with_history v b history).known → w.records ≡ records
     → w.seen ≡ v.seen → w.lone ≡ v.lone → w.holds ≡ nothing_held
-    → w ≡ record (learned v b history) { records = records; holds = nothing_held; notes = w.notes }
+    → w ≡ record (with_history v b history) { records = records; holds = nothing_held; notes = w.notes }
 one_view v w b history records known recorded seen lone free = λ i. record {
   records = recorded i;
   known = known i;
@@ -77,7 +77,7 @@ module _ (z : Sizes) (v w : View) where
     alone = a.alone;
   }
 
-  pub turned_away_by : (b : ℕ) → LeavesNone z v w b → IsTurnedAway z v w b
+  pub turned_away_by : (b : ℕ) → LeavesNone z v w b → IsContended z v w b
   turned_away_by b a = record {
     history = a.history;
     begins = a.begins;
@@ -90,7 +90,7 @@ module _ (z : Sizes) (v w : View) where
     alone = a.alone;
   }
 
-  pub turned_away_as : (b : ℕ) → IsTurnedAway z v w b → LeavesNone z v w b
+  pub turned_away_as : (b : ℕ) → IsContended z v w b → LeavesNone z v w b
   turned_away_as b a = record {
     history = a.history;
     begins = a.begins;

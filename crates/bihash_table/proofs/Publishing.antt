@@ -1,7 +1,7 @@
 -- What the holder of a lock may answer, and what it may write over the block as it stored it.
 use Rattle.std.proofs.Common.{◌≡◌, ◌∙◌, ◌<◌, ◌+◌, ℕ, true, false, List, length, Option, Some, None, ap, arith, refl, sym, subst}
 use Rattle.std.specs.FinMap.{get}
-use Rattle.bihash_words.specs.Maps.{Step, changed}
+use Rattle.bihash_words.specs.Maps.{IsEvent, changed}
 use Rattle.bihash_words.specs.Patches.{IsStorable}
 use Rattle.bihash_words.specs.Sizes.{Sizes}
 use Rattle.bihash_words.specs.declared.patch.Change.{Change}
@@ -11,19 +11,19 @@ use Rattle.bihash_steps.specs.Histories.{bounds_of, bucket_of, is_changed}
 use Rattle.bihash_steps.specs.Callers.{known_at}
 use Rattle.bihash_steps.specs.Blocks.{IsBlockOf}
 use Rattle.bihash_steps.specs.BucketCalls.{event}
-use Rattle.bihash_steps.specs.BucketSteps.{MayAnswer, MayPublish, call_of, map_now, relocked, written}
+use Rattle.bihash_steps.specs.BucketSteps.{MayAnswer, MayPublish, call_of, map_now, with_lock, view_after_write}
 use Rattle.bihash_steps.specs.declared.view.Holdings.{Holdings}
 use Rattle.bihash_steps.specs.declared.view.LockedBucket.{LockedBucket}
 use Rattle.bihash_steps.specs.declared.view.View.{View}
 use Rattle.bihash_table.specs.Promise.{IsAnswered}
-use Rattle.bihash_table.specs.Locked.{HasLock}
+use Rattle.bihash_table.specs.inner.Locked.{HasLock}
 use Rattle.bihash_table.proofs.Released.{written_from_lock}
 
 module _ (z : Sizes) (v : View) (b word : ℕ) (l : LockedBucket) (has : HasLock z v b word l) (key : List ℕ)
     (long : length key ≡ z.key_words) (home : bucket_of z key ≡ b) (found : Option ℕ) (change : Change) where
   -- a call that is no write, and no refusal for want of pages
   pub may_answer : (reply : Reply) → is_changed reply ≡ false → ((log2 left : ℕ) → reply ≡ NoPages log2 left → ⊥)
-      → Step (bounds_of z) (map_now v b) (length (known_at v.known b))
+      → IsEvent (bounds_of z) (map_now v b) (length (known_at v.known b))
       (record { key = key; found = found; change = change; reply = reply }) (map_now v b)
       → MayAnswer z v b word (call_of v b 0 (event key found change reply))
   may_answer reply reads paged step =
@@ -45,10 +45,10 @@ module _ (z : Sizes) (v : View) (b word : ℕ) (l : LockedBucket) (has : HasLock
         store = refl;
       }
 
-  module _ (w : View) (now : List ℕ) (is : w ≡ relocked v (Some (record l { now = now; stored = true }))) where
-    -- a write, where the words of the block are those of the map behind it
+  module _ (w : View) (now : List ℕ) (is : w ≡ with_lock v (Some (record l { now = now; stored = true }))) where
+    -- a write, where the words of the block are those of the map after it
     pub may_publish : found ≡ get (map_now v b) key → length (known_at v.known b) < z.limit → IsStorable change
-        → Step (bounds_of z) (map_now v b) (length (known_at v.known b))
+        → IsEvent (bounds_of z) (map_now v b) (length (known_at v.known b))
         (record { key = key; found = get (map_now v b) key; change = change; reply = Changed (get (map_now v b) key) })
         (changed (map_now v b) key change)
         → IsBlockOf z l.extent now (changed (map_now v b) key change)
@@ -78,12 +78,12 @@ module _ (z : Sizes) (v : View) (b word : ℕ) (l : LockedBucket) (has : HasLock
         })
 
     -- it was answered
-    pub published : (u : View) → u ≡ written w (call_of w b 1 (event key found change (Changed found)))
+    pub published : (u : View) → u ≡ view_after_write w (call_of w b 1 (event key found change (Changed found)))
         → IsAnswered z v u (record { key = key; found = found; change = change; reply = Changed found })
     published u done =
-        let all : u ≡ written (relocked v (Some (record l { now = now; stored = true }))) (call_of v b 1 (event key found change (Changed found))) =
-        done ∙ ap (λ (x : View). written x (call_of x b 1 (event key found change (Changed found)))) is in
-        let here : View = written v (call_of v b 1 (event key found change (Changed found))) in
+        let all : u ≡ view_after_write (with_lock v (Some (record l { now = now; stored = true }))) (call_of v b 1 (event key found change (Changed found))) =
+        done ∙ ap (λ (x : View). view_after_write x (call_of x b 1 (event key found change (Changed found)))) is in
+        let here : View = view_after_write v (call_of v b 1 (event key found change (Changed found))) in
         let notes = ap (λ (x : View). x.notes) all in
         written_from_lock z v u b word l (record { key = key; found = found; change = change; reply = Changed found }) has home refl
         (all ∙ (ap (λ (h : Holdings). record here { holds = record h { bucket = None } }) has.held

@@ -6,7 +6,7 @@ use Rattle.bihash_words.specs.Sizes.{Sizes}
 use Rattle.bihash_steps.specs.Histories.{IsPrefix, bucket_of, is_changed, store_of, write_of}
 use Rattle.bihash_steps.specs.Callers.{known_at}
 use Rattle.bihash_steps.specs.Views.{nothing_held}
-use Rattle.bihash_steps.specs.BucketSteps.{acting, answered, call_of, learned, push_call, written}
+use Rattle.bihash_steps.specs.BucketSteps.{acting, view_after_answer, call_of, with_history, push_call, view_after_write}
 use Rattle.bihash_steps.specs.declared.view.Write.{Write}
 use Rattle.bihash_steps.specs.declared.view.Call.{Call}
 use Rattle.bihash_steps.specs.declared.view.Record.{Record}
@@ -16,19 +16,19 @@ use Rattle.bihash_steps.specs.declared.view.PageStore.{PageStore}
 use Rattle.bihash_steps.specs.declared.view.View.{View}
 use Rattle.bihash_table.specs.Answers.{entry_of, locks_of, own_writes, with_locks}
 use Rattle.bihash_table.specs.Promise.{IsAnswered}
-use Rattle.bihash_table.specs.Locked.{HasLock}
+use Rattle.bihash_table.specs.inner.Locked.{HasLock}
 use Rattle.bihash_table.proofs.Promised.{answered_by}
 
 pub with_locks-locks_of : (records : List Record) → with_locks (locks_of records) records ≡ records
 with_locks-locks_of [] = refl
 with_locks-locks_of (r ∷ rs) = refl
 
--- the entry of a call behind the writes that are known, where no view is named
+-- the entry of a call after the writes that are known, where no view is named
 module _ (z : Sizes) (v w : View) (b word : ℕ) (l : LockedBucket) (e : Event) (has : HasLock z v b word l)
     (home : bucket_of z e.key ≡ b) where
-  -- the view behind an answer at bucket b, as it stands in the claim
+  -- the view after an answer at bucket b, as it is in the claim
   abbrev Left : Option PageStore → ℕ → ℕ → List Write → List Record → View
-  Left noted b stamp history records = record (learned v b history) {
+  Left noted b stamp history records = record (with_history v b history) {
     records = push_call (record (entry_of z stamp e noted) { bucket = b }) records;
     holds = nothing_held;
     notes = w.notes;
@@ -51,7 +51,7 @@ module _ (z : Sizes) (v w : View) (b word : ℕ) (l : LockedBucket) (e : Event) 
 
   -- the call was no write: nothing more is known
   pub answered_noting : (noted : Option PageStore)
-      → w ≡ answered v (record (call_of v b 0 e) { store = store_of e.reply noted }) → IsAnswered z v w e
+      → w ≡ view_after_answer v (record (call_of v b 0 e) { store = store_of e.reply noted }) → IsAnswered z v w e
   answered_noting noted is =
       let c : Call = record (call_of v b 0 e) { store = store_of e.reply noted } in
       let H : List Write = known_at v.known b in
@@ -63,18 +63,15 @@ module _ (z : Sizes) (v w : View) (b word : ℕ) (l : LockedBucket) (e : Event) 
         holds = record holds { bucket = None };
         notes = w.notes;
       } in
-      let notes : w ≡ record (answered v c) { notes = w.notes } =
-      is ∙ ap (λ n. record (answered v c) { notes = n }) (sym (ap (λ (u : View). u.notes) is)) in
+      let notes : w ≡ record (view_after_answer v c) { notes = w.notes } =
+      is ∙ ap (λ n. record (view_after_answer v c) { notes = n }) (sym (ap (λ (u : View). u.notes) is)) in
       is_left noted H (record { rest = []; whole = sym (append-nil H) }) (let own : ℕ = own_writes e.reply in omega arith)
       (notes ∙ (ap (λ (n : ℕ). At n v.known.writes v.holds) stamp
       ∙ (ap (λ (ws : List (List Write)). At (length H) ws v.holds) kept
       ∙ ap (λ (h : Holdings). At (length H) (set v.known.writes b H) h) has.held)))
 
-  pub answered_from_lock : w ≡ answered v (call_of v b 0 e) → IsAnswered z v w e
-  answered_from_lock = answered_noting v.notes.left
-
   -- the call was a write: it is known, and stands last
-  pub written_from_lock : is_changed e.reply ≡ true → w ≡ record (written v (call_of v b 1 e)) { holds = nothing_held; notes = w.notes }
+  pub written_from_lock : is_changed e.reply ≡ true → w ≡ record (view_after_write v (call_of v b 1 e)) { holds = nothing_held; notes = w.notes }
       → IsAnswered z v w e
   written_from_lock changes is =
       let H : List Write = known_at v.known b in

@@ -13,8 +13,8 @@ use Rattle.bihash_steps.specs.Histories.{IsKeyOf, bounds_of}
 use Rattle.bihash_steps.specs.Callers.{known_at}
 use Rattle.bihash_steps.specs.Blocks.{HasPair, IsBlockOf, key_in, no_block, places, value_in}
 use Rattle.bihash_steps.specs.BucketCalls.{event}
-use Rattle.bihash_steps.specs.BucketSteps.{MayAnswer, answered, call_of, map_now}
-use Rattle.bihash_steps.specs.StoreSteps.{LocksStore, MayReplace, TakesBlock, holding, replaced, store_opened}
+use Rattle.bihash_steps.specs.BucketSteps.{MayAnswer, view_after_answer, call_of, map_now}
+use Rattle.bihash_steps.specs.StoreSteps.{LocksStore, MayReplace, TakesBlock, holding, view_after_replace, store_opened}
 use Rattle.bihash_steps.specs.Seats.{CallerState, with_view}
 use Rattle.bihash_steps.specs.declared.view.Extent.{Extent}
 use Rattle.bihash_steps.specs.declared.view.Holdings.{Holdings}
@@ -23,9 +23,9 @@ use Rattle.bihash_steps.specs.declared.view.HeldBlock.{HeldBlock}
 use Rattle.bihash_steps.specs.declared.view.LockedStore.{LockedStore}
 use Rattle.bihash_steps.specs.declared.view.PageStore.{PageStore}
 use Rattle.bihash_steps.specs.declared.view.View.{View}
-use Rattle.bihash_table.specs.Copying.{HasBlock, HasStore, IsWanting, TakesPages, with_words}
-use Rattle.bihash_table.specs.Locked.{HasLock}
-use Rattle.bihash_table.specs.Places.{ArePlaces, HasPairOf}
+use Rattle.bihash_table.specs.inner.Copying.{HasBlock, HasStore, LacksPages, TakesPages, with_words}
+use Rattle.bihash_table.specs.inner.Locked.{HasLock}
+use Rattle.bihash_table.specs.inner.Places.{ArePlaces, HasPairOf}
 use Rattle.bihash_words.proofs.MapValues.{get_left, get_removed, same_or_other}
 use Rattle.bihash_table.proofs.Bridge.{extent_of}
 use Rattle.bihash_table.proofs.Entering.{entering, looked_at, may_want, may_write, removing}
@@ -151,7 +151,7 @@ pub may_refuse : (z : Sizes) (v u : View) (b word : ℕ) (l : LockedBucket) (key
     (store : PageStore)
     → HasLock z v b word l → IsKeyOf z b key → length (known_at v.known b) < z.limit
     → len (map_now v b) < most_pairs (bounds_of z) → get (map_now v b) key ≡ None → log2 ≤ z.max_log2
-    → IsWanting z store log2 left → u ≡ looked_at v store
+    → LacksPages z store log2 left → u ≡ looked_at v store
     → MayAnswer z u b word (call_of u b 0 (event key None (Set value) (NoPages log2 left)))
 may_refuse z v u b word l key value log2 left store lock home unworn room absent small wanting is =
     subst (λ (x : View). MayAnswer z x b word (call_of x b 0 (event key None (Set value) (NoPages log2 left)))) (sym is)
@@ -170,20 +170,20 @@ pub ready_same : {A K : Type 0} (g : Ghosts A K) (s u : CallerState) (page log2 
     → IsReady g s u page log2 block → u ≡ with_view s u.view
 ready_same g s u page log2 block ready = seen_same s u ready.is
 
--- the view behind the write that gives the bucket another block
+-- the view after the write that gives the bucket another block
 pub published : (s t u : CallerState) (n : LockedStore) (block : Option HeldBlock) (b : ℕ) (key : List ℕ) (found : Option ℕ)
     (change : Change)
     → t ≡ with_view s (holding s.view (Some n) block)
-    → u ≡ with_view t (replaced t.view (call_of t.view b 1 (event key found change (Changed found))))
-    → u.view ≡ replaced (holding s.view (Some n) block) (call_of s.view b 1 (event key found change (Changed found)))
+    → u ≡ with_view t (view_after_replace t.view (call_of t.view b 1 (event key found change (Changed found))))
+    → u.view ≡ view_after_replace (holding s.view (Some n) block) (call_of s.view b 1 (event key found change (Changed found)))
 published s t u n block b key found change ready is = ap (λ (c : CallerState). c.view) is
-    ∙ ap (λ (c : CallerState). replaced c.view (call_of c.view b 1 (event key found change (Changed found)))) ready
+    ∙ ap (λ (c : CallerState). view_after_replace c.view (call_of c.view b 1 (event key found change (Changed found)))) ready
 
 pub was_answered : (s t : CallerState) (b : ℕ) (key : List ℕ) (found : Option ℕ) (change : Change) (reply : Reply) (v : View)
-    → s.view ≡ v → t ≡ with_view s (answered s.view (call_of s.view b 0 (event key found change reply)))
-    → t.view ≡ answered v (call_of v b 0 (event key found change reply))
+    → s.view ≡ v → t ≡ with_view s (view_after_answer s.view (call_of s.view b 0 (event key found change reply)))
+    → t.view ≡ view_after_answer v (call_of v b 0 (event key found change reply))
 was_answered s t b key found change reply v e is = ap (λ (c : CallerState). c.view) is
-    ∙ ap (λ (x : View). answered x (call_of x b 0 (event key found change reply))) e
+    ∙ ap (λ (x : View). view_after_answer x (call_of x b 0 (event key found change reply))) e
 
 -- ---- The last pair goes
 

@@ -9,7 +9,7 @@ view_is a b v is = ap (λ (k : CallerState). k.view) is
 pub same_but_view : (a b : CallerState) (v : View) → b ≡ with_view a v → b ≡ with_view a b.view
 same_but_view a b v is = is ∙ ap (with_view a) (sym (view_is a b v is))
 
--- one step behind another
+-- one step after another
 pub same_through : (a b c : CallerState) (v : View) → b ≡ with_view a b.view → c ≡ with_view b v → c ≡ with_view a c.view
 same_through a b c v first then =
     same_but_view a c v (then ∙ ap (λ (k : CallerState). with_view k v) first)

@@ -1,4 +1,4 @@
--- What readers of an open bucket may conclude one behind the other.
+-- What readers of an open bucket may conclude one after the other.
 use Rattle.std.proofs.Common.{◌≡◌, ℕ, zero, suc, ◌+◌, ◌*◌, ◌<◌, ◌≤◌, arith, List, [], ◌∷◌, ◌++◌, length, append_assoc, refl, sym, ap, ◌∙◌, subst, Option, Some, None}
 use mathlib.Core.Option.{some, some-ne-none}
 use lib.ListN.{get_elem?}
@@ -6,24 +6,24 @@ use Rattle.std.specs.Prelude.{slice_index}
 use Rattle.bihash_words.specs.Sizes.{IsSound, Sizes}
 use Rattle.bihash_steps.specs.Words.{block_words, place_words}
 use Rattle.bihash_steps.specs.Blocks.{places}
-use Rattle.bihash_steps.specs.Buckets.{Reads}
-use Rattle.bihash_steps.specs.BucketSteps.{IsOpenWord, read_more, reading}
+use Rattle.bihash_steps.specs.Buckets.{AreReadIn}
+use Rattle.bihash_steps.specs.BucketSteps.{IsOpenWord, read_more, with_reading}
 use Rattle.bihash_steps.specs.Seats.{CallerState, with_view}
 use Rattle.bihash_steps.specs.declared.view.Extent.{Extent}
 use Rattle.bihash_steps.specs.declared.view.OpenBucket.{OpenBucket}
 use Rattle.bihash_steps.specs.declared.view.View.{View}
 use Rattle.bihash_steps.proofs.Lists.{at_behind}
-use Rattle.bihash_table.specs.OpenReads.{HasOpen, HasRead, MayRead, NotesBlock, Saw}
-use Rattle.bihash_table.specs.Scans.{IsWordOf, NamesBlock}
+use Rattle.bihash_table.specs.inner.OpenReads.{HasOpen, HasRead, MayRead, NotesBlock, Saw}
+use Rattle.bihash_table.specs.inner.Scans.{IsWordOf, NamesBlock}
 use Rattle.bihash_table.proofs.PlaceReads.{place_inside}
 use Rattle.bihash_table.proofs.SameCallers.{own_through, same_but_view, same_through, view_is}
 
 -- ---- Words that were read
 
-pub read_last : (xs ys : List (ℕ × ℕ)) (block : List ℕ) → Reads (xs ++ ys) block → Reads ys block
+pub read_last : (xs ys : List (ℕ × ℕ)) (block : List ℕ) → AreReadIn (xs ++ ys) block → AreReadIn ys block
 read_last xs ys block h i p e = h (length xs + i) p (at_behind xs ys i p e)
 
-pub read_first : (xs ys : List (ℕ × ℕ)) (block : List ℕ) → Reads (xs ++ ys) block → Reads xs block
+pub read_first : (xs ys : List (ℕ × ℕ)) (block : List ℕ) → AreReadIn (xs ++ ys) block → AreReadIn xs block
 read_first xs ys block h i p e = h i p (longer xs i e)
   where
     longer : (xs : List (ℕ × ℕ)) (i : ℕ) → get_elem? xs i ≡ some p → get_elem? (xs ++ ys) i ≡ some p
@@ -40,7 +40,7 @@ read_twice xs ys None = refl
 read_twice xs ys (Some o) = ap (λ (reads : List (ℕ × ℕ)). Some (record o { reads = reads })) (sym (append_assoc ys xs o.reads))
 
 -- what the caller noted of the block stays while it reads
-abbrev pub notes_more : (z : Sizes) (v : View) (word : ℕ) (e : Extent) (more : List (ℕ × ℕ)) → NotesBlock z v word e → NotesBlock z (reading v more) word e
+abbrev pub notes_more : (z : Sizes) (v : View) (word : ℕ) (e : Extent) (more : List (ℕ × ℕ)) → NotesBlock z v word e → NotesBlock z (with_reading v more) word e
 notes_more z v word e more h = record {
   open_bucket = record h.open_bucket { reads = more ++ h.open_bucket.reads };
   noted = ap (read_more more) h.noted;
@@ -72,7 +72,7 @@ module _ {P : Extent → List ℕ → Type 0} where
     pub saw_both : (u v w : View) → Saw u v P → Saw v w Q → Saw u w (λ e block. P e block × Q e block)
     saw_both u v w s t = record {
       more = t.more ++ s.more;
-      is = t.is ∙ (ap (λ (x : View). reading x t.more) s.is ∙ ap (λ (o : Option OpenBucket). record u { notes = record u.notes { open_bucket = o } })
+      is = t.is ∙ (ap (λ (x : View). with_reading x t.more) s.is ∙ ap (λ (o : Option OpenBucket). record u { notes = record u.notes { open_bucket = o } })
           (read_twice s.more t.more u.notes.open_bucket));
       told = λ o noted reads. (
         s.told o noted (read_last t.more s.more o.block reads),
@@ -92,7 +92,7 @@ module _ {P : Extent → List ℕ → Type 0} where
     }
 
 -- one word was read
-pub saw_word : (v w : View) (k n : ℕ) → w ≡ reading v ((k, n) ∷ []) → Saw v w (λ _ block. n ≡ slice_index block k)
+pub saw_word : (v w : View) (k n : ℕ) → w ≡ with_reading v ((k, n) ∷ []) → Saw v w (λ _ block. n ≡ slice_index block k)
 saw_word v w k n is = record { more = (k, n) ∷ []; is = is; told = λ o noted reads. reads 0 (k, n) refl }
 
 -- ---- A caller that reads
@@ -168,9 +168,9 @@ open_word_of_place z v word page i k e h is inside low = record {
 
 -- word k of a place, where a place has one word more than a key
 pub read_word_of_place : (s t : CallerState) (words words' i k n : ℕ) → words ≡ words'
-    → t ≡ with_view s (reading s.view ((i * (words + 1) + k, n) ∷ [])) → HasRead s t (λ _ block. n ≡ slice_index block (i * (words' + 1) + k))
+    → t ≡ with_view s (with_reading s.view ((i * (words + 1) + k, n) ∷ [])) → HasRead s t (λ _ block. n ≡ slice_index block (i * (words' + 1) + k))
 read_word_of_place s t words words' i k n same is = record {
   same = same_but_view s t _ is;
   saw = saw_word s.view t.view (i * (words' + 1) + k) n
-      (view_is s t _ is ∙ ap (λ (x : ℕ). reading s.view ((i * (x + 1) + k, n) ∷ [])) same);
+      (view_is s t _ is ∙ ap (λ (x : ℕ). with_reading s.view ((i * (x + 1) + k, n) ∷ [])) same);
 }

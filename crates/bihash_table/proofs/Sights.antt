@@ -1,15 +1,15 @@
 -- A bucket that was seen without its lock: what reads add to it, its lock, and answers without the lock.
 use Rattle.std.proofs.Common.{◌≡◌, ◌∙◌, ℕ, ◌+◌, ◌≤◌, false, List, [], length, le_refl, set, refl, sym, ap, subst, arith, Some}
 use lib.Seq.{set-get_or}
-use Rattle.bihash_words.specs.Maps.{Pairs, Event, Step}
+use Rattle.bihash_words.specs.Maps.{Pairs, Event, IsEvent}
 use Rattle.bihash_words.specs.Sizes.{Sizes}
 use Rattle.bihash_words.specs.Words.{Fits, packed}
 use Rattle.bihash_words.specs.declared.patch.Reply.TheVariants.{NoPages}
 use Rattle.bihash_steps.specs.Histories.{IsPrefix, IsKeyOf, bounds_of, bucket_of, is_changed}
 use Rattle.bihash_steps.specs.Callers.{known_at}
-use Rattle.bihash_steps.specs.Buckets.{Reads, word_of}
+use Rattle.bihash_steps.specs.Buckets.{AreReadIn, word_of}
 use Rattle.bihash_steps.specs.Views.{nothing_held, no_notes}
-use Rattle.bihash_steps.specs.BucketSteps.{learned, push_call, map_now, reading, TakesLock, RestsOn, MayValidate, validated, call_of}
+use Rattle.bihash_steps.specs.BucketSteps.{with_history, push_call, map_now, with_reading, TakesLock, RestsOn, MayValidate, view_after_validate, call_of}
 use Rattle.bihash_steps.specs.declared.view.Write.{Write}
 use Rattle.bihash_steps.specs.declared.view.Call.{Call}
 use Rattle.bihash_steps.specs.declared.view.Record.{Record}
@@ -20,8 +20,8 @@ use Rattle.bihash_steps.specs.declared.view.View.{View}
 use Rattle.bihash_steps.proofs.Prefixes.{prefix_refl}
 use Rattle.bihash_table.specs.Answers.{entry_of, locks_of, own_writes, with_locks}
 use Rattle.bihash_table.specs.Promise.{IsAnswered}
-use Rattle.bihash_table.specs.OpenReads.{HasOpen, IsOpened, Saw}
-use Rattle.bihash_table.specs.Seen.{HasSeen, LocksSeen}
+use Rattle.bihash_table.specs.inner.OpenReads.{HasOpen, IsOpened, Saw}
+use Rattle.bihash_table.specs.inner.Seen.{HasSeen, LocksSeen}
 use Rattle.bihash_table.proofs.Composed.{IsAhead}
 use Rattle.bihash_table.proofs.LockCounts.{locks_pushed}
 use Rattle.bihash_table.proofs.Opened.{locked_behind, reads_rest, rests_here, same_known, same_map}
@@ -31,8 +31,8 @@ use Rattle.bihash_table.proofs.Seeing.{notes_more, read_first, read_last}
 
 -- ---- More reads
 
--- the bucket is seen behind reads too
-abbrev open_more : (z : Sizes) (x : View) (b word : ℕ) (more : List (ℕ × ℕ)) → HasOpen z x b word → HasOpen z (reading x more) b word
+-- the bucket is seen after reads too
+abbrev open_more : (z : Sizes) (x : View) (b word : ℕ) (more : List (ℕ × ℕ)) → HasOpen z x b word → HasOpen z (with_reading x more) b word
 open_more z x b word more h = record {
   inside = h.inside;
   held = h.held;
@@ -91,16 +91,16 @@ module _ (v y : View) (b : ℕ) {Q : Extent → List ℕ → Type 0} (s : Saw v 
     alone = λ _. le_refl (length (known_at v.known b));
   }
 
--- the view behind the reads is ahead of the one before the look
+-- the view after the reads is ahead of the one before the look
 pub seen_ahead : (z : Sizes) (v x y : View) (b word : ℕ) {Q : Extent → List ℕ → Type 0} → IsOpened z v x b word → Saw x y Q → IsAhead v y b
 seen_ahead z v x y b word s t =
-    let behind : y ≡ reading (record (learned v b s.history) { notes = s.notes }) t.more
-    = t.is ∙ ap (λ (u : View). reading u t.more) s.is in
+    let behind : y ≡ with_reading (record (with_history v b s.history) { notes = s.notes }) t.more
+    = t.is ∙ ap (λ (u : View). with_reading u t.more) s.is in
     let same = sym behind in record {
       history = s.history;
       begins = s.begins;
       locks = locks_of v.records;
-      is = behind ∙ (λ i. record (learned v b s.history) {
+      is = behind ∙ (λ i. record (with_history v b s.history) {
         records = sym (with_locks-locks_of v.records) i;
         holds = (same i).holds;
         notes = (same i).notes;
@@ -121,7 +121,7 @@ module _ (z : Sizes) (y : View) (b word : ℕ) {P : Extent → List ℕ → Type
 
   pub seen_answer : IsKeyOf z b e.key → is_changed e.reply ≡ false → ((log2 left : ℕ) → e.reply ≡ NoPages log2 left → ⊥)
       → (P h.seen.extent h.seen.block.open_bucket.block
-      → (m' : Pairs) × Step (bounds_of z) (map_now y b) (length (known_at y.known b)) e m')
+      → (m' : Pairs) × IsEvent (bounds_of z) (map_now y b) (length (known_at y.known b)) e m')
       → MayValidate z y b word answer_call
   seen_answer of_bucket read pages answers =
       let k = h.seen.block in
@@ -141,7 +141,7 @@ module _ (z : Sizes) (y : View) (b word : ℕ) {P : Extent → List ℕ → Type
         store = refl;
       }
 
-  module _ (w : View) (is : w ≡ validated y answer_call) where
+  module _ (w : View) (is : w ≡ view_after_validate y answer_call) where
     pub answer_locks : locks_of w.records ≡ locks_of y.records
     answer_locks = locks_pushed answer_call y.records w.records (ap (λ (u : View). u.records) is)
 
@@ -172,7 +172,7 @@ module _ (z : Sizes) (y : View) (b word : ℕ) {P : Extent → List ℕ → Type
               (let own : ℕ = own_writes e.reply in omega arith);
         }
 
--- ---- The lock behind the reads
+-- ---- The lock after the reads
 
 module _ (z : Sizes) (v w : View) (b word : ℕ) (h : HasOpen z v b word) (t : TakesLock z v b word w)
     (rests : (l : LockedBucket) → w.holds.bucket ≡ Some l → RestsOn h.block.open_bucket l) where
@@ -193,7 +193,7 @@ pub told_locked : (z : Sizes) (v w : View) (b word : ℕ) {P : Extent → List �
     → P k.locked.lock.extent k.locked.lock.now
 told_locked z v w b word {P} h k =
     let one : h.seen.block.open_bucket ≡ k.bucket = let a = h.seen.block.noted in let c = k.noted in cc in
-    let told = h.told (subst (λ (o : OpenBucket). Reads o.reads o.block) (sym one) k.reads) in
+    let told = h.told (subst (λ (o : OpenBucket). AreReadIn o.reads o.block) (sym one) k.reads) in
     let extent : h.seen.extent ≡ k.locked.lock.extent
     = sym h.seen.block.extent ∙ (ap (λ (o : OpenBucket). o.extent) one ∙ sym k.extent) in
     let block : h.seen.block.open_bucket.block ≡ k.locked.lock.now = ap (λ (o : OpenBucket). o.block) one ∙ sym k.block in

@@ -8,8 +8,8 @@ use Rattle.bihash_steps.specs.Words.{place_words}
 use Rattle.bihash_steps.specs.Blocks.{places}
 use Rattle.bihash_steps.specs.declared.view.Extent.{Extent}
 use Rattle.bihash_steps.specs.Seats.{CallerState}
-use Rattle.bihash_table.specs.OpenReads.{HasRead, NotesBlock, StandsAt}
-use Rattle.bihash_table.specs.Places.{ArePlaces}
+use Rattle.bihash_table.specs.inner.OpenReads.{HasRead, NotesBlock, StandsAt}
+use Rattle.bihash_table.specs.inner.Places.{ArePlaces}
 use Rattle.bihash_table.proofs.Copies.{AreRead, read_more, read_none, read_place_more, words_counted}
 use Rattle.bihash_table.proofs.PlaceReads.{all_same}
 use Rattle.bihash_table.proofs.Seeing.{note_extent, note_size, read_as, read_nothing, read_then}

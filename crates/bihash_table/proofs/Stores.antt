@@ -17,8 +17,8 @@ use Rattle.bihash_steps.specs.PageStores.{returned_in}
 use Rattle.bihash_steps.specs.Views.{no_notes, nothing_held}
 use Rattle.bihash_steps.specs.Seats.{CallerState, with_view}
 use Rattle.bihash_steps.specs.BucketCalls.{event}
-use Rattle.bihash_steps.specs.BucketSteps.{answered, call_of, called, last_call, push_call, unlocked, unnoted}
-use Rattle.bihash_steps.specs.StoreSteps.{LocksStore, TakesBlock, freed, grown, holding, old_block, relisted, replaced, store_opened, unlisted}
+use Rattle.bihash_steps.specs.BucketSteps.{view_after_answer, call_of, with_call, last_call, push_call, without_lock, without_notes}
+use Rattle.bihash_steps.specs.StoreSteps.{LocksStore, TakesBlock, freed, grown, holding, old_block, relisted, view_after_replace, store_opened, unlisted}
 use Rattle.bihash_steps.specs.declared.view.Call.{Call}
 use Rattle.bihash_steps.specs.declared.view.Extent.{Extent}
 use Rattle.bihash_steps.specs.declared.view.Holdings.{Holdings}
@@ -29,11 +29,11 @@ use Rattle.bihash_steps.specs.declared.view.PageStore.{PageStore}
 use Rattle.bihash_steps.specs.declared.view.Record.{Record}
 use Rattle.bihash_steps.specs.declared.view.View.{View}
 use Rattle.bihash_table.specs.Answers.{locks_of}
-use Rattle.bihash_table.specs.Promise.{IsAnswered, IsTurnedAway}
-use Rattle.bihash_table.specs.Copying.{GivenBack, HasBlock, HasStore, HoldsOld, MayGiveBack, Released, TakesPages}
-use Rattle.bihash_table.specs.Locked.{HasLock}
-use Rattle.bihash_table.specs.Scans.{IsWordOf}
-use Rattle.bihash_table.specs.Shortage.{Bears}
+use Rattle.bihash_table.specs.Promise.{IsAnswered, IsContended}
+use Rattle.bihash_table.specs.inner.Copying.{GivenBack, HasBlock, HasStore, HoldsOld, MayGiveBack, Released, TakesPages}
+use Rattle.bihash_table.specs.inner.Locked.{HasLock}
+use Rattle.bihash_table.specs.inner.Scans.{IsWordOf}
+use Rattle.bihash_table.specs.OutOfPages.{Bears}
 use Rattle.bihash_table.proofs.Entering.{looked_at}
 use Rattle.bihash_table.proofs.Promised.{turned_away_by}
 use Rattle.bihash_table.proofs.Released.{answered_noting, with_locks-locks_of, written_from_lock}
@@ -169,9 +169,9 @@ has_store z v w none t = record {
   settled = t.settled;
 }
 
--- the block that the bucket had is held behind the write
+-- the block that the bucket had is held after the write
 pub holds_old : (z : Sizes) (v w : View) (b word : ℕ) (l : LockedBucket) (n : LockedStore) (block : Option HeldBlock) (c : Call)
-    → HasLock z v b word l → w ≡ replaced (holding v (Some n) block) c
+    → HasLock z v b word l → w ≡ view_after_replace (holding v (Some n) block) c
     → HoldsOld w (record n { store = record n.store { unpublished = false } }) l.extent l.now
 holds_old z v w b word l n block c lock is = record {
   store = ap (λ (u : View). u.holds.store) is;
@@ -179,12 +179,12 @@ holds_old z v w b word l n block c lock is = record {
   settled = refl;
 }
 
--- what is left behind the write and the return of the old block is what a write leaves
+-- what is left after the write and the return of the old block is what a write leaves
 pub left_written : (z : Sizes) (v u w : View) (b word : ℕ) (l : LockedBucket) (n : LockedStore) (block : Option HeldBlock)
     (e : Event)
     → HasLock z v b word l → bucket_of z e.key ≡ b
     → is_changed e.reply ≡ true
-    → u ≡ replaced (holding v (Some n) block) (call_of v b 1 e) → Released u w
+    → u ≡ view_after_replace (holding v (Some n) block) (call_of v b 1 e) → Released u w
     → IsAnswered z v w e
 left_written z v u w b word l n block e lock home changes is gone =
     written_from_lock z v w b word l e lock home changes (gone.is
@@ -199,9 +199,9 @@ still_lawful z u w gone lawful = subst (IsLawfulCaller z) (sym gone.is)
 
 -- the lock was opened again, since the allocation lock was held
 pub turned_away : (z : Sizes) (v u w : View) (b word : ℕ) (l : LockedBucket)
-    → HasLock z v b word l → u ≡ unnoted v → w ≡ unlocked u → IsTurnedAway z v w b
+    → HasLock z v b word l → u ≡ without_notes v → w ≡ without_lock u → IsContended z v w b
 turned_away z v u w b word l lock not opened =
-    let is : w ≡ unlocked (unnoted v) = opened ∙ ap unlocked not in
+    let is : w ≡ without_lock (without_notes v) = opened ∙ ap without_lock not in
     let notes = ap (λ (x : View). x.notes) (sym is) in turned_away_by z v w b record {
       history = known_at v.known b;
       begins = record { rest = []; whole = sym (append-nil (known_at v.known b)) };
@@ -218,10 +218,10 @@ turned_away z v u w b word l lock not opened =
 -- the allocation lock was taken and opened, and then the call was answered
 pub left_answered : (z : Sizes) (v w : View) (b word : ℕ) (l : LockedBucket) (store : PageStore) (e : Event)
     → HasLock z v b word l → bucket_of z e.key ≡ b
-    → w ≡ answered (looked_at v store) (call_of (looked_at v store) b 0 e)
+    → w ≡ view_after_answer (looked_at v store) (call_of (looked_at v store) b 0 e)
     → IsAnswered z v w e
 left_answered z v w b word l store e lock home is = answered_noting z v w b word l e lock home (Some store)
-    (is ∙ (λ i. record (called v (call_of (looked_at v store) b 0 e)) {
+    (is ∙ (λ i. record (with_call v (call_of (looked_at v store) b 0 e)) {
       holds = record { bucket = None; store = (ap (λ (h : Holdings). h.store) (sym lock.held)) i; block = v.holds.block };
       notes = no_notes;
     }))
@@ -234,9 +234,9 @@ last_pushed : (c d : Call) (rs : List Record) → last_call (push_call c rs) ≡
 last_pushed c d [] is = cc
 last_pushed c d (r ∷ rs) is = let same : Some c ≡ Some d = sym (last_of r.calls c None) ∙ is in cc
 
--- the entry of a refusal comes behind all known writes, and bears what was noted
+-- the entry of a refusal comes after all known writes, and bears what was noted
 pub bears_noted : (v w : View) (b : ℕ) (store : PageStore) (key : List ℕ) (found : Option ℕ) (change : Change) (log2 left : ℕ)
-    → w ≡ answered (looked_at v store) (call_of (looked_at v store) b 0 (event key found change (NoPages log2 left))) → Bears w b store
+    → w ≡ view_after_answer (looked_at v store) (call_of (looked_at v store) b 0 (event key found change (NoPages log2 left))) → Bears w b store
 bears_noted v w b store key found change log2 left is c last =
     let entry : Call = call_of (looked_at v store) b 0 (event key found change (NoPages log2 left)) in
     let same : entry ≡ c = last_pushed entry c v.records (ap (λ (u : View). last_call u.records) (sym is) ∙ last) in

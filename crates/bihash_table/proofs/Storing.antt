@@ -7,29 +7,24 @@ use Rattle.bihash_words.specs.Words.{Bucket, Fits, packed}
 use Rattle.bihash_steps.specs.Words.{place_words}
 use Rattle.bihash_steps.specs.Blocks.{key_in, places, value_in}
 use Rattle.bihash_steps.specs.Buckets.{word_of}
-use Rattle.bihash_steps.specs.BucketSteps.{IsLockedWord, relocked, stored_in}
+use Rattle.bihash_steps.specs.BucketSteps.{IsLockedWord, with_lock, stored_in}
 use Rattle.bihash_steps.specs.Seats.{CallerState, with_view}
 use Rattle.bihash_steps.specs.declared.view.Holdings.{Holdings}
 use Rattle.bihash_steps.specs.declared.view.LockedBucket.{LockedBucket}
 use Rattle.bihash_steps.specs.declared.view.View.{View}
-use Rattle.bihash_table.specs.Locked.{HasLock}
-use Rattle.bihash_table.specs.Stores.{HasStored, HoldsPlace, IsPlaceSet}
+use Rattle.bihash_table.specs.inner.Locked.{HasLock}
+use Rattle.bihash_table.specs.inner.Stores.{HasStored, HoldsPlace, IsPlaceSet}
 use Rattle.bihash_table.proofs.PlaceReads.{all_same, place_inside, word_of_key}
 use Rattle.bihash_table.proofs.PlaceWords.{set_in_place}
 
--- the view behind one store
+-- the view after one store
 pub view_stored : (a b : CallerState) (l : LockedBucket) (at at' value value' : ℕ) → at ≡ at' → value ≡ value'
-    → b ≡ with_view a (relocked a.view (Some (stored_in l at value)))
-    → b.view ≡ relocked a.view (Some (stored_in l at' value'))
+    → b ≡ with_view a (with_lock a.view (Some (stored_in l at value)))
+    → b.view ≡ with_lock a.view (Some (stored_in l at' value'))
 view_stored a b l at at' value value' here same step =
     ap (λ (k : CallerState). k.view) step
-    ∙ (ap (λ (n : ℕ). relocked a.view (Some (stored_in l n value))) here
-    ∙ ap (λ (n : ℕ). relocked a.view (Some (stored_in l at' n))) same)
-
--- where there is a place there is a block
-pub places_some : (page log2 i : ℕ) → i < places page log2 → places page log2 ≡ 4 * 2 ^ log2
-places_some zero log2 i inside = absurd (omega arith)
-places_some (suc page) log2 i inside = refl
+    ∙ (ap (λ (n : ℕ). with_lock a.view (Some (stored_in l n value))) here
+    ∙ ap (λ (n : ℕ). with_lock a.view (Some (stored_in l at' n))) same)
 
 -- a word of a place of the block that is locked
 pub locked_word : (z : Sizes) (v : View) (word place i page : ℕ) (h : HoldsPlace z v word place)
@@ -68,7 +63,7 @@ module _ (z : Sizes) (v : View) (b word : ℕ) (l : LockedBucket) (has : HasLock
     words = λ j below. absurd (omega arith);
   }
 
-  -- the whole key stands there already
+  -- the whole key is there already
   abbrev pub stored_before : (i : ℕ) (key : List ℕ) → key_in z l.now i ≡ key → HasStored z v v l i key z.key_words
   stored_before i key stands = record {
     now = l.now;
@@ -97,7 +92,7 @@ module _ (z : Sizes) (v : View) (b word : ℕ) (l : LockedBucket) (has : HasLock
       inside = inside;
     }
 
-    -- the next word stands there already
+    -- the next word is there already
     pub stored_same : (n : ℕ) → n ≡ slice_index h.now (i * place_words z + k) → n ≡ slice_index key k → HasStored z v w l i key (k + 1)
     stored_same n there is = record {
       now = h.now;
@@ -116,13 +111,13 @@ module _ (z : Sizes) (v : View) (b word : ℕ) (l : LockedBucket) (has : HasLock
         omega (arith, place_inside z l.extent.page l.extent.log2 i j inside (omega arith), has.size, h.placed.size)
 
     module _ (w' : View) (n value : ℕ)
-        (is : w' ≡ relocked w (Some (stored_in lock_now (i * place_words z + n) value))) where
+        (is : w' ≡ with_lock w (Some (stored_in lock_now (i * place_words z + n) value))) where
       abbrev now' : List ℕ
       now' = set h.now (i * place_words z + n) value
 
-      -- the view behind one more store
-      pub stored_is : w' ≡ relocked v (Some (record l { now = now'; stored = true }))
-      stored_is = is ∙ ap (λ (u : View). relocked u (Some (record l { now = now'; stored = true }))) h.is
+      -- the view after one more store
+      pub stored_is : w' ≡ with_lock v (Some (record l { now = now'; stored = true }))
+      stored_is = is ∙ ap (λ (u : View). with_lock u (Some (record l { now = now'; stored = true }))) h.is
 
       pub stored_placed : n < place_words z → IsPlaceSet z l.now now' i
       stored_placed small = set_in_place z l.now h.now i n value h.placed small
@@ -136,7 +131,7 @@ module _ (z : Sizes) (v : View) (b word : ℕ) (l : LockedBucket) (has : HasLock
 
     -- the next word of the key
     pub stored_more : (w' : View) → k < z.key_words
-        → w' ≡ relocked w (Some (stored_in lock_now (i * place_words z + k) (slice_index key k)))
+        → w' ≡ with_lock w (Some (stored_in lock_now (i * place_words z + k) (slice_index key k)))
         → HasStored z v w' l i key (k + 1)
     stored_more w' small is =
         let next : ℕ = slice_index key k in
@@ -146,7 +141,7 @@ module _ (z : Sizes) (v : View) (b word : ℕ) (l : LockedBucket) (has : HasLock
           now = now' w' k next is;
           stored = true;
           is = all
-              ∙ ap (λ n. record (relocked v (Some (record l { now = now' w' k next is; stored = true }))) { notes = n }) notes;
+              ∙ ap (λ n. record (with_lock v (Some (record l { now = now' w' k next is; stored = true }))) { notes = n }) notes;
           placed = stored_placed w' k next is (omega arith);
           words = λ j below. ⊎_elim
               (λ (here : j ≡ k). ap (λ (n : ℕ). slice_index (now' w' k next is) (i * place_words z + n)) here
@@ -155,9 +150,9 @@ module _ (z : Sizes) (v : View) (b word : ℕ) (l : LockedBucket) (has : HasLock
               (cases_eq j k);
         }
 
-    -- the value, behind the words of the key
+    -- the value, after the words of the key
     module _ (w' : View) (value : ℕ) (whole : k ≡ z.key_words) (long : length key ≡ z.key_words)
-        (is : w' ≡ relocked w (Some (stored_in lock_now (i * place_words z + z.key_words) value))) where
+        (is : w' ≡ with_lock w (Some (stored_in lock_now (i * place_words z + z.key_words) value))) where
       pub value_stored : value_in z (now' w' z.key_words value is) i ≡ value
       value_stored = stored_here w' z.key_words value is (omega arith)
 

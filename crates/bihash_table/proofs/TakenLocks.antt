@@ -8,7 +8,7 @@ use Rattle.bihash_steps.specs.Callers.{known_at}
 use Rattle.bihash_steps.specs.PageStores.{HasCall}
 use Rattle.bihash_steps.specs.Views.{nothing_held, no_notes}
 use Rattle.bihash_steps.specs.Steps.{HaveBearers, IsToldWhole}
-use Rattle.bihash_steps.specs.BucketSteps.{unlocked}
+use Rattle.bihash_steps.specs.BucketSteps.{without_lock}
 use Rattle.bihash_steps.specs.declared.view.Write.{Write}
 use Rattle.bihash_steps.specs.declared.view.Call.{Call}
 use Rattle.bihash_steps.specs.declared.view.Record.{Record}
@@ -17,8 +17,8 @@ use Rattle.bihash_steps.specs.declared.view.Holdings.{Holdings}
 use Rattle.bihash_steps.specs.declared.view.View.{View}
 use Rattle.bihash_steps.proofs.Pushed.{Renumbers, same_number, same_whole}
 use Rattle.bihash_table.specs.Answers.{locks_of, with_locks}
-use Rattle.bihash_table.specs.Locked.{IsLocked}
-use Rattle.bihash_table.specs.PairLists.{TookLocks}
+use Rattle.bihash_table.specs.inner.Locked.{IsLocked}
+use Rattle.bihash_table.specs.inner.PairLists.{TookLocks}
 use Rattle.bihash_table.proofs.Composed.{with_one_more}
 use Rattle.bihash_table.proofs.Released.{with_locks-locks_of}
 
@@ -42,12 +42,12 @@ module _ (z : Sizes) (v w : View) (b word : ℕ) where
       is ∙ ap (λ (ws : List (List Write)). record v.known { writes = ws })
       (learned_same v.known.writes b s.history (ap (λ (k : Known). known_at k b) (sym is) ∙ whole))
 
-  pub took_lock : v.holds ≡ nothing_held → IsLocked z v w b word → known_at w.known b ≡ known_at v.known b → TookLocks v (unlocked w)
+  pub took_lock : v.holds ≡ nothing_held → IsLocked z v w b word → known_at w.known b ≡ known_at v.known b → TookLocks v (without_lock w)
   took_lock free s whole = record {
     locks = locks_of v.records + 1;
     is =
-        ap (λ (k : Known). record (unlocked w) { known = k }) (locked_known s whole)
-        ∙ (ap (λ (x : View). record (unlocked x) { known = v.known }) s.is
+        ap (λ (k : Known). record (without_lock w) { known = k }) (locked_known s whole)
+        ∙ (ap (λ (x : View). record (without_lock x) { known = v.known }) s.is
         ∙ (ap (λ (rs : List Record). record v { records = rs; holds = record v.holds { bucket = None }; notes = no_notes })
         (sym (with_one_more v.records))
         ∙ ap (λ (h : Holdings). record v {

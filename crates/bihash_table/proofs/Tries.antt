@@ -1,4 +1,4 @@
--- One try of an update: answered without the lock, turned away, or answered behind the lock.
+-- One try of an update: answered without the lock, turned away, or answered after the lock.
 use Rattle.std.proofs.Common.{◌≡◌, ◌≢◌, ◌∙◌, ◌<◌, ℕ, Bool, true, false, true≢false, List, length, Option, Some, Result, Ok, Err, refl, sym, ap, subst, eq-eqb}
 use Rattle.std.specs.Prelude.{IfOk, if◌then◌else◌}
 use Rattle.bihash_words.specs.Maps.{Event, effect_of}
@@ -11,18 +11,18 @@ use Rattle.bihash_words.specs.declared.patch.Reply.{Reply}
 use Rattle.bihash_words.specs.declared.patch.Reply.TheVariants.{Changed, NoPages}
 use Rattle.bihash_steps.specs.Histories.{bucket_of}
 use Rattle.bihash_steps.specs.Callers.{IsLawfulCaller, known_at}
-use Rattle.bihash_steps.specs.BucketSteps.{call_of, unnoted, validated}
+use Rattle.bihash_steps.specs.BucketSteps.{call_of, without_notes, view_after_validate}
 use Rattle.bihash_steps.specs.Seats.{CallerState, with_view}
 use Rattle.bihash_steps.specs.declared.view.Extent.{Extent}
 use Rattle.bihash_steps.specs.declared.view.View.{View}
 use Rattle.bihash_steps.specs.declared.view.Write.{Write}
 use Rattle.bihash_steps.specs.BucketCalls.{event}
 use Rattle.bihash_table.specs.Answers.{locks_of}
-use Rattle.bihash_table.specs.Promise.{IsAnswered, IsTurnedAway, IsUpdated}
-use Rattle.bihash_table.specs.Locked.{IsPairBeside, UnderLock}
-use Rattle.bihash_table.specs.OpenReads.{HasRead, IsPairIn, OtherPairTells, value_of}
-use Rattle.bihash_table.specs.Seen.{HasSeen, IsValueOf, TellsLock}
-use Rattle.bihash_table.specs.Shortage.{IsShortage}
+use Rattle.bihash_table.specs.Promise.{IsAnswered, IsContended, IsUpdated}
+use Rattle.bihash_table.specs.inner.Locked.{IsPairBeside, UnderLock}
+use Rattle.bihash_table.specs.inner.OpenReads.{HasRead, IsPairIn, OtherPairTells, value_of}
+use Rattle.bihash_table.specs.inner.Seen.{HasSeen, IsValueOf, TellsLock}
+use Rattle.bihash_table.specs.OutOfPages.{IsOutOfPages}
 use Rattle.bihash_table.specs.Tries.{Finished, Tried, TookAtMost, is_without_lock, try_locks}
 use Rattle.bihash_table.specs.declared.contended.Contended.{Contended}
 use Rattle.bihash_table.proofs.Composed.{IsAhead, ahead_answered, ahead_turned_away, locked_ahead}
@@ -45,7 +45,7 @@ value_seen z v b word key pair found is h = seen_as z v b word h (λ told m pair
 module _ {A K : Type 0} (g : Ghosts A K) (s t : CallerState) (b : ℕ) (key : K) (found : Option ℕ) (change : Change)
     (home : bucket_of (sizes_of g) (g.words_of key) ≡ b) where
   -- the bucket was locked or changed, or the allocation lock was held
-  pub tried_away : (refused : Contended) → t ≡ with_view s t.view → IsTurnedAway (sizes_of g) s.view t.view b
+  pub tried_away : (refused : Contended) → t ≡ with_view s t.view → IsContended (sizes_of g) s.view t.view b
       → locks_of t.view.records ≡ locks_of s.view.records → (s.view.lone ≡ true → ⊥) → IsLawfulCaller (sizes_of g) t.view
       → Tried g s t key found change (Err refused)
   tried_away refused same away locks crowd lawful = record {
@@ -53,7 +53,7 @@ module _ {A K : Type 0} (g : Ghosts A K) (s t : CallerState) (b : ℕ) (key : K)
     answered = tt;
     no_pages = tt;
     locks = took_no_lock s.view t.view locks 1;
-    contended = subst (IsTurnedAway (sizes_of g) s.view t.view) (sym home) away;
+    contended = subst (IsContended (sizes_of g) s.view t.view) (sym home) away;
     lone = λ lone. absurd (crowd lone);
     lawful = lawful;
   }
@@ -68,7 +68,7 @@ module _ {A K : Type 0} (g : Ghosts A K) (s t : CallerState) (b : ℕ) (key : K)
 
   module _ (word : ℕ) {P : Extent → List ℕ → Type 0} (h : HasSeen (sizes_of g) s.view b word P)
       (lawful : IsLawfulCaller (sizes_of g) t.view) where
-    pub tried_valid : (reply : Reply) → t ≡ with_view s (validated s.view (call_of s.view b 0 (event (g.words_of key) found change reply)))
+    pub tried_valid : (reply : Reply) → t ≡ with_view s (view_after_validate s.view (call_of s.view b 0 (event (g.words_of key) found change reply)))
         → ((log2 left : ℕ) → reply ≡ NoPages log2 left → ⊥) → Tried g s t key found change (Ok reply)
     tried_valid reply is paged = let now = view_is s t _ is in let e : Event = event (g.words_of key) found change reply in record {
       same = same_but_view s t _ is;
@@ -80,7 +80,7 @@ module _ {A K : Type 0} (g : Ghosts A K) (s t : CallerState) (b : ℕ) (key : K)
       lawful = lawful;
     }
 
-    pub tried_invalid : (refused : Contended) → t ≡ with_view s (unnoted s.view) → (s.view.lone ≡ true → ⊥)
+    pub tried_invalid : (refused : Contended) → t ≡ with_view s (without_notes s.view) → (s.view.lone ≡ true → ⊥)
         → Tried g s t key found change (Err refused)
     tried_invalid refused is crowd = tried_away refused (same_but_view s t _ is)
         (not_taken (sizes_of g) s.view t.view b h.seen.held (view_is s t _ is)) (ap (λ (k : CallerState). locks_of k.view.records) is) crowd lawful
@@ -92,7 +92,7 @@ module _ {A K : Type 0} (g : Ghosts A K) (s t : CallerState) (key : K) (found : 
     (locks : locks_of t.view.records ≡ locks_of s.view.records) where
   pub finished : (reply : Reply) → IsAnswered (sizes_of g) s.view t.view (event (g.words_of key) found change reply)
       → ((log2 left : ℕ) → reply ≡ NoPages log2 left
-      → IsShortage g t.view (bucket_of (sizes_of g) (g.words_of key)) key log2 left)
+      → IsOutOfPages g t.view (bucket_of (sizes_of g) (g.words_of key)) key log2 left)
       → is_without_lock reply ≡ false → Finished g s t key found change (Ok reply)
   finished reply answered short paid = record {
     tried = record {
@@ -114,7 +114,7 @@ module _ {A K : Type 0} (g : Ghosts A K) (s t : CallerState) (key : K) (found : 
   finished_write answered = finished (Changed found) answered (λ log2 left short. absurd (let c : ⊥ = cc in c)) refl
 
   -- the allocation lock was held
-  pub finished_away : (refused : Contended) (b : ℕ) → bucket_of (sizes_of g) (g.words_of key) ≡ b → IsTurnedAway (sizes_of g) s.view t.view b
+  pub finished_away : (refused : Contended) (b : ℕ) → bucket_of (sizes_of g) (g.words_of key) ≡ b → IsContended (sizes_of g) s.view t.view b
       → (s.view.lone ≡ true → ⊥) → Finished g s t key found change (Err refused)
   finished_away refused b home away crowd = record {
     tried = tried_away g s t b key found change home refused same away locks crowd lawful;
@@ -198,12 +198,12 @@ under_as h more = record {
   told = more h.told;
 }
 
--- whether another pair stands there was told
+-- whether another pair is there was told
 pub beside : (z : Sizes) (key : List ℕ) (pair : ℕ × ℕ) {other is : Bool} → other ≡ is → (e : Extent) (block : List ℕ)
     → IsPairIn z key (Some pair) e block × OtherPairTells z pair.0 other e block → IsPairBeside z key pair is e block
 beside z key pair same e block told = (told.0, subst (λ (t : Bool). OtherPairTells z pair.0 t e block) same told.1)
 
--- a change that is wanted is so behind reads too
+-- a change that is wanted is so after reads too
 pub unworn_read : {A K : Type 0} (g : Ghosts A K) (s u : CallerState) (b : ℕ) {Q : Extent → List ℕ → Type 0} → HasRead s u Q
     → length (known_at s.view.known b) < g.LIMIT → length (known_at u.view.known b) < g.LIMIT
 unworn_read g s u b read unworn = subst (λ (l : List Write). length l < g.LIMIT) (sym (saw_known s.view u.view b read.saw)) unworn

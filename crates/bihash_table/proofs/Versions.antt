@@ -6,7 +6,7 @@ use Rattle.bihash_words.specs.Words.{Bucket, Fits, packed}
 use Rattle.bihash_steps.specs.Callers.{known_at}
 use Rattle.bihash_steps.specs.Buckets.{word_of}
 use Rattle.bihash_steps.specs.declared.view.View.{View}
-use Rattle.bihash_table.specs.OpenReads.{HasOpen}
+use Rattle.bihash_table.specs.inner.OpenReads.{HasOpen}
 
 module _ (z : Sizes) (v : View) (b word : ℕ) (has : HasOpen z v b word) (used : Bool)
     (tells : (x : Bucket) → Fits x → word ≡ packed x → used ≡ eqb x.version z.limit) where

@@ -21,7 +21,7 @@ abbrev pub locks_of : List Record → ℕ
 locks_of [] = 0
 locks_of (r ∷ rs) = r.locks
 
--- the entry of an event in a record, behind so many writes of its bucket, where this page store was noted
+-- the entry of an event in a record, after so many writes of its bucket, where this page store was noted
 abbrev pub entry_of : Sizes → ℕ → Event → Option PageStore → Call
 entry_of z stamp e noted = record {
   bucket = bucket_of z e.key;

@@ -10,7 +10,7 @@ use Rattle.bihash_words.specs.declared.shape.Shape.{Ghosts}
 use Rattle.bihash_steps.specs.Words.{buckets}
 use Rattle.bihash_steps.specs.Histories.{after, bucket_of}
 use Rattle.bihash_steps.specs.Callers.{known_at, opening_at}
-use Rattle.bihash_steps.specs.Steps.{HaveBearers, IsToldWhole, counted}
+use Rattle.bihash_steps.specs.Steps.{HaveBearers, IsToldWhole, view_after_count}
 use Rattle.bihash_steps.specs.declared.view.Known.{Known}
 use Rattle.bihash_steps.specs.declared.view.View.{View}
 use Rattle.bihash_table.specs.Answers.{with_locks}
@@ -40,14 +40,14 @@ pub record WasWhole (z : Sizes) (v : View) : Type 0 where
   pub count : ℕ
   pub rises : v.seen ≤ count
   pub all : count ≡ length v.records
-  pub told : IsToldWhole z (counted v count)
-  pub bearers : HaveBearers z (counted v count)
+  pub told : IsToldWhole z (view_after_count v count)
+  pub bearers : HaveBearers z (view_after_count v count)
 
 -- Why a table was not closed, and what the caller knows then: there are more callers than it has numbers,
 -- or it has every number and memory was refused.
 abbrev pub IsCloseRefused : Sizes → View → CloseFault → View → Type 0
 IsCloseRefused z v Strangers w = (count : ℕ) × (v.seen ≤ count) × (length v.records < count)
-    × (w ≡ counted v count) × HaveBearers z w
+    × (w ≡ view_after_count v count) × HaveBearers z w
 IsCloseRefused z v Memory w = (count locks : ℕ) × (v.seen ≤ count) × (count ≡ length v.records)
-    × (w ≡ record (counted v count) { records = with_locks locks v.records; notes = w.notes })
+    × (w ≡ record (view_after_count v count) { records = with_locks locks v.records; notes = w.notes })
     × IsToldWhole z w × HaveBearers z w

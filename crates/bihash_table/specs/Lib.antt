@@ -1,15 +1,7 @@
 pub mod Answers
 pub mod Calls
 pub mod Closing
-pub mod Copying
-pub mod Laid
-pub mod Locked
-pub mod OpenReads
-pub mod PairLists
-pub mod Places
+pub mod OutOfPages
 pub mod Promise
-pub mod Scans
-pub mod Seen
-pub mod Shortage
-pub mod Stores
 pub mod Tries
+pub mod inner

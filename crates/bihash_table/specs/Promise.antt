@@ -1,5 +1,5 @@
 -- What a call of a shared table leaves of its caller: v is what the caller knew before the call, w what it
--- knows behind it. Each line is a fact about one field; docs/DEFINITIONS.md explains the words.
+-- knows after it. Each line is a fact about one field; docs/DEFINITIONS.md explains the words.
 use Rattle.std.specs.Prelude.{◌≡◌, ◌≤◌, ℕ, ◌+◌, true, List, length, Option}
 use Rattle.bihash_words.specs.Maps.{Event}
 use Rattle.bihash_words.specs.Sizes.{Sizes}
@@ -8,7 +8,7 @@ use Rattle.bihash_words.specs.declared.patch.Reply.{Reply}
 use Rattle.bihash_steps.specs.Histories.{IsPrefix, bucket_of}
 use Rattle.bihash_steps.specs.Callers.{known_at}
 use Rattle.bihash_steps.specs.Views.{nothing_held}
-use Rattle.bihash_steps.specs.BucketSteps.{learned, push_call}
+use Rattle.bihash_steps.specs.BucketSteps.{with_history, push_call}
 use Rattle.bihash_steps.specs.declared.view.Write.{Write}
 use Rattle.bihash_steps.specs.declared.view.PageStore.{PageStore}
 use Rattle.bihash_steps.specs.declared.view.View.{View}
@@ -19,7 +19,7 @@ pub record IsAnswered (z : Sizes) (v w : View) (e : Event) : Type 0 where
   -- what is known now of the writes of the key's bucket continues what was known; of others the same is known
   pub history : List Write
   pub begins : IsPrefix (known_at v.known (bucket_of z e.key)) history
-  pub known : w.known ≡ (learned v (bucket_of z e.key) history).known
+  pub known : w.known ≡ (with_history v (bucket_of z e.key) history).known
   -- the acting record has this entry more, whose stamp is how many writes these are; no other record changed
   pub locks : ℕ
   pub noted : Option PageStore
@@ -34,10 +34,10 @@ pub record IsAnswered (z : Sizes) (v w : View) (e : Event) : Type 0 where
 
 -- The call met another caller: a bucket's word that was locked or had changed, or the allocation lock. It has no
 -- entry, and more may be known of bucket b alone.
-pub record IsTurnedAway (z : Sizes) (v w : View) (b : ℕ) : Type 0 where
+pub record IsContended (z : Sizes) (v w : View) (b : ℕ) : Type 0 where
   pub history : List Write
   pub begins : IsPrefix (known_at v.known b) history
-  pub known : w.known ≡ (learned v b history).known
+  pub known : w.known ≡ (with_history v b history).known
   pub locks : ℕ
   pub records : w.records ≡ with_locks locks v.records
   pub seen : w.seen ≡ v.seen

@@ -11,8 +11,8 @@ use Rattle.bihash_steps.specs.BucketCalls.{event}
 use Rattle.bihash_steps.specs.Seats.{CallerState, with_view}
 use Rattle.bihash_steps.specs.declared.view.View.{View}
 use Rattle.bihash_table.specs.Answers.{locks_of}
-use Rattle.bihash_table.specs.Promise.{IsAnswered, IsTurnedAway}
-use Rattle.bihash_table.specs.Shortage.{IsShortage}
+use Rattle.bihash_table.specs.Promise.{IsAnswered, IsContended}
+use Rattle.bihash_table.specs.OutOfPages.{IsOutOfPages}
 use Rattle.bihash_table.specs.declared.contended.Contended.{Contended}
 
 -- whether a reply is given without the lock of the bucket
@@ -48,9 +48,9 @@ pub record Tried {A K : Type 0} (g : Ghosts A K) (s t : CallerState) (key : K) (
   pub same : t ≡ with_view s t.view
   pub answered : IfOk r (λ reply. IsAnswered (sizes_of g) s.view t.view (event (g.words_of key) found change reply))
   pub no_pages : IfOk r (λ reply. (log2 left : ℕ) → reply ≡ NoPages log2 left
-      → IsShortage g t.view (bucket_of (sizes_of g) (g.words_of key)) key log2 left)
+      → IsOutOfPages g t.view (bucket_of (sizes_of g) (g.words_of key)) key log2 left)
   pub locks : TookAtMost s.view t.view (try_locks r)
-  pub contended : IfErr r (λ _. IsTurnedAway (sizes_of g) s.view t.view (bucket_of (sizes_of g) (g.words_of key)))
+  pub contended : IfErr r (λ _. IsContended (sizes_of g) s.view t.view (bucket_of (sizes_of g) (g.words_of key)))
   pub lone : s.view.lone ≡ true → is_ok r ≡ true
   pub lawful : IsLawfulCaller (sizes_of g) t.view
 

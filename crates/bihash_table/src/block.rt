@@ -3,7 +3,7 @@ ghost use Rattle.std.specs.Prelude.{◌≡◌, ◌≢◌, ◌≤◌, ◌+◌, le
 ghost use Rattle.bihash_words.specs.Sizes.{sizes_of};
 ghost use Rattle.bihash_steps.specs.Blocks.{free, places};
 ghost use Rattle.bihash_steps.specs.declared.view.HeldBlock.{HeldBlock};
-ghost use Rattle.bihash_table.specs.Copying.{AreWritten, HasBlock, HoldsBlock, IsPlaced};
+ghost use Rattle.bihash_table.specs.inner.Copying.{AreWritten, HasBlock, HoldsBlock, IsPlaced};
 
 use crate::places::FREE;
 use bihash_steps::{CallerSeat, Row};

@@ -1,16 +1,16 @@
 //! Changes that a bucket's block has room for, and answers that leave it.
-ghost use Rattle.std.specs.Prelude.{◌≡◌, ◌≢◌, ◌<◌, ◌≤◌, ◌+◌, ◌*◌, true, slice_index, None, Some, Ok};
+ghost use Rattle.std.specs.Prelude.{◌≡◌, ◌≢◌, ◌<◌, ◌+◌, ◌*◌, true, None, Some, Ok};
 ghost use Rattle.bihash_words.specs.Sizes.{sizes_of};
 ghost use Rattle.bihash_words.specs.declared.patch.Change.TheVariants.{Set, Remove};
 ghost use Rattle.bihash_steps.specs.Words.{place_words};
 ghost use Rattle.bihash_steps.specs.Blocks.{places};
-ghost use Rattle.bihash_steps.specs.BucketSteps.{relocked, stored_in};
+ghost use Rattle.bihash_steps.specs.BucketSteps.{with_lock, stored_in};
 ghost use Rattle.bihash_steps.specs.declared.view.LockedBucket.{LockedBucket};
 ghost use Rattle.bihash_steps.specs.Seats.{with_view};
-ghost use Rattle.bihash_table.specs.Locked.{HasLock, IsPairBeside, IsPlaceForNew, UnderLock};
-ghost use Rattle.bihash_table.specs.OpenReads.{IsPairIn};
-ghost use Rattle.bihash_table.specs.Seen.{MayReply, WantsChange};
-ghost use Rattle.bihash_table.specs.Stores.{HasStored, HoldsPlace};
+ghost use Rattle.bihash_table.specs.inner.Locked.{HasLock, IsPairBeside, IsPlaceForNew, UnderLock};
+ghost use Rattle.bihash_table.specs.inner.OpenReads.{IsPairIn};
+ghost use Rattle.bihash_table.specs.inner.Seen.{MayReply, WantsChange};
+ghost use Rattle.bihash_table.specs.inner.Stores.{FindsWord, HasStored, HoldsWord};
 ghost use Rattle.bihash_table.specs.Tries.{Finished, Tried};
 
 use crate::contended::Contended;
@@ -166,12 +166,8 @@ fn held_word<S: Shape>(
     place: usize,
     i: usize,
 ) -> u64
-    requires own { seat.old.row ≡ row.now }
-    requires place { HoldsPlace (sizes_of S.Shape) seat.old.view word place }
-    requires inside { i ≤ S.WORDS }
-    ensures same { seat.new ≡ seat.old }
-    ensures value { (l : LockedBucket) → seat.old.view.holds.bucket ≡ Some l
-        → result ≡ slice_index l.now (place * place_words (sizes_of S.Shape) + i) }
+    requires { HoldsWord (sizes_of S.Shape) row.now seat.old word place i }
+    ensures { FindsWord (sizes_of S.Shape) seat.old seat.new place i result }
 {
     row.is_sound();
     row.load_locked(seat, word.page(), place * (S::WORDS + 1) + i)
@@ -186,11 +182,9 @@ fn store_word<S: Shape>(
     i: usize,
     value: u64,
 )
-    requires own { seat.old.row ≡ row.now }
-    requires place { HoldsPlace (sizes_of S.Shape) seat.old.view word place }
-    requires inside { i ≤ S.WORDS }
+    requires { HoldsWord (sizes_of S.Shape) row.now seat.old word place i }
     ensures { (l : LockedBucket) → seat.old.view.holds.bucket ≡ Some l → seat.new ≡ with_view seat.old
-        (relocked seat.old.view (Some (stored_in l (place * place_words (sizes_of S.Shape) + i) value))) }
+        (with_lock seat.old.view (Some (stored_in l (place * place_words (sizes_of S.Shape) + i) value))) }
 {
     row.is_sound();
     row.store_locked(seat, word.page(), place * (S::WORDS + 1) + i, value);

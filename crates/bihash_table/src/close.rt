@@ -1,5 +1,5 @@
 //! The end of a table: all its pairs, in the order of their keys.
-ghost use Rattle.std.specs.Prelude.{◌≡◌, ◌+◌, ◌<◌, ◌≤◌, List, true, IfOk, IfErr, IsPermutation};
+ghost use Rattle.std.specs.Prelude.{◌≡◌, ◌+◌, ◌<◌, ◌≤◌, List, IfOk, IfErr, IsPermutation};
 ghost use Rattle.std.specs.Ordering.{is_lt, nat_cmp};
 ghost use Rattle.std.specs.Cmp.Lexicographic.{slice_cmp};
 ghost use Rattle.std.specs.List.Sorted.{IsSortedBy};
@@ -8,9 +8,9 @@ ghost use Rattle.bihash_steps.specs.Words.{buckets};
 ghost use Rattle.bihash_steps.specs.Callers.{IsLawfulCaller};
 ghost use Rattle.bihash_steps.specs.Views.{nothing_held};
 ghost use Rattle.bihash_steps.specs.Seats.{with_view};
-ghost use Rattle.bihash_table.specs.OpenReads.{HasRead, MayRead};
+ghost use Rattle.bihash_table.specs.inner.OpenReads.{HasRead, MayRead};
 ghost use Rattle.bihash_table.specs.Closing.{ArePairsOf, IsCloseRefused, WasWhole};
-ghost use Rattle.bihash_table.specs.PairLists.{AddsBlock, ListsBuckets, TookLocks};
+ghost use Rattle.bihash_table.specs.inner.PairLists.{AddsBlock, IsBehindLocks, IsIdleAndLone, ListsBuckets};
 
 use crate::close_fault::CloseFault;
 use crate::lock::{lock_seen, look};
@@ -60,13 +60,8 @@ fn read_all<S: Shape>(
     seat: &mut CallerSeat<S>,
     alloc: Global,
 ) -> Result<Vec<(S::Key, u64)>, AllocError>
-    requires own { seat.old.row ≡ row.now }
-    requires free { seat.old.view.holds ≡ nothing_held }
-    requires lone { seat.old.view.lone ≡ true }
-    requires lawful { IsLawfulCaller (sizes_of S.Shape) seat.old.view }
-    ensures same { seat.new ≡ with_view seat.old seat.new.view }
-    ensures took { TookLocks seat.old.view seat.new.view }
-    ensures lawful { IsLawfulCaller (sizes_of S.Shape) seat.new.view }
+    requires { IsIdleAndLone (sizes_of S.Shape) row.now seat.old }
+    ensures behind { IsBehindLocks (sizes_of S.Shape) seat.old seat.new }
     ensures pairs { IfOk result (λ ps. ListsBuckets ⟦<S as Shape>⟧ seat.old.view.known (buckets (sizes_of S.Shape)) ps.items) }
 {
     row.is_sound();
@@ -84,14 +79,10 @@ fn read_bucket<S: Shape>(
     bucket: usize,
     pairs: &mut Vec<(S::Key, u64)>,
 ) -> Result<(), AllocError>
-    requires own { seat.old.row ≡ row.now }
-    requires free { seat.old.view.holds ≡ nothing_held }
-    requires lone { seat.old.view.lone ≡ true }
+    requires lone { IsIdleAndLone (sizes_of S.Shape) row.now seat.old }
     requires inside { bucket < buckets (sizes_of S.Shape) }
     requires pairs { ListsBuckets ⟦<S as Shape>⟧ seat.old.view.known bucket pairs.old.items }
-    ensures same { seat.new ≡ with_view seat.old seat.new.view }
-    ensures took { TookLocks seat.old.view seat.new.view }
-    ensures lawful { IsLawfulCaller (sizes_of S.Shape) seat.new.view }
+    ensures behind { IsBehindLocks (sizes_of S.Shape) seat.old seat.new }
     ensures pairs { IfOk result (λ _. ListsBuckets ⟦<S as Shape>⟧ seat.old.view.known (bucket + 1) pairs.new.items) }
 {
     let Some(word) = look(row, seat, bucket) else {

@@ -3,10 +3,10 @@ ghost use Rattle.std.specs.Prelude.{◌≡◌, ◌*◌, ◌^◌, false, length, 
 ghost use Rattle.bihash_words.specs.Sizes.{sizes_of};
 ghost use Rattle.bihash_words.specs.declared.patch.Change.TheVariants.{Set, Remove};
 ghost use Rattle.bihash_steps.specs.Seats.{with_view};
-ghost use Rattle.bihash_table.specs.Copying.{GivenBack, MayLeave, Released};
-ghost use Rattle.bihash_table.specs.Laid.{IsLaidFor};
-ghost use Rattle.bihash_table.specs.Locked.{IsPairBeside, UnderLock};
-ghost use Rattle.bihash_table.specs.Seen.{WantsRoom};
+ghost use Rattle.bihash_table.specs.inner.Copying.{GivenBack, MayLeave, Released};
+ghost use Rattle.bihash_table.specs.inner.Laid.{IsLaidFor};
+ghost use Rattle.bihash_table.specs.inner.Locked.{IsPairBeside, UnderLock};
+ghost use Rattle.bihash_table.specs.inner.Seen.{WantsRoom};
 ghost use Rattle.bihash_table.specs.Tries.{Finished, Tried};
 
 use crate::block::write_block;

@@ -3,8 +3,8 @@ ghost use Rattle.std.specs.Prelude.{◌≡◌, ◌<◌};
 ghost use Rattle.bihash_words.specs.Sizes.{sizes_of};
 ghost use Rattle.bihash_steps.specs.Words.{buckets};
 ghost use Rattle.bihash_steps.specs.Views.{nothing_held};
-ghost use Rattle.bihash_table.specs.OpenReads.{HasOpen};
-ghost use Rattle.bihash_table.specs.Seen.{TellsLock, TellsLook};
+ghost use Rattle.bihash_table.specs.inner.OpenReads.{HasOpen};
+ghost use Rattle.bihash_table.specs.inner.Seen.{TellsLock, TellsLook};
 
 use bihash_steps::{CallerSeat, Row};
 use bihash_words::{BucketWord, Shape};

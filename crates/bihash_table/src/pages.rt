@@ -1,11 +1,11 @@
 //! Blocks that are taken from the page store and given back, under the allocation lock.
-ghost use Rattle.std.specs.Prelude.{◌≡◌, ◌≤◌, Some, None, IfOk, IfErr};
-ghost use Rattle.bihash_words.specs.Sizes.{sizes_of, IsSound};
+ghost use Rattle.std.specs.Prelude.{◌≡◌, Some, None};
+ghost use Rattle.bihash_words.specs.Sizes.{sizes_of};
 ghost use Rattle.bihash_steps.specs.Seats.{with_view};
 ghost use Rattle.bihash_steps.specs.StoreSteps.{holding, relisted};
 ghost use Rattle.bihash_steps.specs.declared.view.LockedStore.{LockedStore};
 ghost use Rattle.bihash_steps.specs.declared.view.HeldBlock.{HeldBlock};
-ghost use Rattle.bihash_table.specs.Copying.{HasStore, TakesPages, IsWanting, MayGiveBack, MayReturn};
+ghost use Rattle.bihash_table.specs.inner.Copying.{MayGiveBack, MayReturn, MayTake, TellsTake};
 
 use bihash_steps::{CallerSeat, PoolWord, Row};
 use bihash_words::Shape;
@@ -17,16 +17,8 @@ pub(crate) fn take_block<S: Shape>(
     seat: &mut CallerSeat<S>,
     log2: u64,
 ) -> Result<u64, u64>
-    requires own { seat.old.row ≡ row.now }
-    requires shape { IsSound (sizes_of S.Shape) }
-    requires store { (n : LockedStore) × HasStore (sizes_of S.Shape) seat.old.view n }
-    requires small { log2 ≤ S.MAX_LOG2 }
-    ensures same { seat.new ≡ with_view seat.old seat.new.view }
-    ensures taken { IfOk result (λ page. (n : LockedStore) → HasStore (sizes_of S.Shape) seat.old.view n
-        → TakesPages (sizes_of S.Shape) seat.old.view n.store page log2 seat.new.view) }
-    ensures refused { IfErr result (λ left. (seat.new ≡ seat.old)
-        × ((n : LockedStore) → HasStore (sizes_of S.Shape) seat.old.view n
-        → IsWanting (sizes_of S.Shape) n.store log2 left)) }
+    requires { MayTake (sizes_of S.Shape) row.now seat.old log2 }
+    ensures { TellsTake (sizes_of S.Shape) seat.old seat.new log2 result }
 {
     let returned = row.pool_load(seat, PoolWord::Count(log2));
     if returned > 0 {

@@ -1,7 +1,7 @@
 //! The places of a block: how many it has, and what marks a free one.
 ghost use Rattle.std.specs.Prelude.{◌≡◌, ◌*◌, ◌^◌, ◌≤◌};
 ghost use Rattle.bihash_words.specs.Sizes.{sizes_of};
-ghost use Rattle.bihash_table.specs.Scans.{CountsPlaces, NamesBlock};
+ghost use Rattle.bihash_table.specs.inner.Scans.{CountsPlaces, NamesBlock};
 
 use bihash_words::{BucketWord, Shape};
 pub(crate) use bihash_words::{FREE, PAGE_PLACES};

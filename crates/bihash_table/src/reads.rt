@@ -2,8 +2,8 @@
 //! load are the block's, which a step on the bucket's word tells afterwards.
 ghost use Rattle.std.specs.Prelude.{◌≡◌, ◌+◌, ◌*◌, ◌^◌, ◌<◌, ◌≤◌};
 ghost use Rattle.bihash_words.specs.Sizes.{sizes_of};
-ghost use Rattle.bihash_table.specs.Scans.{NamesBlock, AreOpenPages};
-ghost use Rattle.bihash_table.specs.OpenReads.{HasRead, MayRead, IsWordAt, LastWordTells, AreMarks, first_set, later_set, set_count, TellsValue, IsPairAmong, IsPairIn, IsFirstFreeIn, OtherPairTells, value_of};
+ghost use Rattle.bihash_table.specs.inner.Scans.{NamesBlock, AreOpenPages};
+ghost use Rattle.bihash_table.specs.inner.OpenReads.{HasRead, MayRead, IsWordAt, LastWordTells, AreMarks, first_set, later_set, set_count, TellsValue, IsPairAmong, IsPairIn, IsFirstFreeIn, OtherPairTells, value_of};
 
 use crate::places::{FREE, PAGE_PLACES, page_count, place_count};
 use crate::site::Site;
@@ -60,7 +60,7 @@ pub(crate) fn find_free<S: Shape>(
     None
 }
 
-/// Whether a pair stands at another place of the open bucket's block.
+/// Whether a pair is at another place of the open bucket's block.
 pub(crate) fn has_other_pair<S: Shape>(
     row: &Row<S>,
     seat: &mut CallerSeat<S>,
@@ -98,7 +98,7 @@ pub(crate) fn load_word<S: Shape>(
     row.load_open(seat, word.page(), place * (S::WORDS + 1) + i)
 }
 
-// The pages of an open block that may hold the key, as the first of them and the one behind the last: the
+// The pages of an open block that may hold the key, as the first of them and the one after the last: the
 // one that its hash names or, where the block is linear, each.
 fn open_pages<S: Shape>(word: BucketWord, site: &Site<'_, S>) -> (usize, usize)
     requires { NamesBlock (sizes_of S.Shape) word }
@@ -192,7 +192,7 @@ fn marks<S: Shape>(
     (a, b, c, d)
 }
 
-// Whether the last word of the key stands at a place.
+// Whether the last word of the key is at a place.
 fn has_last<S: Shape>(
     row: &Row<S>,
     seat: &mut CallerSeat<S>,

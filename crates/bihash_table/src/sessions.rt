@@ -1,10 +1,12 @@
 //! The shared table, and its callers.
-ghost use Rattle.std.specs.Prelude.{◌≡◌, ◌<◌, ◌≤◌, ◌==◌, ℕ, true, length, IfOk, IfErr};
+ghost use Rattle.std.specs.Prelude.{◌≡◌, ◌<◌, ◌≤◌, ℕ, IfOk, IfErr};
 ghost use Rattle.bihash_words.specs.Sizes.{sizes_of, IsSound};
+ghost use Rattle.bihash_steps.specs.CallerCalls.{AreIdle, AreInformed, IsJoined};
 ghost use Rattle.bihash_steps.specs.Callers.{IsLawfulCaller, Agrees};
 ghost use Rattle.bihash_steps.specs.Views.{first_view, nothing_held};
-ghost use Rattle.bihash_steps.specs.Steps.{HaveBearers, IsToldWhole, counted, parent, newcomer, IsRefused, informed_by, joined};
+ghost use Rattle.bihash_steps.specs.Steps.{parent, newcomer, IsRefused};
 ghost use Rattle.bihash_steps.specs.Seats.{with_view, stamp_of};
+ghost use Rattle.bihash_table.specs.Calls.{TellsLone};
 
 use bihash_steps::{Caller, CreateFault, Row, SplitFault, open_row};
 use bihash_words::Shape;
@@ -60,15 +62,8 @@ impl<S: Shape> Sessions<S> {
 
     /// Both callers with their numbers and records. Each knows afterwards what either knew.
     pub fn meet(&self, caller: Caller<S>, other: Caller<S>) -> (Caller<S>, Caller<S>)
-        requires own { (caller.seat.row ≡ self.now.row) × (other.seat.row ≡ self.now.row) }
-        requires free { (caller.seat.view.holds ≡ nothing_held) × (other.seat.view.holds ≡ nothing_held) }
-        ensures first { result.0.seat ≡ with_view caller.seat (informed_by caller.seat.view caller.seat.view other.seat.view) }
-        ensures second { (result.1.seat.row ≡ other.seat.row)
-            × (result.1.seat.view ≡ informed_by other.seat.view caller.seat.view other.seat.view) }
-        ensures lawful { IsLawfulCaller (sizes_of S.Shape) result.0.seat.view
-            × IsLawfulCaller (sizes_of S.Shape) result.1.seat.view }
-        ensures before { Agrees caller.seat.view other.seat.view }
-        ensures after { Agrees result.0.seat.view result.1.seat.view }
+        requires idle { AreIdle self.now.row caller.seat other.seat }
+        ensures { AreInformed (sizes_of S.Shape) caller.seat other.seat result.0.seat result.1.seat }
     {
         self.row.meet(caller, other)
     }
@@ -76,11 +71,8 @@ impl<S: Shape> Sessions<S> {
     /// One caller with the numbers and records of both, each as it was. It knows what either knew, and
     /// acts under the first one's number.
     pub fn join(&self, caller: Caller<S>, other: Caller<S>) -> Caller<S>
-        requires own { (caller.seat.row ≡ self.now.row) × (other.seat.row ≡ self.now.row) }
-        requires free { (caller.seat.view.holds ≡ nothing_held) × (other.seat.view.holds ≡ nothing_held) }
-        ensures view { result.seat ≡ with_view caller.seat (joined caller.seat.view other.seat.view) }
-        ensures lawful { IsLawfulCaller (sizes_of S.Shape) result.seat.view }
-        ensures agree { Agrees caller.seat.view other.seat.view }
+        requires idle { AreIdle self.now.row caller.seat other.seat }
+        ensures { IsJoined (sizes_of S.Shape) caller.seat other.seat result.seat }
     {
         self.row.join(caller, other)
     }
@@ -89,13 +81,7 @@ impl<S: Shape> Sessions<S> {
     /// succeeds.
     pub fn is_lone(&self, caller: &mut Caller<S>) -> bool
         requires own { caller.old.seat.row ≡ self.now.row }
-        ensures counted { (count : ℕ) × (caller.old.seat.view.seen ≤ count)
-            × (caller.new.seat ≡ with_view caller.old.seat (counted caller.old.seat.view count))
-            × (result ≡ (count == length caller.old.seat.view.records)) }
-        ensures lone { result ≡ caller.new.seat.view.lone }
-        ensures whole { result ≡ true → IsToldWhole (sizes_of S.Shape) caller.new.seat.view }
-        ensures bearers { HaveBearers (sizes_of S.Shape) caller.new.seat.view }
-        ensures lawful { IsLawfulCaller (sizes_of S.Shape) caller.new.seat.view }
+        ensures { TellsLone (sizes_of S.Shape) caller.old.seat caller.new.seat result }
     {
         self.row.load_count(&mut caller.seat) == caller.seat.numbers()
     }

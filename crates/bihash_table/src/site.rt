@@ -7,7 +7,7 @@ ghost use Rattle.bihash_steps.specs.Blocks.{page_of};
 
 use bihash_words::{BucketWord, Shape};
 
-/// A key with what its hash and its words tell: the bucket, the bits behind those that name it, which
+/// A key with what its hash and its words tell: the bucket, the bits after those that name it, which
 /// name the page, and the last word. A call makes it once.
 #[derive(Drop)]
 pub(crate) struct Site<'k, S: Shape> {

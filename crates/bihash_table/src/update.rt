@@ -6,8 +6,8 @@ ghost use Rattle.bihash_words.specs.Words.{Bucket, Fits, packed};
 ghost use Rattle.bihash_words.specs.declared.patch.Change.TheVariants.{Keep};
 ghost use Rattle.bihash_steps.specs.Views.{nothing_held};
 ghost use Rattle.bihash_table.specs.Calls.{TellsUpdateTry};
-ghost use Rattle.bihash_table.specs.OpenReads.{value_of};
-ghost use Rattle.bihash_table.specs.Seen.{Found, WantsChange};
+ghost use Rattle.bihash_table.specs.inner.OpenReads.{value_of};
+ghost use Rattle.bihash_table.specs.inner.Seen.{Found, WantsChange};
 ghost use Rattle.bihash_table.specs.Tries.{Tried};
 
 use crate::change::{answer, fill, overwrite, remove};

@@ -9,38 +9,38 @@ use Rattle.std.specs.Prelude.{is_some, if◌then◌else◌, nat_lt}
 use Rattle.bihash_words.specs.declared.patch.Change.{Change}
 use Rattle.bihash_words.specs.declared.patch.Change.TheVariants.{Keep, Set, Remove}
 use Rattle.bihash_words.specs.declared.patch.Reply.TheVariants.{Changed, Full, Kept}
-use Rattle.bihash_words.specs.Maps.{Answers, Bounds, Crowded, Entering, Event, Exhausted, Idle, Pairs, Present, Row, Step, changed, effect_of, found_by, most_pairs, row_with}
+use Rattle.bihash_words.specs.Maps.{Answers, Bounds, NoRoom, NewKey, Event, WornOut, Unchanged, Pairs, OldKey, Case, IsEvent, changed, effect_of, found_by, most_pairs, case_with}
 
 -- the map is left or changed
-left_or_changed : (r : Row) (b : Bounds) (m n : Pairs) (e : Event) → Answers r b m e n
+left_or_changed : (r : Case) (b : Bounds) (m n : Pairs) (e : Event) → Answers r b m e n
     → (n ≡ m) ⊎ (n ≡ changed m e.key e.change)
-left_or_changed Idle b m n e h = inl h.1
-left_or_changed Exhausted b m n e h = inl h.1
-left_or_changed Crowded b m n e h = inl h.1
-left_or_changed Entering b m n e (inl h) = inr h.1
-left_or_changed Entering b m n e (inr h) = inl h.1
-left_or_changed Present b m n e h = inr h.1
+left_or_changed Unchanged b m n e h = inl h.1
+left_or_changed WornOut b m n e h = inl h.1
+left_or_changed NoRoom b m n e h = inl h.1
+left_or_changed NewKey b m n e (inl h) = inr h.1
+left_or_changed NewKey b m n e (inr h) = inl h.1
+left_or_changed OldKey b m n e h = inr h.1
 
-unchanged_at : (r : Row) (b : Bounds) (m n : Pairs) (e : Event) → Answers r b m e n
+unchanged_at : (r : Case) (b : Bounds) (m n : Pairs) (e : Event) → Answers r b m e n
     → ((found : Option ℕ) → e.reply ≢ Changed found) → n ≡ m
-unchanged_at Idle b m n e h other = h.1
-unchanged_at Exhausted b m n e h other = h.1
-unchanged_at Crowded b m n e h other = h.1
-unchanged_at Entering b m n e (inl h) other = absurd (other None h.0)
-unchanged_at Entering b m n e (inr h) other = h.1
-unchanged_at Present b m n e h other = absurd (other e.found h.0)
+unchanged_at Unchanged b m n e h other = h.1
+unchanged_at WornOut b m n e h other = h.1
+unchanged_at NoRoom b m n e h other = h.1
+unchanged_at NewKey b m n e (inl h) other = absurd (other None h.0)
+unchanged_at NewKey b m n e (inr h) other = h.1
+unchanged_at OldKey b m n e h other = absurd (other e.found h.0)
 
 -- a call that isn't answered Changed leaves the map
-pub unchanged : (b : Bounds) (m n : Pairs) (w : ℕ) (e : Event) → Step b m w e n
+pub unchanged : (b : Bounds) (m n : Pairs) (w : ℕ) (e : Event) → IsEvent b m w e n
     → ((found : Option ℕ) → e.reply ≢ Changed found) → n ≡ m
 unchanged b m n w e step other = unchanged_at _ b m n e step.answers other
 
 -- a call that keeps is answered Kept
-pub kept : (b : Bounds) (m n : Pairs) (w : ℕ) (e : Event) → Step b m w e n → e.change ≡ Keep
+pub kept : (b : Bounds) (m n : Pairs) (w : ℕ) (e : Event) → IsEvent b m w e n → e.change ≡ Keep
     → e.reply ≡ Kept (get m e.key)
 kept b m n w e step keep =
-    let row : Change → Row = λ c. row_with b (len m) w e.found (effect_of c e.found) in
-    let answers : Answers Idle b m e n = subst (λ c. Answers (row c) b m e n) keep step.answers in
+    let row : Change → Case = λ c. case_with b (len m) w e.found (effect_of c e.found) in
+    let answers : Answers Unchanged b m e n = subst (λ c. Answers (row c) b m e n) keep step.answers in
     answers.0 ∙ ap Kept step.found
 
 -- another key is not in the order's way
@@ -62,7 +62,7 @@ others_after m key other Remove differ =
     get-remove nat_list_cmp_total m key other ∙ ap (λ b. cond b None (get m other)) (apart other key differ)
 
 -- the values of other keys stay
-pub others_stay : (b : Bounds) (m n : Pairs) (w : ℕ) (e : Event) (key : List ℕ) → Step b m w e n
+pub others_stay : (b : Bounds) (m n : Pairs) (w : ℕ) (e : Event) (key : List ℕ) → IsEvent b m w e n
     → key ≢ e.key → get n key ≡ get m key
 others_stay b m n w e key step differ =
     elim (left_or_changed _ b m n e step.answers) [
@@ -71,25 +71,25 @@ others_stay b m n w e key step differ =
     ]
 
 -- where a change was made, the map could still change
-limited : (b : Bounds) (w : ℕ) (r : Row) (m n : Pairs) (e : Event) (found : Option ℕ)
-    → Answers (if nat_lt w b.limit then r else Exhausted) b m e n → e.reply ≡ Changed found → w < b.limit
+limited : (b : Bounds) (w : ℕ) (r : Case) (m n : Pairs) (e : Event) (found : Option ℕ)
+    → Answers (if nat_lt w b.limit then r else WornOut) b m e n → e.reply ≡ Changed found → w < b.limit
 limited b w r m n e found =
-    elim (nat_lt w b.limit) as (λ t. nat_lt w b.limit ≡ t → Answers (if t then r else Exhausted) b m e n
+    elim (nat_lt w b.limit) as (λ t. nat_lt w b.limit ≡ t → Answers (if t then r else WornOut) b m e n
     → e.reply ≡ Changed found → w < b.limit) [
       | true ↦ λ test h is. ltb-true w b.limit test
       | false ↦ λ test h is. absurd (let clash = sym h.0 ∙ is in cc)
     ] refl
 
 limited_at : (b : Bounds) (pairs w : ℕ) (at : Option ℕ) (effect : Change) (m n : Pairs) (e : Event) (found : Option ℕ)
-    → Answers (row_with b pairs w at effect) b m e n → e.reply ≡ Changed found → w < b.limit
+    → Answers (case_with b pairs w at effect) b m e n → e.reply ≡ Changed found → w < b.limit
 limited_at b pairs w at Keep m n e found h is = absurd (let clash = sym h.0 ∙ is in cc)
 limited_at b pairs w None (Set value) m n e found h is =
-    limited b w (if nat_lt pairs (most_pairs b) then Entering else Crowded) m n e found h is
-limited_at b pairs w (Some old) (Set value) m n e found h is = limited b w Present m n e found h is
-limited_at b pairs w at Remove m n e found h is = limited b w Present m n e found h is
+    limited b w (if nat_lt pairs (most_pairs b) then NewKey else NoRoom) m n e found h is
+limited_at b pairs w (Some old) (Set value) m n e found h is = limited b w OldKey m n e found h is
+limited_at b pairs w at Remove m n e found h is = limited b w OldKey m n e found h is
 
 -- a change is made only where the map may still change
-pub within_limit : (b : Bounds) (m n : Pairs) (w : ℕ) (e : Event) (found : Option ℕ) → Step b m w e n
+pub within_limit : (b : Bounds) (m n : Pairs) (w : ℕ) (e : Event) (found : Option ℕ) → IsEvent b m w e n
     → e.reply ≡ Changed found → w < b.limit
 within_limit b m n w e found step is =
     limited_at b (len m) w e.found (effect_of e.change e.found) m n e found step.answers is
@@ -100,43 +100,43 @@ RoomCases b m n e =
     ((n ≡ m) × (e.reply ≡ Full → most_pairs b ≤ len m))
     ⊎ ((n ≡ changed m e.key e.change) × (e.reply ≡ Changed None) × (len m < most_pairs b))
 
-entering : (b : Bounds) (m n : Pairs) (e : Event) → len m < most_pairs b → Answers Entering b m e n
+entering : (b : Bounds) (m n : Pairs) (e : Event) → len m < most_pairs b → Answers NewKey b m e n
     → RoomCases b m n e
 entering b m n e room (inl h) = inr (h.1, h.0, room)
 entering b m n e room (inr ((log2, left, refused, may, few), same)) =
     inl (same, λ is. absurd (let clash = sym refused ∙ is in cc))
 
 by_room : (b : Bounds) (m n : Pairs) (e : Event)
-    → Answers (if nat_lt (len m) (most_pairs b) then Entering else Crowded) b m e n → RoomCases b m n e
+    → Answers (if nat_lt (len m) (most_pairs b) then NewKey else NoRoom) b m e n → RoomCases b m n e
 by_room b m n e =
     elim (nat_lt (len m) (most_pairs b)) as (λ t. nat_lt (len m) (most_pairs b) ≡ t
-    → Answers (if t then Entering else Crowded) b m e n → RoomCases b m n e) [
+    → Answers (if t then NewKey else NoRoom) b m e n → RoomCases b m n e) [
       | true ↦ λ test h. entering b m n e (ltb-true (len m) (most_pairs b) test) h
       | false ↦ λ test h. inl (h.1, λ is. ltb-false (len m) (most_pairs b) test)
     ] refl
 
 -- a new key, by the room that there is
 room_cases : (b : Bounds) (m n : Pairs) (w : ℕ) (e : Event)
-    → Answers (if nat_lt w b.limit then (if nat_lt (len m) (most_pairs b) then Entering else Crowded) else Exhausted) b m e n
+    → Answers (if nat_lt w b.limit then (if nat_lt (len m) (most_pairs b) then NewKey else NoRoom) else WornOut) b m e n
     → RoomCases b m n e
 room_cases b m n w e =
     elim (nat_lt w b.limit) as (λ t.
-    Answers (if t then (if nat_lt (len m) (most_pairs b) then Entering else Crowded) else Exhausted) b m e n
+    Answers (if t then (if nat_lt (len m) (most_pairs b) then NewKey else NoRoom) else WornOut) b m e n
     → RoomCases b m n e) [
       | true ↦ by_room b m n e
       | false ↦ λ h. inl (h.1, λ is. absurd (let clash = sym h.0 ∙ is in cc))
     ]
 
 not_full : (b : Bounds) (m n : Pairs) (w : ℕ) (e : Event)
-    → Answers (if nat_lt w b.limit then Present else Exhausted) b m e n → e.reply ≡ Full → ⊥
+    → Answers (if nat_lt w b.limit then OldKey else WornOut) b m e n → e.reply ≡ Full → ⊥
 not_full b m n w e =
-    elim (nat_lt w b.limit) as (λ t. Answers (if t then Present else Exhausted) b m e n → e.reply ≡ Full → ⊥) [
+    elim (nat_lt w b.limit) as (λ t. Answers (if t then OldKey else WornOut) b m e n → e.reply ≡ Full → ⊥) [
       | true ↦ λ h is. (let clash = sym h.0 ∙ is in cc)
       | false ↦ λ h is. (let clash = sym h.0 ∙ is in cc)
     ]
 
 full_at : (b : Bounds) (m n : Pairs) (w : ℕ) (e : Event) (at : Option ℕ) (effect : Change)
-    → Answers (row_with b (len m) w at effect) b m e n → e.reply ≡ Full → most_pairs b ≤ len m
+    → Answers (case_with b (len m) w at effect) b m e n → e.reply ≡ Full → most_pairs b ≤ len m
 full_at b m n w e at Keep h is = absurd (let clash = sym h.0 ∙ is in cc)
 full_at b m n w e None (Set value) h is =
     elim (room_cases b m n w e h) [
@@ -147,7 +147,7 @@ full_at b m n w e (Some old) (Set value) h is = absurd (not_full b m n w e h is)
 full_at b m n w e at Remove h is = absurd (not_full b m n w e h is)
 
 -- Full is answered only where the map has its most pairs
-pub full_at_bound : (b : Bounds) (m n : Pairs) (w : ℕ) (e : Event) → Step b m w e n → e.reply ≡ Full
+pub full_at_bound : (b : Bounds) (m n : Pairs) (w : ℕ) (e : Event) → IsEvent b m w e n → e.reply ≡ Full
     → most_pairs b ≤ len m
 full_at_bound b m n w e step is = full_at b m n w e e.found (effect_of e.change e.found) step.answers is
 
@@ -178,7 +178,7 @@ bounded_by b m n after (inr same) few before = subst (λ x. len x ≤ most_pairs
 
 bounded_at : (b : Bounds) (m n : Pairs) (w : ℕ) (e : Event) (found : Option ℕ) (change : Change)
     → found ≡ get m e.key → e.change ≡ change
-    → Answers (row_with b (len m) w found (effect_of change found)) b m e n → len m ≤ most_pairs b
+    → Answers (case_with b (len m) w found (effect_of change found)) b m e n → len m ≤ most_pairs b
     → len n ≤ most_pairs b
 bounded_at b m n w e found Keep there is h before = subst (λ x. len x ≤ most_pairs b) (sym h.1) before
 bounded_at b m n w e None Remove there is h before = subst (λ x. len x ≤ most_pairs b) (sym h.1) before
@@ -199,14 +199,14 @@ bounded_at b m n w e None (Set value) there is h before =
     ]
 
 -- no step makes a map exceed its bound
-pub stays_bounded : (b : Bounds) (m n : Pairs) (w : ℕ) (e : Event) → Step b m w e n → len m ≤ most_pairs b
+pub stays_bounded : (b : Bounds) (m n : Pairs) (w : ℕ) (e : Event) → IsEvent b m w e n → len m ≤ most_pairs b
     → len n ≤ most_pairs b
 stays_bounded b m n w e step before =
     bounded_at b m n w e e.found e.change step.found refl step.answers before
 
 -- a new key was absent, whatever it is answered
 told_of_new : (may room : Bool) (b : Bounds) (m n : Pairs) (e : Event) → e.found ≡ None
-    → Answers (if may then (if room then Entering else Crowded) else Exhausted) b m e n
+    → Answers (if may then (if room then NewKey else NoRoom) else WornOut) b m e n
     → e.found ≡ found_by e.reply
 told_of_new true true b m n e absent (inl h) = absent ∙ sym (ap found_by h.0)
 told_of_new true true b m n e absent (inr ((log2, left, refused, within, few), same)) = absent ∙ sym (ap found_by refused)
@@ -214,12 +214,12 @@ told_of_new true false b m n e absent h = absent ∙ sym (ap found_by h.0)
 told_of_new false room b m n e absent h = sym (ap found_by h.0)
 
 told_of_present : (may : Bool) (b : Bounds) (m n : Pairs) (e : Event)
-    → Answers (if may then Present else Exhausted) b m e n → e.found ≡ found_by e.reply
+    → Answers (if may then OldKey else WornOut) b m e n → e.found ≡ found_by e.reply
 told_of_present true b m n e h = sym (ap found_by h.0)
 told_of_present false b m n e h = sym (ap found_by h.0)
 
 told_at : (b : Bounds) (m n : Pairs) (w : ℕ) (e : Event) (found : Option ℕ) (effect : Change)
-    → e.found ≡ found → Answers (row_with b (len m) w found effect) b m e n → e.found ≡ found_by e.reply
+    → e.found ≡ found → Answers (case_with b (len m) w found effect) b m e n → e.found ≡ found_by e.reply
 told_at b m n w e found Keep is h = sym (ap found_by h.0)
 told_at b m n w e None (Set value) is h =
     told_of_new (nat_lt w b.limit) (nat_lt (len m) (most_pairs b)) b m n e is h
@@ -227,10 +227,10 @@ told_at b m n w e (Some old) (Set value) is h = told_of_present (nat_lt w b.limi
 told_at b m n w e found Remove is h = told_of_present (nat_lt w b.limit) b m n e h
 
 -- what was found is what the reply tells
-pub found_is_told : (b : Bounds) (m n : Pairs) (w : ℕ) (e : Event) → Step b m w e n → e.found ≡ found_by e.reply
+pub found_is_told : (b : Bounds) (m n : Pairs) (w : ℕ) (e : Event) → IsEvent b m w e n → e.found ≡ found_by e.reply
 found_is_told b m n w e step = told_at b m n w e e.found (effect_of e.change e.found) refl step.answers
 
 -- what the map gives is what the reply tells
-pub stored_is_told : (b : Bounds) (m n : Pairs) (w : ℕ) (e : Event) → Step b m w e n
+pub stored_is_told : (b : Bounds) (m n : Pairs) (w : ℕ) (e : Event) → IsEvent b m w e n
     → get m e.key ≡ found_by e.reply
 stored_is_told b m n w e step = sym step.found ∙ found_is_told b m n w e step

@@ -50,26 +50,6 @@ pub get_left : (m : Pairs) (words other : List ℕ) → other ≢ words → get 
 get_left m words other differ = get-remove nat_list_cmp_total m words other
     ∙ ap (λ b. cond b None (get m other)) (apart other words differ)
 
--- a key that stays without value whether it is the removed one or not
-pub get_none : (m : Pairs) (words other : List ℕ)
-    → (other ≢ words → get m other ≡ None) → get (remove m words) other ≡ None
-get_none m words other none = get-remove nat_list_cmp_total m words other
-    ∙ elim (eq_by_cmp (slice_cmp nat_cmp) other words) as (λ b.
-    eq_by_cmp (slice_cmp nat_cmp) other words ≡ b → cond b None (get m other) ≡ None) [
-      | true ↦ λ same. refl
-      | false ↦ λ same. none (differ_of other words same)
-    ] refl
-
-pub len_set : (m : Pairs) (words : List ℕ) (value old : ℕ)
-    → get m words ≡ Some old → len (insert m words value) ≡ len m
-len_set m words value old there = len-insert nat_list_cmp_total m words value
-    ∙ ap (λ o. cond (is_some o) (len m) (len m + 1)) there
-
-pub len_more : (m : Pairs) (words : List ℕ) (value : ℕ)
-    → get m words ≡ None → len (insert m words value) ≡ len m + 1
-len_more m words value absent = len-insert nat_list_cmp_total m words value
-    ∙ ap (λ o. cond (is_some o) (len m) (len m + 1)) absent
-
 pub len_less : (m : Pairs) (words : List ℕ) (old : ℕ)
     → get m words ≡ Some old → len (remove m words) ≡ len m - 1
 len_less m words old there = len-remove nat_list_cmp_total m words

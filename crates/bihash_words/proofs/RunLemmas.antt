@@ -1,6 +1,6 @@
 -- Runs of a bounded map, one after another.
 use Rattle.std.proofs.Common.{◌+◌, ◌++◌, ℕ, List, [], ◌∷◌, refl, subst, sym}
-use Rattle.bihash_words.specs.Maps.{Bounds, Event, Pairs, Step}
+use Rattle.bihash_words.specs.Maps.{Bounds, Event, Pairs, IsEvent}
 use Rattle.bihash_words.specs.Runs.{IsRun, writes_of}
 
 -- a run that begins where another ended
@@ -22,6 +22,6 @@ run_parts b m last w n (e ∷ before) after (m', step, rest) =
 
 -- one more step at a run's end
 pub run_push : (b : Bounds) (m middle last : Pairs) (w v : ℕ) (es : List Event) (e : Event)
-    → IsRun b m w es middle v → Step b middle v e last → IsRun b m w (es ++ e ∷ []) last (v + writes_of e.reply)
+    → IsRun b m w es middle v → IsEvent b middle v e last → IsRun b m w (es ++ e ∷ []) last (v + writes_of e.reply)
 run_push b m middle last w v es e h step =
     run_append b m middle last w v (v + writes_of e.reply) es (e ∷ []) h (last, step, (refl, refl))

@@ -55,36 +55,36 @@ abbrev pub IsRefusal : Bounds → Reply → Type 0
 IsRefusal b reply = (log2 left : ℕ) × (reply ≡ NoPages log2 left) × (log2 ≤ b.max_log2) × (left < 2 ^ log2)
 
 -- the cases of a call
-pub data Row : Type 0 where
+pub data Case : Type 0 where
   -- nothing is to be changed
-  Idle : Row
+  Unchanged : Case
   -- a change is wanted, and the map may not change any more
-  Exhausted : Row
+  WornOut : Case
   -- a new key finds no room
-  Crowded : Row
+  NoRoom : Case
   -- a new key finds room
-  Entering : Row
+  NewKey : Case
   -- a key that is there gets another value or goes
-  Present : Row
+  OldKey : Case
 
 -- the case of an effect, at a map of so many pairs after w changes
-abbrev pub row_with : Bounds → ℕ → ℕ → Option ℕ → Change → Row
-row_with b pairs w found Keep = Idle
-row_with b pairs w None (Set value) =
-    if nat_lt w b.limit then (if nat_lt pairs (most_pairs b) then Entering else Crowded) else Exhausted
-row_with b pairs w (Some old) (Set value) = if nat_lt w b.limit then Present else Exhausted
-row_with b pairs w found Remove = if nat_lt w b.limit then Present else Exhausted
+abbrev pub case_with : Bounds → ℕ → ℕ → Option ℕ → Change → Case
+case_with b pairs w found Keep = Unchanged
+case_with b pairs w None (Set value) =
+    if nat_lt w b.limit then (if nat_lt pairs (most_pairs b) then NewKey else NoRoom) else WornOut
+case_with b pairs w (Some old) (Set value) = if nat_lt w b.limit then OldKey else WornOut
+case_with b pairs w found Remove = if nat_lt w b.limit then OldKey else WornOut
 
 -- the replies of a case, and the map m' that is left
-abbrev pub Answers : Row → Bounds → Pairs → Event → Pairs → Type 0
-Answers Idle b m e m' = (e.reply ≡ Kept e.found) × (m' ≡ m)
-Answers Exhausted b m e m' = (e.reply ≡ Worn e.found) × (m' ≡ m)
-Answers Crowded b m e m' = (e.reply ≡ Full) × (m' ≡ m)
-Answers Entering b m e m' =
+abbrev pub Answers : Case → Bounds → Pairs → Event → Pairs → Type 0
+Answers Unchanged b m e m' = (e.reply ≡ Kept e.found) × (m' ≡ m)
+Answers WornOut b m e m' = (e.reply ≡ Worn e.found) × (m' ≡ m)
+Answers NoRoom b m e m' = (e.reply ≡ Full) × (m' ≡ m)
+Answers NewKey b m e m' =
     ((e.reply ≡ Changed None) × (m' ≡ changed m e.key e.change)) ⊎ (IsRefusal b e.reply × (m' ≡ m))
-Answers Present b m e m' = (e.reply ≡ Changed e.found) × (m' ≡ changed m e.key e.change)
+Answers OldKey b m e m' = (e.reply ≡ Changed e.found) × (m' ≡ changed m e.key e.change)
 
 -- a call leads from the map m after w changes to the map m'
-pub record Step (b : Bounds) (m : Pairs) (w : ℕ) (e : Event) (m' : Pairs) : Type 0 where
+pub record IsEvent (b : Bounds) (m : Pairs) (w : ℕ) (e : Event) (m' : Pairs) : Type 0 where
   pub found : e.found ≡ get m e.key
-  pub answers : Answers (row_with b (len m) w e.found (effect_of e.change e.found)) b m e m'
+  pub answers : Answers (case_with b (len m) w e.found (effect_of e.change e.found)) b m e m'

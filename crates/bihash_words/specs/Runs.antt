@@ -2,7 +2,7 @@
 use Rattle.std.specs.Prelude.{◌≡◌, ℕ, ◌+◌, List, [], ◌∷◌}
 use Rattle.bihash_words.specs.declared.patch.Reply.{Reply}
 use Rattle.bihash_words.specs.declared.patch.Reply.TheVariants.{Kept, Changed, Worn, Full, NoPages}
-use Rattle.bihash_words.specs.Maps.{Bounds, Event, Pairs, Step}
+use Rattle.bihash_words.specs.Maps.{Bounds, Event, Pairs, IsEvent}
 
 -- how many changes of the map a call with this reply made
 abbrev pub writes_of : Reply → ℕ
@@ -16,4 +16,4 @@ writes_of (NoPages log2 left) = 0
 -- lead from the map m after w changes to the map `last` after n.
 abbrev pub IsRun : Bounds → Pairs → ℕ → List Event → Pairs → ℕ → Type 0
 IsRun b m w [] last n = (m ≡ last) × (w ≡ n)
-IsRun b m w (e ∷ es) last n = (m' : Pairs) × Step b m w e m' × IsRun b m' (w + writes_of e.reply) es last n
+IsRun b m w (e ∷ es) last n = (m' : Pairs) × IsEvent b m w e m' × IsRun b m' (w + writes_of e.reply) es last n

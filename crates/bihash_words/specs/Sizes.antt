@@ -27,7 +27,7 @@ sizes_of s = record {
 abbrev pub bucket_of : Sizes → List ℕ → ℕ
 bucket_of z key = z.hash key % 2 ^ z.log2_buckets
 
--- the page that a hash names in a block of 2 ^ log2 pages: the bits behind those that name the bucket
+-- the page that a hash names in a block of 2 ^ log2 pages: the bits after those that name the bucket
 abbrev pub page_in : ℕ → ℕ → ℕ → ℕ
 page_in log2_buckets log2 hash = hash / 2 ^ log2_buckets % 2 ^ log2
 

@@ -1,7 +1,7 @@
 //! What follows of the bounded map of a bucket. The functions do nothing: their contracts are the laws.
 ghost use Rattle.std.specs.Prelude.{◌≡◌, ◌≢◌, ◌<◌, ◌≤◌, ◌↔◌, ◌++◌, ℕ, List, Option, Some};
 ghost use Rattle.std.specs.FinMap.{get, len};
-ghost use Rattle.bihash_words.specs.Maps.{Bounds, Event, Pairs, Step, found_by, most_pairs};
+ghost use Rattle.bihash_words.specs.Maps.{Bounds, Event, Pairs, IsEvent, found_by, most_pairs};
 ghost use Rattle.bihash_words.specs.Refusals.{IsNoRefusal, IsTaken};
 ghost use Rattle.bihash_words.specs.Runs.{IsRun};
 ghost use Rattle.bihash_words.specs.declared.patch.Change.{Change};
@@ -12,35 +12,35 @@ ghost use Rattle.bihash_words.specs.declared.patch.Reply.TheVariants.{Changed, F
 /// A call that isn't answered Changed leaves the map as it was. So does a search, which is a call that keeps.
 #[tactic(auto, using(crate::proofs::MapLemmas::unchanged, crate::proofs::MapLemmas::kept))]
 pub fn refusals_change_nothing()
-    ensures refused { (b : Bounds) (m n : Pairs) (w : ℕ) (e : Event) → Step b m w e n
+    ensures refused { (b : Bounds) (m n : Pairs) (w : ℕ) (e : Event) → IsEvent b m w e n
         → ((found : Option ℕ) → e.reply ≢ Changed found) → n ≡ m }
-    ensures kept { (b : Bounds) (m n : Pairs) (w : ℕ) (e : Event) → Step b m w e n
+    ensures kept { (b : Bounds) (m n : Pairs) (w : ℕ) (e : Event) → IsEvent b m w e n
         → e.change ≡ Keep → e.reply ≡ Kept (get m e.key) }
 {}
 
 /// A call changes the value of its own key alone, and only where the map may still change.
 #[tactic(auto, using(crate::proofs::MapLemmas::others_stay, crate::proofs::MapLemmas::within_limit))]
 pub fn other_keys_stay()
-    ensures others { (b : Bounds) (m n : Pairs) (w : ℕ) (e : Event) (key : List ℕ) → Step b m w e n
+    ensures others { (b : Bounds) (m n : Pairs) (w : ℕ) (e : Event) (key : List ℕ) → IsEvent b m w e n
         → key ≢ e.key → get n key ≡ get m key }
-    ensures limit { (b : Bounds) (m n : Pairs) (w : ℕ) (e : Event) (found : Option ℕ) → Step b m w e n
+    ensures limit { (b : Bounds) (m n : Pairs) (w : ℕ) (e : Event) (found : Option ℕ) → IsEvent b m w e n
         → e.reply ≡ Changed found → w < b.limit }
 {}
 
 /// No call makes a map exceed its bound, and Full is answered only at the bound.
 #[tactic(auto, using(crate::proofs::MapLemmas::stays_bounded, crate::proofs::MapLemmas::full_at_bound))]
 pub fn maps_stay_bounded()
-    ensures bounded { (b : Bounds) (m n : Pairs) (w : ℕ) (e : Event) → Step b m w e n
+    ensures bounded { (b : Bounds) (m n : Pairs) (w : ℕ) (e : Event) → IsEvent b m w e n
         → len m ≤ most_pairs b → len n ≤ most_pairs b }
-    ensures full { (b : Bounds) (m n : Pairs) (w : ℕ) (e : Event) → Step b m w e n
+    ensures full { (b : Bounds) (m n : Pairs) (w : ℕ) (e : Event) → IsEvent b m w e n
         → e.reply ≡ Full → most_pairs b ≤ len m }
 {}
 
 /// What a call found is what its reply tells, and what the map gives at its key.
 #[tactic(auto, using(crate::proofs::MapLemmas::found_is_told, crate::proofs::MapLemmas::stored_is_told))]
 pub fn replies_tell_what_was_found()
-    ensures found { (b : Bounds) (m n : Pairs) (w : ℕ) (e : Event) → Step b m w e n → e.found ≡ found_by e.reply }
-    ensures stored { (b : Bounds) (m n : Pairs) (w : ℕ) (e : Event) → Step b m w e n → get m e.key ≡ found_by e.reply }
+    ensures found { (b : Bounds) (m n : Pairs) (w : ℕ) (e : Event) → IsEvent b m w e n → e.found ≡ found_by e.reply }
+    ensures stored { (b : Bounds) (m n : Pairs) (w : ℕ) (e : Event) → IsEvent b m w e n → get m e.key ≡ found_by e.reply }
 {}
 
 /// A run and one that begins where it ended are one run, and a run can be parted anywhere.
@@ -58,15 +58,15 @@ pub fn runs_join_and_part()
 pub fn each_call_has_one_answer()
     ensures some { (b : Bounds) (m : Pairs) (w : ℕ) (key : List ℕ) (decision : Option ℕ → Change)
         → (reply : Reply) × (n : Pairs) × IsNoRefusal reply
-        × Step b m w (record { key = key; found = get m key; change = decision (get m key); reply = reply }) n }
+        × IsEvent b m w (record { key = key; found = get m key; change = decision (get m key); reply = reply }) n }
     ensures one { (b : Bounds) (m n o : Pairs) (w : ℕ) (decision : Option ℕ → Change) (e f : Event)
         → e.key ≡ f.key → e.change ≡ decision e.found → f.change ≡ decision f.found
-        → IsNoRefusal e.reply → IsNoRefusal f.reply → Step b m w e n → Step b m w f o → (e ≡ f) × (n ≡ o) }
+        → IsNoRefusal e.reply → IsNoRefusal f.reply → IsEvent b m w e n → IsEvent b m w f o → (e ≡ f) × (n ≡ o) }
 {}
 
-/// A call that sets a value is taken exactly where its key has the value behind it.
+/// A call that sets a value is taken exactly where its key has the value after it.
 #[tactic(auto, using(crate::proofs::SetLemmas::set_stands))]
 pub fn taken_values_stand()
-    ensures { (b : Bounds) (m n : Pairs) (w value : ℕ) (e : Event) → Step b m w e n → e.change ≡ Set value
+    ensures { (b : Bounds) (m n : Pairs) (w value : ℕ) (e : Event) → IsEvent b m w e n → e.change ≡ Set value
         → IsTaken e.reply ↔ (get n e.key ≡ Some value) }
 {}

@@ -9,7 +9,7 @@ use Rattle.std.proofs.lemmas.List.Elements.{All-map}
 use Rattle.std.proofs.lemmas.List.Sums.{sum_by-cons}
 use lib.ListN.{get_elem?}
 use mathlib.Core.Option.{some, some-ne-none, some-injective}
-use Rattle.packet_view.specs.Captures.{Seen}
+use Rattle.packet_view.specs.Captures.{PacketFacts}
 use Rattle.packet_view.specs.declared.tuple.Family.{Family}
 use Rattle.acl_policy.specs.Policies.{PolicyFacts}
 use Rattle.bihash_words.specs.Maps.{Event}
@@ -181,7 +181,7 @@ inside_flow times (Ruled moment tuple ruling) flow has =
 abbrev IsPagedIn : Timeouts → Family → Judged → Type 0
 IsPagedIn times family j = is_in family (update_of times j.reading) ≡ true → HasPages j
 
-events_for_few : (d : Deal) (times : Timeouts) (policy : PolicyFacts) (packets : List Seen) (verdicts : List Verdict)
+events_for_few : (d : Deal) (times : Timeouts) (policy : PolicyFacts) (packets : List PacketFacts) (verdicts : List Verdict)
     (are : AreJudged d times policy packets verdicts) (family : Family) → AreFew d.layout times family are.judged
     → All (IsPagedIn times family) are.judged
 events_for_few d times policy packets verdicts are family few = all_from (IsPagedIn times family) are.judged (λ k j at is e its log2 left short.
@@ -202,15 +202,15 @@ events_for_few d times policy packets verdicts are family few = all_from (IsPage
     omega (arith, few, taken))
 
 -- a packet that was judged has another verdict where it wasn't refused for want of pages
-told_else : (d : Deal) (times : Timeouts) (policy : PolicyFacts) (packets : List Seen) (verdicts : List Verdict)
+told_else : (d : Deal) (times : Timeouts) (policy : PolicyFacts) (packets : List PacketFacts) (verdicts : List Verdict)
     (are : AreJudged d times policy packets verdicts) (k : ℕ) (j : Judged) → get_elem? are.judged k ≡ some j → HasPages j
     → verdict_on times j ≢ NoPages
 told_else d times policy packets verdicts are k j at paged =
     let p = packet_of (readings_of are.judged) packets k j.reading are.read (after_map (λ (i : Judged). i.reading) are.judged k j at) in
     paged_is_told times policy p.0 j p.1 paged
   where
-    packet_of : (readings : List Reading) (ps : List Seen) (k : ℕ) (reading : Reading) → AreReadings policy ps readings
-        → get_elem? readings k ≡ some reading → (packet : Seen) × IsReading policy packet reading
+    packet_of : (readings : List Reading) (ps : List PacketFacts) (k : ℕ) (reading : Reading) → AreReadings policy ps readings
+        → get_elem? readings k ≡ some reading → (packet : PacketFacts) × IsReading policy packet reading
     packet_of [] [] k reading read at = absurd (some-ne-none reading (sym at))
     packet_of [] (p ∷ ps) k reading read at = absurd read
     packet_of (r ∷ rs) [] k reading read at = absurd read
@@ -218,7 +218,7 @@ told_else d times policy packets verdicts are k j at paged =
     packet_of (r ∷ rs) (p ∷ ps) (suc k) reading read at = packet_of rs ps k reading read.1 at
 
 -- with so few packets of a family none of them is refused for want of pages, and no verdict of theirs says so
-pub pages_for_few : (d : Deal) (times : Timeouts) (policy : PolicyFacts) (packets : List Seen) (verdicts : List Verdict)
+pub pages_for_few : (d : Deal) (times : Timeouts) (policy : PolicyFacts) (packets : List PacketFacts) (verdicts : List Verdict)
     (are : AreJudged d times policy packets verdicts) (family : Family) → AreFew d.layout times family are.judged
     → All (HasPagesIn times family) are.judged
 pages_for_few d times policy packets verdicts are family few = all_from (HasPagesIn times family) are.judged (λ k j at is.
@@ -226,7 +226,7 @@ pages_for_few d times policy packets verdicts are family few = all_from (HasPage
     (paged, told_else d times policy packets verdicts are k j at paged))
 
 -- with so few packets of both families no verdict says that pages were wanting
-pub verdicts_for_few : (d : Deal) (times : Timeouts) (policy : PolicyFacts) (packets : List Seen) (verdicts : List Verdict)
+pub verdicts_for_few : (d : Deal) (times : Timeouts) (policy : PolicyFacts) (packets : List PacketFacts) (verdicts : List Verdict)
     (are : AreJudged d times policy packets verdicts) → ((family : Family) → AreFew d.layout times family are.judged) → HavePages verdicts
 verdicts_for_few d times policy packets verdicts are few =
     subst HavePages (sym are.said) (All-map (λ v. v ≢ NoPages) (verdict_on times) are.judged

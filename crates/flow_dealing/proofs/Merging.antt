@@ -7,10 +7,10 @@ use Rattle.std.proofs.lemmas.Bool.Decides.{eqb_tells}
 use Rattle.std.proofs.lemmas.List.Elements.{All-cons, All-head, All-map, All-nil, All-tail, All-weaker}
 use lib.ListN.{get_elem?}
 use mathlib.Core.Option.{some, some-ne-none, some-injective}
-use Rattle.packet_view.specs.Captures.{Seen}
+use Rattle.packet_view.specs.Captures.{PacketFacts}
 use Rattle.packet_view.specs.Frames as frames
 use Rattle.packet_view.specs.Frames.{IsFrame}
-use Rattle.packet_view.specs.FrameSteps.{view_of}
+use Rattle.packet_view.specs.inner.FrameSteps.{view_of}
 use Rattle.packet_view.specs.declared.tuple.Family.{Family}
 use Rattle.packet_view.specs.declared.tuple.Mac.{Mac}
 use Rattle.packet_view.proofs.FrameLemmas.{view_shown}
@@ -47,7 +47,7 @@ worker_few d number flow some_worker = go d.dealing flow
     go Bucket (Some flow) = mod-lt (home_of d.layout flow.key).bucket some_worker
 
 -- the numbers of a worker's packets, whether the first is its own
-numbers-cons : (d : Deal) (w at : ℕ) (view : frames.View) (views : List frames.View) → numbers_from d w at (view ∷ views)
+numbers-cons : (d : Deal) (w at : ℕ) (view : frames.FrameFacts) (views : List frames.FrameFacts) → numbers_from d w at (view ∷ views)
     ≡ cond (worker_of d at (flow_shown view) == w) (at ∷ numbers_from d w (at + 1) views) (numbers_from d w (at + 1) views)
 unfolding numbers_from
 numbers-cons d w at view views = refl
@@ -78,7 +78,7 @@ events_of_call family (Some u) (Some c) calls = go (same_family family (family_o
     go true = refl
     go false = refl
 
-module _ (d : Deal) (times : Timeouts) (policy : PolicyFacts) (packets : List Seen) (verdicts : List Verdict) where
+module _ (d : Deal) (times : Timeouts) (policy : PolicyFacts) (packets : List PacketFacts) (verdicts : List Verdict) where
   -- what is known of an item, whichever worker's it is
   pub record IsSaid (i : Item) : Type 0 where
     pub item : IsItem d.layout times i
@@ -90,12 +90,12 @@ module _ (d : Deal) (times : Timeouts) (policy : PolicyFacts) (packets : List Se
     pub of : IsItemOf d w policy packets i
 
   -- what is left of a worker's trace from a packet on
-  pub record IsLeft (w at : ℕ) (views : List frames.View) (trace : List Item) : Type 0 where
+  pub record IsLeft (w at : ℕ) (views : List frames.FrameFacts) (trace : List Item) : Type 0 where
     pub numbers : numbers_of trace ≡ numbers_from d w at views
     pub own : All (IsOwn w) trace
 
   -- the items of the packets from one on, in their order, of which each worker has its own
-  pub record AreMerged (at : ℕ) (ps : List Seen) (trace : ℕ → List Item) : Type 0 where
+  pub record AreMerged (at : ℕ) (ps : List PacketFacts) (trace : ℕ → List Item) : Type 0 where
     pub merged : List Item
     pub each : All IsSaid merged
     pub read : AreReadings policy ps (readings_of (map judged_of merged))
@@ -104,7 +104,7 @@ module _ (d : Deal) (times : Timeouts) (policy : PolicyFacts) (packets : List Se
         → map event_of (calls_in times family (trace w)) ≡ events_by d times family w at (map judged_of merged)
 
   -- the first of a worker's items, where one comes
-  record First (w at : ℕ) (views : List frames.View) (trace : List Item) : Type 0 where
+  record First (w at : ℕ) (views : List frames.FrameFacts) (trace : List Item) : Type 0 where
     item : Item
     rest : List Item
     split : trace ≡ item ∷ rest
@@ -112,7 +112,7 @@ module _ (d : Deal) (times : Timeouts) (policy : PolicyFacts) (packets : List Se
     own : IsOwn w item
     left : IsLeft w (at + 1) views rest
 
-  first : (w at : ℕ) (view : frames.View) (views : List frames.View) (trace : List Item) → IsLeft w at (view ∷ views) trace
+  first : (w at : ℕ) (view : frames.FrameFacts) (views : List frames.FrameFacts) (trace : List Item) → IsLeft w at (view ∷ views) trace
       → worker_of d at (flow_shown view) ≡ w → First w at views trace
   first w at view views trace left mine = go trace left.numbers left.own
     where
@@ -138,7 +138,7 @@ module _ (d : Deal) (times : Timeouts) (policy : PolicyFacts) (packets : List Se
             left = record { numbers = tail; own = All-tail (IsOwn w) i rest own };
           }
 
-  passed : (w at : ℕ) (view : frames.View) (views : List frames.View) (trace : List Item) → IsLeft w at (view ∷ views) trace
+  passed : (w at : ℕ) (view : frames.FrameFacts) (views : List frames.FrameFacts) (trace : List Item) → IsLeft w at (view ∷ views) trace
       → worker_of d at (flow_shown view) ≢ w → IsLeft w (at + 1) views trace
   passed w at view views trace left other = record {
     numbers = left.numbers ∙ (numbers-cons d w at view views
@@ -153,7 +153,7 @@ module _ (d : Deal) (times : Timeouts) (policy : PolicyFacts) (packets : List Se
   abbrev without : (ℕ → List Item) → ℕ → List Item → ℕ → List Item
   without trace worker rest w = cond (worker == w) rest (trace w)
 
-  left_without : (at : ℕ) (view : frames.View) (views : List frames.View) (trace : ℕ → List Item) (worker : ℕ)
+  left_without : (at : ℕ) (view : frames.FrameFacts) (views : List frames.FrameFacts) (trace : ℕ → List Item) (worker : ℕ)
       → worker_of d at (flow_shown view) ≡ worker → (f : First worker at views (trace worker))
       → ((w : ℕ) → w < d.workers → IsLeft w at (view ∷ views) (trace w))
       → (w : ℕ) → w < d.workers → IsLeft w (at + 1) views (without trace worker f.rest w)
@@ -197,7 +197,7 @@ module _ (d : Deal) (times : Timeouts) (policy : PolicyFacts) (packets : List Se
       let e : at ≡ at + 0 = omega arith in ap (λ (y : Item). y.packet) (sym (some-injective x i stands)) ∙ (here ∙ e)
   next_placed at x xs here more (suc k) i stands = let e : at + 1 + k ≡ at + suc k = omega arith in more k i stands ∙ e
 
-  pub merge : (at : ℕ) (ps : List Seen) (views : List frames.View) (trace : ℕ → List Item) → 0 < d.workers → AreViews policy.own ps views
+  pub merge : (at : ℕ) (ps : List PacketFacts) (views : List frames.FrameFacts) (trace : ℕ → List Item) → 0 < d.workers → AreViews policy.own ps views
       → ((k : ℕ) → slice_get packets (at + k) ≡ slice_get ps k) → ((w : ℕ) → w < d.workers → IsLeft w at views (trace w))
       → AreMerged at ps trace
   merge at [] [] trace some_worker seen same left = record {
@@ -223,13 +223,13 @@ module _ (d : Deal) (times : Timeouts) (policy : PolicyFacts) (packets : List Se
       record {
         merged = f.item ∷ more.merged;
         each = All-cons IsSaid f.item more.merged f.own.is more.each;
-        read = (subst (λ (q : Seen). IsReading policy q f.item.reading) (this f.item.packet f.own.of.packet f.here f.own.of.there) f.own.of.read, more.read);
+        read = (subst (λ (q : PacketFacts). IsReading policy q f.item.reading) (this f.item.packet f.own.of.packet f.here f.own.of.there) f.own.of.read, more.read);
         placed = next_placed at f.item more.merged f.here more.placed;
         dealt = λ family w few. dealt_with at worker f.item f.rest more.merged trace f.split
             (ap (λ k. worker_of d k (flow_in f.item.reading)) (sym f.here) ∙ f.own.of.dealt) family w (more.dealt family w few);
       }
     where
-      this : (number : ℕ) (packet : Seen) → number ≡ at → slice_get packets number ≡ Some packet → packet ≡ p
+      this : (number : ℕ) (packet : PacketFacts) → number ≡ at → slice_get packets number ≡ Some packet → packet ≡ p
       this number packet here stands =
           let there : Some p ≡ Some packet = sym (ap (slice_get packets) (let e : at ≡ at + 0 = omega arith in here ∙ e) ∙ same 0) ∙ stands in
           let e : packet ≡ p = cc in e
@@ -237,7 +237,7 @@ module _ (d : Deal) (times : Timeouts) (policy : PolicyFacts) (packets : List Se
 -- ---- All workers
 
 -- each packet's frame turns out to be something
-all_views : (own : Option Mac) (ps : List Seen) → (views : List frames.View) × AreViews own ps views
+all_views : (own : Option Mac) (ps : List PacketFacts) → (views : List frames.FrameFacts) × AreViews own ps views
 all_views own [] = ([], tt)
 all_views own (p ∷ ps) = let vs = all_views own ps in (view_of p.frame own ∷ vs.0, (view_shown p.frame own, vs.1))
 
@@ -261,7 +261,7 @@ trace_of times family (t ∷ ts) [] w r all at = absurd (some-ne-none r (sym at)
 trace_of times family (t ∷ ts) (x ∷ xs) zero r all at = (t, refl, subst (HasCalls times family t) (some-injective x r at) all.0)
 trace_of times family (t ∷ ts) (x ∷ xs) (suc w) r all at = trace_of times family ts xs w r all.1 at
 
--- a list whose elements stand at their places
+-- a list whose elements are at their places
 same_list : (times : Timeouts) (is : List Item) (verdicts : List Verdict) → length verdicts ≡ length is
     → ((k : ℕ) (i : Item) → get_elem? is k ≡ some i → get_elem? verdicts k ≡ some (verdict_in times i))
     → verdicts ≡ verdicts_on times (map judged_of is)
@@ -272,7 +272,7 @@ same_list times (i ∷ is) (v ∷ vs) count each =
     (λ k. some-injective v (verdict_in times i) (each 0 i refl) k ∷ same_list times is vs (omega arith) (λ k j at. each (suc k) j at) k)
 
 -- what is known of the items of one worker's trace
-own_items : (d : Deal) (times : Timeouts) (policy : PolicyFacts) (packets : List Seen) (traces : List (List Item)) (verdicts : List Verdict)
+own_items : (d : Deal) (times : Timeouts) (policy : PolicyFacts) (packets : List PacketFacts) (traces : List (List Item)) (verdicts : List Verdict)
     → ArePlaced times packets traces verdicts → (w : ℕ) (t : List Item) → get_elem? traces w ≡ some t → IsTrace d times w policy packets t
     → All (IsOwn d times policy packets verdicts w) t
 own_items d times policy packets traces verdicts placed w t at is = all_from (IsOwn d times policy packets verdicts w) t (λ k i stands. record {
@@ -280,7 +280,7 @@ own_items d times policy packets traces verdicts placed w t at is = all_from (Is
   of = all_at (IsItemOf d w policy packets) t k i is.of stands;
 })
 
-pub judge_each_packet : (d : Deal) (times : Timeouts) (policy : PolicyFacts) (packets : List Seen) (traces : List (List Item)) (v : Views)
+pub judge_each_packet : (d : Deal) (times : Timeouts) (policy : PolicyFacts) (packets : List PacketFacts) (traces : List (List Item)) (v : Views)
     (verdicts : List Verdict) → 0 < d.workers → AreTraces d times policy packets traces
     → ((family : Family) → AreGathered d times family traces (view_in v family)) → ArePlaced times packets traces verdicts
     → AreJudged d times policy packets verdicts

@@ -157,7 +157,7 @@ module _ (d : Deal) (times : Timeouts) (family : Family) (b w : ℕ)
       ∙ sym (add_event-flow d.layout home times j.reading j.event (events_at d.layout times home js)))
 
   module _ (js : List Judged) (v : View) (recorded : AreRecorded d times family js v) (asked : AreAsked times js) (inside : b < buckets z) where
-    -- a call on the bucket stands in the owner's record
+    -- a call on the bucket is in the owner's record
     owner_of_call : (i k : ℕ) (r : Record) (c : Call) → get_elem? v.records i ≡ some r → get_elem? r.calls k ≡ some c → c.bucket ≡ b → i ≡ w
     owner_of_call i k r c at_i at_k is =
         let f = packet_of_event d times family i 0 js asked k (event_of c)

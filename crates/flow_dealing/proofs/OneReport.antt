@@ -2,7 +2,7 @@
 use Rattle.std.proofs.Common.{◌≡◌, ◌≢◌, ◌⊎◌, ◌∙◌, ℕ, List, Option, Some, None, ap, refl, sym, subst}
 use lib.ListN.{get_elem?}
 use mathlib.Core.Option.{some}
-use Rattle.packet_view.specs.Captures.{Seen}
+use Rattle.packet_view.specs.Captures.{PacketFacts}
 use Rattle.packet_view.specs.declared.tuple.Family.{Family}
 use Rattle.acl_policy.specs.Policies.{PolicyFacts}
 use Rattle.bihash_words.specs.Maps.{Event}
@@ -23,7 +23,7 @@ use Rattle.flow_dealing.proofs.PacketCalls.{IsFlowEvent, asked_flow, call_of_pac
 use Rattle.flow_dealing.proofs.Places.{after_map, all_at, all_from}
 use Rattle.flow_dealing.proofs.Refusals.{IsWant, refusal_is_verdict, wants}
 
-module _ (d : Deal) (times : Timeouts) (policy : PolicyFacts) (packets : List Seen) (verdicts : List Verdict)
+module _ (d : Deal) (times : Timeouts) (policy : PolicyFacts) (packets : List PacketFacts) (verdicts : List Verdict)
     (are : AreJudged d times policy packets verdicts) where
   -- a packet whose event was refused for want of pages is told so
   refused : (k : ℕ) (j : Judged) (e : Event) (log2 left : ℕ) → get_elem? are.judged k ≡ some j → j.event ≡ Some e → e.reply ≡ reply.NoPages log2 left

@@ -21,7 +21,7 @@ module _ {X : Type 0} where
   zip_count R (x ∷ xs) [] all = absurd all
   zip_count R (x ∷ xs) (y ∷ ys) all = ap suc (zip_count R xs ys all.1)
 
-  -- the element that stands there before a map
+  -- the element that is there before a map
   pub before_map : {Y : Type 0} (f : X → Y) (xs : List X) (k : ℕ) (y : Y) → get_elem? (map f xs) k ≡ some y
       → (x : X) × (get_elem? xs k ≡ some x) × (f x ≡ y)
   before_map f [] k y at = absurd (some-ne-none y (sym at))

@@ -5,12 +5,12 @@ use Rattle.std.specs.FinMap.{len}
 use Rattle.std.specs.Option.{ForSome}
 use lib.ListN.{get_elem?}
 use mathlib.Core.Option.{some}
-use Rattle.packet_view.specs.Captures.{Seen}
+use Rattle.packet_view.specs.Captures.{PacketFacts}
 use Rattle.packet_view.specs.Frames as frames
 use Rattle.acl_policy.specs.Policies.{PolicyFacts}
 use Rattle.acl_policy.specs.declared.rule.Action.{Action}
 use Rattle.acl_policy.specs.declared.rule.Action.TheVariants as action
-use Rattle.bihash_words.specs.Maps.{Answers, Bounds, Crowded, Entering, Event, Exhausted, Pairs, Present, effect_of, most_pairs, row_with}
+use Rattle.bihash_words.specs.Maps.{Answers, Bounds, NoRoom, NewKey, Event, WornOut, Pairs, OldKey, effect_of, most_pairs, case_with}
 use Rattle.bihash_words.specs.Refusals.{IsNoRefusal}
 use Rattle.bihash_words.specs.Sizes.{Sizes}
 use Rattle.bihash_words.specs.declared.patch.Change.{Change}
@@ -64,7 +64,7 @@ pub record IsWant (b : Bounds) (found : Option ℕ) (change : Change) (log2 left
   pub few : left < 2 ^ log2
 
 wants_new : (b : Bounds) (m m' : Pairs) (e : Event) (value log2 left : ℕ) (may room : Bool)
-    → Answers (if may then (if room then Entering else Crowded) else Exhausted) b m e m' → e.reply ≡ reply.NoPages log2 left
+    → Answers (if may then (if room then NewKey else NoRoom) else WornOut) b m e m' → e.reply ≡ reply.NoPages log2 left
     → IsWant b None (Set value) log2 left
 wants_new b m m' e value log2 left true true (inl sure) short = absurd (changed_pages None log2 left (sym sure.0 ∙ short))
 wants_new b m m' e value log2 left true true (inr ((other, rest, is, small, few), same)) short =
@@ -79,12 +79,12 @@ wants_new b m m' e value log2 left true false answers short = absurd (full_pages
 wants_new b m m' e value log2 left false room answers short = absurd (worn_pages e.found log2 left (sym answers.0 ∙ short))
 
 present : (b : Bounds) (m m' : Pairs) (e : Event) (log2 left : ℕ) (may : Bool)
-    → Answers (if may then Present else Exhausted) b m e m' → e.reply ≡ reply.NoPages log2 left → ⊥
+    → Answers (if may then OldKey else WornOut) b m e m' → e.reply ≡ reply.NoPages log2 left → ⊥
 present b m m' e log2 left true answers short = changed_pages e.found log2 left (sym answers.0 ∙ short)
 present b m m' e log2 left false answers short = worn_pages e.found log2 left (sym answers.0 ∙ short)
 
 wants_at : (b : Bounds) (pairs w : ℕ) (found : Option ℕ) (change : Change) (e : Event) (m m' : Pairs) (log2 left : ℕ)
-    → Answers (row_with b pairs w found (effect_of change found)) b m e m' → e.reply ≡ reply.NoPages log2 left
+    → Answers (case_with b pairs w found (effect_of change found)) b m e m' → e.reply ≡ reply.NoPages log2 left
     → IsWant b found change log2 left
 wants_at b pairs w found Keep e m m' log2 left answers short = absurd (kept_pages e.found log2 left (sym answers.0 ∙ short))
 wants_at b pairs w None Remove e m m' log2 left answers short = absurd (kept_pages e.found log2 left (sym answers.0 ∙ short))
@@ -93,7 +93,7 @@ wants_at b pairs w None (Set value) e m m' log2 left answers short =
     wants_new b m m' e value log2 left (nat_lt w b.limit) (nat_lt pairs (most_pairs b)) answers short
 wants_at b pairs w (Some old) (Set value) e m m' log2 left answers short = go (old == value) answers
   where
-    go : (s : Bool) → Answers (row_with b pairs w (Some old) (if s then Keep else Set value)) b m e m' → IsWant b (Some old) (Set value) log2 left
+    go : (s : Bool) → Answers (case_with b pairs w (Some old) (if s then Keep else Set value)) b m e m' → IsWant b (Some old) (Set value) log2 left
     go true x = absurd (kept_pages e.found log2 left (sym x.0 ∙ short))
     go false x = absurd (present b m m' e log2 left (nat_lt w b.limit) x short)
 
@@ -178,7 +178,7 @@ verdict_says_other patch ruling found r paged = go (is_live_for patch found) pat
     go false false e = rules_say_other ruling e
 
 -- a packet whose event wasn't refused for want of pages has another verdict
-pub paged_is_told : (times : Timeouts) (policy : PolicyFacts) (packet : Seen) (j : Judged) → IsReading policy packet j.reading → HasPages j
+pub paged_is_told : (times : Timeouts) (policy : PolicyFacts) (packet : PacketFacts) (j : Judged) → IsReading policy packet j.reading → HasPages j
     → verdict_on times j ≢ verdict.NoPages
 paged_is_told times policy packet j read paged = go read.0 read.2
   where
@@ -188,7 +188,7 @@ paged_is_told times policy packet j read paged = go read.0 read.2
     ruled (Some u) ruling None has e = rules_say_other ruling e
     ruled (Some u) ruling (Some x) has e = verdict_says_other u.patch ruling x.found x.reply (has x refl) e
 
-    go : (view : frames.View) → IsReadingOf policy packet.moment view j.reading → verdict_on times j ≢ verdict.NoPages
+    go : (view : frames.FrameFacts) → IsReadingOf policy packet.moment view j.reading → verdict_on times j ≢ verdict.NoPages
     go frames.NotIp is = subst (λ (r : Reading). verdict_with times r j.event ≢ verdict.NoPages) (sym is) (λ e. let f : ⊥ = cc in f)
     go frames.Malformed is = subst (λ (r : Reading). verdict_with times r j.event ≢ verdict.NoPages) (sym is) (λ e. let f : ⊥ = cc in f)
     go frames.Short is = subst (λ (r : Reading). verdict_with times r j.event ≢ verdict.NoPages) (sym is) (λ e. let f : ⊥ = cc in f)

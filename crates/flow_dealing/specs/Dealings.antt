@@ -32,7 +32,7 @@ abbrev pub flow_in : Reading → Option Flow
 flow_in (Framed verdict) = None
 flow_in (Ruled moment tuple ruling) = flow_of tuple
 
-abbrev pub flow_shown : frames.View → Option Flow
+abbrev pub flow_shown : frames.FrameFacts → Option Flow
 flow_shown frames.NotIp = None
 flow_shown frames.Malformed = None
 flow_shown frames.Short = None

@@ -2,7 +2,7 @@
 use Rattle.std.specs.Prelude.{◌≡◌, ◌≢◌, ◌≤◌, ◌*◌, ◌^◌, ℕ, ◌+◌, ◌==◌, Bool, true, false, count_by, if◌then◌else◌, List, [], ◌∷◌, length, map, Option, Some, None, All}
 use lib.ListN.{get_elem?}
 use mathlib.Core.Option.{some}
-use Rattle.packet_view.specs.Captures.{Seen}
+use Rattle.packet_view.specs.Captures.{PacketFacts}
 use Rattle.packet_view.specs.declared.tuple.Family.{Family}
 use Rattle.acl_policy.specs.Policies.{PolicyFacts}
 use Rattle.bihash_words.specs.Maps.{Event}
@@ -48,7 +48,7 @@ pub record AreRecorded (d : Deal) (times : Timeouts) (family : Family) (js : Lis
 
 -- The packets were judged by workers: each asked once, what was said of them are the verdicts on what they found and
 -- were answered, and their events stand in whole records.
-pub record AreJudged (d : Deal) (times : Timeouts) (policy : PolicyFacts) (packets : List Seen)
+pub record AreJudged (d : Deal) (times : Timeouts) (policy : PolicyFacts) (packets : List PacketFacts)
     (verdicts : List Verdict) : Type 0 where
   pub judged : List Judged
   pub read : AreReadings policy packets (readings_of judged)

@@ -3,7 +3,7 @@ use Rattle.std.specs.Prelude.{◌≡◌, ℕ, ◌+◌, ◌==◌, if◌then◌els
 use Rattle.std.specs.List.{AllZip}
 use lib.ListN.{get_elem?}
 use mathlib.Core.Option.{some}
-use Rattle.packet_view.specs.Captures.{Seen}
+use Rattle.packet_view.specs.Captures.{PacketFacts}
 use Rattle.packet_view.specs.Frames as frames
 use Rattle.packet_view.specs.Frames.{IsFrame}
 use Rattle.packet_view.specs.declared.tuple.Mac.{Mac}
@@ -47,8 +47,8 @@ pub record IsItem (l : Layout) (times : Timeouts) (i : Item) : Type 0 where
   pub placed : IsCallAt l (update_of times i.reading) i.call
 
 -- the item is of a packet of this worker, and has its reading
-pub record IsItemOf (d : Deal) (worker : ℕ) (policy : PolicyFacts) (packets : List Seen) (i : Item) : Type 0 where
-  pub packet : Seen
+pub record IsItemOf (d : Deal) (worker : ℕ) (policy : PolicyFacts) (packets : List PacketFacts) (i : Item) : Type 0 where
+  pub packet : PacketFacts
   pub there : slice_get packets i.packet ≡ Some packet
   pub read : IsReading policy packet i.reading
   pub dealt : worker_of d i.packet (flow_in i.reading) ≡ worker
@@ -64,11 +64,11 @@ calls_in times family [] = []
 calls_in times family (i ∷ is) = call_in family (update_of times i.reading) i.call (calls_in times family is)
 
 -- what each packet's frame turns out to be
-abbrev pub AreViews : Option Mac → List Seen → List frames.View → Type 0
+abbrev pub AreViews : Option Mac → List PacketFacts → List frames.FrameFacts → Type 0
 AreViews own packets views = AllZip (λ packet view. IsFrame packet.frame own view) packets views
 
 -- the numbers of a worker's packets, from a number on
-unfoldable pub numbers_from : Deal → ℕ → ℕ → List frames.View → List ℕ
+unfoldable pub numbers_from : Deal → ℕ → ℕ → List frames.FrameFacts → List ℕ
 numbers_from d worker at [] = []
 numbers_from d worker at (view ∷ views) =
     if worker_of d at (flow_shown view) == worker then at ∷ numbers_from d worker (at + 1) views
@@ -77,16 +77,12 @@ numbers_from d worker at (view ∷ views) =
 abbrev pub numbers_of : List Item → List ℕ
 numbers_of is = map (λ i. i.packet) is
 
--- the verdict of each item beside its packet's number
-abbrev pub verdict_pairs : Timeouts → List Item → List (ℕ × Verdict)
-verdict_pairs times is = map (λ i. (i.packet, verdict_in times i)) is
-
 -- the items are those of a worker's packets, all of them, in the order of the packets
-pub record IsTrace (d : Deal) (times : Timeouts) (worker : ℕ) (policy : PolicyFacts) (packets : List Seen)
+pub record IsTrace (d : Deal) (times : Timeouts) (worker : ℕ) (policy : PolicyFacts) (packets : List PacketFacts)
     (trace : List Item) : Type 0 where
   pub items : All (IsItem d.layout times) trace
   pub of : All (IsItemOf d worker policy packets) trace
-  pub dealt : (views : List frames.View) → AreViews policy.own packets views → numbers_of trace ≡ numbers_from d worker 0 views
+  pub dealt : (views : List frames.FrameFacts) → AreViews policy.own packets views → numbers_of trace ≡ numbers_from d worker 0 views
 
 -- the record has the calls of this trace
 abbrev pub HasCalls : Timeouts → Family → List Item → Record → Type 0
@@ -98,7 +94,7 @@ pub record HaveTraces (times : Timeouts) (family : Family) (traces : List (List 
   pub openings : v.known.openings ≡ []
 
 -- the traces are those of all workers, in their order
-pub record AreTraces (d : Deal) (times : Timeouts) (policy : PolicyFacts) (packets : List Seen) (traces : List (List Item)) : Type 0 where
+pub record AreTraces (d : Deal) (times : Timeouts) (policy : PolicyFacts) (packets : List PacketFacts) (traces : List (List Item)) : Type 0 where
   pub count : length traces ≡ d.workers
   pub each : (w : ℕ) (trace : List Item) → get_elem? traces w ≡ some trace → IsTrace d times w policy packets trace
 
@@ -108,8 +104,8 @@ pub record AreGathered (d : Deal) (times : Timeouts) (family : Family) (traces :
   pub told : IsToldWhole (sizes_in d.layout family) v
   pub did : HaveTraces times family traces v
 
--- each packet's verdict stands at its place
-pub record ArePlaced (times : Timeouts) (packets : List Seen) (traces : List (List Item)) (verdicts : List Verdict) : Type 0 where
+-- each packet's verdict is at its place
+pub record ArePlaced (times : Timeouts) (packets : List PacketFacts) (traces : List (List Item)) (verdicts : List Verdict) : Type 0 where
   pub count : length verdicts ≡ length packets
   pub each : (w : ℕ) (trace : List Item) → get_elem? traces w ≡ some trace → (k : ℕ) (i : Item) → get_elem? trace k ≡ some i
       → get_elem? verdicts i.packet ≡ some (verdict_in times i)

@@ -2,7 +2,7 @@
 //!
 //! The functions do nothing: their contracts are the laws.
 ghost use Rattle.std.specs.Prelude.{◌≡◌, ◌⊎◌, ◌<◌, List, All};
-ghost use Rattle.packet_view.specs.Captures.{Seen};
+ghost use Rattle.packet_view.specs.Captures.{PacketFacts};
 ghost use Rattle.packet_view.specs.declared.tuple.Family.{Family};
 ghost use Rattle.acl_policy.specs.Policies.{PolicyFacts};
 ghost use Rattle.session_state.specs.declared.timeouts.Timeouts.{Timeouts};
@@ -15,9 +15,9 @@ ghost use Rattle.flow_dealing.specs.Traces.{AreGathered, ArePlaced, AreTraces, I
 ghost use Rattle.flow_dealing.specs.Runs.{AreFew, AreJudged, HasPagesIn, HavePages};
 
 /// Where each worker judged the packets that were dealt to it, each packet was judged once, and its event
-/// stands in the record of its worker.
+/// is in the record of its worker.
 pub fn traces_judge_each_packet()
-    ensures { (d : Deal) (times : Timeouts) (policy : PolicyFacts) (packets : List Seen) (traces : List (List Item))
+    ensures { (d : Deal) (times : Timeouts) (policy : PolicyFacts) (packets : List PacketFacts) (traces : List (List Item))
         (v : Views) (verdicts : List Verdict) → 0 < d.workers → AreTraces d times policy packets traces
         → ((family : Family) → AreGathered d times family traces (view_in v family))
         → ArePlaced times packets traces verdicts → AreJudged d times policy packets verdicts }
@@ -26,7 +26,7 @@ pub fn traces_judge_each_packet()
 /// With one worker, or where packets are dealt by bucket, and no verdict says that pages were wanting, the
 /// verdicts are those of the one-thread filter.
 pub fn workers_give_one_report()
-    ensures { (d : Deal) (times : Timeouts) (policy : PolicyFacts) (packets : List Seen) (verdicts : List Verdict)
+    ensures { (d : Deal) (times : Timeouts) (policy : PolicyFacts) (packets : List PacketFacts) (verdicts : List Verdict)
         → AreJudged d times policy packets verdicts → (d.dealing ≡ Bucket) ⊎ (d.workers ≡ 1) → HavePages verdicts
         → AreVerdicts d.layout times policy packets verdicts }
 {}
@@ -34,10 +34,10 @@ pub fn workers_give_one_report()
 /// With so few packets of a family's flows that its pages can't run out, none of them is refused for want of
 /// pages, and none of their verdicts says that pages were wanting; with so few of both families no verdict does.
 pub fn few_packets_have_pages()
-    ensures one_family { (d : Deal) (times : Timeouts) (policy : PolicyFacts) (packets : List Seen) (verdicts : List Verdict)
+    ensures one_family { (d : Deal) (times : Timeouts) (policy : PolicyFacts) (packets : List PacketFacts) (verdicts : List Verdict)
         (are : AreJudged d times policy packets verdicts) (family : Family) → AreFew d.layout times family are.judged
         → All (HasPagesIn times family) are.judged }
-    ensures both_families { (d : Deal) (times : Timeouts) (policy : PolicyFacts) (packets : List Seen) (verdicts : List Verdict)
+    ensures both_families { (d : Deal) (times : Timeouts) (policy : PolicyFacts) (packets : List PacketFacts) (verdicts : List Verdict)
         (are : AreJudged d times policy packets verdicts)
         → ((family : Family) → AreFew d.layout times family are.judged) → HavePages verdicts }
 {}

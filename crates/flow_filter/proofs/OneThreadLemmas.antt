@@ -3,13 +3,13 @@ use Rattle.std.proofs.Common.{◌≡◌, ◌∙◌, ◌+◌, ℕ, true, false, L
 use Rattle.std.proofs.lemmas.List.Elements.{All-cons, All-head, All-nil, All-tail}
 use Rattle.std.specs.Prelude.{if◌then◌else◌}
 use Rattle.std.specs.FinMap.{get}
-use Rattle.bihash_words.specs.Maps.{Bounds, Event, Pairs, Step}
+use Rattle.bihash_words.specs.Maps.{Bounds, Event, Pairs, IsEvent}
 use Rattle.bihash_words.specs.Refusals.{IsNoRefusal}
 use Rattle.bihash_words.specs.Runs.{IsRun, writes_of}
 use Rattle.bihash_words.proofs.CallLemmas.{one_call, some_call}
 use Rattle.session_state.specs.declared.timeouts.Timeouts.{Timeouts}
 use Rattle.session_state.specs.Decisions.{decision_of}
-use Rattle.packet_view.specs.Captures.{Seen}
+use Rattle.packet_view.specs.Captures.{PacketFacts}
 use Rattle.acl_policy.specs.Policies.{PolicyFacts}
 use Rattle.flow_filter.specs.declared.verdict.Verdict.{Verdict}
 use Rattle.flow_filter.specs.Readings.{AreReadings, Reading}
@@ -33,16 +33,16 @@ pub record IsThread (l : Layout) (times : Timeouts) (maps : Home → Pairs) (cou
   pub runs : (home : Home) → IsHome l home → Runs (bounds_in l home.family) (maps home) (counts home) (events_at l times home js)
   pub paged : All HasPages js
 
--- what the buckets hold, and how often they changed, behind an event of the bucket `at`
+-- what the buckets hold, and how often they changed, after an event of the bucket `at`
 abbrev maps_behind : (Home → Pairs) → Home → Pairs → Home → Pairs
 maps_behind maps at n = with maps at n
 
 abbrev counts_behind : (Home → ℕ) → Home → Event → Home → ℕ
 counts_behind counts at e = with counts at (counts at + writes_of e.reply)
 
--- a run of a bucket behind an event that may be of it, with that event
+-- a run of a bucket after an event that may be of it, with that event
 before_run : (l : Layout) (home at : Home) (maps : Home → Pairs) (counts : Home → ℕ) (n : Pairs) (e : Event) (events : List Event)
-    → Step (bounds_in l at.family) (maps at) (counts at) e n
+    → IsEvent (bounds_in l at.family) (maps at) (counts at) e n
     → Runs (bounds_in l home.family) (maps_behind maps at n home) (counts_behind counts at e home) events
     → Runs (bounds_in l home.family) (maps home) (counts home) (if same_home home at then e ∷ events else events)
 before_run l home at maps counts n e events step =
@@ -55,7 +55,7 @@ before_run l home at maps counts n e events step =
       | false ↦ λ other rest. rest
     ] refl
 
--- a run of a bucket with an event that may be of it, behind that event
+-- a run of a bucket with an event that may be of it, after that event
 behind_run : (l : Layout) (home at : Home) (maps : Home → Pairs) (counts : Home → ℕ) (n : Pairs) (e : Event)
     (events : Home → List Event) → Runs (bounds_in l at.family) n (counts at + writes_of e.reply) (events at)
     → Runs (bounds_in l home.family) (maps home) (counts home) (if same_home home at then e ∷ events home else events home)
@@ -90,7 +90,7 @@ one_unasked l times maps counts reading readings none (js, same, thread) = (
 -- one more packet with this update and this event
 one_asked : (l : Layout) (times : Timeouts) (maps : Home → Pairs) (counts : Home → ℕ) (reading : Reading) (readings : List Reading)
     (u : Update) (e : Event) (n : Pairs) → update_of times reading ≡ Some u → IsEventOf u e → IsNoRefusal e.reply
-    → Step (bounds_in l (home_of l u.key).family) (maps (home_of l u.key)) (counts (home_of l u.key)) e n
+    → IsEvent (bounds_in l (home_of l u.key).family) (maps (home_of l u.key)) (counts (home_of l u.key)) e n
     → Thread l times (maps_behind maps (home_of l u.key) n) (counts_behind counts (home_of l u.key) e) readings
     → Thread l times maps counts (reading ∷ readings)
 one_asked l times maps counts reading readings u e n is of paged step (js, same, thread) = (
@@ -130,14 +130,14 @@ some_thread l times [] maps counts =
 some_thread l times (reading ∷ readings) maps counts =
     one_more l times maps counts reading readings (some_thread l times readings) (update_of times reading) refl
 
--- the first of packets that are judged on one thread, with its event, and the packets behind it
+-- the first of packets that are judged on one thread, with its event, and the packets after it
 record IsFirst (l : Layout) (times : Timeouts) (maps : Home → Pairs) (counts : Home → ℕ) (u : Update) (j : Judged) (js : List Judged) : Type 0 where
   pub event : Event
   pub left : Pairs
   pub is : j.event ≡ Some event
   pub of : IsEventOf u event
   pub paged : IsNoRefusal event.reply
-  pub step : Step (bounds_in l (home_of l u.key).family) (maps (home_of l u.key)) (counts (home_of l u.key)) event left
+  pub step : IsEvent (bounds_in l (home_of l u.key).family) (maps (home_of l u.key)) (counts (home_of l u.key)) event left
   pub behind : IsThread l times (maps_behind maps (home_of l u.key) left) (counts_behind counts (home_of l u.key) event) js
 
 -- the events on a bucket begin with the packet's where its key is of it
@@ -186,7 +186,7 @@ first_unasked l times maps counts j js none thread =
 same_judged : (j k : Judged) → j.reading ≡ k.reading → j.event ≡ k.event → j ≡ k
 same_judged j k readings events = ap₂ (λ r e. record { reading = r; event = e }) readings events
 
--- where both lists of the packets behind are one, both lists are
+-- where both lists of the packets after are one, both lists are
 one_by_update : (l : Layout) (times : Timeouts) (maps : Home → Pairs) (counts : Home → ℕ) (j k : Judged) (js ks : List Judged)
     → j.reading ≡ k.reading → (u : Option Update) → update_of times j.reading ≡ u
     → ((maps : Home → Pairs) (counts : Home → ℕ) → IsThread l times maps counts js → IsThread l times maps counts ks → js ≡ ks)
@@ -236,7 +236,7 @@ one_judged l times opening js ks same one two =
     one_thread l times js ks opening (λ home. 0) same (of_one_thread l times opening js one) (of_one_thread l times opening ks two)
 
 -- the packets of a capture have verdicts
-pub some_verdicts : (l : Layout) (times : Timeouts) (policy : PolicyFacts) (packets : List Seen)
+pub some_verdicts : (l : Layout) (times : Timeouts) (policy : PolicyFacts) (packets : List PacketFacts)
     → (verdicts : List Verdict) × AreVerdicts l times policy packets verdicts
 some_verdicts l times policy packets =
     let (readings, are) = some_readings policy packets in
@@ -244,7 +244,7 @@ some_verdicts l times policy packets =
     (verdicts_on times js, record { judged = js; read = subst (AreReadings policy packets) (sym same) are; one_thread = is; said = refl })
 
 -- and one list of them
-pub one_verdicts : (l : Layout) (times : Timeouts) (policy : PolicyFacts) (packets : List Seen) (a b : List Verdict)
+pub one_verdicts : (l : Layout) (times : Timeouts) (policy : PolicyFacts) (packets : List PacketFacts) (a b : List Verdict)
     → AreVerdicts l times policy packets a → AreVerdicts l times policy packets b → a ≡ b
 one_verdicts l times policy packets a b one two =
     let same = one_judged l times nothing one.judged two.judged

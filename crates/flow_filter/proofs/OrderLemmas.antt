@@ -2,8 +2,8 @@
 use Rattle.std.proofs.Common.{◌≡◌, ◌⊎◌, ◌∙◌, ◌+◌, ◌++◌, ℕ, Bool, true, false, List, [], ◌∷◌, Option, Some, None, All, refl, sym, ap, ap₂, subst}
 use Rattle.std.proofs.lemmas.List.Elements.{All-head, All-tail}
 use Rattle.std.specs.Prelude.{◌↔◌, if◌then◌else◌}
-use Rattle.packet_view.specs.Tuples.{Facts}
-use Rattle.bihash_words.specs.Maps.{Event, Pairs, Step}
+use Rattle.packet_view.specs.Tuples.{TupleFacts}
+use Rattle.bihash_words.specs.Maps.{Event, Pairs, IsEvent}
 use Rattle.bihash_words.specs.Runs.{IsRun, writes_of}
 use Rattle.bihash_words.proofs.RunLemmas.{run_parts, run_push}
 use Rattle.session_state.specs.declared.timeouts.Timeouts.{Timeouts}
@@ -41,7 +41,7 @@ events_append l times home (j ∷ before) after =
     ap (add_event l home (update_of times j.reading) j.event) (events_append l times home before after)
     ∙ add_append l home (update_of times j.reading) j.event (events_at l times home before) (events_at l times home after)
 
--- the packet's event on its bucket, with those of the packets behind it
+-- the packet's event on its bucket, with those of the packets after it
 own_events : (l : Layout) (times : Timeouts) (u : Update) (e : Event) (j : Judged) (after : List Judged)
     → update_of times j.reading ≡ Some u → j.event ≡ Some e
     → events_at l times (home_of l u.key) (j ∷ after) ≡ e ∷ events_at l times (home_of l u.key) after
@@ -59,7 +59,7 @@ record IsPlaced (l : Layout) (times : Timeouts) (opening : Home → Pairs) (befo
   pub count : ℕ
   pub leaves : Pairs
   pub before_it : IsRun (bounds_in l (home_of l u.key).family) (opening (home_of l u.key)) 0 (events_at l times (home_of l u.key) before) left count
-  pub step : Step (bounds_in l (home_of l u.key).family) left count event leaves
+  pub step : IsEvent (bounds_in l (home_of l u.key).family) left count event leaves
 
 placed : (l : Layout) (times : Timeouts) (opening : Home → Pairs) (before after : List Judged) (j : Judged) (u : Update)
     → IsOneThread l times opening (before ++ j ∷ after) → update_of times j.reading ≡ Some u → IsPlaced l times opening before j u
@@ -76,7 +76,7 @@ placed l times opening before after j u thread is =
     (events_at l times home before) (e ∷ events_at l times home after) run in
     record { event = e; is = at; of = of; left = m; count = v; leaves = n; before_it = first; step = step }
 
--- what is left behind the packet
+-- what is left after the packet
 leaves_behind : (l : Layout) (times : Timeouts) (opening : Home → Pairs) (before : List Judged) (j : Judged) (u : Update)
     → update_of times j.reading ≡ Some u → (p : IsPlaced l times opening before j u)
     → Leave l times opening (before ++ j ∷ []) (home_of l u.key) p.leaves
@@ -90,7 +90,7 @@ leaves_behind l times opening before j u is p =
     )
 
 pub pass_in_order : (l : Layout) (times : Timeouts) (opening : Home → Pairs) (before after : List Judged) (j : Judged) (moment : ℕ)
-    (tuple : Facts) (ruling : Ruling) (u : Update) → IsOneThread l times opening (before ++ j ∷ after)
+    (tuple : TupleFacts) (ruling : Ruling) (u : Update) → IsOneThread l times opening (before ++ j ∷ after)
     → j.reading ≡ Ruled moment tuple ruling → update_of times j.reading ≡ Some u
     → (m n : Pairs) × Leave l times opening before (home_of l u.key) m × Leave l times opening (before ++ j ∷ []) (home_of l u.key) n
     × ((passes (verdict_on times j) ≡ true) ↔ (HoldsLive u m ⊎ LetsThrough u n ruling))

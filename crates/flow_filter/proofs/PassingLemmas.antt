@@ -3,9 +3,9 @@ use Rattle.std.proofs.Common.{◌≡◌, ◌⊎◌, ◌∙◌, ◌+◌, ℕ, Boo
 use Rattle.std.specs.FinMap.{get}
 use Rattle.std.specs.Prelude.{◌↔◌, if◌then◌else◌, is_some, option_map}
 use Rattle.std.proofs.lemmas.Bool.{and_parts}
-use Rattle.packet_view.specs.Tuples.{Facts}
+use Rattle.packet_view.specs.Tuples.{TupleFacts}
 use Rattle.acl_policy.specs.declared.rule.Action.TheVariants.{Deny, Permit, Reflect}
-use Rattle.bihash_words.specs.Maps.{Bounds, Event, Pairs, Step}
+use Rattle.bihash_words.specs.Maps.{Bounds, Event, Pairs, IsEvent}
 use Rattle.bihash_words.specs.declared.patch.Change.TheVariants.{Set}
 use Rattle.bihash_words.specs.declared.patch.Reply.{Reply}
 use Rattle.bihash_words.specs.declared.patch.Reply.TheVariants.{Kept, Changed, Worn, Full, NoPages}
@@ -72,7 +72,7 @@ unlive u (Some (i, Permit)) false n reply is rules taken = (λ p. tt, λ h. refl
 unlive u (Some (i, Reflect)) false n reply is rules taken = (λ p reflecting. let f : ⊥ = cc in absurd f, λ h. refl)
 
 -- an update reflects only where the rule does
-reflects_by_rule : (times : Timeouts) (moment : ℕ) (tuple : Facts) (ruling : Ruling) (u : Update)
+reflects_by_rule : (times : Timeouts) (moment : ℕ) (tuple : TupleFacts) (ruling : Ruling) (u : Update)
     → update_of times (Ruled moment tuple ruling) ≡ Some u → u.patch.reflects ≡ true → reflects ruling ≡ true
 reflects_by_rule times moment tuple ruling u is starts = go (flow_of tuple) is
   where
@@ -87,7 +87,7 @@ abbrev verdict_by_session : Bool → Update → Ruling → Event → Verdict
 verdict_by_session live u ruling e = if live then verdict.Session else unlive_verdict u.patch.reflects ruling e.reply
 
 -- the call of a packet that reflects without a live session is taken exactly where its session stands then
-taken_starts : (u : Update) (b : Bounds) (m n : Pairs) (w : ℕ) (e : Event) → IsEventOf u e → Step b m w e n
+taken_starts : (u : Update) (b : Bounds) (m n : Pairs) (w : ℕ) (e : Event) → IsEventOf u e → IsEvent b m w e n
     → is_live_for u.patch e.found ≡ false → u.patch.reflects ≡ true → IsTaken e.reply ↔ HoldsStarted u n
 taken_starts u b m n w e of step none starts =
     let value : ℕ = session_word (started_session u.patch) in
@@ -96,7 +96,7 @@ taken_starts u b m n w e of step none starts =
 
 -- a packet goes through exactly where its session is live or the rule lets it through
 pub pass_by_event : (u : Update) (ruling : Ruling) (b : Bounds) (m n : Pairs) (w : ℕ) (e : Event) → IsEventOf u e
-    → Step b m w e n → (u.patch.reflects ≡ true → reflects ruling ≡ true)
+    → IsEvent b m w e n → (u.patch.reflects ≡ true → reflects ruling ≡ true)
     → (passes (verdict_of u.patch ruling e.found e.reply) ≡ true) ↔ (HoldsLive u m ⊎ LetsThrough u n ruling)
 pass_by_event u ruling b m n w e of step rules = go (is_live_for u.patch e.found) refl
   where
@@ -121,15 +121,15 @@ pass_by_event u ruling b m n w e of step rules = go (is_live_for u.patch e.found
         )
 
 -- the same of a reading
-pub pass_by_reading : (times : Timeouts) (moment : ℕ) (tuple : Facts) (ruling : Ruling) (u : Update) (b : Bounds) (m n : Pairs)
-    (w : ℕ) (e : Event) → update_of times (Ruled moment tuple ruling) ≡ Some u → IsEventOf u e → Step b m w e n
+pub pass_by_reading : (times : Timeouts) (moment : ℕ) (tuple : TupleFacts) (ruling : Ruling) (u : Update) (b : Bounds) (m n : Pairs)
+    (w : ℕ) (e : Event) → update_of times (Ruled moment tuple ruling) ≡ Some u → IsEventOf u e → IsEvent b m w e n
     → (passes (verdict_with times (Ruled moment tuple ruling) (Some e)) ≡ true) ↔ (HoldsLive u m ⊎ LetsThrough u n ruling)
 pass_by_reading times moment tuple ruling u b m n w e is of step =
     subst (λ v. (passes (verdict_by_event ruling v (Some e)) ≡ true) ↔ (HoldsLive u m ⊎ LetsThrough u n ruling)) (sym is)
     (pass_by_event u ruling b m n w e of step (reflects_by_rule times moment tuple ruling u is))
 
 -- a packet without a flow goes through exactly where the rule permits
-pub pass_by_rules : (times : Timeouts) (moment : ℕ) (tuple : Facts) (ruling : Ruling) (event : Option Event)
+pub pass_by_rules : (times : Timeouts) (moment : ℕ) (tuple : TupleFacts) (ruling : Ruling) (event : Option Event)
     → update_of times (Ruled moment tuple ruling) ≡ None
     → (passes (verdict_with times (Ruled moment tuple ruling) event) ≡ true) ↔ IsPermitting ruling
 pass_by_rules times moment tuple ruling event none =

@@ -1,9 +1,9 @@
 -- A packet has one reading.
 use Rattle.std.proofs.Common.{◌≡◌, ◌∙◌, ℕ, List, [], ◌∷◌, refl, sym, ap, ap₂, subst}
-use Rattle.packet_view.specs.Captures.{Seen}
+use Rattle.packet_view.specs.Captures.{PacketFacts}
 use Rattle.packet_view.specs.Frames as frames
-use Rattle.packet_view.specs.Frames.{View}
-use Rattle.packet_view.specs.FrameSteps.{view_of}
+use Rattle.packet_view.specs.Frames.{FrameFacts}
+use Rattle.packet_view.specs.inner.FrameSteps.{view_of}
 use Rattle.packet_view.proofs.FrameLemmas.{view_only, view_shown}
 use Rattle.acl_policy.specs.Policies.{PolicyFacts, rules_of}
 use Rattle.acl_policy.proofs.DecisionLaws.{some_decision}
@@ -11,7 +11,7 @@ use Rattle.acl_policy.proofs.DecisionLemmas.{one_decision}
 use Rattle.flow_filter.specs.declared.verdict.Verdict.TheVariants as verdict
 use Rattle.flow_filter.specs.Readings.{AreReadings, Framed, IsReading, IsReadingOf, Reading, Ruled}
 
-some_reading_of : (policy : PolicyFacts) (moment : ℕ) (view : View) → (reading : Reading) × IsReadingOf policy moment view reading
+some_reading_of : (policy : PolicyFacts) (moment : ℕ) (view : FrameFacts) → (reading : Reading) × IsReadingOf policy moment view reading
 some_reading_of policy moment frames.NotIp = (Framed verdict.NotIp, refl)
 some_reading_of policy moment frames.Malformed = (Framed verdict.Malformed, refl)
 some_reading_of policy moment frames.Short = (Framed verdict.Short, refl)
@@ -20,12 +20,12 @@ some_reading_of policy moment (frames.Ip direction tuple) =
     (Ruled moment tuple ruling, (ruling, decides, refl))
 
 -- each packet has a reading
-pub some_reading : (policy : PolicyFacts) (packet : Seen) → (reading : Reading) × IsReading policy packet reading
+pub some_reading : (policy : PolicyFacts) (packet : PacketFacts) → (reading : Reading) × IsReading policy packet reading
 some_reading policy packet =
     let (reading, of) = some_reading_of policy packet.moment (view_of packet.frame policy.own) in
     (reading, (view_of packet.frame policy.own, view_shown packet.frame policy.own, of))
 
-one_reading_of : (policy : PolicyFacts) (moment : ℕ) (view : View) (a b : Reading) → IsReadingOf policy moment view a
+one_reading_of : (policy : PolicyFacts) (moment : ℕ) (view : FrameFacts) (a b : Reading) → IsReadingOf policy moment view a
     → IsReadingOf policy moment view b → a ≡ b
 one_reading_of policy moment frames.NotIp a b one two = one ∙ sym two
 one_reading_of policy moment frames.Malformed a b one two = one ∙ sym two
@@ -35,21 +35,21 @@ one_reading_of policy moment (frames.Ip direction tuple) a b (ruling, decides, o
     ∙ sym two
 
 -- and one
-pub one_reading : (policy : PolicyFacts) (packet : Seen) (a b : Reading) → IsReading policy packet a
+pub one_reading : (policy : PolicyFacts) (packet : PacketFacts) (a b : Reading) → IsReading policy packet a
     → IsReading policy packet b → a ≡ b
 one_reading policy packet a b (view, shown, of) (other, shown', of') =
     let same : view ≡ other =
     view_only packet.frame policy.own view shown ∙ sym (view_only packet.frame policy.own other shown') in
     one_reading_of policy packet.moment view a b of (subst (λ v. IsReadingOf policy packet.moment v b) (sym same) of')
 
-pub some_readings : (policy : PolicyFacts) (packets : List Seen) → (readings : List Reading) × AreReadings policy packets readings
+pub some_readings : (policy : PolicyFacts) (packets : List PacketFacts) → (readings : List Reading) × AreReadings policy packets readings
 some_readings policy [] = ([], tt)
 some_readings policy (packet ∷ packets) =
     let (reading, is) = some_reading policy packet in
     let (readings, are) = some_readings policy packets in
     (reading ∷ readings, (is, are))
 
-pub one_readings : (policy : PolicyFacts) (packets : List Seen) (a b : List Reading) → AreReadings policy packets a
+pub one_readings : (policy : PolicyFacts) (packets : List PacketFacts) (a b : List Reading) → AreReadings policy packets a
     → AreReadings policy packets b → a ≡ b
 one_readings policy [] [] [] one two = refl
 one_readings policy [] [] (y ∷ b) one two = absurd two

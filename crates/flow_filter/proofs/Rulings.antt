@@ -1,7 +1,7 @@
 -- What the rules say of a packet, and the update and verdict that follow.
 use Rattle.std.proofs.Common.{◌≡◌, Some, ap}
 use Rattle.std.specs.Prelude.{option_map}
-use Rattle.packet_view.specs.Tuples.{facts}
+use Rattle.packet_view.specs.Tuples.{tuple_facts}
 use Rattle.acl_policy.specs.Policies.{PolicyFacts, rules_of}
 use Rattle.acl_policy.proofs.DecisionLaws.{some_decision}
 use Rattle.bihash_words.specs.Maps.{Event}
@@ -15,12 +15,12 @@ use Rattle.flow_filter.specs.Verdicts.{verdict_of}
 
 -- a policy says something of each packet
 pub some_ruling : (policy : PolicyFacts) (p : PacketFlow) → (ruling : Ruling) × IsRulingOn policy p ruling
-some_ruling policy p = some_decision (rules_of p.direction policy) (facts p.tuple.now)
+some_ruling policy p = some_decision (rules_of p.direction policy) (tuple_facts p.tuple.now)
 
 -- the update of a packet with a flow
 pub update_is : (times : Timeouts) (p : PacketFlow) (ruling : Ruling)
     → update_of times (reading_of p ruling) ≡ Some (update_by times p ruling)
-update_is times p ruling = ap (option_map (update_in times p.moment (facts p.tuple.now) ruling)) p.of_tuple
+update_is times p ruling = ap (option_map (update_in times p.moment (tuple_facts p.tuple.now) ruling)) p.of_tuple
 
 -- the verdict on it, by its event
 pub verdict_is : (times : Timeouts) (p : PacketFlow) (ruling : Ruling) (e : Event)

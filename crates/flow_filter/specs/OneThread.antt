@@ -2,7 +2,7 @@
 use Rattle.std.specs.Prelude.{◌≡◌, ◌<◌, ℕ, ◌^◌, ◌==◌, Bool, true, false, ◌&&◌, if◌then◌else◌, List, [], ◌∷◌, Option, Some, None, All}
 use Rattle.std.specs.Option.{ForSome}
 use Rattle.std.specs.FinMap.{empty}
-use Rattle.packet_view.specs.Captures.{Seen}
+use Rattle.packet_view.specs.Captures.{PacketFacts}
 use Rattle.packet_view.specs.declared.tuple.Family.{Family}
 use Rattle.packet_view.specs.declared.tuple.Family.TheVariants.{V4, V6}
 use Rattle.acl_policy.specs.Policies.{PolicyFacts}
@@ -94,7 +94,7 @@ abbrev pub nothing : Home → Pairs
 nothing home = empty
 
 -- the verdicts of the one-thread filter on a capture's packets: no bucket holds anything at first
-pub record AreVerdicts (l : Layout) (times : Timeouts) (policy : PolicyFacts) (packets : List Seen) (verdicts : List Verdict) : Type 0 where
+pub record AreVerdicts (l : Layout) (times : Timeouts) (policy : PolicyFacts) (packets : List PacketFacts) (verdicts : List Verdict) : Type 0 where
   pub judged : List Judged
   pub read : AreReadings policy packets (readings_of judged)
   pub one_thread : IsOneThread l times nothing judged

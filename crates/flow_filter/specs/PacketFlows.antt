@@ -1,5 +1,5 @@
 -- A packet that takes part in sessions, as the filter reads it.
-use Rattle.packet_view.specs.Tuples.{facts}
+use Rattle.packet_view.specs.Tuples.{tuple_facts}
 use Rattle.acl_policy.specs.Matching.{IsDecision}
 use Rattle.acl_policy.specs.Policies.{PolicyFacts, rules_of}
 use Rattle.session_state.specs.declared.timeouts.Timeouts.{Timeouts}
@@ -9,12 +9,12 @@ use Rattle.flow_filter.specs.Updates.{Update, update_in}
 
 -- the policy says this of the packet
 abbrev pub IsRulingOn : PolicyFacts → PacketFlow → Ruling → Type 0
-IsRulingOn policy p ruling = IsDecision (rules_of p.direction policy) (facts p.tuple.now) ruling
+IsRulingOn policy p ruling = IsDecision (rules_of p.direction policy) (tuple_facts p.tuple.now) ruling
 
 -- the packet's reading, under what the rules say of it
 abbrev pub reading_of : PacketFlow → Ruling → Reading
-reading_of p ruling = Ruled p.moment (facts p.tuple.now) ruling
+reading_of p ruling = Ruled p.moment (tuple_facts p.tuple.now) ruling
 
 -- the packet's update, under what the rules say of it
 abbrev pub update_by : Timeouts → PacketFlow → Ruling → Update
-update_by times p ruling = update_in times p.moment (facts p.tuple.now) ruling p.flow.now
+update_by times p ruling = update_in times p.moment (tuple_facts p.tuple.now) ruling p.flow.now

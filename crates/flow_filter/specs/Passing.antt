@@ -27,7 +27,7 @@ HoldsLive u m = (session : SessionFacts) × IsLiveFor u.patch (get m (words_of u
 abbrev pub HoldsStarted : Update → Pairs → Type 0
 HoldsStarted u m = get m (words_of u.key) ≡ Some (session_word (started_session u.patch))
 
--- The rule that decides lets the packet through, where the bucket holds this behind it: the rule permits, or it
+-- The rule that decides lets the packet through, where the bucket holds this after it: the rule permits, or it
 -- reflects and the session is there that the packet may start.
 abbrev pub LetsThrough : Update → Pairs → Ruling → Type 0
 LetsThrough u m None = ⊥

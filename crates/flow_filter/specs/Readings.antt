@@ -1,10 +1,10 @@
 -- What the filter reads in a packet, from its frame, the policy and the rule that decides it (this project's profile).
 use Rattle.std.specs.Prelude.{◌≡◌, ℕ, List, Option}
 use Rattle.std.specs.List.{AllZip}
-use Rattle.packet_view.specs.Captures.{Seen}
+use Rattle.packet_view.specs.Captures.{PacketFacts}
 use Rattle.packet_view.specs.Frames as frames
-use Rattle.packet_view.specs.Frames.{IsFrame, View}
-use Rattle.packet_view.specs.Tuples.{Facts}
+use Rattle.packet_view.specs.Frames.{IsFrame, FrameFacts}
+use Rattle.packet_view.specs.Tuples.{TupleFacts}
 use Rattle.acl_policy.specs.declared.rule.Action.{Action}
 use Rattle.acl_policy.specs.Matching.{IsDecision}
 use Rattle.acl_policy.specs.Policies.{PolicyFacts, rules_of}
@@ -18,19 +18,19 @@ Ruling = Option (ℕ × Action)
 -- a packet as the filter sees it: a verdict that its frame alone gives, or its moment, its tuple and the rule that decides it
 pub data Reading : Type 0 where
   Framed : Verdict → Reading
-  Ruled : ℕ → Facts → Ruling → Reading
+  Ruled : ℕ → TupleFacts → Ruling → Reading
 
 -- the reading of a packet whose frame turns out to be this
-abbrev pub IsReadingOf : PolicyFacts → ℕ → View → Reading → Type 0
+abbrev pub IsReadingOf : PolicyFacts → ℕ → FrameFacts → Reading → Type 0
 IsReadingOf policy moment frames.NotIp reading = reading ≡ Framed verdict.NotIp
 IsReadingOf policy moment frames.Malformed reading = reading ≡ Framed verdict.Malformed
 IsReadingOf policy moment frames.Short reading = reading ≡ Framed verdict.Short
 IsReadingOf policy moment (frames.Ip direction tuple) reading =
     (ruling : Ruling) × IsDecision (rules_of direction policy) tuple ruling × (reading ≡ Ruled moment tuple ruling)
 
-abbrev pub IsReading : PolicyFacts → Seen → Reading → Type 0
-IsReading policy packet reading = (view : View) × IsFrame packet.frame policy.own view × IsReadingOf policy packet.moment view reading
+abbrev pub IsReading : PolicyFacts → PacketFacts → Reading → Type 0
+IsReading policy packet reading = (view : FrameFacts) × IsFrame packet.frame policy.own view × IsReadingOf policy packet.moment view reading
 
 -- each packet has its reading
-abbrev pub AreReadings : PolicyFacts → List Seen → List Reading → Type 0
+abbrev pub AreReadings : PolicyFacts → List PacketFacts → List Reading → Type 0
 AreReadings policy packets readings = AllZip (IsReading policy) packets readings

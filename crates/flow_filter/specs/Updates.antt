@@ -1,6 +1,6 @@
 -- The one update of a packet that takes part in sessions (this project's profile).
 use Rattle.std.specs.Prelude.{ℕ, Bool, true, false, ◌&&◌, List, Option, Some, None, option_map}
-use Rattle.packet_view.specs.Tuples.{Facts}
+use Rattle.packet_view.specs.Tuples.{TupleFacts}
 use Rattle.packet_view.specs.declared.tuple.Fields.{Fields}
 use Rattle.packet_view.specs.declared.tuple.Fields.TheVariants.{Absent, Ports, Tcp, Icmp}
 use Rattle.acl_policy.specs.declared.rule.Action.{Action}
@@ -47,7 +47,7 @@ pub record Update : Type 0 where
   pub patch : PatchFacts
 
 -- it enters a session where a reflecting rule decides and the packet may start one
-abbrev pub update_in : Timeouts → ℕ → Facts → Ruling → Flow → Update
+abbrev pub update_in : Timeouts → ℕ → TupleFacts → Ruling → Flow → Update
 update_in times moment tuple ruling flow = record {
   key = flow.key;
   patch = record {

@@ -2,10 +2,10 @@
 //!
 //! The functions do nothing: their contracts are the laws.
 ghost use Rattle.std.specs.Prelude.{◌≡◌, ◌⊎◌, ◌↔◌, ◌++◌, ℕ, true, List, [], ◌∷◌, Option, Some, None};
-ghost use Rattle.packet_view.specs.Captures.{Seen};
-ghost use Rattle.packet_view.specs.Tuples.{Facts};
+ghost use Rattle.packet_view.specs.Captures.{PacketFacts};
+ghost use Rattle.packet_view.specs.Tuples.{TupleFacts};
 ghost use Rattle.acl_policy.specs.Policies.{PolicyFacts};
-ghost use Rattle.bihash_words.specs.Maps.{Bounds, Event, Pairs, Step};
+ghost use Rattle.bihash_words.specs.Maps.{Bounds, Event, Pairs, IsEvent};
 ghost use Rattle.session_state.specs.declared.timeouts.Timeouts.{Timeouts};
 ghost use Rattle.flow_filter.specs.declared.verdict.Verdict.{Verdict};
 ghost use Rattle.flow_filter.specs.Judged.{IsEventOf, Judged, readings_of, verdict_on, verdict_with};
@@ -18,12 +18,12 @@ ghost use Rattle.flow_filter.specs.Verdicts.{passes};
 /// A policy reads each packet, and in one way.
 #[tactic(auto, using(crate::proofs::ReadingLemmas::some_reading, crate::proofs::ReadingLemmas::one_reading, crate::proofs::ReadingLemmas::some_readings, crate::proofs::ReadingLemmas::one_readings))]
 pub fn each_packet_has_one_reading()
-    ensures some { (policy : PolicyFacts) (packet : Seen) → (reading : Reading) × IsReading policy packet reading }
-    ensures one { (policy : PolicyFacts) (packet : Seen) (a b : Reading)
+    ensures some { (policy : PolicyFacts) (packet : PacketFacts) → (reading : Reading) × IsReading policy packet reading }
+    ensures one { (policy : PolicyFacts) (packet : PacketFacts) (a b : Reading)
         → IsReading policy packet a → IsReading policy packet b → a ≡ b }
-    ensures list { (policy : PolicyFacts) (packets : List Seen)
+    ensures list { (policy : PolicyFacts) (packets : List PacketFacts)
         → (readings : List Reading) × AreReadings policy packets readings }
-    ensures one_list { (policy : PolicyFacts) (packets : List Seen) (a b : List Reading)
+    ensures one_list { (policy : PolicyFacts) (packets : List PacketFacts) (a b : List Reading)
         → AreReadings policy packets a → AreReadings policy packets b → a ≡ b }
 {}
 
@@ -41,9 +41,9 @@ pub fn each_list_is_judged_once()
 /// The packets of a capture have one list of verdicts.
 #[tactic(auto, using(crate::proofs::OneThreadLemmas::some_verdicts, crate::proofs::OneThreadLemmas::one_verdicts))]
 pub fn each_capture_has_one_list_of_verdicts()
-    ensures some { (l : Layout) (times : Timeouts) (policy : PolicyFacts) (packets : List Seen)
+    ensures some { (l : Layout) (times : Timeouts) (policy : PolicyFacts) (packets : List PacketFacts)
         → (verdicts : List Verdict) × AreVerdicts l times policy packets verdicts }
-    ensures one { (l : Layout) (times : Timeouts) (policy : PolicyFacts) (packets : List Seen) (a b : List Verdict)
+    ensures one { (l : Layout) (times : Timeouts) (policy : PolicyFacts) (packets : List PacketFacts) (a b : List Verdict)
         → AreVerdicts l times policy packets a → AreVerdicts l times policy packets b → a ≡ b }
 {}
 
@@ -51,17 +51,17 @@ pub fn each_capture_has_one_list_of_verdicts()
 /// lets it through: it permits, or it reflects and the session is there that the packet may start. A packet
 /// without a flow passes exactly where that rule permits or reflects.
 pub fn packets_pass_by_rule_or_session()
-    ensures flow { (times : Timeouts) (moment : ℕ) (tuple : Facts) (ruling : Ruling) (u : Update) (b : Bounds)
+    ensures flow { (times : Timeouts) (moment : ℕ) (tuple : TupleFacts) (ruling : Ruling) (u : Update) (b : Bounds)
         (m n : Pairs) (w : ℕ) (e : Event) → update_of times (Ruled moment tuple ruling) ≡ Some u
-        → IsEventOf u e → Step b m w e n → (passes (verdict_with times (Ruled moment tuple ruling) (Some e)) ≡ true)
+        → IsEventOf u e → IsEvent b m w e n → (passes (verdict_with times (Ruled moment tuple ruling) (Some e)) ≡ true)
         ↔ (HoldsLive u m ⊎ LetsThrough u n ruling) }
-    ensures no_flow { (times : Timeouts) (moment : ℕ) (tuple : Facts) (ruling : Ruling) (event : Option Event)
+    ensures no_flow { (times : Timeouts) (moment : ℕ) (tuple : TupleFacts) (ruling : Ruling) (event : Option Event)
         → update_of times (Ruled moment tuple ruling) ≡ None
         → (passes (verdict_with times (Ruled moment tuple ruling) event) ≡ true) ↔ IsPermitting ruling }
 
     // What the bucket holds is what the packets before it left there.
     ensures in_order { (l : Layout) (times : Timeouts) (opening : Home → Pairs) (before after : List Judged)
-        (j : Judged) (moment : ℕ) (tuple : Facts) (ruling : Ruling) (u : Update)
+        (j : Judged) (moment : ℕ) (tuple : TupleFacts) (ruling : Ruling) (u : Update)
         → IsOneThread l times opening (before ++ j ∷ after) → j.reading ≡ Ruled moment tuple ruling
         → update_of times j.reading ≡ Some u → (m n : Pairs) × Leave l times opening before (home_of l u.key) m
         × Leave l times opening (before ++ j ∷ []) (home_of l u.key) n

@@ -1,7 +1,7 @@
 //! What a packet does to its flow's session, where the rules are asked only if no session is live.
 ghost use Rattle.std.specs.Prelude.{◌≡◌, ◌<◌};
 ghost use Rattle.std.specs.Option.{ForSome};
-ghost use Rattle.packet_view.specs.Tuples.{facts};
+ghost use Rattle.packet_view.specs.Tuples.{tuple_facts};
 ghost use Rattle.acl_policy.specs.Matching.{IsDecision};
 ghost use Rattle.acl_policy.specs.Rules.{most_rules};
 ghost use Rattle.flow_filter.specs.Readings.{Ruling};
@@ -45,8 +45,8 @@ struct Decided<D: HasRuling> {
 #[cold]
 #[inline(never)]
 fn asked(rules: Ruleset<'_>, tuple: Tuple) -> Option<(usize, Action)>
-    ensures only { (other : Ruling) → IsDecision (rules_in rules.entry) (facts tuple) other → other ≡ result }
-    ensures decided { IsDecision (rules_in rules.entry) (facts tuple) result }
+    ensures only { (other : Ruling) → IsDecision (rules_in rules.entry) (tuple_facts tuple) other → other ≡ result }
+    ensures decided { IsDecision (rules_in rules.entry) (tuple_facts tuple) result }
     ensures few { ForSome result (λ decided. decided.0 < most_rules) }
 {
     rules.first_match(&tuple)
@@ -60,7 +60,7 @@ pub struct LazyPatch<'a, D: HasRuling> {
     rules: Ruleset<'a>,
     packet: PacketFlow<'a>,
     decided: Cell<Option<Decided<D>>>,
-    ghost said: { (d : Ruling) → IsDecision (rules_in rules) (facts packet.tuple.now) d → d ≡ D.ruling },
+    ghost said: { (d : Ruling) → IsDecision (rules_in rules) (tuple_facts packet.tuple.now) d → d ≡ D.ruling },
 }
 
 impl<'a, D: HasRuling> LazyPatch<'a, D> {

@@ -1,6 +1,6 @@
 //! A packet and its flow.
 ghost use Rattle.std.specs.Prelude.{◌≡◌, ◌<◌, Some};
-ghost use Rattle.packet_view.specs.Tuples.{facts};
+ghost use Rattle.packet_view.specs.Tuples.{tuple_facts};
 ghost use Rattle.session_state.specs.Flows.{flow_of};
 
 use packet_view::{Direction, Tuple};
@@ -14,7 +14,7 @@ pub struct PacketFlow<'a> {
     pub direction: Direction,
     pub tuple: &'a Tuple,
     pub flow: &'a Flow,
-    pub ghost of_tuple: { flow_of (facts tuple.now) ≡ Some flow.now },
+    pub ghost of_tuple: { flow_of (tuple_facts tuple.now) ≡ Some flow.now },
     pub ghost of_two: { flow.now.side < 2 },
 }
 
@@ -22,7 +22,7 @@ pub struct PacketFlow<'a> {
 /// packet was viewed would keep each packet's tuple in memory.
 #[inline(always)]
 pub fn copied(tuple: &Tuple) -> Tuple
-    ensures { facts result ≡ facts tuple.now }
+    ensures { tuple_facts result ≡ tuple_facts tuple.now }
 {
     Tuple {
         family: tuple.family,

@@ -12,10 +12,10 @@ use Rattle.bihash_steps.specs.Histories.{IsLegal, is_changed}
 use Rattle.bihash_steps.specs.declared.view.View.{View}
 use Rattle.bihash_table.specs.Answers.{entry_of}
 use Rattle.bihash_table.specs.Promise.{IsAnswered, IsUpdated}
-use Rattle.bihash_table.specs.Shortage.{IsShortage}
+use Rattle.bihash_table.specs.OutOfPages.{IsOutOfPages}
 use Rattle.bihash_laws.specs.Runs.{IsLawfulAnswer}
 use Rattle.bihash_laws.proofs.AnsweredCalls.{legal}
-use Rattle.flow_workers.specs.Updates.{told}
+use Rattle.flow_workers.specs.inner.Updates.{told}
 
 found_in : (z : Sizes) (v w : View) (e : Event) → IsAnswered z v w e → IsLawfulCaller z w → e.found ≡ found_by e.reply
 found_in z v w e answered lawful = go (is_changed e.reply) refl
@@ -49,7 +49,7 @@ if_err P Q (Err e) f p = f e p
 
 -- a shortage at the key of these words
 pub short_at : {S K : Type 0} (g : Ghosts S K) (w : View) (key : K) (words : List ℕ) (log2 left : ℕ) → key ≡ g.key_of words → g.words_of key ≡ words
-    → IsShortage g w (bucket_of (sizes_of g) (g.words_of key)) key log2 left → IsShortage g w (bucket_of (sizes_of g) words) (g.key_of words) log2 left
+    → IsOutOfPages g w (bucket_of (sizes_of g) (g.words_of key)) key log2 left → IsOutOfPages g w (bucket_of (sizes_of g) words) (g.key_of words) log2 left
 short_at g w key words log2 left made same short =
-    subst (λ k. IsShortage g w (bucket_of (sizes_of g) words) k log2 left) made
-    (subst (λ x. IsShortage g w (bucket_of (sizes_of g) x) key log2 left) same short)
+    subst (λ k. IsOutOfPages g w (bucket_of (sizes_of g) words) k log2 left) made
+    (subst (λ x. IsOutOfPages g w (bucket_of (sizes_of g) x) key log2 left) same short)

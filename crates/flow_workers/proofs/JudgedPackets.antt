@@ -1,8 +1,8 @@
 -- A packet that was prepared under what the rules say of it is judged by its verdict alone, or by the reply to its update.
 use Rattle.std.proofs.Common.{◌≡◌, ◌∙◌, ℕ, Some, None, ap, refl, sym, subst}
-use Rattle.packet_view.specs.Captures.{Seen}
+use Rattle.packet_view.specs.Captures.{PacketFacts}
 use Rattle.packet_view.specs.Frames as frames
-use Rattle.packet_view.specs.Frames.{IsFrame, View, viewed}
+use Rattle.packet_view.specs.Frames.{IsFrame, FrameFacts, frame_facts}
 use Rattle.acl_policy.specs.Policies.{PolicyFacts, rules_of}
 use Rattle.acl_policy.proofs.DecisionLaws.{some_decision}
 use Rattle.bihash_words.specs.Maps.{Event, found_by}
@@ -18,24 +18,24 @@ use Rattle.flow_filter.specs.OneThread.{Layout}
 use Rattle.flow_dealing.specs.Views.{Views}
 use Rattle.flow_workers.specs.declared.viewed_packet.ViewedPacket.{ViewedPacket}
 use Rattle.flow_workers.specs.Judging.{IsAway, IsEntered, IsEnteredBy, IsJudged, IsRefused}
-use Rattle.flow_workers.specs.Preparing.{IsRuling, reading_with}
-use Rattle.flow_workers.specs.Updates.{told}
-use Rattle.flow_workers.specs.ViewedPackets.{IsViewed}
+use Rattle.flow_workers.specs.inner.Preparing.{IsRuling, reading_with}
+use Rattle.flow_workers.specs.inner.Updates.{told}
+use Rattle.flow_workers.specs.inner.ViewedPackets.{IsViewed}
 
 -- what the rules say of a packet, where they are asked
-abbrev pub ruling_on : PolicyFacts → View → Ruling
+abbrev pub ruling_on : PolicyFacts → FrameFacts → Ruling
 ruling_on policy frames.NotIp = None
 ruling_on policy frames.Malformed = None
 ruling_on policy frames.Short = None
 ruling_on policy (frames.Ip direction tuple) = (some_decision (rules_of direction policy) tuple).0
 
-pub is_ruling : (policy : PolicyFacts) (view : View) → IsRuling policy view (ruling_on policy view)
+pub is_ruling : (policy : PolicyFacts) (view : FrameFacts) → IsRuling policy view (ruling_on policy view)
 is_ruling policy frames.NotIp = tt
 is_ruling policy frames.Malformed = tt
 is_ruling policy frames.Short = tt
 is_ruling policy (frames.Ip direction tuple) = (some_decision (rules_of direction policy) tuple).1
 
-reading_of : (policy : PolicyFacts) (moment : ℕ) (view : View) (ruling : Ruling) → IsRuling policy view ruling
+reading_of : (policy : PolicyFacts) (moment : ℕ) (view : FrameFacts) (ruling : Ruling) → IsRuling policy view ruling
     → IsReadingOf policy moment view (reading_with moment view ruling)
 reading_of policy moment frames.NotIp ruling is = refl
 reading_of policy moment frames.Malformed ruling is = refl
@@ -47,23 +47,23 @@ pub of_filter : (P : Timeouts → PolicyFacts → Type 0) {t u : Timeouts} {p q 
 of_filter P {t} {u} {p} {q} times policy is = subst (λ other. P other q) times (subst (P t) policy is)
 
 -- a packet that was viewed, under what the rules say of it
-pub record IsRuled (policy : PolicyFacts) (s : Seen) (p : ViewedPacket) (ruling : Ruling) : Type 0 where
+pub record IsRuled (policy : PolicyFacts) (s : PacketFacts) (p : ViewedPacket) (ruling : Ruling) : Type 0 where
   pub seen : IsViewed policy.own s p
-  pub ruled : IsRuling policy (viewed p.frame.now) ruling
+  pub ruled : IsRuling policy (frame_facts p.frame.now) ruling
 
 abbrev pub reading_in : ViewedPacket → Ruling → Reading
-reading_in p ruling = reading_with p.moment (viewed p.frame.now) ruling
+reading_in p ruling = reading_with p.moment (frame_facts p.frame.now) ruling
 
-reads : (policy : PolicyFacts) (s : Seen) (p : ViewedPacket) (ruling : Ruling) → IsRuled policy s p ruling
+reads : (policy : PolicyFacts) (s : PacketFacts) (p : ViewedPacket) (ruling : Ruling) → IsRuled policy s p ruling
     → IsReading policy s (reading_in p ruling)
 reads policy s p ruling is = (
-  viewed p.frame.now,
+  frame_facts p.frame.now,
   is.seen.1,
-  subst (λ moment. IsReadingOf policy moment (viewed p.frame.now) (reading_in p ruling)) (sym is.seen.0)
-      (reading_of policy p.moment (viewed p.frame.now) ruling is.ruled),
+  subst (λ moment. IsReadingOf policy moment (frame_facts p.frame.now) (reading_in p ruling)) (sym is.seen.0)
+      (reading_of policy p.moment (frame_facts p.frame.now) ruling is.ruled),
 )
 
-pub settled : (l : Layout) (times : Timeouts) (policy : PolicyFacts) (s : Seen) (p : ViewedPacket) (ruling : Ruling) (v : Views) (verdict : Verdict)
+pub settled : (l : Layout) (times : Timeouts) (policy : PolicyFacts) (s : PacketFacts) (p : ViewedPacket) (ruling : Ruling) (v : Views) (verdict : Verdict)
     → IsRuled policy s p ruling
     → (update_of times (reading_in p ruling) ≡ None) × (verdict ≡ verdict_with times (reading_in p ruling) None)
     → IsJudged l times policy s v v verdict
@@ -76,7 +76,7 @@ settled l times policy s p ruling v verdict is known = record {
 }
 
 -- only a packet of a five-tuple has an update, and its verdict is that of the update
-said_by : (times : Timeouts) (moment : ℕ) (view : View) (ruling : Ruling) (u : Update) (e : Event)
+said_by : (times : Timeouts) (moment : ℕ) (view : FrameFacts) (ruling : Ruling) (u : Update) (e : Event)
     → update_of times (reading_with moment view ruling) ≡ Some u
     → verdict_with times (reading_with moment view ruling) (Some e) ≡ verdict_of u.patch ruling e.found e.reply
 said_by times moment frames.NotIp ruling u e is = absurd (let f : ⊥ = cc in f)
@@ -84,7 +84,7 @@ said_by times moment frames.Malformed ruling u e is = absurd (let f : ⊥ = cc i
 said_by times moment frames.Short ruling u e is = absurd (let f : ⊥ = cc in f)
 said_by times moment (frames.Ip direction tuple) ruling u e is = ap (λ update. verdict_by_event ruling update (Some e)) is
 
-pub answered : (l : Layout) (times : Timeouts) (policy : PolicyFacts) (s : Seen) (p : ViewedPacket) (ruling : Ruling) (v w : Views) (verdict : Verdict)
+pub answered : (l : Layout) (times : Timeouts) (policy : PolicyFacts) (s : PacketFacts) (p : ViewedPacket) (ruling : Ruling) (v w : Views) (verdict : Verdict)
     (u : Update) (reply : Reply) → IsRuled policy s p ruling → update_of times (reading_in p ruling) ≡ Some u
     → IsEntered l u.key (told (words_of u.key) (decision_of u.patch) reply) v w
     → verdict ≡ verdict_of u.patch ruling (found_by reply) reply → IsJudged l times policy s v w verdict
@@ -93,13 +93,13 @@ answered l times policy s p ruling v w verdict u reply is asks entered said = re
   read = reads policy s p ruling is;
   asked = subst (λ update. IsAskedBy update (Some event)) (sym asks) (event, refl, record { key = refl; change = refl });
   entered = subst (λ update. IsEnteredBy l update (Some event) v w) (sym asks) entered;
-  said = said ∙ sym (said_by times p.moment (viewed p.frame.now) ruling u event asks);
+  said = said ∙ sym (said_by times p.moment (frame_facts p.frame.now) ruling u event asks);
 }
   where
     event : Event
     event = told (words_of u.key) (decision_of u.patch) reply
 
-pub refused : (l : Layout) (times : Timeouts) (policy : PolicyFacts) (s : Seen) (p : ViewedPacket) (ruling : Ruling) (v w : Views) (u : Update)
+pub refused : (l : Layout) (times : Timeouts) (policy : PolicyFacts) (s : PacketFacts) (p : ViewedPacket) (ruling : Ruling) (v w : Views) (u : Update)
     → IsRuled policy s p ruling → update_of times (reading_in p ruling) ≡ Some u → IsAway l u.key v w → IsRefused l times policy s v w
 refused l times policy s p ruling v w u is asks away = record {
   reading = reading_in p ruling;

@@ -4,7 +4,7 @@ use Rattle.std.specs.List.{All, AllZip}
 use Rattle.std.proofs.lemmas.List.Elements.{All-cons, All-head, All-nil, All-tail}
 use Rattle.packet_view.specs.declared.tuple.Family.{Family}
 use Rattle.bihash_words.specs.Sizes.{Sizes}
-use Rattle.bihash_steps.specs.Steps.{IsRefused, joined, newcomer, parent}
+use Rattle.bihash_steps.specs.Steps.{IsRefused, view_after_join, newcomer, parent}
 use Rattle.bihash_steps.specs.declared.faults.SplitFault.{SplitFault}
 use Rattle.bihash_steps.specs.declared.faults.SplitFault.TheVariants.{Memory, Numbers, Contended}
 use Rattle.bihash_steps.specs.declared.view.Record.{Record}
@@ -12,24 +12,7 @@ use Rattle.bihash_steps.specs.declared.view.View.{View}
 use Rattle.bihash_steps.specs.Views.{nothing_held}
 use Rattle.session_state.specs.declared.timeouts.Timeouts.{Timeouts}
 use Rattle.flow_dealing.specs.Traces.{HasCalls, HaveTraces, Item}
-use Rattle.flow_workers.specs.Fresh.{IsFresh}
-
--- a refused split leaves records, what is known and what is held
-pub refused_fresh : (z : Sizes) (v : View) (fault : SplitFault) (w : View) → IsRefused z v fault w → IsFresh v → IsFresh w
-refused_fresh z v Memory w refused fresh = subst IsFresh (sym refused) fresh
-refused_fresh z v Numbers w refused fresh = record { number = fresh.number; records = ap (λ (x : View). x.records) refused ∙ fresh.records; openings = ap (λ (x : View). x.known.openings) refused ∙ fresh.openings }
-refused_fresh z v Contended w refused fresh = record { number = fresh.number; records = ap (λ (x : View). x.records) refused.5 ∙ fresh.records; openings = ap (λ (x : View). x.known.openings) refused.5 ∙ fresh.openings }
-
-pub refused_free : (z : Sizes) (v : View) (fault : SplitFault) (w : View) → IsRefused z v fault w → v.holds ≡ nothing_held → w.holds ≡ nothing_held
-refused_free z v Memory w refused free = ap (λ (x : View). x.holds) refused ∙ free
-refused_free z v Numbers w refused free = ap (λ (x : View). x.holds) refused ∙ free
-refused_free z v Contended w refused free = ap (λ (x : View). x.holds) refused.5 ∙ free
-
-pub parent_fresh : (v : View) (count : ℕ) → IsFresh v → IsFresh (parent v count)
-parent_fresh v count fresh = record { number = fresh.number; records = fresh.records; openings = fresh.openings }
-
-pub newcomer_fresh : (v : View) (count : ℕ) → IsFresh v → IsFresh (newcomer v count)
-newcomer_fresh v count fresh = record { number = _; records = refl; openings = fresh.openings }
+use Rattle.flow_workers.specs.inner.Fresh.{IsFresh}
 
 -- one record before others
 with_trace : (times : Timeouts) (family : Family) (t : List Item) (ts : List (List Item)) (rs qs : List Record)
@@ -39,7 +22,7 @@ with_trace times family t ts (r ∷ []) qs one more = (one.0, more)
 with_trace times family t ts (r ∷ q ∷ rs) qs one more = absurd one.1
 
 pub joined_traces : (v w : View) (times : Timeouts) (family : Family) (t : List Item) (ts : List (List Item))
-    → HaveTraces times family (t ∷ []) v → HaveTraces times family ts w → HaveTraces times family (t ∷ ts) (joined v w)
+    → HaveTraces times family (t ∷ []) v → HaveTraces times family ts w → HaveTraces times family (t ∷ ts) (view_after_join v w)
 joined_traces v w times family t ts one more = record {
   records = with_trace times family t ts v.records w.records one.records more.records;
   openings = one.openings;

@@ -26,9 +26,9 @@ use Rattle.flow_workers.specs.declared.tables.Tables.{Tables}
 use Rattle.flow_workers.specs.declared.turn.Turn.{Turn}
 use Rattle.flow_workers.specs.declared.turn.Turn.TheVariants.{Ahead, Over}
 use Rattle.flow_workers.specs.Callers.{AreIdle}
-use Rattle.flow_workers.specs.Parts.{AreParts}
-use Rattle.flow_workers.specs.Turns.{ArePartsOf, IsDone, IsOver, IsPast}
-use Rattle.flow_workers.specs.Work.{AreSaid, RunFacts}
+use Rattle.flow_workers.specs.inner.Parts.{AreParts}
+use Rattle.flow_workers.specs.inner.Turns.{ArePartsOf, IsDone, IsOver, IsPast}
+use Rattle.flow_workers.specs.inner.Work.{AreSaid, RunFacts}
 
 module _ {A B R G K L : Type 0} (ga : Ghosts A K) (gb : Ghosts B L) where
   pub no_parts : ArePartsOf {R = R} {G = G} ga gb [] [] [] []

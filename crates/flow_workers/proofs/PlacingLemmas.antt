@@ -8,10 +8,10 @@ use Rattle.std.proofs.lemmas.List.{length-append, length-map, length-set}
 use Rattle.std.proofs.lemmas.Option.{slice_get_within}
 use lib.ListN.{get_elem?}
 use mathlib.Core.Option.{some, some-ne-none, some-injective}
-use Rattle.packet_view.specs.Captures.{Seen}
+use Rattle.packet_view.specs.Captures.{PacketFacts}
 use Rattle.packet_view.specs.Frames as frames
 use Rattle.packet_view.specs.Frames.{IsFrame}
-use Rattle.packet_view.specs.FrameSteps.{view_of}
+use Rattle.packet_view.specs.inner.FrameSteps.{view_of}
 use Rattle.packet_view.specs.declared.tuple.Mac.{Mac}
 use Rattle.packet_view.proofs.FrameLemmas.{view_only, view_shown}
 use Rattle.bihash_steps.proofs.Lists.{there, within}
@@ -22,8 +22,8 @@ use Rattle.flow_dealing.specs.Traces.{ArePlaced, AreViews, IsItemOf, Item, numbe
 use Rattle.flow_dealing.proofs.Merging.{worker_few}
 use Rattle.flow_dealing.proofs.Places.{after_map, all_at, all_from, before_map, zip_count}
 use Rattle.flow_workers.specs.declared.share.Said.{Said}
-use Rattle.flow_workers.specs.Work.{AreSaid, RunFacts}
-use Rattle.flow_workers.specs.Placing.{AgreesWith, AreAllSaid, ArePaired, IsSaid}
+use Rattle.flow_workers.specs.inner.Work.{AreSaid, RunFacts}
+use Rattle.flow_workers.specs.inner.Placing.{AgreesWith, AreAllSaid, ArePaired, IsSaid}
 use Rattle.flow_workers.proofs.WorkSteps.{IsAt, flow_at, no_numbers, numbers_cons}
 
 -- ---- One verdict more
@@ -93,7 +93,7 @@ placed_next said old xs k m x inside number verdict done = record {
 -- ---- Numbers of a worker's packets
 
 -- they rise from the first
-rises : (d : Deal) (w at : ℕ) (views : List frames.View) (k n : ℕ) → get_elem? (numbers_from d w at views) k ≡ some n → at ≤ n
+rises : (d : Deal) (w at : ℕ) (views : List frames.FrameFacts) (k n : ℕ) → get_elem? (numbers_from d w at views) k ≡ some n → at ≤ n
 rises d w at [] k n stands = absurd (some-ne-none n (sym (sym (ap (λ ns. get_elem? ns k) (no_numbers d w at)) ∙ stands)))
 rises d w at (view ∷ views) k n stands = go (worker_of d at (flow_shown view) == w) k (sym (ap (λ ns. get_elem? ns k) (numbers_cons d w at view views)) ∙ stands)
     (λ j h. let e = rises d w (at + 1) views j n h in omega arith)
@@ -105,7 +105,7 @@ rises d w at (view ∷ views) k n stands = go (worker_of d at (flow_shown view) 
     go false k h later = let e = later k h in omega arith
 
 -- and each comes once
-once : (d : Deal) (w at : ℕ) (views : List frames.View) (k l n : ℕ) → get_elem? (numbers_from d w at views) k ≡ some n
+once : (d : Deal) (w at : ℕ) (views : List frames.FrameFacts) (k l n : ℕ) → get_elem? (numbers_from d w at views) k ≡ some n
     → get_elem? (numbers_from d w at views) l ≡ some n → k ≡ l
 once d w at [] k l n one other = absurd (some-ne-none n (sym (sym (ap (λ ns. get_elem? ns k) (no_numbers d w at)) ∙ one)))
 once d w at (view ∷ views) k l n one other = go (worker_of d at (flow_shown view) == w) k l
@@ -126,7 +126,7 @@ once d w at (view ∷ views) k l n one other = go (worker_of d at (flow_shown vi
     go true (suc k) (suc l) h g same = ap suc (same k l h g)
     go false k l h g same = same k l h g
 
-alone_cons : (d : Deal) (at : ℕ) (view : frames.View) (views : List frames.View) → d.workers ≡ 1
+alone_cons : (d : Deal) (at : ℕ) (view : frames.FrameFacts) (views : List frames.FrameFacts) → d.workers ≡ 1
     → numbers_from d 0 at (view ∷ views) ≡ at ∷ numbers_from d 0 (at + 1) views
 alone_cons d at view views alone =
     let few = worker_few d at (flow_shown view) (let e = alone in omega arith) in
@@ -134,18 +134,18 @@ alone_cons d at view views alone =
     numbers_cons d 0 at view views ∙ ap (λ b. cond b (at ∷ numbers_from d 0 (at + 1) views) (numbers_from d 0 (at + 1) views)) mine
 
 -- a worker that is alone has each packet
-alone_at : (d : Deal) (at : ℕ) (views : List frames.View) (k n : ℕ) → d.workers ≡ 1 → get_elem? (numbers_from d 0 at views) k ≡ some n → n ≡ at + k
+alone_at : (d : Deal) (at : ℕ) (views : List frames.FrameFacts) (k n : ℕ) → d.workers ≡ 1 → get_elem? (numbers_from d 0 at views) k ≡ some n → n ≡ at + k
 alone_at d at [] k n alone stands = absurd (some-ne-none n (sym (sym (ap (λ ns. get_elem? ns k) (no_numbers d 0 at)) ∙ stands)))
 alone_at d at (view ∷ views) zero n alone stands =
     let e = some-injective at n (sym (ap (λ ns. get_elem? ns 0) (alone_cons d at view views alone)) ∙ stands) in omega arith
 alone_at d at (view ∷ views) (suc k) n alone stands =
     let e = alone_at d (at + 1) views k n alone (sym (ap (λ ns. get_elem? ns (suc k)) (alone_cons d at view views alone)) ∙ stands) in omega arith
 
-alone_count : (d : Deal) (at : ℕ) (views : List frames.View) → d.workers ≡ 1 → length (numbers_from d 0 at views) ≡ length views
+alone_count : (d : Deal) (at : ℕ) (views : List frames.FrameFacts) → d.workers ≡ 1 → length (numbers_from d 0 at views) ≡ length views
 alone_count d at [] alone = ap length (no_numbers d 0 at)
 alone_count d at (view ∷ views) alone = ap length (alone_cons d at view views alone) ∙ ap suc (alone_count d (at + 1) views alone)
 
-all_views : (own : Option Mac) (ps : List Seen) → (views : List frames.View) × AreViews own ps views
+all_views : (own : Option Mac) (ps : List PacketFacts) → (views : List frames.FrameFacts) × AreViews own ps views
 all_views own [] = ([], tt)
 all_views own (p ∷ ps) = let vs = all_views own ps in (view_of p.frame own ∷ vs.0, (view_shown p.frame own, vs.1))
 
@@ -214,7 +214,7 @@ module _ (run : RunFacts) (traces : List (List Item)) (all : List Said) (packets
       (subst (λ p. IsReading run.policy p j.reading) (sym packet) b.read) in
       sym a.dealt ∙ (ap (worker_of run.deal i.packet) (one ∙ sym other) ∙ (ap (λ n. worker_of run.deal n (flow_in j.reading)) same ∙ b.dealt))
     where
-      some_same : {p q : Seen} → Some p ≡ Some q → p ≡ q
+      some_same : {p q : PacketFacts} → Some p ≡ Some q → p ≡ q
       some_same e = cc
 
   one_place : (w : ℕ) (trace : List Item) (k l : ℕ) (i j : Item) → get_elem? traces w ≡ some trace → get_elem? trace k ≡ some i

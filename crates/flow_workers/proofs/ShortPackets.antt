@@ -1,9 +1,9 @@
 -- Only the reply to a packet's update says that there are no pages.
 use Rattle.std.proofs.Common.{◌≡◌, ◌∙◌, ◌+◌, ℕ, Bool, true, false, Option, Some, None, ap, refl, sym, subst}
 use Rattle.std.specs.Prelude.{if◌then◌else◌, option_map}
-use Rattle.packet_view.specs.Captures.{Seen}
+use Rattle.packet_view.specs.Captures.{PacketFacts}
 use Rattle.packet_view.specs.Frames as frames
-use Rattle.packet_view.specs.Frames.{View, viewed}
+use Rattle.packet_view.specs.Frames.{FrameFacts, frame_facts}
 use Rattle.packet_view.specs.declared.tuple.Mac.{Mac}
 use Rattle.acl_policy.specs.declared.rule.Action.{Action}
 use Rattle.acl_policy.specs.declared.rule.Action.TheVariants.{Deny, Permit, Reflect}
@@ -23,9 +23,9 @@ use Rattle.flow_filter.specs.Judged.{verdict_by_event, verdict_with}
 use Rattle.flow_dealing.specs.Dealings.{flow_shown}
 use Rattle.flow_dealing.specs.Views.{Views}
 use Rattle.flow_workers.specs.declared.viewed_packet.ViewedPacket.{ViewedPacket}
-use Rattle.flow_workers.specs.Preparing.{reading_with}
-use Rattle.flow_workers.specs.Shortages.{IsShort, IsShortAt}
-use Rattle.flow_workers.specs.ViewedPackets.{IsViewed}
+use Rattle.flow_workers.specs.inner.Preparing.{reading_with}
+use Rattle.flow_workers.specs.OutOfPages.{IsPacketOutOfPages, IsFlowOutOfPages}
+use Rattle.flow_workers.specs.inner.ViewedPackets.{IsViewed}
 use Rattle.flow_workers.proofs.JudgedPackets.{reading_in}
 
 abbrev IsNoPages : Reply → Type 0
@@ -61,7 +61,7 @@ told_no_pages p ruling found r = go (is_live_for p found) p.reflects
     go false false e = absurd (by_rules ruling e)
 
 -- a packet without an update has pages
-pub settled_has_pages : (times : Timeouts) (moment : ℕ) (view : View) (ruling : Ruling) (said : Verdict)
+pub settled_has_pages : (times : Timeouts) (moment : ℕ) (view : FrameFacts) (ruling : Ruling) (said : Verdict)
     → (update_of times (reading_with moment view ruling) ≡ None) × (said ≡ verdict_with times (reading_with moment view ruling) None)
     → said ≡ verdict.NoPages → ⊥
 settled_has_pages times moment frames.NotIp ruling said is e = let x = sym is.1 ∙ e in cc
@@ -71,7 +71,7 @@ settled_has_pages times moment (frames.Ip direction tuple) ruling said is e =
     by_rules ruling (sym (is.1 ∙ ap (λ u. verdict_by_event ruling u None) is.0) ∙ e)
 
 -- the update is that of the packet's flow
-flow_updated : (times : Timeouts) (moment : ℕ) (view : View) (ruling : Ruling) (u : Update)
+flow_updated : (times : Timeouts) (moment : ℕ) (view : FrameFacts) (ruling : Ruling) (u : Update)
     → update_of times (reading_with moment view ruling) ≡ Some u → (flow : Flow) × (flow_shown view ≡ Some flow) × (flow.key ≡ u.key)
 flow_updated times moment frames.NotIp ruling u is = absurd (let f : ⊥ = cc in f)
 flow_updated times moment frames.Malformed ruling u is = absurd (let f : ⊥ = cc in f)
@@ -83,19 +83,19 @@ flow_updated times moment (frames.Ip direction tuple) ruling u is = go (flow_of 
     go None e = absurd (let f : ⊥ = cc in f)
     go (Some flow) e = (flow, refl, (let same : update_in times moment tuple ruling flow ≡ u = cc in ap (λ (x : Update). x.key) same))
 
-pub short_packet : {A B K L : Type 0} (ga : Ghosts A K) (gb : Ghosts B L) (own : Option Mac) (times : Timeouts) (s : Seen) (p : ViewedPacket) (ruling : Ruling)
+pub short_packet : {A B K L : Type 0} (ga : Ghosts A K) (gb : Ghosts B L) (own : Option Mac) (times : Timeouts) (s : PacketFacts) (p : ViewedPacket) (ruling : Ruling)
     (u : Update) (w : Views) (r : Reply) (found : Option ℕ) → IsViewed own s p → update_of times (reading_in p ruling) ≡ Some u
-    → ((log2 left : ℕ) → r ≡ reply.NoPages log2 left → IsShortAt ga gb u.key w log2 left)
-    → verdict_of u.patch ruling found r ≡ verdict.NoPages → IsShort ga gb own s w
+    → ((log2 left : ℕ) → r ≡ reply.NoPages log2 left → IsFlowOutOfPages ga gb u.key w log2 left)
+    → verdict_of u.patch ruling found r ≡ verdict.NoPages → IsPacketOutOfPages ga gb own s w
 short_packet ga gb own times s p ruling u w r found seen asks short e =
     let told = told_no_pages u.patch ruling found r e in
-    let flow = flow_updated times p.moment (viewed p.frame.now) ruling u asks in
+    let flow = flow_updated times p.moment (frame_facts p.frame.now) ruling u asks in
     record {
-      view = viewed p.frame.now;
+      view = frame_facts p.frame.now;
       framed = seen.1;
       flow = flow.0;
       shown = flow.1;
       log2 = told.0;
       left = told.1;
-      short = subst (λ key. IsShortAt ga gb key w told.0 told.1) (sym flow.2) (short told.0 told.1 told.2);
+      short = subst (λ key. IsFlowOutOfPages ga gb key w told.0 told.1) (sym flow.2) (short told.0 told.1 told.2);
     }

@@ -17,10 +17,10 @@ use Rattle.flow_workers.specs.declared.tables.Tables.{Tables}
 use Rattle.flow_workers.specs.declared.turn.Turn.{Turn}
 use Rattle.flow_workers.specs.declared.turn.Turn.TheVariants.{Ahead, Over}
 use Rattle.flow_workers.specs.Callers.{AreIdle, views_of}
-use Rattle.flow_workers.specs.Fresh.{IsFresh}
-use Rattle.flow_workers.specs.Work.{Continues, IsWork, RunFacts}
-use Rattle.flow_workers.specs.Jobs.{IsShareOf, run_facts}
-use Rattle.flow_workers.specs.Turns.{Becomes, CanTake, IsAhead, IsDone, IsJob, IsOver}
+use Rattle.flow_workers.specs.inner.Fresh.{IsFresh}
+use Rattle.flow_workers.specs.inner.Work.{Continues, IsWork, RunFacts}
+use Rattle.flow_workers.specs.inner.Jobs.{IsShareOf, run_facts}
+use Rattle.flow_workers.specs.inner.Turns.{Becomes, CanTake, IsAhead, IsDone, IsJob, IsOver}
 
 -- a fact of each element, when one more comes
 pub below_push : {X : Type 0} (P : ℕ → X → Type 0) (xs : List X) (x : X) → ((i : ℕ) (d : X) → i < length xs → P i (get_or xs i d)) → P (length xs) x
@@ -41,9 +41,6 @@ pub may_turn : {A B R G K L : Type 0} (ga : Ghosts A K) (gb : Ghosts B L) (table
     (t : Turn A B R G K L ga gb) → IsAhead ga gb tables run w t → CanTake ga gb t
 may_turn ga gb tables run w (Ahead job) is = is.can
 may_turn ga gb tables run w (Over result) is = tt
-
-pub first_fresh : (z : Sizes) (v : View) → v ≡ first_view z → IsFresh v
-first_fresh z v is = subst IsFresh (sym is) (record { number = 1; records = refl; openings = refl })
 
 -- ---- What a worker leaves
 

@@ -5,7 +5,7 @@ use Rattle.std.specs.List.{All}
 use Rattle.std.proofs.lemmas.Bool.{ne_eqb}
 use Rattle.std.proofs.lemmas.List.Elements.{All-nil, All-push}
 use Rattle.std.proofs.lemmas.List.{map-append}
-use Rattle.packet_view.specs.Captures.{Seen}
+use Rattle.packet_view.specs.Captures.{PacketFacts}
 use Rattle.packet_view.specs.Frames as frames
 use Rattle.packet_view.specs.Frames.{IsFrame}
 use Rattle.packet_view.specs.declared.tuple.Mac.{Mac}
@@ -33,7 +33,7 @@ use Rattle.flow_dealing.specs.Views.{Views}
 use Rattle.flow_dealing.specs.Dealings.{Deal, flow_in, flow_shown, worker_of}
 use Rattle.flow_dealing.specs.Traces.{AreViews, IsCallAt, IsItem, IsItemOf, Item, call_in, calls_in, numbers_from, numbers_of, verdict_in}
 use Rattle.flow_workers.specs.Judging.{IsEntered, IsEnteredBy, IsJudged}
-use Rattle.flow_workers.specs.Work.{AreSaid, Continues, IsWork, RunFacts}
+use Rattle.flow_workers.specs.inner.Work.{AreSaid, Continues, IsWork, RunFacts}
 
 -- ---- Records that go on
 
@@ -129,7 +129,7 @@ calls_push times family (x ∷ xs) i = ap (call_in family (update_of times x.rea
 
 -- ---- Dealing
 
-pub numbers_cons : (d : Deal) (w at : ℕ) (view : frames.View) (views : List frames.View) → numbers_from d w at (view ∷ views)
+pub numbers_cons : (d : Deal) (w at : ℕ) (view : frames.FrameFacts) (views : List frames.FrameFacts) → numbers_from d w at (view ∷ views)
     ≡ cond (worker_of d at (flow_shown view) == w) (at ∷ numbers_from d w (at + 1) views) (numbers_from d w (at + 1) views)
 unfolding numbers_from
 numbers_cons d w at view views = refl
@@ -139,24 +139,24 @@ unfolding numbers_from
 no_numbers d w at = refl
 
 -- the view at a place
-view_there : (own : Option Mac) (packets : List Seen) (views : List frames.View) (at : ℕ) (packet : Seen) (this : frames.View) → AreViews own packets views
-    → slice_get packets at ≡ Some packet → ((other : frames.View) → IsFrame packet.frame own other → other ≡ this)
+view_there : (own : Option Mac) (packets : List PacketFacts) (views : List frames.FrameFacts) (at : ℕ) (packet : PacketFacts) (this : frames.FrameFacts) → AreViews own packets views
+    → slice_get packets at ≡ Some packet → ((other : frames.FrameFacts) → IsFrame packet.frame own other → other ≡ this)
     → drop at views ≡ this ∷ drop (suc at) views
 view_there own [] [] at packet this all stands only = let f : ⊥ = cc in absurd f
 view_there own [] (view ∷ views) at packet this all stands only = absurd all
 view_there own (p ∷ ps) [] at packet this all stands only = absurd all
-view_there own (p ∷ ps) (view ∷ views) zero packet this all stands only = ap (λ x. x ∷ views) (only view (subst (λ (q : Seen). IsFrame q.frame own view) (let e : p ≡ packet = cc in e) all.0))
+view_there own (p ∷ ps) (view ∷ views) zero packet this all stands only = ap (λ x. x ∷ views) (only view (subst (λ (q : PacketFacts). IsFrame q.frame own view) (let e : p ≡ packet = cc in e) all.0))
 view_there own (p ∷ ps) (view ∷ views) (suc at) packet this all stands only = view_there own ps views at packet this all.1 stands only
 
-view_at : (own : Option Mac) (packets : List Seen) (views : List frames.View) (at : ℕ) (packet : Seen) (this : frames.View) → AreViews own packets views
-    → slice_get packets at ≡ Some packet → ((other : frames.View) → IsFrame packet.frame own other → other ≡ this)
+view_at : (own : Option Mac) (packets : List PacketFacts) (views : List frames.FrameFacts) (at : ℕ) (packet : PacketFacts) (this : frames.FrameFacts) → AreViews own packets views
+    → slice_get packets at ≡ Some packet → ((other : frames.FrameFacts) → IsFrame packet.frame own other → other ≡ this)
     → drop at views ≡ this ∷ drop (at + 1) views
 view_at own packets views at packet this all stands only = view_there own packets views at packet this all stands only
     ∙ ap (λ k. this ∷ drop k views) (sym (add-one at))
 
 -- ---- A worker's packet, and another's
 
-flow_of_reading : (policy : PolicyFacts) (moment : ℕ) (view : frames.View) (reading : Reading) → IsReadingOf policy moment view reading
+flow_of_reading : (policy : PolicyFacts) (moment : ℕ) (view : frames.FrameFacts) (reading : Reading) → IsReadingOf policy moment view reading
     → flow_in reading ≡ flow_shown view
 flow_of_reading policy moment frames.NotIp reading is = ap flow_in is
 flow_of_reading policy moment frames.Malformed reading is = ap flow_in is
@@ -168,20 +168,20 @@ pub record IsWorkUntil (run : RunFacts) (worker at : ℕ) (v w : Views) (verdict
   pub trace : List Item
   pub items : All (IsItem run.deal.layout run.times) trace
   pub of : All (IsItemOf run.deal worker run.policy run.packets) trace
-  pub dealt : (views : List frames.View) → AreViews run.policy.own run.packets views
+  pub dealt : (views : List frames.FrameFacts) → AreViews run.policy.own run.packets views
       → numbers_of trace ++ numbers_from run.deal worker at (drop at views) ≡ numbers_from run.deal worker 0 views
   pub four : Continues v.four w.four (calls_in run.times V4 trace)
   pub six : Continues v.six w.six (calls_in run.times V6 trace)
   pub said : AreSaid run trace verdicts numbers
 
 -- what is known of the packet at a place, and of its frame
-pub record IsAt (run : RunFacts) (at : ℕ) (packet : Seen) (view : frames.View) : Type 0 where
+pub record IsAt (run : RunFacts) (at : ℕ) (packet : PacketFacts) (view : frames.FrameFacts) : Type 0 where
   pub stands : slice_get run.packets at ≡ Some packet
   pub shown : IsFrame packet.frame run.policy.own view
-  pub only : (other : frames.View) → IsFrame packet.frame run.policy.own other → other ≡ view
+  pub only : (other : frames.FrameFacts) → IsFrame packet.frame run.policy.own other → other ≡ view
 
 -- the flow that a packet's reading has is the one that its frame shows
-pub flow_at : (run : RunFacts) (at : ℕ) (packet : Seen) (view : frames.View) (reading : Reading) → IsAt run at packet view
+pub flow_at : (run : RunFacts) (at : ℕ) (packet : PacketFacts) (view : frames.FrameFacts) (reading : Reading) → IsAt run at packet view
     → IsReading run.policy packet reading → flow_in reading ≡ flow_shown view
 flow_at run at packet view reading is read = flow_of_reading run.policy packet.moment read.0 reading read.2 ∙ ap flow_shown (is.only read.0 read.1)
 
@@ -197,7 +197,7 @@ work_none run w v = record {
 }
 
 -- the numbers from a packet on, where its view is known
-numbers_at : (run : RunFacts) (w at : ℕ) (packet : Seen) (view : frames.View) → IsAt run at packet view → (views : List frames.View)
+numbers_at : (run : RunFacts) (w at : ℕ) (packet : PacketFacts) (view : frames.FrameFacts) → IsAt run at packet view → (views : List frames.FrameFacts)
     → AreViews run.policy.own run.packets views → (t : Bool) → (worker_of run.deal at (flow_shown view) == w) ≡ t
     → numbers_from run.deal w at (drop at views)
     ≡ cond t (at ∷ numbers_from run.deal w (at + 1) (drop (at + 1) views)) (numbers_from run.deal w (at + 1) (drop (at + 1) views))
@@ -206,7 +206,7 @@ numbers_at run w at packet view is views all t test =
     ∙ (numbers_cons run.deal w at view (drop (at + 1) views)
     ∙ ap (λ b. cond b (at ∷ numbers_from run.deal w (at + 1) (drop (at + 1) views)) (numbers_from run.deal w (at + 1) (drop (at + 1) views))) test)
 
-pub work_passed : (run : RunFacts) (w at : ℕ) (v x : Views) (verdicts : List Verdict) (numbers : List ℕ) (packet : Seen) (view : frames.View)
+pub work_passed : (run : RunFacts) (w at : ℕ) (v x : Views) (verdicts : List Verdict) (numbers : List ℕ) (packet : PacketFacts) (view : frames.FrameFacts)
     → IsAt run at packet view → worker_of run.deal at (flow_shown view) ≢ w
     → IsWorkUntil run w at v x verdicts numbers → IsWorkUntil run w (at + 1) v x verdicts numbers
 work_passed run w at v x verdicts numbers packet view is other old = record {
@@ -230,7 +230,7 @@ said_push run trace i verdicts numbers more verdict old is noted = record {
   of = λ several. noted several ∙ (ap (λ ns. ns ++ i.packet ∷ []) (old.of several) ∙ sym (map-append (λ (k : Item). k.packet) trace (i ∷ [])));
 }
 
-pub work_push : (run : RunFacts) (w at : ℕ) (v x y : Views) (verdicts : List Verdict) (numbers more : List ℕ) (packet : Seen) (view : frames.View)
+pub work_push : (run : RunFacts) (w at : ℕ) (v x y : Views) (verdicts : List Verdict) (numbers more : List ℕ) (packet : PacketFacts) (view : frames.FrameFacts)
     (verdict : Verdict) → IsAt run at packet view → worker_of run.deal at (flow_shown view) ≡ w
     → IsJudged run.deal.layout run.times run.policy packet x y verdict
     → (run.deal.workers ≢ 1 → more ≡ numbers ++ at ∷ [])
@@ -272,7 +272,7 @@ work_push run w at v x y verdicts numbers more packet view verdict is mine j not
 
 -- ---- Packets that are taken one by one
 
--- the packet that is taken next stands at the number of those that were taken
+-- the packet that is taken next is at the number of those that were taken
 pub stands_at : {X : Type 0} (xs ys : List X) (at : ℕ) (x : X) → drop at xs ≡ x ∷ ys → slice_get xs at ≡ Some x
 stands_at [] ys zero x e = absurd (let f : ⊥ = cc in f)
 stands_at [] ys (suc at) x e = absurd (let f : ⊥ = cc in f)
@@ -299,8 +299,8 @@ nothing_left [] zero none = refl
 nothing_left [] (suc at) none = refl
 nothing_left (x ∷ xs) at none = absurd (let f : ⊥ = cc in f)
 
--- behind all packets nothing is left to look at
-no_views : (own : Option Mac) (packets : List Seen) (views : List frames.View) (at : ℕ) → AreViews own packets views → drop at packets ≡ [] → drop at views ≡ []
+-- after all packets nothing is left to look at
+no_views : (own : Option Mac) (packets : List PacketFacts) (views : List frames.FrameFacts) (at : ℕ) → AreViews own packets views → drop at packets ≡ [] → drop at views ≡ []
 no_views own [] [] at all none = nothing_left [] at refl
 no_views own [] (view ∷ views) at all none = absurd all
 no_views own (p ∷ ps) [] at all none = absurd all
@@ -308,7 +308,7 @@ no_views own (p ∷ ps) (view ∷ views) zero all none = absurd (let f : ⊥ = c
 no_views own (p ∷ ps) (view ∷ views) (suc at) all none = no_views own ps views at all.1 none
 
 all_looked_at : (run : RunFacts) (w at : ℕ) (v u : Views) (verdicts : List Verdict) (numbers : List ℕ) → drop at run.packets ≡ []
-    → (work : IsWorkUntil run w at v u verdicts numbers) (views : List frames.View) → AreViews run.policy.own run.packets views
+    → (work : IsWorkUntil run w at v u verdicts numbers) (views : List frames.FrameFacts) → AreViews run.policy.own run.packets views
     → numbers_of work.trace ≡ numbers_from run.deal w 0 views
 all_looked_at run w at v u verdicts numbers none work views all =
     sym (ap (λ vs. numbers_of work.trace ++ numbers_from run.deal w at vs) (no_views run.policy.own run.packets views at all none)

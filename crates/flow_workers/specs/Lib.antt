@@ -1,13 +1,5 @@
 pub mod Callers
-pub mod Fresh
-pub mod Jobs
 pub mod Judging
-pub mod Parts
-pub mod Placing
-pub mod Preparing
-pub mod Shortages
-pub mod Turns
-pub mod Updates
+pub mod OutOfPages
 pub mod Verdicts
-pub mod ViewedPackets
-pub mod Work
+pub mod inner

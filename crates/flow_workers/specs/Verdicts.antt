@@ -1,6 +1,6 @@
 -- The verdict of one packet, said of the callers that asked for it.
 use Rattle.std.specs.Prelude.{◌≡◌}
-use Rattle.packet_view.specs.Captures.{Seen}
+use Rattle.packet_view.specs.Captures.{PacketFacts}
 use Rattle.acl_policy.specs.Policies.{PolicyFacts}
 use Rattle.bihash_words.specs.declared.shape.Shape.{Ghosts}
 use Rattle.session_state.specs.declared.timeouts.Timeouts.{Timeouts}
@@ -10,20 +10,20 @@ use Rattle.flow_filter.specs.OneThread.{layout_of}
 use Rattle.flow_workers.specs.declared.tables.Callers.{Callers}
 use Rattle.flow_workers.specs.Callers.{views_of}
 use Rattle.flow_workers.specs.Judging.{IsJudged, IsRefused}
-use Rattle.flow_workers.specs.Shortages.{IsShort}
+use Rattle.flow_workers.specs.OutOfPages.{IsPacketOutOfPages}
 
 -- the packet was judged
-abbrev pub HasVerdict : {A B K L : Type 0} (ga : Ghosts A K) (gb : Ghosts B L) → Timeouts → PolicyFacts → Seen
+abbrev pub HasVerdict : {A B K L : Type 0} (ga : Ghosts A K) (gb : Ghosts B L) → Timeouts → PolicyFacts → PacketFacts
     → Callers A B K L ga gb → Callers A B K L ga gb → Verdict → Type 0
 HasVerdict ga gb times policy s old new verdict =
     IsJudged (layout_of ga gb) times policy s (views_of ga gb old) (views_of ga gb new) verdict
 
 -- the packet met another caller's change or lock
-abbrev pub HasNoVerdict : {A B K L : Type 0} (ga : Ghosts A K) (gb : Ghosts B L) → Timeouts → PolicyFacts → Seen
+abbrev pub HasNoVerdict : {A B K L : Type 0} (ga : Ghosts A K) (gb : Ghosts B L) → Timeouts → PolicyFacts → PacketFacts
     → Callers A B K L ga gb → Callers A B K L ga gb → Type 0
 HasNoVerdict ga gb times policy s old new = IsRefused (layout_of ga gb) times policy s (views_of ga gb old) (views_of ga gb new)
 
 -- no pages are said where there were too few
-abbrev pub ShowsShortage : {A B K L : Type 0} (ga : Ghosts A K) (gb : Ghosts B L) → PolicyFacts → Seen
+abbrev pub ShowsOutOfPages : {A B K L : Type 0} (ga : Ghosts A K) (gb : Ghosts B L) → PolicyFacts → PacketFacts
     → Callers A B K L ga gb → Verdict → Type 0
-ShowsShortage ga gb policy s new verdict = verdict ≡ NoPages → IsShort ga gb policy.own s (views_of ga gb new)
+ShowsOutOfPages ga gb policy s new verdict = verdict ≡ NoPages → IsPacketOutOfPages ga gb policy.own s (views_of ga gb new)

@@ -8,7 +8,7 @@ ghost use Rattle.bihash_steps.specs.Steps.{IsToldWhole};
 ghost use Rattle.bihash_steps.specs.Views.{nothing_held};
 ghost use Rattle.session_state.specs.declared.timeouts.Timeouts.{Timeouts};
 ghost use Rattle.flow_dealing.specs.Traces.{HaveTraces, Item};
-ghost use Rattle.flow_workers.specs.Fresh.{IsFresh};
+ghost use Rattle.flow_workers.specs.inner.Fresh.{IsFresh};
 
 use bihash_table::{Caller, Sessions, SplitFault};
 use bihash_words::Shape;

@@ -1,6 +1,6 @@
 //! What all workers gave back.
 ghost use Rattle.std.specs.Prelude.{All, IfOk};
-ghost use Rattle.flow_workers.specs.Turns.{ArePartsOf, IsPast};
+ghost use Rattle.flow_workers.specs.inner.Turns.{ArePartsOf, IsPast};
 
 use crate::gate::Gate;
 use crate::share::{Parts, Share};

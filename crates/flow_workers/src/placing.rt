@@ -4,8 +4,8 @@ ghost use lib.ListN.{get_elem?};
 ghost use mathlib.Core.Option.{some};
 ghost use Rattle.flow_filter.specs.declared.verdict.Verdict.{Verdict};
 ghost use Rattle.flow_dealing.specs.Traces.{ArePlaced, Item};
-ghost use Rattle.flow_workers.specs.Work.{RunFacts};
-ghost use Rattle.flow_workers.specs.Placing.{AgreesWith, AreAllSaid, ArePaired, IsSaid};
+ghost use Rattle.flow_workers.specs.inner.Work.{RunFacts};
+ghost use Rattle.flow_workers.specs.inner.Placing.{AgreesWith, AreAllSaid, ArePaired, IsSaid};
 
 use crate::share::Said;
 use flow_filter::Verdict;

@@ -15,7 +15,7 @@ pub enum Turn<'t, 'a, A: Shape, B: Shape, R: Wait, G: Gate> {
 }
 
 impl<'t, 'a, A: Shape, B: Shape, R: Wait, G: Gate> Task for Turn<'t, 'a, A, B, R, G> {
-    ghost use Rattle.flow_workers.specs.Turns.{Becomes, CanTake};
+    ghost use Rattle.flow_workers.specs.inner.Turns.{Becomes, CanTake};
 
     ghost can_run = { CanTake ⟦<A as Shape>⟧ ⟦<B as Shape>⟧ };
 

@@ -5,14 +5,14 @@ ghost use Rattle.bihash_words.specs.declared.patch.Reply.TheVariants.{NoPages};
 ghost use Rattle.bihash_steps.specs.Callers.{IsLawfulCaller};
 ghost use Rattle.bihash_steps.specs.Seats.{with_view};
 ghost use Rattle.bihash_steps.specs.Views.{nothing_held};
-ghost use Rattle.bihash_table.specs.Promise.{IsAnswered, IsTurnedAway};
-ghost use Rattle.bihash_table.specs.Shortage.{IsShortage};
+ghost use Rattle.bihash_table.specs.Promise.{IsAnswered, IsContended};
+ghost use Rattle.bihash_table.specs.OutOfPages.{IsOutOfPages};
 ghost use Rattle.flow_filter.specs.OneThread.{layout_of};
 ghost use Rattle.flow_filter.specs.Updates.{words_of};
 ghost use Rattle.flow_workers.specs.Callers.{AreIdle, AreSame, AreShapes, views_of};
 ghost use Rattle.flow_workers.specs.Judging.{IsAway, IsEntered};
-ghost use Rattle.flow_workers.specs.Shortages.{IsShortAt};
-ghost use Rattle.flow_workers.specs.Updates.{told};
+ghost use Rattle.flow_workers.specs.OutOfPages.{IsFlowOutOfPages};
+ghost use Rattle.flow_workers.specs.inner.Updates.{told};
 
 use crate::tables::{Callers, Tables};
 use bihash_table::{Caller, Contended, Sessions};
@@ -33,9 +33,9 @@ fn try_update_in<S: Shape, P: Patch>(
     ensures same { caller.new.seat ≡ with_view caller.old.seat caller.new.seat.view }
     ensures answered { IfOk result (λ reply. IsAnswered (sizes_of S.Shape) caller.old.seat.view caller.new.seat.view
         (told words.now (P.decision patch.now) reply)) }
-    ensures no_pages { IfOk result (λ reply. (log2 left : ℕ) → reply ≡ NoPages log2 left → IsShortage ⟦<S as Shape>⟧
+    ensures no_pages { IfOk result (λ reply. (log2 left : ℕ) → reply ≡ NoPages log2 left → IsOutOfPages ⟦<S as Shape>⟧
         caller.new.seat.view (bucket_of (sizes_of S.Shape) words.now) (S.key_of words.now) log2 left) }
-    ensures contended { IfErr result (λ _. IsTurnedAway (sizes_of S.Shape) caller.old.seat.view caller.new.seat.view
+    ensures contended { IfErr result (λ _. IsContended (sizes_of S.Shape) caller.old.seat.view caller.new.seat.view
         (bucket_of (sizes_of S.Shape) words.now)) }
     ensures lone { caller.old.seat.view.lone ≡ true → is_ok result ≡ true }
     ensures lawful { IsLawfulCaller (sizes_of S.Shape) caller.new.seat.view }
@@ -57,7 +57,7 @@ fn update_in<S: Shape, P: Patch, R: Wait>(
     ensures same { caller.new.seat ≡ with_view caller.old.seat caller.new.seat.view }
     ensures answered { IsAnswered (sizes_of S.Shape) caller.old.seat.view caller.new.seat.view
         (told words.now (P.decision patch.now) result) }
-    ensures no_pages { (log2 left : ℕ) → result ≡ NoPages log2 left → IsShortage ⟦<S as Shape>⟧
+    ensures no_pages { (log2 left : ℕ) → result ≡ NoPages log2 left → IsOutOfPages ⟦<S as Shape>⟧
         caller.new.seat.view (bucket_of (sizes_of S.Shape) words.now) (S.key_of words.now) log2 left }
     ensures lawful { IsLawfulCaller (sizes_of S.Shape) caller.new.seat.view }
 {
@@ -79,7 +79,7 @@ pub fn try_update<A: Shape, B: Shape, P: Patch>(
         (told (words_of key) (P.decision patch.now) reply)
         (views_of ⟦<A as Shape>⟧ ⟦<B as Shape>⟧ callers.old) (views_of ⟦<A as Shape>⟧ ⟦<B as Shape>⟧ callers.new)) }
     ensures no_pages { IfOk result (λ reply. (log2 left : ℕ) → reply ≡ NoPages log2 left
-        → IsShortAt ⟦<A as Shape>⟧ ⟦<B as Shape>⟧ key (views_of ⟦<A as Shape>⟧ ⟦<B as Shape>⟧ callers.new) log2 left) }
+        → IsFlowOutOfPages ⟦<A as Shape>⟧ ⟦<B as Shape>⟧ key (views_of ⟦<A as Shape>⟧ ⟦<B as Shape>⟧ callers.new) log2 left) }
     ensures contended { IfErr result (λ _. IsAway (layout_of ⟦<A as Shape>⟧ ⟦<B as Shape>⟧) key
         (views_of ⟦<A as Shape>⟧ ⟦<B as Shape>⟧ callers.old) (views_of ⟦<A as Shape>⟧ ⟦<B as Shape>⟧ callers.new)) }
     ensures lone { callers.old.four.seat.view.lone ≡ true → callers.old.six.seat.view.lone ≡ true
@@ -111,7 +111,7 @@ pub fn update<A: Shape, B: Shape, P: Patch, R: Wait>(
         (told (words_of key) (P.decision patch.now) result)
         (views_of ⟦<A as Shape>⟧ ⟦<B as Shape>⟧ callers.old) (views_of ⟦<A as Shape>⟧ ⟦<B as Shape>⟧ callers.new) }
     ensures no_pages { (log2 left : ℕ) → result ≡ NoPages log2 left
-        → IsShortAt ⟦<A as Shape>⟧ ⟦<B as Shape>⟧ key (views_of ⟦<A as Shape>⟧ ⟦<B as Shape>⟧ callers.new) log2 left }
+        → IsFlowOutOfPages ⟦<A as Shape>⟧ ⟦<B as Shape>⟧ key (views_of ⟦<A as Shape>⟧ ⟦<B as Shape>⟧ callers.new) log2 left }
 {
     match key {
         FlowKey::Four(words) => {

@@ -1,7 +1,7 @@
 //! A packet whose frame was viewed.
 ghost use Rattle.std.specs.Prelude.{◌≡◌, ◌<◌};
 ghost use Rattle.std.specs.Option.{ForSome};
-ghost use Rattle.packet_view.specs.Frames.{viewed};
+ghost use Rattle.packet_view.specs.Frames.{frame_facts};
 ghost use Rattle.flow_dealing.specs.Dealings.{flow_shown};
 
 use packet_view::{Frame, Packet};
@@ -15,13 +15,13 @@ pub struct ViewedPacket<'a> {
     pub frame: &'a Frame,
     /// `None`: the packet takes no part in sessions.
     pub flow: &'a Option<Flow>,
-    pub ghost shown: { flow.now ≡ flow_shown (viewed frame.now) },
+    pub ghost shown: { flow.now ≡ flow_shown (frame_facts frame.now) },
     pub ghost of_two: { ForSome flow.now (λ f. f.side < 2) },
 }
 
 /// The flow of a packet with this frame. `None`: it takes no part in sessions.
 pub fn flow_in(frame: &Frame) -> Option<Flow>
-    ensures shown { result ≡ flow_shown (viewed frame.now) }
+    ensures shown { result ≡ flow_shown (frame_facts frame.now) }
     ensures side { ForSome result (λ f. f.side < 2) }
 {
     match frame {
@@ -32,18 +32,18 @@ pub fn flow_in(frame: &Frame) -> Option<Flow>
 
 impl<'a> ViewedPacket<'a> {
     ghost use Rattle.std.specs.Prelude.{Option};
-    ghost use Rattle.packet_view.specs.Captures.{seen};
-    ghost use Rattle.packet_view.specs.Frames.{IsFrame, viewed};
+    ghost use Rattle.packet_view.specs.Captures.{packet_facts};
+    ghost use Rattle.packet_view.specs.Frames.{IsFrame, frame_facts};
     ghost use Rattle.packet_view.specs.declared.tuple.Mac.{Mac};
     ghost use Rattle.flow_dealing.specs.Dealings.{flow_shown};
-    ghost use Rattle.flow_workers.specs.ViewedPackets.{IsViewed};
+    ghost use Rattle.flow_workers.specs.inner.ViewedPackets.{IsViewed};
 
     /// The packet, whose frame turned out to be this and shows this flow.
     pub fn new(packet: &Packet<'_>, frame: &'a Frame, flow: &'a Option<Flow>) -> ViewedPacket<'a>
-        requires shown { flow.now ≡ flow_shown (viewed frame.now) }
+        requires shown { flow.now ≡ flow_shown (frame_facts frame.now) }
         requires side { ForSome flow.now (λ f. f.side < 2) }
-        ensures seen { (own : Option Mac) → IsFrame packet.now.frame.now own (viewed frame.now)
-            → IsViewed own (seen packet.now) result }
+        ensures seen { (own : Option Mac) → IsFrame packet.now.frame.now own (frame_facts frame.now)
+            → IsViewed own (packet_facts packet.now) result }
         ensures frame { result.frame.now ≡ frame.now }
     {
         ViewedPacket {

@@ -3,7 +3,7 @@ ghost use Rattle.std.specs.Prelude.{◌≡◌, ◌<◌, ◌++◌, ◌∷◌, [],
 ghost use Rattle.flow_filter.specs.OneThread.{layout_of};
 ghost use Rattle.flow_dealing.specs.Dealings.{worker_by};
 ghost use Rattle.flow_workers.specs.Callers.{AreShapes};
-ghost use Rattle.flow_workers.specs.Jobs.{CanWork, IsShareOf};
+ghost use Rattle.flow_workers.specs.inner.Jobs.{CanWork, IsShareOf};
 
 use crate::gate::Gate;
 use crate::judging::judge_viewed;

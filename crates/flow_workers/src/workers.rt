@@ -7,10 +7,10 @@ ghost use Rattle.flow_filter.specs.OneThread.{AreVerdicts, layout_of};
 ghost use Rattle.flow_dealing.specs.declared.dealing.Dealing.TheVariants.{Bucket};
 ghost use Rattle.flow_dealing.specs.Runs.{AreFew, AreJudged, HasPagesIn, HavePages};
 ghost use Rattle.flow_workers.specs.Callers.{AreIdle, AreShapes};
-ghost use Rattle.flow_workers.specs.Fresh.{IsFresh};
-ghost use Rattle.flow_workers.specs.Jobs.{run_facts};
-ghost use Rattle.flow_workers.specs.Parts.{AreParts};
-ghost use Rattle.flow_workers.specs.Turns.{Becomes, CanTake, IsAhead, IsPast};
+ghost use Rattle.flow_workers.specs.inner.Fresh.{IsFresh};
+ghost use Rattle.flow_workers.specs.inner.Jobs.{run_facts};
+ghost use Rattle.flow_workers.specs.inner.Parts.{AreParts};
+ghost use Rattle.flow_workers.specs.inner.Turns.{Becomes, CanTake, IsAhead, IsPast};
 
 use crate::gate::Gate;
 use crate::numbers::{join_whole, split_one};

@@ -6,8 +6,8 @@ use Rattle.packet_view.specs.declared.capture.CheckedCapture.{CheckedCapture}
 use Rattle.packet_view.specs.declared.capture.CaptureFault.{CaptureFault}
 use Rattle.packet_view.specs.declared.capture.CaptureFault.TheVariants as fault
 use Rattle.packet_view.specs.CheckedCaptures.{packets_of}
-use Rattle.packet_view.specs.Captures.{AreRecords, End, HasHeader, HasRecord, IsCapture, IsCaptureFault, IsEnd, IsHeaderFault, IsTooLong, Part, Nothing, Cut, TooLong, Seen, Truncated, Whole, end_of}
-use Rattle.packet_view.specs.RecordSteps.{Checks, part_of}
+use Rattle.packet_view.specs.Captures.{AreRecords, End, HasHeader, HasRecord, IsCapture, IsCaptureFault, IsEnd, IsHeaderFault, IsTooLong, PieceFacts, Nothing, Cut, TooLong, PacketFacts, Truncated, Whole, end_of}
+use Rattle.packet_view.specs.inner.RecordSteps.{Checks, part_of}
 use Rattle.packet_view.proofs.RecordLemmas.{IsStop, Stops, part_only, records_once}
 
 pub fault_of_header : (bytes : List ℕ) (found : CaptureFault) → IsHeaderFault bytes found → IsCaptureFault bytes found
@@ -18,17 +18,8 @@ fault_of_header bytes fault.LinkType h = h
 fault_of_header bytes (fault.LongRecord number) h = absurd h
 fault_of_header bytes fault.Memory h = absurd h
 
--- a fault stands in the header, or there is none in it
-pub header_of_fault : (bytes : List ℕ) (found : CaptureFault) → IsCaptureFault bytes found → ((order : Order) × HasHeader order bytes) ⊎ IsHeaderFault bytes found
-header_of_fault bytes fault.Short h = inr h
-header_of_fault bytes fault.Magic h = inr h
-header_of_fault bytes fault.Version h = inr h
-header_of_fault bytes fault.LinkType h = inr h
-header_of_fault bytes (fault.LongRecord number) h = inl (h.0, h.3)
-header_of_fault bytes fault.Memory h = absurd h
-
 -- what stands where the whole records end
-part_at : End → Part
+part_at : End → PieceFacts
 part_at Whole = Nothing
 part_at Truncated = Cut
 
@@ -57,7 +48,7 @@ unfolding part_at
 not_both order rest Whole h long = let e = end_part order rest Whole h in let f = part_only order rest TooLong long in cc
 not_both order rest Truncated h long = let e = end_part order rest Truncated h in let f = part_only order rest TooLong long in cc
 
--- the header stands in one order, and has no fault
+-- the header is in one order, and has no fault
 pub record IsHeaderOf (order : Order) (bytes : List ℕ) : Type 0 where
   pub right : HasHeader order bytes
   pub one : (other : Order) → HasHeader other bytes → other ≡ order
@@ -78,7 +69,7 @@ module _ (order : Order) (bytes : List ℕ) (header : IsHeaderOf order bytes) wh
   checks_fault (Err fault.Version) h = absurd h
   checks_fault (Err fault.LinkType) h = absurd h
 
-  pub checks_accepts : (result : Result CheckedCapture CaptureFault) → Checks order (drop 24 bytes) result → (packets : List Seen) (end : End) → IsCapture bytes packets end
+  pub checks_accepts : (result : Result CheckedCapture CaptureFault) → Checks order (drop 24 bytes) result → (packets : List PacketFacts) (end : End) → IsCapture bytes packets end
       → MatchResult result (λ checked. (packets_of checked.records ≡ packets) × (end_of checked.truncated ≡ end)) (λ _. ⊥)
   checks_accepts (Ok checked) (rest, all, stop) packets end (other, left, right, same, last) =
       let e = header.one other right in
@@ -113,7 +104,7 @@ module _ (order : Order) (bytes : List ℕ) (header : IsHeaderOf order bytes) wh
       let all_too : AreRecords order (drop 24 bytes) others left = rw (← e) same in
       let long_too : IsTooLong order left = rw (← e) long_other in
       let once = records_once order (drop 24 bytes) packets others rest left all (long_stops order rest long) all_too (long_stops order left long_too) in
-      let counts : n ≡ number = count ∙ ap (λ (ps : List Seen). length ps + 1) once.0 ∙ sym count_other in
+      let counts : n ≡ number = count ∙ ap (λ (ps : List PacketFacts). length ps + 1) once.0 ∙ sym count_other in
       ap (λ m. Err (fault.LongRecord m)) counts
   long_accepts (Err fault.Memory) h number g = absurd h
   long_accepts (Err fault.Short) h number g = absurd h
@@ -131,7 +122,7 @@ module _ (order : Order) (bytes : List ℕ) (header : IsHeaderOf order bytes) wh
   checks_refuses result h fault.Memory g = absurd g
 
 -- a capture of a packet has a record
-pub has_record : (bytes : List ℕ) (packets : List Seen) (end : End) (before behind : List Seen) (packet : Seen) → IsCapture bytes packets end
+pub has_record : (bytes : List ℕ) (packets : List PacketFacts) (end : End) (before behind : List PacketFacts) (packet : PacketFacts) → IsCapture bytes packets end
     → before ++ packet ∷ behind ≡ packets → HasRecord bytes
 has_record bytes [] end [] behind packet is e = absurd (let f : ⊥ = cc in f)
 has_record bytes [] end (x ∷ xs) behind packet is e = absurd (let f : ⊥ = cc in f)

@@ -1,4 +1,4 @@
--- A capture has one reading, and cut anywhere behind its header it is a capture of the front of its packets.
+-- A capture has one reading, and cut anywhere after its header it is a capture of the front of its packets.
 use Rattle.std.proofs.Common.{◌≡◌, ◌∙◌, ◌≤◌, ◌<◌, ◌+◌, ◌-◌, ◌%◌, ◌^◌, ℕ, List, [], ◌∷◌, ◌++◌, length, take, drop, refl, sym, ap, subst, inl, inr, arith, append_assoc}
 use Rattle.std.proofs.lemmas.Bool.{cases_lt, cases_eq}
 use Rattle.std.proofs.lemmas.List.{drop-take, length-append, length-take-le, nil_from_length, take_all}
@@ -9,7 +9,7 @@ use Rattle.packet_view.specs.declared.capture.CaptureFault.TheVariants as fault
 use Rattle.packet_view.specs.declared.capture.Order.{Order}
 use Rattle.packet_view.specs.declared.capture.Order.TheVariants.{Little, Big}
 use Rattle.packet_view.specs.Bytes.{AreBytes}
-use Rattle.packet_view.specs.Captures.{AreRecords, End, HasHeader, HasMagic, IsCapture, IsCaptureFault, IsEnd, IsHeaderFault, IsRecord, IsTooLong, Seen, Truncated, Whole, kept_length, kept_limit, link_type, number_from, version}
+use Rattle.packet_view.specs.Captures.{AreRecords, End, HasHeader, HasMagic, IsCapture, IsCaptureFault, IsEnd, IsHeaderFault, IsRecord, IsTooLong, PacketFacts, Truncated, Whole, kept_length, kept_limit, link_type, number_from, version}
 use Rattle.packet_view.proofs.CaptureLemmas.{IsHeaderOf, end_stops, not_both, long_stops, same_end}
 use Rattle.packet_view.proofs.RecordLemmas.{number_from-append, number_from-take, records_once}
 
@@ -43,7 +43,7 @@ header_of bytes fits order header = record {
   none = no_fault bytes fits order header;
 }
 
-pub one_reading : (bytes : List ℕ) (packets others : List Seen) (end other : End) → AreBytes bytes → IsCapture bytes packets end → IsCapture bytes others other
+pub one_reading : (bytes : List ℕ) (packets others : List PacketFacts) (end other : End) → AreBytes bytes → IsCapture bytes packets end → IsCapture bytes others other
     → (packets ≡ others) × (end ≡ other)
 one_reading bytes packets others end other fits (order, rest, header, all, stop) (second, left, right, same, last) =
     let e = one_order bytes fits order second header.magic right.magic in
@@ -52,7 +52,7 @@ one_reading bytes packets others end other fits (order, rest, header, all, stop)
     let once = records_once order (drop 24 bytes) packets others rest left all (end_stops order rest end stop) all_too (end_stops order left other last_too) in
     (once.0, same_end order left end other (rw (← once.1) stop) last_too)
 
-no_long_record : (bytes : List ℕ) (packets : List Seen) (end : End) (number : ℕ) → AreBytes bytes → IsCapture bytes packets end
+no_long_record : (bytes : List ℕ) (packets : List PacketFacts) (end : End) (number : ℕ) → AreBytes bytes → IsCapture bytes packets end
     → IsCaptureFault bytes (fault.LongRecord number) → ⊥
 no_long_record bytes packets end number fits (order, rest, header, all, stop) (second, others, left, right, same, long, count) =
     let e = one_order bytes fits order second header.magic right.magic in
@@ -61,7 +61,7 @@ no_long_record bytes packets end number fits (order, rest, header, all, stop) (s
     let once = records_once order (drop 24 bytes) packets others rest left all (end_stops order rest end stop) all_too (long_stops order left long_too) in
     not_both order left end (rw (← once.1) stop) long_too
 
-pub no_fault_too : (bytes : List ℕ) (packets : List Seen) (end : End) (found : CaptureFault) → AreBytes bytes → IsCapture bytes packets end
+pub no_fault_too : (bytes : List ℕ) (packets : List PacketFacts) (end : End) (found : CaptureFault) → AreBytes bytes → IsCapture bytes packets end
     → IsCaptureFault bytes found → ⊥
 no_fault_too bytes packets end (fault.LongRecord number) fits h g = no_long_record bytes packets end number fits h g
 no_fault_too bytes packets end fault.Short fits h g = no_fault bytes fits h.0 h.2 fault.Short g
@@ -86,7 +86,7 @@ short_front order bytes kept within fits =
       ]
     ]
 
--- a cut of what is left behind whole records
+-- a cut of what is left after whole records
 cut_end : (order : Order) (rest : List ℕ) (end : End) (kept : ℕ) → IsEnd order rest end → kept ≤ length rest → (last : End) × IsEnd order (take kept rest) last
 cut_end order rest Whole kept none within = short_front order rest kept within (λ long. let size : length rest ≡ 0 = ap length none in absurd (omega arith))
 cut_end order rest Truncated kept (inl short) within = short_front order rest kept within (λ long. absurd (omega arith))
@@ -107,7 +107,7 @@ cut_first order header frame others moment kept r less =
     let same : kept_length order (header ++ (frame ++ others)) ≡ length frame = number_from-append order 8 4 header (frame ++ others) (omega (arith, r.sixteen)) ∙ sym r.kept in
     short_front order (header ++ (frame ++ others)) kept (omega arith) (λ long. (omega (arith, r.limit), omega arith))
 
--- a cut behind the first record
+-- a cut after the first record
 cut_behind : (header frame others : List ℕ) (kept more : ℕ) → length header ≡ 16 → kept ≡ 16 + length frame + more
     → take kept (header ++ (frame ++ others)) ≡ header ++ (frame ++ take more others)
 cut_behind header frame others kept more sixteen is =
@@ -115,7 +115,7 @@ cut_behind header frame others kept more sixteen is =
     ap (λ (bytes : List ℕ). take kept bytes) (sym (append_assoc header frame others)) ∙ ap (λ (n : ℕ). take n ((header ++ frame) ++ others)) size
     ∙ take-append-add (header ++ frame) others more ∙ append_assoc header frame (take more others)
 
-cut_records : (order : Order) (packets : List Seen) (bytes rest : List ℕ) (end : End) (kept : ℕ) → AreRecords order bytes packets rest → IsEnd order rest end
+cut_records : (order : Order) (packets : List PacketFacts) (bytes rest : List ℕ) (end : End) (kept : ℕ) → AreRecords order bytes packets rest → IsEnd order rest end
     → (count : ℕ) × (left : List ℕ) × (last : End) × AreRecords order (take kept bytes) (take count packets) left × IsEnd order left last
 cut_records order [] bytes rest end kept all stop =
     let cut = any_cut_end order rest end kept stop in
@@ -149,7 +149,7 @@ header_stays order bytes kept header long within =
       ethernet = ap (λ (n : ℕ). n % 2 ^ 16) (sym link) ∙ header.ethernet;
     }
 
-within_bytes : (bytes : List ℕ) (packets : List Seen) (end : End) (kept : ℕ) → IsCapture bytes packets end → 24 ≤ kept → kept ≤ length bytes
+within_bytes : (bytes : List ℕ) (packets : List PacketFacts) (end : End) (kept : ℕ) → IsCapture bytes packets end → 24 ≤ kept → kept ≤ length bytes
     → (count : ℕ) × (last : End) × IsCapture (take kept bytes) (take count packets) last
 within_bytes bytes packets end kept (order, rest, header, all, stop) long within =
     let cut = cut_records order packets (drop 24 bytes) rest end (kept - 24) all stop in
@@ -158,7 +158,7 @@ within_bytes bytes packets end kept (order, rest, header, all, stop) long within
     let records = subst (λ (b : List ℕ). AreRecords order b (take cut.0 packets) cut.1) (sym behind) cut.3 in
     (cut.0, cut.2, (order, cut.1, header_stays order bytes kept header long within, records, cut.4))
 
-pub cut_capture : (bytes : List ℕ) (packets : List Seen) (end : End) (kept : ℕ) → IsCapture bytes packets end → 24 ≤ kept
+pub cut_capture : (bytes : List ℕ) (packets : List PacketFacts) (end : End) (kept : ℕ) → IsCapture bytes packets end → 24 ≤ kept
     → (count : ℕ) × (last : End) × IsCapture (take kept bytes) (take count packets) last
 cut_capture bytes packets end kept h long =
     elim (cases_lt kept (length bytes)) [

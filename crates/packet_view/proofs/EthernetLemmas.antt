@@ -8,16 +8,16 @@ use Rattle.byteorder.specs.Endian.{big_number}
 use Rattle.byteorder.specs.Numbers.{big_from-append, big_from-take}
 use Rattle.packet_view.specs.Bytes.{number_from}
 use Rattle.packet_view.specs.Ethernet.{EndsInTag, IsCut, IsEthernet, IsTag, is_tag_type}
-use Rattle.packet_view.specs.FrameSteps.{behind_tag, content_of}
+use Rattle.packet_view.specs.inner.FrameSteps.{behind_tag, content_of}
 
--- what is found where a type or a tag begins, and behind that
+-- what is found where a type or a tag begins, and after that
 abbrev once : List ℕ → Option (ℕ × List ℕ)
 once body = behind_tag (number_from 0 2 body) (drop 2 body)
 
 abbrev twice : List ℕ → Option (ℕ × List ℕ)
 twice body = option_and_then (λ (p : ℕ × List ℕ). behind_tag p.0 p.1) (once body)
 
--- a type and what stands behind it
+-- a type and what follows it
 abbrev front : List ℕ → ℕ × List ℕ
 front body = (number_from 0 2 body, drop 2 body)
 
@@ -36,7 +36,7 @@ past body tag long =
     let behind : drop 4 (drop 2 body) ≡ drop 2 (drop 4 body) = drop-drop 4 2 body ∙ sym (drop-drop 2 4 body) in
     cond-true (is_tag_type (number_from 0 2 body)) _ _ tag ∙ cond-false _ _ _ (le-ltb _ _ enough) ∙ ap (λ (p : ℕ × List ℕ). Some p) cc
 
--- behind no tag, and behind one
+-- after no tag, and after one
 no_tag : (body : List ℕ) → is_tag_type (number_from 0 2 body) ≡ false → twice body ≡ Some (front body)
 no_tag body none =
     ap (option_and_then (λ (p : ℕ × List ℕ). behind_tag p.0 p.1)) (plain (number_from 0 2 body) (drop 2 body) none) ∙ plain (number_from 0 2 body) (drop 2 body) none
@@ -79,7 +79,7 @@ twice_cut (a ∷ []) rest each few long tag cut =
     rw append-nil (one_tag (a ++ rest) (tag_front a rest each.0) (tag_then a rest each.0 long) ∙ ap once (behind_tag_four a rest each.0) ∙ cut_tag rest tag cut)
 twice_cut (a ∷ b ∷ tags) rest each few long tag cut = absurd (omega arith)
 
--- all that can stand behind the addresses
+-- all that can follow the addresses
 data Body (body : List ℕ) : Type 0 where
   Whole : (tags : List (List ℕ)) (more : List ℕ) → body ≡ concat tags ++ more → AllByRecursion IsTag tags → length tags ≤ 2 → 2 ≤ length more
       → (length tags < 2 → is_tag_type (number_from 0 2 more) ≡ false) → Body body
@@ -90,7 +90,7 @@ data Body (body : List ℕ) : Type 0 where
 front_tag : (body : List ℕ) → is_tag_type (number_from 0 2 body) ≡ true → 6 ≤ length body → IsTag (take 4 body)
 front_tag body tag long = (length-take-le 4 body (omega arith), rw (big_from-take 0 2 4 body (lit≤ tt)) tag)
 
--- behind one tag
+-- after one tag
 body_of_tag : (body a more : List ℕ) → body ≡ a ++ more → IsTag a → 2 ≤ length more → Body body
 body_of_tag body a more spelt tag long =
     elim (cases_Bool (is_tag_type (number_from 0 2 more))) [
@@ -113,7 +113,7 @@ body_of body long =
       | inr f ↦ Whole [] body refl tt (lit≤ tt) long (λ _. f)
     ]
 
--- the code's tests, over what stands behind the addresses
+-- the code's tests, over what follows the addresses
 content_is : (frame : List ℕ) → 14 ≤ length frame → content_of frame ≡ twice (drop 12 frame)
 content_is frame long =
     cond-false _ _ _ (le-ltb (length frame) 14 long)

@@ -13,10 +13,10 @@ use Rattle.packet_view.specs.declared.tuple.Fields.{Fields}
 use Rattle.packet_view.specs.declared.tuple.Fields.TheVariants.{Absent}
 use Rattle.packet_view.specs.declared.tuple.Mac.{Mac}
 use Rattle.packet_view.specs.Ethernet.{IsEthernet}
-use Rattle.packet_view.specs.Frames.{Carries, GoesIn, Ip, IsFrame, IsMalformed, IsTuple, Malformed, NotIp, Short, View, dest_of, ether_type, source_of}
-use Rattle.packet_view.specs.FrameSteps.{IpPacketFacts, direction_of, fields_of, packet_of_v4, packet_of_v6, view_of, view_of_content, view_of_packet, view_of_upper, with_fields}
-use Rattle.packet_view.specs.Packets.{First, Later, Upper}
-use Rattle.packet_view.specs.Tuples.{Facts}
+use Rattle.packet_view.specs.Frames.{Carries, HasDirection, Ip, IsFrame, IsMalformed, IsTuple, Malformed, NotIp, Short, FrameFacts, dest_of, ether_type, source_of}
+use Rattle.packet_view.specs.inner.FrameSteps.{IpPacketFacts, direction_of, fields_of, packet_of_v4, packet_of_v6, view_of, view_of_content, view_of_packet, view_of_upper, with_fields}
+use Rattle.packet_view.specs.Packets.{Payload, LaterFragment, Upper}
+use Rattle.packet_view.specs.Tuples.{TupleFacts}
 use Rattle.packet_view.proofs.EthernetLemmas as ethernet
 use Rattle.packet_view.proofs.Ipv4Lemmas as ipv4
 use Rattle.packet_view.proofs.Ipv6Lemmas as ipv6
@@ -29,15 +29,15 @@ source frame = slice_range frame 6 12
 own_source : (frame : List ℕ) (mac : Mac) → ◌≡◌ {A = Option Mac} (Some mac) (Some (record { 0 = source frame })) → source frame ≡ mac.0
 own_source frame mac h = ap (λ (m : Mac). m.0) (sym (same_Some mac (record { 0 = source frame }) h))
 
-direction_shown : (frame : List ℕ) (own : Option Mac) → GoesIn (source frame) own (direction_of frame own)
+direction_shown : (frame : List ℕ) (own : Option Mac) → HasDirection (source frame) own (direction_of frame own)
 direction_shown frame None = λ e. cc
 direction_shown frame (Some mac) =
     let decides = bytes_eq-Decides (source frame) mac.0 in
-    cond_both (bytes_eq (source frame) mac.0) _ _ (GoesIn (source frame) (Some mac))
+    cond_both (bytes_eq (source frame) mac.0) _ _ (HasDirection (source frame) (Some mac))
     (λ same. ap (λ (address : List ℕ). Some (record { 0 = address })) (sym (decides.0 same)))
     (λ differ own_is. both_ways _ differ (decides.1 (own_source frame mac own_is)))
 
-direction_only : (frame : List ℕ) (own : Option Mac) (direction : Direction) → GoesIn (source frame) own direction → direction_of frame own ≡ direction
+direction_only : (frame : List ℕ) (own : Option Mac) (direction : Direction) → HasDirection (source frame) own direction → direction_of frame own ≡ direction
 direction_only frame None Inbound h = refl
 direction_only frame None Outbound h = cc
 direction_only frame (Some mac) Inbound h =
@@ -97,36 +97,36 @@ right_view frame source own family packet upper e h =
     carried frame source own family packet e ∙ ap (view_of_packet (direction_of frame own)) (carries_only family packet upper h)
 
 -- a tuple by its parts
-by_parts : (tuple : Facts) (from to : ℕ) (fields : Fields) → tuple.source ≡ from → tuple.dest ≡ to → tuple.fields ≡ fields
+by_parts : (tuple : TupleFacts) (from to : ℕ) (fields : Fields) → tuple.source ≡ from → tuple.dest ≡ to → tuple.fields ≡ fields
     → record { family = tuple.family; source = from; dest = to; proto = tuple.proto; fields = fields } ≡ tuple
 by_parts tuple from to fields source_is dest_is fields_is =
-    let parts : ◌≡◌ {A = Facts} (record { family = tuple.family; source = from; dest = to; proto = tuple.proto; fields = fields })
+    let parts : ◌≡◌ {A = TupleFacts} (record { family = tuple.family; source = from; dest = to; proto = tuple.proto; fields = fields })
     (record { family = tuple.family; source = tuple.source; dest = tuple.dest; proto = tuple.proto; fields = tuple.fields }) = cc in
     parts
 
-tuple_view : (frame source : List ℕ) (own : Option Mac) (packet : List ℕ) (tuple : Facts) → IsEthernet frame source (ether_type tuple.family) packet → IsTuple packet tuple
+tuple_view : (frame source : List ℕ) (own : Option Mac) (packet : List ℕ) (tuple : TupleFacts) → IsEthernet frame source (ether_type tuple.family) packet → IsTuple packet tuple
     → view_of frame own ≡ Ip (direction_of frame own) tuple
 tuple_view frame source own packet tuple e (source_is, dest_is, inl (h, absent)) =
-    right_view frame source own tuple.family packet (Later tuple.proto) e h
+    right_view frame source own tuple.family packet (LaterFragment tuple.proto) e h
     ∙ ap (Ip (direction_of frame own)) (by_parts tuple (source_of tuple.family packet) (dest_of tuple.family packet) Absent source_is dest_is absent)
 tuple_view frame source own packet tuple e (source_is, dest_is, inr (payload, h, fields)) =
-    right_view frame source own tuple.family packet (First tuple.proto payload) e h
-    ∙ ap (with_fields (direction_of frame own) (read tuple.family packet (First tuple.proto payload)) tuple.proto) (transport.fields_only tuple.family tuple.proto payload tuple.fields fields)
+    right_view frame source own tuple.family packet (Payload tuple.proto payload) e h
+    ∙ ap (with_fields (direction_of frame own) (read tuple.family packet (Payload tuple.proto payload)) tuple.proto) (transport.fields_only tuple.family tuple.proto payload tuple.fields fields)
     ∙ ap (Ip (direction_of frame own)) (by_parts tuple (source_of tuple.family packet) (dest_of tuple.family packet) tuple.fields source_is dest_is refl)
 
 pub goes_in : (frame source : List ℕ) (own : Option Mac) (direction : Direction) (kind : ℕ) (content : List ℕ) → IsEthernet frame source kind content
-    → GoesIn source own direction → direction_of frame own ≡ direction
+    → HasDirection source own direction → direction_of frame own ≡ direction
 goes_in frame source own direction kind content e h =
     let same = (ethernet.whole_only frame source kind content e).1 in
-    direction_only frame own direction (subst (λ (address : List ℕ). GoesIn address own direction) (sym same) h)
+    direction_only frame own direction (subst (λ (address : List ℕ). HasDirection address own direction) (sym same) h)
 
 -- every frame has a way
-pub goes_of : (frame source : List ℕ) (own : Option Mac) (kind : ℕ) (content : List ℕ) → IsEthernet frame source kind content → GoesIn source own (direction_of frame own)
+pub goes_of : (frame source : List ℕ) (own : Option Mac) (kind : ℕ) (content : List ℕ) → IsEthernet frame source kind content → HasDirection source own (direction_of frame own)
 goes_of frame source own kind content e =
     let same = (ethernet.whole_only frame source kind content e).1 in
-    subst (λ (address : List ℕ). GoesIn address own (direction_of frame own)) same (direction_shown frame own)
+    subst (λ (address : List ℕ). HasDirection address own (direction_of frame own)) same (direction_shown frame own)
 
-pub view_only : (frame : List ℕ) (own : Option Mac) (view : View) → IsFrame frame own view → view ≡ view_of frame own
+pub view_only : (frame : List ℕ) (own : Option Mac) (view : FrameFacts) → IsFrame frame own view → view ≡ view_of frame own
 view_only frame own NotIp (source, kind, content, e, no_v4, no_v6) =
     sym (ap (view_of_content frame own) (ethernet.whole_only frame source kind content e).0
     ∙ cond-false (kind == 0x0800) _ _ (ne_eqb kind 0x0800 no_v4) ∙ cond-false (kind == 0x86dd) _ _ (ne_eqb kind 0x86dd no_v6))
@@ -134,26 +134,26 @@ view_only frame own Malformed (inl cut) = sym (ap (view_of_content frame own) (e
 view_only frame own Malformed (inr (source, family, packet, e, bad)) =
     sym (carried frame source own family packet e ∙ ap (view_of_packet (direction_of frame own)) (malformed_only family packet bad))
 view_only frame own Short (source, family, packet, e, proto, payload, h, short) =
-    sym (right_view frame source own family packet (First proto payload) e h
-    ∙ ap (with_fields (direction_of frame own) (read family packet (First proto payload)) proto) (transport.short_only family proto payload short))
+    sym (right_view frame source own family packet (Payload proto payload) e h
+    ∙ ap (with_fields (direction_of frame own) (read family packet (Payload proto payload)) proto) (transport.short_only family proto payload short))
 view_only frame own (Ip direction tuple) (source, packet, e, goes, is_tuple) =
     sym (tuple_view frame source own packet tuple e is_tuple ∙ ap (λ d. Ip d tuple) (goes_in frame source own direction (ether_type tuple.family) packet e goes))
 
 -- the other way, over each layer's cases
 shown_fields : (frame : List ℕ) (own : Option Mac) (family : Family) (packet : List ℕ) (proto : ℕ) (payload : List ℕ) → IsEthernet frame (source frame) (ether_type family) packet
-    → Carries family packet (First proto payload) → transport.Reading family proto payload
-    → IsFrame frame own (with_fields (direction_of frame own) (read family packet (First proto payload)) proto (fields_of family proto payload))
+    → Carries family packet (Payload proto payload) → transport.Reading family proto payload
+    → IsFrame frame own (with_fields (direction_of frame own) (read family packet (Payload proto payload)) proto (fields_of family proto payload))
 shown_fields frame own family packet proto payload e h (transport.Has fields has is) =
-    subst (λ (f : Option Fields). IsFrame frame own (with_fields (direction_of frame own) (read family packet (First proto payload)) proto f)) (sym is)
+    subst (λ (f : Option Fields). IsFrame frame own (with_fields (direction_of frame own) (read family packet (Payload proto payload)) proto f)) (sym is)
     (source frame, packet, e, direction_shown frame own, (refl, refl, inr (payload, h, has)))
 shown_fields frame own family packet proto payload e h (transport.Short short is) =
-    subst (λ (f : Option Fields). IsFrame frame own (with_fields (direction_of frame own) (read family packet (First proto payload)) proto f)) (sym is)
+    subst (λ (f : Option Fields). IsFrame frame own (with_fields (direction_of frame own) (read family packet (Payload proto payload)) proto f)) (sym is)
     (source frame, family, packet, e, proto, payload, h, short)
 
 shown_upper : (frame : List ℕ) (own : Option Mac) (family : Family) (packet : List ℕ) (upper : Upper) → IsEthernet frame (source frame) (ether_type family) packet
     → Carries family packet upper → IsFrame frame own (view_of_upper (direction_of frame own) (read family packet upper) upper)
-shown_upper frame own family packet (Later proto) e h = (source frame, packet, e, direction_shown frame own, (refl, refl, inl (h, refl)))
-shown_upper frame own family packet (First proto payload) e h =
+shown_upper frame own family packet (LaterFragment proto) e h = (source frame, packet, e, direction_shown frame own, (refl, refl, inl (h, refl)))
+shown_upper frame own family packet (Payload proto payload) e h =
     shown_fields frame own family packet proto payload e h (transport.cases family proto payload)
 
 shown_packet : (frame : List ℕ) (own : Option Mac) (family : Family) (packet : List ℕ) → IsEthernet frame (source frame) (ether_type family) packet → Reading family packet
@@ -167,7 +167,7 @@ shown_family : (frame : List ℕ) (own : Option Mac) (family : Family) (kind : �
     → IsFrame frame own (view_of_content frame own (Some (kind, content)))
 shown_family frame own family kind content e is =
     let there : IsEthernet frame (source frame) (ether_type family) content = subst (λ (k : ℕ). IsEthernet frame (source frame) k content) is e in
-    subst (λ (view : View). IsFrame frame own view)
+    subst (λ (view : FrameFacts). IsFrame frame own view)
     (sym (ap (λ (k : ℕ). view_of_content frame own (Some (k, content))) is ∙ under_type family frame own content))
     (shown_packet frame own family content there (reading family content))
 
@@ -178,7 +178,7 @@ shown_content frame own kind content e =
       | inl v4 ↦ shown_family frame own V4 kind content e v4
       | inr no_v4 ↦ elim (cases_eq kind (ether_type V6)) [
         | inl v6 ↦ shown_family frame own V6 kind content e v6
-        | inr no_v6 ↦ subst (λ (view : View). IsFrame frame own view)
+        | inr no_v6 ↦ subst (λ (view : FrameFacts). IsFrame frame own view)
             (sym (cond-false (kind == 0x0800) _ _ (ne_eqb kind 0x0800 no_v4) ∙ cond-false (kind == 0x86dd) _ _ (ne_eqb kind 0x86dd no_v6)))
             (source frame, kind, content, e, no_v4, no_v6)
       ]

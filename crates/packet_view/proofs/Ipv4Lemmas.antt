@@ -7,9 +7,9 @@ use Rattle.std.proofs.lemmas.List.{drop_at, length-drop, length-take-le, take-ap
 use Rattle.std.proofs.lemmas.List.Folds.{drop_split}
 use Rattle.packet_view.specs.declared.tuple.Family.TheVariants.{V4}
 use Rattle.packet_view.specs.Ipv4.{Carries, HasHeader, HasPayload, IsMalformed, dest, fragment_offset, header_length, protocol, source, total_length, version}
-use Rattle.packet_view.specs.Packets.{Upper, Later, First, extent}
+use Rattle.packet_view.specs.Packets.{Upper, LaterFragment, Payload, extent}
 use Rattle.packet_view.proofs.PacketLemmas.{extent_holds, extent_within}
-use Rattle.packet_view.specs.FrameSteps.{IpPacketFacts, is_malformed_v4, packet_of_v4, upper_of_v4}
+use Rattle.packet_view.specs.inner.FrameSteps.{IpPacketFacts, is_malformed_v4, packet_of_v4, upper_of_v4}
 
 abbrev read : List ℕ → Upper → IpPacketFacts
 read bytes upper = record { family = V4; source = source bytes; dest = dest bytes; upper = upper }
@@ -76,10 +76,10 @@ is_read : (bytes : List ℕ) → HasHeader bytes → packet_of_v4 bytes ≡ Some
 is_read bytes h = cond-false (is_malformed_v4 bytes) _ _ (right_header bytes h)
 
 pub carries_only : (bytes : List ℕ) (upper : Upper) → Carries bytes upper → packet_of_v4 bytes ≡ Some (read bytes upper)
-carries_only bytes (Later proto) (h, later, is) =
-    is_read bytes h ∙ ap (λ (u : Upper). Some (read bytes u)) (cond-false _ _ _ (ne_eqb (fragment_offset bytes) 0 later) ∙ ap Later (sym is))
-carries_only bytes (First proto payload) (h, first, is, p) =
-    let found : First (protocol bytes) (slice_range bytes (header_length bytes) (extent (total_length bytes) (length bytes))) ≡ First proto payload =
+carries_only bytes (LaterFragment proto) (h, later, is) =
+    is_read bytes h ∙ ap (λ (u : Upper). Some (read bytes u)) (cond-false _ _ _ (ne_eqb (fragment_offset bytes) 0 later) ∙ ap LaterFragment (sym is))
+carries_only bytes (Payload proto payload) (h, first, is, p) =
+    let found : Payload (protocol bytes) (slice_range bytes (header_length bytes) (extent (total_length bytes) (length bytes))) ≡ Payload proto payload =
     let e = payload_only bytes payload p in cc in
     is_read bytes h ∙ ap (λ (u : Upper). Some (read bytes u)) (cond-true _ _ _ (eq-eqb (fragment_offset bytes) 0 first) ∙ found)
 
@@ -94,8 +94,8 @@ pub data Reading (bytes : List ℕ) : Type 0 where
 carries : (bytes : List ℕ) → HasHeader bytes → (upper : Upper) × Carries bytes upper
 carries bytes h =
     elim (cases_eq (fragment_offset bytes) 0) [
-      | inl first ↦ (First (protocol bytes) (slice_range bytes (header_length bytes) (extent (total_length bytes) (length bytes))), (h, first, refl, payload_shown bytes h))
-      | inr later ↦ (Later (protocol bytes), (h, later, refl))
+      | inl first ↦ (Payload (protocol bytes) (slice_range bytes (header_length bytes) (extent (total_length bytes) (length bytes))), (h, first, refl, payload_shown bytes h))
+      | inr later ↦ (LaterFragment (protocol bytes), (h, later, refl))
     ]
 
 pub cases : (bytes : List ℕ) → Reading bytes

@@ -9,8 +9,8 @@ use Rattle.byteorder.specs.Endian.{big_number}
 use Rattle.byteorder.specs.Numbers.{big_from-append}
 use Rattle.packet_view.specs.declared.tuple.Family.TheVariants.{V6}
 use Rattle.packet_view.specs.Ipv6.{Carries, IsChain, IsMalformed, IsSkipped, Skips, dest, extension_length, fragment_offset, is_extension, next_header, payload_length, source, version}
-use Rattle.packet_view.specs.Packets.{Upper, Later, First, extent}
-use Rattle.packet_view.specs.FrameSteps.{IpPacketFacts, Skipped, Last, behind_header, header_of, is_malformed_v6, packet_of_v6, walk}
+use Rattle.packet_view.specs.Packets.{Upper, LaterFragment, Payload, extent}
+use Rattle.packet_view.specs.inner.FrameSteps.{IpPacketFacts, Skipped, Last, behind_header, header_of, is_malformed_v6, packet_of_v6, walk}
 use Rattle.packet_view.proofs.PacketLemmas.{extent_within}
 use Rattle.packet_view.proofs.Walks.{walk_ends, walk_skips, walk_full, walk_last}
 
@@ -28,7 +28,7 @@ offset_of_front header behind h =
     ap (λ (bytes : List ℕ). big_number 2 bytes / 8) (drop-append-le 2 header behind (omega arith))
     ∙ ap (λ (n : ℕ). n / 8) (big_from-append 2 (drop 2 header) behind (simp length-drop (omega arith)))
 
-step_last : (number : ℕ) (bytes : List ℕ) → is_extension number ≡ false → Last (Some (First number bytes)) ≡ header_of number bytes
+step_last : (number : ℕ) (bytes : List ℕ) → is_extension number ≡ false → Last (Some (Payload number bytes)) ≡ header_of number bytes
 step_last number bytes h = sym (cond-true (not (is_extension number)) _ _ (not_from_false (is_extension number) h))
 
 step_cut : (number : ℕ) (bytes : List ℕ) → is_extension number ≡ true → length bytes < extension_length number bytes → Last None ≡ header_of number bytes
@@ -37,14 +37,14 @@ step_cut number bytes h short =
     ∙ cond-true (nat_lt (length bytes) (extension_length number bytes)) _ _ (lt-ltb (length bytes) (extension_length number bytes) short))
 
 -- the fragment header of a later fragment ends the chain
-step_later : (header rest : List ℕ) → length header ≡ 8 → fragment_offset header ≢ 0 → Last (Some (Later (slice_index header 0))) ≡ header_of 44 (header ++ rest)
+step_later : (header rest : List ℕ) → length header ≡ 8 → fragment_offset header ≢ 0 → Last (Some (LaterFragment (slice_index header 0))) ≡ header_of 44 (header ++ rest)
 step_later header rest size later =
     let long : 8 ≤ length (header ++ rest) = simp length-append (omega (arith, size)) in
     let offset : fragment_offset (header ++ rest) ≢ 0 = λ zero. later (sym (offset_of_front header rest (omega (arith, size))) ∙ zero) in
     let number : slice_index (header ++ rest) 0 ≡ slice_index header 0 = get_or_append_left header rest 0 0 (omega (arith, size)) in
     sym (cond-false (nat_lt (length (header ++ rest)) 8) _ _ (le-ltb (length (header ++ rest)) 8 long)
     ∙ cond-true (not (fragment_offset (header ++ rest) == 0)) _ _ (not_from_false _ (ne_eqb (fragment_offset (header ++ rest)) 0 offset))
-    ∙ ap (λ (n : ℕ). Last (Some (Later n))) number)
+    ∙ ap (λ (n : ℕ). Last (Some (LaterFragment n))) number)
 
 -- a skipped header is no later fragment's
 not_later : (number : ℕ) (header behind : List ℕ) → IsSkipped number header → 4 ≤ length header → ((number == 44) && not (fragment_offset (header ++ behind) == 0)) ≡ false
@@ -65,7 +65,7 @@ step_skipped number header behind h =
     ∙ cond-false (nat_lt (length (header ++ behind)) (extension_length number (header ++ behind))) _ _ (le-ltb (length (header ++ behind)) (extension_length number (header ++ behind)) long)
     ∙ cond-false ((number == 44) && not (fragment_offset (header ++ behind) == 0)) _ _ (not_later number header behind h (omega arith)) ∙ cc)
 
--- the walk over skipped headers goes on behind them
+-- the walk over skipped headers goes on after them
 walk_past : (skipped : List (List ℕ)) (total n number next : ℕ) (rest : List ℕ) → total ≡ length skipped + n → IsChain number skipped next
     → walk n next rest ≡ walk total number (concat skipped ++ rest)
 walk_past [] total n number next rest count chain = let same : n ≡ total = omega arith in ap (λ m. walk m next rest) same ∙ ap (λ m. walk total m rest) (sym chain)
@@ -74,23 +74,23 @@ walk_past (header ∷ skipped) total n number next rest count (one, chain) =
     ∙ rw (append_assoc header (concat skipped) rest) (walk_skips total (length skipped + n) number (header ++ (concat skipped ++ rest)) (slice_index header 0) (concat skipped ++ rest) (omega (arith, count)) (step_skipped number header (concat skipped ++ rest) one))
 
 -- the end of a walk, however many headers may still be skipped
-at_last : (n number : ℕ) (bytes : List ℕ) → is_extension number ≡ false → Some (First number bytes) ≡ walk n number bytes
+at_last : (n number : ℕ) (bytes : List ℕ) → is_extension number ≡ false → Some (Payload number bytes) ≡ walk n number bytes
 at_last zero number bytes h = walk_last 0 number bytes refl h
-at_last (suc n) number bytes h = walk_ends (suc n) n number bytes (Some (First number bytes)) (omega arith) (step_last number bytes h)
+at_last (suc n) number bytes h = walk_ends (suc n) n number bytes (Some (Payload number bytes)) (omega arith) (step_last number bytes h)
 
 at_cut : (n number : ℕ) (bytes : List ℕ) → is_extension number ≡ true → length bytes < extension_length number bytes → None ≡ walk n number bytes
 at_cut zero number bytes h cut = walk_full 0 number bytes refl h
 at_cut (suc n) number bytes h cut = walk_ends (suc n) n number bytes None (omega arith) (step_cut number bytes h cut)
 
 walk_first : (skipped : List (List ℕ)) (n number next : ℕ) (rest : List ℕ) → length skipped ≤ n → IsChain number skipped next → is_extension next ≡ false
-    → walk n number (concat skipped ++ rest) ≡ Some (First next rest)
+    → walk n number (concat skipped ++ rest) ≡ Some (Payload next rest)
 walk_first skipped n number next rest few chain last =
     sym (at_last (n - length skipped) next rest last ∙ walk_past skipped n (n - length skipped) number next rest (omega arith) chain)
 
 walk_later : (skipped : List (List ℕ)) (n number : ℕ) (header rest : List ℕ) → length skipped < n → IsChain number skipped 44 → length header ≡ 8
-    → fragment_offset header ≢ 0 → walk n number (concat skipped ++ (header ++ rest)) ≡ Some (Later (slice_index header 0))
+    → fragment_offset header ≢ 0 → walk n number (concat skipped ++ (header ++ rest)) ≡ Some (LaterFragment (slice_index header 0))
 walk_later skipped n number header rest few chain size later =
-    sym (walk_ends (n - length skipped) (n - length skipped - 1) 44 (header ++ rest) (Some (Later (slice_index header 0))) (omega arith) (step_later header rest size later)
+    sym (walk_ends (n - length skipped) (n - length skipped - 1) 44 (header ++ rest) (Some (LaterFragment (slice_index header 0))) (omega arith) (step_later header rest size later)
     ∙ walk_past skipped n (n - length skipped) number 44 (header ++ rest) (omega arith) chain)
 
 walk_fails : (skipped : List (List ℕ)) (n number next : ℕ) (rest : List ℕ) → length skipped ≤ n → IsChain number skipped next → is_extension next ≡ true
@@ -195,11 +195,11 @@ is_read : (bytes : List ℕ) → 40 ≤ length bytes → version bytes ≡ 6 →
 is_read bytes long six = cond-false (is_malformed_v6 bytes) _ _ (grind (arith, nat_tests))
 
 pub carries_only : (bytes : List ℕ) (upper : Upper) → Carries bytes upper → packet_of_v6 bytes ≡ Some (read bytes upper)
-carries_only bytes (Later proto) (six, skipped, header, rest, h, few, size, later, is) =
+carries_only bytes (LaterFragment proto) (six, skipped, header, rest, h, few, size, later, is) =
     is_read bytes (long_enough bytes skipped 44 (header ++ rest) h) six
     ∙ ap (option_map (read bytes)) (ap (walk 8 (next_header bytes)) (region bytes skipped 44 (header ++ rest) h)
-    ∙ walk_later skipped 8 (next_header bytes) header rest few h.chain size later ∙ ap (λ (n : ℕ). Some (Later n)) (sym is))
-carries_only bytes (First proto payload) (six, skipped, h, last) =
+    ∙ walk_later skipped 8 (next_header bytes) header rest few h.chain size later ∙ ap (λ (n : ℕ). Some (LaterFragment n)) (sym is))
+carries_only bytes (Payload proto payload) (six, skipped, h, last) =
     is_read bytes (long_enough bytes skipped proto payload h) six
     ∙ ap (option_map (read bytes)) (ap (walk 8 (next_header bytes)) (region bytes skipped proto payload h)
     ∙ walk_first skipped 8 (next_header bytes) proto payload h.at_most_eight h.chain last)
@@ -233,9 +233,9 @@ wrong bytes h = Wrong h (malformed_only bytes h)
 
 by_walk : (bytes : List ℕ) → 40 ≤ length bytes → version bytes ≡ 6 → Walked 8 (next_header bytes) (behind_header bytes) → Reading bytes
 by_walk bytes long six (Arrives skipped next rest spelt few chain last) =
-    right bytes (First next rest) (six, skipped, skips bytes skipped next rest long spelt few chain, last)
+    right bytes (Payload next rest) (six, skipped, skips bytes skipped next rest long spelt few chain, last)
 by_walk bytes long six (Meets skipped header rest spelt few chain size later) =
-    right bytes (Later (slice_index header 0))
+    right bytes (LaterFragment (slice_index header 0))
     (six, skipped, header, rest, skips bytes skipped 44 (header ++ rest) long spelt (omega arith) chain, few, size, later, refl)
 by_walk bytes long six (Fails skipped next rest spelt few chain known fault) =
     wrong bytes (inr (inr (skipped, next, rest, skips bytes skipped next rest long spelt few chain, known, fault)))

@@ -1,11 +1,11 @@
--- A frame and the same with bytes behind its packet's end have one view.
+-- A frame and the same with bytes after its packet's end have one view.
 use Rattle.std.proofs.Common.{◌≡◌, ◌∙◌, ℕ, List, ◌++◌, Option, sym, ap, subst}
 use Rattle.packet_view.specs.declared.tuple.Direction.{Direction}
 use Rattle.packet_view.specs.declared.tuple.Family.{Family}
 use Rattle.packet_view.specs.declared.tuple.Mac.{Mac}
 use Rattle.packet_view.specs.Ethernet.{IsEthernet}
-use Rattle.packet_view.specs.Frames.{Carries, EndsWithin, IsFrame, View, ether_type}
-use Rattle.packet_view.specs.FrameSteps.{IpPacketFacts, direction_of, view_of, view_of_packet, view_of_upper}
+use Rattle.packet_view.specs.Frames.{Carries, EndsWithin, IsFrame, FrameFacts, ether_type}
+use Rattle.packet_view.specs.inner.FrameSteps.{IpPacketFacts, direction_of, view_of, view_of_packet, view_of_upper}
 use Rattle.packet_view.specs.Packets.{Upper}
 use Rattle.packet_view.proofs.FrameLemmas.{Reading, Right, Wrong, carried, goes_in, goes_of, malformed_only, read, reading, right_view, view_only, view_shown}
 use Rattle.packet_view.proofs.TrailingLemmas.{carries_more, dest_more, ethernet_more, malformed_more, source_more}
@@ -37,10 +37,10 @@ module _ (frame more source : List ℕ) (family : Family) (packet : List ℕ) (o
   view_more : IsEthernet frame source (ether_type family) packet → EndsWithin family packet → view_of frame own ≡ view_of (frame ++ more) own
   view_more e ends = by_reading e ends (reading family packet)
 
-  pub frame_more : IsEthernet frame source (ether_type family) packet → EndsWithin family packet → (view : View) → IsFrame frame own view → IsFrame (frame ++ more) own view
+  pub frame_more : IsEthernet frame source (ether_type family) packet → EndsWithin family packet → (view : FrameFacts) → IsFrame frame own view → IsFrame (frame ++ more) own view
   frame_more e ends view h =
-      subst (λ (v : View). IsFrame (frame ++ more) own v) (sym (view_only frame own view h ∙ view_more e ends)) (view_shown (frame ++ more) own)
+      subst (λ (v : FrameFacts). IsFrame (frame ++ more) own v) (sym (view_only frame own view h ∙ view_more e ends)) (view_shown (frame ++ more) own)
 
-  pub frame_less : IsEthernet frame source (ether_type family) packet → EndsWithin family packet → (view : View) → IsFrame (frame ++ more) own view → IsFrame frame own view
+  pub frame_less : IsEthernet frame source (ether_type family) packet → EndsWithin family packet → (view : FrameFacts) → IsFrame (frame ++ more) own view → IsFrame frame own view
   frame_less e ends view h =
-      subst (λ (v : View). IsFrame frame own v) (sym (view_only (frame ++ more) own view h ∙ sym (view_more e ends))) (view_shown frame own)
+      subst (λ (v : FrameFacts). IsFrame frame own v) (sym (view_only (frame ++ more) own view h ∙ sym (view_more e ends))) (view_shown frame own)

@@ -1,4 +1,4 @@
--- How much of the bytes belongs to a packet, and what stands at their front.
+-- How much of the bytes belongs to a packet, and what is at their front.
 use Rattle.std.proofs.Common.{◌≡◌, ◌≢◌, ◌⊎◌, ◌∙◌, ◌+◌, ◌≤◌, ◌<◌, ℕ, List, ◌++◌, length, drop, ap, inl, inr, arith}
 use Rattle.std.proofs.lemmas.Bool.Decides.{nat_tests}
 use Rattle.std.proofs.lemmas.List.{drop-append-le, get_or_append_left, length-drop}
@@ -21,7 +21,7 @@ extent_holds first declared there h (inr more) = grind (arith, nat_tests)
 pub extent_is : (declared there : ℕ) → declared ≢ 0 → declared ≤ there → extent declared there ≡ declared
 extent_is declared there some within = grind (arith, nat_tests)
 
--- bytes behind the front change no number in it
+-- bytes after the front change no number in it
 pub number_from-append : (place width : ℕ) (front more : List ℕ) → place + width ≤ length front → number_from place width (front ++ more) ≡ number_from place width front
 number_from-append place width front more h =
     ap (big_number width) (drop-append-le place front more (omega arith)) ∙ big_from-append width (drop place front) more (simp length-drop (omega arith))

@@ -7,8 +7,8 @@ use Rattle.packet_view.specs.declared.capture.CaptureFault.TheVariants as fault
 use Rattle.packet_view.specs.declared.capture.Order.{Order}
 use Rattle.packet_view.specs.declared.capture.Order.TheVariants.{Little, Big}
 use Rattle.packet_view.specs.Bytes.{AreBytes}
-use Rattle.packet_view.specs.Captures.{AreRecords, Cut, End, HasHeader, HasMagic, IsCapture, IsCaptureFault, IsEnd, IsHeaderFault, IsPart, IsTooLong, Nothing, Part, Record, Seen, TooLong, Truncated, Whole, link_type, number_from, version}
-use Rattle.packet_view.specs.RecordSteps.{part_of}
+use Rattle.packet_view.specs.Captures.{AreRecords, Cut, End, HasHeader, HasMagic, IsCapture, IsCaptureFault, IsEnd, IsHeaderFault, IsPiece, IsTooLong, Nothing, PieceFacts, Record, PacketFacts, TooLong, Truncated, Whole, link_type, number_from, version}
+use Rattle.packet_view.specs.inner.RecordSteps.{part_of}
 use Rattle.packet_view.proofs.CaptureLemmas.{fault_of_header, long_stops}
 use Rattle.packet_view.proofs.CutLemmas.{no_fault, one_order}
 use Rattle.packet_view.proofs.RecordLemmas.{part_shown, records_once}
@@ -54,15 +54,15 @@ header_or_fault bytes =
       ]
     ]
 
--- whole records, and behind them the end or a record that is too long
+-- whole records, and after them the end or a record that is too long
 pub record Records (order : Order) (bytes : List ℕ) : Type 0 where
-  pub packets : List Seen
+  pub packets : List PacketFacts
   pub rest : List ℕ
   pub all : AreRecords order bytes packets rest
   pub stop : ((end : End) × IsEnd order rest end) ⊎ IsTooLong order rest
 
--- the records from a part on, where those behind it are known
-from_part : (order : Order) (bytes : List ℕ) (part : Part) → IsPart order bytes part → ((others : List ℕ) → length others < length bytes → Records order others)
+-- the records from a part on, where those after it are known
+from_part : (order : Order) (bytes : List ℕ) (part : PieceFacts) → IsPiece order bytes part → ((others : List ℕ) → length others < length bytes → Records order others)
     → Records order bytes
 from_part order bytes (Record packet others) (header, spelt, r) behind =
     let shorter : length others < length bytes = omega (arith, ap length spelt, length-append header (packet.frame ++ others), length-append packet.frame others, r.sixteen) in
@@ -80,7 +80,7 @@ records_within (suc most) order bytes few =
 pub records_of : (order : Order) (bytes : List ℕ) → Records order bytes
 records_of order bytes = records_within (length bytes + 1) order bytes (omega arith)
 
-pub some_reading : (bytes : List ℕ) → ((packets : List Seen) × (end : End) × IsCapture bytes packets end) ⊎ ((found : CaptureFault) × IsCaptureFault bytes found)
+pub some_reading : (bytes : List ℕ) → ((packets : List PacketFacts) × (end : End) × IsCapture bytes packets end) ⊎ ((found : CaptureFault) × IsCaptureFault bytes found)
 some_reading bytes =
     elim (header_or_fault bytes) [
       | inl header ↦
@@ -92,7 +92,7 @@ some_reading bytes =
       | inr wrong ↦ inr (wrong.0, fault_of_header bytes wrong.0 wrong.1)
     ]
 
--- behind a magic number the version is wrong, or else the link type
+-- after a magic number the version is wrong, or else the link type
 magic_fault : (bytes : List ℕ) → AreBytes bytes → (order : Order) → HasMagic order bytes → 24 ≤ length bytes → (found : CaptureFault) → IsHeaderFault bytes found
     → ((version order bytes ≡ 2 → ⊥) × (found ≡ fault.Version)) ⊎ ((version order bytes ≡ 2) × (found ≡ fault.LinkType))
 magic_fault bytes fits order magic long fault.Short short = absurd (omega (arith, long, short))
@@ -142,7 +142,7 @@ one_header_fault bytes fits fault.LinkType other h g = one_magic_fault bytes fit
 one_header_fault bytes fits (fault.LongRecord number) other h g = absurd h
 one_header_fault bytes fits fault.Memory other h g = absurd h
 
--- a record that is too long stands behind a header
+-- a record that is too long follows a header
 header_fault_only : (bytes : List ℕ) → AreBytes bytes → (found other : CaptureFault) → IsHeaderFault bytes found → IsCaptureFault bytes other → found ≡ other
 header_fault_only bytes fits found (fault.LongRecord number) h g = absurd (no_fault bytes fits g.0 g.3 found h)
 header_fault_only bytes fits found fault.Short h g = one_header_fault bytes fits found fault.Short h g
@@ -157,7 +157,7 @@ one_long_record bytes fits n m (order, packets, rest, header, all, long, count) 
     let all_too : AreRecords order (drop 24 bytes) others left = rw e same in
     let long_too : IsTooLong order left = rw e long_other in
     let once = records_once order (drop 24 bytes) packets others rest left all (long_stops order rest long) all_too (long_stops order left long_too) in
-    count ∙ ap (λ (ps : List Seen). length ps + 1) once.0 ∙ sym count_other
+    count ∙ ap (λ (ps : List PacketFacts). length ps + 1) once.0 ∙ sym count_other
 
 long_record_only : (bytes : List ℕ) → AreBytes bytes → (number : ℕ) (other : CaptureFault) → IsCaptureFault bytes (fault.LongRecord number) → IsCaptureFault bytes other
     → fault.LongRecord number ≡ other

@@ -1,4 +1,4 @@
--- What stands at the front of records is what the tests find there, and nothing else.
+-- What is at the front of records is what the tests find there, and nothing else.
 use Rattle.std.proofs.Common.{◌≡◌, ◌∙◌, ◌≤◌, ℕ, List, [], ◌∷◌, ◌++◌, length, take, drop, nat_lt, ◌==◌, ◌-◌, ◌+◌, refl, sym, ap, subst, inl, inr, arith, lit≤}
 use Rattle.std.proofs.lemmas.List.{drop-drop, drop-append-le, drop_at, length-append, length-drop, length-take-le, take-append-drop, take_at, take_rest, nil_from_length}
 use Rattle.std.proofs.lemmas.Grind.{common_steps}
@@ -7,9 +7,9 @@ use Rattle.std.proofs.lemmas.Bool.Decides.{nat_tests}
 use Rattle.byteorder.specs.Numbers.{big_from-append, little_from-append}
 use Rattle.packet_view.specs.declared.capture.Order.{Order}
 use Rattle.packet_view.specs.declared.capture.Order.TheVariants.{Little, Big}
-use Rattle.packet_view.specs.Captures.{AreRecords, IsPart, IsRecord, Part, Record, Nothing, Cut, TooLong, Seen, kept_length, kept_limit, number_from}
+use Rattle.packet_view.specs.Captures.{AreRecords, IsPiece, IsRecord, PieceFacts, Record, Nothing, Cut, TooLong, PacketFacts, kept_length, kept_limit, number_from}
 use Rattle.packet_view.specs.RecordLists.{bytes_of, front_packet, packets_in, record_length}
-use Rattle.packet_view.specs.RecordSteps.{part_of}
+use Rattle.packet_view.specs.inner.RecordSteps.{part_of}
 
 -- a number lies in the front that holds its bytes
 pub number_from-append : (order : Order) (place width : ℕ) (xs ys : List ℕ) → place + width ≤ length xs
@@ -32,13 +32,13 @@ found : (order : Order) (bytes : List ℕ) → 16 ≤ length bytes → kept_leng
     → part_of order bytes ≡ Record (front_packet order bytes) (drop (record_length order bytes) bytes)
 found order bytes long limit fits = grind (arith, nat_tests)
 
--- the record at the front of the bytes is this, and these are the bytes behind it
-pub record IsFront (order : Order) (bytes : List ℕ) (packet : Seen) (rest : List ℕ) : Type 0 where
+-- the record at the front of the bytes is this, and these are the bytes after it
+pub record IsFront (order : Order) (bytes : List ℕ) (packet : PacketFacts) (rest : List ℕ) : Type 0 where
   pub packet-is : packet ≡ front_packet order bytes
   pub rest-is : rest ≡ drop (record_length order bytes) bytes
   pub size : length bytes ≡ record_length order bytes + length rest
 
--- a record that is spelt out stands at the front
+-- a record that is spelt out is at the front
 spelt_front : (order : Order) (header frame rest : List ℕ) (moment : ℕ) → IsRecord order header (record { moment = moment; frame = frame })
     → IsFront order (header ++ (frame ++ rest)) (record { moment = moment; frame = frame }) rest
 spelt_front order header frame rest moment r =
@@ -52,16 +52,16 @@ spelt_front order header frame rest moment r =
     sym (drop-drop (kept_length order bytes) 16 bytes) ∙ ap (drop (kept_length order bytes)) behind ∙ drop_at frame rest (kept_length order bytes) (sym kept) in
     record { packet-is = cc; rest-is = sym left; size = omega arith }
 
-pub part_front : (order : Order) (bytes : List ℕ) (packet : Seen) (rest : List ℕ) → IsPart order bytes (Record packet rest) → IsFront order bytes packet rest
+pub part_front : (order : Order) (bytes : List ℕ) (packet : PacketFacts) (rest : List ℕ) → IsPiece order bytes (Record packet rest) → IsFront order bytes packet rest
 part_front order bytes packet rest (header, spelt, r) =
     subst (λ (b : List ℕ). IsFront order b packet rest) (sym spelt) (spelt_front order header packet.frame rest packet.moment r)
 
-record_is_found : (order : Order) (bytes : List ℕ) (packet : Seen) (rest : List ℕ) → IsPart order bytes (Record packet rest) → Record packet rest ≡ part_of order bytes
+record_is_found : (order : Order) (bytes : List ℕ) (packet : PacketFacts) (rest : List ℕ) → IsPiece order bytes (Record packet rest) → Record packet rest ≡ part_of order bytes
 record_is_found order bytes packet rest is =
     let front = part_front order bytes packet rest is in
     let packet-is = front.packet-is in
     let rest-is = front.rest-is in
-    let kept : length packet.frame ≡ kept_length order bytes = ap (λ (p : Seen). length p.frame) packet-is ∙ length-take-le (kept_length order bytes) (drop 16 bytes) (let d = length-drop 16 bytes in let s = front.size in omega arith) in
+    let kept : length packet.frame ≡ kept_length order bytes = ap (λ (p : PacketFacts). length p.frame) packet-is ∙ length-take-le (kept_length order bytes) (drop 16 bytes) (let d = length-drop 16 bytes in let s = front.size in omega arith) in
     let limit = is.2.limit in
     let is_found = found order bytes (omega (arith, front.size)) (omega arith) (omega (arith, front.size)) in
     cc
@@ -70,7 +70,7 @@ number_behind : (order : Order) (place width : ℕ) (bytes : List ℕ) → numbe
 number_behind Little place width bytes = refl
 number_behind Big place width bytes = refl
 
--- a length that was read behind the first eight bytes is the one that the record's header says
+-- a length that was read after the first eight bytes is the one that the record's header says
 pub read_length : (order : Order) (bytes : List ℕ) (kept : ℕ) → kept ≡ number_from order 0 4 (take (length bytes - 8) (drop 8 bytes)) → kept ≡ kept_length order bytes
 read_length order bytes kept said = said ∙ ap (number_from order 0 4) (take_rest bytes 8) ∙ number_behind order 8 4 bytes
 
@@ -86,19 +86,19 @@ cut_out order bytes kept moment long said limit fits seconds =
     let is_found = found order bytes long (omega arith) (omega arith) in
     cc
 
-pub part_only : (order : Order) (bytes : List ℕ) (part : Part) → IsPart order bytes part → part ≡ part_of order bytes
+pub part_only : (order : Order) (bytes : List ℕ) (part : PieceFacts) → IsPiece order bytes part → part ≡ part_of order bytes
 part_only order bytes (Record packet rest) h = record_is_found order bytes packet rest h
 part_only order bytes Nothing h = rw h refl
 part_only order bytes Cut (inl h) = grind (arith, nat_tests)
 part_only order bytes Cut (inr h) = grind (arith, nat_tests)
 part_only order bytes TooLong h = grind (arith, nat_tests)
 
--- the bytes, cut behind sixteen and behind the kept ones
+-- the bytes, cut after sixteen and after the kept ones
 spelt : (order : Order) (bytes : List ℕ) (kept : ℕ) → bytes ≡ take 16 bytes ++ (take kept (drop 16 bytes) ++ drop (16 + kept) bytes)
 spelt order bytes kept = rw (← drop-drop kept 16 bytes, take-append-drop, take-append-drop) refl
 
 record_shown : (order : Order) (bytes : List ℕ) → 16 ≤ length bytes → kept_length order bytes ≤ kept_limit → 16 + kept_length order bytes ≤ length bytes
-    → IsPart order bytes (Record (front_packet order bytes) (drop (record_length order bytes) bytes))
+    → IsPiece order bytes (Record (front_packet order bytes) (drop (record_length order bytes) bytes))
 record_shown order bytes long limit fits = (
   take 16 bytes,
   spelt order bytes (kept_length order bytes),
@@ -111,26 +111,26 @@ record_shown order bytes long limit fits = (
       },
 )
 
-pub part_shown : (order : Order) (bytes : List ℕ) → IsPart order bytes (part_of order bytes)
+pub part_shown : (order : Order) (bytes : List ℕ) → IsPiece order bytes (part_of order bytes)
 part_shown order bytes =
-    cond_both (length bytes == 0) _ _ (IsPart order bytes) (λ h. nil_from_length bytes (eqb-true _ _ h))
-    (λ some. cond_both (nat_lt (length bytes) 16) _ _ (IsPart order bytes)
+    cond_both (length bytes == 0) _ _ (IsPiece order bytes) (λ h. nil_from_length bytes (eqb-true _ _ h))
+    (λ some. cond_both (nat_lt (length bytes) 16) _ _ (IsPiece order bytes)
     (λ h. inl (grind (arith, nat_tests), ltb-true _ _ h))
-    (λ long. cond_both (nat_lt kept_limit (kept_length order bytes)) _ _ (IsPart order bytes)
+    (λ long. cond_both (nat_lt kept_limit (kept_length order bytes)) _ _ (IsPiece order bytes)
     (λ h. (ltb-false _ _ long, ltb-true _ _ h))
-    (λ limit. cond_both (nat_lt (length bytes - 16) (kept_length order bytes)) _ _ (IsPart order bytes)
+    (λ limit. cond_both (nat_lt (length bytes - 16) (kept_length order bytes)) _ _ (IsPiece order bytes)
     (λ h. inr (ltb-false _ _ long, ltb-false _ _ limit, grind (arith, nat_tests)))
     (λ fits. record_shown order bytes (ltb-false _ _ long) (ltb-false _ _ limit) (grind (arith, nat_tests))))))
 
--- one more whole record behind whole records
-pub AreRecords-push : (order : Order) (packet : Seen) (others bytes : List ℕ) (packets : List Seen) (rest : List ℕ) → AreRecords order bytes packets rest
-    → IsPart order rest (Record packet others) → AreRecords order bytes (packets ++ packet ∷ []) others
-AreRecords-push order packet others bytes [] rest all more = (others, subst (λ (b : List ℕ). IsPart order b (Record packet others)) (sym all) more, refl)
+-- one more whole record after whole records
+pub AreRecords-push : (order : Order) (packet : PacketFacts) (others bytes : List ℕ) (packets : List PacketFacts) (rest : List ℕ) → AreRecords order bytes packets rest
+    → IsPiece order rest (Record packet others) → AreRecords order bytes (packets ++ packet ∷ []) others
+AreRecords-push order packet others bytes [] rest all more = (others, subst (λ (b : List ℕ). IsPiece order b (Record packet others)) (sym all) more, refl)
 AreRecords-push order packet others bytes (first ∷ packets) rest (behind, one, all) more =
     (behind, one, AreRecords-push order packet others behind packets rest all more)
 
--- no record stands at the front
-abbrev pub IsStop : Part → Type 0
+-- no record is at the front
+abbrev pub IsStop : PieceFacts → Type 0
 IsStop (Record packet rest) = ⊥
 IsStop Nothing = Unit {0}
 IsStop Cut = Unit {0}
@@ -139,11 +139,11 @@ IsStop TooLong = Unit {0}
 pub record Stops (order : Order) (rest : List ℕ) : Type 0 where
   pub stops : IsStop (part_of order rest)
 
-stops_none : (order : Order) (bytes others : List ℕ) (packet : Seen) → IsPart order bytes (Record packet others) → Stops order bytes → ⊥
+stops_none : (order : Order) (bytes others : List ℕ) (packet : PacketFacts) → IsPiece order bytes (Record packet others) → Stops order bytes → ⊥
 stops_none order bytes others packet h stop = subst IsStop (sym (part_only order bytes (Record packet others) h)) stop.stops
 
 -- bytes are records in one way up to where no further one stands
-pub records_once : (order : Order) (bytes : List ℕ) (packets others : List Seen) (rest left : List ℕ) → AreRecords order bytes packets rest → Stops order rest
+pub records_once : (order : Order) (bytes : List ℕ) (packets others : List PacketFacts) (rest left : List ℕ) → AreRecords order bytes packets rest → Stops order rest
     → AreRecords order bytes others left → Stops order left → (packets ≡ others) × (rest ≡ left)
 records_once order bytes [] [] rest left all stop same end = (refl, sym all ∙ same)
 records_once order bytes [] (other ∷ others) rest left all stop (behind, one, same) end =

@@ -2,7 +2,7 @@
 use Rattle.std.proofs.Common.{◌≡◌, ◌≢◌, ◌≤◌, ◌+◌, ◌-◌, ◌∙◌, ℕ, zero, suc, List, [], ◌∷◌, drop, length, ap, ap₂, refl, sym, arith}
 use Rattle.std.proofs.lemmas.List.{length-drop}
 use Rattle.packet_view.specs.declared.capture.Order.{Order}
-use Rattle.packet_view.specs.Captures.{AreRecords, Seen}
+use Rattle.packet_view.specs.Captures.{AreRecords, PacketFacts}
 use Rattle.packet_view.specs.RecordLists.{bytes_of, front_packet, packets_in, record_length}
 use Rattle.packet_view.proofs.RecordLemmas.{part_front}
 
@@ -10,7 +10,7 @@ pub packets_count : (order : Order) (n : ℕ) (bytes : List ℕ) → n ≡ lengt
 packets_count order zero bytes = refl
 packets_count order (suc n) bytes = let more = packets_count order n (drop (record_length order bytes) bytes) in omega arith
 
--- where some records are left, they are the one at the front and those behind it
+-- where some records are left, they are the one at the front and those after it
 pub front_packets : (order : Order) (n : ℕ) (bytes : List ℕ) → n ≢ 0
     → packets_in order n bytes ≡ front_packet order bytes ∷ packets_in order (n - 1) (drop (record_length order bytes) bytes)
 front_packets order zero bytes some = absurd (some refl)
@@ -21,10 +21,6 @@ front_bytes : (order : Order) (n : ℕ) (bytes : List ℕ) → n ≢ 0
 front_bytes order zero bytes some = absurd (some refl)
 front_bytes order (suc n) bytes some = let e : suc n - 1 ≡ n = omega arith in rw e refl
 
--- the one at the front is whole, and so are those behind it
-pub front_whole : (order : Order) (n : ℕ) (bytes : List ℕ) → n ≢ 0 → bytes_of order n bytes ≤ length bytes → record_length order bytes ≤ length bytes
-front_whole order n bytes some whole = let e = front_bytes order n bytes some in omega arith
-
 pub others_whole : (order : Order) (n : ℕ) (bytes : List ℕ) → n ≢ 0 → bytes_of order n bytes ≤ length bytes
     → bytes_of order (n - 1) (drop (record_length order bytes) bytes) ≤ length (drop (record_length order bytes) bytes)
 others_whole order n bytes some whole =
@@ -32,8 +28,8 @@ others_whole order n bytes some whole =
     let left = length-drop (record_length order bytes) bytes in
     omega arith
 
--- whole records are those that stand at the front of the bytes, and they have all bytes but the rest
-pub records_listed : (order : Order) (bytes : List ℕ) (packets : List Seen) (rest : List ℕ) → AreRecords order bytes packets rest
+-- whole records are those that are at the front of the bytes, and they have all bytes but the rest
+pub records_listed : (order : Order) (bytes : List ℕ) (packets : List PacketFacts) (rest : List ℕ) → AreRecords order bytes packets rest
     → (packets ≡ packets_in order (length packets) bytes) × (bytes_of order (length packets) bytes + length rest ≡ length bytes)
 records_listed order bytes [] rest all = (refl, let same : length bytes ≡ length rest = ap length all in omega arith)
 records_listed order bytes (packet ∷ packets) rest (others, one, all) =
@@ -43,7 +39,7 @@ records_listed order bytes (packet ∷ packets) rest (others, one, all) =
     let same = more.0 in
     let count : bytes_of order (length packets) (drop (record_length order bytes) bytes) + length rest ≡ length others =
     ap (λ (b : List ℕ). bytes_of order (length packets) b + length rest) (sym front.rest-is) ∙ more.1 in (
-      ap₂ (λ p (ps : List Seen). p ∷ ps) front.packet-is (more.0 ∙ ap (packets_in order (length packets)) front.rest-is),
+      ap₂ (λ p (ps : List PacketFacts). p ∷ ps) front.packet-is (more.0 ∙ ap (packets_in order (length packets)) front.rest-is),
       omega arith,
     )
 
@@ -52,7 +48,7 @@ pub records_few : (order : Order) (n : ℕ) (bytes : List ℕ) → n ≤ bytes_o
 records_few order zero bytes = omega arith
 records_few order (suc n) bytes = let more = records_few order n (drop (record_length order bytes) bytes) in omega arith
 
-pub records_within : (order : Order) (bytes : List ℕ) (packets : List Seen) (rest : List ℕ) → AreRecords order bytes packets rest
+pub records_within : (order : Order) (bytes : List ℕ) (packets : List PacketFacts) (rest : List ℕ) → AreRecords order bytes packets rest
     → length packets + length rest ≤ length bytes
 records_within order bytes packets rest all =
     let listed = records_listed order bytes packets rest all in

@@ -5,9 +5,9 @@ use Rattle.std.proofs.lemmas.List.{take_rest}
 use Rattle.std.specs.Option.{option_and_then}
 use Rattle.byteorder.specs.Endian.{big_number}
 use Rattle.packet_view.specs.Bytes.{number_from}
-use Rattle.packet_view.specs.FrameSteps.{behind_tag, content_of}
+use Rattle.packet_view.specs.inner.FrameSteps.{behind_tag, content_of}
 
--- behind the first tag the second is tried
+-- after the first tag the second is tried
 pub content_behind : (frame : List ℕ) (n kind : ℕ) (content : List ℕ) (found : Option (ℕ × List ℕ)) → 14 ≤ length frame
     → n ≡ big_number 2 (take (length frame - 12) (drop 12 frame)) → Some (kind, content) ≡ behind_tag n (take (length frame - 14) (drop 14 frame))
     → found ≡ behind_tag kind content → found ≡ content_of frame

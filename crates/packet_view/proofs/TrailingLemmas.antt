@@ -1,4 +1,4 @@
--- Bytes behind the end that a packet declares change nothing of it.
+-- Bytes after the end that a packet declares change nothing of it.
 use Rattle.std.proofs.Common.{◌≡◌, ◌≢◌, ◌⊎◌, ◌∙◌, ◌≤◌, ◌<◌, ◌-◌, ◌*◌, ◌/◌, ◌%◌, ℕ, List, ◌++◌, length, drop, get_or, sym, ap, subst, inl, inr, arith, append_assoc}
 use Rattle.std.specs.List.{concat}
 use Rattle.std.proofs.lemmas.Bool.{cases_lt}
@@ -9,7 +9,7 @@ use Rattle.packet_view.specs.Ethernet.{IsEthernet}
 use Rattle.packet_view.specs.Frames.{Carries, EndsWithin, IsMalformed, dest_of, source_of}
 use Rattle.packet_view.specs.Ipv4 as ipv4
 use Rattle.packet_view.specs.Ipv6 as ipv6
-use Rattle.packet_view.specs.Packets.{Upper, Later, First, extent}
+use Rattle.packet_view.specs.Packets.{Upper, LaterFragment, Payload, extent}
 use Rattle.packet_view.proofs.PacketLemmas.{extent_is, number_from-append, slice_index-append}
 
 pub ethernet_more : (frame source : List ℕ) (kind : ℕ) (content more : List ℕ) → IsEthernet frame source kind content
@@ -80,9 +80,9 @@ module _ (packet more : List ℕ) where
   }
 
   v4_carries : EndsWithin V4 packet → (upper : Upper) → ipv4.Carries packet upper → ipv4.Carries (packet ++ more) upper
-  v4_carries ends (Later proto) (h, later, is) =
+  v4_carries ends (LaterFragment proto) (h, later, is) =
       (v4_right ends h, λ zero. later (sym (v4_offset h.least) ∙ zero), is ∙ sym (slice_index-append 9 packet more (omega (arith, h.least))))
-  v4_carries ends (First proto payload) (h, first, is, p) =
+  v4_carries ends (Payload proto payload) (h, first, is, p) =
       (v4_right ends h, v4_offset h.least ∙ first, is ∙ sym (slice_index-append 9 packet more (omega (arith, h.least))), v4_payload ends payload p)
 
   -- a total length below a header's least
@@ -129,9 +129,9 @@ module _ (packet more : List ℕ) where
   }
 
   v6_carries : EndsWithin V6 packet → (upper : Upper) → ipv6.Carries packet upper → ipv6.Carries (packet ++ more) upper
-  v6_carries ends (Later proto) (six, skipped, header, rest, h, few, size, later, is) =
+  v6_carries ends (LaterFragment proto) (six, skipped, header, rest, h, few, size, later, is) =
       (v6_version (omega (arith, ends.1)) ∙ six, skipped, header, rest, v6_skips ends skipped 44 (header ++ rest) h, few, size, later, is)
-  v6_carries ends (First proto payload) (six, skipped, h, last) =
+  v6_carries ends (Payload proto payload) (six, skipped, h, last) =
       (v6_version (omega (arith, ends.1)) ∙ six, skipped, v6_skips ends skipped proto payload h, last)
 
   v6_wrong : EndsWithin V6 packet → ipv6.IsMalformed packet → ipv6.IsMalformed (packet ++ more)
@@ -148,8 +148,8 @@ malformed_more V4 packet more ends h = v4_wrong packet more ends h
 malformed_more V6 packet more ends h = v6_wrong packet more ends h
 
 v4_least : (packet : List ℕ) (upper : Upper) → ipv4.Carries packet upper → 20 ≤ length packet
-v4_least packet (Later proto) h = h.0.least
-v4_least packet (First proto payload) h = h.0.least
+v4_least packet (LaterFragment proto) h = h.0.least
+v4_least packet (Payload proto payload) h = h.0.least
 
 pub source_more : (family : Family) (packet more : List ℕ) → EndsWithin family packet → (upper : Upper) → Carries family packet upper
     → source_of family (packet ++ more) ≡ source_of family packet

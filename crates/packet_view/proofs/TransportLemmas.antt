@@ -9,7 +9,7 @@ use Rattle.packet_view.specs.declared.tuple.Fields.TheVariants.{Absent, Ports, T
 use Rattle.packet_view.specs.Addresses.{icmp_of}
 use Rattle.packet_view.specs.Bytes.{number_from}
 use Rattle.packet_view.specs.Transport.{HasFields, IsShort}
-use Rattle.packet_view.specs.FrameSteps.{fields_of}
+use Rattle.packet_view.specs.inner.FrameSteps.{fields_of}
 
 icmp_other : (family : Family) (proto : ℕ) → proto ≡ icmp_of family → (proto ≢ 6) × (proto ≢ 17)
 icmp_other V4 proto h = (λ e. omega arith, λ e. omega arith)

@@ -1,4 +1,4 @@
--- Captures: a header of 24 bytes, and records one behind another (the classic pcap format).
+-- Captures: a header of 24 bytes, and records one after another (the classic pcap format).
 use Rattle.std.specs.Prelude.{◌≡◌, ◌≢◌, ◌≤◌, ◌<◌, ◌⊎◌, ℕ, ◌+◌, ◌%◌, ◌^◌, Bool, true, false, List, [], ◌∷◌, ◌++◌, length, drop, Option, Some, None}
 use Rattle.byteorder.specs.Endian.{big_number, little_number}
 use Rattle.packet_view.specs.declared.capture.Order.{Order}
@@ -10,19 +10,19 @@ use Rattle.packet_view.specs.declared.capture.CaptureFault.{CaptureFault}
 use Rattle.packet_view.specs.declared.capture.CaptureFault.TheVariants as fault
 
 -- a packet without where its bytes lie
-pub record Seen : Type 0 where
+pub record PacketFacts : Type 0 where
   pub moment : ℕ
   pub frame : List ℕ
 
-abbrev pub seen : Packet → Seen
-seen packet = record { moment = packet.moment; frame = packet.frame.now }
+abbrev pub packet_facts : Packet → PacketFacts
+packet_facts packet = record { moment = packet.moment; frame = packet.frame.now }
 
 -- one packet was taken from these packets, and these are left; none is taken only where there is none
-abbrev pub Takes : List Seen → Option Packet → List Seen → Type 0
+abbrev pub Takes : List PacketFacts → Option Packet → List PacketFacts → Type 0
 Takes packets None left = (packets ≡ []) × (left ≡ [])
-Takes packets (Some packet) left = packets ≡ seen packet ∷ left
+Takes packets (Some packet) left = packets ≡ packet_facts packet ∷ left
 
--- how the records end: behind a whole one, or inside one
+-- how the records end: after a whole one, or inside one
 pub data End : Type 0 where
   Whole : End
   Truncated : End
@@ -65,7 +65,7 @@ abbrev pub kept_limit : ℕ
 kept_limit = 262144
 
 -- one record's header: it says the moment and the frame's length
-pub record IsRecord (order : Order) (header : List ℕ) (packet : Seen) : Type 0 where
+pub record IsRecord (order : Order) (header : List ℕ) (packet : PacketFacts) : Type 0 where
   pub sixteen : length header ≡ 16
   pub moment : packet.moment ≡ number_from order 0 4 header
   pub kept : length packet.frame ≡ kept_length order header
@@ -81,47 +81,47 @@ IsCut order bytes =
     ((0 < length bytes) × (length bytes < 16))
     ⊎ ((16 ≤ length bytes) × (kept_length order bytes ≤ kept_limit) × (length bytes < 16 + kept_length order bytes))
 
--- what stands at the front of the bytes
-pub data Part : Type 0 where
-  Record : Seen → List ℕ → Part
-  Nothing : Part
-  Cut : Part
-  TooLong : Part
+-- what is at the front of the bytes
+pub data PieceFacts : Type 0 where
+  Record : PacketFacts → List ℕ → PieceFacts
+  Nothing : PieceFacts
+  Cut : PieceFacts
+  TooLong : PieceFacts
 
 -- what `next_record` answers, as a value
-abbrev pub parted : Piece → Part
-parted (piece.Whole moment frame rest) = Record (record { moment = moment; frame = frame.now }) rest.now
-parted piece.End = Nothing
-parted piece.Truncated = Cut
-parted piece.TooLong = TooLong
+abbrev pub piece_facts : Piece → PieceFacts
+piece_facts (piece.Whole moment frame rest) = Record (record { moment = moment; frame = frame.now }) rest.now
+piece_facts piece.End = Nothing
+piece_facts piece.Truncated = Cut
+piece_facts piece.TooLong = TooLong
 
-abbrev pub IsPart : Order → List ℕ → Part → Type 0
-IsPart order bytes (Record packet rest) = (header : List ℕ) × (bytes ≡ header ++ (packet.frame ++ rest)) × IsRecord order header packet
-IsPart order bytes Nothing = bytes ≡ []
-IsPart order bytes Cut = IsCut order bytes
-IsPart order bytes TooLong = IsTooLong order bytes
+abbrev pub IsPiece : Order → List ℕ → PieceFacts → Type 0
+IsPiece order bytes (Record packet rest) = (header : List ℕ) × (bytes ≡ header ++ (packet.frame ++ rest)) × IsRecord order header packet
+IsPiece order bytes Nothing = bytes ≡ []
+IsPiece order bytes Cut = IsCut order bytes
+IsPiece order bytes TooLong = IsTooLong order bytes
 
--- the bytes are the records of these packets, one behind another, and then the rest
-abbrev pub AreRecords : Order → List ℕ → List Seen → List ℕ → Type 0
+-- the bytes are the records of these packets, one after another, and then the rest
+abbrev pub AreRecords : Order → List ℕ → List PacketFacts → List ℕ → Type 0
 AreRecords order bytes [] rest = bytes ≡ rest
 AreRecords order bytes (packet ∷ packets) rest =
-    (others : List ℕ) × IsPart order bytes (Record packet others) × AreRecords order others packets rest
+    (others : List ℕ) × IsPiece order bytes (Record packet others) × AreRecords order others packets rest
 
--- behind a header the bytes go on with a whole record
+-- after a header the bytes go on with a whole record
 abbrev pub HasRecord : List ℕ → Type 0
-HasRecord bytes = (order : Order) × (packet : Seen) × (rest : List ℕ) × HasHeader order bytes × IsPart order (drop 24 bytes) (Record packet rest)
+HasRecord bytes = (order : Order) × (packet : PacketFacts) × (rest : List ℕ) × HasHeader order bytes × IsPiece order (drop 24 bytes) (Record packet rest)
 
--- what is left behind the whole records
+-- what is left after the whole records
 abbrev pub IsEnd : Order → List ℕ → End → Type 0
 IsEnd order rest Whole = rest ≡ []
 IsEnd order rest Truncated = IsCut order rest
 
 -- all the bytes are a capture of these packets with this end
-abbrev pub IsCapture : List ℕ → List Seen → End → Type 0
+abbrev pub IsCapture : List ℕ → List PacketFacts → End → Type 0
 IsCapture bytes packets end =
     (order : Order) × (rest : List ℕ) × HasHeader order bytes × AreRecords order (drop 24 bytes) packets rest × IsEnd order rest end
 
--- the fault stands in the header, and no earlier one does
+-- the fault is in the header, and no earlier one does
 abbrev pub IsHeaderFault : List ℕ → CaptureFault → Type 0
 IsHeaderFault bytes fault.Short = length bytes < 24
 IsHeaderFault bytes fault.Magic = (24 ≤ length bytes) × ((order : Order) → HasMagic order bytes → ⊥)
@@ -131,9 +131,9 @@ IsHeaderFault bytes fault.LinkType =
 IsHeaderFault bytes (fault.LongRecord number) = ⊥
 IsHeaderFault bytes fault.Memory = ⊥
 
--- the fault stands in the capture, and no earlier one does; records are counted from 1
+-- the fault is in the capture, and no earlier one does; records are counted from 1
 abbrev pub IsCaptureFault : List ℕ → CaptureFault → Type 0
 IsCaptureFault bytes (fault.LongRecord number) =
-    (order : Order) × (packets : List Seen) × (rest : List ℕ) × HasHeader order bytes × AreRecords order (drop 24 bytes) packets rest
+    (order : Order) × (packets : List PacketFacts) × (rest : List ℕ) × HasHeader order bytes × AreRecords order (drop 24 bytes) packets rest
     × IsTooLong order rest × (number ≡ length packets + 1)
 IsCaptureFault bytes header_fault = IsHeaderFault bytes header_fault

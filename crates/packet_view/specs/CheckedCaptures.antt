@@ -1,16 +1,16 @@
 -- Packets that are taken one by one: from the records of a capture that was checked, or from a list.
 use Rattle.std.specs.Prelude.{List, map}
-use Rattle.packet_view.specs.Captures.{Seen, seen}
+use Rattle.packet_view.specs.Captures.{PacketFacts, packet_facts}
 use Rattle.packet_view.specs.RecordLists.{packets_in}
 use Rattle.packet_view.specs.declared.packets.Packets.{Packets}
 use Rattle.packet_view.specs.declared.packets.Packets.TheVariants.{Listed, Standing}
 use Rattle.packet_view.specs.declared.records.Records.{Records}
 
 -- the packets of the records that are left
-abbrev pub packets_of : Records → List Seen
+abbrev pub packets_of : Records → List PacketFacts
 packets_of records = packets_in records.order records.count records.bytes.now
 
 -- the packets that are left
-abbrev pub held : Packets → List Seen
-held (Listed packets) = map seen packets.now
+abbrev pub held : Packets → List PacketFacts
+held (Listed packets) = map packet_facts packets.now
 held (Standing records) = packets_of records

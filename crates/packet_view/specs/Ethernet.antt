@@ -11,7 +11,7 @@ is_tag_type kind = (kind == 0x8100) || (kind == 0x88a8)
 abbrev pub IsTag : List ℕ → Type 0
 IsTag tag = (length tag ≡ 4) × IsTrue (is_tag_type (number_from 0 2 tag))
 
--- A frame whose content begins behind its type. At most two tags are skipped. Behind fewer than two stands
+-- A frame whose content begins after its type. At most two tags are skipped. After fewer than two stands
 -- no further one.
 pub record IsEthernet (frame source : List ℕ) (kind : ℕ) (content : List ℕ) : Type 0 where
   pub dest : List ℕ
@@ -26,7 +26,7 @@ pub record IsEthernet (frame source : List ℕ) (kind : ℕ) (content : List ℕ
   pub no_more : length tags < 2 → is_tag_type kind ≡ false
   pub number : kind ≡ number_from 0 2 type_bytes
 
--- A frame that ends inside a tag that would be skipped, or inside the type behind that tag.
+-- A frame that ends inside a tag that would be skipped, or inside the type after that tag.
 pub record EndsInTag (frame : List ℕ) : Type 0 where
   pub addresses : List ℕ
   pub tags : List (List ℕ)

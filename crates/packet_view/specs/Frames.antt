@@ -11,22 +11,22 @@ use Rattle.packet_view.specs.declared.frame.Frame.TheVariants as frame
 use Rattle.packet_view.specs.Ethernet.{IsEthernet, IsCut}
 use Rattle.packet_view.specs.Ipv4 as ipv4
 use Rattle.packet_view.specs.Ipv6 as ipv6
-use Rattle.packet_view.specs.Packets.{Upper, Later, First}
+use Rattle.packet_view.specs.Packets.{Upper, LaterFragment, Payload}
 use Rattle.packet_view.specs.Transport.{HasFields, IsShort}
-use Rattle.packet_view.specs.Tuples.{Facts, facts}
+use Rattle.packet_view.specs.Tuples.{TupleFacts, tuple_facts}
 
 -- a `Frame` as a value, its tuple without what the type keeps
-pub data View : Type 0 where
-  NotIp : View
-  Malformed : View
-  Short : View
-  Ip : Direction → Facts → View
+pub data FrameFacts : Type 0 where
+  NotIp : FrameFacts
+  Malformed : FrameFacts
+  Short : FrameFacts
+  Ip : Direction → TupleFacts → FrameFacts
 
-abbrev pub viewed : Frame → View
-viewed frame.NotIp = NotIp
-viewed frame.Malformed = Malformed
-viewed frame.Short = Short
-viewed (frame.Ip direction tuple) = Ip direction (facts tuple)
+abbrev pub frame_facts : Frame → FrameFacts
+frame_facts frame.NotIp = NotIp
+frame_facts frame.Malformed = Malformed
+frame_facts frame.Short = Short
+frame_facts (frame.Ip direction tuple) = Ip direction (tuple_facts tuple)
 
 -- the type under which an Ethernet frame carries the family
 abbrev pub ether_type : Family → ℕ
@@ -50,20 +50,20 @@ dest_of V4 packet = ipv4.dest packet
 dest_of V6 packet = ipv6.dest packet
 
 -- a frame from the interface's own address goes out, every other comes in
-abbrev pub GoesIn : List ℕ → Option Mac → Direction → Type 0
-GoesIn source own Outbound = own ≡ Some (record { 0 = source })
-GoesIn source own Inbound = own ≢ Some (record { 0 = source })
+abbrev pub HasDirection : List ℕ → Option Mac → Direction → Type 0
+HasDirection source own Outbound = own ≡ Some (record { 0 = source })
+HasDirection source own Inbound = own ≢ Some (record { 0 = source })
 
 -- a fragment other than the first has no fields, whatever its bytes
-abbrev pub IsTuple : List ℕ → Facts → Type 0
+abbrev pub IsTuple : List ℕ → TupleFacts → Type 0
 IsTuple packet tuple =
     (tuple.source ≡ source_of tuple.family packet) × (tuple.dest ≡ dest_of tuple.family packet)
-    × ((Carries tuple.family packet (Later tuple.proto) × (tuple.fields ≡ Absent))
-    ⊎ ((payload : List ℕ) × Carries tuple.family packet (First tuple.proto payload) × HasFields tuple.family tuple.proto payload tuple.fields))
+    × ((Carries tuple.family packet (LaterFragment tuple.proto) × (tuple.fields ≡ Absent))
+    ⊎ ((payload : List ℕ) × Carries tuple.family packet (Payload tuple.proto payload) × HasFields tuple.family tuple.proto payload tuple.fields))
 
 -- The cases, each by the bytes alone: another type, headers cut or wrong, a payload that ends before the protocol's
 -- fields, and a packet with its way and five-tuple.
-abbrev pub IsFrame : List ℕ → Option Mac → View → Type 0
+abbrev pub IsFrame : List ℕ → Option Mac → FrameFacts → Type 0
 IsFrame frame own NotIp =
     (source : List ℕ) × (kind : ℕ) × (content : List ℕ) × IsEthernet frame source kind content
     × (kind ≢ ether_type V4) × (kind ≢ ether_type V6)
@@ -72,9 +72,9 @@ IsFrame frame own Malformed =
     ⊎ ((source : List ℕ) × (family : Family) × (packet : List ℕ) × IsEthernet frame source (ether_type family) packet × IsMalformed family packet)
 IsFrame frame own Short =
     (source : List ℕ) × (family : Family) × (packet : List ℕ) × IsEthernet frame source (ether_type family) packet
-    × (proto : ℕ) × (payload : List ℕ) × Carries family packet (First proto payload) × IsShort family proto payload
+    × (proto : ℕ) × (payload : List ℕ) × Carries family packet (Payload proto payload) × IsShort family proto payload
 IsFrame frame own (Ip direction tuple) =
-    (source packet : List ℕ) × IsEthernet frame source (ether_type tuple.family) packet × GoesIn source own direction × IsTuple packet tuple
+    (source packet : List ℕ) × IsEthernet frame source (ether_type tuple.family) packet × HasDirection source own direction × IsTuple packet tuple
 
 -- the packet declares its length, and ends there within its bytes
 abbrev pub EndsWithin : Family → List ℕ → Type 0

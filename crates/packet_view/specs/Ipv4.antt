@@ -1,7 +1,7 @@
 -- IPv4 packets (RFC 791, section 3.1).
 use Rattle.std.specs.Prelude.{◌≡◌, ◌≢◌, ◌≤◌, ◌<◌, ◌⊎◌, ℕ, ◌+◌, ◌*◌, ◌/◌, ◌%◌, List, ◌++◌, length, slice_index}
 use Rattle.packet_view.specs.Bytes.{number_from}
-use Rattle.packet_view.specs.Packets.{Upper, Later, First, extent}
+use Rattle.packet_view.specs.Packets.{Upper, LaterFragment, Payload, extent}
 
 abbrev pub version : List ℕ → ℕ
 version packet = slice_index packet 0 / 16
@@ -40,7 +40,7 @@ IsMalformed packet =
     (length packet < 20) ⊎ (version packet ≢ 4) ⊎ (header_length packet < 20) ⊎ (length packet < header_length packet)
     ⊎ ((total_length packet ≢ 0) × (total_length packet < header_length packet))
 
--- The payload stands behind the header, options and all, and before the packet's end: at its total length or
+-- The payload follows the header, options and all, and before the packet's end: at its total length or
 -- at the end of the bytes, whichever comes first.
 pub record HasPayload (packet payload : List ℕ) : Type 0 where
   pub header : List ℕ
@@ -51,6 +51,6 @@ pub record HasPayload (packet payload : List ℕ) : Type 0 where
 
 -- a fragment other than the first has an offset
 abbrev pub Carries : List ℕ → Upper → Type 0
-Carries packet (Later proto) = HasHeader packet × (fragment_offset packet ≢ 0) × (proto ≡ protocol packet)
-Carries packet (First proto payload) =
+Carries packet (LaterFragment proto) = HasHeader packet × (fragment_offset packet ≢ 0) × (proto ≡ protocol packet)
+Carries packet (Payload proto payload) =
     HasHeader packet × (fragment_offset packet ≡ 0) × (proto ≡ protocol packet) × HasPayload packet payload

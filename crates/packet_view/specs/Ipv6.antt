@@ -2,12 +2,12 @@
 use Rattle.std.specs.Prelude.{◌≡◌, ◌≢◌, ◌≤◌, ◌<◌, ◌⊎◌, ℕ, ◌+◌, ◌-◌, ◌*◌, ◌/◌, Bool, false, ◌||◌, ◌==◌, if◌then◌else◌, List, [], ◌∷◌, ◌++◌, length, slice_index, IsTrue}
 use Rattle.std.specs.List.{concat}
 use Rattle.packet_view.specs.Bytes.{number_from}
-use Rattle.packet_view.specs.Packets.{Upper, Later, First, extent}
+use Rattle.packet_view.specs.Packets.{Upper, LaterFragment, Payload, extent}
 
 abbrev pub version : List ℕ → ℕ
 version packet = slice_index packet 0 / 16
 
--- counted behind the forty bytes of the header
+-- counted after the forty bytes of the header
 abbrev pub payload_length : List ℕ → ℕ
 payload_length packet = number_from 4 2 packet
 
@@ -39,13 +39,13 @@ pub record IsSkipped (number : ℕ) (header : List ℕ) : Type 0 where
   pub whole : length header ≡ extension_length number header
   pub first_fragment : number ≡ 44 → fragment_offset header ≡ 0
 
--- Headers one behind another. The first has this number, and the first byte of each is the number of the next
--- header, behind the last one of what follows them.
+-- Headers one after another. The first has this number, and the first byte of each is the number of the next
+-- header, after the last one of what follows them.
 abbrev pub IsChain : ℕ → List (List ℕ) → ℕ → Type 0
 IsChain number [] next = number ≡ next
 IsChain number (header ∷ headers) next = IsSkipped number header × IsChain (slice_index header 0) headers next
 
--- Behind the first forty bytes and these skipped headers stands, under this number, the rest of the packet. It
+-- After the first forty bytes and these skipped headers stands, under this number, the rest of the packet. It
 -- ends by the payload length or with the bytes, whichever comes first.
 pub record Skips (packet : List ℕ) (skipped : List (List ℕ)) (next : ℕ) (rest : List ℕ) : Type 0 where
   pub header : List ℕ
@@ -56,7 +56,7 @@ pub record Skips (packet : List ℕ) (skipped : List (List ℕ)) (next : ℕ) (r
   pub chain : IsChain (next_header packet) skipped next
   pub at_most_eight : length skipped ≤ 8
 
--- Fewer than forty bytes, another version, or behind skipped headers an extension header that is the ninth or that
+-- Fewer than forty bytes, another version, or after skipped headers an extension header that is the ninth or that
 -- the packet ends within.
 abbrev pub IsMalformed : List ℕ → Type 0
 IsMalformed packet =
@@ -66,8 +66,8 @@ IsMalformed packet =
 
 -- The fragment header of a later fragment ends the chain, as one of the eight. The protocol is the number in it.
 abbrev pub Carries : List ℕ → Upper → Type 0
-Carries packet (Later proto) =
+Carries packet (LaterFragment proto) =
     (version packet ≡ 6) × (skipped : List (List ℕ)) × (header rest : List ℕ) × Skips packet skipped 44 (header ++ rest)
     × (length skipped < 8) × (length header ≡ 8) × (fragment_offset header ≢ 0) × (proto ≡ slice_index header 0)
-Carries packet (First proto payload) =
+Carries packet (Payload proto payload) =
     (version packet ≡ 6) × (skipped : List (List ℕ)) × Skips packet skipped proto payload × (is_extension proto ≡ false)

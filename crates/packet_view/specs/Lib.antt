@@ -3,12 +3,11 @@ pub mod Bytes
 pub mod Captures
 pub mod CheckedCaptures
 pub mod Ethernet
-pub mod FrameSteps
 pub mod Frames
 pub mod Ipv4
 pub mod Ipv6
 pub mod Packets
 pub mod RecordLists
-pub mod RecordSteps
 pub mod Transport
 pub mod Tuples
+pub mod inner

@@ -1,4 +1,4 @@
--- What the first bytes behind the IP headers say: ports (RFC 768, RFC 9293), TCP flags, ICMP types (RFC 792, RFC 4443).
+-- What the first bytes after the IP headers say: ports (RFC 768, RFC 9293), TCP flags, ICMP types (RFC 792, RFC 4443).
 use Rattle.std.specs.Prelude.{◌≡◌, ◌≢◌, ◌≤◌, ◌<◌, ◌⊎◌, ℕ, List, length, slice_index}
 use Rattle.packet_view.specs.declared.tuple.Family.{Family}
 use Rattle.packet_view.specs.declared.tuple.Fields.{Fields}

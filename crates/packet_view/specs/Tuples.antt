@@ -4,7 +4,7 @@ use Rattle.packet_view.specs.declared.tuple.Family.{Family}
 use Rattle.packet_view.specs.declared.tuple.Fields.{Fields}
 use Rattle.packet_view.specs.declared.tuple.Tuple.{Tuple}
 
-pub record Facts : Type 0 where
+pub record TupleFacts : Type 0 where
   pub family : Family
   pub source : ℕ
   pub dest : ℕ
@@ -12,5 +12,5 @@ pub record Facts : Type 0 where
   pub fields : Fields
 
 -- what a tuple says
-abbrev pub facts : Tuple → Facts
-facts t = record { family = t.family; source = t.source; dest = t.dest; proto = t.proto; fields = t.fields }
+abbrev pub tuple_facts : Tuple → TupleFacts
+tuple_facts t = record { family = t.family; source = t.source; dest = t.dest; proto = t.proto; fields = t.fields }

@@ -1,4 +1,4 @@
-//! Captures of the classic pcap format: a header, and records one behind another.
+//! Captures of the classic pcap format: a header, and records one after another.
 ghost use Rattle.std.specs.Prelude.{◌≡◌, ◌≤◌, ◌+◌, ◌⊎◌, ◌≢◌, length, List, Ok, Err, IsTrue, ◌↔◌, IfOk, IfErr, MatchResult, map};
 ghost use Rattle.packet_view.specs.Captures.{
   End,
@@ -8,16 +8,16 @@ ghost use Rattle.packet_view.specs.Captures.{
   IsCapture,
   IsCaptureFault,
   IsHeaderFault,
-  IsPart,
-  Part,
-  Seen,
+  IsPiece,
+  PieceFacts,
+  PacketFacts,
   end_of,
   number_from,
-  parted,
-  seen,
+  piece_facts,
+  packet_facts,
 };
 ghost use Rattle.packet_view.specs.CheckedCaptures.{packets_of};
-ghost use Rattle.packet_view.specs.RecordSteps.{Checks, part_of};
+ghost use Rattle.packet_view.specs.inner.RecordSteps.{Checks, part_of};
 ghost use Rattle.packet_view.specs.declared.capture.CaptureFault.{CaptureFault};
 ghost use Rattle.packet_view.specs.declared.capture.CaptureFault.TheVariants.{Memory};
 ghost use Rattle.packet_view.specs.declared.capture.Order.{Order};
@@ -43,10 +43,10 @@ pub struct Packet<'a> {
     pub frame: &'a [u8],
 }
 
-/// What stands at the front of the records that are left.
+/// What is at the front of the records that are left.
 #[derive(Clone, Copy, Debug)]
 pub enum Piece<'a> {
-    /// A record, and the bytes behind it.
+    /// A record, and the bytes after it.
     Whole {
         moment: u32,
         frame: &'a [u8],
@@ -172,7 +172,7 @@ pub fn capture_header(bytes: &[u8]) -> Result<Order, CaptureFault>
 
 #[inline]
 fn front_piece(rest: &[u8], order: Order) -> Piece<'_>
-    ensures { parted result ≡ part_of order rest.now }
+    ensures { piece_facts result ≡ part_of order rest.now }
 {
     if rest.is_empty() {
         return Piece::End;
@@ -194,16 +194,16 @@ fn front_piece(rest: &[u8], order: Order) -> Piece<'_>
     }
 }
 
-/// What stands at the front of the records that are left of a capture in this order.
+/// What is at the front of the records that are left of a capture in this order.
 #[inline]
 pub fn next_record(rest: &[u8], order: Order) -> Piece<'_>
-    ensures shown { IsPart order rest.now (parted result) }
-    ensures only { (other : Part) → IsPart order rest.now other → other ≡ parted result }
+    ensures shown { IsPiece order rest.now (piece_facts result) }
+    ensures only { (other : PieceFacts) → IsPiece order rest.now other → other ≡ piece_facts result }
 {
     front_piece(rest, order)
 }
 
-/// The records behind a header.
+/// The records after a header.
 fn check_records(bytes: &[u8], order: Order) -> Result<CheckedCapture<'_>, CaptureFault>
     ensures { Checks order bytes.now result }
 {
@@ -233,7 +233,7 @@ fn check_records(bytes: &[u8], order: Order) -> Result<CheckedCapture<'_>, Captu
 pub fn check_capture(bytes: &[u8]) -> Result<CheckedCapture<'_>, CaptureFault>
     ensures ok { IfOk result (λ checked. IsCapture bytes.now (packets_of checked.records) (end_of checked.truncated)) }
     ensures fault { IfErr result (IsCaptureFault bytes.now) }
-    ensures accepts { (packets : List Seen) (end : End) → IsCapture bytes.now packets end →
+    ensures accepts { (packets : List PacketFacts) (end : End) → IsCapture bytes.now packets end →
         MatchResult result (λ checked. (packets_of checked.records ≡ packets) × (end_of checked.truncated ≡ end)) (λ _. ⊥) }
     ensures refuses { (fault : CaptureFault) → IsCaptureFault bytes.now fault → result ≡ Err fault }
 {
@@ -243,11 +243,11 @@ pub fn check_capture(bytes: &[u8]) -> Result<CheckedCapture<'_>, CaptureFault>
 
 /// The packets of a capture. Memory is answered where a growth was refused, and none is asked for before a whole record.
 pub fn read_capture<'a>(alloc: Global, bytes: &'a [u8]) -> Result<Capture<'a>, CaptureFault>
-    ensures ok { IfOk result (λ capture. IsCapture bytes.entry.now (map seen capture.packets.items) (end_of capture.truncated)) }
+    ensures ok { IfOk result (λ capture. IsCapture bytes.entry.now (map packet_facts capture.packets.items) (end_of capture.truncated)) }
     ensures fault { IfErr result (λ fault. fault ≢ Memory → IsCaptureFault bytes.entry.now fault) }
     ensures memory { IfErr result (λ fault. fault ≡ Memory → HasRecord bytes.entry.now) }
-    ensures accepts { (packets : List Seen) (end : End) → IsCapture bytes.entry.now packets end →
-        MatchResult result (λ capture. (map seen capture.packets.items ≡ packets) × (end_of capture.truncated ≡ end)) (λ fault. fault ≡ Memory) }
+    ensures accepts { (packets : List PacketFacts) (end : End) → IsCapture bytes.entry.now packets end →
+        MatchResult result (λ capture. (map packet_facts capture.packets.items ≡ packets) × (end_of capture.truncated ≡ end)) (λ fault. fault ≡ Memory) }
     ensures refuses { (fault : CaptureFault) → IsCaptureFault bytes.entry.now fault →
         MatchResult result (λ capture. ⊥) (λ found. (found ≡ fault) ⊎ (found ≡ Memory)) }
 {

@@ -1,8 +1,8 @@
 //! Frames, and what they turn out to be.
 ghost use Rattle.std.specs.Prelude.{◌≡◌, ◌≤◌, ◌<◌, ℕ, length, slice_index};
 ghost use Rattle.packet_view.specs.Bytes.{number_from};
-ghost use Rattle.packet_view.specs.Frames.{IsFrame, View, viewed};
-ghost use Rattle.packet_view.specs.FrameSteps.{direction_of, packets, view_of, view_of_packet};
+ghost use Rattle.packet_view.specs.Frames.{IsFrame, FrameFacts, frame_facts};
+ghost use Rattle.packet_view.specs.inner.FrameSteps.{direction_of, packets, view_of, view_of_packet};
 
 use crate::packet::{IpPacket, Upper};
 use crate::tuple::{Direction, Fields, Mac, Tuple};
@@ -56,14 +56,14 @@ fn direction(frame: &[u8], own: Option<Mac>) -> Direction
 /// What a frame that goes this way is by its packet, None where that is malformed.
 #[inline]
 fn frame_of(direction: Direction, packet: Option<IpPacket<'_>>) -> Frame
-    ensures { viewed result ≡ view_of_packet direction (packets packet.entry) }
+    ensures { frame_facts result ≡ view_of_packet direction (packets packet.entry) }
 {
     let Some(packet) = packet else {
         return Frame::Malformed;
     };
     let (proto, fields) = match packet.upper {
-        Upper::Later(proto) => (proto, Fields::Absent),
-        Upper::First(proto, payload) => {
+        Upper::LaterFragment(proto) => (proto, Fields::Absent),
+        Upper::Payload(proto, payload) => {
             let Some(fields) = transport::fields(packet.family, proto, payload) else {
                 return Frame::Short;
             };
@@ -85,7 +85,7 @@ fn frame_of(direction: Direction, packet: Option<IpPacket<'_>>) -> Frame
 /// The layers, one above the other.
 #[inline]
 fn read(frame: &[u8], own: Option<Mac>) -> Frame
-    ensures { viewed result ≡ view_of frame.now own }
+    ensures { frame_facts result ≡ view_of frame.now own }
 {
     let Some((kind, content)) = ethernet::content(frame) else {
         return Frame::Malformed;
@@ -104,8 +104,8 @@ fn read(frame: &[u8], own: Option<Mac>) -> Frame
 /// length says, or with the frame. A length of 0, as captures show of offloaded packets, says nothing.
 #[inline]
 pub fn view(frame: &[u8], own: Option<Mac>) -> Frame
-    ensures shown { IsFrame frame.now own (viewed result) }
-    ensures only { (other : View) → IsFrame frame.now own other → other ≡ viewed result }
+    ensures shown { IsFrame frame.now own (frame_facts result) }
+    ensures only { (other : FrameFacts) → IsFrame frame.now own other → other ≡ frame_facts result }
 {
     read(frame, own)
 }

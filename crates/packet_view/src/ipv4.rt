@@ -1,6 +1,6 @@
 //! IPv4 headers (RFC 791, section 3.1).
 ghost use Rattle.std.specs.Prelude.{◌≡◌};
-ghost use Rattle.packet_view.specs.FrameSteps.{packet_of_v4, packets};
+ghost use Rattle.packet_view.specs.inner.FrameSteps.{packet_of_v4, packets};
 
 use crate::packet::{IpPacket, Upper, extent};
 use crate::tuple::Family;
@@ -23,9 +23,9 @@ pub fn packet(bytes: &[u8]) -> Option<IpPacket<'_>>
         return None;
     }
     let upper = if BigEndian::read_u16(&bytes[6..]) % 8192 == 0 {
-        Upper::First(bytes[9], &bytes[header..extent(total, bytes.len())])
+        Upper::Payload(bytes[9], &bytes[header..extent(total, bytes.len())])
     } else {
-        Upper::Later(bytes[9])
+        Upper::LaterFragment(bytes[9])
     };
     Some(IpPacket {
         family: Family::V4,

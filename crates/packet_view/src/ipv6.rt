@@ -1,7 +1,7 @@
 //! IPv6 headers, and the walk over extension headers (RFC 8200, sections 3 and 4).
 ghost use Rattle.std.specs.Prelude.{◌≡◌};
 ghost use Rattle.packet_view.specs.Ipv6;
-ghost use Rattle.packet_view.specs.FrameSteps.{header_of, headers, packet_of_v6, packets, uppers, walk};
+ghost use Rattle.packet_view.specs.inner.FrameSteps.{header_of, header_facts, packet_of_v6, packets, uppers, walk};
 
 use crate::packet::{IpPacket, Upper, extent};
 use crate::tuple::Family;
@@ -10,7 +10,7 @@ use byteorder::{BigEndian, ByteOrder};
 /// What stands under a number in the chain of headers.
 #[derive(Clone, Copy, Debug)]
 enum Header<'a> {
-    /// An extension header that is skipped: the next number, and the bytes behind the header.
+    /// An extension header that is skipped: the next number, and the bytes after the header.
     Skipped(u8, &'a [u8]),
     /// The end of the chain, None where a header isn't whole.
     Last(Option<Upper<'a>>),
@@ -27,17 +27,17 @@ fn is_extension(number: u8) -> bool
 /// What stands under this number at the front of the bytes.
 #[inline]
 fn header_at(number: u8, bytes: &[u8]) -> Header<'_>
-    ensures { headers result ≡ header_of number bytes.now }
+    ensures { header_facts result ≡ header_of number bytes.now }
 {
     if !is_extension(number) {
-        return Header::Last(Some(Upper::First(number, bytes)));
+        return Header::Last(Some(Upper::Payload(number, bytes)));
     }
     if bytes.len() < 8 {
         return Header::Last(None);
     }
     if number == 44 {
         if BigEndian::read_u16(&bytes[2..]) / 8 != 0 {
-            return Header::Last(Some(Upper::Later(bytes[0])));
+            return Header::Last(Some(Upper::LaterFragment(bytes[0])));
         }
         return Header::Skipped(bytes[0], &bytes[8..]);
     }
@@ -48,7 +48,7 @@ fn header_at(number: u8, bytes: &[u8]) -> Header<'_>
     Header::Skipped(bytes[0], &bytes[len..])
 }
 
-/// What the packet carries behind at most eight skipped headers. None where a header isn't whole, or a ninth stands there.
+/// What the packet carries after at most eight skipped headers. None where a header isn't whole, or a ninth is there.
 #[inline]
 fn upper(first: u8, bytes: &[u8]) -> Option<Upper<'_>>
     ensures { uppers result ≡ walk 8 first bytes.now }
@@ -67,7 +67,7 @@ fn upper(first: u8, bytes: &[u8]) -> Option<Upper<'_>>
     if is_extension(number) {
         return None;
     }
-    Some(Upper::First(number, rest))
+    Some(Upper::Payload(number, rest))
 }
 
 /// The packet whose bytes these are. None where its headers are malformed.

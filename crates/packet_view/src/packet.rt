@@ -5,13 +5,13 @@ ghost use Rattle.packet_view.specs.Packets.{extent};
 
 use crate::tuple::Family;
 
-/// What stands behind the headers of an IP packet.
+/// What follows the headers of an IP packet.
 #[derive(Clone, Copy, Debug)]
 pub enum Upper<'a> {
     /// A fragment other than the first, by its protocol.
-    Later(u8),
+    LaterFragment(u8),
     /// The protocol and its bytes.
-    First(u8, &'a [u8]),
+    Payload(u8, &'a [u8]),
 }
 
 /// An IP packet whose headers are right.

@@ -1,15 +1,15 @@
 //! The records of a capture, taken one by one where they stand.
 ghost use Rattle.std.specs.Prelude.{◌≡◌, ◌≤◌, length, drop};
-ghost use Rattle.packet_view.specs.Captures.{seen};
+ghost use Rattle.packet_view.specs.Captures.{packet_facts};
 ghost use Rattle.packet_view.specs.RecordLists.{bytes_of, front_packet, record_length};
 
 use crate::capture::{Order, Packet, u32_in};
 
-// The packet of the record at the front, which is whole, and the bytes behind it.
+// The packet of the record at the front, which is whole, and the bytes after it.
 #[inline]
 fn front_of<'a>(bytes: &'a [u8], order: Order) -> (Packet<'a>, &'a [u8])
     requires { record_length order bytes.now ≤ length bytes.now }
-    ensures packet { seen result.0 ≡ front_packet order bytes.now }
+    ensures packet { packet_facts result.0 ≡ front_packet order bytes.now }
     ensures behind { result.1.now ≡ drop (record_length order bytes.now) bytes.now }
 {
     let kept = u32_in(order, &bytes[8..]) as usize;
@@ -20,7 +20,7 @@ fn front_of<'a>(bytes: &'a [u8], order: Order) -> (Packet<'a>, &'a [u8])
     (packet, &bytes[16 + kept..])
 }
 
-/// Records that are known to be whole, and the bytes behind them.
+/// Records that are known to be whole, and the bytes after them.
 #[derive(Clone, Copy, Debug)]
 pub struct Records<'a> {
     pub bytes: &'a [u8],

@@ -198,7 +198,7 @@ const IPV6_UDP: Tuple = Tuple {
 fn reads_ipv6_fragments(rt: HostRuntime) {
     let first = [
         0x02, 0, 0, 0, 0, 0x02, 0x02, 0, 0, 0, 0, 0x01, 0x86, 0xdd, // Ethernet
-        0x60, 0, 0, 0, 0, 0x20, 0, 0x40, // IPv6, 32 bytes behind it
+        0x60, 0, 0, 0, 0, 0x20, 0, 0x40, // IPv6, 32 bytes after it
         0x20, 0x01, 0x0d, 0xb8, 0, 0, 0, 0, 0, 0, 0, 0, 0, 0, 0, 0x01, // source
         0x20, 0x01, 0x0d, 0xb8, 0, 0, 0, 0, 0, 0, 0, 0, 0, 0, 0, 0x02, // destination
         0x2c, 0, 0x01, 0x04, 0, 0, 0, 0, // hop-by-hop options
@@ -208,7 +208,7 @@ fn reads_ipv6_fragments(rt: HostRuntime) {
     ];
     let later = [
         0x02, 0, 0, 0, 0, 0x02, 0x02, 0, 0, 0, 0, 0x01, 0x86, 0xdd, // Ethernet
-        0x60, 0, 0, 0, 0, 0x18, 0, 0x40, // IPv6, 24 bytes behind it
+        0x60, 0, 0, 0, 0, 0x18, 0, 0x40, // IPv6, 24 bytes after it
         0x20, 0x01, 0x0d, 0xb8, 0, 0, 0, 0, 0, 0, 0, 0, 0, 0, 0, 0x01, // source
         0x20, 0x01, 0x0d, 0xb8, 0, 0, 0, 0, 0, 0, 0, 0, 0, 0, 0, 0x02, // destination
         0x2c, 0, 0x01, 0x04, 0, 0, 0, 0, // hop-by-hop options
@@ -235,7 +235,7 @@ fn reads_ipv6_fragments(rt: HostRuntime) {
 fn skips_eight_ipv6_headers(rt: HostRuntime) {
     let eight = [
         0x02, 0, 0, 0, 0, 0x02, 0x02, 0, 0, 0, 0, 0x01, 0x86, 0xdd, // Ethernet
-        0x60, 0, 0, 0, 0, 0x48, 0x3c, 0x40, // IPv6, 72 bytes behind it
+        0x60, 0, 0, 0, 0, 0x48, 0x3c, 0x40, // IPv6, 72 bytes after it
         0x20, 0x01, 0x0d, 0xb8, 0, 0, 0, 0, 0, 0, 0, 0, 0, 0, 0, 0x01, // source
         0x20, 0x01, 0x0d, 0xb8, 0, 0, 0, 0, 0, 0, 0, 0, 0, 0, 0, 0x02, // destination
         0x3c, 0, 0, 0, 0, 0, 0, 0, // destination options
@@ -250,7 +250,7 @@ fn skips_eight_ipv6_headers(rt: HostRuntime) {
     ];
     let nine = [
         0x02, 0, 0, 0, 0, 0x02, 0x02, 0, 0, 0, 0, 0x01, 0x86, 0xdd, // Ethernet
-        0x60, 0, 0, 0, 0, 0x50, 0x3c, 0x40, // IPv6, 80 bytes behind it
+        0x60, 0, 0, 0, 0, 0x50, 0x3c, 0x40, // IPv6, 80 bytes after it
         0x20, 0x01, 0x0d, 0xb8, 0, 0, 0, 0, 0, 0, 0, 0, 0, 0, 0, 0x01, // source
         0x20, 0x01, 0x0d, 0xb8, 0, 0, 0, 0, 0, 0, 0, 0, 0, 0, 0, 0x02, // destination
         0x3c, 0, 0, 0, 0, 0, 0, 0, // destination options
@@ -430,7 +430,7 @@ fn takes_the_packets_of_a_capture_where_they_stand(rt: HostRuntime) -> Result<()
     Ok(())
 }
 
-// How many packets there are, the moment of the first, and how many are left behind it.
+// How many packets there are, the moment of the first, and how many are left after it.
 fn front_of(mut packets: Packets<'_>) -> (usize, Option<u32>, usize) {
     let count = packets.count();
     let moment = packets.next().map(|packet| packet.moment);

@@ -1,7 +1,7 @@
 //! The first bytes of TCP (RFC 9293), UDP (RFC 768) and ICMP (RFC 792, RFC 4443).
 ghost use Rattle.std.specs.Prelude.{◌≡◌, IsTrue, IfSome};
 ghost use Rattle.packet_view.specs.Addresses.{fields_suit};
-ghost use Rattle.packet_view.specs.FrameSteps.{fields_of};
+ghost use Rattle.packet_view.specs.inner.FrameSteps.{fields_of};
 
 use crate::tuple::{Family, Fields};
 use byteorder::{BigEndian, ByteOrder};

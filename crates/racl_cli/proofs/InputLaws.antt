@@ -5,7 +5,7 @@ use Rattle.std.proofs.lemmas.List.{length-append}
 use Rattle.hex.specs.Hex.{decode_of}
 use Rattle.hex.proofs.HexLemmas.{decode_of-ok}
 use Rattle.packet_view.specs.Bytes.{AreBytes}
-use Rattle.packet_view.specs.Captures.{End, IsCapture, Seen, Truncated, Whole, end_of}
+use Rattle.packet_view.specs.Captures.{End, IsCapture, PacketFacts, Truncated, Whole, end_of}
 use Rattle.packet_view.proofs.CutLemmas as captures
 use Rattle.packet_view.proofs.ReadingLemmas.{one_fault, some_reading}
 use Rattle.acl_policy.specs.Policies.{PolicyFacts}
@@ -18,7 +18,7 @@ use Rattle.racl_io.specs.declared.fault.Fault.TheVariants.{TooLarge, NoCapture, 
 use Rattle.racl_io.specs.declared.input.Form.{Form}
 use Rattle.racl_io.specs.declared.input.Form.TheVariants.{Binary, Hexadecimal}
 use Rattle.racl_io.specs.Faults.{IsFaultOfBytes, IsFaultOfCapture, IsFaultOfContent, IsFaultOfParts, IsInputFault, capture_fault, policy_fault}
-use Rattle.racl_io.specs.Inputs.{IsContent, IsFirstLine, IsInput, IsMarked, IsMarker, HasNoFeed, Parts, digits_of, joined, most_bytes, word_of}
+use Rattle.racl_io.specs.Inputs.{IsContent, IsFirstLine, IsInput, IsMarked, IsMarker, HasNoFeed, InputFacts, digits_of, joined, most_bytes, word_of}
 use Rattle.racl_cli.specs.Runs.{ByOneThread, FiltersCapture, FiltersContent, FiltersInput, HasOutcome, Outcome, flow_layout}
 use Rattle.racl_io.proofs.InputLemmas.{IsFront, front_grows, front_of_all, no_input}
 use Rattle.flow_filter.proofs.OneThreadLemmas.{one_verdicts, some_verdicts}
@@ -38,7 +38,7 @@ bytes_marked : (form : Form) (content marked : List ℕ) → AreBytes marked →
 bytes_marked form content marked fit (inl (line, marker, same)) = λ place. bytes_behind line (10 ∷ content) (subst AreBytes same fit) (suc place)
 bytes_marked form content marked fit (inr (same, none)) = subst AreBytes (sym none) no_bytes
 
-bytes_of_content : (bytes : List ℕ) (parts : Parts) → AreBytes bytes → IsInput bytes parts → AreBytes parts.content
+bytes_of_content : (bytes : List ℕ) (parts : InputFacts) → AreBytes bytes → IsInput bytes parts → AreBytes parts.content
 bytes_of_content bytes parts fit is = bytes_marked parts.form parts.content is.marked (bytes_behind parts.policy is.marked (subst AreBytes is.parted fit)) is.content
 
 bytes_of_capture : (form : Form) (content capture : List ℕ) → AreBytes content → IsContent form content capture → AreBytes capture
@@ -54,7 +54,7 @@ one_outcome_of_capture times policy capture one other fit a b =
     let verdicts = one_verdicts flow_layout times policy b.packets one.verdicts other.verdicts (subst (λ p. ByOneThread times policy p one.verdicts) both.0 a.verdicts) b.verdicts in
     ap₂ (λ v t. let outcome : Outcome = record { verdicts = v; truncated = t } in outcome) verdicts (one_truncated one.truncated other.truncated both.1)
 
-one_outcome_of_parts : (times : Timeouts) (parts : Parts) (one other : Outcome) → AreBytes parts.content
+one_outcome_of_parts : (times : Timeouts) (parts : InputFacts) (one other : Outcome) → AreBytes parts.content
     → FiltersParts (ByOneThread times) parts one → FiltersParts (ByOneThread times) parts other → one ≡ other
 one_outcome_of_parts times parts one other fit a b =
     let policy = texts.one_policy (lines parts.policy) a.policy b.policy a.says.1 b.says.1 in
@@ -81,7 +81,7 @@ one_fault_of_content form content one other fit (inl (same, none)) (inr (capture
 one_fault_of_content form content one other fit (inr (capture, spelt, of)) second =
     one_fault_of_capture capture one other (bytes_of_capture form content capture fit spelt) of (fault_of_known_content form content capture other spelt second)
 
-one_fault_of_parts : (parts : Parts) (one other : Fault) → AreBytes parts.content → IsFaultOfParts parts one → IsFaultOfParts parts other → one ≡ other
+one_fault_of_parts : (parts : InputFacts) (one other : Fault) → AreBytes parts.content → IsFaultOfParts parts one → IsFaultOfParts parts other → one ≡ other
 one_fault_of_parts parts one other fit (inl (cause, is, same)) (inl (cause', is', same')) =
     same ∙ ap policy_fault (texts.one_fault parts.policy cause cause' is is') ∙ sym same'
 one_fault_of_parts parts one other fit (inl (cause, is, same)) (inr (policy, says, of)) = absurd (texts.policy_or_fault parts.policy policy cause says is)
@@ -109,7 +109,7 @@ no_fault_of_content times policy form content outcome fault fit filters of =
     captures.no_fault_too filters.capture filters.filters.packets (end_of outcome.truncated) found.0
     (bytes_of_capture form content filters.capture fit filters.spelt) filters.filters.records found.1
 
-no_fault_of_parts : (times : Timeouts) (parts : Parts) (outcome : Outcome) (fault : Fault) → AreBytes parts.content
+no_fault_of_parts : (times : Timeouts) (parts : InputFacts) (outcome : Outcome) (fault : Fault) → AreBytes parts.content
     → FiltersParts (ByOneThread times) parts outcome → IsFaultOfParts parts fault → ⊥
 no_fault_of_parts times parts outcome fault fit filters (inl (cause, is, same)) = texts.policy_or_fault parts.policy filters.policy cause filters.says is
 no_fault_of_parts times parts outcome fault fit filters (inr (policy, says, of)) = no_fault_of_content times filters.policy parts.form parts.content outcome fault fit filters.filters of
@@ -123,14 +123,14 @@ no_fault_too times bytes outcome fault fit has (inr (few, of)) =
 
 -- ---- verdicts on all packets
 
-outcome_of_capture : (times : Timeouts) (policy : PolicyFacts) (capture : List ℕ) (packets : List Seen) (truncated : Bool) → IsCapture capture packets (end_of truncated)
+outcome_of_capture : (times : Timeouts) (policy : PolicyFacts) (capture : List ℕ) (packets : List PacketFacts) (truncated : Bool) → IsCapture capture packets (end_of truncated)
     → (outcome : Outcome) × FiltersCapture (ByOneThread times) policy capture outcome
 outcome_of_capture times policy capture packets truncated is =
     let verdicts = some_verdicts flow_layout times policy packets in
     let outcome : Outcome = record { verdicts = verdicts.0; truncated = truncated } in
     (outcome, record { packets = packets; records = is; verdicts = verdicts.1 })
 
-outcome_at_end : (times : Timeouts) (policy : PolicyFacts) (capture : List ℕ) (packets : List Seen) (end : End) → IsCapture capture packets end
+outcome_at_end : (times : Timeouts) (policy : PolicyFacts) (capture : List ℕ) (packets : List PacketFacts) (end : End) → IsCapture capture packets end
     → (outcome : Outcome) × FiltersCapture (ByOneThread times) policy capture outcome
 outcome_at_end times policy capture packets Whole is = outcome_of_capture times policy capture packets false is
 outcome_at_end times policy capture packets Truncated is = outcome_of_capture times policy capture packets true is
@@ -165,7 +165,7 @@ outcome_or_fault_of_content times policy form content =
       | inr none ↦ inr (Hex, inl (refl, none))
     ]
 
-outcome_or_fault_of_parts : (times : Timeouts) (parts : Parts) → ((outcome : Outcome) × FiltersParts (ByOneThread times) parts outcome) ⊎ ((fault : Fault) × IsFaultOfParts parts fault)
+outcome_or_fault_of_parts : (times : Timeouts) (parts : InputFacts) → ((outcome : Outcome) × FiltersParts (ByOneThread times) parts outcome) ⊎ ((fault : Fault) × IsFaultOfParts parts fault)
 outcome_or_fault_of_parts times parts =
     elim (policies.some_reading parts.policy) [
       | inl says ↦ elim (outcome_or_fault_of_content times says.0 parts.form parts.content) [
@@ -231,14 +231,14 @@ first_line (b ∷ bytes) =
       ]
     ]
 
-parts_of_front : (bytes rest content : List ℕ) (form : Form) → IsFront bytes rest → IsMarked form content rest → (parts : Parts) × IsInput bytes parts
+parts_of_front : (bytes rest content : List ℕ) (form : Form) → IsFront bytes rest → IsMarked form content rest → (parts : InputFacts) × IsInput bytes parts
 parts_of_front bytes rest content form front marked =
-    let parts : Parts = record { policy = joined front.lines; form = form; content = content } in
+    let parts : InputFacts = record { policy = joined front.lines; form = form; content = content } in
     (parts, record { lines = front.lines; plain = front.plain; policy = refl; marked = rest; parted = front.parted; content = marked })
 
 -- the parts, or none are there, where what stands before the rest are lines that are no markers
 parts_behind : (fuel : ℕ) (bytes rest : List ℕ) → length rest < fuel → IsFront bytes rest
-    → ((parts : Parts) × IsInput bytes parts) ⊎ ((parts : Parts) → IsInput bytes parts → ⊥)
+    → ((parts : InputFacts) × IsInput bytes parts) ⊎ ((parts : InputFacts) → IsInput bytes parts → ⊥)
 parts_behind zero bytes rest short front = absurd (omega (arith, short))
 parts_behind (suc fuel) bytes rest short front =
     elim (first_line rest) [

@@ -1,7 +1,7 @@
 -- An input has one outcome.
 use Rattle.std.specs.Io.KnownBytes.{Appends}
 use Rattle.std.proofs.Common.{◌≡◌, ◌≢◌, ◌∙◌, ◌≤◌, ◌⊎◌, All, ℕ, Bool, true, false, List, length, Option, Some, None, Result, Ok, Err, IfOk, IfErr, OnOk, MatchResult, IfSome, refl, sym, ap, ap₂, subst, inl, inr}
-use Rattle.packet_view.specs.Captures.{End, IsCapture, IsCaptureFault, Seen, end_of}
+use Rattle.packet_view.specs.Captures.{End, IsCapture, IsCaptureFault, PacketFacts, end_of}
 use Rattle.packet_view.specs.declared.capture.CaptureFault.{CaptureFault}
 use Rattle.packet_view.specs.declared.capture.CaptureFault.TheVariants as packet
 use Rattle.packet_view.specs.declared.tuple.Family.{Family}
@@ -19,7 +19,7 @@ use Rattle.racl_io.specs.declared.report.Totals.{Totals}
 use Rattle.racl_io.specs.Faults.{IsSystemFault, capture_fault, policy_fault}
 use Rattle.racl_io.specs.Reports.{report_of, totals_of}
 use Rattle.racl_io.specs.declared.fault.Fault.TheVariants.{Hex, Memory, NoCapture, Write}
-use Rattle.racl_io.specs.Inputs.{IsContent, IsInput, Parts, most_bytes}
+use Rattle.racl_io.specs.Inputs.{IsContent, IsInput, InputFacts, most_bytes}
 use Rattle.racl_io.proofs.InputLemmas.{one_input}
 use Rattle.racl_cli.specs.Runs.{Agrees, AnswersCapture, AnswersContent, AnswersInput, ByOneThread, ByWorkers, FiltersCapture, FiltersContent, FiltersInput, HasOutcome, HasReported, HasRun, IsAnswer, IsReached, Judging, Outcome, dealt_to, flow_layout}
 use Rattle.flow_filter.proofs.OneThreadLemmas.{one_verdicts}
@@ -35,7 +35,7 @@ one_truncated false true same = cc
 one_truncated false false same = refl
 
 -- a capture has one outcome of the one-thread filter
-pub one_outcome_of_packets : (times : Timeouts) (policy : PolicyFacts) (capture : List ℕ) (packets : List Seen) (verdicts : List Verdict) (truncated : Bool) (outcome : Outcome)
+pub one_outcome_of_packets : (times : Timeouts) (policy : PolicyFacts) (capture : List ℕ) (packets : List PacketFacts) (verdicts : List Verdict) (truncated : Bool) (outcome : Outcome)
     (filters : FiltersCapture (ByOneThread times) policy capture outcome) → (packets ≡ filters.packets) × (end_of truncated ≡ end_of outcome.truncated)
     → ByOneThread times policy packets verdicts → outcome_of verdicts truncated ≡ outcome
 one_outcome_of_packets times policy capture packets verdicts truncated outcome filters (same, ended) are =
@@ -44,7 +44,7 @@ one_outcome_of_packets times policy capture packets verdicts truncated outcome f
     (one_truncated truncated outcome.truncated ended)
 
 -- what the workers say of their verdicts, where sessions live as long as the words ask for
-pub given_by_workers : (options : Options) (times : Timeouts) (policy : PolicyFacts) (packets : List Seen) (verdicts : List Verdict) (workers : ℕ)
+pub given_by_workers : (options : Options) (times : Timeouts) (policy : PolicyFacts) (packets : List PacketFacts) (verdicts : List Verdict) (workers : ℕ)
     → times ≡ options.times → 1 ≤ workers → workers ≤ options.workers → AreJudged (dealt_to workers) times policy packets verdicts
     → ((are : AreJudged (dealt_to workers) times policy packets verdicts) (family : Family) → AreFew flow_layout times family are.judged → All (HasPagesIn times family) are.judged)
     → ByWorkers options policy packets verdicts
@@ -54,12 +54,12 @@ given_by_workers options times policy packets verdicts workers same some few jud
     record { workers = workers; some = some; few = few; judged = moved.0; paged = moved.1 }
 
 -- what an input's parts say, where they are known
-pub record FiltersParts (judging : Judging) (parts : Parts) (outcome : Outcome) : Type 0 where
+pub record FiltersParts (judging : Judging) (parts : InputFacts) (outcome : Outcome) : Type 0 where
   pub policy : PolicyFacts
   pub says : IsPolicyText parts.policy policy
   pub filters : FiltersContent judging policy parts.form parts.content outcome
 
-pub filters_of_known_parts : (judging : Judging) (bytes : List ℕ) (parts : Parts) (outcome : Outcome) → IsInput bytes parts → FiltersInput judging bytes outcome → FiltersParts judging parts outcome
+pub filters_of_known_parts : (judging : Judging) (bytes : List ℕ) (parts : InputFacts) (outcome : Outcome) → IsInput bytes parts → FiltersInput judging bytes outcome → FiltersParts judging parts outcome
 filters_of_known_parts judging bytes parts outcome is filters =
     subst (λ p. FiltersParts judging p outcome) (one_input bytes filters.parts parts filters.parted is)
     (record { policy = filters.policy; says = filters.says; filters = filters.filters })
@@ -97,15 +97,6 @@ answers_more options Has Holds IsFault Fails (Err fault) more less fails was is 
   refuses = λ cause of. is.refuses cause (was cause of);
 }
 
--- want of memory answers everything
-pub memory_answers : (options : Options) (Has : Judging → Outcome → Type 0) (IsFault : Fault → Type 0) (fault : Fault) → fault ≡ Memory → IsAnswer options Has IsFault (Err fault)
-memory_answers options Has IsFault fault same = record {
-  ok = tt;
-  accepts = λ one_thread has. same;
-  fault = λ differs. absurd (differs same);
-  refuses = λ cause of. inr same;
-}
-
 -- what is answered of a capture is answered of the content that stands for it
 pub content_answers : (options : Options) (policy : PolicyFacts) (form : Form) (content capture : List ℕ) (result : Result Outcome Fault) → IsContent form content capture
     → AnswersCapture options policy capture result
@@ -115,20 +106,8 @@ content_answers options policy form content capture result spelt is =
     (λ outcome filters. filters_of_known_content _ policy form content capture outcome spelt filters)
     (λ fault differs of. inr (capture, spelt, of)) (λ fault of. fault_of_known_content form content capture fault spelt of) is
 
--- digits that stand for no bytes
-pub hexadecimal_answers : (options : Options) (policy : PolicyFacts) (content : List ℕ) (fault : Fault)
-    → (fault ≡ Memory) ⊎ ((fault ≡ Hex) × ((capture : List ℕ) → IsContent Hexadecimal content capture → ⊥))
-    → AnswersContent options policy Hexadecimal content (Err fault)
-hexadecimal_answers options policy content fault (inl memory) = memory_answers options _ _ fault memory
-hexadecimal_answers options policy content fault (inr (same, none)) = record {
-  ok = tt;
-  accepts = λ one_thread filters. absurd (none filters.capture filters.spelt);
-  fault = λ differs. inl (same, none);
-  refuses = λ cause of. elim of [ inl wrong ↦ inl (same ∙ sym wrong.0) | inr right ↦ absurd (none right.0 right.1) ];
-}
-
--- what is answered of the content is answered of the input with this content behind a right policy
-pub input_answers : (options : Options) (bytes : List ℕ) (parts : Parts) (policy : PolicyFacts) (result : Result Outcome Fault) → IsInput bytes parts → IsPolicyText parts.policy policy
+-- what is answered of the content is answered of the input with this content after a right policy
+pub input_answers : (options : Options) (bytes : List ℕ) (parts : InputFacts) (policy : PolicyFacts) (result : Result Outcome Fault) → IsInput bytes parts → IsPolicyText parts.policy policy
     → ((right : PolicyFacts) → IsPolicyText parts.policy right → policy ≡ right) → ((cause : PolicyFault) → IsPolicyFault parts.policy cause → ⊥)
     → AnswersContent options policy parts.form parts.content result
     → AnswersInput options bytes result
@@ -141,7 +120,7 @@ input_answers options bytes parts policy result parted says one right is =
     (λ fault of. fault_of_right_policy parts fault right (fault_of_known_parts bytes parts fault parted of)) is
 
 -- an input whose policy is refused
-pub policy_answers : (options : Options) (bytes : List ℕ) (parts : Parts) (found : PolicyFault) → IsInput bytes parts
+pub policy_answers : (options : Options) (bytes : List ℕ) (parts : InputFacts) (found : PolicyFault) → IsInput bytes parts
     → ((right : PolicyFacts) → IsPolicyText parts.policy right → found ≡ policy.Memory)
     → (found ≢ policy.Memory → IsPolicyFault parts.policy found)
     → ((cause : PolicyFault) → IsPolicyFault parts.policy cause → (found ≡ cause) ⊎ (found ≡ policy.Memory))
@@ -154,7 +133,7 @@ policy_answers options bytes parts found parted accepts fails refuses = record {
 }
 
 -- an input without a marker line
-pub no_marker_answers : (options : Options) (bytes : List ℕ) → ((parts : Parts) → IsInput bytes parts → ⊥)
+pub no_marker_answers : (options : Options) (bytes : List ℕ) → ((parts : InputFacts) → IsInput bytes parts → ⊥)
     → AnswersInput options bytes (Err NoCapture)
 no_marker_answers options bytes none = record {
   ok = tt;
@@ -165,7 +144,7 @@ no_marker_answers options bytes none = record {
 
 -- a capture that is refused
 pub capture_answers : (options : Options) (policy : PolicyFacts) (capture : List ℕ) (found : CaptureFault)
-    → ((packets : List Seen) (end : End) → IsCapture capture packets end → ⊥) → IsCaptureFault capture found
+    → ((packets : List PacketFacts) (end : End) → IsCapture capture packets end → ⊥) → IsCaptureFault capture found
     → ((cause : CaptureFault) → IsCaptureFault capture cause → found ≡ cause)
     → AnswersCapture options policy capture (Err (capture_fault found))
 capture_answers options policy capture found accepts fails refuses = record {
@@ -176,9 +155,9 @@ capture_answers options policy capture found accepts fails refuses = record {
 }
 
 -- a capture whose packets were judged
-pub verdicts_answer : (options : Options) (policy : PolicyFacts) (capture : List ℕ) (packets : List Seen) (verdicts : List Verdict) (truncated : Bool)
+pub verdicts_answer : (options : Options) (policy : PolicyFacts) (capture : List ℕ) (packets : List PacketFacts) (verdicts : List Verdict) (truncated : Bool)
     → IsCapture capture packets (end_of truncated)
-    → ((others : List Seen) (end : End) → IsCapture capture others end → (packets ≡ others) × (end_of truncated ≡ end))
+    → ((others : List PacketFacts) (end : End) → IsCapture capture others end → (packets ≡ others) × (end_of truncated ≡ end))
     → ((cause : CaptureFault) → IsCaptureFault capture cause → ⊥)
     → ByWorkers options policy packets verdicts → (HavePages verdicts → ByOneThread options.times policy packets verdicts)
     → AnswersCapture options policy capture (Ok (outcome_of verdicts truncated))

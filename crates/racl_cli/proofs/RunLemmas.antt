@@ -8,7 +8,7 @@ use Rattle.racl_io.specs.declared.fault.Fault.TheVariants.{Memory, Read, TooLarg
 use Rattle.racl_io.specs.declared.input.Form.{Form}
 use Rattle.racl_io.specs.declared.input.Form.TheVariants.{Binary, Hexadecimal}
 use Rattle.racl_io.specs.Faults.{IsSystemFault, IsFaultOfBytes, IsFaultOfCapture, IsFaultOfContent, IsFaultOfParts, IsInputFault, policy_fault}
-use Rattle.racl_io.specs.Inputs.{IsContent, IsInput, Parts, most_bytes}
+use Rattle.racl_io.specs.Inputs.{IsContent, IsInput, InputFacts, most_bytes}
 use Rattle.racl_io.proofs.InputLemmas.{one_input}
 
 -- content stands for one capture
@@ -22,17 +22,17 @@ fault_of_known_content form content capture fault is (inl (same, none)) = absurd
 fault_of_known_content form content capture fault is (inr (other, spelt, of)) = subst (λ c. IsFaultOfCapture c fault) (one_content form content other capture spelt is) of
 
 -- where the parts are known, the input has no fault but theirs
-pub fault_of_known_parts : (bytes : List ℕ) (parts : Parts) (fault : Fault) → IsInput bytes parts → IsFaultOfBytes bytes fault → IsFaultOfParts parts fault
+pub fault_of_known_parts : (bytes : List ℕ) (parts : InputFacts) (fault : Fault) → IsInput bytes parts → IsFaultOfBytes bytes fault → IsFaultOfParts parts fault
 fault_of_known_parts bytes parts fault is (inl (same, none)) = absurd (none parts is)
 fault_of_known_parts bytes parts fault is (inr (other, parted, of)) = subst (λ p. IsFaultOfParts p fault) (one_input bytes other parts parted is) of
 
 -- where there are none, that is the fault
-pub fault_without_parts : (bytes : List ℕ) (fault : Fault) → ((parts : Parts) → IsInput bytes parts → ⊥) → IsFaultOfBytes bytes fault → fault ≡ NoCapture
+pub fault_without_parts : (bytes : List ℕ) (fault : Fault) → ((parts : InputFacts) → IsInput bytes parts → ⊥) → IsFaultOfBytes bytes fault → fault ≡ NoCapture
 fault_without_parts bytes fault none (inl (same, none')) = same
 fault_without_parts bytes fault none (inr (parts, parted, of)) = absurd (none parts parted)
 
--- where the policy is refused for a cause or want of memory, that is the program's fault
-pub fault_of_wrong_policy : (parts : Parts) (found : PolicyFault) (fault : Fault)
+-- where the policy is refused for a cause or out of memory, that is the program's fault
+pub fault_of_wrong_policy : (parts : InputFacts) (found : PolicyFault) (fault : Fault)
     → ((right : PolicyFacts) → IsPolicyText parts.policy right → found ≡ policy.Memory)
     → ((cause : PolicyFault) → IsPolicyFault parts.policy cause → (found ≡ cause) ⊎ (found ≡ policy.Memory))
     → IsFaultOfParts parts fault → (policy_fault found ≡ fault) ⊎ (policy_fault found ≡ Memory)
@@ -41,7 +41,7 @@ fault_of_wrong_policy parts found fault accepts refuses (inl (cause, is, same)) 
 fault_of_wrong_policy parts found fault accepts refuses (inr (right, says, of)) = inr (ap policy_fault (accepts right says))
 
 -- where the policy is right, only the content has a fault
-pub fault_of_right_policy : (parts : Parts) (fault : Fault) → ((cause : PolicyFault) → IsPolicyFault parts.policy cause → ⊥)
+pub fault_of_right_policy : (parts : InputFacts) (fault : Fault) → ((cause : PolicyFault) → IsPolicyFault parts.policy cause → ⊥)
     → IsFaultOfParts parts fault → IsFaultOfContent parts.form parts.content fault
 fault_of_right_policy parts fault refuses (inl (cause, is, same)) = absurd (refuses cause is)
 fault_of_right_policy parts fault refuses (inr (right, says, of)) = of
@@ -71,7 +71,7 @@ excluded_by_input None bytes Excludes read excludes = tt
 excluded_by_input (Some input) bytes Excludes read excludes = λ fault of.
     excludes fault (fault_of_few bytes fault read.few (subst (λ b. IsInputFault b fault) (sym read.whole) of))
 
--- a fault is want of memory or a device's, or what else it is said to be
+-- a fault is out of memory or a device's, or what else it is said to be
 pub device_or : (fault : Fault) (P : Type 0) → (fault ≢ Memory → P) → IsSystemFault fault ⊎ P
 device_or Memory P other = inl tt
 device_or Read P other = inl tt

@@ -1,7 +1,7 @@
 -- What a run has filtered, from the bytes of its input.
 use Rattle.std.specs.Prelude.{◌≡◌, ◌≢◌, ◌≤◌, ℕ, Bool, List, length, Option, IfSome, IfOk, IfErr, Result, MatchResult, All}
 use Rattle.std.specs.Io.KnownBytes.{Appends}
-use Rattle.packet_view.specs.Captures.{IsCapture, Seen, end_of}
+use Rattle.packet_view.specs.Captures.{IsCapture, PacketFacts, end_of}
 use Rattle.packet_view.specs.declared.tuple.Family.{Family}
 use Rattle.acl_policy.specs.Policies.{IsPolicyText, PolicyFacts}
 use Rattle.bihash_words.specs.Hash.{hash_of}
@@ -17,7 +17,7 @@ use Rattle.racl_io.specs.declared.fault.Fault.TheVariants.{Memory}
 use Rattle.racl_io.specs.declared.input.Form.{Form}
 use Rattle.racl_io.specs.declared.report.Totals.{Totals}
 use Rattle.racl_io.specs.Faults.{IsFaultOfBytes, IsFaultOfCapture, IsFaultOfContent, Refuses}
-use Rattle.racl_io.specs.Inputs.{IsContent, IsInput, Parts, most_bytes}
+use Rattle.racl_io.specs.Inputs.{IsContent, IsInput, InputFacts, most_bytes}
 use Rattle.racl_io.specs.Reports.{report_of, totals_of}
 
 -- ---- verdicts
@@ -36,7 +36,7 @@ dealt_to workers = record { layout = flow_layout; dealing = Bucket; workers = wo
 
 -- which verdicts the packets of a capture may have under a policy
 abbrev pub Judging : Type 1
-Judging = PolicyFacts → List Seen → List Verdict → Type 0
+Judging = PolicyFacts → List PacketFacts → List Verdict → Type 0
 
 -- those of the one-thread filter
 abbrev pub ByOneThread : Timeouts → Judging
@@ -44,7 +44,7 @@ ByOneThread times policy packets verdicts = AreVerdicts flow_layout times policy
 
 -- Those that some workers gave, and no more workers than the words ask for. No packet of a family's flows is refused
 -- for want of pages where the family has at most 256 such packets for IPv4, 64 for IPv6.
-pub record ByWorkers (options : Options) (policy : PolicyFacts) (packets : List Seen) (verdicts : List Verdict) : Type 0 where
+pub record ByWorkers (options : Options) (policy : PolicyFacts) (packets : List PacketFacts) (verdicts : List Verdict) : Type 0 where
   pub workers : ℕ
   pub some : 1 ≤ workers
   pub few : workers ≤ options.workers
@@ -60,7 +60,7 @@ pub record Outcome : Type 0 where
 
 -- the capture of these bytes is judged so
 pub record FiltersCapture (judging : Judging) (policy : PolicyFacts) (capture : List ℕ) (outcome : Outcome) : Type 0 where
-  pub packets : List Seen
+  pub packets : List PacketFacts
   pub records : IsCapture capture packets (end_of outcome.truncated)
   pub verdicts : judging policy packets outcome.verdicts
 
@@ -71,7 +71,7 @@ pub record FiltersContent (judging : Judging) (policy : PolicyFacts) (form : For
 
 -- the input is a policy, a marker line and a capture that is judged so
 pub record FiltersInput (judging : Judging) (bytes : List ℕ) (outcome : Outcome) : Type 0 where
-  pub parts : Parts
+  pub parts : InputFacts
   pub parted : IsInput bytes parts
   pub policy : PolicyFacts
   pub says : IsPolicyText parts.policy policy
@@ -93,7 +93,7 @@ pub record Agrees (options : Options) (Has : Judging → Outcome → Type 0) (on
   pub same : HavePages outcome.verdicts → outcome ≡ one_thread
 
 -- What is answered of something that has outcomes and faults. What is right gets an outcome, what has a fault gets that
--- fault, and either may get want of memory.
+-- fault, and either may get out of memory.
 pub record IsAnswer (options : Options) (Has : Judging → Outcome → Type 0) (IsFault : Fault → Type 0) (result : Result Outcome Fault) : Type 0 where
   pub ok : IfOk result (IsReached options Has)
   pub accepts : (one_thread : Outcome) → Has (ByOneThread options.times) one_thread → MatchResult result (Agrees options Has one_thread) (λ fault. fault ≡ Memory)
@@ -112,7 +112,7 @@ AnswersInput options bytes result = IsAnswer options (λ judging. FiltersInput j
 
 -- ---- reports
 
--- behind what was written before stands the report that tells the outcome, and the totals are its
+-- after what was written before stands the report that tells the outcome, and the totals are its
 abbrev pub Reported : Outcome → Option (List ℕ) → Option (List ℕ) → Totals → Type 0
 Reported outcome old new totals =
     Appends old new (report_of outcome.verdicts outcome.truncated) × (totals ≡ totals_of outcome.verdicts outcome.truncated)

@@ -3,7 +3,7 @@ use Rattle.std.proofs.Common.{◌≡◌, ◌∙◌, ℕ, List, [], ◌∷◌, �
 use Rattle.std.specs.List.{AllByRecursion}
 use Rattle.racl_io.specs.declared.input.Form.{Form}
 use Rattle.racl_io.specs.declared.input.Form.TheVariants.{Binary, Hexadecimal}
-use Rattle.racl_io.specs.Inputs.{Parts, IsFirstLine, IsInput, IsMarked, IsMarker, IsPlain, HasNoFeed, joined, word_of}
+use Rattle.racl_io.specs.Inputs.{InputFacts, IsFirstLine, IsInput, IsMarked, IsMarker, IsPlain, HasNoFeed, joined, word_of}
 
 -- what stands before the rest are lines that are no markers
 pub record IsFront (bytes rest : List ℕ) : Type 0 where
@@ -60,7 +60,7 @@ marker_has_no_feed form line (inl same) = subst HasNoFeed (sym same) (word_has_n
 marker_has_no_feed Binary line (inr same) = subst HasNoFeed (sym same) ((λ e. omega (arith, e)), ((λ e. omega (arith, e)), ((λ e. omega (arith, e)), ((λ e. omega (arith, e)), ((λ e. omega (arith, e)), tt)))))
 marker_has_no_feed Hexadecimal line (inr same) = subst HasNoFeed (sym same) ((λ e. omega (arith, e)), ((λ e. omega (arith, e)), ((λ e. omega (arith, e)), ((λ e. omega (arith, e)), tt))))
 
--- behind a plain line no marker stands at the front
+-- after a plain line no marker is at the front
 plain_is_not_marked : (form : Form) (content line rest : List ℕ) → IsPlain line → IsMarked form content (line ++ 10 ∷ rest) → ⊥
 plain_is_not_marked form content line rest plain (inl (other, marker, same)) =
     let heads = one_first_line line other rest content plain.whole (marker_has_no_feed form other marker) same in
@@ -86,7 +86,7 @@ no_marker form content (line ∷ lines) (other ∷ others) rest marked plain pla
     no_marker form content lines others rest marked plain.1 plains.1 none unmarked heads.1 is
 
 -- an input whose lines are no markers has no parts
-pub no_input : (bytes rest : List ℕ) → IsFront bytes rest → HasNoFeed rest → ((f : Form) → rest ≡ word_of f → ⊥) → (parts : Parts) → IsInput bytes parts → ⊥
+pub no_input : (bytes rest : List ℕ) → IsFront bytes rest → HasNoFeed rest → ((f : Form) → rest ≡ word_of f → ⊥) → (parts : InputFacts) → IsInput bytes parts → ⊥
 no_input bytes rest front none unmarked parts is =
     no_marker parts.form parts.content front.lines is.lines rest is.marked front.plain is.plain none unmarked
     (sym front.parted ∙ is.parted ∙ ap (λ p. p ++ is.marked) is.policy) is.content
@@ -130,13 +130,13 @@ one_front one other x y (line ∷ lines) (line' ∷ others) marked marked' plain
     let more = one_front one other x y lines others marked marked' plain.1 plains.1 heads.1 is is' in
     (ap₂ (λ h t. h ∷ t) heads.0 more.0, more.1, more.2)
 
-same_parts : (a b : Parts) → a.policy ≡ b.policy → a.form ≡ b.form → a.content ≡ b.content → a ≡ b
+same_parts : (a b : InputFacts) → a.policy ≡ b.policy → a.form ≡ b.form → a.content ≡ b.content → a ≡ b
 same_parts a b policy form content =
-    ap₂ (λ p f. let made : Parts = record { policy = p; form = f; content = a.content } in made) policy form
-    ∙ ap (λ c. let made : Parts = record { policy = b.policy; form = b.form; content = c } in made) content
+    ap₂ (λ p f. let made : InputFacts = record { policy = p; form = f; content = a.content } in made) policy form
+    ∙ ap (λ c. let made : InputFacts = record { policy = b.policy; form = b.form; content = c } in made) content
 
 -- an input has one policy, one form and one content
-pub one_input : (bytes : List ℕ) (a b : Parts) → IsInput bytes a → IsInput bytes b → a ≡ b
+pub one_input : (bytes : List ℕ) (a b : InputFacts) → IsInput bytes a → IsInput bytes b → a ≡ b
 one_input bytes a b is other =
     let all = one_front a.form b.form a.content b.content is.lines other.lines is.marked other.marked is.plain other.plain
     (ap (λ p. p ++ is.marked) (sym is.policy) ∙ sym is.parted ∙ other.parted ∙ ap (λ p. p ++ other.marked) other.policy) is.content other.content in

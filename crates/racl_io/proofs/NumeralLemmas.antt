@@ -9,13 +9,13 @@ pub record AreDigits (n start : ℕ) (buffer : List ℕ) : Type 0 where
   pub ended : start + length (decimal n) ≡ 24
   pub told : drop start buffer ≡ decimal n ++ drop 24 buffer
 
--- whatever stands behind them
+-- whatever follows them
 pub digits_of_tail : (n start : ℕ) (buffer tail : List ℕ) → start + length (decimal n) ≡ 24 → drop start buffer ≡ decimal n ++ tail → AreDigits n start buffer
 digits_of_tail n start buffer tail ended told =
     let same : drop 24 buffer ≡ tail = ap (λ k. drop k buffer) (sym ended) ∙ sym (drop-drop (length (decimal n)) start buffer) ∙ ap (drop (length (decimal n))) told ∙ drop_at (decimal n) tail _ refl in
     record { ended = ended; told = told ∙ ap (λ t. decimal n ++ t) (sym same) }
 
--- the last digit behind those of the tens
+-- the last digit after those of the tens
 pub tens_and_last : (tens last : ℕ) → 0 < tens → last < 10 → tens * 10 + last < 2 ^ 64 → decimal (tens * 10 + last) ≡ decimal tens ++ (48 + last) ∷ []
 tens_and_last tens last some digit fits =
     let front : (tens * 10 + last) / 10 ≡ tens = omega arith in

@@ -1,4 +1,4 @@
--- The report on verdicts is that on the first of them, and behind it that on the others.
+-- The report on verdicts is that on the first of them, and after it that on the others.
 use Rattle.std.proofs.Common.{◌≡◌, ◌∙◌, ◌+◌, ◌-◌, ◌++◌, ℕ, Bool, true, false, not, cond, List, [], ◌∷◌, length, arith, append_assoc, refl, sym, ap, ap₂}
 use Rattle.std.proofs.lemmas.List.Sums.{sum_by-append, sum_by-cons}
 use Rattle.flow_filter.specs.Verdicts.{passes}

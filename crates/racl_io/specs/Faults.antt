@@ -8,7 +8,7 @@ use Rattle.acl_policy.specs.declared.policy.PolicyFault.{PolicyFault}
 use Rattle.acl_policy.specs.declared.policy.PolicyFault.TheVariants as policy
 use Rattle.racl_io.specs.declared.fault.Fault.{Fault}
 use Rattle.racl_io.specs.declared.fault.Fault.TheVariants.{Memory, Read, TooLarge, NoCapture, NotUtf8, BadLine, TooMany, Hex, Short, Magic, Version, LinkType, LongRecord, Write}
-use Rattle.racl_io.specs.Inputs.{IsContent, IsInput, Parts, most_bytes}
+use Rattle.racl_io.specs.Inputs.{IsContent, IsInput, InputFacts, most_bytes}
 use Rattle.racl_io.specs.declared.input.Form.{Form}
 
 -- what reading the input may answer
@@ -44,7 +44,7 @@ IsFaultOfContent form content fault =
     ⊎ ((capture : List ℕ) × IsContent form content capture × IsFaultOfCapture capture fault)
 
 -- the policy has the fault, or it is right and the content has it
-abbrev pub IsFaultOfParts : Parts → Fault → Type 0
+abbrev pub IsFaultOfParts : InputFacts → Fault → Type 0
 IsFaultOfParts parts fault =
     ((cause : PolicyFault) × IsPolicyFault parts.policy cause × (fault ≡ policy_fault cause))
     ⊎ ((policy : PolicyFacts) × IsPolicyText parts.policy policy × IsFaultOfContent parts.form parts.content fault)
@@ -52,23 +52,23 @@ IsFaultOfParts parts fault =
 -- there is no marker line, or what stands around the first one has the fault
 abbrev pub IsFaultOfBytes : List ℕ → Fault → Type 0
 IsFaultOfBytes bytes fault =
-    ((fault ≡ NoCapture) × ((parts : Parts) → IsInput bytes parts → ⊥))
-    ⊎ ((parts : Parts) × IsInput bytes parts × IsFaultOfParts parts fault)
+    ((fault ≡ NoCapture) × ((parts : InputFacts) → IsInput bytes parts → ⊥))
+    ⊎ ((parts : InputFacts) × IsInput bytes parts × IsFaultOfParts parts fault)
 
 abbrev pub IsInputFault : List ℕ → Fault → Type 0
 IsInputFault bytes fault =
     ((fault ≡ TooLarge) × (most_bytes < length bytes))
     ⊎ ((length bytes ≤ most_bytes) × IsFaultOfBytes bytes fault)
 
--- nothing but this fault or want of memory is answered
+-- nothing but this fault or out of memory is answered
 abbrev pub Refuses : {X : Type 0} → Fault → Result X Fault → Type 0
 Refuses fault result = MatchResult result (λ _. ⊥) (λ found. (found ≡ fault) ⊎ (found ≡ Memory))
 
--- nothing but this fault, want of memory, or a device that failed
+-- nothing but this fault, out of memory, or a device that failed
 abbrev pub RefusesRead : {X : Type 0} → Fault → Result X Fault → Type 0
 RefusesRead fault result = MatchResult result (λ _. ⊥) (λ found. (found ≡ fault) ⊎ (found ≡ Memory) ⊎ (found ≡ Read))
 
--- no fault of the input: want of memory, or a device that failed
+-- no fault of the input: out of memory, or a device that failed
 abbrev pub IsSystemFault : Fault → Type 0
 IsSystemFault Memory = Unit {0}
 IsSystemFault Read = Unit {0}

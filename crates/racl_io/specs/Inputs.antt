@@ -11,20 +11,20 @@ abbrev pub most_bytes : ℕ
 most_bytes = 67108864
 
 -- an input without where it lies in memory
-pub record Parts : Type 0 where
+pub record InputFacts : Type 0 where
   pub policy : List ℕ
   pub form : Form
   pub content : List ℕ
 
-abbrev pub parts_of : code.Input → Parts
-parts_of i = record { policy = i.policy.now; form = i.form; content = i.content.now }
+abbrev pub input_facts : code.Input → InputFacts
+input_facts i = record { policy = i.policy.now; form = i.form; content = i.content.now }
 
 -- the word of a marker line
 abbrev pub word_of : Form → List ℕ
 word_of Binary = codes "pcap"
 word_of Hexadecimal = codes "hex"
 
--- a line without its line feed: the word alone, or with one carriage return behind it
+-- a line without its line feed: the word alone, or with one carriage return after it
 abbrev pub IsMarker : Form → List ℕ → Type 0
 IsMarker form line = (line ≡ word_of form) ⊎ (line ≡ word_of form ++ 13 ∷ [])
 
@@ -32,7 +32,7 @@ IsMarker form line = (line ≡ word_of form) ⊎ (line ≡ word_of form ++ 13 �
 abbrev pub HasNoFeed : List ℕ → Type 0
 HasNoFeed bytes = AllByRecursion (λ b. b ≢ 10) bytes
 
--- the first line, without its line feed, and what stands behind it
+-- the first line, without its line feed, and what follows it
 pub record IsFirstLine (bytes line rest : List ℕ) : Type 0 where
   pub whole : HasNoFeed line
   pub parted : bytes ≡ line ++ 10 ∷ rest
@@ -42,18 +42,18 @@ pub record IsPlain (line : List ℕ) : Type 0 where
   pub whole : HasNoFeed line
   pub unmarked : (form : Form) → IsMarker form line → ⊥
 
--- lines, a line feed behind each
+-- lines, a line feed after each
 abbrev pub joined : List (List ℕ) → List ℕ
 joined [] = []
 joined (line ∷ lines) = line ++ 10 ∷ joined lines
 
--- a marker line, and the content behind it; where the input ends with the word, there is no content
+-- a marker line, and the content after it; where the input ends with the word, there is no content
 abbrev pub IsMarked : Form → List ℕ → List ℕ → Type 0
 IsMarked form content bytes =
     ((line : List ℕ) × IsMarker form line × (bytes ≡ line ++ 10 ∷ content)) ⊎ ((bytes ≡ word_of form) × (content ≡ []))
 
 -- the first marker line parts the input
-pub record IsInput (bytes : List ℕ) (parts : Parts) : Type 0 where
+pub record IsInput (bytes : List ℕ) (parts : InputFacts) : Type 0 where
   pub lines : List (List ℕ)
   pub plain : AllByRecursion IsPlain lines
   pub policy : parts.policy ≡ joined lines

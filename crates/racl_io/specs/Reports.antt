@@ -36,7 +36,7 @@ dropped verdicts = count_by (λ v. not (passes v)) verdicts
 abbrev pub totals_of : List Verdict → Bool → Totals
 totals_of verdicts truncated = record { packets = length verdicts; passed = passed verdicts; dropped = dropped verdicts; truncated = truncated }
 
--- where the capture was truncated, behind how many packets
+-- where the capture was truncated, after how many packets
 abbrev pub truncation_line : Bool → ℕ → List ℕ
 truncation_line false n = []
 truncation_line true n = codes "truncated after " ++ (decimal n ++ codes "\n")

@@ -1,4 +1,4 @@
-//! The bytes of the capture behind the marker line.
+//! The bytes of the capture after the marker line.
 ghost use Rattle.std.specs.Prelude.{◌≡◌, ◌⊎◌, ℕ, List, IfOk, IfErr};
 ghost use Rattle.racl_io.specs.declared.fault.Fault.TheVariants.{Memory, Hex};
 ghost use Rattle.racl_io.specs.Inputs;

@@ -1,6 +1,6 @@
 ghost use Rattle.std.specs.Prelude.{◌≡◌, ◌+◌, ◌-◌, ◌<◌, ◌≤◌, ◌^◌, ℕ, List, Option, Some, None, MatchResult, IfOk, length, take};
 ghost use Rattle.std.specs.Io.KnownBytes.{Appends, Consumes, IsAtEnd, Keeps, ReadConsumes, WriteAppends};
-ghost use Rattle.racl_io.specs.Devices.{Reads, Writes};
+ghost use Rattle.racl_io.specs.Devices.{failures_after_read, failures_after_write};
 
 use std::io::{Read, Write};
 
@@ -16,12 +16,12 @@ pub trait Source {
     /// How often it failed.
     ghost failures: { Self → ℕ };
 
-    /// Reads some bytes, and none only at the end or where there is no room.
+    /// failures_after_read some bytes, and none only at the end or where there is no room.
     fn read(&mut self, buf: &mut [u8]) -> Result<usize, DeviceFault>
         requires { failures self.old < 2 ^ 64 - 1 }
         ensures bound { IfOk result (λ n. n ≤ length buf.new) }
         ensures bytes { ReadConsumes (bytes self.old) (bytes self.new) result buf.new }
-        ensures failures { failures self.new ≡ Reads (failures self.old) result };
+        ensures failures { failures self.new ≡ failures_after_read (failures self.old) result };
 }
 
 /// What takes bytes.
@@ -32,12 +32,12 @@ pub trait Sink {
     /// How often it failed.
     ghost failures: { Self → ℕ };
 
-    /// Writes some of the bytes.
+    /// failures_after_write some of the bytes.
     fn write(&mut self, buf: &[u8]) -> Result<usize, DeviceFault>
         requires { failures self.old < 2 ^ 64 - 1 }
         ensures bound { IfOk result (λ n. n ≤ length buf.now) }
         ensures bytes { WriteAppends (bytes self.old) (bytes self.new) result buf.now }
-        ensures failures { failures self.new ≡ Writes (failures self.old) result };
+        ensures failures { failures self.new ≡ failures_after_write (failures self.old) result };
 }
 
 /// A reader or a writer of std as a device.

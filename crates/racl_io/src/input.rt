@@ -1,16 +1,16 @@
 //! The parts of the input: a policy text, a marker line, and the capture as bytes or as digits.
 ghost use Rattle.std.specs.Prelude.{◌≡◌, ◌≢◌, ◌<◌, ℕ, IfSome, IfNone, length, slice_index};
-ghost use Rattle.racl_io.specs.Inputs.{Parts, parts_of, IsInput, IsMarker, IsFirstLine, HasNoFeed, word_of};
+ghost use Rattle.racl_io.specs.Inputs.{InputFacts, input_facts, IsInput, IsMarker, IsFirstLine, HasNoFeed, word_of};
 
 use crate::fault::Fault;
 use std::alloc::Global;
 
-/// How the capture is written behind its marker line.
+/// How the capture is written after its marker line.
 #[derive(Clone, Copy, Debug, PartialEq, Eq)]
 pub enum Form {
-    /// As it is, behind `pcap`.
+    /// As it is, after `pcap`.
     Binary,
-    /// As hexadecimal digits, behind `hex`.
+    /// As hexadecimal digits, after `hex`.
     Hexadecimal,
 }
 
@@ -54,7 +54,7 @@ fn line_feed(bytes: &[u8]) -> Option<usize>
     bytes.iter().position(|b| *b == b'\n')
 }
 
-/// The first line without its line feed, and what stands behind it; None where no line ends.
+/// The first line without its line feed, and what follows it; None where no line ends.
 fn first_line(bytes: &[u8]) -> Option<(&[u8], &[u8])>
     ensures some { IfSome result (λ r. IsFirstLine bytes.now r.0.now r.1.now) }
     ensures none { IfNone result (HasNoFeed bytes.now) }
@@ -68,8 +68,8 @@ fn first_line(bytes: &[u8]) -> Option<(&[u8], &[u8])>
 /// A line ends with a line feed, and one carriage return before it is dropped. A marker word may
 /// also end the input.
 pub fn parts(bytes: &[u8]) -> Option<Input<'_>>
-    ensures some { IfSome result (λ input. IsInput bytes.now (parts_of input)) }
-    ensures none { IfNone result ((parts : Parts) → IsInput bytes.now parts → ⊥) }
+    ensures some { IfSome result (λ input. IsInput bytes.now (input_facts input)) }
+    ensures none { IfNone result ((parts : InputFacts) → IsInput bytes.now parts → ⊥) }
 {
     let mut rest = bytes;
     'lines: while let Some((line, after)) = first_line(rest) {

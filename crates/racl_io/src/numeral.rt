@@ -5,7 +5,7 @@ use crate::piece::Piece;
 use itoa::write_digits;
 use std::marker::Model;
 
-/// Where the digits end. Behind them are as many bytes again, so that a copy of so many from the first digit on is
+/// Where the digits end. After them are as many bytes again, so that a copy of so many from the first digit on is
 /// always there: a copy of a fixed length costs no call.
 const END: usize = 24;
 

@@ -51,7 +51,7 @@ fn push_rule(piece: &mut Piece, effect: &[u8], n: u16, rest: &[u8])
     piece.push(rest);
 }
 
-/// What stands behind a line's number. A constant piece costs no call, and the fewer they are the better.
+/// What follows a line's number. A constant piece costs no call, and the fewer they are the better.
 #[inline(always)]
 fn push_verdict(piece: &mut Piece, verdict: Verdict)
     requires { length piece.old + 40 ≤ 65536 }
@@ -83,7 +83,7 @@ fn push_line(piece: &mut Piece, number: &Counter, verdict: Verdict)
     push_verdict(piece, verdict);
 }
 
-/// The lines of the packets behind the counted ones, and how many of them pass.
+/// The lines of the packets after the counted ones, and how many of them pass.
 fn push_lines(piece: &mut Piece, number: &mut Counter, verdicts: &[Verdict]) -> u64
     requires empty { piece.old ≡ [] }
     requires few { length verdicts.now ≤ 900 }

@@ -16,7 +16,7 @@ use Rattle.clap.specs.declared.parser.matches.ArgMatches.{ArgMatches}
 use Rattle.clap.proofs.OnLiterals.{clap_on_literals}
 use Rattle.clap.proofs.SimpleLemmas.{all_simple, plain_fields, simple_groups}
 use Rattle.clap.proofs.WalkLemmas.{one_text-rows}
-use Rattle.racl_words.specs.Command.{AskFor, HoldsNumber, HoldsNumbers, OptionFacts, OptionName, Workers, Established, Transient, Udp, Spells, SpellsOptions, most_of, name_of, number_of, option_rule, racl, text_at}
+use Rattle.racl_words.specs.CommandLine.{AskFor, HoldsNumber, HoldsNumbers, OptionFacts, OptionName, Workers, Established, Transient, Udp, Spells, SpellsOptions, most_of, name_of, number_of, option_rule, racl, text_at}
 use Rattle.racl_words.proofs.NumberLemmas.{number_held, option_by_rule}
 
 racl_is_simple : is_simple racl ≡ true
@@ -129,10 +129,3 @@ one_setting words a b p q =
     let transient = one_number Transient a.transient b.transient _ p.options.transient q.options.transient in
     let udp = one_number Udp a.udp b.udp _ p.options.udp q.options.udp in
     λ i. record { workers = workers i; established = established i; transient = transient i; udp = udp i }
-
--- words without a fault are refused for want of memory alone
-pub only_memory : (words : List Text) (facts : OptionFacts) (e : Error) → AskFor words facts → HasKind (fault_of racl words) e → kind_of e ≡ OutOfMemory
-only_memory words facts e asked has = elim (subst (λ kinds. HasKind kinds e) asked.faultless has) [
-  | inl memory ↦ memory
-  | inr none ↦ absurd none
-]

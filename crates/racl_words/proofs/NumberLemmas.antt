@@ -25,7 +25,7 @@ use Rattle.clap.specs.declared.parser.matches.MatchedArg.{MatchedArg}
 use Rattle.clap.proofs.CallerLemmas.{default_present, entry_by_id, same_rules_by_id}
 use Rattle.clap.proofs.SimpleLemmas.{is_false, is_nil}
 use Rattle.clap.proofs.WalkLemmas.{both}
-use Rattle.racl_words.specs.Command.{HoldsNumber, OptionName, most_of, name_of, option_rule}
+use Rattle.racl_words.specs.CommandLine.{HoldsNumber, OptionName, most_of, name_of, option_rule}
 
 -- a text that a parser takes is taken by one with a higher most
 pub held_below : (most higher : ℕ) (text : Option Text) → most ≤ higher → HoldsNumber most text → HoldsNumber higher text

@@ -13,7 +13,7 @@ use Rattle.clap.specs.declared.builder.value_parser.Reading.TheVariants.{Without
 use Rattle.clap.specs.declared.error.kind.ErrorKind.{ErrorKind}
 use Rattle.clap.specs.declared.parser.matches.ValueSource.TheVariants.{DefaultValue}
 use Rattle.clap.proofs.OnLiterals.{clap_on_literals}
-use Rattle.racl_words.specs.Command.{OptionName, Workers, Established, Transient, Udp, default_of, name_of, racl}
+use Rattle.racl_words.specs.CommandLine.{OptionName, Workers, Established, Transient, Udp, default_of, name_of, racl}
 use Rattle.racl_words.proofs.SettingWalks.{at_row_missing, between, default_row, filled_rule, top}
 
 or_right : (b : Bool) → (b || true) ≡ true

@@ -14,8 +14,8 @@ use Rattle.clap.specs.Walk.{Held, has_row, nothing_held, row_text, settled, walk
 use Rattle.clap.specs.Words.{IsSignedIn, Row, Text, without_minus}
 use Rattle.clap.specs.declared.builder.value_parser.ValueParser.TheVariants.{Signed}
 use Rattle.clap.proofs.ValueTestLemmas.{Accepts-accepts}
-use Rattle.racl_words.specs.Command.{AskFor, IsInRange, OptionName, Workers, Established, Transient, Udp, Spells, default_of, most_of, most_seconds, name_of, number_of, text_at}
-use Rattle.racl_words.specs.Settings.{AreInRange, AreSettings, Setting, facts_of, sets, times_set, value_at, words_of}
+use Rattle.racl_words.specs.CommandLine.{AskFor, IsInRange, OptionName, Workers, Established, Transient, Udp, Spells, default_of, most_of, most_seconds, name_of, number_of, text_at}
+use Rattle.racl_words.specs.Options.{AreInRange, AreSettings, Setting, facts_of, sets, times_set, value_at, words_of}
 use Rattle.racl_words.proofs.SettingWalks.{AreNew, GoesOn, Holds, IsFit, between, default_row, row_of, settings_go_on, top}
 use Rattle.racl_words.proofs.SettingDefaults.{all_filled, end_fault, ends_well, fault_is, find_row}
 

@@ -12,8 +12,8 @@ use Rattle.clap.specs.declared.builder.value_parser.Reading.TheVariants.{Without
 use Rattle.clap.specs.declared.builder.value_parser.ValueParser.TheVariants.{Signed}
 use Rattle.clap.specs.declared.parser.matches.ValueSource.TheVariants.{CommandLine, DefaultValue}
 use Rattle.clap.proofs.OnLiterals.{clap_on_literals}
-use Rattle.racl_words.specs.Command.{OptionName, Workers, Established, Transient, Udp, default_of, most_of, name_of, option_rule, racl}
-use Rattle.racl_words.specs.Settings.{Setting, words_by, words_of}
+use Rattle.racl_words.specs.CommandLine.{OptionName, Workers, Established, Transient, Udp, default_of, most_of, name_of, option_rule, racl}
+use Rattle.racl_words.specs.Options.{Setting, words_by, words_of}
 
 abbrev pub top : Shape
 top = (built racl).top

@@ -1,2 +1,2 @@
-pub mod Command
-pub mod Settings
+pub mod CommandLine
+pub mod Options

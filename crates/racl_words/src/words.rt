@@ -4,10 +4,10 @@ ghost use Rattle.std.specs.List.{flat_map};
 ghost use Rattle.clap.specs.Walk.{Text, texts};
 ghost use Rattle.clap.specs.Words.{HasKind, app_of, fault_of, found_of, kind_of, new_app};
 ghost use Rattle.clap.specs.Words.{one_text, rule_of};
-ghost use Rattle.racl_words.specs.Command.{AskFor, HoldsNumber, HoldsNumbers, OptionFacts};
-ghost use Rattle.racl_words.specs.Command.{OptionName, Spells, SpellsOptions, option_facts, racl};
-ghost use Rattle.racl_words.specs.Command as line;
-ghost use Rattle.racl_words.specs.Settings.{AreSettings, Setting, facts_of, words_of};
+ghost use Rattle.racl_words.specs.CommandLine.{AskFor, HoldsNumber, HoldsNumbers, OptionFacts};
+ghost use Rattle.racl_words.specs.CommandLine.{OptionName, Spells, SpellsOptions, option_facts, racl};
+ghost use Rattle.racl_words.specs.CommandLine as line;
+ghost use Rattle.racl_words.specs.Options.{AreSettings, Setting, facts_of, words_of};
 
 use crate::settings::Options;
 use clap::error::ErrorKind;
@@ -16,7 +16,7 @@ use session_state::Timeouts;
 use std::alloc::{AllocError, Global};
 
 /// Reads the words, of which the first is the program's name. An `Err` is a request for help, a
-/// mistake in the words or want of memory, by its kind.
+/// mistake in the words or out of memory, by its kind.
 pub fn options<'a>(alloc: Global, words: &'a [&'a str]) -> Result<Options, Error>
     ensures ok { IfOk result (λ o. AskFor (texts words.entry.now) (option_facts o)) }
 

@@ -8,7 +8,7 @@ use Rattle.std.proofs.lemmas.Option.{slice_get_read, slice_get-get_or, slice_get
 use Rattle.rule_index.specs.declared.column.Column.{Column}
 use Rattle.rule_index.specs.declared.dimension.Dimension.{Dimension}
 use Rattle.rule_index.specs.Rows.{bit_in}
-use Rattle.rule_index.specs.Columns.{Holds}
+use Rattle.rule_index.specs.inner.Columns.{Holds}
 use Rattle.rule_index.specs.Dimensions.{Span}
 use Rattle.rule_index.specs.Indexes.{Sieves}
 use Rattle.acl_policy.specs.Rules.{RuleFacts}
@@ -60,7 +60,7 @@ same_row r row width a b short narrow same =
       ]
     ]
 
--- the bits of two rules, or of two rows, stand at two places
+-- the bits of two rules, or of two rows, are at two places
 pub two_places : (r row width k rule : ℕ) → k / 64 < width → rule / 64 < width → (r ≢ row) ⊎ (k ≢ rule)
     → (r * width + k / 64 ≢ row * width + rule / 64) ⊎ (k % 64 ≢ rule % 64)
 two_places r row width k rule short narrow other =
@@ -121,12 +121,4 @@ bits_kept width old rows row rule set others r k short one =
         | inr beside ↦ others r k short (inr beside) ∙ one
         | inl equal ↦ subst (λ (i : ℕ). bit_in width rows i k ≡ 1) (sym same) (subst (λ (n : ℕ). bit_in width rows row n ≡ 1) (sym equal) set)
       ]
-    ]
-
--- rows without a bit
-pub no_bits : (width words row k : ℕ) → bit_in width (replicate words 0) row k ≡ 0
-no_bits width words row k =
-    elim (cases_lt (row * width + k / 64) words) [
-      | inl within ↦ ap (λ (word : ℕ). bit_at word (k % 64)) (get_or-replicate words (row * width + k / 64) 0 0 within) ∙ bit_at-zero (k % 64)
-      | inr outside ↦ ap (λ (word : ℕ). bit_at word (k % 64)) (get_or-eq_default (replicate words 0) 0 (omega (arith, length-replicate {A = ℕ} words 0))) ∙ bit_at-zero (k % 64)
     ]

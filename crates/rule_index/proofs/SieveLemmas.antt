@@ -5,15 +5,15 @@ use Rattle.std.proofs.lemmas.Nat.{and_le_l}
 use Rattle.std.proofs.lemmas.Nat.Bits.{bit_at_and, bit_at_clear_same, bit_at_clear_other}
 use Rattle.std.specs.Prelude.{bit_and, slice_get}
 use Rattle.std.specs.Int.{w64, bit_at, bit_not}
-use Rattle.packet_view.specs.Tuples.{Facts}
+use Rattle.packet_view.specs.Tuples.{TupleFacts}
 use Rattle.acl_policy.specs.Rules.{RuleFacts}
-use Rattle.rule_index.specs.Sieves.{KeepsMatches, NoneBefore, NotAt, Sifts}
+use Rattle.rule_index.specs.inner.Sieves.{KeepsMatches, NoneBefore, NotAt, Sifts}
 use mir.Val.{bits}
 
 one_or_none : (word bit : ℕ) → bit_at word bit ≡ 1 → bit_at word bit ≡ 0 → ⊥
 one_or_none word bit one none = absurd (omega (arith, one, none))
 
-pub none_before_bit : (rules : List RuleFacts) (tuple : Facts) (from word n : ℕ) → n ≤ 64 → NoneBefore rules tuple from → KeepsMatches rules tuple from word
+pub none_before_bit : (rules : List RuleFacts) (tuple : TupleFacts) (from word n : ℕ) → n ≤ 64 → NoneBefore rules tuple from → KeepsMatches rules tuple from word
     → ((i : ℕ) → i < n → bit_at word i ≡ 0) → NoneBefore rules tuple (from + n)
 none_before_bit rules tuple from word n few before kept clear = λ k other below read matches.
     elim (cases_lt k from) [
@@ -25,7 +25,7 @@ none_before_bit rules tuple from word n few before kept clear = λ k other below
           (clear (k - from) (omega arith))
     ]
 
-pub kept_without : (rules : List RuleFacts) (tuple : Facts) (from word n : ℕ) → n < 64 → KeepsMatches rules tuple from word → NotAt rules tuple (from + n)
+pub kept_without : (rules : List RuleFacts) (tuple : TupleFacts) (from word n : ℕ) → n < 64 → KeepsMatches rules tuple from word → NotAt rules tuple (from + n)
     → KeepsMatches rules tuple from (bit_and word (bit_not w64 (1 * 2 ^ n % 2 ^ bits w64)))
 kept_without rules tuple from word n short kept not = λ bit rule within read matches.
     elim (cases_eq bit n) [
@@ -33,14 +33,14 @@ kept_without rules tuple from word n short kept not = λ bit rule within read ma
       | inr other ↦ bit_at_clear_other w64 word n short bit within other ∙ kept bit rule within read matches
     ]
 
-pub keeps_row : (rules : List RuleFacts) (tuple : Facts) (words : List ℕ) (i : ℕ) → Sifts rules tuple words → KeepsMatches rules tuple (i * 64) (get_or words i 0)
+pub keeps_row : (rules : List RuleFacts) (tuple : TupleFacts) (words : List ℕ) (i : ℕ) → Sifts rules tuple words → KeepsMatches rules tuple (i * 64) (get_or words i 0)
 keeps_row rules tuple words i sifts = λ bit rule within read matches.
     let word : (i * 64 + bit) / 64 ≡ i = omega arith in
     let place : (i * 64 + bit) % 64 ≡ bit = omega arith in
     subst (λ (b : ℕ). bit_at (get_or words i 0) b ≡ 1) place
     (subst (λ (w : ℕ). bit_at (get_or words w 0) ((i * 64 + bit) % 64) ≡ 1) word (sifts.sifted (i * 64 + bit) rule read matches))
 
-pub keeps_both : (rules : List RuleFacts) (tuple : Facts) (from a b : ℕ) → KeepsMatches rules tuple from a → KeepsMatches rules tuple from b
+pub keeps_both : (rules : List RuleFacts) (tuple : TupleFacts) (from a b : ℕ) → KeepsMatches rules tuple from a → KeepsMatches rules tuple from b
     → KeepsMatches rules tuple from (bit_and a b)
 keeps_both rules tuple from a b one other = λ bit rule within read matches.
     let left : bit_at a bit ≡ 1 = one bit rule within read matches in

@@ -15,7 +15,7 @@ place_rises starts low x a row here there rising =
       | inr before ↦ before
     ]
 
--- the bit behind the end is set too
+-- the bit after the end is set too
 pub turns_set : (count width : ℕ) (once rows : List ℕ) (rule first last : ℕ) → bit_in width once first rule ≡ 1
     → ((row : ℕ) → row < count → row ≢ first → bit_in width once row rule ≡ 0) → bit_in width rows (last + 1) rule ≡ 1
     → ((row : ℕ) → row ≢ last + 1 → bit_in width rows row rule ≡ bit_in width once row rule) → TurnsAt count width rows rule first last

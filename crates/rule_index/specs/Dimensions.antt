@@ -4,7 +4,7 @@ use Rattle.packet_view.specs.declared.tuple.Family.{Family}
 use Rattle.packet_view.specs.declared.tuple.Family.TheVariants.{V4, V6}
 use Rattle.packet_view.specs.declared.tuple.Fields.{Fields}
 use Rattle.packet_view.specs.declared.tuple.Fields.TheVariants.{Absent, Ports, Tcp, Icmp}
-use Rattle.packet_view.specs.Tuples.{Facts}
+use Rattle.packet_view.specs.Tuples.{TupleFacts}
 use Rattle.rule_index.specs.declared.dimension.Dimension.{Dimension}
 use Rattle.rule_index.specs.declared.dimension.Dimension.TheVariants.{Source, Dest, Protocol, First, Second}
 use Rattle.acl_policy.specs.Matching.{Matches}
@@ -38,7 +38,7 @@ IsSecond (Tcp from to flags) x = x ≡ to
 IsSecond (Icmp kind code) x = x ≡ code
 
 -- The number of a packet in a dimension.
-abbrev pub IsAt : Dimension → Facts → ℕ → Type 0
+abbrev pub IsAt : Dimension → TupleFacts → ℕ → Type 0
 IsAt Source tuple x = x ≡ tuple.source
 IsAt Dest tuple x = x ≡ tuple.dest
 IsAt Protocol tuple x = (x ≡ protocol_base tuple.family + tuple.proto) × (tuple.proto < 256)
@@ -47,7 +47,7 @@ IsAt Second tuple x = IsSecond tuple.fields x
 
 -- A range holds the number of each packet that the rule matches.
 abbrev pub Spans : Dimension → RuleFacts → ℕ × ℕ → Type 0
-Spans dimension rule range = (tuple : Facts) (x : ℕ) → x < 2 ^ 128 → IsAt dimension tuple x → Matches rule tuple → IsWithin range x
+Spans dimension rule range = (tuple : TupleFacts) (x : ℕ) → x < 2 ^ 128 → IsAt dimension tuple x → Matches rule tuple → IsWithin range x
 
 -- A range for each rule.
 pub record Span (dimension : Dimension) (rules : List RuleFacts) (ranges : List (ℕ × ℕ)) : Type 0 where

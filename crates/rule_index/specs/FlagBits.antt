@@ -1,6 +1,6 @@
 -- For each value of the flags of TCP, the rules that may match it.
 use Rattle.std.specs.Prelude.{◌≡◌, ◌<◌, ℕ, ◌+◌, ◌/◌, List, length, slice_get, Some}
-use Rattle.packet_view.specs.Tuples.{Facts}
+use Rattle.packet_view.specs.Tuples.{TupleFacts}
 use Rattle.rule_index.specs.declared.flag_rows.FlagRows.{FlagRows}
 use Rattle.rule_index.specs.Flagged.{IsFlagsOf}
 use Rattle.acl_policy.specs.Matching.{Matches}
@@ -14,5 +14,5 @@ HaveFree rules width rows = (k x : ℕ) (rule : RuleFacts) → slice_get rules k
 -- Each rule has its bit in the row of the flags of each packet that it matches.
 pub record SievesFlags (rules : List RuleFacts) (column : FlagRows) : Type 0 where
   pub width : column.width ≡ length rules / 64 + 1
-  pub held : (k x : ℕ) (rule : RuleFacts) (tuple : Facts) → slice_get rules k ≡ Some rule → x < 256 → IsFlagsOf tuple.fields x → Matches rule tuple
+  pub held : (k x : ℕ) (rule : RuleFacts) (tuple : TupleFacts) → slice_get rules k ≡ Some rule → x < 256 → IsFlagsOf tuple.fields x → Matches rule tuple
       → bit_in column.width column.rows.items x k ≡ 1

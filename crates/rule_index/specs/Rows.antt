@@ -26,7 +26,7 @@ bit_in width rows row rule = bit_at (slice_index rows (row * width + rule / 64))
 abbrev pub IsWithin : ℕ × ℕ → ℕ → Type 0
 IsWithin range x = (range.0 ≤ x) × (x ≤ range.1)
 
--- The bit of a rule is set in the row of its range's first number, behind that of its last one, and nowhere else.
+-- The bit of a rule is set in the row of its range's first number, after that of its last one, and nowhere else.
 pub record TurnsAt (count width : ℕ) (rows : List ℕ) (rule first last : ℕ) : Type 0 where
   pub begins : bit_in width rows first rule ≡ 1
   pub still : (row : ℕ) → row < count → row ≢ first → row ≢ last + 1 → bit_in width rows row rule ≡ 0

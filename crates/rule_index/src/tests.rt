@@ -11,7 +11,7 @@ pub const EVERY: (u16, u16) = (0, 65535);
 
 pub const NETWORK: u128 = 0x2001_0db8 << 96;
 
-/// What a rule asks behind the addresses.
+/// What a rule asks after the addresses.
 #[derive(Clone, Copy)]
 pub struct Asked {
     pub proto: u8,

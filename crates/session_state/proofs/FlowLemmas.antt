@@ -7,7 +7,7 @@ use Rattle.packet_view.specs.declared.tuple.Family.{Family}
 use Rattle.packet_view.specs.declared.tuple.Family.TheVariants.{V4, V6}
 use Rattle.packet_view.specs.declared.tuple.Fields.{Fields}
 use Rattle.packet_view.specs.declared.tuple.Fields.TheVariants.{Absent, Ports, Tcp, Icmp}
-use Rattle.packet_view.specs.Tuples.{Facts}
+use Rattle.packet_view.specs.Tuples.{TupleFacts}
 use Rattle.session_state.specs.declared.end.End.{End}
 use Rattle.session_state.specs.declared.flow.Flow.{Flow}
 use Rattle.session_state.specs.Flows.{IsEchoReply, IsFlow, LesserFirst, StandAs, echo_flow, flow_by_order, flow_of, oriented, receiver_of, reply_type, request_type, sender_of, side_of, stands_first}
@@ -18,7 +18,7 @@ types_differ V4 same = omega (arith, same)
 types_differ V6 same = omega (arith, same)
 
 -- a packet of these parts
-abbrev pub packet_of : Family → ℕ → ℕ → ℕ → Fields → Facts
+abbrev pub packet_of : Family → ℕ → ℕ → ℕ → Fields → TupleFacts
 packet_of family source dest proto fields =
     record { family = family; source = source; dest = dest; proto = proto; fields = fields }
 
@@ -31,7 +31,7 @@ reply_kind : (family : Family) (source dest proto kind code : ℕ)
 reply_kind family source dest proto kind code (other, same) = cc
 
 -- an oriented packet has the flow that the definition names
-oriented_is_flow : (packet : Facts) (first second : End) (starts : Bool)
+oriented_is_flow : (packet : TupleFacts) (first second : End) (starts : Bool)
     → StandAs packet packet.fields first second → (IsEchoReply packet → starts ≡ false)
     → ((IsEchoReply packet → ⊥) → starts ≡ true) → IsFlow packet (oriented packet first second starts)
 oriented_is_flow packet first second starts ends reply other = record {
@@ -46,13 +46,13 @@ oriented_is_flow packet first second starts ends reply other = record {
 }
 
 -- the flow by the outcome of the test of the order
-abbrev flow_by_test : Facts → Bool → Flow
+abbrev flow_by_test : TupleFacts → Bool → Flow
 flow_by_test packet test =
     if test then oriented packet (sender_of packet) (receiver_of packet) true
     else oriented packet (receiver_of packet) (sender_of packet) true
 
 -- the flow by the order of the ends is the one that the definition names
-ordered_is_flow : (packet : Facts)
+ordered_is_flow : (packet : TupleFacts)
     → ((first second : End) → LesserFirst (sender_of packet) (receiver_of packet) first second
     → StandAs packet packet.fields first second)
     → (IsEchoReply packet → ⊥) → IsFlow packet (flow_by_order packet)
@@ -106,7 +106,7 @@ found_at family source dest proto (Icmp kind code) flow same =
     echo_is_flow family source dest proto kind code flow same
 
 -- the flow that is computed is the packet's
-pub found : (packet : Facts) (flow : Flow) → flow_of packet ≡ Some flow → IsFlow packet flow
+pub found : (packet : TupleFacts) (flow : Flow) → flow_of packet ≡ Some flow → IsFlow packet flow
 found packet flow = found_at packet.family packet.source packet.dest packet.proto packet.fields flow
 
 same_flow : (one other : Flow) → one.key ≡ other.key → one.side ≡ other.side → one.starts ≡ other.starts
@@ -116,7 +116,7 @@ same_flow one other key side starts =
     ∙ ap (λ b. let flow : Flow = record { key = other.key; side = other.side; starts = b } in flow) starts
 
 -- a flow of a packet is the oriented one of its ends
-only_oriented : (packet : Facts) (flow : Flow) (h : IsFlow packet flow) (first second : End) (starts : Bool)
+only_oriented : (packet : TupleFacts) (flow : Flow) (h : IsFlow packet flow) (first second : End) (starts : Bool)
     → h.first ≡ first → h.second ≡ second → flow.starts ≡ starts → oriented packet first second starts ≡ flow
 only_oriented packet flow h first second starts is_first is_second same_starts =
     let from = sender_of packet in
@@ -129,18 +129,18 @@ only_oriented packet flow h first second starts is_first is_second same_starts =
     sym (same_flow flow (oriented packet h.first h.second starts) h.key side same_starts
     ∙ ap₂ (λ x y. oriented packet x y starts) is_first is_second)
 
-pub echo_request : (packet : Facts) (kind : ℕ) → kind ≡ request_type packet.family
+pub echo_request : (packet : TupleFacts) (kind : ℕ) → kind ≡ request_type packet.family
     → echo_flow packet kind ≡ Some (oriented packet (sender_of packet) (receiver_of packet) true)
 echo_request packet kind same = rw (eq-eqb kind (request_type packet.family) same) refl
 
-pub echo_reply : (packet : Facts) (kind : ℕ) → kind ≡ reply_type packet.family
+pub echo_reply : (packet : TupleFacts) (kind : ℕ) → kind ≡ reply_type packet.family
     → echo_flow packet kind ≡ Some (oriented packet (receiver_of packet) (sender_of packet) false)
 echo_reply packet kind same =
     let no_request : kind ≢ request_type packet.family = λ request. types_differ packet.family (sym same ∙ request) in
     rw (ne_eqb kind (request_type packet.family) no_request, eq-eqb kind (reply_type packet.family) same) refl
 
 -- a flow of a packet with ports is the one by the order of its ends
-only_ordered : (packet : Facts) (flow : Flow) (h : IsFlow packet flow)
+only_ordered : (packet : TupleFacts) (flow : Flow) (h : IsFlow packet flow)
     → LesserFirst (sender_of packet) (receiver_of packet) h.first h.second → flow.starts ≡ true
     → flow_by_order packet ≡ flow
 only_ordered packet flow h (inl (is_first, is_second, least)) starts =
@@ -180,11 +180,11 @@ only_at family source dest proto (Icmp kind code) flow h =
     ]
 
 -- a packet has no other flow than the one that is computed
-pub only : (packet : Facts) (flow : Flow) → IsFlow packet flow → flow_of packet ≡ Some flow
+pub only : (packet : TupleFacts) (flow : Flow) → IsFlow packet flow → flow_of packet ≡ Some flow
 only packet flow = only_at packet.family packet.source packet.dest packet.proto packet.fields flow
 
 -- a sender's side is one of two
-side_fits : (packet : Facts) (flow : Flow) → IsFlow packet flow → flow.side < 2
+side_fits : (packet : TupleFacts) (flow : Flow) → IsFlow packet flow → flow.side < 2
 side_fits packet flow h =
     let from = sender_of packet in
     elim (end_order from h.first) [
@@ -192,16 +192,16 @@ side_fits packet flow h =
       | inr apart ↦ omega (arith, h.second_side (λ same. apart_ends from h.first apart same))
     ]
 
-found_in : (packet : Facts) (result : Option Flow) → result ≡ flow_of packet → IfSome result (IsFlow packet)
+found_in : (packet : TupleFacts) (result : Option Flow) → result ≡ flow_of packet → IfSome result (IsFlow packet)
 found_in packet None same = tt
 found_in packet (Some flow) same = found packet flow (sym same)
 
-side_in : (packet : Facts) (result : Option Flow) → result ≡ flow_of packet → IfSome result (λ flow. flow.side < 2)
+side_in : (packet : TupleFacts) (result : Option Flow) → result ≡ flow_of packet → IfSome result (λ flow. flow.side < 2)
 side_in packet None same = tt
 side_in packet (Some flow) same = side_fits packet flow (found packet flow (sym same))
 
 -- what is promised of the flow that is computed
-pub told : (packet : Facts) (result : Option Flow) → result ≡ flow_of packet → record {
+pub told : (packet : TupleFacts) (result : Option Flow) → result ≡ flow_of packet → record {
   value : result ≡ flow_of packet;
   found : IfSome result (IsFlow packet);
   side : IfSome result (λ flow. flow.side < 2);

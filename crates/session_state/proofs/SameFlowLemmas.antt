@@ -1,7 +1,7 @@
 -- Packets of one flow have one key, and packets of one key are of one flow.
 use Rattle.std.proofs.Common.{◌≡◌, ◌∙◌, ◌⊎◌, ℕ, IsTrue, IsSome, ap, arith, sym, subst, refl, inl, inr}
 use Rattle.packet_view.specs.Addresses.{fields_suit, icmp_of}
-use Rattle.packet_view.specs.Tuples.{Facts}
+use Rattle.packet_view.specs.Tuples.{TupleFacts}
 use Rattle.packet_view.specs.declared.tuple.Family.{Family}
 use Rattle.packet_view.specs.declared.tuple.Family.TheVariants.{V4, V6}
 use Rattle.packet_view.specs.declared.tuple.Fields.{Fields}
@@ -15,13 +15,13 @@ use Rattle.session_state.proofs.FlowLemmas.{echo_reply, echo_request, packet_of,
 use Rattle.session_state.proofs.KeyLemmas.{Parts, PartsFit, key_of_parts, same_key, same_parts}
 
 -- a TCP or UDP packet, with its ends in the order of its key
-pub record IsExchange (packet : Facts) (first second : End) : Type 0 where
+pub record IsExchange (packet : TupleFacts) (first second : End) : Type 0 where
   pub ports : HavePorts packet.fields
   pub proto : (packet.proto ≡ 6) ⊎ (packet.proto ≡ 17)
   pub order : LesserFirst (sender_of packet) (receiver_of packet) first second
 
 -- an echo that the first end asks of the second
-pub record IsEchoBetween (packet : Facts) (first second : End) : Type 0 where
+pub record IsEchoBetween (packet : TupleFacts) (first second : End) : Type 0 where
   pub proto : packet.proto ≡ icmp_of packet.family
   pub echo : IsEcho packet first.address second.address
   pub first_port : first.port ≡ 0
@@ -60,18 +60,18 @@ kind_at family source dest proto (Icmp kind code) first second (inr (is_reply, i
     })
 
 -- what a packet is that takes part in sessions
-kind_of : (packet : Facts) (flow : Flow) (h : IsFlow packet flow) → IsTuple packet
+kind_of : (packet : TupleFacts) (flow : Flow) (h : IsFlow packet flow) → IsTuple packet
     → IsExchange packet h.first h.second ⊎ IsEchoBetween packet h.first h.second
 kind_of packet flow h tuple =
     kind_at packet.family packet.source packet.dest packet.proto packet.fields h.first h.second h.ends tuple.suit
 
 -- both ends of a flow are the sender's and the receiver's
-abbrev pub AreEnds : Facts → End → End → Type 0
+abbrev pub AreEnds : TupleFacts → End → End → Type 0
 AreEnds packet first second =
     ((first ≡ sender_of packet) × (second ≡ receiver_of packet))
     ⊎ ((first ≡ receiver_of packet) × (second ≡ sender_of packet))
 
-are_ends_at : (packet : Facts) (fields : Fields) (first second : End) → StandAs packet fields first second
+are_ends_at : (packet : TupleFacts) (fields : Fields) (first second : End) → StandAs packet fields first second
     → AreEnds packet first second
 are_ends_at packet Absent first second ends = absurd ends
 are_ends_at packet (Ports from to) first second (inl h) = inl (h.0, h.1)
@@ -81,16 +81,16 @@ are_ends_at packet (Tcp from to flags) first second (inr h) = inr (h.0, h.1)
 are_ends_at packet (Icmp kind code) first second (inl h) = inl (h.1, h.2)
 are_ends_at packet (Icmp kind code) first second (inr h) = inr (h.1, h.2)
 
-pub are_ends : (packet : Facts) (flow : Flow) (h : IsFlow packet flow) → AreEnds packet h.first h.second
+pub are_ends : (packet : TupleFacts) (flow : Flow) (h : IsFlow packet flow) → AreEnds packet h.first h.second
 are_ends packet flow h = are_ends_at packet packet.fields h.first h.second h.ends
 
 -- what the key of a packet's flow is made of
-abbrev parts : (packet : Facts) (flow : Flow) → IsFlow packet flow → Parts
+abbrev parts : (packet : TupleFacts) (flow : Flow) → IsFlow packet flow → Parts
 parts packet flow h =
     record { family = packet.family; first = h.first; second = h.second; proto = packet.proto }
 
 -- the parts fit, since the ends are those of the packet
-parts_fit : (packet : Facts) (flow : Flow) (h : IsFlow packet flow) → IsTuple packet
+parts_fit : (packet : TupleFacts) (flow : Flow) (h : IsFlow packet flow) → IsTuple packet
     → PartsFit (parts packet flow h)
 parts_fit packet flow h tuple =
     let Fit : End → End → Type 0 = λ first second.
@@ -115,13 +115,13 @@ parts_fit packet flow h tuple =
     ]
 
 -- equal keys of two packets are made of the same
-parts_of_key : (a b : Facts) (f g : Flow) (x : AreFlows a b f g) → f.key ≡ g.key
+parts_of_key : (a b : TupleFacts) (f g : Flow) (x : AreFlows a b f g) → f.key ≡ g.key
     → parts a f x.one ≡ parts b g x.other
 parts_of_key a b f g x same =
     same_key _ _ (parts_fit a f x.one x.one_tuple) (parts_fit b g x.other x.other_tuple) (sym x.one.key ∙ same ∙ x.other.key)
 
 -- packets whose ends stand alike have the same ends
-same_ends : (a b : Facts) (first second first' second' : End) → first ≡ first' → second ≡ second'
+same_ends : (a b : TupleFacts) (first second first' second' : End) → first ≡ first' → second ≡ second'
     → LesserFirst (sender_of a) (receiver_of a) first second
     → LesserFirst (sender_of b) (receiver_of b) first' second' → SameEnds a b
 same_ends a b first second first' second' firsts seconds (inl h) (inl k) =
@@ -139,7 +139,7 @@ alike from to from' to' first second froms tos h =
     subst (λ e. LesserFirst from' e first second) tos (subst (λ e. LesserFirst e to first second) froms h)
 
 -- packets of the same ends have ends that stand alike
-stand_alike : (a b : Facts) (first second first' second' : End) → SameEnds a b
+stand_alike : (a b : TupleFacts) (first second first' second' : End) → SameEnds a b
     → LesserFirst (sender_of a) (receiver_of a) first second
     → LesserFirst (sender_of b) (receiver_of b) first' second' → (first ≡ first') × (second ≡ second')
 stand_alike a b first second first' second' (inl (from, to)) h k =
@@ -154,18 +154,18 @@ no_icmp V4 proto ports icmp = omega (arith, ports, icmp)
 no_icmp V6 proto ports icmp = omega (arith, ports, icmp)
 
 -- what has ports is no echo
-no_echo : (packet : Facts) (requester answerer : ℕ) → HavePorts packet.fields
+no_echo : (packet : TupleFacts) (requester answerer : ℕ) → HavePorts packet.fields
     → IsEcho packet requester answerer → ⊥
 no_echo packet requester answerer ports (inl ((code, fields), source, dest)) = subst HavePorts fields ports
 no_echo packet requester answerer ports (inr ((code, fields), source, dest)) = subst HavePorts fields ports
 
 -- no packet is both a request and a reply
-not_both : (packet : Facts) → IsEchoRequest packet → IsEchoReply packet → ⊥
+not_both : (packet : TupleFacts) → IsEchoRequest packet → IsEchoReply packet → ⊥
 not_both packet (code, request) (other_code, reply) =
     types_differ packet.family (let both = sym reply ∙ request in cc)
 
 -- a packet is an echo of one requester and one answerer
-echo_once : (packet : Facts) (r a r' a' : ℕ) → IsEcho packet r a → IsEcho packet r' a' → (r ≡ r') × (a ≡ a')
+echo_once : (packet : TupleFacts) (r a r' a' : ℕ) → IsEcho packet r a → IsEcho packet r' a' → (r ≡ r') × (a ≡ a')
 echo_once packet r a r' a' (inl (request, source, dest)) (inl (request', source', dest')) =
     (sym source ∙ source', sym dest ∙ dest')
 echo_once packet r a r' a' (inr (reply, source, dest)) (inr (reply', source', dest')) =
@@ -176,7 +176,7 @@ echo_once packet r a r' a' (inr (reply, source, dest)) (inl (request', source', 
     absurd (not_both packet request' reply)
 
 -- the keys of two packets of one flow are made of the same
-pub parts_of_flow : (a b : Facts) (f g : Flow) (x : AreFlows a b f g) → SameFlow a b
+pub parts_of_flow : (a b : TupleFacts) (f g : Flow) (x : AreFlows a b f g) → SameFlow a b
     → parts a f x.one ≡ parts b g x.other
 parts_of_flow a b f g x (families, inl exchange) =
     elim (kind_of a f x.one x.one_tuple) [
@@ -204,11 +204,11 @@ parts_of_flow a b f g x (families, inr (requester, answerer, echo, other_echo)) 
     ]
 
 -- packets of one flow have one key
-pub key_of_same_flow : (a b : Facts) (f g : Flow) → AreFlows a b f g → SameFlow a b → f.key ≡ g.key
+pub key_of_same_flow : (a b : TupleFacts) (f g : Flow) → AreFlows a b f g → SameFlow a b → f.key ≡ g.key
 key_of_same_flow a b f g x same = x.one.key ∙ ap key_of_parts (parts_of_flow a b f g x same) ∙ sym x.other.key
 
 -- packets of one key are of one flow
-pub same_flow_of_key : (a b : Facts) (f g : Flow) → AreFlows a b f g → f.key ≡ g.key → SameFlow a b
+pub same_flow_of_key : (a b : TupleFacts) (f g : Flow) → AreFlows a b f g → f.key ≡ g.key → SameFlow a b
 same_flow_of_key a b f g x same =
     let made = parts_of_key a b f g x same in
     let families : a.family ≡ b.family = ap (λ p. p.family) made in
@@ -233,7 +233,7 @@ same_flow_of_key a b f g x same =
     ]
 
 -- a packet with ports takes part in sessions
-ports_take_part : (packet : Facts) (fields : Fields) → packet.fields ≡ fields → HavePorts fields
+ports_take_part : (packet : TupleFacts) (fields : Fields) → packet.fields ≡ fields → HavePorts fields
     → IsSome (flow_of packet)
 ports_take_part packet Absent same ports = absurd ports
 ports_take_part packet (Ports from to) same ports = subst IsSome (sym (ap (flow_with packet) same)) refl
@@ -241,7 +241,7 @@ ports_take_part packet (Tcp from to flags) same ports = subst IsSome (sym (ap (f
 ports_take_part packet (Icmp kind code) same ports = absurd ports
 
 -- an echo takes part in sessions
-echo_takes_part : (packet : Facts) (requester answerer : ℕ) → IsEcho packet requester answerer
+echo_takes_part : (packet : TupleFacts) (requester answerer : ℕ) → IsEcho packet requester answerer
     → IsSome (flow_of packet)
 echo_takes_part packet requester answerer (inl ((code, request), source, dest)) =
     subst IsSome (sym (ap (flow_with packet) request ∙ echo_request packet (request_type packet.family) refl)) refl
@@ -249,7 +249,7 @@ echo_takes_part packet requester answerer (inr ((code, reply), source, dest)) =
     subst IsSome (sym (ap (flow_with packet) reply ∙ echo_reply packet (reply_type packet.family) refl)) refl
 
 -- packets of one flow take part in sessions
-pub take_part : (a b : Facts) → SameFlow a b → IsSome (flow_of a) × IsSome (flow_of b)
+pub take_part : (a b : TupleFacts) → SameFlow a b → IsSome (flow_of a) × IsSome (flow_of b)
 take_part a b (families, inl exchange) =
     (ports_take_part a a.fields refl exchange.one_ports, ports_take_part b b.fields refl exchange.other_ports)
 take_part a b (families, inr (requester, answerer, echo, other_echo)) =
@@ -278,17 +278,17 @@ answers_at family source dest proto fields family' source' dest' proto' fields' 
     absurd none
 
 -- what answers a packet is of its flow
-pub answer_is_same_flow : (a b : Facts) → IsAnswer a b → SameFlow a b
+pub answer_is_same_flow : (a b : TupleFacts) → IsAnswer a b → SameFlow a b
 answer_is_same_flow a b answer =
     answers_at a.family a.source a.dest a.proto a.fields b.family b.source b.dest b.proto b.fields
     answer.family answer.proto answer.source answer.dest answer.fields
 
 -- a packet and its answer have one key
-pub key_of_answer : (a b : Facts) (f g : Flow) → AreFlows a b f g → IsAnswer a b → f.key ≡ g.key
+pub key_of_answer : (a b : TupleFacts) (f g : Flow) → AreFlows a b f g → IsAnswer a b → f.key ≡ g.key
 key_of_answer a b f g x answer = key_of_same_flow a b f g x (answer_is_same_flow a b answer)
 
 -- the port from which an answer comes
-back_port : (a : Facts) (fields : Fields) (b : Facts) (back : Fields) → AnswerFields a fields b back
+back_port : (a : TupleFacts) (fields : Fields) (b : TupleFacts) (back : Fields) → AnswerFields a fields b back
     → source_port back ≡ dest_port fields
 back_port a (Ports from to) b (Ports back_from back_to) (from_is, to_is) = from_is
 back_port a (Tcp from to flags) b (Tcp back_from back_to back_flags) (from_is, to_is) = from_is
@@ -296,5 +296,5 @@ back_port a (Icmp kind code) b (Icmp back_kind back_code) echo = refl
 back_port a fields b back none = absurd none
 
 -- an answer comes from where its packet went
-pub sender_of_answer : (a b : Facts) → IsAnswer a b → sender_of b ≡ receiver_of a
+pub sender_of_answer : (a b : TupleFacts) → IsAnswer a b → sender_of b ≡ receiver_of a
 sender_of_answer a b answer = same_end _ _ answer.source (back_port a a.fields b b.fields answer.fields)

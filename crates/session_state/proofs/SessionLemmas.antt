@@ -28,7 +28,7 @@ second_place l f g k fits_l fits_f fits_g = omega arith
 kind_place : (l f g k : ℕ) → l < 2 ^ 32 → f < 2 ^ 8 → g < 2 ^ 8 → word_with l f g k / 2 ^ 48 ≡ k
 kind_place l f g k fits_l fits_f fits_g = omega arith
 
--- a word is made of what stands at its places
+-- a word is made of what is at its places
 places : (word : ℕ) → word / 2 ^ 48 < 2
     → word ≡ word_with (word % 2 ^ 32) (word / 2 ^ 32 % 2 ^ 8) (word / 2 ^ 40 % 2 ^ 8) (word / 2 ^ 48)
 places word small = omega arith
@@ -47,7 +47,7 @@ small_bit : (tcp : Bool) → nat_lt (if tcp then 1 else 0) 2 ≡ true
 small_bit true = refl
 small_bit false = refl
 
--- what stands in the word of a session
+-- what is in the word of a session
 fields_of_session : (session : SessionFacts) → IsSession session → fields_of_word (session_word session) ≡ session
 fields_of_session session fits =
     let bit : ℕ = if session.tcp then 1 else 0 in

@@ -1,6 +1,6 @@
 -- The side of a packet tells which end of its flow sent it.
 use Rattle.std.proofs.Common.{◌≡◌, ◌≢◌, ◌∙◌, ◌⊎◌, ◌+◌, ap, arith, sym, inl, inr}
-use Rattle.packet_view.specs.Tuples.{Facts}
+use Rattle.packet_view.specs.Tuples.{TupleFacts}
 use Rattle.session_state.specs.declared.flow.Flow.{Flow}
 use Rattle.session_state.specs.Flows.{IsFlow, receiver_of, sender_of}
 use Rattle.session_state.specs.SameFlow.{AreFlows, IsAnswer, SameFlow}
@@ -8,7 +8,7 @@ use Rattle.session_state.proofs.EndLemmas.{apart_ends, end_order}
 use Rattle.session_state.proofs.SameFlowLemmas.{answer_is_same_flow, are_ends, parts_of_flow, sender_of_answer}
 
 -- side 0 is the first end's, side 1 the other's
-side_cases : (packet : Facts) (flow : Flow) (h : IsFlow packet flow)
+side_cases : (packet : TupleFacts) (flow : Flow) (h : IsFlow packet flow)
     → ((sender_of packet ≡ h.first) × (flow.side ≡ 0))
     ⊎ ((sender_of packet ≡ h.second) × (sender_of packet ≢ h.first) × (flow.side ≡ 1))
 side_cases packet flow h =
@@ -23,7 +23,7 @@ side_cases packet flow h =
     ]
 
 -- packets of one side come from one end
-pub sender_of_side : (a b : Facts) (f g : Flow) → AreFlows a b f g → SameFlow a b → f.side ≡ g.side
+pub sender_of_side : (a b : TupleFacts) (f g : Flow) → AreFlows a b f g → SameFlow a b → f.side ≡ g.side
     → sender_of a ≡ sender_of b
 sender_of_side a b f g x same same_side =
     let made = parts_of_flow a b f g x same in
@@ -41,7 +41,7 @@ sender_of_side a b f g x same same_side =
     ]
 
 -- packets of one flow from one end have one side
-pub side_of_sender : (a b : Facts) (f g : Flow) → AreFlows a b f g → SameFlow a b → sender_of a ≡ sender_of b
+pub side_of_sender : (a b : TupleFacts) (f g : Flow) → AreFlows a b f g → SameFlow a b → sender_of a ≡ sender_of b
     → f.side ≡ g.side
 side_of_sender a b f g x same same_sender =
     let firsts : x.one.first ≡ x.other.first = ap (λ p. p.first) (parts_of_flow a b f g x same) in
@@ -54,7 +54,7 @@ side_of_sender a b f g x same same_sender =
     ]
 
 -- a packet between equal ends has side 0
-pub side_of_tie : (packet : Facts) (flow : Flow) → IsFlow packet flow → sender_of packet ≡ receiver_of packet
+pub side_of_tie : (packet : TupleFacts) (flow : Flow) → IsFlow packet flow → sender_of packet ≡ receiver_of packet
     → flow.side ≡ 0
 side_of_tie packet flow h same =
     elim (are_ends packet flow h) [
@@ -63,7 +63,7 @@ side_of_tie packet flow h same =
     ]
 
 -- packets of one flow from two ends have the two sides
-opposite_sides : (a b : Facts) (f g : Flow) → AreFlows a b f g → SameFlow a b → sender_of a ≢ sender_of b
+opposite_sides : (a b : TupleFacts) (f g : Flow) → AreFlows a b f g → SameFlow a b → sender_of a ≢ sender_of b
     → f.side + g.side ≡ 1
 opposite_sides a b f g x same apart =
     let made = parts_of_flow a b f g x same in
@@ -81,7 +81,7 @@ opposite_sides a b f g x same apart =
     ]
 
 -- a packet and its answer have opposite sides where the ends differ
-pub side_of_answer : (a b : Facts) (f g : Flow) → AreFlows a b f g → IsAnswer a b → sender_of a ≢ receiver_of a
+pub side_of_answer : (a b : TupleFacts) (f g : Flow) → AreFlows a b f g → IsAnswer a b → sender_of a ≢ receiver_of a
     → f.side + g.side ≡ 1
 side_of_answer a b f g x answer apart =
     opposite_sides a b f g x (answer_is_same_flow a b answer) (λ same. apart (same ∙ sender_of_answer a b answer))

@@ -5,7 +5,7 @@ use Rattle.packet_view.specs.declared.tuple.Family.{Family}
 use Rattle.packet_view.specs.declared.tuple.Family.TheVariants.{V4, V6}
 use Rattle.packet_view.specs.declared.tuple.Fields.{Fields}
 use Rattle.packet_view.specs.declared.tuple.Fields.TheVariants.{Absent, Ports, Tcp, Icmp}
-use Rattle.packet_view.specs.Tuples.{Facts}
+use Rattle.packet_view.specs.Tuples.{TupleFacts}
 use Rattle.session_state.specs.declared.end.End.{End}
 use Rattle.session_state.specs.declared.flow.Flow.{Flow}
 use Rattle.session_state.specs.declared.flow.FlowKey.{FlowKey}
@@ -34,17 +34,17 @@ dest_port (Tcp from to flags) = to
 dest_port (Icmp kind code) = 0
 
 -- the end that a packet comes from; without ports its port is 0
-abbrev pub sender_of : Facts → End
+abbrev pub sender_of : TupleFacts → End
 sender_of packet = record { address = packet.source; port = source_port packet.fields }
 
 -- the end that a packet goes to
-abbrev pub receiver_of : Facts → End
+abbrev pub receiver_of : TupleFacts → End
 receiver_of packet = record { address = packet.dest; port = dest_port packet.fields }
 
-abbrev pub IsEchoRequest : Facts → Type 0
+abbrev pub IsEchoRequest : TupleFacts → Type 0
 IsEchoRequest packet = (code : ℕ) × (packet.fields ≡ Icmp (request_type packet.family) code)
 
-abbrev pub IsEchoReply : Facts → Type 0
+abbrev pub IsEchoReply : TupleFacts → Type 0
 IsEchoReply packet = (code : ℕ) × (packet.fields ≡ Icmp (reply_type packet.family) code)
 
 -- an end is lesser than another by address, and then by port
@@ -71,7 +71,7 @@ LesserFirst sender receiver first second =
 
 -- the ends of a packet's flow in the order of its key: of TCP and UDP the lesser one first, of an
 -- echo the one that asks
-abbrev pub StandAs : Facts → Fields → End → End → Type 0
+abbrev pub StandAs : TupleFacts → Fields → End → End → Type 0
 StandAs packet Absent first second = ⊥
 StandAs packet (Ports from to) first second = LesserFirst (sender_of packet) (receiver_of packet) first second
 StandAs packet (Tcp from to flags) first second = LesserFirst (sender_of packet) (receiver_of packet) first second
@@ -80,7 +80,7 @@ StandAs packet (Icmp kind code) first second =
     ⊎ ((kind ≡ reply_type packet.family) × (first ≡ receiver_of packet) × (second ≡ sender_of packet))
 
 -- the flow of a packet: its key, its sender's side, and whether it may start a session
-pub record IsFlow (packet : Facts) (flow : Flow) : Type 0 where
+pub record IsFlow (packet : TupleFacts) (flow : Flow) : Type 0 where
   pub first : End
   pub second : End
   pub ends : StandAs packet packet.fields first second
@@ -97,7 +97,7 @@ abbrev pub side_of : End → End → ℕ
 side_of first sender = if (sender.address == first.address) && (sender.port == first.port) then 0 else 1
 
 -- the flow of a packet whose ends stand in this order
-abbrev pub oriented : Facts → End → End → Bool → Flow
+abbrev pub oriented : TupleFacts → End → End → Bool → Flow
 oriented packet first second starts =
     record {
       key = key_of packet.family first second packet.proto;
@@ -124,14 +124,14 @@ flow_by_number proto from to =
     }
 
 -- the flow of a packet with ports
-abbrev pub flow_by_order : Facts → Flow
+abbrev pub flow_by_order : TupleFacts → Flow
 flow_by_order packet =
     if stands_first (sender_of packet) (receiver_of packet)
     then oriented packet (sender_of packet) (receiver_of packet) true
     else oriented packet (receiver_of packet) (sender_of packet) true
 
 -- the flow of an ICMP packet, where it is an echo
-abbrev pub echo_flow : Facts → ℕ → Option Flow
+abbrev pub echo_flow : TupleFacts → ℕ → Option Flow
 echo_flow packet kind =
     if kind == request_type packet.family
     then Some (oriented packet (sender_of packet) (receiver_of packet) true)
@@ -139,12 +139,12 @@ echo_flow packet kind =
     then Some (oriented packet (receiver_of packet) (sender_of packet) false)
     else None)
 
-abbrev pub flow_with : Facts → Fields → Option Flow
+abbrev pub flow_with : TupleFacts → Fields → Option Flow
 flow_with packet Absent = None
 flow_with packet (Ports from to) = Some (flow_by_order packet)
 flow_with packet (Tcp from to flags) = Some (flow_by_order packet)
 flow_with packet (Icmp kind code) = echo_flow packet kind
 
 -- the flow of a packet, where it takes part in sessions
-abbrev pub flow_of : Facts → Option Flow
+abbrev pub flow_of : TupleFacts → Option Flow
 flow_of packet = flow_with packet packet.fields

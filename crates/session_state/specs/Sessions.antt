@@ -61,7 +61,7 @@ session_word session =
     session.last + session.first_flags * 2 ^ 32 + session.second_flags * 2 ^ 40
     + (if session.tcp then 1 else 0) * 2 ^ 48
 
--- what stands at the places of a session in a word
+-- what is at the places of a session in a word
 abbrev pub fields_of_word : ℕ → SessionFacts
 fields_of_word word = record {
   last = word % 2 ^ 32;

@@ -1,6 +1,6 @@
 //! The ends of a flow, and which of two stands first.
 ghost use Rattle.std.specs.Prelude.{◌≡◌};
-ghost use Rattle.packet_view.specs.Tuples.{facts};
+ghost use Rattle.packet_view.specs.Tuples.{tuple_facts};
 ghost use Rattle.session_state.specs.Flows.{receiver_of, sender_of, stands_first};
 
 use packet_view::{Fields, Tuple};
@@ -21,7 +21,7 @@ pub fn is_first(one: End, other: End) -> bool
 
 /// The end that a packet comes from. Without ports its port is 0.
 pub fn sender(tuple: &Tuple) -> End
-    ensures { result ≡ sender_of (facts tuple.now) }
+    ensures { result ≡ sender_of (tuple_facts tuple.now) }
 {
     let port = match tuple.fields {
         Fields::Ports { from, .. } | Fields::Tcp { from, .. } => from,
@@ -35,7 +35,7 @@ pub fn sender(tuple: &Tuple) -> End
 
 /// The end that a packet goes to.
 pub fn receiver(tuple: &Tuple) -> End
-    ensures { result ≡ receiver_of (facts tuple.now) }
+    ensures { result ≡ receiver_of (tuple_facts tuple.now) }
 {
     let port = match tuple.fields {
         Fields::Ports { to, .. } | Fields::Tcp { to, .. } => to,

@@ -2,7 +2,7 @@
 ghost use Rattle.std.specs.Prelude.{◌≡◌, ◌<◌, ◌+◌, ◌*◌, ◌^◌, Bool, IfSome, Some};
 ghost use Rattle.packet_view.specs.declared.tuple.Family.TheVariants.{V4};
 ghost use Rattle.packet_view.specs.Addresses.{address_limit};
-ghost use Rattle.packet_view.specs.Tuples.{facts};
+ghost use Rattle.packet_view.specs.Tuples.{tuple_facts};
 ghost use Rattle.session_state.specs.declared.flow.Flow.{Flow};
 ghost use Rattle.session_state.specs.Flows;
 ghost use Rattle.session_state.specs.Flows.{IsFlow, echo_flow, end_of_number, flow_by_order, flow_of, key_of};
@@ -77,7 +77,7 @@ fn key(family: Family, first: End, second: End, proto: u8) -> FlowKey
 fn oriented(tuple: &Tuple, first: End, second: End, starts: bool) -> Flow
     requires first { first.address < address_limit tuple.now.family }
     requires second { second.address < address_limit tuple.now.family }
-    ensures { result ≡ Flows.oriented (facts tuple.now) first second starts }
+    ensures { result ≡ Flows.oriented (tuple_facts tuple.now) first second starts }
 {
     Flow {
         key: key(tuple.family, first, second, tuple.proto),
@@ -118,7 +118,7 @@ fn flow_by_number(from: u64, to: u64, proto: u8) -> Flow
 }
 
 fn by_order(tuple: &Tuple) -> Flow
-    ensures { result ≡ flow_by_order (facts tuple.now) }
+    ensures { result ≡ flow_by_order (tuple_facts tuple.now) }
 {
     match tuple.family {
         Family::V4 => flow_by_number(number(sender(tuple)), number(receiver(tuple)), tuple.proto),
@@ -127,7 +127,7 @@ fn by_order(tuple: &Tuple) -> Flow
 }
 
 fn by_ends(tuple: &Tuple) -> Flow
-    ensures { result ≡ flow_by_order (facts tuple.now) }
+    ensures { result ≡ flow_by_order (tuple_facts tuple.now) }
 {
     let from = sender(tuple);
     let to = receiver(tuple);
@@ -139,7 +139,7 @@ fn by_ends(tuple: &Tuple) -> Flow
 }
 
 fn echo(tuple: &Tuple, kind: u8) -> Option<Flow>
-    ensures { result ≡ echo_flow (facts tuple.now) kind }
+    ensures { result ≡ echo_flow (tuple_facts tuple.now) kind }
 {
     let from = sender(tuple);
     let to = receiver(tuple);
@@ -157,10 +157,10 @@ fn echo(tuple: &Tuple, kind: u8) -> Option<Flow>
 /// TCP and UDP packets take part, and echo requests and replies of their own family's ICMP
 /// (RFC 792, RFC 4443).
 pub fn orient(tuple: &Tuple) -> Option<Flow>
-    ensures value { result ≡ flow_of (facts tuple.now) }
-    ensures found { IfSome result (IsFlow (facts tuple.now)) }
+    ensures value { result ≡ flow_of (tuple_facts tuple.now) }
+    ensures found { IfSome result (IsFlow (tuple_facts tuple.now)) }
     ensures side { IfSome result (λ flow. flow.side < 2) }
-    ensures only { (flow : Flow) → IsFlow (facts tuple.now) flow → result ≡ Some flow }
+    ensures only { (flow : Flow) → IsFlow (tuple_facts tuple.now) flow → result ≡ Some flow }
 {
     match tuple.fields {
         Fields::Absent => None,

@@ -3,7 +3,7 @@
 //! The functions do nothing: their contracts are the laws.
 ghost use Rattle.std.specs.Prelude.{◌≡◌, ◌≢◌, ◌≤◌, ◌+◌, ◌↔◌, ℕ, Option, Some, IsSome, true, false};
 ghost use Rattle.bihash_words.specs.declared.patch.Change.TheVariants.{Set};
-ghost use Rattle.packet_view.specs.Tuples.{Facts, facts};
+ghost use Rattle.packet_view.specs.Tuples.{TupleFacts, tuple_facts};
 ghost use Rattle.session_state.specs.Decisions.{IsLiveFor, PatchFacts, decision_of, is_live_for};
 ghost use Rattle.session_state.specs.Flows.{IsEchoReply, IsFlow, flow_of, receiver_of, sender_of};
 ghost use Rattle.session_state.specs.SameFlow.{AreFlows, IsAnswer, IsTuple, SameFlow};
@@ -15,39 +15,39 @@ use packet_view::Tuple;
 
 /// Every five-tuple is within the ranges that the laws ask for.
 pub fn tuples_are_in_range(tuple: Tuple)
-    ensures { IsTuple (facts tuple) }
+    ensures { IsTuple (tuple_facts tuple) }
 {}
 
 /// Packets have one key exactly where they are of one flow.
 #[tactic(auto, using(crate::proofs::SameFlowLemmas::key_of_same_flow, crate::proofs::SameFlowLemmas::take_part))]
 pub fn keys_tell_flows()
-    ensures one_key { (a b : Facts) (f g : Flow) → AreFlows a b f g → SameFlow a b → f.key ≡ g.key }
-    ensures one_flow { (a b : Facts) (f g : Flow) → AreFlows a b f g → f.key ≡ g.key → SameFlow a b }
-    ensures take_part { (a b : Facts) → SameFlow a b → IsSome (flow_of a) × IsSome (flow_of b) }
+    ensures one_key { (a b : TupleFacts) (f g : Flow) → AreFlows a b f g → SameFlow a b → f.key ≡ g.key }
+    ensures one_flow { (a b : TupleFacts) (f g : Flow) → AreFlows a b f g → f.key ≡ g.key → SameFlow a b }
+    ensures take_part { (a b : TupleFacts) → SameFlow a b → IsSome (flow_of a) × IsSome (flow_of b) }
 {}
 
 /// Packets of one flow have one side exactly where one end sends both. Between equal ends that is
 /// side 0.
 #[tactic(auto, using(crate::proofs::SideLemmas::side_of_sender, crate::proofs::SideLemmas::sender_of_side, crate::proofs::SideLemmas::side_of_tie))]
 pub fn sides_tell_senders()
-    ensures one_side { (a b : Facts) (f g : Flow) → AreFlows a b f g → SameFlow a b
+    ensures one_side { (a b : TupleFacts) (f g : Flow) → AreFlows a b f g → SameFlow a b
         → sender_of a ≡ sender_of b → f.side ≡ g.side }
-    ensures one_sender { (a b : Facts) (f g : Flow) → AreFlows a b f g → SameFlow a b
+    ensures one_sender { (a b : TupleFacts) (f g : Flow) → AreFlows a b f g → SameFlow a b
         → f.side ≡ g.side → sender_of a ≡ sender_of b }
-    ensures tie { (a : Facts) (f : Flow) → IsFlow a f → sender_of a ≡ receiver_of a → f.side ≡ 0 }
+    ensures tie { (a : TupleFacts) (f : Flow) → IsFlow a f → sender_of a ≡ receiver_of a → f.side ≡ 0 }
 {}
 
 /// A packet and its answer have one key, and opposite sides where the ends differ.
 pub fn both_directions_share_a_key()
-    ensures one_key { (a b : Facts) (f g : Flow) → AreFlows a b f g → IsAnswer a b → f.key ≡ g.key }
-    ensures opposite { (a b : Facts) (f g : Flow) → AreFlows a b f g → IsAnswer a b
+    ensures one_key { (a b : TupleFacts) (f g : Flow) → AreFlows a b f g → IsAnswer a b → f.key ≡ g.key }
+    ensures opposite { (a b : TupleFacts) (f g : Flow) → AreFlows a b f g → IsAnswer a b
         → sender_of a ≢ receiver_of a → f.side + g.side ≡ 1 }
 {}
 
 /// An echo reply may not start a session, and a packet that doesn't reflect sets no value where no
 /// session is live.
 pub fn replies_start_nothing()
-    ensures reply { (a : Facts) (f : Flow) → IsFlow a f → IsEchoReply a → f.starts ≡ false }
+    ensures reply { (a : TupleFacts) (f : Flow) → IsFlow a f → IsEchoReply a → f.starts ≡ false }
     ensures none_set { (p : PatchFacts) (old : Option ℕ) (word : ℕ) → p.reflects ≡ false
         → is_live_for p old ≡ false → decision_of p old ≢ Set word }
 {}

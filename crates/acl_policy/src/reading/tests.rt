@@ -327,7 +327,7 @@ fn wrong_words(rt: HostRuntime) {
     }
 }
 
-/// What stands in comments, between words and at the ends of lines.
+/// What is in comments, between words and at the ends of lines.
 #[test]
 fn comments_and_blanks(rt: HostRuntime) -> Result<(), Fail> {
     for (text, rules) in [

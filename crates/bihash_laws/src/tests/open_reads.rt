@@ -6,7 +6,7 @@ use bihash_words::{Change, Reply};
 use std::test::Fail;
 
 // Bucket 0 has page 1. The second caller reads the key there, the first one removes the pair and adds one to
-// bucket 1, which takes page 1, and the second caller reads the value that stands there then. It is no answer.
+// bucket 1, which takes page 1, and the second caller reads the value that is there then. It is no answer.
 #[test]
 fn read_across_a_moved_page(rt: HostRuntime) -> Result<(), Fail> {
     let (table, mut first, mut second) = two_callers::<Eight>(rt.alloc())?;

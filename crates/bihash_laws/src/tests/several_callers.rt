@@ -27,7 +27,7 @@ fn two_callers_without_a_meeting(rt: HostRuntime) -> Result<(), Fail> {
     Ok(())
 }
 
-// As many splits as a table may have succeed at once, each behind the other, and no further one.
+// As many splits as a table may have succeed at once, each after the other, and no further one.
 #[test]
 fn all_callers_split(rt: HostRuntime) -> Result<(), Fail> {
     let (table, mut caller) = create::<Eight>(rt.alloc())?;

@@ -30,7 +30,7 @@ fn two_writers(rt: HostRuntime) -> Result<(), Fail> {
     Ok(())
 }
 
-// Two callers at once, joined behind their writes, and whether each write changed the table.
+// Two callers at once, joined after their writes, and whether each write changed the table.
 fn write_both<R: Threads + Wait + Sync>(
     rt: &R,
     table: &Sessions<Deep>,
@@ -163,7 +163,7 @@ fn page_given_away_under_readers(rt: HostRuntime) -> Result<(), Fail> {
     Ok(())
 }
 
-// Two writers and a reader at once, joined behind their rounds, and whether each met what is lawful.
+// Two writers and a reader at once, joined after their rounds, and whether each met what is lawful.
 fn write_and_read<R: Threads + Wait + Sync>(
     rt: &R,
     table: &Sessions<OnePage>,

@@ -18,7 +18,7 @@ use Rattle.bihash_steps.specs.PageStores.{runs_now}
 use Rattle.bihash_steps.specs.Views.{no_notes}
 use Rattle.bihash_steps.specs.WordRule.{TableState, IsView, WordRule}
 use Rattle.bihash_steps.specs.Steps.{ViewOfSeat}
-use Rattle.bihash_steps.specs.BucketSteps.{unnoted, learned, open_on, IsFound, SeesOpen, TellsBucket}
+use Rattle.bihash_steps.specs.BucketSteps.{without_notes, with_history, open_on, IsFound, SeesOpen, TellsBucket}
 use Rattle.bihash_steps.specs.declared.view.Holdings.{Holdings}
 use Rattle.bihash_steps.specs.declared.view.LockedBucket.{LockedBucket}
 use Rattle.bihash_steps.specs.declared.view.View.{View}
@@ -77,7 +77,7 @@ module _ (z : Sizes) (s : State (Unit {0}) View) (r : WordRule z s) (b : ℕ) (i
 module _ (z : Sizes) where
   -- what a view holds stands where it learns a history
   pub learned_lock : (words : List ℕ) (t : TableState) (j b : ℕ) (v : View) (lock : Option LockedBucket) → b < length v.known.writes
-      → HoldsBucketIf z words t.bucket j v.known lock → HoldsBucketIf z words t.bucket j (learned v b (t.bucket b).history).known lock
+      → HoldsBucketIf z words t.bucket j v.known lock → HoldsBucketIf z words t.bucket j (with_history v b (t.bucket b).history).known lock
   learned_lock words t j b v None inside h = tt
   learned_lock words t j b v (Some l) inside h = record {
     inside = h.inside;
@@ -85,7 +85,7 @@ module _ (z : Sizes) where
     extent = h.extent;
     version = h.version;
     fresh = dite (ℕ_discrete l.bucket b)
-        (λ e. subst (λ (c : ℕ). known_at (learned v b (t.bucket b).history).known c ≡ (t.bucket c).history) (sym e)
+        (λ e. subst (λ (c : ℕ). known_at (with_history v b (t.bucket b).history).known c ≡ (t.bucket c).history) (sym e)
         (known_learned v b (t.bucket b).history inside))
         (λ ne. known_else v b l.bucket (t.bucket b).history ne ∙ h.fresh);
     was = h.was;
@@ -97,7 +97,7 @@ module _ (z : Sizes) where
 
   -- the view of a caller that saw bucket b without its lock
   abbrev pub seeing : View → ℕ → BucketState → View
-  seeing v b x = record (learned v b x.history) {
+  seeing v b x = record (with_history v b x.history) {
     notes = record no_notes { open_bucket = Some (open_on b (length x.history) x.extent x.block) };
   }
 
@@ -170,10 +170,10 @@ module _ (z : Sizes) where
       go (Some j) held =
           let x = r.table.bucket b in
           let good = unnoted_view z s.words (count_of s.words) r.table id v ok in (
-            unnoted v,
+            without_notes v,
             keeps,
             tt,
-            stays_at z s r (bucket_at z b) id v (unnoted v) at refl good (others_apart z s r id v at),
+            stays_at z s r (bucket_at z b) id v (without_notes v) at refl good (others_apart z s r id v at),
             record {
               slots = refl;
               seen = inr record {
@@ -186,6 +186,6 @@ module _ (z : Sizes) where
               };
               lone = λ lone none. absurd (lone_finds_none z s r b inside id j v at lone none held);
               whole = λ _. refl;
-              lawful = lawful_here z s r (unnoted v) acts good.numbers good.informed good.lone;
+              lawful = lawful_here z s r (without_notes v) acts good.numbers good.informed good.lone;
             },
           )

@@ -14,7 +14,7 @@ use Rattle.bihash_steps.specs.Buckets.{StandsStillIf, word_of}
 use Rattle.bihash_steps.specs.PageStores.{all_writes, runs_now}
 use Rattle.bihash_steps.specs.WordRule.{IsView, WordRule}
 use Rattle.bihash_steps.specs.Steps.{ViewOfSeat}
-use Rattle.bihash_steps.specs.BucketSteps.{unnoted, learned, lock_counted, locked_on, locking, IsFound, TellsLock}
+use Rattle.bihash_steps.specs.BucketSteps.{without_notes, with_history, lock_counted, locked_on, locking, IsFound, TellsLock}
 use Rattle.bihash_steps.specs.declared.view.LockedBucket.{LockedBucket}
 use Rattle.bihash_steps.specs.declared.view.View.{View}
 use Rattle.bihash_steps.proofs.KnownLists.{lawful_here, lawful_set}
@@ -38,7 +38,7 @@ module _ (z : Sizes) where
       → WordRule z record {
         words = set s.words (bucket_at z b) word';
         homes = s.homes;
-        views = set s.views id (locking (learned v b (r.table.bucket b).history)
+        views = set s.views id (locking (with_history v b (r.table.bucket b).history)
             (locked_on b (length (r.table.bucket b).history) (r.table.bucket b).extent (r.table.bucket b).block));
       }
   locked_rule s r id b word' v at acts none inside free value =
@@ -47,7 +47,7 @@ module _ (z : Sizes) where
       let bucket = r.each_bucket b inside in
       let i : ℕ = bucket_at z b in
       let l : LockedBucket = locked_on b (length x.history) x.extent x.block in
-      relocked_rule z s r b id v (lock_counted v.records) (learned v b x.history).known (Some l) (set s.words i word') (Some id) x.dirty record {
+      relocked_rule z s r b id v (lock_counted v.records) (with_history v b x.history).known (Some l) (set s.words i word') (Some id) x.dirty record {
         at = at;
         acts = acts;
         inside = inside;
@@ -62,7 +62,7 @@ module _ (z : Sizes) where
         word = get_or-set_same s.words i word' 0 (let h = bucket_inside z b inside in let wide = r.wide in omega arith) ∙ value;
         at_rest = λ e. cc;
         clean = λ e. cc;
-        informed = counted_informed z r.table (learned v b x.history).known v.records (learned_informed z r.table v b inside ok.informed);
+        informed = counted_informed z r.table (with_history v b x.history).known v.records (learned_informed z r.table v b inside ok.informed);
         numbers = counted_numbers v.seen v.records ok.numbers;
         whole = λ lone. counted_whole (count_of s.words) v.records (ok.lone lone);
         able = let n = counted-length v.records in omega arith;
@@ -114,7 +114,7 @@ module _ (z : Sizes) where
       taken e =
           let y = r.table.bucket b in
           let is = unlocked_word z s r b x inside fits unset (e ∙ stood) in
-          let w : View = locking (learned v b y.history) (locked_on b (length y.history) y.extent y.block) in
+          let w : View = locking (with_history v b y.history) (locked_on b (length y.history) y.extent y.block) in
           let rule : WordRule z (after word' w) = locked_rule s r id b word' v at acts none inside is.0
           (value ∙ ap (λ (o : Bucket). packed (record o { locked = true })) (sym is.1)) in
           let good = learned_informed z r.table v b inside ok.informed in (
@@ -150,11 +150,11 @@ module _ (z : Sizes) where
       lost : found ≢ word → Outcome
       lost ne =
           let good = unnoted_view z s.words (count_of s.words) r.table id v ok in (
-            unnoted v,
+            without_notes v,
             keeps,
             tt,
-            subst (λ (t : Bool). WordRule z (after (either t word' found) (unnoted v))) (sym (ne_eqb found word ne))
-                (stays_at z s r (bucket_at z b) id v (unnoted v) at refl good (others_apart z s r id v at)),
+            subst (λ (t : Bool). WordRule z (after (either t word' found) (without_notes v))) (sym (ne_eqb found word ne))
+                (stays_at z s r (bucket_at z b) id v (without_notes v) at refl good (others_apart z s r id v at)),
             record {
               slots = refl;
               taken = λ e. absurd (ne e);
@@ -163,6 +163,6 @@ module _ (z : Sizes) where
                   ∙ (subst (StandsStillIf z s.words) noted (ok.still lone) ∙ sym is)));
               rests = λ e. absurd (ne e);
               whole = λ _ e. absurd (ne e);
-              lawful = lawful_here z s r (unnoted v) acts good.numbers good.informed good.lone;
+              lawful = lawful_here z s r (without_notes v) acts good.numbers good.informed good.lone;
             },
           )

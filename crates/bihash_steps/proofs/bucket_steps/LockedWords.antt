@@ -13,7 +13,7 @@ use Rattle.bihash_steps.specs.Buckets.{HoldsBucket, HoldsBucketIf, word_of}
 use Rattle.bihash_steps.specs.PageStores.{HoldsBlockIf, run_in, run_held, runs_now}
 use Rattle.bihash_steps.specs.WordRule.{WordRule}
 use Rattle.bihash_steps.specs.Steps.{ViewOfSeat}
-use Rattle.bihash_steps.specs.BucketSteps.{relocked, stored_in, IsLockedWord, TellsLockedWord, TellsStored}
+use Rattle.bihash_steps.specs.BucketSteps.{with_lock, stored_in, IsLockedWord, TellsLockedWord, TellsStored}
 use Rattle.bihash_steps.specs.declared.view.Extent.{Extent}
 use Rattle.bihash_steps.specs.declared.view.Holdings.{Holdings}
 use Rattle.bihash_steps.specs.declared.view.LockedBucket.{LockedBucket}
@@ -84,7 +84,7 @@ module _ (z : Sizes) where
     }
 
     stored_rule : l.extent.page + 2 ^ l.extent.log2 ≤ z.pages + 1
-        → WordRule z record { words = words'; homes = s.homes; views = set s.views id (relocked v (Some (stored_in l k n))) }
+        → WordRule z record { words = words'; homes = s.homes; views = set s.views id (with_lock v (Some (stored_in l k n))) }
     stored_rule near =
         let h = held_bucket z s r id v l at is in
         let acts = holder_acts z s r id v l at is in
@@ -139,11 +139,11 @@ module _ (z : Sizes) where
       → l.extent.page + 2 ^ l.extent.log2 ≤ z.pages + 1 → k < block_words z l.extent.page l.extent.log2
       → Allows (WordRule z) slots id m (page_at z l.extent.page + k) (λ _. n) (λ _. TellsStored k n m)
   stores_at slots id k n m l is near inside s r deep at fits = (
-    relocked m.0 (Some (stored_in l k n)),
+    with_lock m.0 (Some (stored_in l k n)),
     keeps,
     tt,
     stored_rule s r id m.0 l at is k n inside near,
-    λ o e. let one : l ≡ o = cc (is, e) in ap (λ (y : LockedBucket). (relocked m.0 (Some (stored_in y k n)), m.1)) one,
+    λ o e. let one : l ≡ o = cc (is, e) in ap (λ (y : LockedBucket). (with_lock m.0 (Some (stored_in y k n)), m.1)) one,
   )
 
   pub stores_locked_word : (slots id page k n : ℕ) (m : ViewOfSeat) → IsLockedWord z m.0 page k

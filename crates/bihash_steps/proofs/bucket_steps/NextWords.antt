@@ -1,10 +1,10 @@
--- The word of a bucket behind a write, and the stamp that its caller keeps.
+-- The word of a bucket after a write, and the stamp that its caller keeps.
 use Rattle.std.proofs.Common.{◌≡◌, ℕ, ◌+◌, ◌-◌, ◌^◌, ◌<◌, Bool, true, false, length, sym, ap, ◌∙◌, arith, Option, Some}
 use Rattle.bihash_words.specs.Sizes.{Sizes, IsSound}
 use Rattle.bihash_words.specs.Words.{Bucket, Fits, packed, version_of}
 use Rattle.bihash_steps.specs.Callers.{known_at}
 use Rattle.bihash_steps.specs.Buckets.{word_of, open_word}
-use Rattle.bihash_steps.specs.BucketSteps.{MayAnswer, MayWrite, TellsEvent, answered, push_call, MayValidate, TellsValid}
+use Rattle.bihash_steps.specs.BucketSteps.{MayAnswer, MayWrite, TellsEvent, view_after_answer, push_call, MayValidate, TellsValid}
 use Rattle.bihash_steps.specs.Steps.{ViewOfSeat}
 use Rattle.bihash_steps.specs.declared.view.Call.{Call}
 use Rattle.bihash_steps.specs.declared.view.Extent.{Extent}
@@ -46,7 +46,7 @@ counted_write z after m m' c b word version numbers old may read told same h =
 
 -- and the answer of a call that is no write
 pub counted_answer : (z : Sizes) (m m' : ViewOfSeat) (c : Call) (b word version numbers : ℕ) (old : Option (ℕ × ℕ)) → MayAnswer z m.0 b word c
-    → HasVersion m.0 → ((x : Bucket) → Fits x → word ≡ packed x → version ≡ x.version) → TellsEvent z (λ v. answered v c) m m'
+    → HasVersion m.0 → ((x : Bucket) → Fits x → word ≡ packed x → version ≡ x.version) → TellsEvent z (λ v. view_after_answer v c) m m'
     → IsCounted m numbers old → IsCounted m' numbers (Some (b, version))
 counted_answer z m m' c b word version numbers old may has read told h =
     let lock = may.clean.lock in

@@ -11,11 +11,11 @@ use Rattle.bihash_words.specs.Words.{Bucket}
 use Rattle.bihash_steps.specs.Words.{count_of, buckets, bucket_at, page_at, block_words, Stands}
 use Rattle.bihash_steps.specs.Histories.{IsKeyOf, IsAnswer}
 use Rattle.bihash_steps.specs.Callers.{known_at}
-use Rattle.bihash_steps.specs.Buckets.{BucketState, HoldsBucket, HoldsBucketIf, Reads, IsOpen, IsOpenIf, StandsStillIf, word_of, open_word}
+use Rattle.bihash_steps.specs.Buckets.{BucketState, HoldsBucket, HoldsBucketIf, AreReadIn, IsOpen, IsOpenIf, StandsStillIf, word_of, open_word}
 use Rattle.bihash_steps.specs.PageStores.{all_writes}
 use Rattle.bihash_steps.specs.WordRule.{IsInformed, IsView, WordRule}
 use Rattle.bihash_steps.specs.Steps.{ViewOfSeat}
-use Rattle.bihash_steps.specs.BucketSteps.{unnoted, reading, read_more, IsOpenWord, TellsOpenWord, MayValidate, validated, TellsValid, RestsOn, push_call, map_now}
+use Rattle.bihash_steps.specs.BucketSteps.{without_notes, with_reading, read_more, IsOpenWord, TellsOpenWord, MayValidate, view_after_validate, TellsValid, RestsOn, push_call, map_now}
 use Rattle.bihash_steps.specs.declared.view.Call.{Call}
 use Rattle.bihash_steps.specs.declared.view.Extent.{Extent}
 use Rattle.bihash_steps.specs.declared.view.LockedBucket.{LockedBucket}
@@ -80,13 +80,13 @@ module _ (z : Sizes) (s : State (Unit {0}) View) (r : WordRule z s) where
           (subst (λ (e : Extent). k < block_words z e.page e.log2) e inside) in
           ap (λ (e : Extent). slice_index s.words (page_at z e.page + k)) e ∙ stands_clean o.bucket h.inside clean k low
 
-      all : o.version ≡ length x.history → x.dirty ≡ false → Reads ((k, word) ∷ o.reads) x.block
+      all : o.version ≡ length x.history → x.dirty ≡ false → AreReadIn ((k, word) ∷ o.reads) x.block
       all same clean zero p e = subst (λ (q : ℕ × ℕ). q.1 ≡ slice_index x.block q.0) (some-injective (k, word) p e) (here same clean)
       all same clean (suc i) p e = h.reads same clean i p e
 
   reading_view : (id k : ℕ) (v : View) (o : OpenBucket) → get_elem? s.views id ≡ some v → v.notes.open_bucket ≡ Some o
       → k < block_words z o.extent.page o.extent.log2
-      → IsView z s.words (count_of s.words) r.table id (reading v ((k, slice_index s.words (page_at z o.extent.page + k)) ∷ []))
+      → IsView z s.words (count_of s.words) r.table id (with_reading v ((k, slice_index s.words (page_at z o.extent.page + k)) ∷ []))
   reading_view id k v o at noted inside = let ok = r.each_view id v at in record {
     informed = ok.informed;
     numbers = ok.numbers;
@@ -117,7 +117,7 @@ module _ (z : Sizes) (s : State (Unit {0}) View) (r : WordRule z s) where
       → slice_index s.words (bucket_at z o.bucket) ≡ open_word o
       → ((r.table.bucket o.bucket).lock ≡ None) × (o.version ≡ length (r.table.bucket o.bucket).history)
       × (o.extent ≡ (r.table.bucket o.bucket).extent) × (o.block ≡ (r.table.bucket o.bucket).block)
-      × Reads o.reads (r.table.bucket o.bucket).block
+      × AreReadIn o.reads (r.table.bucket o.bucket).block
   open_still id v o at noted here =
       let ok : IsOpen z o (r.table.bucket o.bucket) = subst (IsOpenIf z r.table.bucket) noted (r.each_view id v at).open_bucket in
       let is = unlocked_word z s r o.bucket (word_of o.extent false o.version) ok.inside ok.fits refl here in
@@ -131,7 +131,7 @@ module _ (z : Sizes) (s : State (Unit {0}) View) (r : WordRule z s) where
     extent = extent ∙ sym h.2;
     version = version ∙ sym h.1;
     block = was ∙ sym h.3;
-    reads = subst (Reads o.reads) (sym was) h.4;
+    reads = subst (AreReadIn o.reads) (sym was) h.4;
   }
 
 module _ (z : Sizes) where
@@ -141,10 +141,10 @@ module _ (z : Sizes) where
   loads_open slots id k m o noted inside s r deep at fits =
       let v = m.0 in
       let word : ℕ = slice_index s.words (page_at z o.extent.page + k) in (
-        reading v ((k, word) ∷ []),
+        with_reading v ((k, word) ∷ []),
         keeps,
         tt,
-        stays_at z s r (page_at z o.extent.page + k) id v (reading v ((k, word) ∷ [])) at refl
+        stays_at z s r (page_at z o.extent.page + k) id v (with_reading v ((k, word) ∷ [])) at refl
             (reading_view z s r id k v o at noted inside) (others_apart z s r id v at),
         refl,
       )
@@ -182,7 +182,7 @@ module _ (z : Sizes) where
           let h = open_still z s r id v o at may.noted (ap (λ (n : ℕ). slice_index s.words (bucket_at z n)) home ∙ (e ∙ may.stood)) in
           let version : o.version ≡ length (r.table.bucket b).history
           = subst (λ (n : ℕ). o.version ≡ length (r.table.bucket n).history) home h.1 in
-          let reads : Reads o.reads o.block = subst (Reads o.reads) (sym h.3) h.4 in
+          let reads : AreReadIn o.reads o.block = subst (AreReadIn o.reads) (sym h.3) h.4 in
           let fresh : known_at v.known b ≡ (r.table.bucket b).history
           = prefix_whole (known_at v.known b) (r.table.bucket b).history (ok.informed.begins b inside) (let a = may.version in omega arith) in
           let informed : IsInformed z r.table v.known (push_call c v.records)
@@ -192,7 +192,7 @@ module _ (z : Sizes) where
           (may.stamp ∙ ap (λ (a : ℕ). length (known_at v.known a)) (sym may.bucket))
           (subst (λ (a : ℕ). IsAnswer z (map_now v a) (length (known_at v.known a)) c) (sym may.bucket) (may.answers reads)) ok.informed in
           let numbers = push_numbers v.seen c v.records ok.numbers in
-          let good : IsView z s.words (count_of s.words) r.table id (validated v c) = record {
+          let good : IsView z s.words (count_of s.words) r.table id (view_after_validate v c) = record {
             informed = informed;
             numbers = numbers;
             seen = ok.seen;
@@ -209,10 +209,10 @@ module _ (z : Sizes) where
             left = tt;
             meeting = tt;
           } in (
-            validated v c,
+            view_after_validate v c,
             keeps,
             tt,
-            stays_at z s r (bucket_at z b) id v (validated v c) at refl good
+            stays_at z s r (bucket_at z b) id v (view_after_validate v c) at refl good
                 (λ j u ne f i k p q g. let n = push_renumbers c v.records i p g in λ e' same.
                 others_apart z s r id v at j u ne f i k n.0 q n.1 e' (n.2 ∙ same)),
             record {
@@ -220,23 +220,23 @@ module _ (z : Sizes) where
               valid = λ _. refl;
               not = λ ne. absurd (ne e);
               lone = λ _. e;
-              lawful = lawful_here z s r (validated v c) (let n = push-length c v.records in omega arith) numbers informed (λ lone. push_whole (count_of s.words) c v.records (ok.lone lone));
+              lawful = lawful_here z s r (view_after_validate v c) (let n = push-length c v.records in omega arith) numbers informed (λ lone. push_whole (count_of s.words) c v.records (ok.lone lone));
             },
           )
 
       lost : found ≢ word → Outcome
       lost ne =
           let good = unnoted_view z s.words (count_of s.words) r.table id v ok in (
-            unnoted v,
+            without_notes v,
             keeps,
             tt,
-            stays_at z s r (bucket_at z b) id v (unnoted v) at refl good (others_apart z s r id v at),
+            stays_at z s r (bucket_at z b) id v (without_notes v) at refl good (others_apart z s r id v at),
             record {
               slots = refl;
               valid = λ e. absurd (ne e);
               not = λ _. refl;
               lone = λ lone. absurd (ne (ap (λ (n : ℕ). slice_index s.words (bucket_at z n)) (sym may.home)
                   ∙ (subst (StandsStillIf z s.words) may.noted (ok.still lone) ∙ sym may.stood)));
-              lawful = lawful_here z s r (unnoted v) acts ok.numbers ok.informed ok.lone;
+              lawful = lawful_here z s r (without_notes v) acts ok.numbers ok.informed ok.lone;
             },
           )

@@ -18,7 +18,7 @@ use Rattle.bihash_steps.specs.Buckets.{BucketState, word_of, IsBucket, HoldsBuck
 use Rattle.bihash_steps.specs.PageStores.{StoreState, IsStore, HoldsStoreIf, NotesStore, HoldsBlockIf, all_writes, runs_now}
 use Rattle.bihash_steps.specs.WordRule.{IsView, WordRule}
 use Rattle.bihash_steps.specs.Steps.{ViewOfSeat}
-use Rattle.bihash_steps.specs.BucketSteps.{acting, MayWrite, MayPublish, next_map, written, TellsEvent}
+use Rattle.bihash_steps.specs.BucketSteps.{acting, MayWrite, MayPublish, next_map, view_after_write, TellsEvent}
 use Rattle.bihash_steps.specs.declared.view.Write.{Write}
 use Rattle.bihash_steps.specs.declared.view.Call.{Call}
 use Rattle.bihash_steps.specs.declared.view.Record.{Record}
@@ -35,7 +35,7 @@ use Rattle.bihash_steps.proofs.Put.{put, put_here, put_else}
 use Rattle.bihash_steps.proofs.Pushed.{push-length, push_numbers, push_whole, push_number, push_short, acting_is}
 use Rattle.bihash_steps.proofs.bucket_steps.Written.{after_last, list_more, bearers_more, written_informed}
 
--- the bucket behind a write that gives it this block
+-- the bucket after a write that gives it this block
 abbrev pub state_after : BucketState → Write → Extent → List ℕ → BucketState
 state_after x w e block = record { history = x.history ++ w ∷ []; extent = e; block = block; lock = None; dirty = false }
 
@@ -52,9 +52,9 @@ no_shorter x x' b w e block elsewhere here d = dite (ℕ_discrete d b)
     (λ ne. subst (λ (y : BucketState). length (x d).history ≤ length y.history) (sym (elsewhere d ne)) (le_refl (length (x d).history)))
 
 module _ (z : Sizes) where
-  -- the view behind a write, with this of the page store and this block
+  -- the view after a write, with this of the page store and this block
   abbrev pub written_with : View → Call → Option LockedStore → Option HeldBlock → View
-  written_with v c store block = record (written v c) { holds = record { bucket = None; store = store; block = block } }
+  written_with v c store block = record (view_after_write v c) { holds = record { bucket = None; store = store; block = block } }
 
   module _ (s : State (Unit {0}) View) (r : WordRule z s) (id : ℕ) (v : View) (b word : ℕ) (c : Call) (at : get_elem? s.views id ≡ some v)
       (acts : 1 ≤ length v.records) (may : MayWrite z v b word c) where
@@ -212,15 +212,15 @@ module _ (z : Sizes) where
   -- the holder of the lock of bucket b writes the bucket's next word, over the block as it is now
   pub publishes_call : (slots id : ℕ) (m : ViewOfSeat) (b word : ℕ) (c : Call) (may : MayPublish z m.0 b word c) → 1 ≤ length m.0.records
       → Allows (WordRule z) slots id m (bucket_at z b) (λ _. packed (word_of may.write.lock.extent false (may.write.lock.version + 1)))
-      (λ _. TellsEvent z (λ v. written v c) m)
+      (λ _. TellsEvent z (λ v. view_after_write v c) m)
   publishes_call slots id m b word c may acts s r deep at fits = (
-    written v c,
+    view_after_write v c,
     keeps,
     tt,
     rule,
     record {
       seat = refl;
-      lawful = lawful_set z (set s.words (bucket_at z b) n) s id v (written v c) at
+      lawful = lawful_set z (set s.words (bucket_at z b) n) s id v (view_after_write v c) at
           (let n = push-length c v.records in omega arith) rule;
     },
   )
@@ -283,9 +283,9 @@ module _ (z : Sizes) where
         notes = ok.only_store;
         held = block_keeps z s.words (bucket_at z b) n (let a = inside in omega arith) v.holds.block ok.block;
         parted = subst (IsPartition z.pages q.store.used)
-            (sym (runs_still r.table.bucket x' q.store q.store s.views id v (written v c) extents (λ _. refl) at refl)) r.parted;
+            (sym (runs_still r.table.bucket x' q.store q.store s.views id v (view_after_write v c) extents (λ _. refl) at refl)) r.parted;
       }
 
-      rule : WordRule z record { words = words'; homes = s.homes; views = set s.views id (written v c) }
+      rule : WordRule z record { words = words'; homes = s.homes; views = set s.views id (view_after_write v c) }
       rule = writes_word s r id v b word c at acts may.write n l.extent l.now v.holds.store v.holds.block x' q elsewhere here is h.size h.stands
           may.pairs settles

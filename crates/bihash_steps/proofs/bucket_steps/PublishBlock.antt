@@ -15,7 +15,7 @@ use Rattle.bihash_steps.specs.PageStores.{StoreState, IsStore, IsListedIf, Holds
 use Rattle.bihash_steps.specs.WordRule.{IsView, WordRule}
 use Rattle.bihash_steps.specs.Steps.{ViewOfSeat}
 use Rattle.bihash_steps.specs.BucketSteps.{acting, TellsEvent}
-use Rattle.bihash_steps.specs.StoreSteps.{words_in, IsOf, MayReplace, old_block, freed, settled_in, replaced}
+use Rattle.bihash_steps.specs.StoreSteps.{words_in, IsOf, MayReplace, old_block, freed, settled_in, view_after_replace}
 use Rattle.bihash_steps.specs.declared.view.Write.{Write}
 use Rattle.bihash_steps.specs.declared.view.Call.{Call}
 use Rattle.bihash_steps.specs.declared.view.Extent.{Extent}
@@ -99,15 +99,15 @@ module _ (z : Sizes) where
   pub replaces_call : (slots id : ℕ) (m : ViewOfSeat) (b word : ℕ) (extent : Extent) (c : Call) (may : MayReplace z m.0 b word extent c)
       → 1 ≤ length m.0.records
       → Allows (WordRule z) slots id m (bucket_at z b) (λ _. packed (word_of extent false (may.write.lock.version + 1)))
-      (λ _. TellsEvent z (λ v. replaced v c) m)
+      (λ _. TellsEvent z (λ v. view_after_replace v c) m)
   replaces_call slots id m b word extent c may acts s r deep at fits = (
-    replaced v c,
+    view_after_replace v c,
     keeps,
     tt,
     rule,
     record {
       seat = refl;
-      lawful = lawful_set z (set s.words (bucket_at z b) n) s id v (replaced v c) at
+      lawful = lawful_set z (set s.words (bucket_at z b) n) s id v (view_after_replace v c) at
           (let n = push-length c v.records in omega arith) rule;
     },
   )
@@ -206,12 +206,12 @@ module _ (z : Sizes) where
         notes = λ f. (record may.locked { store = settled may.locked.store }, ap settled_in may.store);
         held = subst (HoldsBlockIf z words') (sym freed_is) (freed_held words' l.extent.page l.extent.log2 l.now small h.size
             (front_still z s.words (bucket_at z b) n l.extent.page l.now (let a = inside in omega arith) h.stands));
-        parted = passes z.pages q.store.used r.table.bucket x' q.store q'.store s.views id v (replaced v c) at b
+        parted = passes z.pages q.store.used r.table.bucket x' q.store q'.store s.views id v (view_after_replace v c) at b
             (λ d ne. ap (λ (y : BucketState). y.extent) (elsewhere d ne)) (λ _. refl)
             (ap (λ (y : BucketState). run_of y.extent.page y.extent.log2) here ∙ new_block.run)
             (ap run_in freed_is ∙ (freed_run l.extent.page l.extent.log2 l.now ∙ ap (λ (y : Extent). run_of y.page y.log2) h.extent)) r.parted;
       }
 
-      rule : WordRule z record { words = words'; homes = s.homes; views = set s.views id (replaced v c) }
+      rule : WordRule z record { words = words'; homes = s.homes; views = set s.views id (view_after_replace v c) }
       rule = writes_word z s r id v b word c at acts may.write n extent now (settled_in v.holds.store) (freed v.holds.bucket) x' q' elsewhere
           here is new_block.size new_block.stands may.pairs settles

@@ -11,10 +11,10 @@ use Rattle.bihash_steps.specs.Words.{count_of, buckets, bucket_at, page_at, Stan
 use Rattle.bihash_steps.specs.Histories.{IsKeyOf, IsAnswer, store_of}
 use Rattle.bihash_steps.specs.Callers.{HasNumber, HasNumbers, IsWhole, known_at}
 use Rattle.bihash_steps.specs.Buckets.{HoldsBucket, word_of}
-use Rattle.bihash_steps.specs.PageStores.{IsShort, AreShort, LeftIf, all_writes, runs_now}
+use Rattle.bihash_steps.specs.PageStores.{BearsOutOfPages, BearOutOfPages, LeftIf, all_writes, runs_now}
 use Rattle.bihash_steps.specs.WordRule.{IsInformed, WordRule}
 use Rattle.bihash_steps.specs.Steps.{ViewOfSeat}
-use Rattle.bihash_steps.specs.BucketSteps.{HoldsClean, MayAnswer, TellsEvent, unlocked, answered, push_call, map_now}
+use Rattle.bihash_steps.specs.BucketSteps.{HoldsClean, MayAnswer, TellsEvent, without_lock, view_after_answer, push_call, map_now}
 use Rattle.bihash_steps.specs.declared.view.Call.{Call}
 use Rattle.bihash_steps.specs.declared.view.Record.{Record}
 use Rattle.bihash_steps.specs.declared.view.Extent.{Extent}
@@ -28,14 +28,14 @@ use Rattle.bihash_steps.proofs.bucket_steps.Relocks.{relocking, relocked_rule}
 use Rattle.bihash_steps.proofs.bucket_steps.LockedWords.{held_bucket, holder_acts, one_lock}
 
 module _ (z : Sizes) where
-  -- the records that the seat has behind the step
+  -- the records that the seat has after the step
   record FitRecords (s : State (Unit {0}) View) (r : WordRule z s) (v : View) (records : List Record) : Type 0 where
     pub informed : IsInformed z r.table v.known records
     pub numbers : HasNumbers v.seen records
     pub whole : v.lone ≡ true → IsWhole records (count_of s.words)
     pub long : length records ≡ length v.records
     pub same : (n : ℕ) → HasNumber records n → HasNumber v.records n
-    pub short : AreShort z (all_writes z r.table.bucket) records
+    pub short : BearOutOfPages z (all_writes z r.table.bucket) records
 
   -- the rule stands where the word from before the lock is stored over a block in which nothing was stored
   opened_rule : (s : State (Unit {0}) View) (r : WordRule z s) (id b word : ℕ) (v : View) (records : List Record)
@@ -86,11 +86,11 @@ module _ (z : Sizes) where
       }
 
   pub unlocks_bucket : (slots id b word : ℕ) (m : ViewOfSeat) → HoldsClean m.0 b word
-      → Allows (WordRule z) slots id m (bucket_at z b) (λ _. word) (λ _. TellsEvent z unlocked m)
+      → Allows (WordRule z) slots id m (bucket_at z b) (λ _. word) (λ _. TellsEvent z without_lock m)
   unlocks_bucket slots id b word m clean s r deep at fits =
       let v = m.0 in
       let ok = r.each_view id v at in (
-        unlocked v,
+        without_lock v,
         keeps,
         tt,
         opened_rule s r id b word v v.records at clean record {
@@ -101,12 +101,12 @@ module _ (z : Sizes) where
           same = λ n h. h;
           short = ok.short;
         },
-        record { seat = refl; lawful = lawful_here z s r (unlocked v) (holder_acts z s r id v clean.lock at clean.held) ok.numbers ok.informed ok.lone },
+        record { seat = refl; lawful = lawful_here z s r (without_lock v) (holder_acts z s r id v clean.lock at clean.held) ok.numbers ok.informed ok.lone },
       )
 
   -- a refusal bears what was noted of the page store, which bounds it
   few_left : (writes left : ℕ) (v : View) (b word : ℕ) (c : Call) → MayAnswer z v b word c → LeftIf z writes v.notes.left → (log2 : ℕ)
-      → c.reply ≡ NoPages log2 left → IsShort z writes c log2 left
+      → c.reply ≡ NoPages log2 left → BearsOutOfPages z writes c log2 left
   few_left writes left v b word c may noted log2 e =
       let o = may.short log2 left e in
       let n = subst (LeftIf z writes) o.1 noted in
@@ -121,7 +121,7 @@ module _ (z : Sizes) where
       }
 
   pub answers_call : (slots id b word : ℕ) (c : Call) (m : ViewOfSeat) → MayAnswer z m.0 b word c
-      → Allows (WordRule z) slots id m (bucket_at z b) (λ _. word) (λ _. TellsEvent z (λ v. answered v c) m)
+      → Allows (WordRule z) slots id m (bucket_at z b) (λ _. word) (λ _. TellsEvent z (λ v. view_after_answer v c) m)
   answers_call slots id b word c m may s r deep at fits =
       let v = m.0 in
       let ok = r.each_view id v at in
@@ -135,7 +135,7 @@ module _ (z : Sizes) where
       (may.stamp ∙ ap (λ (a : ℕ). length (known_at v.known a)) (sym may.bucket))
       (subst (λ (a : ℕ). IsAnswer z (map_now v a) (length (known_at v.known a)) c) (sym may.bucket) may.answers) ok.informed in
       let numbers = push_numbers v.seen c v.records ok.numbers in (
-        answered v c,
+        view_after_answer v c,
         keeps,
         tt,
         opened_rule s r id b word v (push_call c v.records) at may.clean record {
@@ -149,7 +149,7 @@ module _ (z : Sizes) where
         },
         record {
           seat = refl;
-          lawful = lawful_here z s r (answered v c) (let n = push-length c v.records in
+          lawful = lawful_here z s r (view_after_answer v c) (let n = push-length c v.records in
               let some = holder_acts z s r id v l at may.clean.held in omega arith) numbers informed (λ lone. push_whole (count_of s.words) c v.records (ok.lone lone));
         },
       )

@@ -13,7 +13,7 @@ use Rattle.bihash_steps.specs.Histories.{IsPrefix}
 use Rattle.bihash_steps.specs.Callers.{HasNumber, HasNumbers, IsWhole, known_at, opening_in}
 use Rattle.bihash_steps.specs.Partition.{IsPartition}
 use Rattle.bihash_steps.specs.Buckets.{BucketState, IsBucket, HoldsBucket, HoldsBucketIf, NotesLocks, word_of}
-use Rattle.bihash_steps.specs.PageStores.{AreShort, IsStore, HoldsBlockIf, writes_in, all_writes, runs_now}
+use Rattle.bihash_steps.specs.PageStores.{BearOutOfPages, IsStore, HoldsBlockIf, writes_in, all_writes, runs_now}
 use Rattle.bihash_steps.specs.Views.{no_notes}
 use Rattle.bihash_steps.specs.WordRule.{TableState, IsInformed, IsView, WordRule}
 use Rattle.bihash_steps.specs.declared.view.Write.{Write}
@@ -52,7 +52,7 @@ module _ (z : Sizes) where
 
 module _ (z : Sizes) (s : State (Unit {0}) View) (r : WordRule z s) (b id : ℕ) (v : View) (records : List Record) (known : Known)
     (held : Option LockedBucket) (words' : List ℕ) (lock : Option ℕ) (dirty : Bool) where
-  -- the bucket behind the step
+  -- the bucket after the step
   abbrev bucket_now : BucketState
   bucket_now = record (r.table.bucket b) { lock = lock; dirty = dirty }
 
@@ -60,7 +60,7 @@ module _ (z : Sizes) (s : State (Unit {0}) View) (r : WordRule z s) (b id : ℕ)
   HoldsIt None = Unit {0}
   HoldsIt (Some l) = (l.bucket ≡ b) × HoldsBucket z words' id (known_at known b) l bucket_now
 
-  -- what such a step needs, where the view behind it has these records, knows this and has this lock
+  -- what such a step needs, where the view after it has these records, knows this and has this lock
   pub record Relock : Type 0 where
     pub at : get_elem? s.views id ≡ some v
     pub acts : 1 ≤ length v.records
@@ -85,7 +85,7 @@ module _ (z : Sizes) (s : State (Unit {0}) View) (r : WordRule z s) (b id : ℕ)
     pub whole : v.lone ≡ true → IsWhole records (count_of s.words)
     pub able : 1 ≤ length records
     pub same_numbers : (n : ℕ) → HasNumber records n → HasNumber v.records n
-    pub short : AreShort z (all_writes z r.table.bucket) records
+    pub short : BearOutOfPages z (all_writes z r.table.bucket) records
     pub other : (l : LockedBucket) → v.holds.bucket ≡ Some l → l.bucket ≡ b
     pub noted : lock ≡ Some id → (l : LockedBucket) × (held ≡ Some l) × (l.bucket ≡ b)
     pub holds : HoldsIt held
@@ -133,7 +133,7 @@ module _ (z : Sizes) (s : State (Unit {0}) View) (r : WordRule z s) (b id : ℕ)
       block = m.block;
       open_bucket = tt;
       still = λ _. tt;
-      short = subst (λ (n : ℕ). AreShort z n records) (sym (same_writes r.table.bucket buckets' (same_at (λ (x : BucketState). x.history) refl)
+      short = subst (λ (n : ℕ). BearOutOfPages z n records) (sym (same_writes r.table.bucket buckets' (same_at (λ (x : BucketState). x.history) refl)
           (buckets z))) m.short;
       left = tt;
       meeting = tt;
@@ -150,7 +150,7 @@ module _ (z : Sizes) (s : State (Unit {0}) View) (r : WordRule z s) (b id : ℕ)
       clean = m.clean;
     }
 
-    -- the rule stands behind such a step
+    -- the rule follows such a step
     pub relocked_rule : WordRule z record { words = words'; homes = s.homes; views = set s.views id (relocking v records known held) }
     relocked_rule = moved z s r b id v (relocking v records known held) words' buckets' r.table.store record {
       at = m.at;

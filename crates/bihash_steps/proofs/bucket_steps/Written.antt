@@ -5,14 +5,14 @@ use mathlib.Core.Option.{some}
 use native.Mathlib.Decide.{ℕ_discrete}
 use lib.ListN.{get_elem?}
 use Rattle.atomic_table.proofs.Lists.{at_last}
-use Rattle.bihash_words.specs.Maps.{Pairs, Event, Step, changed}
+use Rattle.bihash_words.specs.Maps.{Pairs, Event, IsEvent, changed}
 use Rattle.bihash_words.specs.Sizes.{Sizes}
 use Rattle.bihash_words.specs.declared.patch.Reply.TheVariants.{Changed}
 use Rattle.bihash_steps.specs.Words.{buckets}
 use Rattle.bihash_steps.specs.Histories.{IsPrefix, IsKeyOf, IsLegal, IsAnswer, IsWrite, IsWriteList, after, bounds_of, event_of, event_of_write, is_changed, write_of}
 use Rattle.bihash_steps.specs.Callers.{known_at, opening_at, HasNumbers}
 use Rattle.bihash_steps.specs.WordRule.{TableState, IsInformed}
-use Rattle.bihash_steps.specs.BucketSteps.{acting, map_now, MayWrite, written}
+use Rattle.bihash_steps.specs.BucketSteps.{acting, map_now, MayWrite, view_after_write}
 use Rattle.bihash_steps.specs.declared.view.Write.{Write}
 use Rattle.bihash_steps.specs.declared.view.Call.{Call}
 use Rattle.bihash_steps.specs.declared.view.Record.{Record}
@@ -29,7 +29,7 @@ use Rattle.bihash_steps.proofs.Informed.{known_learned, known_else, learned_grow
 pub one_longer : (H : List Write) (w : Write) → IsPrefix H (H ++ w ∷ [])
 one_longer H w = record { rest = w ∷ []; whole = refl }
 
--- the map behind the last write
+-- the map after the last write
 pub after_last : (opening : Pairs) (H : List Write) (w : Write)
     → after opening (H ++ w ∷ []) (length H + 1) ≡ changed (after opening H (length H)) w.key w.change
 after_last opening [] w = refl
@@ -58,7 +58,7 @@ bearers_more count H w last all n u e = elim (at_end H w u n e) [
   | inr o ↦ subst (λ (x : Write). (1 ≤ x.by) × (x.by ≤ count)) o.1 last
 ]
 
--- ---- The caller behind its write
+-- ---- The caller after its write
 
 module _ (z : Sizes) (v : View) (b word : ℕ) (c : Call) (may : MayWrite z v b word c) where
   -- the call tells of its write
@@ -69,7 +69,7 @@ module _ (z : Sizes) (v : View) (b word : ℕ) (c : Call) (may : MayWrite z v b 
   write_answers : IsAnswer z (map_now v b) (length (known_at v.known b)) c
   write_answers = (
     changed (map_now v b) c.key c.change,
-    subst (λ (e : Event). Step (bounds_of z) (map_now v b) (length (known_at v.known b)) e (changed (map_now v b) c.key c.change))
+    subst (λ (e : Event). IsEvent (bounds_of z) (map_now v b) (length (known_at v.known b)) e (changed (map_now v b) c.key c.change))
         same may.write.changes,
   )
     where
@@ -93,7 +93,7 @@ module _ (z : Sizes) (v : View) (b word : ℕ) (c : Call) (may : MayWrite z v b 
     H = (t.bucket b).history
 
     abbrev all : Known
-    all = (written v c).known
+    all = (view_after_write v c).known
 
     long : c.bucket < length v.known.writes
     long = let same = may.call in let n = i.wide in omega arith
@@ -163,7 +163,7 @@ module _ (z : Sizes) (v : View) (b word : ℕ) (c : Call) (may : MayWrite z v b 
           (λ ne. inl (i.lawful.own k d n r u e l (ap (λ (h : List Write). get_elem? h n) (sym (known_other d ne)) ∙ f) is));
     }
 
-    pub written_informed : IsInformed z t' (written v c).known (written v c).records
+    pub written_informed : IsInformed z t' (view_after_write v c).known (view_after_write v c).records
     written_informed = record {
       wide = length-set v.known.writes c.bucket (known_at v.known c.bucket ++ w ∷ []) ∙ i.wide;
       begins = begins;

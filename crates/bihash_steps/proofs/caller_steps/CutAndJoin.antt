@@ -14,7 +14,7 @@ use Rattle.bihash_steps.specs.Buckets.{HoldsBucketIf}
 use Rattle.bihash_steps.specs.PageStores.{HoldsStoreIf, HoldsBlockIf, run_in}
 use Rattle.bihash_steps.specs.Views.{nothing_held, no_notes}
 use Rattle.bihash_steps.specs.WordRule.{TableState, IsInformed, IsView, WordRule}
-use Rattle.bihash_steps.specs.Steps.{first_numbers, other_numbers, joining, spent}
+use Rattle.bihash_steps.specs.Steps.{first_numbers, other_numbers, joining, view_after_spending}
 use Rattle.bihash_steps.specs.declared.view.Write.{Write}
 use Rattle.bihash_steps.specs.declared.view.Record.{Record}
 use Rattle.bihash_steps.specs.declared.view.Known.{Known}
@@ -194,7 +194,7 @@ module _ (z : Sizes) where
   }
 
   spent_view : (words : List ℕ) (count j : ℕ) (t : TableState) → ((b : ℕ) → (t.bucket b).lock ≢ Some j) → t.store.lock ≢ Some j
-      → IsView z words count t j (spent z)
+      → IsView z words count t j (view_after_spending z)
   spent_view words count j t unlocked closed = record {
     informed = record {
       wide = length-replicate (buckets z) [];
@@ -228,7 +228,7 @@ module _ (z : Sizes) where
 
   pub joins_numbers : (id other : ℕ) (v w : View) → 1 ≤ length v.records → 1 ≤ length w.records → v.holds ≡ nothing_held
       → w.holds ≡ nothing_held
-      → Joins (WordRule z) id v other w (joining v w) (spent z)
+      → Joins (WordRule z) id v other w (joining v w) (view_after_spending z)
   joins_numbers id other v w has_one has_other free free' s r at ne at' =
       let both = joining v w in
       let count : ℕ = count_of s.words in
@@ -243,21 +243,21 @@ module _ (z : Sizes) where
         | inl o ↦ r.apart id j v u (λ h. m (sym h)) at e i k p q o g
         | inr o ↦ r.apart other j w u (λ h. n (sym h)) old e o.0 k p q o.2 g
       ] in
-      moved z s r s.words (set views other (spent z)) record {
+      moved z s r s.words (set views other (view_after_spending z)) record {
         same = λ i l. refl;
         wide = refl;
         more = le_refl count;
         few = r.few_callers;
-        longer = let m = length-set views other (spent z) in let n = length-set s.views id both in omega arith;
-        each = λ j u e. elim (at_set views other j (spent z) u e) [
-          | inl p ↦ as_view z s.words count r.table other j (spent z) u p.0 p.1 left
+        longer = let m = length-set views other (view_after_spending z) in let n = length-set s.views id both in omega arith;
+        each = λ j u e. elim (at_set views other j (view_after_spending z) u e) [
+          | inl p ↦ as_view z s.words count r.table other j (view_after_spending z) u p.0 p.1 left
           | inr p ↦ elim (at_set s.views id j both u p.1) [
             | inl q ↦ as_view z s.words count r.table id j both u q.0 q.1 good
             | inr q ↦
                 r.each_view j u q.1
           ]
         ];
-        apart = apart_set views other (spent z) (λ i j a b d ni nj e f. elim (at_set s.views id i both a e) [
+        apart = apart_set views other (view_after_spending z) (λ i j a b d ni nj e f. elim (at_set s.views id i both a e) [
           | inl p ↦ elim (at_set s.views id j both b f) [
             | inl q ↦ absurd (d (p.0 ∙ sym q.0))
             | inr q ↦ subst (λ (y : View). Apart y.records b.records) p.1 (others j b q.0 nj q.1)
@@ -267,6 +267,6 @@ module _ (z : Sizes) where
             | inr q ↦ r.apart i j a b d p.1 q.1
           ]
         ]) (λ j u n e i k p q f. absurd (some-ne-none p (sym f)));
-        blocks = λ j. block_set views other w (spent z) j at' (ap (λ (h : Holdings). run_in h.block) (sym free'))
+        blocks = λ j. block_set views other w (view_after_spending z) j at' (ap (λ (h : Holdings). run_in h.block) (sym free'))
             ∙ block_set s.views id v both j at refl;
       }

@@ -1,4 +1,4 @@
--- Steps on the caller count: a load, a load behind a join, and the exchange by which a caller takes the next number.
+-- Steps on the caller count: a load, a load after a join, and the exchange by which a caller takes the next number.
 use Rattle.std.proofs.Common.{◌≡◌, ◌≢◌, ℕ, zero, suc, ◌+◌, ◌<◌, ◌≤◌, eqb, Bool, true≢false, List, [], ◌∷◌, ◌++◌, length, set, refl, sym, ap, ◌∙◌, subst, inl, inr, arith, le_refl, length-set, length-append, get_or-set_same, get_or-set_other, eq-eqb, ne_eqb}
 use mathlib.Core.Logic.{dite}
 use mathlib.Core.Option.{some, some-ne-none}
@@ -12,10 +12,10 @@ use Rattle.bihash_steps.specs.Words.{count_of, buckets}
 use Rattle.bihash_steps.specs.Histories.{IsPrefix}
 use Rattle.bihash_steps.specs.Callers.{IsWhole, known_writes, known_at, opening_in, IsConsistent, HasNumbers, Apart, Agrees, KnowsOwn}
 use Rattle.bihash_steps.specs.Buckets.{IsBucket}
-use Rattle.bihash_steps.specs.PageStores.{AreShort, HasCall, writes_in}
+use Rattle.bihash_steps.specs.PageStores.{BearOutOfPages, HasCall, writes_in}
 use Rattle.bihash_steps.specs.Views.{empty_record, no_notes}
 use Rattle.bihash_steps.specs.WordRule.{TableState, HaveMet, HaveMetIf, IsView, WordRule}
-use Rattle.bihash_steps.specs.Steps.{ViewOfSeat, counted, numbered, recounted, joining, TellsCount, TellsNumber, TellsAgreement}
+use Rattle.bihash_steps.specs.Steps.{ViewOfSeat, view_after_count, view_after_number, recounted, joining, TellsCount, TellsNumber, TellsAgreement}
 use Rattle.bihash_steps.specs.declared.view.Known.{Known}
 use Rattle.bihash_steps.specs.Buckets.{BucketState}
 use Rattle.bihash_steps.specs.declared.view.Write.{Write}
@@ -35,7 +35,7 @@ module _ (z : Sizes) where
   -- ---- A load of the caller count
 
   counted_view : (words : List ℕ) (count : ℕ) (t : TableState) (j : ℕ) (v : View) → IsView z words count t j v
-      → IsView z words count t j (counted v count)
+      → IsView z words count t j (view_after_count v count)
   counted_view words count t j v ok = let numbers = wider v.seen count v.records ok.seen ok.numbers in record {
     informed = ok.informed;
     numbers = numbers;
@@ -79,11 +79,11 @@ module _ (z : Sizes) where
       let count : ℕ = count_of s.words in
       let ok = r.each_view id v at in
       let good = counted_view s.words count r.table id v ok in
-      let lawful = lawful_here z s r (counted v count) acts good.numbers good.informed good.lone in (
-        counted v count,
+      let lawful = lawful_here z s r (view_after_count v count) acts good.numbers good.informed good.lone in (
+        view_after_count v count,
         keeps,
         tt,
-        stays z s r id v (counted v count) at refl good (others_apart z s r id v at),
+        stays z s r id v (view_after_count v count) at refl good (others_apart z s r id v at),
         record {
           seat = refl;
           rises = ok.seen;
@@ -93,13 +93,13 @@ module _ (z : Sizes) where
           whole = λ lone. record {
             whole = good.lone lone;
             made = lawful.made lone;
-            short = subst (λ (n : ℕ). AreShort z n v.records)
+            short = subst (λ (n : ℕ). BearOutOfPages z n v.records)
                 (sym (known_sum v.known r.table.bucket (buckets z) (known_whole s r id v ok (good.lone lone)))) ok.short;
           };
         },
       )
 
-  -- ---- A load behind a join
+  -- ---- A load after a join
 
   pub unnoted_view : (words : List ℕ) (count : ℕ) (t : TableState) (j : ℕ) (v : View) → IsView z words count t j v
       → IsView z words count t j (record v { notes = no_notes })
@@ -150,7 +150,7 @@ module _ (z : Sizes) where
         },
       )
 
-  -- two callers that were joined agree, by what the load behind the join tells
+  -- two callers that were joined agree, by what the load after the join tells
   joined_agree : (v w : View) (m m' : ViewOfSeat) → m.0 ≡ joining v w → TellsAgreement z m m' → Agrees v w
   joined_agree v w m m' is told = record {
     apart = parts_apart m'.0.seen v.records w.records (subst (HasNumbers m'.0.seen) records told.lawful.numbers);
@@ -174,7 +174,7 @@ module _ (z : Sizes) where
 
   numbered_view : (words words' : List ℕ) (count : ℕ) (t : TableState) (j : ℕ) (v : View) → SameButCount words words' → 1 ≤ length v.records
       → ((b : ℕ) → b < buckets z → IsBucket z words count b (opening_in t.openings b) (t.bucket b)) → IsView z words count t j v
-      → IsView z words' (count + 1) t j (numbered v count)
+      → IsView z words' (count + 1) t j (view_after_number v count)
   numbered_view words words' count t j v same has_one each ok = record {
     informed = more_informed z t v.known v.records count has_one (λ b n w l e. ((each b l).bearers n w e).1) ok.informed;
     numbers = more_numbers v.seen count v.records ok.seen ok.numbers;
@@ -230,10 +230,10 @@ module _ (z : Sizes) where
   -- the rule stands where the caller takes the next number
   taken_rule : (s : State (Unit {0}) View) (r : WordRule z s) (id : ℕ) (v : View) → get_elem? s.views id ≡ some v → 1 ≤ length v.records
       → count_of s.words < z.callers
-      → WordRule z record { words = set s.words 0 (count_of s.words + 1); homes = s.homes; views = set s.views id (numbered v (count_of s.words)) }
-  taken_rule s r id v at has_one few = one_moved z s r words id v (numbered v count) at same (length-set s.words 0 (count + 1))
+      → WordRule z record { words = set s.words 0 (count_of s.words + 1); homes = s.homes; views = set s.views id (view_after_number v (count_of s.words)) }
+  taken_rule s r id v at has_one few = one_moved z s r words id v (view_after_number v count) at same (length-set s.words 0 (count + 1))
       (let e = now in omega arith) (let e = now in omega arith) refl
-      (subst (λ (c : ℕ). IsView z words c r.table id (numbered v count)) (sym now) good)
+      (subst (λ (c : ℕ). IsView z words c r.table id (view_after_number v count)) (sym now) good)
       (λ j u ne e. ((λ lone. absurd (not_lone z s r id j v u at e ne has_one lone)), apart j u ne e))
     where
       count : ℕ
@@ -248,10 +248,10 @@ module _ (z : Sizes) where
       same : SameButCount s.words words
       same i l = get_or-set_other s.words 0 i (count + 1) 0 (λ h. omega arith)
 
-      good : IsView z words (count + 1) r.table id (numbered v count)
+      good : IsView z words (count + 1) r.table id (view_after_number v count)
       good = numbered_view s.words words count r.table id v same has_one r.each_bucket (r.each_view id v at)
 
-      apart : (j : ℕ) (u : View) → j ≢ id → get_elem? s.views j ≡ some u → Apart (numbered v count).records u.records
+      apart : (j : ℕ) (u : View) → j ≢ id → get_elem? s.views j ≡ some u → Apart (view_after_number v count).records u.records
       apart j u ne e = let other = r.each_view j u e in
           new_apart count u.seen v.records u.records other.seen other.numbers (others_apart z s r id v at j u ne e)
 
@@ -281,18 +281,18 @@ module _ (z : Sizes) where
 
       taken : count ≡ n → Outcome
       taken e = let good = numbered_view s.words s.words count r.table id v (λ i l. refl) has_one r.each_bucket ok in (
-        numbered v count,
+        view_after_number v count,
         keeps,
         tt,
-        subst (λ (b : Bool). WordRule z (after (either b (n + 1) count) (numbered v count))) (sym (eq-eqb count n e))
-            (subst (λ (k : ℕ). WordRule z (after (k + 1) (numbered v count))) e (taken_rule s r id v at has_one (omega arith))),
+        subst (λ (b : Bool). WordRule z (after (either b (n + 1) count) (view_after_number v count))) (sym (eq-eqb count n e))
+            (subst (λ (k : ℕ). WordRule z (after (k + 1) (view_after_number v count))) e (taken_rule s r id v at has_one (omega arith))),
         record {
           slots = refl;
           taken = λ _. refl;
           not = λ ne. absurd (ne e);
           rises = ok.seen;
           few = fewer;
-          lawful = lawful_here z s r (numbered v count) (let n = length-append v.records (empty_record (count + 1) ∷ []) in omega arith)
+          lawful = lawful_here z s r (view_after_number v count) (let n = length-append v.records (empty_record (count + 1) ∷ []) in omega arith)
               good.numbers good.informed (λ h. absurd (true≢false (sym h)));
         },
       )

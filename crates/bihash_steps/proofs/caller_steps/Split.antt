@@ -2,16 +2,16 @@
 use Rattle.std.proofs.Common.{◌≡◌, ℕ, ◌+◌, List, [], ◌∷◌, ◌++◌, length, take, drop, refl, sym, ap, ◌∙◌, None}
 use Rattle.std.proofs.Math.Seq.{take-append_seam, drop-append_seam}
 use Rattle.bihash_steps.specs.Views.{empty_record}
-use Rattle.bihash_steps.specs.Steps.{counted, numbered, first_numbers, other_numbers, parent, newcomer}
+use Rattle.bihash_steps.specs.Steps.{view_after_count, view_after_number, first_numbers, other_numbers, parent, newcomer}
 use Rattle.bihash_steps.specs.Seats.{CallerState, with_view, stamp_of}
 use Rattle.bihash_steps.specs.declared.view.Record.{Record}
 use Rattle.bihash_steps.specs.declared.view.View.{View}
 
 -- the steps of a split of the caller a: it loads the count n, and takes the next number
-module _ (a loaded taken : CallerState) (n kept : ℕ) (load : loaded ≡ with_view a (counted a.view n)) (row : taken.row ≡ loaded.row)
-    (seat : taken.seat ≡ loaded.seat) (number : taken.view ≡ numbered loaded.view n) (all : length a.view.records ≡ kept) where
-  view_is : taken.view ≡ numbered (counted a.view n) n
-  view_is = number ∙ ap (λ (k : CallerState). numbered k.view n) load
+module _ (a loaded taken : CallerState) (n kept : ℕ) (load : loaded ≡ with_view a (view_after_count a.view n)) (row : taken.row ≡ loaded.row)
+    (seat : taken.seat ≡ loaded.seat) (number : taken.view ≡ view_after_number loaded.view n) (all : length a.view.records ≡ kept) where
+  view_is : taken.view ≡ view_after_number (view_after_count a.view n) n
+  view_is = number ∙ ap (λ (k : CallerState). view_after_number k.view n) load
 
   abbrev both : List Record
   both = a.view.records ++ empty_record (n + 1) ∷ []

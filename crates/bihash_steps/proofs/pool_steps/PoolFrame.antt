@@ -11,7 +11,7 @@ use Rattle.bihash_steps.specs.Buckets.{BucketState, HoldsBucketIf}
 use Rattle.bihash_steps.specs.PageStores.{StoreState, IsStore, all_writes, IsListedIf, HoldsStore, HoldsStoreIf, NotesStore, HoldsBlockIf, LeftIf, runs_now}
 use Rattle.bihash_steps.specs.Views.{no_notes}
 use Rattle.bihash_steps.specs.WordRule.{TableState, IsView, WordRule}
-use Rattle.bihash_steps.specs.BucketSteps.{unnoted}
+use Rattle.bihash_steps.specs.BucketSteps.{without_notes}
 use Rattle.bihash_steps.specs.StoreSteps.{holding}
 use Rattle.bihash_steps.specs.declared.view.Known.{Known}
 use Rattle.bihash_steps.specs.declared.view.LockedBucket.{LockedBucket}
@@ -31,7 +31,7 @@ abbrev pub after_store : State (Unit {0}) View → ℕ → View → ℕ → ℕ 
 after_store s id w i word = record { words = set s.words i word; homes = s.homes; views = set s.views id w }
 
 module _ (z : Sizes) where
-  -- ---- A view behind a store in the words of the page store
+  -- ---- A view after a store in the words of the page store
 
   -- the caller holds this of the page store, and this block, and notes what was left
   abbrev pub storing : View → Option LockedStore → Option HeldBlock → Option PageStore → View
@@ -121,8 +121,8 @@ module _ (z : Sizes) where
     pub same_rule : (i : ℕ) → WordRule z (after_store s id v i (slice_index s.words i))
     same_rule i = stays_at z s r i id v v at refl (r.each_view id v at) (others_apart z s r id v at)
 
-    pub unnoted_rule : (i : ℕ) → WordRule z (after_store s id (unnoted v) i (slice_index s.words i))
-    unnoted_rule i = stays_at z s r i id v (unnoted v) at refl (unnoted_view z s.words (count_of s.words) r.table id v (r.each_view id v at))
+    pub unnoted_rule : (i : ℕ) → WordRule z (after_store s id (without_notes v) i (slice_index s.words i))
+    unnoted_rule i = stays_at z s r i id v (without_notes v) at refl (unnoted_view z s.words (count_of s.words) r.table id v (r.each_view id v at))
         (others_apart z s r id v at)
 
     -- what a seat with the allocation lock has

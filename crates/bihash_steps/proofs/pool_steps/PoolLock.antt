@@ -14,7 +14,7 @@ use Rattle.bihash_steps.specs.Partition.{IsPartition}
 use Rattle.bihash_steps.specs.PageStores.{StoreState, IsStore, returned_in, all_writes, HoldsStore, LeftIf}
 use Rattle.bihash_steps.specs.WordRule.{WordRule}
 use Rattle.bihash_steps.specs.Steps.{ViewOfSeat}
-use Rattle.bihash_steps.specs.BucketSteps.{unnoted}
+use Rattle.bihash_steps.specs.BucketSteps.{without_notes}
 use Rattle.bihash_steps.specs.StoreSteps.{holding, TellsStoreLock, store_opened, TellsStoreOpened}
 use Rattle.bihash_steps.specs.declared.view.PageStore.{PageStore}
 use Rattle.bihash_steps.specs.declared.view.Holdings.{Holdings}
@@ -32,7 +32,7 @@ free_lock None e = refl
 free_lock (Some j) e = absurd (omega arith)
 
 module _ (z : Sizes) where
-  -- the page store stands behind a store of its lock
+  -- the page store follows a store of its lock
   relocked : (words : List ℕ) (n writes : ℕ) (q : StoreState) (lock : Option ℕ) → 1 < length words → n ≡ bit (is_some lock)
       → (lock ≡ None → q.store.unpublished ≡ false) → IsStore z words writes q → IsStore z (set words 1 n) writes (record q { lock = lock })
   relocked words n writes q lock inside is settled ok = record {
@@ -121,10 +121,10 @@ module _ (z : Sizes) where
 
       lost : word ≢ 0 → Outcome
       lost ne = (
-        unnoted v,
+        without_notes v,
         keeps,
         tt,
-        subst (λ (b : Bool). WordRule z (after_store s id (unnoted v) 1 (either b 1 word))) (sym (ne_eqb word 0 ne)) (unnoted_rule z s r id v at 1),
+        subst (λ (b : Bool). WordRule z (after_store s id (without_notes v) 1 (either b 1 word))) (sym (ne_eqb word 0 ne)) (unnoted_rule z s r id v at 1),
         record {
           slots = refl;
           taken = λ e. absurd (ne e);

@@ -1,4 +1,4 @@
--- A held block is given back: its page is stored behind the last of its list, and the list counts it.
+-- A held block is given back: its page is stored after the last of its list, and the list counts it.
 use Rattle.std.proofs.Common.{◌≡◌, ◌≢◌, ℕ, zero, suc, ◌+◌, ◌*◌, ◌^◌, ◌<◌, ◌≤◌, Bool, false, List, [], ◌∷◌, ◌++◌, length, set, refl, sym, ap, ◌∙◌, subst, arith, length-set, length-append, get_or-set_same, get_or-set_other, Some, None}
 use mathlib.Core.Logic.{dite}
 use native.Mathlib.Decide.{ℕ_discrete}
@@ -33,7 +33,7 @@ last_at [] page = refl
 last_at (x ∷ xs) page = last_at xs page
 
 module _ (z : Sizes) where
-  -- a store behind the last of a list leaves the page store
+  -- a store after the last of a list leaves the page store
   store_behind : (words : List ℕ) (writes log2 count word : ℕ) (q : StoreState) → log2 ≤ z.max_log2 → length (returned_in q.store log2) ≡ count
       → count < list_words z log2 → IsStore z words writes q → IsStore z (set words (list_at z log2 + count) word) writes q
   store_behind words writes log2 count word q small is room ok =

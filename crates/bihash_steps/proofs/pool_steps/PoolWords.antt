@@ -14,7 +14,7 @@ same_power m n e = dite (dec_lt m n) (λ h. absurd (let l = pow_below m n h in o
     (λ h. dite (dec_lt n m) (λ k. absurd (let l = pow_below n m k in omega arith)) (λ k. omega arith))
 
 module _ (z : Sizes) where
-  -- ---- The lists of returned blocks, one behind the other
+  -- ---- The lists of returned blocks, one after the other
 
   pub list_behind : (log2 : ℕ) → 4 + z.max_log2 ≤ list_at z log2
   unfolding list_at
@@ -49,6 +49,6 @@ module _ (words : List ℕ) (at n : ℕ) (inside : at + n ≤ length words) wher
   pub span_stands : Stands words at (span words at n)
   span_stands k lt = sym (get_or-take n (drop at words) k 0 (let l = span_long in omega arith) ∙ get_or-drop at words k 0)
 
-  -- and they still stand behind a store before them
+  -- and they still follow a store before them
   pub span_still : (i word : ℕ) → i < at → Stands (set words i word) at (span words at n)
   span_still i word before k lt = get_or-set_other words i (at + k) word 0 (λ e. omega arith) ∙ span_stands k lt

@@ -103,7 +103,7 @@ module _ (z : Sizes) where
   list_fits used x store views log2 p = at_most_quotient (length (returned_in store log2)) (2 ^ log2) z.pages (pow_pos log2)
       (le_trans (list_room z.pages used x store views p log2) p.few)
 
-  -- there is room for a block that a seat holds: behind its return the list would fit
+  -- there is room for a block that a seat holds: after its return the list would fit
   pub room_for : (s : State (Unit {0}) View) (r : WordRule z s) (id : ℕ) (v : View) (h : HeldBlock) → get_elem? s.views id ≡ some v
       → v.holds.block ≡ Some h → length (returned_in r.table.store.store h.log2) < list_words z h.log2
   room_for s r id v h at held =

@@ -1,7 +1,7 @@
 //! What each kind of step tells its caller.
 ghost use Rattle.std.specs.Prelude.{ℕ};
 ghost use Rattle.bihash_words.specs.Sizes.{sizes_of};
-ghost use Rattle.bihash_steps.specs.Steps.{TellsCount, TellsNumber, first_numbers, other_numbers, joining, spent, TellsAgreement};
+ghost use Rattle.bihash_steps.specs.Steps.{TellsCount, TellsNumber, first_numbers, other_numbers, joining, view_after_spending, TellsAgreement};
 
 use crate::view::View;
 use atomic_table::{Join, Play, Split};
@@ -54,10 +54,10 @@ pub(crate) struct Joins<S> {
 impl<S: Shape> Join<View> for Joins<S> {
     ghost both = { joining };
 
-    ghost spent = { spent (sizes_of S.Shape) };
+    ghost spent = { view_after_spending (sizes_of S.Shape) };
 }
 
-/// A load behind a join.
+/// A load after a join.
 pub(crate) struct Meets<S> {
     shape: PhantomData<S>,
 }

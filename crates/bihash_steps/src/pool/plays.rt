@@ -44,7 +44,7 @@ impl<S: Shape> Play<(), View> for TakesReturned<S> {
     ghost then = { λ step me _ next. TellsTakenReturned (sizes_of S.Shape) step.word step.first me next };
 }
 
-/// A store of the used mark behind pages that are taken.
+/// A store of the used mark after pages that are taken.
 pub(crate) struct TakesUnused<S> {
     shape: PhantomData<S>,
 }
@@ -64,7 +64,7 @@ impl<S: Shape> Play<(), View> for HeldStores<S> {
         → next ≡ (holding me.0 me.0.holds.store (Some (stored_at h k step.first)), me.1) };
 }
 
-/// A store of a page number behind the last of a list.
+/// A store of a page number after the last of a list.
 pub(crate) struct Lists<S> {
     shape: PhantomData<S>,
 }

@@ -81,7 +81,7 @@ impl Sink for Counted {
 fn pieces(rt: HostRuntime) -> Result<(), Fail> {
     let alloc = rt.alloc();
     let verdicts = vec![in alloc; Verdict::Deny(4096); 2000]?;
-    // 9 numbers of one digit, 90 of two, 900 of three and 1001 of four, and 16 bytes behind each.
+    // 9 numbers of one digit, 90 of two, 900 of three and 1001 of four, and 16 bytes after each.
     let lines = 9 + 180 + 2700 + 4004 + 2000 * 16;
     let end = "packets 2000 pass 0 drop 2000\n".len();
     for writes in 0..4 {

@@ -51,7 +51,7 @@ const HEADER: &str = "d4c3b2a1 0200 0400 00000000 00000000 00000400 01000000\n";
 /// An end of a flow: n of its address 10.0.0.n, and its port.
 pub type End = (u8, u16);
 
-/// What an Ethernet frame has behind its addresses.
+/// What an Ethernet frame has after its addresses.
 #[derive(Clone, Copy)]
 pub enum Content {
     Udp(End, End),

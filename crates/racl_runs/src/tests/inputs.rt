@@ -40,6 +40,6 @@ fn marker_lines(rt: HostRuntime) -> Result<(), Fail> {
     ] {
         assert_refused(&rt, alloc, input.as_bytes(), Fault::BadLine(1))?;
     }
-    // Bytes behind the marker line need not be text.
+    // Bytes after the marker line need not be text.
     assert_refused(&rt, alloc, b"pcap\n\xff\xff\xff\xff", Fault::Short)
 }

@@ -1,12 +1,12 @@
 //! Columns made of ranges, and read at a number.
 ghost use Rattle.std.specs.Prelude.{ℕ, IfOk, IfSome, List, map};
 ghost use Rattle.acl_policy.specs.Rules.{RuleFacts, rule_facts};
-ghost use Rattle.packet_view.specs.Tuples.{Facts};
-ghost use Rattle.rule_index.specs.Columns.{Holds};
+ghost use Rattle.packet_view.specs.Tuples.{TupleFacts};
+ghost use Rattle.rule_index.specs.inner.Columns.{Holds};
 ghost use Rattle.rule_index.specs.declared.dimension.Dimension.{Dimension};
 ghost use Rattle.rule_index.specs.Dimensions.{IsAt};
 ghost use Rattle.rule_index.specs.Indexes.{Sieves};
-ghost use Rattle.rule_index.specs.Sieves.{Sifts};
+ghost use Rattle.rule_index.specs.inner.Sieves.{Sifts};
 
 use super::Column;
 use super::starts::{place, starts_of};
@@ -50,7 +50,7 @@ impl Column {
 
     /// The row for a number.
     pub fn row(&self, x: u128) -> &[u64]
-        ensures { (dimension : Dimension) (rules : List RuleFacts) (tuple : Facts) → Sieves dimension rules self.now → IsAt dimension tuple x
+        ensures { (dimension : Dimension) (rules : List RuleFacts) (tuple : TupleFacts) → Sieves dimension rules self.now → IsAt dimension tuple x
             → Sifts rules tuple result.now }
     {
         let from = place(&self.starts, x) * self.width;
@@ -59,7 +59,7 @@ impl Column {
 
     /// The row for a number that not every packet has, and another row without it.
     pub fn row_or<'a>(&'a self, x: Option<u128>, other: &'a [u64]) -> &'a [u64]
-        ensures { (dimension : Dimension) (rules : List RuleFacts) (tuple : Facts) → Sieves dimension rules self.now
+        ensures { (dimension : Dimension) (rules : List RuleFacts) (tuple : TupleFacts) → Sieves dimension rules self.now
             → IfSome x (IsAt dimension tuple) → Sifts rules tuple other.now → Sifts rules tuple result.now }
     {
         match x {

@@ -21,7 +21,7 @@ pub fn place(starts: &[u128], x: u128) -> usize
     row
 }
 
-/// An interval begins at 0, where a range begins, and behind its end.
+/// An interval begins at 0, where a range begins, and after its end.
 pub fn starts_of(alloc: Global, ranges: &[(u128, u128)]) -> Result<Vec<u128>, AllocError>
     ensures { IfOk result (λ starts. AreStarts starts.items) }
 {

@@ -5,7 +5,7 @@ ghost use Rattle.rule_index.specs.Rows.{AreStarts, bit_in, HasTurns, IsPlace, Is
 use super::starts::place;
 use crate::bits::{accumulate, set_bit};
 
-/// Sets the bit of a rule where its range begins, and behind its end.
+/// Sets the bit of a rule where its range begins, and after its end.
 fn mark(rows: &mut [u64], starts: &[u128], width: usize, rule: usize, range: (u128, u128))
     requires starts { AreStarts starts.now }
     requires rows { length rows.now ≡ length starts.now * width }

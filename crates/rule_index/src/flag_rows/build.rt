@@ -2,11 +2,11 @@
 ghost use Rattle.std.specs.Prelude.{◌≡◌, ◌≢◌, ◌≤◌, ◌<◌, ◌*◌, ◌/◌, ℕ, IfOk, IfSome, IsTrue, List, Some, length, map, slice_get};
 ghost use Rattle.acl_policy.specs.Matching.{Matches};
 ghost use Rattle.acl_policy.specs.Rules.{RuleFacts, rule_facts};
-ghost use Rattle.packet_view.specs.Tuples.{Facts};
+ghost use Rattle.packet_view.specs.Tuples.{TupleFacts};
 ghost use Rattle.rule_index.specs.FlagBits.{HaveFree, SievesFlags};
 ghost use Rattle.rule_index.specs.Flagged.{IsFlagsOf};
 ghost use Rattle.rule_index.specs.Rows.{bit_in};
-ghost use Rattle.rule_index.specs.Sieves.{Sifts};
+ghost use Rattle.rule_index.specs.inner.Sieves.{Sifts};
 
 use super::FlagRows;
 use crate::bits::{accumulate, set_bit, words_for};
@@ -15,7 +15,7 @@ use std::alloc::{AllocError, Global};
 
 /// Whether a rule may match packets with these flags.
 fn may_have(rule: &Rule, flags: u8) -> bool
-    ensures { (tuple : Facts) → IsFlagsOf tuple.fields flags → Matches (rule_facts rule.now) tuple → IsTrue result }
+    ensures { (tuple : TupleFacts) → IsFlagsOf tuple.fields flags → Matches (rule_facts rule.now) tuple → IsTrue result }
 {
     rule.proto == 0 || flags & rule.mask == rule.value
 }
@@ -26,7 +26,7 @@ fn mark_flags(rows: &mut [u64], width: usize, place: usize, rule: &Rule)
     requires place { place / 64 < width }
     ensures len { length rows.new ≡ length rows.old }
     ensures kept { (i k : ℕ) → k / 64 < width → bit_in width rows.old i k ≡ 1 → bit_in width rows.new i k ≡ 1 }
-    ensures marked { (x : ℕ) (tuple : Facts) → x < 256 → IsFlagsOf tuple.fields x → Matches (rule_facts rule.now) tuple
+    ensures marked { (x : ℕ) (tuple : TupleFacts) → x < 256 → IsFlagsOf tuple.fields x → Matches (rule_facts rule.now) tuple
         → bit_in width rows.new x place ≡ 1 }
 {
     for value in 0..256usize {
@@ -59,7 +59,7 @@ fn mark_asking(rows: &mut [u64], width: usize, rules: &[Rule])
     requires width { length rules.now ≤ 64 * width }
     requires free { HaveFree (map rule_facts rules.now) width rows.now }
     ensures len { length rows.new ≡ length rows.old }
-    ensures marked { (k x : ℕ) (rule : RuleFacts) (tuple : Facts) → slice_get (map rule_facts rules.now) k ≡ Some rule → x < 256
+    ensures marked { (k x : ℕ) (rule : RuleFacts) (tuple : TupleFacts) → slice_get (map rule_facts rules.now) k ≡ Some rule → x < 256
         → IsFlagsOf tuple.fields x → Matches rule tuple → bit_in width rows.new x k ≡ 1 }
 {
     for (place, rule) in rules.iter().enumerate() {
@@ -76,7 +76,7 @@ fn fill(rows: &mut [u64], width: usize, rules: &[Rule])
     requires width { length rules.now < 64 * width }
     requires clear { (row k : ℕ) → bit_in width rows.now row k ≡ 0 }
     ensures len { length rows.new ≡ length rows.old }
-    ensures marked { (k x : ℕ) (rule : RuleFacts) (tuple : Facts) → slice_get (map rule_facts rules.now) k ≡ Some rule → x < 256
+    ensures marked { (k x : ℕ) (rule : RuleFacts) (tuple : TupleFacts) → slice_get (map rule_facts rules.now) k ≡ Some rule → x < 256
         → IsFlagsOf tuple.fields x → Matches rule tuple → bit_in width rows.new x k ≡ 1 }
 {
     mark_free(rows, width, rules);
@@ -100,7 +100,7 @@ impl FlagRows {
 
     /// The row for flags.
     pub fn row(&self, flags: u8) -> &[u64]
-        ensures { (rules : List RuleFacts) (tuple : Facts) → SievesFlags rules self.now → IsFlagsOf tuple.fields flags
+        ensures { (rules : List RuleFacts) (tuple : TupleFacts) → SievesFlags rules self.now → IsFlagsOf tuple.fields flags
             → Sifts rules tuple result.now }
     {
         let from = usize::from(flags) * self.width;
@@ -109,7 +109,7 @@ impl FlagRows {
 
     /// The row for flags, and another row for a packet without them.
     pub fn row_or<'a>(&'a self, flags: Option<u8>, other: &'a [u64]) -> &'a [u64]
-        ensures { (rules : List RuleFacts) (tuple : Facts) → SievesFlags rules self.now → IfSome flags (IsFlagsOf tuple.fields)
+        ensures { (rules : List RuleFacts) (tuple : TupleFacts) → SievesFlags rules self.now → IfSome flags (IsFlagsOf tuple.fields)
             → Sifts rules tuple other.now → Sifts rules tuple result.now }
     {
         match flags {

@@ -3,8 +3,8 @@ ghost use Rattle.std.specs.Prelude.{◌≡◌, ◌<◌, ℕ, IfOk, IfSome, Optio
 ghost use Rattle.acl_policy.specs.declared.rule.Action.{Action};
 ghost use Rattle.acl_policy.specs.Matching.{IsDecision};
 ghost use Rattle.acl_policy.specs.Rules.{rule_facts};
-ghost use Rattle.packet_view.specs.Tuples.{facts};
-ghost use Rattle.rule_index.specs.Candidates.{AllSift};
+ghost use Rattle.packet_view.specs.Tuples.{tuple_facts};
+ghost use Rattle.rule_index.specs.inner.Candidates.{AllSift};
 ghost use Rattle.rule_index.specs.declared.dimension.Dimension.TheVariants.{Protocol};
 ghost use Rattle.rule_index.specs.Dimensions.{IsAt, IsFirst, IsSecond};
 ghost use Rattle.rule_index.specs.Flagged.{IsFlagsOf};
@@ -54,7 +54,7 @@ fn flags_of(fields: &Fields) -> Option<u8>
 
 /// The protocol of a packet and its family, as one number.
 fn protocol_number(tuple: &Tuple) -> u128
-    ensures { IsAt Protocol (facts tuple.now) result }
+    ensures { IsAt Protocol (tuple_facts tuple.now) result }
 {
     base_of(tuple.family) + u128::from(tuple.proto)
 }
@@ -84,7 +84,7 @@ impl RuleIndex {
 
     /// The rows for a packet. Where it has no ports, no type or no flags, none of these leaves a rule out.
     fn candidates(&self, tuple: &Tuple) -> Candidates<'_>
-        ensures { AllSift (map rule_facts self.now.rules.items) (facts tuple.now) result }
+        ensures { AllSift (map rule_facts self.now.rules.items) (tuple_facts tuple.now) result }
     {
         let protocol = self.protocol.row(protocol_number(tuple));
         Candidates {
@@ -99,9 +99,9 @@ impl RuleIndex {
 
     /// The first rule that matches, by its place from 0, and what it does. `None`: no rule matches.
     pub fn first_match(&self, tuple: &Tuple) -> Option<(usize, Action)>
-        ensures decided { IsDecision (map rule_facts self.now.rules.items) (facts tuple.now) result }
+        ensures decided { IsDecision (map rule_facts self.now.rules.items) (tuple_facts tuple.now) result }
         ensures only { (other : Option (ℕ × Action))
-            → IsDecision (map rule_facts self.now.rules.items) (facts tuple.now) other → other ≡ result }
+            → IsDecision (map rule_facts self.now.rules.items) (tuple_facts tuple.now) other → other ≡ result }
         ensures place { IfSome result (λ d. d.0 < length self.now.rules.items) }
     {
         first_of(&self.rules, tuple, &self.candidates(tuple))

@@ -1,7 +1,7 @@
 use Rattle.std.proofs.Common.{◌≡◌, arith, sym, ◌∙◌, None, Some}
 use Rattle.std.proofs.lemmas.Grind.{pow_more}
-use Rattle.acl_policy.specs.Reading.Numerals.{cut_in, group_in}
-use Rattle.acl_policy.specs.Reading.Prefixes.{groups_after}
+use Rattle.acl_policy.specs.inner.Reading.Numerals.{cut_in, group_in}
+use Rattle.acl_policy.specs.inner.Reading.Prefixes.{groups_after}
 use Rattle.acl_policy.proofs.GroupLemmas.{groups-fit, groups_in-none, groups_in-some, no_group_left, one_group}
 use Rattle.acl_policy.proofs.address.groups_of.Goals as goal
 

@@ -1,5 +1,5 @@
 use Rattle.std.proofs.Common.{◌≡◌, ◌<◌, ◌^◌, ◌-◌}
-use Rattle.acl_policy.specs.Reading.Prefixes.{groups_after}
+use Rattle.acl_policy.specs.inner.Reading.Prefixes.{groups_after}
 use Rattle.acl_policy.proofs.address.groups_of.Given as goal
 
 -- The groups that are left go on from the number that those so far make.

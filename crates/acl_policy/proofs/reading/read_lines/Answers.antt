@@ -5,9 +5,9 @@ use Rattle.std.proofs.lemmas.Iterator.Splits.{YieldsList-from_lines}
 use Rattle.std.proofs.lemmas.List.{length_push, take_all}
 use Rattle.std.proofs.lemmas.Result.{err_from_is_err_and}
 use Rattle.acl_policy.specs.declared.policy.PolicyFault.{PolicyFault}
-use Rattle.acl_policy.specs.Policies.{Reads, policy_facts}
-use Rattle.acl_policy.specs.Reading.Policies.{LinesFail}
-use Rattle.acl_policy.proofs.PolicyLemmas.{LinesFail-take, Reads-take}
+use Rattle.acl_policy.specs.Policies.{AreLinesOf, policy_facts}
+use Rattle.acl_policy.specs.inner.Reading.Policies.{LinesFail}
+use Rattle.acl_policy.proofs.PolicyLemmas.{LinesFail-take, AreLinesOf-take}
 use Rattle.acl_policy.proofs.reading.read_lines.Goals as goal
 
 pub loop-line-preserved : goal.loop-line-preserved
@@ -15,8 +15,8 @@ loop-line-preserved c =
     let turn = YieldsList-turn (YieldsList-from_lines c.args.text.now cc) c.loop-line.yielded _ c.loop-line.yielded_by _ _ c.in-Some.line c.in-Some.is c.next.ensures.steps in
     let added = rw c.as_bytes.ensures.value at c.in_ok-add_line.ensures.ok in
     let count = length_push c.loop-line.yielded c.in-Some.line in
-    let next = Reads-take _ (lines c.args.text.now) (length c.loop-line.yielded) c.in-Some.line.now (policy_facts c.loop-line.policy) (policy_facts c.add_line.new.policy) turn.0 turn.1 c.loop-line.invariant.reads added in
-    record { counted = omega (arith, count); reads = subst (λ (n : ℕ). Reads (take n (lines c.args.text.now)) (policy_facts c.add_line.new.policy)) (sym count) next }
+    let next = AreLinesOf-take _ (lines c.args.text.now) (length c.loop-line.yielded) c.in-Some.line.now (policy_facts c.loop-line.policy) (policy_facts c.add_line.new.policy) turn.0 turn.1 c.loop-line.invariant.reads added in
+    record { counted = omega (arith, count); reads = subst (λ (n : ℕ). AreLinesOf (take n (lines c.args.text.now)) (policy_facts c.add_line.new.policy)) (sym count) next }
 
 pub returns-in_err-add_line-clause-fault : goal.returns-in_err-add_line-clause-fault
 returns-in_err-add_line-clause-fault c =
@@ -29,4 +29,4 @@ returns-in_err-add_line-clause-fault c =
 pub returns-clause-ok : goal.returns-clause-ok
 returns-clause-ok c =
     let end = YieldsList-end (YieldsList-from_lines c.args.text.now cc) c.loop-line.yielded _ c.loop-line.yielded_by _ _ c.in-None.is c.next.ensures.steps in
-    subst (λ (ls : List (List ℕ)). Reads ls (policy_facts c.loop-line.policy)) (ap (λ (n : ℕ). take n (lines c.args.text.now)) end.1 ∙ take_all (length (lines c.args.text.now)) (lines c.args.text.now) (omega arith)) c.loop-line.invariant.reads
+    subst (λ (ls : List (List ℕ)). AreLinesOf ls (policy_facts c.loop-line.policy)) (ap (λ (n : ℕ). take n (lines c.args.text.now)) end.1 ∙ take_all (length (lines c.args.text.now)) (lines c.args.text.now) (omega arith)) c.loop-line.invariant.reads

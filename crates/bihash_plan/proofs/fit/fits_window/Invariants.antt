@@ -1,7 +1,7 @@
 use Rattle.std.proofs.Common.{◌∷◌, take}
 use Rattle.bihash_plan.specs.Pages.{paging_of}
 use Rattle.bihash_plan.specs.Plans.{keys_of}
-use Rattle.bihash_plan.specs.Tallies.{IsTally}
+use Rattle.bihash_plan.specs.inner.Tallies.{IsTally}
 use Rattle.bihash_plan.proofs.fit.fits_window.Given as goal
 
 -- the new key and those of the places so far are counted

@@ -1,4 +1,4 @@
-use Rattle.std.proofs.Common.{◌∙◌, None, ap, sym}
+use Rattle.std.proofs.Common.{◌∙◌, None, ap, arith, sym}
 use Rattle.bihash_words.specs.Sizes.{sizes_of}
 use Rattle.bihash_words.specs.declared.patch.Change.TheVariants.{Set}
 use Rattle.bihash_steps.specs.BucketSteps.{map_now}
@@ -19,14 +19,14 @@ store_key-requires-clause-own g c = c.requires.own
 pub store_key-requires-clause-lock : goal.store_key-requires-clause-lock
 store_key-requires-clause-lock g c = (c.requires.lock, c.requires.has, c.requires.told.1.inside)
 
-pub store_word-requires-clause-own : goal.store_word-requires-clause-own
-store_word-requires-clause-own g c = own_through c.args.seat.now _ _ c.store_key.ensures.same c.requires.own
-
-pub store_word-requires-clause-place : goal.store_word-requires-clause-place
-store_word-requires-clause-place g c =
-    let h = c.requires in
-    holds_stored (sizes_of g.S.Shape) c.args.seat.now.view c.args.seen.now.site.bucket c.args.seen.now.word h.lock h.has c.store_key.new.seat.view
-    c.args.place h.told.1.inside (g.S.Shape.words_of c.args.seen.now.site.key.now) g.S.Shape.WORDS (c.store_key.ensures.stored h.lock h.has)
+pub store_word-requires : goal.store_word-requires
+store_word-requires g c = let h = c.requires in record {
+  own = own_through c.args.seat.now _ _ c.store_key.ensures.same h.own;
+  held = holds_stored (sizes_of g.S.Shape) c.args.seat.now.view c.args.seen.now.site.bucket c.args.seen.now.word h.lock h.has
+      c.store_key.new.seat.view c.args.place h.told.1.inside (g.S.Shape.words_of c.args.seen.now.site.key.now) g.S.Shape.WORDS
+      (c.store_key.ensures.stored h.lock h.has);
+  inside = let same = c.WORDS.ensures in omega arith;
+}
 
 pub publish-requires-clause-at : goal.publish-requires-clause-at
 publish-requires-clause-at g c =

@@ -1,4 +1,4 @@
-use Rattle.std.proofs.Common.{◌∙◌, Some, ap, sym}
+use Rattle.std.proofs.Common.{◌∙◌, Some, ap, arith, sym}
 use Rattle.bihash_words.specs.Sizes.{sizes_of}
 use Rattle.bihash_words.specs.declared.patch.Change.TheVariants.{Set}
 use Rattle.bihash_steps.specs.Seats.{CallerState}
@@ -11,13 +11,13 @@ use Rattle.bihash_table.proofs.Storing.{holds_place}
 use Rattle.bihash_table.proofs.Tries.{finished_write}
 use Rattle.bihash_table.proofs.change.overwrite.Goals as goal
 
-pub store_word-requires-clause-own : goal.store_word-requires-clause-own
-store_word-requires-clause-own g c = c.requires.held.own
-
-pub store_word-requires-clause-place : goal.store_word-requires-clause-place
-store_word-requires-clause-place g c =
-    let h = c.requires.held in
-    holds_place (sizes_of g.S.Shape) c.args.seat.now.view c.args.seen.now.site.bucket c.args.seen.now.word h.lock h.has c.args.pair.0 h.told.0.pair.0
+pub store_word-requires : goal.store_word-requires
+store_word-requires g c = let h = c.requires.held in record {
+  own = h.own;
+  held = holds_place (sizes_of g.S.Shape) c.args.seat.now.view c.args.seen.now.site.bucket c.args.seen.now.word h.lock h.has
+      c.args.pair.0 h.told.0.pair.0;
+  inside = let same = c.WORDS.ensures in omega arith;
+}
 
 pub publish-requires-clause-at : goal.publish-requires-clause-at
 publish-requires-clause-at g c =

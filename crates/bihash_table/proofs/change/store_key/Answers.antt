@@ -3,28 +3,36 @@ use Rattle.std.specs.Prelude.{slice_index}
 use Rattle.bihash_words.specs.Sizes.{sizes_of}
 use Rattle.bihash_steps.specs.Words.{place_words}
 use Rattle.bihash_steps.specs.Blocks.{places}
-use Rattle.bihash_steps.specs.BucketSteps.{relocked, stored_in}
+use Rattle.bihash_steps.specs.BucketSteps.{with_lock, stored_in}
 use Rattle.bihash_steps.specs.Seats.{CallerState, with_view}
 use Rattle.bihash_steps.specs.declared.view.LockedBucket.{LockedBucket}
-use Rattle.bihash_table.specs.Stores.{HasStored, HoldsPlace}
+use Rattle.bihash_table.specs.inner.Stores.{HasStored, HoldsWord}
 use Rattle.bihash_table.proofs.PlaceReads.{same_lock}
-use Rattle.bihash_table.proofs.SameCallers.{same_through}
+use Rattle.bihash_table.proofs.SameCallers.{own_through, same_through}
 use Rattle.bihash_table.proofs.Storing.{held_now, holds_stored, stored_more, stored_none, stored_same, view_stored}
 use Rattle.bihash_table.proofs.change.store_key.Goals as goal
 
-pub held_word-requires-clause-place : goal.held_word-requires-clause-place
-held_word-requires-clause-place g c =
+pub held_word-requires : goal.held_word-requires
+held_word-requires g c =
     let lock = c.requires.lock in let key = g.S.Shape.words_of c.args.seen.now.site.key.now in
-    holds_stored (sizes_of g.S.Shape) c.args.seat.now.view c.args.seen.now.site.bucket c.args.seen.now.word lock.0 lock.1 c.loop-i.seat.view
-    c.args.place lock.2 key c.loop-i.i (c.loop-i.invariant.1 lock.0 lock.1)
+    record {
+      own = own_through c.args.seat.now _ _ c.loop-i.invariant.0 c.requires.own;
+      held = holds_stored (sizes_of g.S.Shape) c.args.seat.now.view c.args.seen.now.site.bucket c.args.seen.now.word lock.0 lock.1
+          c.loop-i.seat.view c.args.place lock.2 key c.loop-i.i (c.loop-i.invariant.1 lock.0 lock.1);
+      inside = let below = c.loop-i-test.true in let same = c.WORDS-i-end.ensures in omega arith;
+    }
 
-pub store_word-requires-clause-place : goal.store_word-requires-clause-place
-store_word-requires-clause-place g c =
+pub store_word-requires : goal.store_word-requires
+store_word-requires g c =
     let z = sizes_of g.S.Shape in
     let lock = c.requires.lock in let key = g.S.Shape.words_of c.args.seen.now.site.key.now in
-    subst (λ (s : CallerState). HoldsPlace z s.view c.args.seen.now.word c.args.place) (sym c.held_word.ensures.same)
-    (holds_stored z c.args.seat.now.view c.args.seen.now.site.bucket c.args.seen.now.word lock.0 lock.1 c.loop-i.seat.view
-    c.args.place lock.2 key c.loop-i.i (c.loop-i.invariant.1 lock.0 lock.1))
+    subst (λ (s : CallerState). HoldsWord z c.args.row.now s c.args.seen.now.word c.args.place c.loop-i.i) (sym c.held_word.ensures.same)
+    record {
+      own = own_through c.args.seat.now _ _ c.loop-i.invariant.0 c.requires.own;
+      held = holds_stored z c.args.seat.now.view c.args.seen.now.site.bucket c.args.seen.now.word lock.0 lock.1 c.loop-i.seat.view
+          c.args.place lock.2 key c.loop-i.i (c.loop-i.invariant.1 lock.0 lock.1);
+      inside = let below = c.loop-i-test.true in let same = c.WORDS-i-end.ensures in omega arith;
+    }
 
 pub loop-i-init : goal.loop-i-init
 loop-i-init g c = (
@@ -61,7 +69,7 @@ loop-i-preserved g c =
     let below = c.loop-i-test.true in let same = c.WORDS-i-end.ensures in omega arith in
     let at : ℕ = i * place_words z + c.loop-i.i in
     let stores = subst (λ (s : CallerState). (l : LockedBucket) → s.view.holds.bucket ≡ Some l
-    → c.store_word.new.seat ≡ with_view s (relocked s.view (Some (stored_in l at c.word-part.result)))) c.held_word.ensures.same
+    → c.store_word.new.seat ≡ with_view s (with_lock s.view (Some (stored_in l at c.word-part.result)))) c.held_word.ensures.same
     c.store_word.ensures in (
       same_through c.args.seat.now c.loop-i.seat c.store_word.new.seat _ c.loop-i.invariant.0
           (stores _ (held_now z v b word own.0 own.1 w i own.2 key c.loop-i.i mine)),

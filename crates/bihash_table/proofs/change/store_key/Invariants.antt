@@ -2,8 +2,8 @@ use Rattle.std.proofs.Common.{◌≡◌}
 use Rattle.bihash_words.specs.Sizes.{sizes_of}
 use Rattle.bihash_steps.specs.declared.view.LockedBucket.{LockedBucket}
 use Rattle.bihash_steps.specs.Seats.{with_view}
-use Rattle.bihash_table.specs.Locked.{HasLock}
-use Rattle.bihash_table.specs.Stores.{HasStored}
+use Rattle.bihash_table.specs.inner.Locked.{HasLock}
+use Rattle.bihash_table.specs.inner.Stores.{HasStored}
 use Rattle.bihash_table.proofs.change.store_key.Given as goal
 
 -- the words so far are stored

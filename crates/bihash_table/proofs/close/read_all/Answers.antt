@@ -1,5 +1,5 @@
 use Rattle.std.proofs.Common.{◌≡◌, ◌∙◌, ℕ, ◌^◌, ◌≤◌, pow_mono, arith, refl, sym, ap, subst}
-use Rattle.bihash_table.specs.PairLists.{ListsBuckets}
+use Rattle.bihash_table.specs.inner.PairLists.{ListsBuckets}
 use Rattle.bihash_table.proofs.PairListLemmas.{buckets_none}
 use Rattle.bihash_table.proofs.TakenLocks.{took_none}
 use Rattle.bihash_table.proofs.close.read_all.Goals as goal

@@ -3,7 +3,7 @@ use Rattle.std.proofs.Common.{◌≡◌}
 use Rattle.bihash_words.specs.Sizes.{sizes_of}
 use Rattle.bihash_steps.specs.Callers.{IsLawfulCaller}
 use Rattle.bihash_steps.specs.Seats.{with_view}
-use Rattle.bihash_table.specs.PairLists.{ListsBuckets, TookLocks}
+use Rattle.bihash_table.specs.inner.PairLists.{ListsBuckets, TookLocks}
 use Rattle.bihash_table.proofs.close.read_all.Given as goal
 
 abbrev pub invariant-loop-bucket : goal.invariant-loop-bucket

@@ -1,8 +1,8 @@
 use Rattle.std.proofs.Common.{◌+◌, ℕ, List, arith, sym, subst}
 use Rattle.bihash_words.specs.Sizes.{sizes_of}
 use Rattle.bihash_steps.specs.declared.view.Extent.{Extent}
-use Rattle.bihash_table.specs.OpenReads.{HasRead}
-use Rattle.bihash_table.specs.PairLists.{AddsPlaces}
+use Rattle.bihash_table.specs.inner.OpenReads.{HasRead}
+use Rattle.bihash_table.specs.inner.PairLists.{AddsPlaces}
 use Rattle.bihash_table.proofs.Closings.{added_none, added_free, added_pair, added_not, added_all}
 use Rattle.bihash_table.proofs.Seeing.{may_still, names_block, word_notes}
 use Rattle.bihash_table.proofs.close.read_pairs.Goals as goal

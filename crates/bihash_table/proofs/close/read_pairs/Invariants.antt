@@ -1,6 +1,6 @@
 -- The pairs of the places so far were added.
-use Rattle.bihash_table.specs.OpenReads.{HasRead}
-use Rattle.bihash_table.specs.PairLists.{AddsPlaces}
+use Rattle.bihash_table.specs.inner.OpenReads.{HasRead}
+use Rattle.bihash_table.specs.inner.PairLists.{AddsPlaces}
 use Rattle.bihash_table.proofs.close.read_pairs.Given as goal
 
 abbrev pub invariant-loop-place : goal.invariant-loop-place

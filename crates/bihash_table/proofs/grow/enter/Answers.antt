@@ -3,14 +3,14 @@ use Rattle.bihash_words.specs.Sizes.{sizes_of}
 use Rattle.bihash_words.specs.declared.patch.Change.TheVariants.{Set}
 use Rattle.bihash_words.specs.declared.patch.Reply.{Reply}
 use Rattle.bihash_words.specs.declared.patch.Reply.TheVariants.{Changed, NoPages}
-use Rattle.bihash_steps.specs.BucketSteps.{call_of, map_now, unlocked}
+use Rattle.bihash_steps.specs.BucketSteps.{call_of, map_now, without_lock}
 use Rattle.bihash_steps.specs.Seats.{CallerState, with_view}
 use Rattle.bihash_steps.specs.declared.view.HeldBlock.{HeldBlock}
 use Rattle.bihash_steps.specs.declared.view.Holdings.{Holdings}
 use Rattle.bihash_steps.specs.declared.view.View.{View}
 use Rattle.bihash_steps.specs.BucketCalls.{event}
 use Rattle.bihash_table.specs.Answers.{locks_of}
-use Rattle.bihash_table.specs.Shortage.{IsShortage}
+use Rattle.bihash_table.specs.OutOfPages.{IsOutOfPages}
 use Rattle.bihash_table.proofs.Entering.{looked_at}
 use Rattle.bihash_table.proofs.Copies.{same_block}
 use Rattle.bihash_table.proofs.LookedAt.{pair_value}
@@ -30,27 +30,29 @@ returns-then-not-pool_lock g c =
     let h = c.requires.held in
     let not = c.pool_lock.ensures.not c.if-not-pool_lock.true in
     finished_away g.S.Shape s c.release.new.caller site.key.now None (Set c.args.value)
-    (seen_same s c.release.new.caller (c.release.ensures.view ∙ ap (λ (k : CallerState). with_view k (unlocked k.view)) c.pool_lock.ensures.same))
+    (seen_same s c.release.new.caller (c.release.ensures.view ∙ ap (λ (k : CallerState). with_view k (without_lock k.view)) c.pool_lock.ensures.same))
     c.release.ensures.lawful (ap (λ (k : CallerState). locks_of k.view.records) c.release.ensures.view ∙ ap (λ (v : View). locks_of v.records) not)
     _ site.bucket (sym site.home)
     (turned_away (sizes_of g.S.Shape) s.view c.pool_lock.new.caller.view c.release.new.caller.view site.bucket c.args.seen.now.word h.lock h.has
     not (ap (λ (k : CallerState). k.view) c.release.ensures.view))
     (λ lone. true≢false (sym (c.pool_lock.ensures.lone lone (ap (λ (k : Holdings). k.store) h.has.held)) ∙ c.if-not-pool_lock.true))
 
-pub take_block-requires-clause-own : goal.take_block-requires-clause-own
-take_block-requires-clause-own g c = own_through c.args.seat.now _ _ c.pool_lock.ensures.same c.requires.held.own
+pub take_block-requires : goal.take_block-requires
+take_block-requires g c =
+    let locks = c.pool_lock.ensures.taken c.if-not-pool_lock.false in record {
+      own = own_through c.args.seat.now _ _ c.pool_lock.ensures.same c.requires.held.own;
+      sound = c.is_sound.ensures;
+      store = (
+        locked_on locks.store,
+        store_held g.S.Shape c.args.seat.now c.pool_lock.new.caller c.pool_lock.ensures.same locks
+            (ap (λ (h : Holdings). h.block) c.requires.held.has.held) 0 c.args.size.log2,
+      );
+      small = c.requires.small;
+    }
 
 pub pool_unlock-requires-clause-own : goal.pool_unlock-requires-clause-own
 pool_unlock-requires-clause-own g c = ap (λ (s : CallerState). s.row) c.in-Err.ensures.refused.0
     ∙ own_through c.args.seat.now _ _ c.pool_lock.ensures.same c.requires.held.own
-
-pub take_block-requires-clause-store : goal.take_block-requires-clause-store
-take_block-requires-clause-store g c =
-    let locks = c.pool_lock.ensures.taken c.if-not-pool_lock.false in (
-      locked_on locks.store,
-      store_held g.S.Shape c.args.seat.now c.pool_lock.new.caller c.pool_lock.ensures.same locks
-          (ap (λ (h : Holdings). h.block) c.requires.held.has.held) 0 c.args.size.log2,
-    )
 
 pub write_block-requires-clause-held : goal.write_block-requires-clause-held
 write_block-requires-clause-held g c =
@@ -204,8 +206,8 @@ returns-in-Err g c =
     (λ wanted left e.
     let size : c.args.size.log2 ≡ wanted = cc in
     let few : c.in-Err.left ≡ left = cc in
-    subst (λ (b : ℕ). IsShortage g.S.Shape t.view b site.key.now wanted left) site.home
-    (subst (λ (x : ℕ × ℕ). IsShortage g.S.Shape t.view site.bucket site.key.now x.0 x.1) (λ i. (size i, few i))
+    subst (λ (b : ℕ). IsOutOfPages g.S.Shape t.view b site.key.now wanted left) site.home
+    (subst (λ (x : ℕ × ℕ). IsOutOfPages g.S.Shape t.view site.bucket site.key.now x.0 x.1) (λ i. (size i, few i))
     (is_shortage g.S.Shape _ site.key.now t.view site.bucket (ap (λ (x : View). map_now x site.bucket) refused) c.args.size.log2 c.in-Err.left
     c.args.size.linear locks.store c.requires.planned (c.in-Err.ensures.refused.1 (locked_on locks.store) store)
     (bears_noted s.view t.view site.bucket locks.store key None (Set c.args.value) c.args.size.log2 c.in-Err.left refused))))

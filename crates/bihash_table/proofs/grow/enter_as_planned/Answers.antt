@@ -3,7 +3,7 @@ use Rattle.bihash_words.specs.Sizes.{sizes_of}
 use Rattle.bihash_words.specs.declared.patch.Change.TheVariants.{Set}
 use Rattle.bihash_plan.specs.declared.outcome.Plan.TheVariants.{Grow}
 use Rattle.bihash_steps.specs.Blocks.{places}
-use Rattle.bihash_table.specs.Scans.{CountsPlaces}
+use Rattle.bihash_table.specs.inner.Scans.{CountsPlaces}
 use Rattle.bihash_table.proofs.Bridge.{AreKeyWords, sized}
 use Rattle.bihash_table.proofs.Growing.{full_seen, laid_there, planned_there, room_there}
 use Rattle.bihash_table.proofs.SameCallers.{own_through}

@@ -2,7 +2,7 @@ use Rattle.std.proofs.Common.{◌∙◌, false, true≢false, Some, None, ap, re
 use Rattle.bihash_words.specs.Sizes.{sizes_of}
 use Rattle.bihash_words.specs.declared.patch.Change.TheVariants.{Remove}
 use Rattle.bihash_words.specs.declared.patch.Reply.TheVariants.{Changed}
-use Rattle.bihash_steps.specs.BucketSteps.{call_of, map_now, unlocked}
+use Rattle.bihash_steps.specs.BucketSteps.{call_of, map_now, without_lock}
 use Rattle.bihash_steps.specs.Seats.{CallerState, with_view}
 use Rattle.bihash_steps.specs.declared.view.Holdings.{Holdings}
 use Rattle.bihash_steps.specs.declared.view.View.{View}
@@ -23,7 +23,7 @@ returns-then-not-pool_lock g c =
     let h = c.requires in
     let not = c.pool_lock.ensures.not c.if-not-pool_lock.true in
     finished_away g.S.Shape s c.release.new.caller site.key.now (Some c.args.pair.1) Remove
-    (seen_same s c.release.new.caller (c.release.ensures.view ∙ ap (λ (k : CallerState). with_view k (unlocked k.view)) c.pool_lock.ensures.same))
+    (seen_same s c.release.new.caller (c.release.ensures.view ∙ ap (λ (k : CallerState). with_view k (without_lock k.view)) c.pool_lock.ensures.same))
     c.release.ensures.lawful (ap (λ (k : CallerState). locks_of k.view.records) c.release.ensures.view ∙ ap (λ (v : View). locks_of v.records) not)
     _ site.bucket (sym site.home)
     (turned_away (sizes_of g.S.Shape) s.view c.pool_lock.new.caller.view c.release.new.caller.view site.bucket c.args.seen.now.word h.lock h.has

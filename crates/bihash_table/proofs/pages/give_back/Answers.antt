@@ -3,7 +3,7 @@ use Rattle.bihash_steps.specs.Seats.{CallerState, with_view}
 use Rattle.bihash_steps.specs.StoreSteps.{holding, listing, relisted}
 use Rattle.bihash_steps.specs.declared.view.LockedStore.{LockedStore}
 use Rattle.bihash_steps.specs.declared.view.HeldBlock.{HeldBlock}
-use Rattle.bihash_table.specs.Copying.{MayGiveBack}
+use Rattle.bihash_table.specs.inner.Copying.{MayGiveBack}
 use Rattle.bihash_table.proofs.pages.give_back.Goals as goal
 
 -- the page was listed, and then the list counted it

@@ -1,6 +1,6 @@
 use Rattle.std.proofs.Common.{◌*◌}
 use Rattle.bihash_words.specs.Sizes.{sizes_of}
-use Rattle.bihash_table.specs.OpenReads.{HasRead}
+use Rattle.bihash_table.specs.inner.OpenReads.{HasRead}
 use Rattle.bihash_table.proofs.LookedAt.{NoneAmong}
 use Rattle.bihash_table.proofs.reads.find_pair.Given as goal
 

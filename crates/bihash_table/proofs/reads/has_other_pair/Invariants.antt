@@ -1,5 +1,5 @@
 use Rattle.bihash_words.specs.Sizes.{sizes_of}
-use Rattle.bihash_table.specs.OpenReads.{HasRead}
+use Rattle.bihash_table.specs.inner.OpenReads.{HasRead}
 use Rattle.bihash_table.proofs.LookedAt.{NoOther}
 use Rattle.bihash_table.proofs.reads.has_other_pair.Given as goal
 

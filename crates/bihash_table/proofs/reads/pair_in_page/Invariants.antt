@@ -1,6 +1,6 @@
 use Rattle.std.proofs.Common.{◌*◌}
 use Rattle.bihash_words.specs.Sizes.{sizes_of}
-use Rattle.bihash_table.specs.OpenReads.{HasRead, set_count}
+use Rattle.bihash_table.specs.inner.OpenReads.{HasRead, set_count}
 use Rattle.bihash_table.proofs.LookedAt.{Marked}
 use Rattle.bihash_table.proofs.reads.pair_in_page.Given as goal
 

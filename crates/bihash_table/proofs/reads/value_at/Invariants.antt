@@ -1,5 +1,5 @@
 use Rattle.bihash_words.specs.Sizes.{sizes_of}
-use Rattle.bihash_table.specs.OpenReads.{HasRead}
+use Rattle.bihash_table.specs.inner.OpenReads.{HasRead}
 use Rattle.bihash_table.proofs.PlaceReads.{SameTo}
 use Rattle.bihash_table.proofs.reads.value_at.Given as goal
 

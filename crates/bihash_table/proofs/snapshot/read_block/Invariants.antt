@@ -1,5 +1,5 @@
 use Rattle.std.proofs.Common.{◌≡◌, length}
-use Rattle.bihash_table.specs.OpenReads.{HasRead}
+use Rattle.bihash_table.specs.inner.OpenReads.{HasRead}
 use Rattle.bihash_table.proofs.Copies.{AreRead}
 use Rattle.bihash_table.proofs.snapshot.read_block.Given as goal
 

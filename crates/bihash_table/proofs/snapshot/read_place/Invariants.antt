@@ -1,6 +1,6 @@
 use Rattle.std.proofs.Common.{◌≡◌, length}
 use Rattle.bihash_words.specs.Sizes.{sizes_of}
-use Rattle.bihash_table.specs.OpenReads.{HasRead}
+use Rattle.bihash_table.specs.inner.OpenReads.{HasRead}
 use Rattle.bihash_table.proofs.Snapshots.{AreWords}
 use Rattle.bihash_table.proofs.snapshot.read_place.Given as goal
 

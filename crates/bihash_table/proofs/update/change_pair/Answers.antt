@@ -1,6 +1,6 @@
 use Rattle.std.proofs.Common.{Some, Ok, subst, sym}
 use Rattle.bihash_words.specs.declared.patch.Change.{Change}
-use Rattle.bihash_table.specs.Seen.{WantsChange}
+use Rattle.bihash_table.specs.inner.Seen.{WantsChange}
 use Rattle.bihash_table.specs.Tries.{Tried}
 use Rattle.bihash_table.proofs.Tries.{other_value, tried_locked, tried_not, under_lock}
 use Rattle.bihash_table.proofs.update.change_pair.Goals as goal

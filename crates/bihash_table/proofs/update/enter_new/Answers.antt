@@ -1,7 +1,7 @@
 use Rattle.std.proofs.Common.{None, Ok, Err, subst, sym}
 use Rattle.bihash_words.specs.Sizes.{sizes_of}
 use Rattle.bihash_words.specs.declared.patch.Change.{Change}
-use Rattle.bihash_table.specs.Seen.{WantsChange}
+use Rattle.bihash_table.specs.inner.Seen.{WantsChange}
 use Rattle.bihash_table.specs.Tries.{Tried}
 use Rattle.bihash_table.proofs.SameCallers.{own_through}
 use Rattle.bihash_table.proofs.Seeing.{may_read}

@@ -3,8 +3,8 @@ use Rattle.bihash_words.specs.Sizes.{sizes_of}
 use Rattle.bihash_words.specs.Maps.{effect_of}
 use Rattle.bihash_words.specs.declared.patch.Change.TheVariants.{Keep}
 use Rattle.bihash_steps.specs.Histories.{bounds_of}
-use Rattle.bihash_table.specs.OpenReads.{value_of}
-use Rattle.bihash_table.specs.Seen.{Found}
+use Rattle.bihash_table.specs.inner.OpenReads.{value_of}
+use Rattle.bihash_table.specs.inner.Seen.{Found}
 use Rattle.bihash_table.specs.Tries.{Tried}
 use Rattle.bihash_table.proofs.Decisions.{kept_step, worn_step}
 use Rattle.bihash_table.proofs.Sights.{seen_as}

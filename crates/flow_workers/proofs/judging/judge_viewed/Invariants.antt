@@ -1,8 +1,8 @@
 -- What the rules say of the packet.
-use Rattle.packet_view.specs.Frames.{viewed}
+use Rattle.packet_view.specs.Frames.{frame_facts}
 use Rattle.flow_filter.specs.Filters.{policy_in}
 use Rattle.flow_workers.proofs.JudgedPackets.{ruling_on}
 use Rattle.flow_workers.proofs.judging.judge_viewed.Given as goal
 
 abbrev pub ghosts-judge_as : goal.ghosts-judge_as
-ghosts-judge_as g a = record { ruling = ruling_on (policy_in a.filter.now) (viewed a.packet.now.frame.now) }
+ghosts-judge_as g a = record { ruling = ruling_on (policy_in a.filter.now) (frame_facts a.packet.now.frame.now) }

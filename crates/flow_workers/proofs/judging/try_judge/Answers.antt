@@ -1,35 +1,35 @@
 -- The packet is the one that was viewed, and the filter at hand is that of the call.
-use Rattle.packet_view.specs.Captures.{seen}
-use Rattle.packet_view.specs.Frames.{viewed}
+use Rattle.packet_view.specs.Captures.{packet_facts}
+use Rattle.packet_view.specs.Frames.{frame_facts}
 use Rattle.flow_filter.specs.Filters.{policy_in}
-use Rattle.flow_workers.specs.Verdicts.{HasNoVerdict, HasVerdict, ShowsShortage}
+use Rattle.flow_workers.specs.Verdicts.{HasNoVerdict, HasVerdict, ShowsOutOfPages}
 use Rattle.flow_workers.proofs.AnsweredUpdates.{if_err, if_ok}
 use Rattle.flow_workers.proofs.JudgedPackets.{is_ruling, of_filter}
 use Rattle.flow_workers.proofs.judging.try_judge.Goals as goal
 
 pub try_judge_as-requires-clause-ruling : goal.try_judge_as-requires-clause-ruling
-try_judge_as-requires-clause-ruling g c = is_ruling (policy_in c.ready-filter.result) (viewed c.new-packet.result.frame.now)
+try_judge_as-requires-clause-ruling g c = is_ruling (policy_in c.ready-filter.result) (frame_facts c.new-packet.result.frame.now)
 
 pub returns-clause-judged : goal.returns-clause-judged
 returns-clause-judged g c =
     if_ok _ _ c.try_judge_as.result
-    (λ verdict judged. of_filter (λ times policy. HasVerdict g.A.Shape g.B.Shape times policy (seen c.args.packet.now) c.args.callers.now
+    (λ verdict judged. of_filter (λ times policy. HasVerdict g.A.Shape g.B.Shape times policy (packet_facts c.args.packet.now) c.args.callers.now
     c.try_judge_as.new.callers verdict) c.ready-filter.ensures.times c.ready-filter.ensures.policy
-    (judged (seen c.args.packet.now) (c.new-packet.ensures.seen _ c.view-frame.ensures.shown)))
+    (judged (packet_facts c.args.packet.now) (c.new-packet.ensures.seen _ c.view-frame.ensures.shown)))
     c.try_judge_as.ensures.judged
 
 pub returns-clause-no_pages : goal.returns-clause-no_pages
 returns-clause-no_pages g c =
     if_ok _ _ c.try_judge_as.result
-    (λ verdict short. of_filter (λ times policy. ShowsShortage g.A.Shape g.B.Shape policy (seen c.args.packet.now) c.try_judge_as.new.callers verdict)
+    (λ verdict short. of_filter (λ times policy. ShowsOutOfPages g.A.Shape g.B.Shape policy (packet_facts c.args.packet.now) c.try_judge_as.new.callers verdict)
     c.ready-filter.ensures.times c.ready-filter.ensures.policy
-    (short (seen c.args.packet.now) (c.new-packet.ensures.seen _ c.view-frame.ensures.shown)))
+    (short (packet_facts c.args.packet.now) (c.new-packet.ensures.seen _ c.view-frame.ensures.shown)))
     c.try_judge_as.ensures.no_pages
 
 pub returns-clause-refused : goal.returns-clause-refused
 returns-clause-refused g c =
     if_err _ _ c.try_judge_as.result
-    (λ contended refused. of_filter (λ times policy. HasNoVerdict g.A.Shape g.B.Shape times policy (seen c.args.packet.now) c.args.callers.now
+    (λ contended refused. of_filter (λ times policy. HasNoVerdict g.A.Shape g.B.Shape times policy (packet_facts c.args.packet.now) c.args.callers.now
     c.try_judge_as.new.callers) c.ready-filter.ensures.times c.ready-filter.ensures.policy
-    (refused (seen c.args.packet.now) (c.new-packet.ensures.seen _ c.view-frame.ensures.shown)))
+    (refused (packet_facts c.args.packet.now) (c.new-packet.ensures.seen _ c.view-frame.ensures.shown)))
     c.try_judge_as.ensures.refused

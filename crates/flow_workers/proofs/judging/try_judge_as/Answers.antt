@@ -1,6 +1,6 @@
 -- The cases of a packet that was prepared.
 use Rattle.std.proofs.Common.{◌∙◌, sym}
-use Rattle.packet_view.specs.Frames.{viewed}
+use Rattle.packet_view.specs.Frames.{frame_facts}
 use Rattle.bihash_words.specs.Maps.{found_by}
 use Rattle.flow_workers.proofs.JudgedPackets.{answered, refused, settled}
 use Rattle.flow_workers.proofs.ShortPackets.{settled_has_pages, short_packet}
@@ -22,7 +22,7 @@ returns-in-Err-clause-refused g c s seen =
 
 pub returns-in-Settled-clause-no_pages : goal.returns-in-Settled-clause-no_pages
 returns-in-Settled-clause-no_pages g c s seen said =
-    absurd (settled_has_pages c.args.filter.now.times c.args.packet.now.moment (viewed c.args.packet.now.frame.now) g.D.HasRuling.ruling _ c.in-Settled.ensures said)
+    absurd (settled_has_pages c.args.filter.now.times c.args.packet.now.moment (frame_facts c.args.packet.now.frame.now) g.D.HasRuling.ruling _ c.in-Settled.ensures said)
 
 pub returns-in-Ok-clause-no_pages : goal.returns-in-Ok-clause-no_pages
 returns-in-Ok-clause-no_pages g c s seen said =

@@ -1,6 +1,6 @@
 use Rattle.std.proofs.Common.{◌≡◌}
 use Rattle.bihash_steps.specs.Views.{nothing_held}
-use Rattle.flow_workers.specs.Fresh.{IsFresh}
+use Rattle.flow_workers.specs.inner.Fresh.{IsFresh}
 use Rattle.flow_workers.proofs.numbers.split_one.Given as goal
 
 abbrev pub invariant-loop : goal.invariant-loop

@@ -1,4 +1,4 @@
-use Rattle.flow_workers.specs.Turns.{ArePartsOf}
+use Rattle.flow_workers.specs.inner.Turns.{ArePartsOf}
 use Rattle.flow_workers.proofs.parts.parts_of.Given as goal
 
 abbrev pub invariant-loop-turn : goal.invariant-loop-turn

@@ -3,7 +3,7 @@ use Rattle.std.proofs.lemmas.Bool.Decides.{eqb_tells}
 use lib.ListN.{get_elem?}
 use mathlib.Core.Option.{some, some-injective}
 use Rattle.bihash_steps.proofs.Lists.{within}
-use Rattle.flow_workers.specs.Placing.{IsSaid}
+use Rattle.flow_workers.specs.inner.Placing.{IsSaid}
 use Rattle.flow_workers.proofs.PlacingLemmas.{at_or}
 use Rattle.flow_workers.proofs.placing.place_all.Goals as goal
 

@@ -2,7 +2,7 @@ use Rattle.std.proofs.Common.{◌≡◌, ◌<◌, ℕ, length}
 use lib.ListN.{get_elem?}
 use mathlib.Core.Option.{some}
 use Rattle.flow_filter.specs.declared.verdict.Verdict.{Verdict}
-use Rattle.flow_workers.specs.Placing.{AgreesWith, IsSaid}
+use Rattle.flow_workers.specs.inner.Placing.{AgreesWith, IsSaid}
 use Rattle.flow_workers.proofs.placing.place_all.Given as goal
 
 abbrev pub invariant-loop-said : goal.invariant-loop-said

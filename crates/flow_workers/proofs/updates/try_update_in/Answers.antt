@@ -1,7 +1,7 @@
 -- The update is one of the key of these words, and its reply tells what it found.
 use Rattle.std.proofs.Common.{◌≡◌, ◌∙◌, IfErr, ap, subst}
 use Rattle.bihash_words.specs.Sizes.{bucket_of, sizes_of}
-use Rattle.bihash_table.specs.Promise.{IsTurnedAway}
+use Rattle.bihash_table.specs.Promise.{IsContended}
 use Rattle.flow_workers.proofs.AnsweredUpdates.{as_told, if_ok, short_at}
 use Rattle.flow_workers.proofs.updates.try_update_in.Goals as goal
 
@@ -16,7 +16,7 @@ pub returns-clause-contended : goal.returns-clause-contended
 returns-clause-contended g c =
     let key : g.S.Shape.words_of c.key.result ≡ c.args.words.now
     = ap g.S.Shape.words_of c.key.ensures ∙ g.met.S.Shape.words_of_key c.args.words.now c.requires.counted in
-    subst (λ words. IfErr c.try_update.result (λ _. IsTurnedAway (sizes_of g.S.Shape) c.args.caller.now.seat.view c.try_update.new.caller.seat.view
+    subst (λ words. IfErr c.try_update.result (λ _. IsContended (sizes_of g.S.Shape) c.args.caller.now.seat.view c.try_update.new.caller.seat.view
     (bucket_of (sizes_of g.S.Shape) words))) key c.try_update.ensures.contended
 
 pub returns-clause-no_pages : goal.returns-clause-no_pages

@@ -1,10 +1,10 @@
 use Rattle.std.proofs.Common.{◌≡◌, ◌∙◌, ◌+◌, ◌≢◌, ℕ, [], ap, sym, subst, length, arith, refl}
 use Rattle.std.proofs.lemmas.Bool.{ne_eqb}
-use Rattle.packet_view.specs.Captures.{seen}
-use Rattle.packet_view.specs.Frames.{viewed}
+use Rattle.packet_view.specs.Captures.{packet_facts}
+use Rattle.packet_view.specs.Frames.{frame_facts}
 use Rattle.flow_dealing.specs.Dealings.{worker_of}
 use Rattle.packet_view.specs.CheckedCaptures.{held}
-use Rattle.flow_workers.specs.Jobs.{run_facts}
+use Rattle.flow_workers.specs.inner.Jobs.{run_facts}
 use Rattle.flow_workers.proofs.WorkSteps.{IsAt, left_behind, stands_at, taken_inside, whole_work, work_none, work_passed, work_push}
 use Rattle.flow_workers.proofs.work.work.Goals as goal
 
@@ -27,7 +27,7 @@ packets-preserved-then-dealt_to-worker g c =
     record {
       idle = c.packets.invariant.idle;
       left = left_behind _ _ c.packets.taken _ taken;
-      done = work_passed _ _ _ _ _ _ _ _ (viewed c.view-frame.result)
+      done = work_passed _ _ _ _ _ _ _ _ (frame_facts c.view-frame.result)
           (record { stands = stands_at _ _ c.packets.taken _ taken; shown = c.view-frame.ensures.shown; only = c.view-frame.ensures.only })
           (λ same. c.if-dealt_to-worker.true (c.dealt_to.ensures ∙ (ap (worker_of (run_facts g.A.Shape g.B.Shape c.args.job.run).deal c.packets.taken) c.flow_in-flow.ensures.shown ∙ same))) c.packets.invariant.done;
     }
@@ -39,9 +39,9 @@ packets-preserved g c =
       idle = c.judge_viewed-verdict.ensures.idle;
       left = left_behind _ _ c.packets.taken _ taken;
       done = rw c.in_ok-say.ensures.verdicts
-          (work_push _ _ _ _ _ _ _ _ _ _ (viewed c.view-frame.result) _
+          (work_push _ _ _ _ _ _ _ _ _ _ (frame_facts c.view-frame.result) _
           (record { stands = stands_at _ _ c.packets.taken _ taken; shown = c.view-frame.ensures.shown; only = c.view-frame.ensures.only })
-          (sym (c.dealt_to.ensures ∙ ap (worker_of (run_facts g.A.Shape g.B.Shape c.args.job.run).deal c.packets.taken) c.flow_in-flow.ensures.shown) ∙ c.if-dealt_to-worker.false) (c.judge_viewed-verdict.ensures.judged _ (c.new-viewed.ensures.seen _ c.view-frame.ensures.shown))
+          (sym (c.dealt_to.ensures ∙ ap (worker_of (run_facts g.A.Shape g.B.Shape c.args.job.run).deal c.packets.taken) c.flow_in-flow.ensures.shown) ∙ c.if-dealt_to-worker.false) (c.judge_viewed-verdict.ensures.judged _ (c.new-frame_facts.ensures.seen _ c.view-frame.ensures.shown))
           (λ several. c.in_ok-say.ensures.numbers (ne_eqb _ _ several)) c.packets.invariant.done);
     }
 

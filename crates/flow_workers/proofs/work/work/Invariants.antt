@@ -1,7 +1,7 @@
 use Rattle.std.proofs.Common.{◌≡◌, drop, length}
 use Rattle.packet_view.specs.CheckedCaptures.{held}
 use Rattle.flow_workers.specs.Callers.{AreIdle, views_of}
-use Rattle.flow_workers.specs.Jobs.{run_facts}
+use Rattle.flow_workers.specs.inner.Jobs.{run_facts}
 use Rattle.flow_workers.proofs.WorkSteps.{IsWorkUntil}
 use Rattle.flow_workers.proofs.work.work.Given as goal
 

@@ -1,7 +1,7 @@
 use Rattle.std.proofs.Common.{◌≡◌, ◌∙◌, ◌<◌, ℕ, ap, length, refl, sym, subst, arith}
 use Rattle.std.specs.Prelude.{slice_index_or}
-use Rattle.flow_workers.specs.Jobs.{run_facts}
-use Rattle.flow_workers.specs.Turns.{CanTake, IsAhead}
+use Rattle.flow_workers.specs.inner.Jobs.{run_facts}
+use Rattle.flow_workers.specs.inner.Turns.{CanTake, IsAhead}
 use Rattle.flow_workers.proofs.TurnLemmas.{all_each, below_push, may_turn, push_count}
 use Rattle.flow_workers.proofs.workers.turns_ahead.Goals as goal
 

@@ -1,9 +1,9 @@
 use Rattle.std.proofs.Common.{◌≡◌, ◌<◌, ℕ, length}
 use Rattle.std.specs.Prelude.{slice_index_or}
 use Rattle.flow_workers.specs.Callers.{AreIdle}
-use Rattle.flow_workers.specs.Fresh.{IsFresh}
-use Rattle.flow_workers.specs.Jobs.{run_facts}
-use Rattle.flow_workers.specs.Turns.{IsAhead}
+use Rattle.flow_workers.specs.inner.Fresh.{IsFresh}
+use Rattle.flow_workers.specs.inner.Jobs.{run_facts}
+use Rattle.flow_workers.specs.inner.Turns.{IsAhead}
 use Rattle.flow_workers.proofs.workers.turns_ahead.Given as goal
 
 abbrev pub invariant-loop-worker : goal.invariant-loop-worker

@@ -1,5 +1,5 @@
 use Rattle.std.proofs.Common.{◌∙◌, arith, get_or}
-use Rattle.flow_workers.specs.Jobs.{run_facts}
+use Rattle.flow_workers.specs.inner.Jobs.{run_facts}
 use Rattle.flow_workers.proofs.PartLemmas.{over_past, parts_are}
 use Rattle.flow_workers.proofs.TurnLemmas.{if_ok, turned}
 use Rattle.flow_workers.proofs.workers.work_all.Goals as goal

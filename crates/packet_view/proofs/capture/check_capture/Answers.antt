@@ -1,6 +1,6 @@
 use Rattle.std.proofs.Common.{ℕ, List, drop, subst}
 use Rattle.std.proofs.lemmas.List.{take_rest}
-use Rattle.packet_view.specs.RecordSteps.{Checks}
+use Rattle.packet_view.specs.inner.RecordSteps.{Checks}
 use Rattle.packet_view.proofs.CaptureLemmas.{IsHeaderOf, checks_ok, checks_fault, checks_accepts, checks_refuses}
 use Rattle.packet_view.proofs.capture.check_capture.Goals as goal
 use Rattle.packet_view.proofs.capture.check_capture.Goals.{After-check_records}

@@ -1,5 +1,5 @@
 use Rattle.std.proofs.Common.{◌≡◌, ◌∙◌, ◌≤◌, ◌++◌, ◌∷◌, [], ◌+◌, List, ap, arith, length, refl, subst, sym, length-append}
-use Rattle.packet_view.specs.Captures.{AreRecords, IsEnd, Seen, end_of}
+use Rattle.packet_view.specs.Captures.{AreRecords, IsEnd, PacketFacts, end_of}
 use Rattle.packet_view.specs.RecordLists.{packets_in, bytes_of}
 use Rattle.packet_view.proofs.RecordLemmas.{AreRecords-push}
 use Rattle.packet_view.proofs.RecordListLemmas.{records_few, records_listed, records_within}
@@ -18,7 +18,7 @@ overflow_add-count c =
 pub records-preserved : goal.records-preserved
 records-preserved c =
     let (packets, all, count) = c.records.invariant in
-    let packet : Seen = record { moment = c.in-Whole.moment; frame = c.in-Whole.frame.now } in
+    let packet : PacketFacts = record { moment = c.in-Whole.moment; frame = c.in-Whole.frame.now } in
     let pushed = length-append packets (packet ∷ []) in (
       packets ++ packet ∷ [],
       AreRecords-push c.args.order packet c.in-Whole.behind.now c.args.bytes.now packets c.records.rest.now all c.in-Whole.ensures.shown,
@@ -49,7 +49,7 @@ returns-in-records c =
     let listed = records_listed c.args.order c.args.bytes.now packets c.records.rest.now all in
     let same : packets ≡ packets_in c.args.order c.records.count c.args.bytes.now = listed.0 ∙ ap (λ n. packets_in c.args.order n c.args.bytes.now) count in (
       c.records.rest.now,
-      subst (λ (ps : List Seen). AreRecords c.args.order c.args.bytes.now ps c.records.rest.now) same all,
+      subst (λ (ps : List PacketFacts). AreRecords c.args.order c.args.bytes.now ps c.records.rest.now) same all,
       elim c.match-next_record.branch [
         | in-End w ↦ subst (λ t. IsEnd c.args.order c.records.rest.now (end_of t)) (sym w.truncated-is) w.in-End.ensures.shown
         | in-Truncated w ↦ subst (λ t. IsEnd c.args.order c.records.rest.now (end_of t)) (sym w.truncated-is) w.in-Truncated.ensures.shown

@@ -1,5 +1,5 @@
 use Rattle.std.proofs.Common.{◌≡◌, ◌-◌}
-use Rattle.packet_view.specs.FrameSteps.{walk}
+use Rattle.packet_view.specs.inner.FrameSteps.{walk}
 use Rattle.packet_view.proofs.ipv6.upper.Given as goal
 
 -- what is left of the walk is the walk

@@ -1,5 +1,5 @@
 use Rattle.std.proofs.Common.{◌∙◌, sym}
-use Rattle.packet_view.specs.FrameSteps.{view_of}
+use Rattle.packet_view.specs.inner.FrameSteps.{view_of}
 use Rattle.packet_view.proofs.FrameLemmas.{view_only, view_shown}
 use Rattle.packet_view.proofs.laws.each_frame_has_one_view.Goals as goal
 

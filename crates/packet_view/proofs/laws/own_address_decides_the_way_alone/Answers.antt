@@ -1,4 +1,4 @@
-use Rattle.packet_view.specs.FrameSteps.{direction_of}
+use Rattle.packet_view.specs.inner.FrameSteps.{direction_of}
 use Rattle.packet_view.proofs.FrameLemmas.{goes_of}
 use Rattle.packet_view.proofs.laws.own_address_decides_the_way_alone.Goals as goal
 

@@ -1,6 +1,6 @@
 use Rattle.std.proofs.Common.{subst, sym}
 use Rattle.std.specs.Prelude.{IfNone}
-use Rattle.racl_io.specs.Inputs.{Parts, IsInput}
+use Rattle.racl_io.specs.Inputs.{InputFacts, IsInput}
 use Rattle.racl_io.proofs.InputLemmas.{front_grows, no_input}
 use Rattle.racl_io.proofs.input.parts.Goals as goal
 
@@ -9,4 +9,4 @@ lines-preserved c = front_grows _ _ _ _ c.lines.invariant c.in-Some.ensures.some
 
 pub returns-in_err-form-clause-none : goal.returns-in_err-form-clause-none
 returns-in_err-form-clause-none c =
-    subst (λ r. IfNone r ((parts : Parts) → IsInput c.args.bytes.now parts → ⊥)) (sym c.from_residual.ensures) (no_input _ _ c.lines.invariant c.in_default.ensures.none c.in_err-form.ensures.none)
+    subst (λ r. IfNone r ((parts : InputFacts) → IsInput c.args.bytes.now parts → ⊥)) (sym c.from_residual.ensures) (no_input _ _ c.lines.invariant c.in_default.ensures.none c.in_err-form.ensures.none)

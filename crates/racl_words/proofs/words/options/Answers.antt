@@ -1,6 +1,6 @@
 use Rattle.std.proofs.Common.{rules}
 use Rattle.std.specs.Prelude.{Ok}
-use Rattle.racl_words.specs.Settings.{facts_of}
+use Rattle.racl_words.specs.Options.{facts_of}
 use Rattle.racl_words.proofs.CommandLemmas.{fails_by_fault, numbers_held, one_setting, same_options}
 use Rattle.racl_words.proofs.SettingLemmas.{written_asks}
 use Rattle.racl_words.proofs.words.options.Goals as goal

@@ -1,5 +1,5 @@
 use Rattle.std.proofs.Common.{arith}
-use Rattle.racl_words.specs.Command.{Workers, Established, Transient, Udp, most_of, most_seconds}
+use Rattle.racl_words.specs.CommandLine.{Workers, Established, Transient, Udp, most_of, most_seconds}
 use Rattle.racl_words.proofs.NumberLemmas.{held_below}
 use Rattle.racl_words.proofs.words.read_options.Goals as goal
 

@@ -1,6 +1,6 @@
 use Rattle.std.proofs.Common.{arith, ◌<◌, map, length}
 use Rattle.std.proofs.lemmas.Option.{slice_get_within}
-use Rattle.packet_view.specs.Tuples.{facts}
+use Rattle.packet_view.specs.Tuples.{tuple_facts}
 use Rattle.acl_policy.specs.Rules.{rule_facts}
 use Rattle.rule_index.proofs.sieve.first_of.Goals as goal
 
@@ -17,7 +17,7 @@ word_of-requires c =
     }
 
 pub first_in-requires-clause-kept : goal.first_in-requires-clause-kept
-first_in-requires-clause-kept c = c.word_of.ensures (map rule_facts c.args.rules.now) (facts c.args.tuple.now) c.requires
+first_in-requires-clause-kept c = c.word_of.ensures (map rule_facts c.args.rules.now) (tuple_facts c.args.tuple.now) c.requires
 
 pub returns : goal.returns
 returns c = λ k other read matches.

@@ -2,7 +2,7 @@ use Rattle.std.proofs.Common.{refl, arith, ◌≡◌, ◌<◌, true, Some, subst
 use Rattle.std.specs.Prelude.{slice_get}
 use Rattle.std.proofs.lemmas.List.{length-map}
 use Rattle.std.proofs.lemmas.Option.{slice_get_read, slice_get_within}
-use Rattle.packet_view.specs.Tuples.{facts}
+use Rattle.packet_view.specs.Tuples.{tuple_facts}
 use Rattle.acl_policy.specs.Matching.{Matches}
 use Rattle.acl_policy.specs.Rules.{RuleFacts, rule_facts}
 use Rattle.acl_policy.proofs.DecisionLemmas.{slice_get-rule_facts}
@@ -20,7 +20,7 @@ returns c = λ other read matches.
     let rule = c.index-rules-place.result in
     let here : slice_get (map rule_facts c.args.rules.now) c.args.place ≡ Some (rule_facts rule) = slice_get-rule_facts c.args.rules.now c.args.place rule (slice_get_read c.args.rules.now (length c.args.rules.now) c.args.place rule refl (omega arith) c.index-rules-place.is) in
     let same : other ≡ rule_facts rule = same_some other (rule_facts rule) (sym read ∙ here) in
-    let yes : c.is_match.result ≡ true = c.is_match.ensures.1 (subst (λ (r : RuleFacts). Matches r (facts c.args.tuple.now)) same matches) in
+    let yes : c.is_match.result ≡ true = c.is_match.ensures.1 (subst (λ (r : RuleFacts). Matches r (tuple_facts c.args.tuple.now)) same matches) in
     cc
 
 pub returns-then-rules-place : goal.returns-then-rules-place

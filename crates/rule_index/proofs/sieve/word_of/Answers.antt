@@ -1,5 +1,5 @@
 use Rattle.std.proofs.Common.{get_or, ◌*◌, subst, ℕ}
-use Rattle.rule_index.specs.Sieves.{KeepsMatches}
+use Rattle.rule_index.specs.inner.Sieves.{KeepsMatches}
 use Rattle.rule_index.proofs.SieveLemmas.{keeps_both, keeps_row}
 use Rattle.rule_index.proofs.sieve.word_of.Goals as goal
 

@@ -10,10 +10,10 @@ use Rattle.bihash_steps.specs.Words.{block_words, place_words}
 use Rattle.bihash_steps.specs.Histories.{IsKeyOf, after}
 use Rattle.bihash_steps.specs.Callers.{known_at, opening_at}
 use Rattle.bihash_steps.specs.Blocks.{IsBlockOf, free, places}
-use Rattle.bihash_steps.specs.Buckets.{Reads, word_of}
+use Rattle.bihash_steps.specs.Buckets.{AreReadIn, word_of}
 use Rattle.bihash_steps.specs.Seats.{CallerState}
 use Rattle.bihash_steps.specs.BucketCalls.{event}
-use Rattle.bihash_steps.specs.BucketSteps.{IsOpenWord, MayValidate, SeesOpen, call_of, map_now, open_on, read_more, reading}
+use Rattle.bihash_steps.specs.BucketSteps.{IsOpenWord, MayValidate, SeesOpen, call_of, map_now, open_on, read_more, with_reading}
 use Rattle.bihash_steps.specs.declared.view.Known.{Known}
 use Rattle.bihash_steps.specs.declared.view.View.{View}
 use Rattle.bihash_steps.proofs.Informed.{known_learned}
@@ -23,14 +23,14 @@ use Rattle.bihash_laws.proofs.tests.open_reads.read_across_a_moved_page.Goals as
 
 -- the bucket was seen open, and its block begins at page 1
 module _ (z : Sizes) (v u : View) (b word : ℕ) (s : SeesOpen z v b word u) (first_page : s.extent.page ≡ 1) where
-  -- what is noted behind these reads
+  -- what is noted after these reads
   abbrev Noted : View → List (ℕ × ℕ) → Type 0
   Noted w reads = w.notes.open_bucket ≡ Some (record (open_on b (length s.history) s.extent s.block) { reads = reads })
 
   noted_first : Noted u []
   noted_first = ap (λ (x : View). x.notes.open_bucket) s.is
 
-  noted_next : (w x : View) (k n : ℕ) (reads : List (ℕ × ℕ)) → Noted w reads → x ≡ reading w ((k, n) ∷ []) → Noted x ((k, n) ∷ reads)
+  noted_next : (w x : View) (k n : ℕ) (reads : List (ℕ × ℕ)) → Noted w reads → x ≡ with_reading w ((k, n) ∷ []) → Noted x ((k, n) ∷ reads)
   noted_next w x k n reads noted is = ap (λ (y : View). y.notes.open_bucket) is ∙ ap (read_more ((k, n) ∷ [])) noted
 
   -- the history and the map are those that were seen
@@ -64,13 +64,13 @@ module _ (z : Sizes) (v u : View) (b word : ℕ) (s : SeesOpen z v b word u) (fi
     abbrev key : List ℕ
     key = 0 ∷ 0 ∷ []
 
-    same_word : Reads reads s.block → (j : ℕ) → j < 2 → slice_index s.block j ≡ slice_index key j
+    same_word : AreReadIn reads s.block → (j : ℕ) → j < 2 → slice_index s.block j ≡ slice_index key j
     same_word read zero below = sym (read 2 (0, low) refl) ∙ low_is
     same_word read (suc zero) below = sym (read 1 (1, high) refl) ∙ high_is
     same_word read (suc (suc j)) below = absurd (omega arith)
 
     -- the value is that of the map's pair
-    told : Reads reads s.block → (m : Pairs) → IsBlockOf z s.extent s.block m → Some value ≡ get m key
+    told : AreReadIn reads s.block → (m : Pairs) → IsBlockOf z s.extent s.block m → Some value ≡ get m key
     told read m ok =
         let at : 0 * place_words z + z.key_words ≡ 2 = omega arith in
         let here : value ≡ slice_index s.block (0 * place_words z + z.key_words) = read 0 (2, value) refl

@@ -1,6 +1,6 @@
 use Rattle.std.proofs.Common.{rules, refl, [], ◌∷◌}
 use Rattle.bihash_words.specs.Sizes.{sizes_of}
-use Rattle.bihash_steps.specs.BucketSteps.{IsOpenWord, reading}
+use Rattle.bihash_steps.specs.BucketSteps.{IsOpenWord, with_reading}
 use Rattle.bihash_steps.proofs.Addresses.{loads_open_at}
 use Rattle.bihash_steps.proofs.Runs.{word_of_block}
 use Rattle.bihash_steps.proofs.SeatCounts.{counted_next, state_next, of_seat}
@@ -20,11 +20,11 @@ load-requires g c = (
 pub invariant_of-caller : goal.invariant_of-caller
 invariant_of-caller g c =
     let word = of_seat (λ v. IsOpenWord (sizes_of g.S.Shape) v c.args.page c.args.k) c.caller.view_is c.requires.word in
-    counted_next (λ v. reading v ((c.args.k, c.load.result) ∷ [])) c.caller.inside.seat.me _ _ _
+    counted_next (λ v. with_reading v ((c.args.k, c.load.result) ∷ [])) c.caller.inside.seat.me _ _ _
     (c.load.ensures.2 _ _ word c.page_at.ensures.place) refl c.caller.invariant
 
 pub returns : goal.returns
 returns g c =
     let word = of_seat (λ v. IsOpenWord (sizes_of g.S.Shape) v c.args.page c.args.k) c.caller.view_is c.requires.word in
-    state_next (λ v. reading v ((c.args.k, c.load.result) ∷ [])) _ _ _ _ c.caller.inside.seat.me _ c.args.caller.now c.load.ensures.0
+    state_next (λ v. with_reading v ((c.args.k, c.load.result) ∷ [])) _ _ _ _ c.caller.inside.seat.me _ c.args.caller.now c.load.ensures.0
     c.load.ensures.1 (c.load.ensures.2 _ _ word c.page_at.ensures.place) c.caller.view_is

@@ -1,6 +1,6 @@
 use Rattle.std.proofs.Common.{rules, refl, arith, ◌∙◌}
 use Rattle.bihash_words.specs.Sizes.{sizes_of}
-use Rattle.bihash_steps.specs.BucketSteps.{MayPublish, written}
+use Rattle.bihash_steps.specs.BucketSteps.{MayPublish, view_after_write}
 use Rattle.bihash_steps.proofs.Addresses.{publishes_at}
 use Rattle.bihash_steps.proofs.bucket_steps.NextWords.{next_is, version_rises, counted_write}
 use Rattle.bihash_steps.proofs.SeatCounts.{can_act, of_seat}
@@ -37,5 +37,5 @@ pub invariant_of-caller : goal.invariant_of-caller
 invariant_of-caller g c =
     let may = of_seat (λ v. MayPublish (sizes_of g.S.Shape) v c.args.bucket c.args.word g.E.Calling.call) c.caller.view_is
     c.requires.may in
-    counted_write (sizes_of g.S.Shape) (λ v. written v g.E.Calling.call) c.caller.inside.seat.me _ _ _ _ _ _ _ may.write c.version.ensures
+    counted_write (sizes_of g.S.Shape) (λ v. view_after_write v g.E.Calling.call) c.caller.inside.seat.me _ _ _ _ _ _ _ may.write c.version.ensures
     c.store.ensures.2 refl c.caller.invariant

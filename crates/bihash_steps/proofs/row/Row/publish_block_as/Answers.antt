@@ -2,7 +2,7 @@ use Rattle.std.proofs.Common.{rules, false, arith, refl}
 use Rattle.std.proofs.lemmas.Nat.{pow_pos}
 use Rattle.bihash_words.specs.Sizes.{sizes_of}
 use Rattle.bihash_steps.specs.Buckets.{word_of}
-use Rattle.bihash_steps.specs.StoreSteps.{MayReplace, replaced}
+use Rattle.bihash_steps.specs.StoreSteps.{MayReplace, view_after_replace}
 use Rattle.bihash_steps.proofs.Addresses.{replaces_at}
 use Rattle.bihash_steps.proofs.bucket_steps.NextWords.{version_rises, counted_write}
 use Rattle.bihash_steps.proofs.SeatCounts.{can_act, of_seat}
@@ -38,5 +38,5 @@ pub invariant_of-caller : goal.invariant_of-caller
 invariant_of-caller g c =
     let may = of_seat (λ v. MayReplace (sizes_of g.S.Shape) v c.args.bucket c.args.word c.args.extent g.E.Calling.call) c.caller.view_is
     c.requires.may in
-    counted_write (sizes_of g.S.Shape) (λ v. replaced v g.E.Calling.call) c.caller.inside.seat.me _ _ _ _ _ _ _ may.write c.version.ensures
+    counted_write (sizes_of g.S.Shape) (λ v. view_after_replace v g.E.Calling.call) c.caller.inside.seat.me _ _ _ _ _ _ _ may.write c.version.ensures
     c.store.ensures.2 refl c.caller.invariant

@@ -3,12 +3,12 @@ use Rattle.bihash_words.specs.Sizes.{sizes_of}
 use Rattle.bihash_steps.specs.Words.{buckets}
 use Rattle.bihash_steps.specs.Callers.{HasNumbers}
 use Rattle.bihash_steps.specs.Seats.{CallerState, with_view}
-use Rattle.bihash_steps.specs.Steps.{HaveBearers, IsToldWhole, counted}
+use Rattle.bihash_steps.specs.Steps.{HaveBearers, IsToldWhole, view_after_count}
 use Rattle.bihash_steps.specs.declared.view.Known.{Known}
 use Rattle.bihash_steps.specs.declared.view.View.{View}
 use Rattle.bihash_steps.proofs.Numbers.{few_numbers}
 use Rattle.bihash_table.specs.Answers.{with_locks}
-use Rattle.bihash_table.specs.PairLists.{ListsBuckets}
+use Rattle.bihash_table.specs.inner.PairLists.{ListsBuckets}
 use Rattle.bihash_table.proofs.PairListLemmas.{sorted_pairs}
 use Rattle.bihash_table.proofs.TakenLocks.{took_bearers, took_told}
 use Rattle.bihash_table.proofs.sessions.Sessions.close.Goals as goal
@@ -17,7 +17,7 @@ pub returns-then-load_count-numbers-clause-refused : goal.returns-then-load_coun
 returns-then-load_count-numbers-clause-refused g c =
     let v = c.args.caller.seat.view in
     let count = c.load_count.result in
-    let is : c.load_count.new.caller.view ≡ counted v count = ap (λ (s : CallerState). s.view) c.load_count.ensures.view in
+    let is : c.load_count.new.caller.view ≡ view_after_count v count = ap (λ (s : CallerState). s.view) c.load_count.ensures.view in
     let numbers = subst (λ (u : View). HasNumbers u.seen u.records) is c.load_count.ensures.lawful.numbers in
     let few = few_numbers count v.records numbers in
     let own = c.numbers.ensures.count ∙ ap (λ (u : View). length u.records) is in
@@ -32,13 +32,13 @@ returns-in-Err-clause-refused g c =
     let z = sizes_of g.S.Shape in
     let v = c.args.caller.seat.view in
     let count = c.load_count.result in
-    let is : c.load_count.new.caller.view ≡ counted v count = ap (λ (s : CallerState). s.view) c.load_count.ensures.view in
+    let is : c.load_count.new.caller.view ≡ view_after_count v count = ap (λ (s : CallerState). s.view) c.load_count.ensures.view in
     let all : count ≡ length v.records = c.if-load_count-numbers.false ∙ (c.numbers.ensures.count ∙ ap (λ (u : View). length u.records) is) in
     let lone : c.load_count.new.caller.view.lone ≡ true = ap (λ (u : View). u.lone) is ∙ eq-eqb count (length v.records) all in
-    let t = c.read_all.ensures.took in
+    let t = c.read_all.ensures.behind.took in
     let w = c.read_all.new.seat.view in (
       refl,
-      c.read_all.ensures.same ∙ ap (λ (s : CallerState). with_view s w) c.load_count.ensures.view,
+      c.read_all.ensures.behind.same ∙ ap (λ (s : CallerState). with_view s w) c.load_count.ensures.view,
       (
         count,
         t.locks,
@@ -55,7 +55,7 @@ returns-in-Ok-clause-whole g c =
     let z = sizes_of g.S.Shape in
     let v = c.args.caller.seat.view in
     let count = c.load_count.result in
-    let is : c.load_count.new.caller.view ≡ counted v count = ap (λ (s : CallerState). s.view) c.load_count.ensures.view in
+    let is : c.load_count.new.caller.view ≡ view_after_count v count = ap (λ (s : CallerState). s.view) c.load_count.ensures.view in
     let all : count ≡ length v.records = c.if-load_count-numbers.false ∙ (c.numbers.ensures.count ∙ ap (λ (u : View). length u.records) is) in
     let lone : c.load_count.new.caller.view.lone ≡ true = ap (λ (u : View). u.lone) is ∙ eq-eqb count (length v.records) all in record {
       count = count;

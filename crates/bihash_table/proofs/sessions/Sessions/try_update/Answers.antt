@@ -2,7 +2,7 @@ use Rattle.std.proofs.Common.{◌∙◌, ap, subst, sym}
 use Rattle.bihash_words.specs.Sizes.{sizes_of}
 use Rattle.bihash_table.specs.Answers.{locks_of}
 use Rattle.bihash_table.specs.Tries.{Tried}
-use Rattle.bihash_table.specs.OpenReads.{value_of}
+use Rattle.bihash_table.specs.inner.OpenReads.{value_of}
 use Rattle.bihash_table.proofs.SameCallers.{own_through, same_through}
 use Rattle.bihash_table.proofs.Seeing.{may_read}
 use Rattle.bihash_table.proofs.Sights.{seen_ahead, seen_first, seen_records}

@@ -1,6 +1,6 @@
 use Rattle.std.proofs.Common.{ℕ, List, map, subst}
 use Rattle.std.proofs.lemmas.Result.{IfOk-weaker}
-use Rattle.rule_index.specs.Columns.{Holds}
+use Rattle.rule_index.specs.inner.Columns.{Holds}
 use Rattle.acl_policy.specs.Rules.{rule_facts}
 use Rattle.rule_index.proofs.ColumnLemmas.{sieves_from}
 use Rattle.rule_index.proofs.column.Column.of_rules.Goals as goal

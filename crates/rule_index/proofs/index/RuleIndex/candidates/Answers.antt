@@ -1,15 +1,15 @@
 use Rattle.std.proofs.Common.{map, refl}
-use Rattle.packet_view.specs.Tuples.{facts}
+use Rattle.packet_view.specs.Tuples.{tuple_facts}
 use Rattle.acl_policy.specs.Rules.{rule_facts}
 use Rattle.rule_index.specs.declared.dimension.Dimension.TheVariants.{Dest, First, Protocol, Second, Source}
-use Rattle.rule_index.specs.Sieves.{Sifts}
+use Rattle.rule_index.specs.inner.Sieves.{Sifts}
 use Rattle.rule_index.proofs.index.RuleIndex.candidates.Goals as goal
 
 pub returns : goal.returns
 returns c =
     let index = c.args.self.now in
     let rules = map rule_facts index.rules.items in
-    let tuple = facts c.args.tuple.now in
+    let tuple = tuple_facts c.args.tuple.now in
     let protocol : Sifts rules tuple c.row-protocol.result.now = c.row-protocol.ensures Protocol rules tuple index.protocol_sieves c.protocol_number.ensures in
     record {
       source = c.row.ensures Source rules tuple index.source_sieves refl;

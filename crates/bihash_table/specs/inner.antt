@@ -1,0 +1,10 @@
+-- Definitions that go as the code goes. No promise is said by them.
+pub mod Copying
+pub mod Laid
+pub mod Locked
+pub mod OpenReads
+pub mod PairLists
+pub mod Places
+pub mod Scans
+pub mod Seen
+pub mod Stores

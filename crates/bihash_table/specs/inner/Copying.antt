@@ -1,0 +1,138 @@
+-- What copies of a block to places and back rest on, and what taking and giving back a block leaves.
+use Rattle.std.specs.Prelude.{◌≡◌, ◌≢◌, ℕ, ◌+◌, ◌-◌, ◌*◌, ◌^◌, ◌<◌, ◌≤◌, List, [], length, slice_index, false, Some, None, Result, IfOk, IfErr}
+use Rattle.bihash_words.specs.Sizes.{IsSound, Sizes, sizes_of}
+use Rattle.bihash_words.specs.declared.shape.Shape.{Ghosts}
+use Rattle.bihash_steps.specs.Words.{block_words, list_words, place_words}
+use Rattle.bihash_steps.specs.Blocks.{free, key_in, places, value_in}
+use Rattle.bihash_steps.specs.PageStores.{returned_in}
+use Rattle.bihash_steps.specs.Views.{no_notes, nothing_held}
+use Rattle.bihash_steps.specs.StoreSteps.{TakesBlock, grown, holding, old_block, unlisted}
+use Rattle.bihash_steps.specs.Seats.{CallerState, with_view}
+use Rattle.bihash_steps.specs.declared.view.Extent.{Extent}
+use Rattle.bihash_steps.specs.declared.view.LockedStore.{LockedStore}
+use Rattle.bihash_steps.specs.declared.view.HeldBlock.{HeldBlock}
+use Rattle.bihash_steps.specs.declared.view.PageStore.{PageStore}
+use Rattle.bihash_steps.specs.declared.view.View.{View}
+use Rattle.bihash_table.specs.inner.Places.{ArePlaces}
+use Rattle.bihash_table.specs.inner.Scans.{IsWordOf}
+
+-- the caller holds this block, which begins at this page, and has no note
+pub record HasBlock (z : Sizes) (v : View) (page : ℕ) (h : HeldBlock) : Type 0 where
+  pub held : v.holds.block ≡ Some h
+  pub first : h.page ≡ page
+  pub some_page : 1 ≤ page
+  pub near : page + 2 ^ h.log2 ≤ z.pages + 1
+  pub size : length h.words ≡ block_words z page h.log2
+  pub plain : v.notes ≡ no_notes
+
+-- the view with other words in the held block
+abbrev pub with_words : View → HeldBlock → List ℕ → View
+with_words v h words = holding v v.holds.store (Some (record h { words = words }))
+
+-- a place was stored, and none before it
+pub record IsPlaced {A K : Type 0} (g : Ghosts A K) (s t : CallerState) (h : HeldBlock) (place : ℕ) (key : K)
+    (value : ℕ) : Type 0 where
+  pub words : List ℕ
+  pub is : t ≡ with_view s (with_words s.view h words)
+  pub long : length words ≡ length h.words
+  pub key_is : value ≢ free → key_in (sizes_of g) words place ≡ g.words_of key
+  pub value_is : value_in (sizes_of g) words place ≡ value
+  pub before : (k : ℕ) → k < place * place_words (sizes_of g) → slice_index words k ≡ slice_index h.words k
+
+-- these places were written into the held block, as many as it has
+abbrev pub AreWritten : {A K : Type 0} → Ghosts A K → CallerState → CallerState → HeldBlock → List (K × ℕ) → Type 0
+AreWritten g s t h ps = (words : List ℕ) × (t ≡ with_view s (with_words s.view h words)) × ArePlaces g ps words
+
+-- The caller of this row holds a block that begins at this page and has so many places at least.
+pub record HoldsBlock (z : Sizes) (row : _) (s : CallerState) (page count : ℕ) : Type 0 where
+  pub own : s.row ≡ row
+  pub sound : IsSound z
+  pub block : HeldBlock
+  pub has : HasBlock z s.view page block
+  pub inside : count ≤ places page block.log2
+
+-- the caller has the allocation lock, and no block
+pub record HasStore (z : Sizes) (v : View) (n : LockedStore) : Type 0 where
+  pub held : v.holds.store ≡ Some n
+  pub block : v.holds.block ≡ None
+  pub few : n.store.used ≤ z.pages
+  pub room : (log2 : ℕ) → log2 ≤ z.max_log2 → length (returned_in n.store log2) ≤ list_words z log2
+  pub settled : n.store.unpublished ≡ false
+
+-- The last of the returned blocks of this log2 was taken, or the next pages that were never used where
+-- there is none.
+pub record TakesPages (z : Sizes) (v : View) (store : PageStore) (page log2 : ℕ) (w : View) : Type 0 where
+  pub returned : 1 ≤ length (returned_in store log2)
+      → (page ≡ slice_index (returned_in store log2) (length (returned_in store log2) - 1))
+      × TakesBlock z v (unlisted store log2) page log2 w
+  pub unused : returned_in store log2 ≡ []
+      → (page ≡ store.used + 1) × TakesBlock z v (grown store log2) page log2 w
+
+-- no block of this log2 was returned, and fewer pages than it has were never used
+pub record LacksPages (z : Sizes) (store : PageStore) (log2 left : ℕ) : Type 0 where
+  pub none : returned_in store log2 ≡ []
+  pub unused : store.used + left ≡ z.pages
+  pub few : left < 2 ^ log2
+
+-- The caller of this row has the allocation lock, and may take a block of this log2.
+pub record MayTake (z : Sizes) (row : _) (s : CallerState) (log2 : ℕ) : Type 0 where
+  pub own : s.row ≡ row
+  pub sound : IsSound z
+  pub store : (n : LockedStore) × HasStore z s.view n
+  pub small : log2 ≤ z.max_log2
+
+-- a block was taken, or pages are wanting and nothing changed
+pub record TellsTake (z : Sizes) (s t : CallerState) (log2 : ℕ) (r : Result ℕ ℕ) : Type 0 where
+  pub same : t ≡ with_view s t.view
+  pub taken : IfOk r (λ page. (n : LockedStore) → HasStore z s.view n → TakesPages z s.view n.store page log2 t.view)
+  pub refused : IfErr r (λ left. (t ≡ s) × ((n : LockedStore) → HasStore z s.view n → LacksPages z n.store log2 left))
+
+-- under the allocation lock the caller holds this block, which no bucket waits for
+pub record MayGiveBack (v : View) (log2 page : ℕ) (n : LockedStore) (h : HeldBlock) : Type 0 where
+  pub store : v.holds.store ≡ Some n
+  pub block : v.holds.block ≡ Some h
+  pub same_log2 : h.log2 ≡ log2
+  pub same_page : h.page ≡ page
+  pub settled : n.store.unpublished ≡ false
+
+-- under the allocation lock the caller holds the block that a bucket had, or none where it had none
+pub record HoldsOld (v : View) (n : LockedStore) (e : Extent) (words : List ℕ) : Type 0 where
+  pub store : v.holds.store ≡ Some n
+  pub block : v.holds.block ≡ old_block e.page e.log2 words
+  pub settled : n.store.unpublished ≡ false
+
+-- The caller of this row has the allocation lock, and may give back this block.
+pub record MayReturn (z : Sizes) (row : _) (s : CallerState) (log2 page : ℕ) : Type 0 where
+  pub own : s.row ≡ row
+  pub sound : IsSound z
+  pub small : log2 ≤ z.max_log2
+  pub store : LockedStore
+  pub block : HeldBlock
+  pub may : MayGiveBack s.view log2 page store block
+
+-- The caller of this row has the allocation lock, and the block that the bucket of this word had.
+pub record MayLeave (z : Sizes) (row : _) (s : CallerState) (word : ℕ) : Type 0 where
+  pub own : s.row ≡ row
+  pub sound : IsSound z
+  pub store : LockedStore
+  pub extent : Extent
+  pub words : List ℕ
+  pub names : IsWordOf z word extent
+  pub holds : HoldsOld s.view store extent words
+
+-- the same view, which notes what it does, with the allocation lock and without a block
+abbrev pub with_store : View → LockedStore → View → View
+with_store v n w = record v {
+  holds = record { bucket = v.holds.bucket; store = Some n; block = None };
+  notes = w.notes;
+}
+
+-- after the return of the old block the caller holds the allocation lock, and no block
+pub record GivenBack (s t : CallerState) : Type 0 where
+  pub locked : LockedStore
+  pub is : t ≡ with_view s (with_store s.view locked t.view)
+  pub settled : locked.store.unpublished ≡ false
+
+-- the caller holds neither the allocation lock nor a block any more
+pub record Released (v w : View) : Type 0 where
+  pub is : w ≡ record v { holds = record nothing_held { bucket = v.holds.bucket }; notes = w.notes }

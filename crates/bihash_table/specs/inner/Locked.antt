@@ -1,0 +1,63 @@
+-- A bucket whose lock a caller has, before it stored a word of its block.
+use Rattle.std.specs.Prelude.{◌≡◌, ℕ, ◌+◌, ◌^◌, ◌<◌, ◌≤◌, Bool, List, length, true, false, None, Some}
+use Rattle.bihash_words.specs.Patches.{IsStorable}
+use Rattle.bihash_words.specs.Sizes.{Sizes}
+use Rattle.bihash_words.specs.declared.patch.Change.{Change}
+use Rattle.bihash_words.specs.Words.{Fits, packed}
+use Rattle.bihash_steps.specs.Words.{buckets, block_words}
+use Rattle.bihash_steps.specs.Histories.{IsPrefix, IsWriteList}
+use Rattle.bihash_steps.specs.Callers.{known_at, opening_at}
+use Rattle.bihash_steps.specs.Blocks.{IsBlockOf}
+use Rattle.bihash_steps.specs.Buckets.{word_of}
+use Rattle.bihash_steps.specs.Views.{nothing_held}
+use Rattle.bihash_steps.specs.BucketSteps.{with_history, locking, map_now}
+use Rattle.bihash_steps.specs.Seats.{CallerState}
+use Rattle.bihash_steps.specs.declared.view.Extent.{Extent}
+use Rattle.bihash_steps.specs.declared.view.Write.{Write}
+use Rattle.bihash_steps.specs.declared.view.LockedBucket.{LockedBucket}
+use Rattle.bihash_steps.specs.declared.view.View.{View}
+use Rattle.bihash_table.specs.inner.OpenReads.{IsPairIn, OtherPairTells}
+use Rattle.bihash_table.specs.inner.Places.{IsFreeFor}
+
+-- The caller has the lock l of bucket b, whose word was this one, and nothing else. It knows the history
+-- whole and the words of the block, none of which it stored.
+pub record HasLock (z : Sizes) (v : View) (b word : ℕ) (l : LockedBucket) : Type 0 where
+  pub inside : b < buckets z
+  pub held : v.holds ≡ record nothing_held { bucket = Some l }
+  pub bucket : l.bucket ≡ b
+  pub version : l.version ≡ length (known_at v.known b)
+  pub fits : Fits (word_of l.extent false l.version)
+  pub stood : word ≡ packed (word_of l.extent false l.version)
+  pub clean : l.stored ≡ false
+  pub near : l.extent.page + 2 ^ l.extent.log2 ≤ z.pages + 1
+  pub size : length l.now ≡ block_words z l.extent.page l.extent.log2
+  pub pairs : IsBlockOf z l.extent l.now (map_now v b)
+  pub writes : IsWriteList z b (opening_at v.known b) (known_at v.known b)
+
+-- the lock was taken from the view v
+pub record IsLocked (z : Sizes) (v w : View) (b word : ℕ) : Type 0 where
+  pub history : List Write
+  pub begins : IsPrefix (known_at v.known b) history
+  pub lock : LockedBucket
+  pub is : w ≡ locking (with_history v b history) lock
+  -- a lone caller knew the history before
+  pub alone : v.lone ≡ true → length history ≤ length (known_at v.known b)
+  pub has : HasLock z w b word lock
+
+-- The caller of this row has the lock of bucket b for a change that it may make there, and this is told of the block.
+pub record UnderLock (z : Sizes) (row : _) (s : CallerState) (b word : ℕ) (change : Change)
+    (tells : Extent → List ℕ → Type 0) : Type 0 where
+  pub own : s.row ≡ row
+  pub lock : LockedBucket
+  pub has : HasLock z s.view b word lock
+  pub unworn : length (known_at s.view.known b) < z.limit
+  pub storable : IsStorable change
+  pub told : tells lock.extent lock.now
+
+-- the key is new, and place i is free for it
+abbrev pub IsPlaceForNew : Sizes → List ℕ → ℕ → Extent → List ℕ → Type 0
+IsPlaceForNew z key i e block = IsPairIn z key None e block × IsFreeFor z e block key i
+
+-- the key's pair is there, and whether another pair does
+abbrev pub IsPairBeside : Sizes → List ℕ → ℕ × ℕ → Bool → Extent → List ℕ → Type 0
+IsPairBeside z key pair other e block = IsPairIn z key (Some pair) e block × OtherPairTells z pair.0 other e block

@@ -1,0 +1,33 @@
+-- The words of a block as places of keys and values.
+use Rattle.std.specs.Prelude.{◌≡◌, ◌≢◌, ℕ, ◌*◌, ◌/◌, ◌<◌, false, List, length, slice_get, Some}
+use Rattle.bihash_words.specs.Sizes.{Sizes, sizes_of}
+use Rattle.bihash_words.specs.declared.shape.Shape.{Ghosts}
+use Rattle.bihash_steps.specs.Words.{place_words}
+use Rattle.bihash_steps.specs.Blocks.{places, key_in, value_in, free, page_of, HasPair}
+use Rattle.bihash_steps.specs.declared.view.Extent.{Extent}
+
+-- place i may hold pairs of the key: each place where the block is linear, and else those of the key's page
+abbrev pub IsOpenTo : Sizes → Extent → List ℕ → ℕ → Type 0
+IsOpenTo z e key i = e.linear ≡ false → page_of z e.log2 key ≡ i / 4
+
+-- place i is free, and open to the key
+pub record IsFreeFor (z : Sizes) (e : Extent) (block : List ℕ) (key : List ℕ) (i : ℕ) : Type 0 where
+  pub inside : i < places e.page e.log2
+  pub free : value_in z block i ≡ free
+  pub reached : IsOpenTo z e key i
+
+-- no place that is open to the key is free
+abbrev pub IsCrowdedFor : Sizes → Extent → List ℕ → List ℕ → Type 0
+IsCrowdedFor z e block key = (i : ℕ) → IsFreeFor z e block key i → ⊥
+
+-- the pair of the key is at place i
+pub record HasPairOf (z : Sizes) (e : Extent) (block : List ℕ) (key : List ℕ) (i : ℕ) : Type 0 where
+  pub pair : HasPair z e block i
+  pub stands : key_in z block i ≡ key
+
+-- the places have the values of these words and, where they aren't free, the keys
+pub record ArePlaces {A K : Type 0} (g : Ghosts A K) (ps : List (K × ℕ)) (words : List ℕ) : Type 0 where
+  pub count : length words ≡ length ps * place_words (sizes_of g)
+  pub key : (i : ℕ) (p : K × ℕ) → slice_get ps i ≡ Some p → p.1 ≢ free
+      → key_in (sizes_of g) words i ≡ g.words_of p.0
+  pub value : (i : ℕ) (p : K × ℕ) → slice_get ps i ≡ Some p → value_in (sizes_of g) words i ≡ p.1

@@ -1,0 +1,29 @@
+-- Why a verdict of no pages was right.
+use Rattle.std.specs.Prelude.{◌≡◌, ℕ, Option, Some}
+use Rattle.packet_view.specs.Captures.{PacketFacts}
+use Rattle.packet_view.specs.Frames.{IsFrame, FrameFacts}
+use Rattle.packet_view.specs.declared.tuple.Mac.{Mac}
+use Rattle.bihash_words.specs.Sizes.{bucket_of, sizes_of}
+use Rattle.bihash_words.specs.declared.shape.Shape.{Ghosts}
+use Rattle.bihash_table.specs.OutOfPages.{IsOutOfPages}
+use Rattle.session_state.specs.declared.flow.Flow.{Flow}
+use Rattle.session_state.specs.declared.flow.FlowKey.{FlowKey}
+use Rattle.session_state.specs.declared.flow.FlowKey.TheVariants.{Four, Six}
+use Rattle.flow_dealing.specs.Dealings.{flow_shown}
+use Rattle.flow_dealing.specs.Views.{Views}
+
+-- the last call of the caller of this key's family found too few pages for a block of 2 ^ log2 of them
+abbrev pub IsFlowOutOfPages : {A B K L : Type 0} (ga : Ghosts A K) (gb : Ghosts B L) → FlowKey → Views → ℕ → ℕ → Type 0
+IsFlowOutOfPages ga gb (Four key) w log2 left = IsOutOfPages ga w.four (bucket_of (sizes_of ga) key) (ga.key_of key) log2 left
+IsFlowOutOfPages ga gb (Six key) w log2 left = IsOutOfPages gb w.six (bucket_of (sizes_of gb) key) (gb.key_of key) log2 left
+
+-- the packet's flow found too few pages in its family's table
+pub record IsPacketOutOfPages {A B K L : Type 0} (ga : Ghosts A K) (gb : Ghosts B L) (own : Option Mac) (packet : PacketFacts)
+    (w : Views) : Type 0 where
+  pub view : FrameFacts
+  pub framed : IsFrame packet.frame own view
+  pub flow : Flow
+  pub shown : flow_shown view ≡ Some flow
+  pub log2 : ℕ
+  pub left : ℕ
+  pub short : IsFlowOutOfPages ga gb flow.key w log2 left

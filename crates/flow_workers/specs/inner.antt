@@ -1,0 +1,10 @@
+-- Definitions that go as the code goes. No promise is said by them.
+pub mod Fresh
+pub mod Jobs
+pub mod Parts
+pub mod Placing
+pub mod Preparing
+pub mod Turns
+pub mod Updates
+pub mod ViewedPackets
+pub mod Work

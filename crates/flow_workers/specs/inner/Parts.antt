@@ -1,0 +1,22 @@
+-- What all workers of a run give back.
+use Rattle.std.specs.Prelude.{◌≡◌, List, [], ◌∷◌, All}
+use Rattle.std.specs.List.{AllZip}
+use Rattle.packet_view.specs.declared.tuple.Family.TheVariants.{V4, V6}
+use Rattle.bihash_words.specs.declared.shape.Shape.{Ghosts}
+use Rattle.bihash_steps.specs.Views.{nothing_held}
+use Rattle.flow_dealing.specs.Traces.{AreTraces, HaveTraces, Item}
+use Rattle.flow_workers.specs.declared.share.Parts.{Parts}
+use Rattle.flow_workers.specs.declared.tables.Tables.{Tables}
+use Rattle.flow_workers.specs.inner.Work.{AreSaid, RunFacts}
+
+-- each worker judged its packets: its trace is in the records of its callers, and it said its verdicts
+pub record AreParts {A B K L : Type 0} (ga : Ghosts A K) (gb : Ghosts B L) (tables : Tables A B K L) (run : RunFacts)
+    (parts : Parts A B K L ga gb) : Type 0 where
+  pub traces : List (List Item)
+  pub traced : AreTraces run.deal run.times run.policy run.packets traces
+  pub own : All (λ c. c.seat.row ≡ tables.four.row) parts.four.items × All (λ c. c.seat.row ≡ tables.six.row) parts.six.items
+  pub free : All (λ c. c.seat.view.holds ≡ nothing_held) parts.four.items
+      × All (λ c. c.seat.view.holds ≡ nothing_held) parts.six.items
+  pub four : AllZip (λ trace c. HaveTraces run.times V4 (trace ∷ []) c.seat.view) traces parts.four.items
+  pub six : AllZip (λ trace c. HaveTraces run.times V6 (trace ∷ []) c.seat.view) traces parts.six.items
+  pub said : AllZip (λ trace s. AreSaid run trace s.verdicts.items s.numbers.items) traces parts.said.items

@@ -1,0 +1,36 @@
+-- What is known of a packet before it asks, under what the rules will say of it.
+use Rattle.std.specs.Prelude.{◌≡◌, ℕ, Some, None}
+use Rattle.packet_view.specs.Frames as frames
+use Rattle.packet_view.specs.Frames.{FrameFacts}
+use Rattle.acl_policy.specs.Matching.{IsDecision}
+use Rattle.acl_policy.specs.Policies.{PolicyFacts, rules_of}
+use Rattle.session_state.specs.declared.timeouts.Timeouts.{Timeouts}
+use Rattle.flow_filter.specs.declared.lazy_patch.HasRuling.{Ghosts}
+use Rattle.flow_filter.specs.declared.verdict.Verdict.TheVariants as verdict
+use Rattle.flow_filter.specs.LazyPatches.{facts_of}
+use Rattle.flow_filter.specs.Readings.{Framed, Reading, Ruled, Ruling}
+use Rattle.flow_filter.specs.Updates.{update_of}
+use Rattle.flow_filter.specs.Judged.{verdict_with}
+use Rattle.flow_workers.specs.declared.prepared.Prepared.{Prepared}
+use Rattle.flow_workers.specs.declared.prepared.Prepared.TheVariants.{Settled, Asks}
+
+-- the rules say this of a packet whose frame turns out to be this
+abbrev pub IsRuling : PolicyFacts → FrameFacts → Ruling → Type 0
+IsRuling policy frames.NotIp ruling = Unit {0}
+IsRuling policy frames.Malformed ruling = Unit {0}
+IsRuling policy frames.Short ruling = Unit {0}
+IsRuling policy (frames.Ip direction tuple) ruling = IsDecision (rules_of direction policy) tuple ruling
+
+-- its reading then
+abbrev pub reading_with : ℕ → FrameFacts → Ruling → Reading
+reading_with moment frames.NotIp ruling = Framed verdict.NotIp
+reading_with moment frames.Malformed ruling = Framed verdict.Malformed
+reading_with moment frames.Short ruling = Framed verdict.Short
+reading_with moment (frames.Ip direction tuple) ruling = Ruled moment tuple ruling
+
+-- the verdict of a packet without an update, or the update of the others
+abbrev pub IsPrepared : {D : Type 0} (g : Ghosts D) → Timeouts → Reading → Prepared D g → Type 0
+IsPrepared g times reading (Settled verdict) =
+    (update_of times reading ≡ None) × (verdict ≡ verdict_with times reading None)
+IsPrepared g times reading (Asks key patch) =
+    update_of times reading ≡ Some (record { key = key.now; patch = facts_of g patch })

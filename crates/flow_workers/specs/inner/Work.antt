@@ -1,0 +1,40 @@
+-- What a worker does to its callers, and what it says.
+use Rattle.std.specs.Prelude.{◌≡◌, ◌≢◌, ℕ, ◌++◌, List, [], ◌∷◌, map}
+use Rattle.packet_view.specs.Captures.{PacketFacts}
+use Rattle.packet_view.specs.declared.tuple.Family.TheVariants.{V4, V6}
+use Rattle.acl_policy.specs.Policies.{PolicyFacts}
+use Rattle.bihash_steps.specs.declared.view.Call.{Call}
+use Rattle.bihash_steps.specs.declared.view.Record.{Record}
+use Rattle.bihash_steps.specs.declared.view.View.{View}
+use Rattle.session_state.specs.declared.timeouts.Timeouts.{Timeouts}
+use Rattle.flow_filter.specs.declared.verdict.Verdict.{Verdict}
+use Rattle.flow_dealing.specs.Views.{Views}
+use Rattle.flow_dealing.specs.Dealings.{Deal}
+use Rattle.flow_dealing.specs.Traces.{IsTrace, Item, calls_in, numbers_of, verdict_in}
+
+-- what the verdicts of a run rest on
+pub record RunFacts : Type 0 where
+  pub deal : Deal
+  pub times : Timeouts
+  pub policy : PolicyFacts
+  pub packets : List PacketFacts
+
+-- the caller's one record has these calls more, and its buckets began as before
+pub record Continues (v w : View) (more : List Call) : Type 0 where
+  pub calls : (r : Record) → v.records ≡ r ∷ [] → (locks : ℕ) × (w.records ≡ record r { calls = r.calls ++ more; locks = locks } ∷ [])
+  pub openings : w.known.openings ≡ v.known.openings
+
+-- The verdicts are those of the items, in their order, and these numbers those of their packets. A worker that is
+-- alone needn't have the numbers.
+pub record AreSaid (run : RunFacts) (trace : List Item) (verdicts : List Verdict) (numbers : List ℕ) : Type 0 where
+  pub said : verdicts ≡ map (verdict_in run.times) trace
+  pub of : run.deal.workers ≢ 1 → numbers ≡ numbers_of trace
+
+-- A worker judged its packets, all of them: their calls follow what its callers' records had, and these are
+-- its verdicts.
+pub record IsWork (run : RunFacts) (worker : ℕ) (v w : Views) (verdicts : List Verdict) (numbers : List ℕ) : Type 0 where
+  pub trace : List Item
+  pub is : IsTrace run.deal run.times worker run.policy run.packets trace
+  pub four : Continues v.four w.four (calls_in run.times V4 trace)
+  pub six : Continues v.six w.six (calls_in run.times V6 trace)
+  pub said : AreSaid run trace verdicts numbers

@@ -1,0 +1,4 @@
+-- Definitions that go as the code goes. No promise is said by them.
+pub mod Candidates
+pub mod Columns
+pub mod Sieves
