@@ -41,7 +41,7 @@ packets-preserved g c =
       done = rw c.in_ok-say.ensures.verdicts
           (work_push _ _ _ _ _ _ _ _ _ _ (frame_facts c.view-frame.result) _
           (record { stands = stands_at _ _ c.packets.taken _ taken; shown = c.view-frame.ensures.shown; only = c.view-frame.ensures.only })
-          (sym (c.dealt_to.ensures ∙ ap (worker_of (run_facts g.A.Shape g.B.Shape c.args.job.run).deal c.packets.taken) c.flow_in-flow.ensures.shown) ∙ c.if-dealt_to-worker.false) (c.judge_viewed-verdict.ensures.judged _ (c.new-frame_facts.ensures.seen _ c.view-frame.ensures.shown))
+          (sym (c.dealt_to.ensures ∙ ap (worker_of (run_facts g.A.Shape g.B.Shape c.args.job.run).deal c.packets.taken) c.flow_in-flow.ensures.shown) ∙ c.if-dealt_to-worker.false) (c.judge_viewed-verdict.ensures.judged _ (c.new-viewed.ensures.seen _ c.view-frame.ensures.shown))
           (λ several. c.in_ok-say.ensures.numbers (ne_eqb _ _ several)) c.packets.invariant.done);
     }
 
