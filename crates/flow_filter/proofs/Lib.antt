@@ -1,3 +1,4 @@
+pub mod Deciders
 pub mod HomeLemmas
 pub mod OneThreadLemmas
 pub mod OrderLemmas

@@ -6,4 +6,4 @@ use Rattle.flow_filter.specs.declared.lazy_patch.LazyPatch.{LazyPatch}
 
 -- what is decided of the packet, under what the rules say of it
 abbrev pub facts_of : {D : Type 0} (g : Ghosts D) → LazyPatch D g → PatchFacts
-facts_of g p = (update_by p.times p.packet g.ruling).patch
+facts_of g p = (update_by p.filter.now.times p.packet g.ruling).patch

@@ -5,6 +5,8 @@ ghost use Rattle.packet_view.specs.Tuples.{tuple_facts};
 ghost use Rattle.acl_policy.specs.Matching.{IsDecision};
 ghost use Rattle.acl_policy.specs.Rules.{most_rules};
 ghost use Rattle.flow_filter.specs.Readings.{Ruling};
+ghost use Rattle.flow_filter.specs.Filters.{policy_in};
+ghost use Rattle.flow_filter.specs.PacketFlows.{IsRulingOn};
 ghost use Rattle.flow_filter.specs.Rulesets.{rules_in};
 
 use crate::decider::Decider;
@@ -17,7 +19,7 @@ use crate::verdicts::{found_in, verdict_without_session};
 use acl_policy::Action;
 use bihash_words::{Change, Patch, Reply};
 use packet_view::Tuple;
-use session_state::{PacketPatch, Timeouts};
+use session_state::PacketPatch;
 use std::cell::Cell;
 use std::marker::{Brand, PhantomData};
 
@@ -56,31 +58,28 @@ fn asked(rules: Ruleset<'_>, tuple: Tuple) -> Option<(usize, Action)>
 /// session is live.
 #[derive(Drop)]
 pub struct LazyPatch<'a, D: HasRuling> {
-    times: Timeouts,
-    rules: Ruleset<'a>,
+    filter: &'a ReadyFilter<'a>,
     packet: PacketFlow<'a>,
     decided: Cell<Option<Decided<D>>>,
-    ghost said: { (d : Ruling) → IsDecision (rules_in rules) (tuple_facts packet.tuple.now) d → d ≡ D.ruling },
+    ghost said: { (d : Ruling) → IsRulingOn (policy_in filter.now) packet d → d ≡ D.ruling },
 }
 
 impl<'a, D: HasRuling> LazyPatch<'a, D> {
     ghost use Rattle.std.specs.Prelude.{None};
     ghost use Rattle.session_state.specs.Decisions.{patch_facts};
     ghost use Rattle.flow_filter.specs.Deciders.{decider_of};
-    ghost use Rattle.flow_filter.specs.Filters.{policy_in};
-    ghost use Rattle.flow_filter.specs.PacketFlows.{IsRulingOn, update_by};
+    ghost use Rattle.flow_filter.specs.PacketFlows.{update_by};
     ghost use Rattle.flow_filter.specs.Verdicts.{verdict_of};
     ghost use Rattle.flow_filter.specs.LazyPatches.{facts_of};
     ghost use Rattle.bihash_words.specs.Maps.{found_by};
 
     #[inline]
-    pub fn new(filter: &ReadyFilter<'a>, packet: PacketFlow<'a>) -> LazyPatch<'a, D>
+    pub fn new(filter: &'a ReadyFilter<'a>, packet: PacketFlow<'a>) -> LazyPatch<'a, D>
         requires { IsRulingOn (policy_in filter.now) packet D.ruling }
         ensures { facts_of ⟦<D as HasRuling>⟧ result ≡ (update_by filter.now.times packet.entry D.ruling).patch }
     {
         LazyPatch {
-            times: filter.times,
-            rules: filter.rules_of(packet.direction),
+            filter,
             packet,
             decided: Cell::new(None),
         }
@@ -89,7 +88,10 @@ impl<'a, D: HasRuling> LazyPatch<'a, D> {
     #[inline(always)]
     fn ask(&self) -> Decided<D> {
         Decided {
-            ruling: asked(self.rules, copied(self.packet.tuple)),
+            ruling: asked(
+                self.filter.rules_of(self.packet.direction),
+                copied(self.packet.tuple),
+            ),
             of: PhantomData,
         }
     }
@@ -111,9 +113,9 @@ impl<'a, D: HasRuling> LazyPatch<'a, D> {
     // What the packet does to a live session, which no rule is asked for.
     #[inline]
     fn unruled(&self) -> PacketPatch
-        ensures { patch_facts result ≡ (update_by self.now.times self.now.packet None).patch }
+        ensures { patch_facts result ≡ (update_by self.now.filter.now.times self.now.packet None).patch }
     {
-        patch_of(&self.times, &self.packet, None)
+        patch_of(&self.filter.times, &self.packet, None)
     }
 
     // The rules are asked here alone.
@@ -137,7 +139,7 @@ impl<'a, D: HasRuling> LazyPatch<'a, D> {
         match self.decider(found_in(reply)) {
             Decider::Session(_) => Verdict::Session,
             Decider::Rules(ruling) => {
-                let patch = patch_of(&self.times, &self.packet, ruling);
+                let patch = patch_of(&self.filter.times, &self.packet, ruling);
                 verdict_without_session(&patch, ruling, reply)
             }
         }
@@ -155,7 +157,7 @@ impl<'a, D: HasRuling> Patch for LazyPatch<'a, D> {
     fn decide(&self, old: Option<u64>) -> Change {
         match self.decider(old) {
             Decider::Session(session) => self.unruled().touch(session),
-            Decider::Rules(ruling) => patch_of(&self.times, &self.packet, ruling).decide(old),
+            Decider::Rules(ruling) => patch_of(&self.filter.times, &self.packet, ruling).decide(old),
         }
     }
 }

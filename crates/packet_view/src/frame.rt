@@ -7,6 +7,7 @@ ghost use Rattle.packet_view.specs.inner.FrameSteps.{direction_of, packets, view
 use crate::packet::{IpPacket, Upper};
 use crate::tuple::{Direction, Fields, Mac, Tuple};
 use crate::{ethernet, ipv4, ipv6, transport};
+use byteorder::{BigEndian, ByteOrder};
 
 /// What a frame turns out to be.
 #[derive(Clone, Copy, Debug, PartialEq, Eq)]
@@ -28,12 +29,7 @@ fn address_number(bytes: &[u8]) -> u64
     ensures number { result ≡ number_from 0 6 bytes.now }
     ensures bytes { (i : ℕ) → i < 6 → slice_index bytes.now i < 256 }
 {
-    (u64::from(bytes[0]) << 40)
-        + (u64::from(bytes[1]) << 32)
-        + (u64::from(bytes[2]) << 24)
-        + (u64::from(bytes[3]) << 16)
-        + (u64::from(bytes[4]) << 8)
-        + u64::from(bytes[5])
+    (u64::from(BigEndian::read_u32(bytes)) << 16) + u64::from(BigEndian::read_u16(&bytes[4..]))
 }
 
 /// The way of a frame with at least twelve bytes.

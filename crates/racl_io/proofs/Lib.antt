@@ -1,3 +1,4 @@
 pub mod InputLemmas
 pub mod NumeralLemmas
+pub mod PieceLemmas
 pub mod ReportLemmas

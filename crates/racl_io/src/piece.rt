@@ -1,5 +1,5 @@
 //! A piece of a report's text, in room that is asked for once.
-ghost use Rattle.std.specs.Prelude.{◌≡◌, ℕ, List, [], ◌+◌, ◌≤◌, ◌++◌, IfOk, length, take, vec_capacity};
+ghost use Rattle.std.specs.Prelude.{◌≡◌, ℕ, List, [], ◌+◌, ◌≤◌, ◌++◌, IfOk, length, take};
 
 use std::alloc::{AllocError, Global};
 use std::marker::Model;
@@ -7,26 +7,27 @@ use std::marker::Model;
 /// The most bytes of a piece.
 const ROOM: usize = 65_536;
 
-/// Bytes in room for 64 KiB.
+/// Bytes in room for 64 KiB, all of which is filled from the start: so a push stores bytes and counts them.
 #[derive(Drop)]
 pub struct Piece {
-    text: Vec<u8>,
+    room: Vec<u8>,
+    len: usize,
 }
 
 impl Model for Piece {
     ghost Value = { List ℕ };
 
-    ghost view = { λ p. p.text.items };
+    ghost view = { λ p. take p.len p.room.items };
 
-    ghost invariant = { λ p. 65536 ≤ vec_capacity p.text };
+    ghost invariant = { λ p. (length p.room.items ≡ 65536) × (p.len ≤ 65536) };
 }
 
 impl Piece {
     pub fn new(alloc: Global) -> Result<Piece, AllocError>
         ensures { IfOk result (λ p. p ≡ []) }
     {
-        let text = Vec::with_capacity(alloc, ROOM)?;
-        Ok(Piece { text })
+        let room = Vec::from_elem(alloc, 0, ROOM)?;
+        Ok(Piece { room, len: 0 })
     }
 
     #[inline(always)]
@@ -34,8 +35,7 @@ impl Piece {
         requires { length self.old + length bytes.now ≤ 65536 }
         ensures { self.new ≡ self.old ++ bytes.now }
     {
-        // There is room, so that this can't fail.
-        let _ = self.text.extend_from_slice(bytes);
+        self.push_first(bytes, bytes.len());
     }
 
     /// Pushes the first bytes of these. All of them are copied, so that a length that is fixed makes it cheap.
@@ -45,20 +45,20 @@ impl Piece {
         requires within { count ≤ length bytes.now }
         ensures { self.new ≡ self.old ++ take count bytes.now }
     {
-        let len = self.text.len();
-        let _ = self.text.extend_from_slice(bytes);
-        self.text.truncate(len + count);
+        let len = self.len;
+        self.room[len..len + bytes.len()].copy_from_slice(bytes);
+        self.len = len + count;
     }
 
     pub fn clear(&mut self)
         ensures { self.new ≡ [] }
     {
-        self.text.clear();
+        self.len = 0;
     }
 
     pub fn as_slice(&self) -> &[u8]
         ensures { result.now ≡ self.now }
     {
-        self.text.as_slice()
+        &self.room[..self.len]
     }
 }

@@ -129,13 +129,20 @@ impl Session {
     pub fn timeout(&self, times: &Timeouts) -> u32
         ensures { result ≡ timeout_of self.now times.now }
     {
+        // All three are read at once, so that no branch depends on which one is wanted.
+        let Timeouts {
+            established,
+            transient,
+            udp,
+            ..
+        } = *times;
         if !self.tcp {
-            return times.udp;
+            return udp;
         }
         if self.first_flags == SYN_AND_ACK && self.second_flags == SYN_AND_ACK {
-            return times.established;
+            return established;
         }
-        times.transient
+        transient
     }
 
     /// Whether the session is live at a moment in seconds: the last second of its timeout counts.
