@@ -10,26 +10,22 @@ use Rattle.flow_workers.proofs.judging.try_judge.Goals as goal
 pub try_judge_as-requires-clause-ruling : goal.try_judge_as-requires-clause-ruling
 try_judge_as-requires-clause-ruling g c = is_ruling (policy_in c.ready-filter.result) (frame_facts c.new-packet.result.frame.now)
 
-pub returns-clause-judged : goal.returns-clause-judged
-returns-clause-judged g c =
-    if_ok _ _ c.try_judge_as.result
-    (λ verdict judged. of_filter (λ times policy. HasVerdict g.A.Shape g.B.Shape times policy (packet_facts c.args.packet.now) c.args.callers.now
-    c.try_judge_as.new.callers verdict) c.ready-filter.ensures.times c.ready-filter.ensures.policy
-    (judged (packet_facts c.args.packet.now) (c.new-packet.ensures.seen _ c.view-frame.ensures.shown)))
-    c.try_judge_as.ensures.judged
-
-pub returns-clause-no_pages : goal.returns-clause-no_pages
-returns-clause-no_pages g c =
-    if_ok _ _ c.try_judge_as.result
-    (λ verdict short. of_filter (λ times policy. ShowsOutOfPages g.A.Shape g.B.Shape policy (packet_facts c.args.packet.now) c.try_judge_as.new.callers verdict)
-    c.ready-filter.ensures.times c.ready-filter.ensures.policy
-    (short (packet_facts c.args.packet.now) (c.new-packet.ensures.seen _ c.view-frame.ensures.shown)))
-    c.try_judge_as.ensures.no_pages
-
-pub returns-clause-refused : goal.returns-clause-refused
-returns-clause-refused g c =
-    if_err _ _ c.try_judge_as.result
-    (λ contended refused. of_filter (λ times policy. HasNoVerdict g.A.Shape g.B.Shape times policy (packet_facts c.args.packet.now) c.args.callers.now
-    c.try_judge_as.new.callers) c.ready-filter.ensures.times c.ready-filter.ensures.policy
-    (refused (packet_facts c.args.packet.now) (c.new-packet.ensures.seen _ c.view-frame.ensures.shown)))
-    c.try_judge_as.ensures.refused
+pub returns : goal.returns
+returns g c =
+    let tells = c.try_judge_as.ensures in
+    let new = c.try_judge_as.new.callers in
+    let seen = c.new-packet.ensures.seen _ c.view-frame.ensures.shown in
+    let packet = packet_facts c.args.packet.now in record {
+      same = tells.same;
+      idle = tells.idle;
+      judged = if_ok _ _ c.try_judge_as.result
+          (λ verdict judged. of_filter (λ times policy. HasVerdict g.A.Shape g.B.Shape times policy packet c.args.callers.now new verdict)
+          c.ready-filter.ensures.times c.ready-filter.ensures.policy (judged packet seen)) tells.judged;
+      no_pages = if_ok _ _ c.try_judge_as.result
+          (λ verdict short. of_filter (λ times policy. ShowsOutOfPages g.A.Shape g.B.Shape policy packet new verdict)
+          c.ready-filter.ensures.times c.ready-filter.ensures.policy (short packet seen)) tells.no_pages;
+      refused = if_err _ _ c.try_judge_as.result
+          (λ contended refused. of_filter (λ times policy. HasNoVerdict g.A.Shape g.B.Shape times policy packet c.args.callers.now new)
+          c.ready-filter.ensures.times c.ready-filter.ensures.policy (refused packet seen)) tells.refused;
+      lone = tells.lone;
+    }
