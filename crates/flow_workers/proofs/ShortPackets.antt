@@ -71,7 +71,7 @@ settled_has_pages times moment (frames.Ip direction tuple) ruling said is e =
     by_rules ruling (sym (is.1 ∙ ap (λ u. verdict_by_event ruling u None) is.0) ∙ e)
 
 -- the update is that of the packet's flow
-flow_updated : (times : Timeouts) (moment : ℕ) (view : FrameFacts) (ruling : Ruling) (u : Update)
+pub flow_updated : (times : Timeouts) (moment : ℕ) (view : FrameFacts) (ruling : Ruling) (u : Update)
     → update_of times (reading_with moment view ruling) ≡ Some u → (flow : Flow) × (flow_shown view ≡ Some flow) × (flow.key ≡ u.key)
 flow_updated times moment frames.NotIp ruling u is = absurd (let f : ⊥ = cc in f)
 flow_updated times moment frames.Malformed ruling u is = absurd (let f : ⊥ = cc in f)

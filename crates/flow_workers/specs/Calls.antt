@@ -10,7 +10,7 @@ use Rattle.flow_filter.specs.declared.verdict.Verdict.{Verdict}
 use Rattle.flow_workers.specs.declared.tables.Callers.{Callers}
 use Rattle.flow_workers.specs.declared.tables.Tables.{Tables}
 use Rattle.flow_workers.specs.Callers.{AreIdle, AreSame, AreShapes}
-use Rattle.flow_workers.specs.Verdicts.{HasNoVerdict, HasVerdict, ShowsOutOfPages}
+use Rattle.flow_workers.specs.Verdicts.{HasNoFlow, HasNoVerdict, HasVerdict, ShowsOutOfPages}
 
 -- callers that may ask these tables
 pub record MayAsk {A B K L : Type 0} {ga : Ghosts A K} {gb : Ghosts B L} (tables : Tables A B K L)
@@ -26,7 +26,7 @@ pub record TellsVerdict {A B K L : Type 0} {ga : Ghosts A K} {gb : Ghosts B L} (
   pub judged : HasVerdict ga gb filter.times (policy_facts filter.policy) (packet_facts packet) old new verdict
   pub no_pages : ShowsOutOfPages ga gb (policy_facts filter.policy) (packet_facts packet) new verdict
 
--- one try, which lone callers find answered
+-- one try, which lone callers find answered, and all callers where the packet takes no part in sessions
 pub record TellsVerdictTry {A B K L : Type 0} {ga : Ghosts A K} {gb : Ghosts B L} (filter : Filter) (packet : Packet)
     (tables : Tables A B K L) (old new : Callers A B K L ga gb) (r : Result Verdict Contended) : Type 0 where
   pub same : AreSame ga gb old new
@@ -35,3 +35,4 @@ pub record TellsVerdictTry {A B K L : Type 0} {ga : Ghosts A K} {gb : Ghosts B L
   pub no_pages : IfOk r (ShowsOutOfPages ga gb (policy_facts filter.policy) (packet_facts packet) new)
   pub refused : IfErr r (λ _. HasNoVerdict ga gb filter.times (policy_facts filter.policy) (packet_facts packet) old new)
   pub lone : old.four.seat.view.lone ≡ true → old.six.seat.view.lone ≡ true → is_ok r ≡ true
+  pub settled : HasNoFlow (policy_facts filter.policy).own (packet_facts packet) → is_ok r ≡ true

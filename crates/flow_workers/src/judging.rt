@@ -89,8 +89,7 @@ pub fn judge<A: Shape, B: Shape, R: Wait>(
     judge_viewed(rt, &filter, tables, callers, &packet)
 }
 
-/// The verdict on a packet, by one try. `Contended`: another caller's change or lock was met. A packet that takes no
-/// part in sessions meets none, and nor does one whose callers are lone.
+/// The verdict on a packet, by one try. `Contended`: another caller's change or lock was met.
 pub fn try_judge<A: Shape, B: Shape>(
     filter: &Filter,
     tables: &Tables<A, B>,

@@ -1,5 +1,5 @@
 -- What viewing a packet tells of it, and what judging it then tells of its callers.
-use Rattle.std.specs.Prelude.{◌≡◌, true, Option, Result, IfOk, IfErr, is_ok}
+use Rattle.std.specs.Prelude.{◌≡◌, true, Option, None, Result, IfOk, IfErr, is_ok}
 use Rattle.packet_view.specs.Captures.{PacketFacts}
 use Rattle.packet_view.specs.Frames.{IsFrame, frame_facts}
 use Rattle.packet_view.specs.declared.tuple.Mac.{Mac}
@@ -8,6 +8,7 @@ use Rattle.bihash_table.specs.declared.contended.Contended.{Contended}
 use Rattle.flow_filter.specs.Filters.{policy_in}
 use Rattle.flow_filter.specs.declared.filter.ReadyFilter.{ReadyFilter}
 use Rattle.flow_filter.specs.declared.verdict.Verdict.{Verdict}
+use Rattle.flow_dealing.specs.Dealings.{flow_shown}
 use Rattle.flow_workers.specs.declared.tables.Callers.{Callers}
 use Rattle.flow_workers.specs.declared.tables.Tables.{Tables}
 use Rattle.flow_workers.specs.declared.viewed_packet.ViewedPacket.{ViewedPacket}
@@ -39,3 +40,4 @@ pub record TellsViewedTry {A B K L : Type 0} {ga : Ghosts A K} {gb : Ghosts B L}
   pub refused : IfErr r (λ _. (s : PacketFacts) → IsViewed filter.own s packet
       → HasNoVerdict ga gb filter.times (policy_in filter) s old new)
   pub lone : old.four.seat.view.lone ≡ true → old.six.seat.view.lone ≡ true → is_ok r ≡ true
+  pub settled : flow_shown (frame_facts packet.frame.now) ≡ None → is_ok r ≡ true

@@ -3,7 +3,7 @@ use Rattle.std.proofs.Common.{◌∙◌, refl, sym}
 use Rattle.packet_view.specs.Frames.{frame_facts}
 use Rattle.bihash_words.specs.Maps.{found_by}
 use Rattle.flow_workers.proofs.JudgedPackets.{answered, refused, settled}
-use Rattle.flow_workers.proofs.ShortPackets.{settled_has_pages, short_packet}
+use Rattle.flow_workers.proofs.ShortPackets.{flow_updated, settled_has_pages, short_packet}
 use Rattle.flow_workers.proofs.judging.try_judge_as.Goals as goal
 
 pub returns-in-Settled : goal.returns-in-Settled
@@ -16,6 +16,7 @@ returns-in-Settled g c = record {
       (settled_has_pages c.args.filter.now.times c.args.packet.now.moment (frame_facts c.args.packet.now.frame.now) g.D.HasRuling.ruling _ c.in-Settled.ensures said);
   refused = tt;
   lone = λ four six. refl;
+  settled = λ none. refl;
 }
 
 pub returns-in-Ok : goal.returns-in-Ok
@@ -30,6 +31,7 @@ returns-in-Ok g c = record {
       c.in-Asks.ensures c.in-Ok.ensures.no_pages (sym c.verdict.ensures ∙ said);
   refused = tt;
   lone = λ four six. refl;
+  settled = λ none. refl;
 }
 
 pub returns-in-Err : goal.returns-in-Err
@@ -42,4 +44,7 @@ returns-in-Err g c = record {
       refused _ _ _ s c.args.packet.now g.D.HasRuling.ruling _ _ _ (record { seen = seen; ruled = c.requires.ruling })
       c.in-Asks.ensures c.in-Err.ensures.contended;
   lone = c.in-Err.ensures.lone;
+  settled = λ none.
+      let flow = flow_updated c.args.filter.now.times c.args.packet.now.moment (frame_facts c.args.packet.now.frame.now) g.D.HasRuling.ruling _ c.in-Asks.ensures in
+      absurd (let both = sym flow.1 ∙ none in let f : ⊥ = cc in f);
 }
