@@ -3,7 +3,7 @@ use Rattle.std.proofs.Common.{◌∙◌, refl, sym}
 use Rattle.packet_view.specs.Frames.{frame_facts}
 use Rattle.bihash_words.specs.Maps.{found_by}
 use Rattle.flow_workers.proofs.JudgedPackets.{answered, settled}
-use Rattle.flow_workers.proofs.ShortPackets.{settled_has_pages, short_packet}
+use Rattle.flow_workers.proofs.ShortPackets.{flow_reply, settled_has_pages, short_packet}
 use Rattle.flow_workers.proofs.judging.judge_as.Goals as goal
 
 pub returns-in-Settled : goal.returns-in-Settled
@@ -25,5 +25,6 @@ returns-in-Asks g c = record {
       c.in-Asks.ensures c.update-reply.ensures.entered c.verdict.ensures;
   no_pages = λ s seen said.
       short_packet _ _ _ c.args.filter.now.times s c.args.packet.now g.D.HasRuling.ruling _ _ c.update-reply.result (found_by c.update-reply.result) seen
-      c.in-Asks.ensures c.update-reply.ensures.no_pages (sym c.verdict.ensures ∙ said);
+      c.in-Asks.ensures (let idle = c.update-reply.ensures.idle in flow_reply _ _ _ _ _ c.update-reply.ensures.entered idle.lawful.0.acts idle.lawful.1.acts)
+      c.update-reply.ensures.no_pages (sym c.verdict.ensures ∙ said);
 }

@@ -35,5 +35,5 @@ returns g c =
           let own = ap (λ (p : PolicyFacts). p.own) (sym c.ready-filter.ensures.policy) in
           let framed = subst (λ o. IsFrame c.args.packet.now.frame.now o has.view) own has.framed in
           tells.settled (ap (λ f. flow_shown (frame_facts f)) c.new-packet.ensures.frame
-              ∙ (ap flow_shown (sym (c.view-frame.ensures.only has.view framed)) ∙ has.shown));
+          ∙ (ap flow_shown (sym (c.view-frame.ensures.only has.view framed)) ∙ has.shown));
     }

@@ -3,7 +3,7 @@ use Rattle.std.proofs.Common.{◌∙◌, refl, sym}
 use Rattle.packet_view.specs.Frames.{frame_facts}
 use Rattle.bihash_words.specs.Maps.{found_by}
 use Rattle.flow_workers.proofs.JudgedPackets.{answered, refused, settled}
-use Rattle.flow_workers.proofs.ShortPackets.{flow_updated, settled_has_pages, short_packet}
+use Rattle.flow_workers.proofs.ShortPackets.{flow_updated, flow_reply, settled_has_pages, short_packet}
 use Rattle.flow_workers.proofs.judging.try_judge_as.Goals as goal
 
 pub returns-in-Settled : goal.returns-in-Settled
@@ -28,7 +28,8 @@ returns-in-Ok g c = record {
       c.in-Asks.ensures c.in-Ok.ensures.entered c.verdict.ensures;
   no_pages = λ s seen said.
       short_packet _ _ _ c.args.filter.now.times s c.args.packet.now g.D.HasRuling.ruling _ _ c.in-Ok.reply (found_by c.in-Ok.reply) seen
-      c.in-Asks.ensures c.in-Ok.ensures.no_pages (sym c.verdict.ensures ∙ said);
+      c.in-Asks.ensures (let idle = c.in-Ok.ensures.idle in flow_reply _ _ _ _ _ c.in-Ok.ensures.entered idle.lawful.0.acts idle.lawful.1.acts)
+      c.in-Ok.ensures.no_pages (sym c.verdict.ensures ∙ said);
   refused = tt;
   lone = λ four six. refl;
   settled = λ none. refl;
