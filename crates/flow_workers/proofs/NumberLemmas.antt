@@ -1,18 +1,13 @@
 -- Callers of workers, split and joined.
-use Rattle.std.proofs.Common.{◌≡◌, ◌∙◌, ℕ, List, [], ◌∷◌, ◌++◌, ap, refl, sym, subst}
+use Rattle.std.proofs.Common.{◌≡◌, List, [], ◌∷◌, ◌++◌, ap, refl}
 use Rattle.std.specs.List.{All, AllZip}
 use Rattle.std.proofs.lemmas.List.Elements.{All-cons, All-head, All-nil, All-tail}
 use Rattle.packet_view.specs.declared.tuple.Family.{Family}
-use Rattle.bihash_words.specs.Sizes.{Sizes}
-use Rattle.bihash_steps.specs.Steps.{IsRefused, view_after_join, newcomer, parent}
-use Rattle.bihash_steps.specs.declared.faults.SplitFault.{SplitFault}
-use Rattle.bihash_steps.specs.declared.faults.SplitFault.TheVariants.{Memory, Numbers, Contended}
+use Rattle.bihash_steps.specs.Steps.{view_after_join}
 use Rattle.bihash_steps.specs.declared.view.Record.{Record}
 use Rattle.bihash_steps.specs.declared.view.View.{View}
-use Rattle.bihash_steps.specs.Views.{nothing_held}
 use Rattle.session_state.specs.declared.timeouts.Timeouts.{Timeouts}
 use Rattle.flow_dealing.specs.Traces.{HasCalls, HaveTraces, Item}
-use Rattle.flow_workers.specs.inner.Fresh.{IsFresh}
 
 -- one record before others
 with_trace : (times : Timeouts) (family : Family) (t : List Item) (ts : List (List Item)) (rs qs : List Record)

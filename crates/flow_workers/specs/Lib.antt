@@ -1,4 +1,5 @@
 pub mod Callers
+pub mod Calls
 pub mod Judging
 pub mod OutOfPages
 pub mod Verdicts

@@ -4,7 +4,12 @@ use Rattle.packet_view.specs.Captures.{PacketFacts}
 use Rattle.packet_view.specs.Frames.{IsFrame, FrameFacts}
 use Rattle.packet_view.specs.declared.tuple.Mac.{Mac}
 use Rattle.bihash_words.specs.Sizes.{bucket_of, sizes_of}
+use Rattle.bihash_words.specs.declared.patch.Reply.{Reply}
+use Rattle.bihash_words.specs.declared.patch.Reply.TheVariants.{NoPages}
 use Rattle.bihash_words.specs.declared.shape.Shape.{Ghosts}
+use Rattle.bihash_steps.specs.BucketSteps.{last_call}
+use Rattle.bihash_steps.specs.declared.view.Call.{Call}
+use Rattle.bihash_steps.specs.declared.view.View.{View}
 use Rattle.bihash_table.specs.OutOfPages.{IsOutOfPages}
 use Rattle.session_state.specs.declared.flow.Flow.{Flow}
 use Rattle.session_state.specs.declared.flow.FlowKey.{FlowKey}
@@ -17,7 +22,16 @@ abbrev pub IsFlowOutOfPages : {A B K L : Type 0} (ga : Ghosts A K) (gb : Ghosts 
 IsFlowOutOfPages ga gb (Four key) w log2 left = IsOutOfPages ga w.four (bucket_of (sizes_of ga) key) (ga.key_of key) log2 left
 IsFlowOutOfPages ga gb (Six key) w log2 left = IsOutOfPages gb w.six (bucket_of (sizes_of gb) key) (gb.key_of key) log2 left
 
--- the packet's flow found too few pages in its family's table
+-- the entry of the caller's last call has this reply
+abbrev pub HasLastReply : View → Reply → Type 0
+HasLastReply w reply = (c : Call) × (last_call w.records ≡ Some c) × (c.reply ≡ reply)
+
+-- so has that of the caller of this key's family
+abbrev pub IsFlowReply : FlowKey → Views → Reply → Type 0
+IsFlowReply (Four key) w reply = HasLastReply w.four reply
+IsFlowReply (Six key) w reply = HasLastReply w.six reply
+
+-- the packet's flow found too few pages in its family's table, as its entry says
 pub record IsPacketOutOfPages {A B K L : Type 0} (ga : Ghosts A K) (gb : Ghosts B L) (own : Option Mac) (packet : PacketFacts)
     (w : Views) : Type 0 where
   pub view : FrameFacts
@@ -26,4 +40,5 @@ pub record IsPacketOutOfPages {A B K L : Type 0} (ga : Ghosts A K) (gb : Ghosts 
   pub shown : flow_shown view ≡ Some flow
   pub log2 : ℕ
   pub left : ℕ
+  pub replied : IsFlowReply flow.key w (NoPages log2 left)
   pub short : IsFlowOutOfPages ga gb flow.key w log2 left

@@ -1,12 +1,15 @@
 -- The verdict of one packet, said of the callers that asked for it.
-use Rattle.std.specs.Prelude.{◌≡◌}
+use Rattle.std.specs.Prelude.{◌≡◌, Option, None}
 use Rattle.packet_view.specs.Captures.{PacketFacts}
+use Rattle.packet_view.specs.Frames.{IsFrame, FrameFacts}
+use Rattle.packet_view.specs.declared.tuple.Mac.{Mac}
 use Rattle.acl_policy.specs.Policies.{PolicyFacts}
 use Rattle.bihash_words.specs.declared.shape.Shape.{Ghosts}
 use Rattle.session_state.specs.declared.timeouts.Timeouts.{Timeouts}
 use Rattle.flow_filter.specs.declared.verdict.Verdict.{Verdict}
 use Rattle.flow_filter.specs.declared.verdict.Verdict.TheVariants.{NoPages}
 use Rattle.flow_filter.specs.OneThread.{layout_of}
+use Rattle.flow_dealing.specs.Dealings.{flow_shown}
 use Rattle.flow_workers.specs.declared.tables.Callers.{Callers}
 use Rattle.flow_workers.specs.Callers.{views_of}
 use Rattle.flow_workers.specs.Judging.{IsJudged, IsRefused}
@@ -22,6 +25,12 @@ HasVerdict ga gb times policy s old new verdict =
 abbrev pub HasNoVerdict : {A B K L : Type 0} (ga : Ghosts A K) (gb : Ghosts B L) → Timeouts → PolicyFacts → PacketFacts
     → Callers A B K L ga gb → Callers A B K L ga gb → Type 0
 HasNoVerdict ga gb times policy s old new = IsRefused (layout_of ga gb) times policy s (views_of ga gb old) (views_of ga gb new)
+
+-- the packet takes no part in sessions
+pub record HasNoFlow (own : Option Mac) (packet : PacketFacts) : Type 0 where
+  pub view : FrameFacts
+  pub framed : IsFrame packet.frame own view
+  pub shown : flow_shown view ≡ None
 
 -- no pages are said where there were too few
 abbrev pub ShowsOutOfPages : {A B K L : Type 0} (ga : Ghosts A K) (gb : Ghosts B L) → PolicyFacts → PacketFacts

@@ -1,6 +1,7 @@
 -- Definitions that go as the code goes. No promise is said by them.
 pub mod Fresh
 pub mod Jobs
+pub mod Numbers
 pub mod Parts
 pub mod Placing
 pub mod Preparing

@@ -1,13 +1,9 @@
 //! The verdict on one packet, by one update at most.
-ghost use Rattle.std.specs.Prelude.{◌≡◌, true, IfOk, IfErr, is_ok};
-ghost use Rattle.packet_view.specs.Captures.{PacketFacts, packet_facts};
 ghost use Rattle.packet_view.specs.Frames.{frame_facts};
-ghost use Rattle.acl_policy.specs.Policies.{policy_facts};
 ghost use Rattle.flow_filter.specs.Filters.{policy_in};
-ghost use Rattle.flow_workers.specs.Callers.{AreIdle, AreSame, AreShapes};
+ghost use Rattle.flow_workers.specs.Calls.{MayAsk, TellsVerdict, TellsVerdictTry};
 ghost use Rattle.flow_workers.specs.inner.Preparing.{IsRuling};
-ghost use Rattle.flow_workers.specs.Verdicts.{HasNoVerdict, HasVerdict, ShowsOutOfPages};
-ghost use Rattle.flow_workers.specs.inner.ViewedPackets.{IsViewed};
+ghost use Rattle.flow_workers.specs.inner.ViewedPackets.{TellsViewed, TellsViewedTry};
 
 use crate::prepared::Prepared;
 use crate::tables::{Callers, Tables};
@@ -27,19 +23,9 @@ fn try_judge_as<A: Shape, B: Shape, D: HasRuling>(
     callers: &mut Callers<A, B>,
     packet: &ViewedPacket<'_>,
 ) -> Result<Verdict, Contended>
-    requires shapes { AreShapes ⟦<A as Shape>⟧ ⟦<B as Shape>⟧ }
-    requires idle { AreIdle ⟦<A as Shape>⟧ ⟦<B as Shape>⟧ tables.now callers.old }
+    requires asks { MayAsk tables.now callers.old }
     requires ruling { IsRuling (policy_in filter.now) (frame_facts packet.now.frame.now) D.ruling }
-    ensures same { AreSame ⟦<A as Shape>⟧ ⟦<B as Shape>⟧ callers.old callers.new }
-    ensures idle { AreIdle ⟦<A as Shape>⟧ ⟦<B as Shape>⟧ tables.now callers.new }
-    ensures judged { IfOk result (λ verdict. (s : PacketFacts) → IsViewed filter.now.own s packet.now
-        → HasVerdict ⟦<A as Shape>⟧ ⟦<B as Shape>⟧ filter.now.times (policy_in filter.now) s callers.old callers.new verdict) }
-    ensures no_pages { IfOk result (λ verdict. (s : PacketFacts) → IsViewed filter.now.own s packet.now
-        → ShowsOutOfPages ⟦<A as Shape>⟧ ⟦<B as Shape>⟧ (policy_in filter.now) s callers.new verdict) }
-    ensures refused { IfErr result (λ _. (s : PacketFacts) → IsViewed filter.now.own s packet.now
-        → HasNoVerdict ⟦<A as Shape>⟧ ⟦<B as Shape>⟧ filter.now.times (policy_in filter.now) s callers.old callers.new) }
-    ensures lone { callers.old.four.seat.view.lone ≡ true → callers.old.six.seat.view.lone ≡ true
-        → is_ok result ≡ true }
+    ensures { TellsViewedTry filter.now packet.now tables.now callers.old callers.new result }
 {
     match Prepared::<D>::new(filter, packet) {
         Prepared::Settled(verdict) => Ok(verdict),
@@ -58,15 +44,9 @@ fn judge_as<A: Shape, B: Shape, D: HasRuling, R: Wait>(
     callers: &mut Callers<A, B>,
     packet: &ViewedPacket<'_>,
 ) -> Verdict
-    requires shapes { AreShapes ⟦<A as Shape>⟧ ⟦<B as Shape>⟧ }
-    requires idle { AreIdle ⟦<A as Shape>⟧ ⟦<B as Shape>⟧ tables.now callers.old }
+    requires asks { MayAsk tables.now callers.old }
     requires ruling { IsRuling (policy_in filter.now) (frame_facts packet.now.frame.now) D.ruling }
-    ensures same { AreSame ⟦<A as Shape>⟧ ⟦<B as Shape>⟧ callers.old callers.new }
-    ensures idle { AreIdle ⟦<A as Shape>⟧ ⟦<B as Shape>⟧ tables.now callers.new }
-    ensures judged { (s : PacketFacts) → IsViewed filter.now.own s packet.now
-        → HasVerdict ⟦<A as Shape>⟧ ⟦<B as Shape>⟧ filter.now.times (policy_in filter.now) s callers.old callers.new result }
-    ensures no_pages { (s : PacketFacts) → IsViewed filter.now.own s packet.now
-        → ShowsOutOfPages ⟦<A as Shape>⟧ ⟦<B as Shape>⟧ (policy_in filter.now) s callers.new result }
+    ensures { TellsViewed filter.now packet.now tables.now callers.old callers.new result }
 {
     match Prepared::<D>::new(filter, packet) {
         Prepared::Settled(verdict) => verdict,
@@ -85,14 +65,8 @@ pub fn judge_viewed<A: Shape, B: Shape, R: Wait>(
     callers: &mut Callers<A, B>,
     packet: &ViewedPacket<'_>,
 ) -> Verdict
-    requires shapes { AreShapes ⟦<A as Shape>⟧ ⟦<B as Shape>⟧ }
-    requires idle { AreIdle ⟦<A as Shape>⟧ ⟦<B as Shape>⟧ tables.now callers.old }
-    ensures same { AreSame ⟦<A as Shape>⟧ ⟦<B as Shape>⟧ callers.old callers.new }
-    ensures idle { AreIdle ⟦<A as Shape>⟧ ⟦<B as Shape>⟧ tables.now callers.new }
-    ensures judged { (s : PacketFacts) → IsViewed filter.now.own s packet.now
-        → HasVerdict ⟦<A as Shape>⟧ ⟦<B as Shape>⟧ filter.now.times (policy_in filter.now) s callers.old callers.new result }
-    ensures no_pages { (s : PacketFacts) → IsViewed filter.now.own s packet.now
-        → ShowsOutOfPages ⟦<A as Shape>⟧ ⟦<B as Shape>⟧ (policy_in filter.now) s callers.new result }
+    requires { MayAsk tables.now callers.old }
+    ensures { TellsViewed filter.now packet.now tables.now callers.old callers.new result }
 {
     judge_as::<A, B, Brand, R>(rt, filter, tables, callers, packet)
 }
@@ -105,14 +79,8 @@ pub fn judge<A: Shape, B: Shape, R: Wait>(
     callers: &mut Callers<A, B>,
     packet: &Packet<'_>,
 ) -> Verdict
-    requires shapes { AreShapes ⟦<A as Shape>⟧ ⟦<B as Shape>⟧ }
-    requires idle { AreIdle ⟦<A as Shape>⟧ ⟦<B as Shape>⟧ tables.now callers.old }
-    ensures same { AreSame ⟦<A as Shape>⟧ ⟦<B as Shape>⟧ callers.old callers.new }
-    ensures idle { AreIdle ⟦<A as Shape>⟧ ⟦<B as Shape>⟧ tables.now callers.new }
-    ensures judged { HasVerdict ⟦<A as Shape>⟧ ⟦<B as Shape>⟧ filter.now.times (policy_facts filter.now.policy) (packet_facts packet.now)
-        callers.old callers.new result }
-    ensures no_pages { ShowsOutOfPages ⟦<A as Shape>⟧ ⟦<B as Shape>⟧ (policy_facts filter.now.policy) (packet_facts packet.now)
-        callers.new result }
+    requires { MayAsk tables.now callers.old }
+    ensures { TellsVerdict filter.now packet.now tables.now callers.old callers.new result }
 {
     let filter = filter.ready();
     let frame = view(packet.frame, filter.own);
@@ -121,26 +89,15 @@ pub fn judge<A: Shape, B: Shape, R: Wait>(
     judge_viewed(rt, &filter, tables, callers, &packet)
 }
 
-/// The verdict on a packet, by one try. `Contended`: another caller's change or lock was met. A packet that takes no
-/// part in sessions meets none, and nor does one whose callers are lone.
+/// The verdict on a packet, by one try. `Contended`: another caller's change or lock was met.
 pub fn try_judge<A: Shape, B: Shape>(
     filter: &Filter,
     tables: &Tables<A, B>,
     callers: &mut Callers<A, B>,
     packet: &Packet<'_>,
 ) -> Result<Verdict, Contended>
-    requires shapes { AreShapes ⟦<A as Shape>⟧ ⟦<B as Shape>⟧ }
-    requires idle { AreIdle ⟦<A as Shape>⟧ ⟦<B as Shape>⟧ tables.now callers.old }
-    ensures same { AreSame ⟦<A as Shape>⟧ ⟦<B as Shape>⟧ callers.old callers.new }
-    ensures idle { AreIdle ⟦<A as Shape>⟧ ⟦<B as Shape>⟧ tables.now callers.new }
-    ensures judged { IfOk result (HasVerdict ⟦<A as Shape>⟧ ⟦<B as Shape>⟧ filter.now.times (policy_facts filter.now.policy)
-        (packet_facts packet.now) callers.old callers.new) }
-    ensures no_pages { IfOk result (ShowsOutOfPages ⟦<A as Shape>⟧ ⟦<B as Shape>⟧ (policy_facts filter.now.policy)
-        (packet_facts packet.now) callers.new) }
-    ensures refused { IfErr result (λ _. HasNoVerdict ⟦<A as Shape>⟧ ⟦<B as Shape>⟧ filter.now.times (policy_facts filter.now.policy)
-        (packet_facts packet.now) callers.old callers.new) }
-    ensures lone { callers.old.four.seat.view.lone ≡ true → callers.old.six.seat.view.lone ≡ true
-        → is_ok result ≡ true }
+    requires { MayAsk tables.now callers.old }
+    ensures { TellsVerdictTry filter.now packet.now tables.now callers.old callers.new result }
 {
     let filter = filter.ready();
     let frame = view(packet.frame, filter.own);

@@ -1,18 +1,8 @@
 //! One update of the table of a key's family: a try, and one that waits for its turn.
-ghost use Rattle.std.specs.Prelude.{◌≡◌, ℕ, true, length, IfOk, IfErr, is_ok};
-ghost use Rattle.bihash_words.specs.Sizes.{bucket_of, sizes_of};
-ghost use Rattle.bihash_words.specs.declared.patch.Reply.TheVariants.{NoPages};
-ghost use Rattle.bihash_steps.specs.Callers.{IsLawfulCaller};
-ghost use Rattle.bihash_steps.specs.Seats.{with_view};
-ghost use Rattle.bihash_steps.specs.Views.{nothing_held};
-ghost use Rattle.bihash_table.specs.Promise.{IsAnswered, IsContended};
-ghost use Rattle.bihash_table.specs.OutOfPages.{IsOutOfPages};
-ghost use Rattle.flow_filter.specs.OneThread.{layout_of};
-ghost use Rattle.flow_filter.specs.Updates.{words_of};
-ghost use Rattle.flow_workers.specs.Callers.{AreIdle, AreSame, AreShapes, views_of};
-ghost use Rattle.flow_workers.specs.Judging.{IsAway, IsEntered};
-ghost use Rattle.flow_workers.specs.OutOfPages.{IsFlowOutOfPages};
-ghost use Rattle.flow_workers.specs.inner.Updates.{told};
+ghost use Rattle.std.specs.Prelude.{◌≡◌, length};
+ghost use Rattle.bihash_steps.specs.CallerCalls.{IsIdle};
+ghost use Rattle.flow_workers.specs.Calls.{MayAsk};
+ghost use Rattle.flow_workers.specs.inner.Updates.{TellsFlow, TellsFlowTry, TellsWords, TellsWordsTry};
 
 use crate::tables::{Callers, Tables};
 use bihash_table::{Caller, Contended, Sessions};
@@ -28,17 +18,8 @@ fn try_update_in<S: Shape, P: Patch>(
     patch: &P,
 ) -> Result<Reply, Contended>
     requires counted { length words.now ≡ S.WORDS }
-    requires own { caller.old.seat.row ≡ table.now.row }
-    requires free { caller.old.seat.view.holds ≡ nothing_held }
-    ensures same { caller.new.seat ≡ with_view caller.old.seat caller.new.seat.view }
-    ensures answered { IfOk result (λ reply. IsAnswered (sizes_of S.Shape) caller.old.seat.view caller.new.seat.view
-        (told words.now (P.decision patch.now) reply)) }
-    ensures no_pages { IfOk result (λ reply. (log2 left : ℕ) → reply ≡ NoPages log2 left → IsOutOfPages ⟦<S as Shape>⟧
-        caller.new.seat.view (bucket_of (sizes_of S.Shape) words.now) (S.key_of words.now) log2 left) }
-    ensures contended { IfErr result (λ _. IsContended (sizes_of S.Shape) caller.old.seat.view caller.new.seat.view
-        (bucket_of (sizes_of S.Shape) words.now)) }
-    ensures lone { caller.old.seat.view.lone ≡ true → is_ok result ≡ true }
-    ensures lawful { IsLawfulCaller (sizes_of S.Shape) caller.new.seat.view }
+    requires idle { IsIdle table.now.row caller.old.seat }
+    ensures { TellsWordsTry ⟦<S as Shape>⟧ caller.old.seat caller.new.seat words.now (P.decision patch.now) result }
 {
     table.try_update(caller, &S::key(words), patch)
 }
@@ -52,14 +33,8 @@ fn update_in<S: Shape, P: Patch, R: Wait>(
     patch: &P,
 ) -> Reply
     requires counted { length words.now ≡ S.WORDS }
-    requires own { caller.old.seat.row ≡ table.now.row }
-    requires free { caller.old.seat.view.holds ≡ nothing_held }
-    ensures same { caller.new.seat ≡ with_view caller.old.seat caller.new.seat.view }
-    ensures answered { IsAnswered (sizes_of S.Shape) caller.old.seat.view caller.new.seat.view
-        (told words.now (P.decision patch.now) result) }
-    ensures no_pages { (log2 left : ℕ) → result ≡ NoPages log2 left → IsOutOfPages ⟦<S as Shape>⟧
-        caller.new.seat.view (bucket_of (sizes_of S.Shape) words.now) (S.key_of words.now) log2 left }
-    ensures lawful { IsLawfulCaller (sizes_of S.Shape) caller.new.seat.view }
+    requires idle { IsIdle table.now.row caller.old.seat }
+    ensures { TellsWords ⟦<S as Shape>⟧ caller.old.seat caller.new.seat words.now (P.decision patch.now) result }
 {
     table.update(rt, caller, &S::key(words), patch)
 }
@@ -71,19 +46,8 @@ pub fn try_update<A: Shape, B: Shape, P: Patch>(
     key: FlowKey,
     patch: &P,
 ) -> Result<Reply, Contended>
-    requires shapes { AreShapes ⟦<A as Shape>⟧ ⟦<B as Shape>⟧ }
-    requires idle { AreIdle ⟦<A as Shape>⟧ ⟦<B as Shape>⟧ tables.now callers.old }
-    ensures same { AreSame ⟦<A as Shape>⟧ ⟦<B as Shape>⟧ callers.old callers.new }
-    ensures idle { AreIdle ⟦<A as Shape>⟧ ⟦<B as Shape>⟧ tables.now callers.new }
-    ensures entered { IfOk result (λ reply. IsEntered (layout_of ⟦<A as Shape>⟧ ⟦<B as Shape>⟧) key
-        (told (words_of key) (P.decision patch.now) reply)
-        (views_of ⟦<A as Shape>⟧ ⟦<B as Shape>⟧ callers.old) (views_of ⟦<A as Shape>⟧ ⟦<B as Shape>⟧ callers.new)) }
-    ensures no_pages { IfOk result (λ reply. (log2 left : ℕ) → reply ≡ NoPages log2 left
-        → IsFlowOutOfPages ⟦<A as Shape>⟧ ⟦<B as Shape>⟧ key (views_of ⟦<A as Shape>⟧ ⟦<B as Shape>⟧ callers.new) log2 left) }
-    ensures contended { IfErr result (λ _. IsAway (layout_of ⟦<A as Shape>⟧ ⟦<B as Shape>⟧) key
-        (views_of ⟦<A as Shape>⟧ ⟦<B as Shape>⟧ callers.old) (views_of ⟦<A as Shape>⟧ ⟦<B as Shape>⟧ callers.new)) }
-    ensures lone { callers.old.four.seat.view.lone ≡ true → callers.old.six.seat.view.lone ≡ true
-        → is_ok result ≡ true }
+    requires { MayAsk tables.now callers.old }
+    ensures { TellsFlowTry tables.now callers.old callers.new key (P.decision patch.now) result }
 {
     match key {
         FlowKey::Four(words) => {
@@ -103,15 +67,8 @@ pub fn update<A: Shape, B: Shape, P: Patch, R: Wait>(
     key: FlowKey,
     patch: &P,
 ) -> Reply
-    requires shapes { AreShapes ⟦<A as Shape>⟧ ⟦<B as Shape>⟧ }
-    requires idle { AreIdle ⟦<A as Shape>⟧ ⟦<B as Shape>⟧ tables.now callers.old }
-    ensures same { AreSame ⟦<A as Shape>⟧ ⟦<B as Shape>⟧ callers.old callers.new }
-    ensures idle { AreIdle ⟦<A as Shape>⟧ ⟦<B as Shape>⟧ tables.now callers.new }
-    ensures entered { IsEntered (layout_of ⟦<A as Shape>⟧ ⟦<B as Shape>⟧) key
-        (told (words_of key) (P.decision patch.now) result)
-        (views_of ⟦<A as Shape>⟧ ⟦<B as Shape>⟧ callers.old) (views_of ⟦<A as Shape>⟧ ⟦<B as Shape>⟧ callers.new) }
-    ensures no_pages { (log2 left : ℕ) → result ≡ NoPages log2 left
-        → IsFlowOutOfPages ⟦<A as Shape>⟧ ⟦<B as Shape>⟧ key (views_of ⟦<A as Shape>⟧ ⟦<B as Shape>⟧ callers.new) log2 left }
+    requires { MayAsk tables.now callers.old }
+    ensures { TellsFlow tables.now callers.old callers.new key (P.decision patch.now) result }
 {
     match key {
         FlowKey::Four(words) => {

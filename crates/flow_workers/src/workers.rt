@@ -1,16 +1,15 @@
 //! Many workers at once.
-ghost use Rattle.std.specs.Prelude.{◌≡◌, ◌⊎◌, ◌<◌, ◌≤◌, ℕ, All, IfOk, length, slice_index_or};
+ghost use Rattle.std.specs.Prelude.{◌≡◌, ◌⊎◌, ◌≤◌, All, IfOk};
 ghost use Rattle.packet_view.specs.CheckedCaptures.{held};
 ghost use Rattle.packet_view.specs.declared.tuple.Family.{Family};
 ghost use Rattle.acl_policy.specs.Policies.{policy_facts};
 ghost use Rattle.flow_filter.specs.OneThread.{AreVerdicts, layout_of};
 ghost use Rattle.flow_dealing.specs.declared.dealing.Dealing.TheVariants.{Bucket};
 ghost use Rattle.flow_dealing.specs.Runs.{AreFew, AreJudged, HasPagesIn, HavePages};
-ghost use Rattle.flow_workers.specs.Callers.{AreIdle, AreShapes};
-ghost use Rattle.flow_workers.specs.inner.Fresh.{IsFresh};
+ghost use Rattle.flow_workers.specs.Callers.{AreShapes};
 ghost use Rattle.flow_workers.specs.inner.Jobs.{run_facts};
 ghost use Rattle.flow_workers.specs.inner.Parts.{AreParts};
-ghost use Rattle.flow_workers.specs.inner.Turns.{Becomes, CanTake, IsAhead, IsPast};
+ghost use Rattle.flow_workers.specs.inner.Turns.{AreAhead, MayRun};
 
 use crate::gate::Gate;
 use crate::numbers::{join_whole, split_one};
@@ -36,15 +35,8 @@ fn turns_ahead<'t, 'a, A: Shape, B: Shape, R: Wait, G: Gate>(
     run: Run<'t, 'a, A, B, R, G>,
     callers: Callers<A, B>,
 ) -> Result<Vec<Turn<'t, 'a, A, B, R, G>>, AllocError>
-    requires some { 1 ≤ run.workers }
-    requires shapes { AreShapes ⟦<A as Shape>⟧ ⟦<B as Shape>⟧ }
-    requires idle { AreIdle ⟦<A as Shape>⟧ ⟦<B as Shape>⟧ run.tables.now callers }
-    requires fresh { IsFresh callers.four.seat.view × IsFresh callers.six.seat.view }
-    ensures ready { IfOk result (λ v. All (CanTake ⟦<A as Shape>⟧ ⟦<B as Shape>⟧) v.items) }
-    ensures count { IfOk result (λ v. length v.items ≡ run.entry.workers) }
-    ensures each { IfOk result (λ v. (i : ℕ) (d : _) → i < run.entry.workers
-        → IsAhead ⟦<A as Shape>⟧ ⟦<B as Shape>⟧ run.entry.tables.now
-        (run_facts ⟦<A as Shape>⟧ ⟦<B as Shape>⟧ run.entry) i (slice_index_or v.items i d)) }
+    requires { MayRun run callers }
+    ensures { IfOk result (λ v. AreAhead run.entry v.items) }
 {
     let Callers { mut four, mut six } = callers;
     let last = run.workers - 1;
@@ -73,26 +65,6 @@ fn turns_ahead<'t, 'a, A: Shape, B: Shape, R: Wait, G: Gate>(
     Ok(turns)
 }
 
-// The turns of all workers, at once.
-fn turns_over<
-    't,
-    'a,
-    A: Shape + Send + Sync,
-    B: Shape + Send + Sync,
-    R: Threads + Wait + Sync,
-    G: Gate + Sync,
->(rt: &R, turns: Vec<Turn<'t, 'a, A, B, R, G>>) -> Result<Vec<Turn<'t, 'a, A, B, R, G>>, AllocError>
-where
-    A::Key: Send + Sync,
-    B::Key: Send + Sync,
-    requires { All (CanTake ⟦<A as Shape>⟧ ⟦<B as Shape>⟧) turns.items }
-    ensures count { IfOk result (λ v. length v.items ≡ length turns.entry.items) }
-    ensures each { IfOk result (λ v. (i : ℕ) (d : _) (e : _) → i < length turns.entry.items
-        → Becomes ⟦<A as Shape>⟧ ⟦<B as Shape>⟧ (slice_index_or turns.entry.items i e) (slice_index_or v.items i d)) }
-{
-    run_all(rt, turns)
-}
-
 // What all workers of a run give back, where none of them is refused memory.
 fn work_all<
     't,
@@ -109,16 +81,13 @@ fn work_all<
 where
     A::Key: Send + Sync,
     B::Key: Send + Sync,
-    requires some { 1 ≤ run.workers }
-    requires shapes { AreShapes ⟦<A as Shape>⟧ ⟦<B as Shape>⟧ }
-    requires idle { AreIdle ⟦<A as Shape>⟧ ⟦<B as Shape>⟧ run.tables.now callers }
-    requires fresh { IsFresh callers.four.seat.view × IsFresh callers.six.seat.view }
+    requires { MayRun run callers }
     ensures { IfOk result (λ parts. AreParts ⟦<A as Shape>⟧ ⟦<B as Shape>⟧ run.entry.tables.now
         (run_facts ⟦<A as Shape>⟧ ⟦<B as Shape>⟧ run.entry) parts) }
 {
     let rt = run.rt;
     let ahead = turns_ahead(alloc, run, callers)?;
-    let over = turns_over(rt, ahead)?;
+    let over = run_all(rt, ahead)?;
     parts_of(alloc, over)
 }
 

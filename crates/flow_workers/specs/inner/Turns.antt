@@ -1,16 +1,18 @@
 -- What becomes of workers.
-use Rattle.std.specs.Prelude.{◌≡◌, ℕ, List, [], ◌∷◌, map, IfOk, Ok}
+use Rattle.std.specs.Prelude.{◌≡◌, ◌<◌, ◌≤◌, ℕ, List, [], ◌∷◌, All, map, length, slice_index_or, IfOk, Ok}
 use Rattle.packet_view.specs.declared.tuple.Family.TheVariants.{V4, V6}
 use Rattle.bihash_words.specs.declared.shape.Shape.{Ghosts}
 use Rattle.flow_dealing.specs.Traces.{HaveTraces, IsTrace, Item}
 use Rattle.bihash_steps.specs.declared.row.Caller.{Caller}
 use Rattle.flow_workers.specs.declared.share.Job.{Job}
+use Rattle.flow_workers.specs.declared.share.Run.{Run}
 use Rattle.flow_workers.specs.declared.share.Said.{Said}
 use Rattle.flow_workers.specs.declared.share.Share.{Share}
+use Rattle.flow_workers.specs.declared.tables.Callers.{Callers}
 use Rattle.flow_workers.specs.declared.tables.Tables.{Tables}
 use Rattle.flow_workers.specs.declared.turn.Turn.{Turn}
 use Rattle.flow_workers.specs.declared.turn.Turn.TheVariants.{Ahead, Over}
-use Rattle.flow_workers.specs.Callers.{AreIdle}
+use Rattle.flow_workers.specs.Callers.{AreIdle, AreShapes}
 use Rattle.flow_workers.specs.inner.Fresh.{IsFresh}
 use Rattle.flow_workers.specs.inner.Work.{AreSaid, RunFacts}
 use Rattle.flow_workers.specs.inner.Jobs.{CanWork, IsShareOf, run_facts}
@@ -36,6 +38,22 @@ pub record IsJob {A B R G K L : Type 0} (ga : Ghosts A K) (gb : Ghosts B L) (tab
 abbrev pub IsAhead : {A B R G K L : Type 0} (ga : Ghosts A K) (gb : Ghosts B L) → Tables A B K L → RunFacts → ℕ → Turn A B R G K L ga gb → Type 0
 IsAhead ga gb tables run w (Ahead job) = IsJob ga gb tables run w job
 IsAhead ga gb tables run w (Over done) = ⊥
+
+-- what a run of workers begins with: callers of its tables that made no call
+pub record MayRun {A B R G K L : Type 0} {ga : Ghosts A K} {gb : Ghosts B L} (run : Run A B R G K L)
+    (callers : Callers A B K L ga gb) : Type 0 where
+  pub some : 1 ≤ run.workers
+  pub shapes : AreShapes ga gb
+  pub idle : AreIdle ga gb run.tables.now callers
+  pub fresh : IsFresh callers.four.seat.view × IsFresh callers.six.seat.view
+
+-- the turns of all workers of the run
+pub record AreAhead {A B R G K L : Type 0} {ga : Ghosts A K} {gb : Ghosts B L} (run : Run A B R G K L)
+    (turns : List (Turn A B R G K L ga gb)) : Type 0 where
+  pub ready : All (CanTake ga gb) turns
+  pub count : length turns ≡ run.workers
+  pub each : (i : ℕ) (d : Turn A B R G K L ga gb) → i < run.workers
+      → IsAhead ga gb run.tables.now (run_facts ga gb run) i (slice_index_or turns i d)
 
 -- what a worker of the run did: a trace, which is in its callers' records, and its verdicts
 pub record IsDone {A B K L : Type 0} (ga : Ghosts A K) (gb : Ghosts B L) (tables : Tables A B K L) (run : RunFacts) (w : ℕ)

@@ -4,14 +4,15 @@ use Rattle.flow_workers.specs.Verdicts.{HasVerdict, ShowsOutOfPages}
 use Rattle.flow_workers.proofs.JudgedPackets.{of_filter}
 use Rattle.flow_workers.proofs.judging.judge.Goals as goal
 
-pub returns-clause-judged : goal.returns-clause-judged
-returns-clause-judged g c =
-    of_filter (λ times policy. HasVerdict g.A.Shape g.B.Shape times policy (packet_facts c.args.packet.now) c.args.callers.now c.judge_viewed.new.callers
-    c.judge_viewed.result) c.ready-filter.ensures.times c.ready-filter.ensures.policy
-    (c.judge_viewed.ensures.judged (packet_facts c.args.packet.now) (c.new-packet.ensures.seen _ c.view-frame.ensures.shown))
-
-pub returns-clause-no_pages : goal.returns-clause-no_pages
-returns-clause-no_pages g c =
-    of_filter (λ times policy. ShowsOutOfPages g.A.Shape g.B.Shape policy (packet_facts c.args.packet.now) c.judge_viewed.new.callers c.judge_viewed.result)
-    c.ready-filter.ensures.times c.ready-filter.ensures.policy
-    (c.judge_viewed.ensures.no_pages (packet_facts c.args.packet.now) (c.new-packet.ensures.seen _ c.view-frame.ensures.shown))
+pub returns : goal.returns
+returns g c =
+    let tells = c.judge_viewed.ensures in
+    let seen = c.new-packet.ensures.seen _ c.view-frame.ensures.shown in
+    let packet = packet_facts c.args.packet.now in record {
+      same = tells.same;
+      idle = tells.idle;
+      judged = of_filter (λ times policy. HasVerdict g.A.Shape g.B.Shape times policy packet c.args.callers.now c.judge_viewed.new.callers
+          c.judge_viewed.result) c.ready-filter.ensures.times c.ready-filter.ensures.policy (tells.judged packet seen);
+      no_pages = of_filter (λ times policy. ShowsOutOfPages g.A.Shape g.B.Shape policy packet c.judge_viewed.new.callers c.judge_viewed.result)
+          c.ready-filter.ensures.times c.ready-filter.ensures.policy (tells.no_pages packet seen);
+    }

@@ -1,7 +1,10 @@
 -- The packet is the one that was viewed, and the filter at hand is that of the call.
+use Rattle.std.proofs.Common.{◌∙◌, ap, subst, sym}
 use Rattle.packet_view.specs.Captures.{packet_facts}
-use Rattle.packet_view.specs.Frames.{frame_facts}
+use Rattle.packet_view.specs.Frames.{IsFrame, frame_facts}
+use Rattle.acl_policy.specs.Policies.{PolicyFacts}
 use Rattle.flow_filter.specs.Filters.{policy_in}
+use Rattle.flow_dealing.specs.Dealings.{flow_shown}
 use Rattle.flow_workers.specs.Verdicts.{HasNoVerdict, HasVerdict, ShowsOutOfPages}
 use Rattle.flow_workers.proofs.AnsweredUpdates.{if_err, if_ok}
 use Rattle.flow_workers.proofs.JudgedPackets.{is_ruling, of_filter}
@@ -10,26 +13,27 @@ use Rattle.flow_workers.proofs.judging.try_judge.Goals as goal
 pub try_judge_as-requires-clause-ruling : goal.try_judge_as-requires-clause-ruling
 try_judge_as-requires-clause-ruling g c = is_ruling (policy_in c.ready-filter.result) (frame_facts c.new-packet.result.frame.now)
 
-pub returns-clause-judged : goal.returns-clause-judged
-returns-clause-judged g c =
-    if_ok _ _ c.try_judge_as.result
-    (λ verdict judged. of_filter (λ times policy. HasVerdict g.A.Shape g.B.Shape times policy (packet_facts c.args.packet.now) c.args.callers.now
-    c.try_judge_as.new.callers verdict) c.ready-filter.ensures.times c.ready-filter.ensures.policy
-    (judged (packet_facts c.args.packet.now) (c.new-packet.ensures.seen _ c.view-frame.ensures.shown)))
-    c.try_judge_as.ensures.judged
-
-pub returns-clause-no_pages : goal.returns-clause-no_pages
-returns-clause-no_pages g c =
-    if_ok _ _ c.try_judge_as.result
-    (λ verdict short. of_filter (λ times policy. ShowsOutOfPages g.A.Shape g.B.Shape policy (packet_facts c.args.packet.now) c.try_judge_as.new.callers verdict)
-    c.ready-filter.ensures.times c.ready-filter.ensures.policy
-    (short (packet_facts c.args.packet.now) (c.new-packet.ensures.seen _ c.view-frame.ensures.shown)))
-    c.try_judge_as.ensures.no_pages
-
-pub returns-clause-refused : goal.returns-clause-refused
-returns-clause-refused g c =
-    if_err _ _ c.try_judge_as.result
-    (λ contended refused. of_filter (λ times policy. HasNoVerdict g.A.Shape g.B.Shape times policy (packet_facts c.args.packet.now) c.args.callers.now
-    c.try_judge_as.new.callers) c.ready-filter.ensures.times c.ready-filter.ensures.policy
-    (refused (packet_facts c.args.packet.now) (c.new-packet.ensures.seen _ c.view-frame.ensures.shown)))
-    c.try_judge_as.ensures.refused
+pub returns : goal.returns
+returns g c =
+    let tells = c.try_judge_as.ensures in
+    let new = c.try_judge_as.new.callers in
+    let seen = c.new-packet.ensures.seen _ c.view-frame.ensures.shown in
+    let packet = packet_facts c.args.packet.now in record {
+      same = tells.same;
+      idle = tells.idle;
+      judged = if_ok _ _ c.try_judge_as.result
+          (λ verdict judged. of_filter (λ times policy. HasVerdict g.A.Shape g.B.Shape times policy packet c.args.callers.now new verdict)
+          c.ready-filter.ensures.times c.ready-filter.ensures.policy (judged packet seen)) tells.judged;
+      no_pages = if_ok _ _ c.try_judge_as.result
+          (λ verdict short. of_filter (λ times policy. ShowsOutOfPages g.A.Shape g.B.Shape policy packet new verdict)
+          c.ready-filter.ensures.times c.ready-filter.ensures.policy (short packet seen)) tells.no_pages;
+      refused = if_err _ _ c.try_judge_as.result
+          (λ contended refused. of_filter (λ times policy. HasNoVerdict g.A.Shape g.B.Shape times policy packet c.args.callers.now new)
+          c.ready-filter.ensures.times c.ready-filter.ensures.policy (refused packet seen)) tells.refused;
+      lone = tells.lone;
+      settled = λ has.
+          let own = ap (λ (p : PolicyFacts). p.own) (sym c.ready-filter.ensures.policy) in
+          let framed = subst (λ o. IsFrame c.args.packet.now.frame.now o has.view) own has.framed in
+          tells.settled (ap (λ f. flow_shown (frame_facts f)) c.new-packet.ensures.frame
+          ∙ (ap flow_shown (sym (c.view-frame.ensures.only has.view framed)) ∙ has.shown));
+    }

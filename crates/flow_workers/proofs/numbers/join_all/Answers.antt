@@ -20,19 +20,19 @@ loop-caller-init g c =
           (last.front, last.last ∷ [], last.split, last.others, last.one);
     }
 
-pub join_one-joined-requires-clause-own : goal.join_one-joined-requires-clause-own
-join_one-joined-requires-clause-own g c =
-    let popped : c.loop-caller.callers.items ≡ c.pop-in-loop-caller.new.self.items ++ c.in-Some-pop.caller ∷ [] = c.in-Some-pop.ensures.items in (
-      (all_but_last (λ k. k.seat.row ≡ c.args.table.now.row) _ _ (subst (All (λ k. k.seat.row ≡ c.args.table.now.row)) popped c.loop-caller.invariant.left.0)).1,
-      c.loop-caller.invariant.own,
-    )
-
-pub join_one-joined-requires-clause-free : goal.join_one-joined-requires-clause-free
-join_one-joined-requires-clause-free g c =
-    let popped : c.loop-caller.callers.items ≡ c.pop-in-loop-caller.new.self.items ++ c.in-Some-pop.caller ∷ [] = c.in-Some-pop.ensures.items in (
-      (all_but_last (λ k. k.seat.view.holds ≡ nothing_held) _ _ (subst (All (λ k. k.seat.view.holds ≡ nothing_held)) popped c.loop-caller.invariant.left.1)).1,
-      c.loop-caller.invariant.free,
-    )
+pub join_one-joined-requires : goal.join_one-joined-requires
+join_one-joined-requires g c =
+    let popped : c.loop-caller.callers.items ≡ c.pop-in-loop-caller.new.self.items ++ c.in-Some-pop.caller ∷ [] = c.in-Some-pop.ensures.items in
+    let left = c.loop-caller.invariant.left in record {
+      own = (
+        (all_but_last (λ k. k.seat.row ≡ c.args.table.now.row) _ _ (subst (All (λ k. k.seat.row ≡ c.args.table.now.row)) popped left.0)).1,
+        c.loop-caller.invariant.own,
+      );
+      free = (
+        (all_but_last (λ k. k.seat.view.holds ≡ nothing_held) _ _ (subst (All (λ k. k.seat.view.holds ≡ nothing_held)) popped left.1)).1,
+        c.loop-caller.invariant.free,
+      );
+    }
 
 pub loop-caller-preserved : goal.loop-caller-preserved
 loop-caller-preserved g c =
@@ -57,9 +57,13 @@ loop-caller-preserved g c =
           );
     }
 
-pub returns-clause-traces : goal.returns-clause-traces
-returns-clause-traces g c times family traces each =
+pub returns : goal.returns
+returns g c =
     let left : c.loop-caller.callers.items ≡ [] = grind (arith, c.in_default-pop.ensures.items, c.in_default-pop.ensures.cases) in
-    let old = c.loop-caller.invariant.traces times family traces each in
-    subst (λ ts. HaveTraces times family ts c.loop-caller.joined.seat.view)
-    (sym (old.2 ∙ ap (λ (ts : List (List Item)). ts ++ old.1) (no_traces _ old.0 _ left old.3))) old.4
+    record {
+      own = c.loop-caller.invariant.own;
+      traces = λ times family traces each.
+          let old = c.loop-caller.invariant.traces times family traces each in
+          subst (λ ts. HaveTraces times family ts c.loop-caller.joined.seat.view)
+          (sym (old.2 ∙ ap (λ (ts : List (List Item)). ts ++ old.1) (no_traces _ old.0 _ left old.3))) old.4;
+    }

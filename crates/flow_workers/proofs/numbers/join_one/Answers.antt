@@ -1,10 +1,15 @@
-use Rattle.std.proofs.Common.{◌∷◌, sym, subst}
+use Rattle.std.proofs.Common.{◌∷◌, ap, sym, subst, ◌∙◌}
 use Rattle.bihash_steps.specs.Seats.{CallerState}
 use Rattle.flow_dealing.specs.Traces.{HaveTraces}
 use Rattle.flow_workers.proofs.NumberLemmas.{joined_traces}
 use Rattle.flow_workers.proofs.numbers.join_one.Goals as goal
 
-pub returns-clause-traces : goal.returns-clause-traces
-returns-clause-traces g c times family t ts one more =
-    subst (λ (s : CallerState). HaveTraces times family (t ∷ ts) s.view) (sym c.join.ensures.view)
-    (joined_traces c.args.worker.seat.view c.args.others.seat.view times family t ts one more)
+pub returns : goal.returns
+returns g c = record {
+  own = ap (λ (s : CallerState). s.row) c.join.ensures.view ∙ c.requires.own.0;
+  free = ap (λ (s : CallerState). s.view.holds) c.join.ensures.view ∙ c.requires.free.0;
+  lawful = c.join.ensures.lawful;
+  traces = λ times family t ts one more.
+      subst (λ (s : CallerState). HaveTraces times family (t ∷ ts) s.view) (sym c.join.ensures.view)
+      (joined_traces c.args.worker.seat.view c.args.others.seat.view times family t ts one more);
+}

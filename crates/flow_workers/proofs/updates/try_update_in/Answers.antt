@@ -5,24 +5,19 @@ use Rattle.bihash_table.specs.Promise.{IsContended}
 use Rattle.flow_workers.proofs.AnsweredUpdates.{as_told, if_ok, short_at}
 use Rattle.flow_workers.proofs.updates.try_update_in.Goals as goal
 
-pub returns-clause-answered : goal.returns-clause-answered
-returns-clause-answered g c =
+pub returns : goal.returns
+returns g c =
     let key : g.S.Shape.words_of c.key.result ≡ c.args.words.now
     = ap g.S.Shape.words_of c.key.ensures ∙ g.met.S.Shape.words_of_key c.args.words.now c.requires.counted in
-    if_ok _ _ c.try_update.result (λ reply updated. as_told _ _ _ _ _ _ reply key updated c.try_update.ensures.lawful)
-    c.try_update.ensures.answered
-
-pub returns-clause-contended : goal.returns-clause-contended
-returns-clause-contended g c =
-    let key : g.S.Shape.words_of c.key.result ≡ c.args.words.now
-    = ap g.S.Shape.words_of c.key.ensures ∙ g.met.S.Shape.words_of_key c.args.words.now c.requires.counted in
-    subst (λ words. IfErr c.try_update.result (λ _. IsContended (sizes_of g.S.Shape) c.args.caller.now.seat.view c.try_update.new.caller.seat.view
-    (bucket_of (sizes_of g.S.Shape) words))) key c.try_update.ensures.contended
-
-pub returns-clause-no_pages : goal.returns-clause-no_pages
-returns-clause-no_pages g c =
-    let key : g.S.Shape.words_of c.key.result ≡ c.args.words.now
-    = ap g.S.Shape.words_of c.key.ensures ∙ g.met.S.Shape.words_of_key c.args.words.now c.requires.counted in
-    if_ok _ _ c.try_update.result
-    (λ reply short log2 left is. short_at g.S.Shape c.try_update.new.caller.seat.view c.key.result c.args.words.now log2 left c.key.ensures key (short log2 left is))
-    c.try_update.ensures.no_pages
+    let tells = c.try_update.ensures in record {
+      same = tells.same;
+      answered = if_ok _ _ c.try_update.result (λ reply updated. as_told _ _ _ _ _ _ reply key updated tells.lawful) tells.answered;
+      no_pages = if_ok _ _ c.try_update.result
+          (λ reply short log2 left is.
+          short_at g.S.Shape c.try_update.new.caller.seat.view c.key.result c.args.words.now log2 left c.key.ensures key (short log2 left is))
+          tells.no_pages;
+      contended = subst (λ words. IfErr c.try_update.result (λ _. IsContended (sizes_of g.S.Shape) c.args.caller.now.seat.view
+          c.try_update.new.caller.seat.view (bucket_of (sizes_of g.S.Shape) words))) key tells.contended;
+      lone = tells.lone;
+      lawful = tells.lawful;
+    }

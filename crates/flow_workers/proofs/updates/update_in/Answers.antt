@@ -3,14 +3,14 @@ use Rattle.std.proofs.Common.{◌≡◌, ◌∙◌, ap}
 use Rattle.flow_workers.proofs.AnsweredUpdates.{as_told, short_at}
 use Rattle.flow_workers.proofs.updates.update_in.Goals as goal
 
-pub returns-clause-answered : goal.returns-clause-answered
-returns-clause-answered g c =
+pub returns : goal.returns
+returns g c =
     let key : g.S.Shape.words_of c.key.result ≡ c.args.words.now
     = ap g.S.Shape.words_of c.key.ensures ∙ g.met.S.Shape.words_of_key c.args.words.now c.requires.counted in
-    as_told _ _ _ _ _ _ c.update.result key c.update.ensures.answered c.update.ensures.lawful
-
-pub returns-clause-no_pages : goal.returns-clause-no_pages
-returns-clause-no_pages g c log2 left is =
-    let key : g.S.Shape.words_of c.key.result ≡ c.args.words.now
-    = ap g.S.Shape.words_of c.key.ensures ∙ g.met.S.Shape.words_of_key c.args.words.now c.requires.counted in
-    short_at g.S.Shape c.update.new.caller.seat.view c.key.result c.args.words.now log2 left c.key.ensures key (c.update.ensures.no_pages log2 left is)
+    let tells = c.update.ensures in record {
+      same = tells.same;
+      answered = as_told _ _ _ _ _ _ c.update.result key tells.answered tells.lawful;
+      no_pages = λ log2 left is.
+          short_at g.S.Shape c.update.new.caller.seat.view c.key.result c.args.words.now log2 left c.key.ensures key (tells.no_pages log2 left is);
+      lawful = tells.lawful;
+    }

@@ -1,11 +1,10 @@
-use Rattle.std.proofs.Common.{◌≡◌, ◌∙◌, ◌+◌, ◌≢◌, ℕ, [], ap, sym, subst, length, arith, refl}
+use Rattle.std.proofs.Common.{◌∙◌, ap, sym, arith, refl}
 use Rattle.std.proofs.lemmas.Bool.{ne_eqb}
-use Rattle.packet_view.specs.Captures.{packet_facts}
 use Rattle.packet_view.specs.Frames.{frame_facts}
 use Rattle.flow_dealing.specs.Dealings.{worker_of}
 use Rattle.packet_view.specs.CheckedCaptures.{held}
 use Rattle.flow_workers.specs.inner.Jobs.{run_facts}
-use Rattle.flow_workers.proofs.WorkSteps.{IsAt, left_behind, stands_at, taken_inside, whole_work, work_none, work_passed, work_push}
+use Rattle.flow_workers.proofs.WorkSteps.{left_behind, stands_at, taken_inside, whole_work, work_none, work_passed, work_push}
 use Rattle.flow_workers.proofs.work.work.Goals as goal
 
 pub packets-init : goal.packets-init

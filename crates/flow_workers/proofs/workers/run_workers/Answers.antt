@@ -10,17 +10,19 @@ use Rattle.flow_dealing.proofs.OneReport.{one_report}
 use Rattle.flow_workers.proofs.PartLemmas.{parts_count, run_judged}
 use Rattle.flow_workers.proofs.workers.run_workers.Goals as goal
 
-pub join_whole-requires-clause-some : goal.join_whole-requires-clause-some
-join_whole-requires-clause-some g c =
+pub join_whole-requires : goal.join_whole-requires
+join_whole-requires g c =
     let some_worker = c.requires.some in
-    let count = (parts_count g.A.Shape g.B.Shape _ _ _ c.in_ok-four.ensures).0 in
-    omega arith
+    let p = c.in_ok-four.ensures in
+    let count = (parts_count g.A.Shape g.B.Shape _ _ _ p).0 in
+    record { some = omega arith; own = p.own.0; free = p.free.0 }
 
-pub join_whole-requires-2-clause-some : goal.join_whole-requires-2-clause-some
-join_whole-requires-2-clause-some g c =
+pub join_whole-requires-2 : goal.join_whole-requires-2
+join_whole-requires-2 g c =
     let some_worker = c.requires.some in
-    let count = (parts_count g.A.Shape g.B.Shape _ _ _ c.in_ok-four.ensures).1 in
-    omega arith
+    let p = c.in_ok-four.ensures in
+    let count = (parts_count g.A.Shape g.B.Shape _ _ _ p).1 in
+    record { some = omega arith; own = p.own.1; free = p.free.1 }
 
 pub in_order-requires : goal.in_order-requires
 in_order-requires g c = (

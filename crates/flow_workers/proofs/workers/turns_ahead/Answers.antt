@@ -31,15 +31,19 @@ loop-worker-preserved g c =
           }) i d (omega arith));
     }
 
-pub returns-clause-each : goal.returns-clause-each
-returns-clause-each g c =
+pub returns : goal.returns
+returns g c =
     let inv = c.loop-worker.invariant in
     let some_worker = c.requires.some in
     let counted = inv.count in
     let ended = c.loop-worker-test.false in
-    let inside = c.loop-worker.auto.worker-end in
+    let at-end = c.loop-worker.auto.worker-end in
     let run = run_facts g.A.Shape g.B.Shape c.args.run in
-    λ i d below. subst (λ xs. IsAhead g.A.Shape g.B.Shape c.args.run.tables.now run i (slice_index_or xs i d)) (sym c.in_ok-push-2.ensures.items)
+    let many : length c.push-2.new.self.items ≡ c.args.run.workers
+    = push_count c.loop-worker.turns.items _ _ c.loop-worker.worker c.in_ok-push-2.ensures.items counted ∙ omega arith in
+    let each : (i : ℕ) (d : _) → i < c.args.run.workers
+    → IsAhead g.A.Shape g.B.Shape c.args.run.tables.now run i (slice_index_or c.push-2.new.self.items i d)
+    = λ i d below. subst (λ xs. IsAhead g.A.Shape g.B.Shape c.args.run.tables.now run i (slice_index_or xs i d)) (sym c.in_ok-push-2.ensures.items)
     (below_push (λ k turn. IsAhead g.A.Shape g.B.Shape c.args.run.tables.now run k turn) c.loop-worker.turns.items _ (λ k e b. inv.each k e (omega arith))
     (record {
       facts = refl;
@@ -47,18 +51,10 @@ returns-clause-each g c =
       worker = omega arith;
       can = record { shapes = c.requires.shapes; few = omega arith; idle = inv.idle };
       fresh = inv.fresh;
-    }) i d (omega arith))
-
-pub returns-clause-ready : goal.returns-clause-ready
-returns-clause-ready g c = all_each (CanTake g.A.Shape g.B.Shape) c.push-2.new.self.items
-    (λ i d inside. may_turn g.A.Shape g.B.Shape c.args.run.tables.now (run_facts g.A.Shape g.B.Shape c.args.run) i _
-    (returns-clause-each g c i d (few i inside)))
-  where
-    few : (i : ℕ) → i < length c.push-2.new.self.items → i < c.args.run.workers
-    few i inside =
-        let counted = c.loop-worker.invariant.count in
-        let some_worker = c.requires.some in
-        let ended = c.loop-worker-test.false in
-        let at-end = c.loop-worker.auto.worker-end in
-        let many : length c.push-2.new.self.items ≡ c.args.run.workers = push_count c.loop-worker.turns.items _ _ c.loop-worker.worker c.in_ok-push-2.ensures.items counted ∙ omega arith in
-        omega arith
+    }) i d (omega arith)) in
+    record {
+      ready = all_each (CanTake g.A.Shape g.B.Shape) c.push-2.new.self.items
+          (λ i d inside. may_turn g.A.Shape g.B.Shape c.args.run.tables.now run i _ (each i d (omega arith)));
+      count = many;
+      each = each;
+    }
