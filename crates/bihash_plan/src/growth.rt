@@ -1,12 +1,11 @@
 //! The plan of a key: its place, a free place, or a larger block.
 
 ghost use Rattle.std.specs.Prelude.{◌≡◌, ◌≤◌, ◌<◌, ◌+◌, ◌*◌, ◌^◌, ◌↔◌, ◌∷◌, ℕ, false, IsTrue, length};
-ghost use Rattle.std.specs.Bool.{OnTrue, OnFalse};
 ghost use Rattle.bihash_words.specs.Sizes.{IsSound, sizes_of};
 ghost use Rattle.bihash_plan.specs.Blocks.{HasKey, IsCrowded, IsFree, IsLawfulBlock, IsNew, IsSized, NamesPage, pairs};
 ghost use Rattle.bihash_plan.specs.Pages.{MayHavePages, page_of, paging_of};
-ghost use Rattle.bihash_plan.specs.Plans.{HasRoom, IsPlan, IsSafe, keys_of};
-ghost use Rattle.bihash_plan.specs.Searches.{IsOnlyPlan, IsPlace, IsRange, MayHavePlaces};
+ghost use Rattle.bihash_plan.specs.Plans.{HasRoom, IsSafe, keys_of};
+ghost use Rattle.bihash_plan.specs.Searches.{IsOnlyPlan, IsPlace, IsRange, MayHavePlaces, TellsOtherPage};
 
 use crate::fit::fits;
 use crate::outcome::Plan;
@@ -46,12 +45,9 @@ pub fn larger<S: Shape>(places: &[(S::Key, u64)], log2: u64, linear: bool, key: 
 
     ensures safe { IsSafe (paging_of ⟦<S as Shape>⟧) places.now key.now result }
     ensures without_block { length places.now ≡ 0 → result ≡ Plan.Grow 0 false }
-    ensures exact { IsLawfulBlock (paging_of ⟦<S as Shape>⟧) log2 linear places.now → IsNew places.now key.now
+    ensures lawful { IsLawfulBlock (paging_of ⟦<S as Shape>⟧) log2 linear places.now → IsNew places.now key.now
         → IsCrowded linear (page_of (paging_of ⟦<S as Shape>⟧) log2 key.now) places.now
-        → IsPlan (paging_of ⟦<S as Shape>⟧) log2 linear places.now key.now result }
-    ensures only { IsLawfulBlock (paging_of ⟦<S as Shape>⟧) log2 linear places.now → IsNew places.now key.now
-        → IsCrowded linear (page_of (paging_of ⟦<S as Shape>⟧) log2 key.now) places.now
-        → (other : Plan) → IsPlan (paging_of ⟦<S as Shape>⟧) log2 linear places.now key.now other → other ≡ result }
+        → IsOnlyPlan (paging_of ⟦<S as Shape>⟧) log2 linear places.now key.now result }
 {
     if places.is_empty() {
         return Plan::Grow {
@@ -130,10 +126,8 @@ fn has_other_page<S: Shape>(
 ) -> bool
     requires pages { MayHavePages ⟦<S as Shape>⟧ log2 }
     requires range { IsRange places.now to }
-    ensures other { let own = page_of (paging_of ⟦<S as Shape>⟧) log2 key.now in
-        OnTrue result ((i : ℕ) × (from ≤ i) × (i < to) × (NamesPage (paging_of ⟦<S as Shape>⟧) log2 own places.now i → ⊥)) }
-    ensures same { let own = page_of (paging_of ⟦<S as Shape>⟧) log2 key.now in
-        OnFalse result ((i : ℕ) → from ≤ i → i < to → NamesPage (paging_of ⟦<S as Shape>⟧) log2 own places.now i) }
+    ensures { let own = page_of (paging_of ⟦<S as Shape>⟧) log2 key.now in
+        TellsOtherPage (paging_of ⟦<S as Shape>⟧) log2 own places.now from to result }
 {
     let own = page::<S>(key, log2);
     for i in from..to {

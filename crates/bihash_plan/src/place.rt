@@ -4,7 +4,7 @@ ghost use Rattle.std.specs.Prelude.{◌≡◌, ◌≤◌, ◌<◌, ◌+◌, ◌^
 ghost use Rattle.bihash_words.specs.Sizes.{IsSound, sizes_of};
 ghost use Rattle.bihash_plan.specs.Blocks.{IsOpen, IsSized};
 ghost use Rattle.bihash_plan.specs.Pages.{MayHavePages, page_of, paging_of};
-ghost use Rattle.bihash_plan.specs.Searches.{MayHavePlaces};
+ghost use Rattle.bihash_plan.specs.Searches.{AreOpenPlaces, MayHavePlaces};
 
 use bihash_words::{PAGE_PLACES, Shape};
 
@@ -33,10 +33,7 @@ pub(crate) fn open_places<S: Shape>(
     key: &S::Key,
 ) -> (usize, usize)
     requires { MayHavePlaces ⟦<S as Shape>⟧ log2 count }
-    ensures order { result.0 ≤ result.1 }
-    ensures within { result.1 ≤ count }
-    ensures exact { (i : ℕ) → i < count
-        → ((result.0 ≤ i) × (i < result.1)) ↔ IsOpen linear (page_of (paging_of ⟦<S as Shape>⟧) log2 key.now) i }
+    ensures { AreOpenPlaces linear (page_of (paging_of ⟦<S as Shape>⟧) log2 key.now) count result.0 result.1 }
 {
     if linear || count == 0 {
         return (0, count);

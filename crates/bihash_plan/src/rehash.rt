@@ -4,7 +4,7 @@ ghost use Rattle.std.specs.Prelude.{◌≡◌, ◌≢◌, ◌≤◌, ◌<◌, �
 ghost use Rattle.bihash_words.specs.Sizes.{IsSound, sizes_of};
 ghost use Rattle.bihash_words.specs.Patches.{free_mark};
 ghost use Rattle.bihash_plan.specs.Blocks.{IsCrowded, IsFirstFree, IsLawfulBlock};
-ghost use Rattle.bihash_plan.specs.Layouts.{IsNamed, IsRehash, IsTakenBefore};
+ghost use Rattle.bihash_plan.specs.Layouts.{HasPlacesTo, IsFirstFreeOrNone, IsNamed, IsRehash, IsTakenBefore};
 ghost use Rattle.bihash_plan.specs.Pages.{MayHavePages, page_of, paging_of};
 ghost use Rattle.bihash_plan.specs.Searches.{HasPlaces};
 
@@ -56,8 +56,7 @@ fn put<S: Shape>(
     next: usize,
     out: &mut [(S::Key, u64)],
 ) -> usize
-    requires places { HasPlaces ⟦<S as Shape>⟧ log2 (length out.old) }
-    requires within { next ≤ length out.old }
+    requires { HasPlacesTo ⟦<S as Shape>⟧ log2 (length out.old) next }
     ensures within { result ≤ length out.new }
     ensures placed { pair.1 ≢ free_mark → IsTakenBefore linear next out.old
         → (IsCrowded linear (page_of (paging_of ⟦<S as Shape>⟧) log2 pair.0) out.old → ⊥)
@@ -81,13 +80,10 @@ fn first_free<S: Shape>(
     next: usize,
     key: &S::Key,
 ) -> Option<usize>
-    requires places { HasPlaces ⟦<S as Shape>⟧ log2 (length places.now) }
-    requires within { next ≤ length places.now }
+    requires { HasPlacesTo ⟦<S as Shape>⟧ log2 (length places.now) next }
     ensures within { IfSome result (λ i. i < length places.now) }
-    ensures found { IsTakenBefore linear next places.now
-        → IfSome result (IsFirstFree linear (page_of (paging_of ⟦<S as Shape>⟧) log2 key.now) places.now) }
-    ensures none { IsTakenBefore linear next places.now
-        → IfNone result (IsCrowded linear (page_of (paging_of ⟦<S as Shape>⟧) log2 key.now) places.now) }
+    ensures first { IsTakenBefore linear next places.now
+        → IsFirstFreeOrNone linear (page_of (paging_of ⟦<S as Shape>⟧) log2 key.now) places.now result }
 {
     if linear {
         return free_place(places, next, places.len());

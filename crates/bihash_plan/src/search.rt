@@ -4,7 +4,7 @@ ghost use Rattle.std.specs.Prelude.{◌≡◌, ◌≤◌, ◌<◌, ◌^◌, ◌�
 ghost use Rattle.bihash_words.specs.Sizes.{IsSound, sizes_of};
 ghost use Rattle.bihash_plan.specs.Blocks.{HasKey, IsFree, IsLawfulBlock, IsNew, IsOpen, IsSized};
 ghost use Rattle.bihash_plan.specs.Pages.{page_of, paging_of};
-ghost use Rattle.bihash_plan.specs.Searches.{IsPlace, IsPlaceOfKey, IsRange, MayHavePlaces};
+ghost use Rattle.bihash_plan.specs.Searches.{IsFirstFreeOf, IsPlace, IsPlaceOfKey, IsRange, MayHavePlaces};
 
 use crate::place::open_places;
 use bihash_words::{FREE, Shape, is_same};
@@ -54,9 +54,7 @@ pub(crate) fn place_of_key<S: Shape>(
 /// The first free place, among those from one place to before another.
 pub(crate) fn free_place<K: Copy>(places: &[(K, u64)], from: usize, to: usize) -> Option<usize>
     requires range { IsRange places.now to }
-    ensures found { IfSome result (λ i. (from ≤ i) × (i < to) × IsFree places.now i) }
-    ensures first { IfSome result (λ i. (j : ℕ) → from ≤ j → j < i → IsFree places.now j → ⊥) }
-    ensures none { IfNone result ((i : ℕ) → from ≤ i → i < to → IsFree places.now i → ⊥) }
+    ensures { IsFirstFreeOf places.now from to result }
 {
     for i in from..to {
         if is_free(places, i) {

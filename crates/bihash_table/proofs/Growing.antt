@@ -13,6 +13,7 @@ use Rattle.bihash_plan.specs.Blocks.{IsCrowded, IsLawfulBlock, IsNew}
 use Rattle.bihash_plan.specs.Layouts.{IsNamed, IsRehash}
 use Rattle.bihash_plan.specs.Pages.{page_of, paging_of}
 use Rattle.bihash_plan.specs.Plans.{IsPlan}
+use Rattle.bihash_plan.specs.Searches.{IsOnlyPlan}
 use Rattle.bihash_plan.specs.declared.outcome.Plan.{Plan}
 use Rattle.bihash_plan.specs.declared.outcome.Plan.TheVariants.{Grow}
 use Rattle.bihash_steps.specs.Histories.{bounds_of}
@@ -38,8 +39,8 @@ module _ {A K : Type 0} (g : Ghosts A K) (keys : AreKeyWords g) (v : View) (b wo
     (h : HasSeen (sizes_of g) v b word (λ e block. IsNewAndCrowded (sizes_of g) (g.words_of key) e block × ArePlaces g ps block))
     (log2 : ℕ) (linear : Bool) (log2_told : (x : Bucket) → Fits x → word ≡ packed x → log2 ≡ x.log2)
     (linear_told : (x : Bucket) → Fits x → word ≡ packed x → linear ≡ x.linear)
-    (plan : Plan) (exact : IsLawfulBlock (paging_of g) log2 linear ps → IsNew ps key
-    → IsCrowded linear (page_of (paging_of g) log2 key) ps → IsPlan (paging_of g) log2 linear ps key plan) where
+    (plan : Plan) (told_plan : IsLawfulBlock (paging_of g) log2 linear ps → IsNew ps key
+    → IsCrowded linear (page_of (paging_of g) log2 key) ps → IsOnlyPlan (paging_of g) log2 linear ps key plan) where
   -- a plan that isn't a larger block
   pub full_seen : ((size : ℕ) (mark : Bool) → plan ≡ Grow size mark → ⊥) → (value n : ℕ) → n < g.LIMIT
       → HasSeen (sizes_of g) v b word (IsAnswerOf (sizes_of g) n (event (g.words_of key) None (Set value) Full))
@@ -51,7 +52,7 @@ module _ {A K : Type 0} (g : Ghosts A K) (keys : AreKeyWords g) (v : View) (b wo
         crowds (bounds_of z) m n (g.words_of key) value unworn
             (is_full g keys e block m key h.seen.block.size pairs told.0.1 absent ps told.1 plan
             (planned g keys e block m key h.seen.block.size pairs told.0.1 absent ps told.1 log2 linear plan
-            (log2_is z word e tells log2 log2_told) (linear_is z word e tells linear linear_told) exact) other) absent,
+            (log2_is z word e tells log2 log2_told) (linear_is z word e tells linear linear_told) told_plan) other) absent,
       ))
 
   -- ---- After the lock
@@ -74,7 +75,7 @@ module _ {A K : Type 0} (g : Ghosts A K) (keys : AreKeyWords g) (v : View) (b wo
       named = let z = sizes_of g in let e = k.locked.lock.extent in let tells = word_tells z u b word k.locked.lock has in
           subst (λ (p : Plan). IsPlan (paging_of g) e.log2 e.linear ps key p) is
           (planned g keys e k.locked.lock.now (map_now u b) key has.size has.pairs told.0.1 absent_there ps told.1 log2 linear plan
-          (log2_is z word e tells log2 log2_told) (linear_is z word e tells linear linear_told) exact)
+          (log2_is z word e tells log2 log2_told) (linear_is z word e tells linear linear_told) told_plan)
 
       pub room_there : len (map_now u b) < most_pairs (bounds_of (sizes_of g))
       room_there = has_room g keys k.locked.lock.extent k.locked.lock.now (map_now u b) key has.size has.pairs told.0.1 absent_there ps told.1

@@ -9,6 +9,7 @@ use Rattle.bihash_plan.specs.Blocks.{HasKey, IsCrowded, IsFree, IsLawfulBlock, I
 use Rattle.bihash_plan.specs.Layouts.{IsNamed}
 use Rattle.bihash_plan.specs.Pages.{Paging, page_of, paging_of}
 use Rattle.bihash_plan.specs.Plans.{CanBecomeLinear, IsExhausted, IsGrowth, IsPlan}
+use Rattle.bihash_plan.specs.Searches.{IsOnlyPlan}
 use Rattle.bihash_plan.specs.declared.outcome.Plan.{Plan}
 use Rattle.bihash_plan.specs.declared.outcome.Plan.TheVariants.{Full, Grow, InPlace}
 use Rattle.bihash_plan.proofs.Places.{free_at, free_inside}
@@ -94,12 +95,12 @@ module _ {A K : Type 0} (g : Ghosts A K) (keys : AreKeyWords g) (e : Extent) (bl
   -- the plan was made on the fields that the word tells
   pub planned : (log2 : ℕ) (linear : Bool) (plan : Plan) → log2 ≡ e.log2 → linear ≡ e.linear
       → (IsLawfulBlock (paging_of g) log2 linear ps → IsNew ps key → IsCrowded linear (page_of (paging_of g) log2 key) ps
-      → IsPlan (paging_of g) log2 linear ps key plan)
+      → IsOnlyPlan (paging_of g) log2 linear ps key plan)
       → IsPlan (paging_of g) e.log2 e.linear ps key plan
-  planned log2 linear plan log2_at linear_at exact =
-      subst (λ (x : ℕ × Bool). IsLawfulBlock (paging_of g) x.0 x.1 ps → IsNew ps key
-      → IsCrowded x.1 (page_of (paging_of g) x.0 key) ps → IsPlan (paging_of g) x.0 x.1 ps key plan)
-      (λ i. (log2_at i, linear_at i)) exact lawful is_new is_crowded
+  planned log2 linear plan log2_at linear_at told =
+      (subst (λ (x : ℕ × Bool). IsLawfulBlock (paging_of g) x.0 x.1 ps → IsNew ps key
+      → IsCrowded x.1 (page_of (paging_of g) x.0 key) ps → IsOnlyPlan (paging_of g) x.0 x.1 ps key plan)
+      (λ i. (log2_at i, linear_at i)) told lawful is_new is_crowded).exact
 
   not_placed : (i : ℕ) → IsPlan (paging_of g) e.log2 e.linear ps key (InPlace i) → ⊥
   not_placed i plan = ⊎_elim (λ (had : HasKey ps key i). is_new i had) (λ first. is_crowded i first.1.reached first.1.vacant) plan

@@ -51,7 +51,7 @@ answer-requires g c =
     let keys : AreKeyWords g.S.Shape = record { law = g.met.S.Shape.key_of_words } in record {
       own = own_through c.args.seat.now _ _ read.same w.own;
       seen = full_seen g.S.Shape keys y.view site.bucket c.args.seen.now.word site.key.now c.read_block.new.out h c.log2.result c.linear.result
-          c.log2.ensures c.linear.ensures c.larger.result c.larger.ensures.exact c.in_default.not-Grow c.args.value _
+          c.log2.ensures c.linear.ensures c.larger.result c.larger.ensures.lawful c.in_default.not-Grow c.args.value _
           (unworn_read g.S.Shape c.args.seat.now y site.bucket read w.unworn);
       reads = refl;
       paged = λ log2 left e. absurd cc;
@@ -114,14 +114,14 @@ enter-requires g c =
           (unworn_read g.S.Shape c.args.seat.now y site.bucket read w.unworn) w.storable h c.lock_seen.ensures c.if-not-lock_seen.false)
           (λ told. told.0.0);
       room = room_there g.S.Shape keys y.view site.bucket c.args.seen.now.word site.key.now c.read_block.new.out h c.log2.result c.linear.result
-          c.log2.ensures c.linear.ensures (Grow c.in-Grow.log2 c.in-Grow.linear) c.in-Grow.ensures.exact c.lock_seen.new.seat.view k c.in-Grow.log2 c.in-Grow.linear refl;
+          c.log2.ensures c.linear.ensures (Grow c.in-Grow.log2 c.in-Grow.linear) c.in-Grow.ensures.lawful c.lock_seen.new.seat.view k c.in-Grow.log2 c.in-Grow.linear refl;
       small = small;
       sized = omega (arith, c.lay.auto.out, c.places_of.ensures, c.requires.room.1, length-take c.places_of.result c.args.new.now);
       laid = laid_there g.S.Shape keys y.view site.bucket c.args.seen.now.word site.key.now c.read_block.new.out h c.log2.result c.linear.result
-          c.log2.ensures c.linear.ensures (Grow c.in-Grow.log2 c.in-Grow.linear) c.in-Grow.ensures.exact c.lock_seen.new.seat.view k c.in-Grow.log2 c.in-Grow.linear refl
+          c.log2.ensures c.linear.ensures (Grow c.in-Grow.log2 c.in-Grow.linear) c.in-Grow.ensures.lawful c.lock_seen.new.seat.view k c.in-Grow.log2 c.in-Grow.linear refl
           c.args.value c.lay.new.out w.storable c.lay.ensures;
       planned = planned_there g.S.Shape keys y.view site.bucket c.args.seen.now.word site.key.now c.read_block.new.out h c.log2.result c.linear.result
-          c.log2.ensures c.linear.ensures (Grow c.in-Grow.log2 c.in-Grow.linear) c.in-Grow.ensures.exact c.lock_seen.new.seat.view k c.in-Grow.log2 c.in-Grow.linear refl;
+          c.log2.ensures c.linear.ensures (Grow c.in-Grow.log2 c.in-Grow.linear) c.in-Grow.ensures.lawful c.lock_seen.new.seat.view k c.in-Grow.log2 c.in-Grow.linear refl;
     }
 
 pub returns : goal.returns
