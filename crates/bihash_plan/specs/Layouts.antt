@@ -2,6 +2,7 @@
 use Rattle.std.specs.Prelude.{◌≡◌, ◌<◌, ◌≤◌, ℕ, ◌*◌, ◌^◌, Bool, true, false, ◌==◌, List, [], ◌∷◌, ◌++◌, take, drop, filter, Option, IfNone, IfSome}
 use Rattle.std.specs.List.Sorted.{IsPermutation}
 use Rattle.bihash_plan.specs.declared.outcome.Plan.TheVariants.{Grow}
+use Rattle.bihash_words.specs.declared.block_size.BlockSize.{BlockSize}
 use Rattle.bihash_words.specs.declared.shape.Shape.{Ghosts}
 use Rattle.bihash_plan.specs.Blocks.{IsCrowded, IsFirstFree, IsFree, IsLawfulBlock, pairs}
 use Rattle.bihash_plan.specs.Pages.{Paging, page_of}
@@ -9,12 +10,11 @@ use Rattle.bihash_plan.specs.Plans.{IsPlan}
 use Rattle.bihash_plan.specs.Searches.{HasPlaces}
 
 -- the plan of a key, at a lawful block or at none, names this larger block
-pub record IsNamed {K : Type 0} (paging : Paging K) (places : List (K × ℕ)) (key : K) (log2 : ℕ)
-    (linear : Bool) : Type 0 where
-  pub was_log2 : ℕ
-  pub was_linear : Bool
-  pub lawful : IsLawfulBlock paging was_log2 was_linear places
-  pub plan : IsPlan paging was_log2 was_linear places key (Grow log2 linear)
+pub record IsNamed {K : Type 0} (paging : Paging K) (places : List (K × ℕ)) (key : K)
+    (size : BlockSize) : Type 0 where
+  pub was : BlockSize
+  pub lawful : IsLawfulBlock paging was.log2 was.linear places
+  pub plan : IsPlan paging was.log2 was.linear places key (Grow size)
 
 -- the places hold these pairs in their order and are free after them
 abbrev pub AreInOrder : {K : Type 0} → List (K × ℕ) → List (K × ℕ) → Type 0

@@ -42,10 +42,10 @@ crowded_page : {K : Type 0} (linear : Bool) (page : ℕ) (places : List (K × �
 crowded_page linear page places from to None open_are none = crowded_from_open linear page places from to open_are none
 crowded_page linear page places from to (Some i) open_are none = tt
 
-pub returns-then-linear-clause-first : goal.returns-then-linear-clause-first
-returns-then-linear-clause-first g c = λ before. record {
-  found = first_linear _ _ _ _ _ c.if-linear.true c.free_place.ensures.found c.free_place.ensures.first before;
-  none = crowded_linear _ _ _ _ _ c.if-linear.true c.free_place.ensures.none before;
+pub returns-then-size-clause-first : goal.returns-then-size-clause-first
+returns-then-size-clause-first g c = λ before. record {
+  found = first_linear _ _ _ _ _ c.if-size.true c.free_place.ensures.found c.free_place.ensures.first before;
+  none = crowded_linear _ _ _ _ _ c.if-size.true c.free_place.ensures.none before;
 }
 
 pub returns-clause-first : goal.returns-clause-first
