@@ -12,6 +12,7 @@ use Rattle.std.proofs.lemmas.List.Sums.{count_by-le-length, length-filter, sum_b
 use Rattle.std.proofs.lemmas.Nat.{pow_pos}
 use Rattle.std.proofs.lemmas.Option.{get_or_from_slice_get}
 use Rattle.bihash_words.specs.Patches.{free_mark}
+use Rattle.bihash_words.specs.declared.block_size.BlockSize.{BlockSize}
 use Rattle.bihash_plan.specs.Blocks.{HasKey, IsCrowded, IsFirstFree, IsLawfulBlock, IsNew, is_taken, pairs}
 use Rattle.bihash_plan.specs.Layouts.{AreLaidOut, IsNamed, IsRehash, IsTakenBefore}
 use Rattle.bihash_plan.specs.Pages.{Paging, page_of}
@@ -175,11 +176,11 @@ growth_suits {K} paging was log2 was_linear true (place ∷ places) key value la
         let same : log2 ≡ was = omega (arith, e.0, e.1.0, lawful.small) in
         omega (arith, one_free (place ∷ places) e.1.2.0 e.1.2.1, sized, ap (λ n. 2 ^ n) same)
 
-pub named_suits : {K : Type 0} {paging : Paging K} {log2 : ℕ} {linear : Bool} {places : List (K × ℕ)}
+pub named_suits : {K : Type 0} {paging : Paging K} {size : BlockSize} {places : List (K × ℕ)}
     {key : K} (value : ℕ)
-    → IsNamed paging places key log2 linear → Suits paging log2 linear (pairs places ++ (key, value) ∷ [])
-named_suits {paging = paging} {log2 = log2} {linear = linear} {places = places} {key = key} value named =
-    growth_suits paging named.was_log2 log2 named.was_linear linear places key value named.lawful named.plan.2
+    → IsNamed paging places key size → Suits paging size.log2 size.linear (pairs places ++ (key, value) ∷ [])
+named_suits {paging = paging} {size = size} {places = places} {key = key} value named =
+    growth_suits paging named.was.log2 size.log2 named.was.linear size.linear places key value named.lawful named.plan.2
 
 -- what is in the block after the first places: keys of these places alone
 pub record IsLaidSoFar {K : Type 0} (paging : Paging K) (log2 : ℕ) (linear : Bool) (old : List (K × ℕ))
@@ -231,7 +232,7 @@ pub laid_more : {K : Type 0} (paging : Paging K) (log2 : ℕ) (linear : Bool) (o
     → place ≡ get_or old i place → place.1 ≢ free_mark
     → (place.1 ≢ free_mark → IsTakenBefore linear next out → (IsCrowded linear (page_of paging log2 place.0) out → ⊥)
     → IsPlaced paging log2 linear place out after result)
-    → IsNamed paging old key log2 linear → IsLaidSoFar paging log2 linear old key (i + 1) result after
+    → IsNamed paging old key (record { log2 = log2; linear = linear }) → IsLaidSoFar paging log2 linear old key (i + 1) result after
 laid_more {K} paging log2 linear old key i next result out after place so_far sized inside is taken placed named =
     let done : List (K × ℕ) = pairs (take i old) in
     let more : pairs (take (i + 1) old) ≡ done ++ place ∷ [] = pairs_more old i place inside is taken in
@@ -267,7 +268,7 @@ pub laid_last : {K : Type 0} (paging : Paging K) (log2 : ℕ) (linear : Bool) (o
     → value ≢ free_mark
     → (value ≢ free_mark → IsTakenBefore linear next out → (IsCrowded linear (page_of paging log2 key) out → ⊥)
     → IsPlaced paging log2 linear (key, value) out after result)
-    → IsNamed paging old key log2 linear → IsRehash paging log2 linear old key value after
+    → IsNamed paging old key (record { log2 = log2; linear = linear }) → IsRehash paging log2 linear old key value after
 laid_last {K} paging log2 linear old key value i next result out after so_far sized past taken placed named =
     let new : K × ℕ = (key, value) in
     let laid_old : IsLaid paging log2 linear (pairs old) out = subst

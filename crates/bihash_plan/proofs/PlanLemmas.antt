@@ -5,6 +5,7 @@ use Rattle.std.proofs.lemmas.Bool.{cases_lt, cases_order}
 use Rattle.std.proofs.lemmas.List.Sums.{count_by-le-length, length-filter}
 use Rattle.std.proofs.lemmas.Nat.{pow_below, pow_pos}
 use Rattle.std.proofs.Math.Pow.{pow_mono}
+use Rattle.bihash_words.specs.declared.block_size.BlockSize.{BlockSize}
 use Rattle.bihash_plan.specs.declared.outcome.Plan.{Plan}
 use Rattle.bihash_plan.specs.declared.outcome.Plan.TheVariants.{InPlace, Grow, Full}
 use Rattle.bihash_plan.specs.Blocks.{IsCrowded, IsFirstFree, IsFree, IsLawfulBlock, IsNew, is_taken, pairs}
@@ -61,20 +62,24 @@ linear_size_only paging log2 linear places size other (inl e) (inr f) = absurd (
 linear_size_only paging log2 linear places size other (inr e) (inl f) = absurd (omega (arith, f.0, f.1, e.1.0))
 linear_size_only paging log2 linear places size other (inr e) (inr f) = e.0 ∙ sym f.0
 
+-- a block of this size
+abbrev size_of : ℕ → Bool → BlockSize
+size_of log2 linear = record { log2 = log2; linear = linear }
+
 -- there is one larger block
 growth_only : {K : Type 0} (paging : Paging K) (log2 : ℕ) (linear : Bool) (places : List (K × ℕ)) (key : K)
     (size other : ℕ) (mark other_mark : Bool)
     → IsGrowth paging log2 linear places key size mark
-    → IsGrowth paging log2 linear places key other other_mark → Grow size mark ≡ Grow other other_mark
+    → IsGrowth paging log2 linear places key other other_mark → size_of size mark ≡ size_of other other_mark
 growth_only paging log2 linear [] key size other mark other_mark a b = let e : size ≡ other = a.0
     ∙ sym b.0 in let f : mark ≡ other_mark = a.1 ∙ sym b.1 in cc
-growth_only paging log2 linear (place ∷ places) key size other false false a b = ap (λ n. Grow n false)
+growth_only paging log2 linear (place ∷ places) key size other false false a b = ap (λ n. size_of n false)
     (split_only paging log2 (key ∷ keys_of (place ∷ places)) size other a b)
 growth_only paging log2 linear (place ∷ places) key size other false true a b = absurd
     (split_not_linear paging log2 (key ∷ keys_of (place ∷ places)) size a b.0)
 growth_only paging log2 linear (place ∷ places) key size other true false a b = absurd
     (split_not_linear paging log2 (key ∷ keys_of (place ∷ places)) other b a.0)
-growth_only paging log2 linear (place ∷ places) key size other true true a b = ap (λ n. Grow n true)
+growth_only paging log2 linear (place ∷ places) key size other true true a b = ap (λ n. size_of n true)
     (linear_size_only paging log2 linear (place ∷ places) size other a.1 b.1)
 
 -- where there is a larger block, the pairs are not too many for any
@@ -98,24 +103,24 @@ plan_only paging log2 linear places key (InPlace i) (InPlace j) lawful (inl p) (
 plan_only paging log2 linear places key (InPlace i) (InPlace j) lawful (inr p) (inl q) = absurd (p.0 j q)
 plan_only paging log2 linear places key (InPlace i) (InPlace j) lawful (inr p) (inr q) = ap InPlace
     (first_free_only linear (page_of paging log2 key) places i j p.1 q.1)
-plan_only paging log2 linear places key (InPlace i) (Grow size mark) lawful (inl p) q = absurd (q.0 i p)
-plan_only paging log2 linear places key (InPlace i) (Grow size mark) lawful (inr p) q = absurd
+plan_only paging log2 linear places key (InPlace i) (Grow size) lawful (inl p) q = absurd (q.0 i p)
+plan_only paging log2 linear places key (InPlace i) (Grow size) lawful (inr p) q = absurd
     (q.1 i p.1.reached p.1.vacant)
 plan_only paging log2 linear places key (InPlace i) Full lawful (inl p) q = absurd (q.0 i p)
 plan_only paging log2 linear places key (InPlace i) Full lawful (inr p) q = absurd
     (q.1 i p.1.reached p.1.vacant)
-plan_only paging log2 linear places key (Grow size mark) (InPlace i) lawful p (inl q) = absurd (p.0 i q)
-plan_only paging log2 linear places key (Grow size mark) (InPlace i) lawful p (inr q) = absurd
+plan_only paging log2 linear places key (Grow size) (InPlace i) lawful p (inl q) = absurd (p.0 i q)
+plan_only paging log2 linear places key (Grow size) (InPlace i) lawful p (inr q) = absurd
     (p.1 i q.1.reached q.1.vacant)
-plan_only paging log2 linear places key (Grow size mark)
-    (Grow other other_mark) lawful p q = growth_only paging log2 linear places key size other mark other_mark p.2 q.2
-plan_only paging log2 linear places key (Grow size mark) Full lawful p q = absurd
-    (grows_or_not paging log2 linear places key size mark p.2 q.2)
+plan_only paging log2 linear places key (Grow size) (Grow other) lawful p q = ap Grow
+    (growth_only paging log2 linear places key size.log2 other.log2 size.linear other.linear p.2 q.2)
+plan_only paging log2 linear places key (Grow size) Full lawful p q = absurd
+    (grows_or_not paging log2 linear places key size.log2 size.linear p.2 q.2)
 plan_only paging log2 linear places key Full (InPlace i) lawful p (inl q) = absurd (p.0 i q)
 plan_only paging log2 linear places key Full (InPlace i) lawful p (inr q) = absurd
     (p.1 i q.1.reached q.1.vacant)
-plan_only paging log2 linear places key Full (Grow size mark) lawful p q = absurd
-    (grows_or_not paging log2 linear places key size mark q.2 p.2)
+plan_only paging log2 linear places key Full (Grow size) lawful p q = absurd
+    (grows_or_not paging log2 linear places key size.log2 size.linear q.2 p.2)
 plan_only paging log2 linear places key Full Full lawful p q = refl
 
 -- without a free place each place holds a pair
@@ -219,8 +224,8 @@ filled_plan : {K : Type 0} (paging : Paging K) (log2 : ℕ) (linear : Bool) (pla
     → plan ≡ Full
 filled_plan paging log2 linear places key (InPlace i) full new (inl p) = absurd (new i p)
 filled_plan paging log2 linear places key (InPlace i) full new (inr p) = absurd (full.taken i p.1.vacant)
-filled_plan paging log2 linear places key (Grow size mark) full new p = absurd
-    (filled_not_grown paging log2 linear places key size mark full p.2)
+filled_plan paging log2 linear places key (Grow size) full new p = absurd
+    (filled_not_grown paging log2 linear places key size.log2 size.linear full p.2)
 filled_plan paging log2 linear places key Full full new p = refl
 
 -- a new key is refused exactly where the bucket holds as many pairs as the largest block

@@ -1,18 +1,20 @@
 -- How pairs are laid out in a larger block. This is the table's own rule.
-use Rattle.std.specs.Prelude.{◌≡◌, ◌<◌, ℕ, ◌*◌, ◌^◌, Bool, true, false, ◌==◌, List, [], ◌∷◌, ◌++◌, take, drop, filter}
+use Rattle.std.specs.Prelude.{◌≡◌, ◌<◌, ◌≤◌, ℕ, ◌*◌, ◌^◌, Bool, true, false, ◌==◌, List, [], ◌∷◌, ◌++◌, take, drop, filter, Option, IfNone, IfSome}
 use Rattle.std.specs.List.Sorted.{IsPermutation}
 use Rattle.bihash_plan.specs.declared.outcome.Plan.TheVariants.{Grow}
-use Rattle.bihash_plan.specs.Blocks.{IsFree, IsLawfulBlock, pairs}
+use Rattle.bihash_words.specs.declared.block_size.BlockSize.{BlockSize}
+use Rattle.bihash_words.specs.declared.shape.Shape.{Ghosts}
+use Rattle.bihash_plan.specs.Blocks.{IsCrowded, IsFirstFree, IsFree, IsLawfulBlock, pairs}
 use Rattle.bihash_plan.specs.Pages.{Paging, page_of}
 use Rattle.bihash_plan.specs.Plans.{IsPlan}
+use Rattle.bihash_plan.specs.Searches.{HasPlaces}
 
 -- the plan of a key, at a lawful block or at none, names this larger block
-pub record IsNamed {K : Type 0} (paging : Paging K) (places : List (K × ℕ)) (key : K) (log2 : ℕ)
-    (linear : Bool) : Type 0 where
-  pub was_log2 : ℕ
-  pub was_linear : Bool
-  pub lawful : IsLawfulBlock paging was_log2 was_linear places
-  pub plan : IsPlan paging was_log2 was_linear places key (Grow log2 linear)
+pub record IsNamed {K : Type 0} (paging : Paging K) (places : List (K × ℕ)) (key : K)
+    (size : BlockSize) : Type 0 where
+  pub was : BlockSize
+  pub lawful : IsLawfulBlock paging was.log2 was.linear places
+  pub plan : IsPlan paging was.log2 was.linear places key (Grow size)
 
 -- the places hold these pairs in their order and are free after them
 abbrev pub AreInOrder : {K : Type 0} → List (K × ℕ) → List (K × ℕ) → Type 0
@@ -36,3 +38,13 @@ pub record IsRehash {K : Type 0} (paging : Paging K) (log2 : ℕ) (linear : Bool
 -- a linear block has no free place before this one
 abbrev pub IsTakenBefore : {K : Type 0} → Bool → ℕ → List (K × ℕ) → Type 0
 IsTakenBefore linear next places = linear ≡ true → (i : ℕ) → i < next → IsFree places i → ⊥
+
+-- so many places are those of a block of 2 ^ log2 pages, and this one is among them or their end
+pub record HasPlacesTo {A K : Type 0} (s : Ghosts A K) (log2 count next : ℕ) : Type 0 where
+  pub places : HasPlaces s log2 count
+  pub within : next ≤ count
+
+-- the first free place that is open to the page, and None where no such place is free
+pub record IsFirstFreeOrNone {K : Type 0} (linear : Bool) (page : ℕ) (places : List (K × ℕ)) (r : Option ℕ) : Type 0 where
+  pub found : IfSome r (IsFirstFree linear page places)
+  pub none : IfNone r (IsCrowded linear page places)

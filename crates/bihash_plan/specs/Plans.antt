@@ -62,10 +62,10 @@ IsExhausted paging log2 linear (place ∷ places) key =
 abbrev pub IsPlan : {K : Type 0} → Paging K → ℕ → Bool → List (K × ℕ) → K → Plan → Type 0
 IsPlan paging log2 linear places key (InPlace i) =
     HasKey places key i ⊎ (IsNew places key × IsFirstFree linear (page_of paging log2 key) places i)
-IsPlan paging log2 linear places key (Grow size mark) =
+IsPlan paging log2 linear places key (Grow size) =
     IsNew places key
     × IsCrowded linear (page_of paging log2 key) places
-    × IsGrowth paging log2 linear places key size mark
+    × IsGrowth paging log2 linear places key size.log2 size.linear
 IsPlan paging log2 linear places key Full =
     IsNew places key
     × IsCrowded linear (page_of paging log2 key) places
@@ -75,5 +75,5 @@ IsPlan paging log2 linear places key Full =
 -- above the greatest size
 abbrev pub IsSafe : {K : Type 0} → Paging K → List (K × ℕ) → K → Plan → Type 0
 IsSafe paging places key (InPlace i) = HasKey places key i ⊎ IsFree places i
-IsSafe paging places key (Grow size mark) = size ≤ paging.max_log2
+IsSafe paging places key (Grow size) = size.log2 ≤ paging.max_log2
 IsSafe paging places key Full = Unit {0}

@@ -5,7 +5,8 @@ ghost use Rattle.std.specs.Bool.{OnTrue, OnFalse};
 ghost use Rattle.bihash_words.specs.Sizes.{IsSound, sizes_of};
 ghost use Rattle.bihash_plan.specs.Pages.{MayHavePages, page_of, paging_of};
 ghost use Rattle.bihash_plan.specs.Plans.{Fits, keys_of};
-ghost use Rattle.bihash_plan.specs.inner.Tallies.{FitsWindow, IsTally};
+ghost use Rattle.bihash_plan.specs.Searches.{MayLookAt};
+ghost use Rattle.bihash_plan.specs.inner.Tallies.{FitsWindow, IsCounted};
 
 use crate::place::{page, page_count};
 use bihash_words::{FREE, PAGE_PLACES, Shape};
@@ -16,8 +17,7 @@ const WINDOW: usize = 64;
 /// Whether no page of a block of `2^log2` pages is named by more than four of the pairs and the
 /// new key.
 pub(crate) fn fits<S: Shape>(places: &[(S::Key, u64)], key: &S::Key, log2: u64) -> bool
-    requires pages { MayHavePages ⟦<S as Shape>⟧ log2 }
-    requires short { length places.now < 2 ^ 62 }
+    requires { MayLookAt ⟦<S as Shape>⟧ log2 places.now }
     ensures { IsTrue result ↔ Fits (paging_of ⟦<S as Shape>⟧) log2 (key.now ∷ keys_of places.now) }
 {
     for window in 0..(page_count(log2) + WINDOW - 1) / WINDOW {
@@ -30,8 +30,7 @@ pub(crate) fn fits<S: Shape>(places: &[(S::Key, u64)], key: &S::Key, log2: u64) 
 
 /// Whether none of the pages of a window, from `first` on, is named by more than four of them.
 fn fits_window<S: Shape>(places: &[(S::Key, u64)], key: &S::Key, log2: u64, first: usize) -> bool
-    requires pages { MayHavePages ⟦<S as Shape>⟧ log2 }
-    requires short { length places.now < 2 ^ 62 }
+    requires { MayLookAt ⟦<S as Shape>⟧ log2 places.now }
     ensures { IsTrue result ↔ FitsWindow (paging_of ⟦<S as Shape>⟧) log2 first (key.now ∷ keys_of places.now) }
 {
     let mut counts = [0u8; WINDOW];
@@ -52,10 +51,7 @@ fn fits_window<S: Shape>(places: &[(S::Key, u64)], key: &S::Key, log2: u64, firs
 fn count<S: Shape>(counts: &mut [u8], first: usize, log2: u64, key: &S::Key) -> bool
     requires pages { MayHavePages ⟦<S as Shape>⟧ log2 }
     requires long { length counts.old ≡ 64 }
-    ensures counted { (keys : List S.Key) → IsTally (paging_of ⟦<S as Shape>⟧) log2 first keys counts.old
-        → OnTrue result (IsTally (paging_of ⟦<S as Shape>⟧) log2 first (keys ++ key.now ∷ []) counts.new) }
-    ensures refused { (keys : List S.Key) → IsTally (paging_of ⟦<S as Shape>⟧) log2 first keys counts.old
-        → OnFalse result (FitsWindow (paging_of ⟦<S as Shape>⟧) log2 first (keys ++ key.now ∷ []) → ⊥) }
+    ensures { IsCounted (paging_of ⟦<S as Shape>⟧) log2 first key.now counts.old result counts.new }
 {
     let page = page::<S>(key, log2);
     if page < first || WINDOW <= page - first {

@@ -1,18 +1,17 @@
 //! The plan of a key: its place, a free place, or a larger block.
 
 ghost use Rattle.std.specs.Prelude.{◌≡◌, ◌≤◌, ◌<◌, ◌+◌, ◌*◌, ◌^◌, ◌↔◌, ◌∷◌, ℕ, false, IsTrue, length};
-ghost use Rattle.std.specs.Bool.{OnTrue, OnFalse};
 ghost use Rattle.bihash_words.specs.Sizes.{IsSound, sizes_of};
 ghost use Rattle.bihash_plan.specs.Blocks.{HasKey, IsCrowded, IsFree, IsLawfulBlock, IsNew, IsSized, NamesPage, pairs};
 ghost use Rattle.bihash_plan.specs.Pages.{MayHavePages, page_of, paging_of};
-ghost use Rattle.bihash_plan.specs.Plans.{HasRoom, IsPlan, IsSafe, keys_of};
-ghost use Rattle.bihash_plan.specs.Searches.{IsOnlyPlan, IsPlace, IsRange, MayHavePlaces};
+ghost use Rattle.bihash_plan.specs.Plans.{HasRoom, IsSafe, keys_of};
+ghost use Rattle.bihash_plan.specs.Searches.{IsOnlyPlan, IsPlace, IsRange, MayHavePlaces, TellsOtherPage};
 
 use crate::fit::fits;
 use crate::outcome::Plan;
 use crate::place::{open_places, page};
 use crate::search::{free_place, place_of_key};
-use bihash_words::Shape;
+use bihash_words::{BlockSize, Shape};
 
 /// What the key needs of its bucket's block: its own place; for a new key the first free place
 /// open to it; else the first larger block in which no page is named by more than four pairs, or
@@ -21,67 +20,64 @@ use bihash_words::Shape;
 ///
 /// In a block that isn't linear the four places of one page decide. All places are looked at only
 /// where that page is full and the block has the greatest size.
-pub fn plan<S: Shape>(places: &[(S::Key, u64)], log2: u64, linear: bool, key: &S::Key) -> Plan
-    requires { MayHavePlaces ⟦<S as Shape>⟧ log2 (length places.now) }
+pub fn plan<S: Shape>(places: &[(S::Key, u64)], size: BlockSize, key: &S::Key) -> Plan
+    requires { MayHavePlaces ⟦<S as Shape>⟧ size.log2 (length places.now) }
 
     ensures safe { IsSafe (paging_of ⟦<S as Shape>⟧) places.now key.now result }
-    ensures without_block { length places.now ≡ 0 → result ≡ Plan.Grow 0 false }
-    ensures lawful { IsLawfulBlock (paging_of ⟦<S as Shape>⟧) log2 linear places.now
-        → IsOnlyPlan (paging_of ⟦<S as Shape>⟧) log2 linear places.now key.now result }
+    ensures without_block { length places.now ≡ 0 → result ≡ Plan.Grow (record { log2 = 0; linear = false }) }
+    ensures lawful { IsLawfulBlock (paging_of ⟦<S as Shape>⟧) size.log2 size.linear places.now
+        → IsOnlyPlan (paging_of ⟦<S as Shape>⟧) size.log2 size.linear places.now key.now result }
 {
-    let (from, to) = open_places::<S>(places.len(), log2, linear, key);
+    let (from, to) = open_places::<S>(places.len(), size, key);
     if let Some(i) = place_of_key::<S>(places, from, to, key) {
         return Plan::InPlace(i);
     }
     if let Some(i) = free_place(places, from, to) {
         return Plan::InPlace(i);
     }
-    larger::<S>(places, log2, linear, key)
+    larger::<S>(places, size, key)
 }
 
 /// The plan of a new key to which no free place is open: `plan` where the caller has looked for the key and
 /// for a free place already.
-pub fn larger<S: Shape>(places: &[(S::Key, u64)], log2: u64, linear: bool, key: &S::Key) -> Plan
-    requires { MayHavePlaces ⟦<S as Shape>⟧ log2 (length places.now) }
+pub fn larger<S: Shape>(places: &[(S::Key, u64)], size: BlockSize, key: &S::Key) -> Plan
+    requires { MayHavePlaces ⟦<S as Shape>⟧ size.log2 (length places.now) }
 
     ensures safe { IsSafe (paging_of ⟦<S as Shape>⟧) places.now key.now result }
-    ensures without_block { length places.now ≡ 0 → result ≡ Plan.Grow 0 false }
-    ensures exact { IsLawfulBlock (paging_of ⟦<S as Shape>⟧) log2 linear places.now → IsNew places.now key.now
-        → IsCrowded linear (page_of (paging_of ⟦<S as Shape>⟧) log2 key.now) places.now
-        → IsPlan (paging_of ⟦<S as Shape>⟧) log2 linear places.now key.now result }
-    ensures only { IsLawfulBlock (paging_of ⟦<S as Shape>⟧) log2 linear places.now → IsNew places.now key.now
-        → IsCrowded linear (page_of (paging_of ⟦<S as Shape>⟧) log2 key.now) places.now
-        → (other : Plan) → IsPlan (paging_of ⟦<S as Shape>⟧) log2 linear places.now key.now other → other ≡ result }
+    ensures without_block { length places.now ≡ 0 → result ≡ Plan.Grow (record { log2 = 0; linear = false }) }
+    ensures lawful { IsLawfulBlock (paging_of ⟦<S as Shape>⟧) size.log2 size.linear places.now → IsNew places.now key.now
+        → IsCrowded size.linear (page_of (paging_of ⟦<S as Shape>⟧) size.log2 key.now) places.now
+        → IsOnlyPlan (paging_of ⟦<S as Shape>⟧) size.log2 size.linear places.now key.now result }
 {
     if places.is_empty() {
-        return Plan::Grow {
+        return Plan::Grow(BlockSize {
             log2: 0,
             linear: false,
-        };
+        });
     }
-    if has_room::<S>(places, log2, linear, key, log2 + 1) {
-        return Plan::Grow {
-            log2: log2 + 1,
+    if has_room::<S>(places, size, key, size.log2 + 1) {
+        return Plan::Grow(BlockSize {
+            log2: size.log2 + 1,
             linear: false,
-        };
+        });
     }
-    if has_room::<S>(places, log2, linear, key, log2 + 2) {
-        return Plan::Grow {
-            log2: log2 + 2,
+    if has_room::<S>(places, size, key, size.log2 + 2) {
+        return Plan::Grow(BlockSize {
+            log2: size.log2 + 2,
             linear: false,
-        };
+        });
     }
-    if log2 < S::MAX_LOG2 {
-        return Plan::Grow {
-            log2: log2 + 1,
+    if size.log2 < S::MAX_LOG2 {
+        return Plan::Grow(BlockSize {
+            log2: size.log2 + 1,
             linear: true,
-        };
+        });
     }
-    if !linear && has_free_place(places) {
-        return Plan::Grow {
+    if !size.linear && has_free_place(places) {
+        return Plan::Grow(BlockSize {
             log2: S::MAX_LOG2,
             linear: true,
-        };
+        });
     }
     Plan::Full
 }
@@ -94,30 +90,24 @@ fn has_free_place<K: Copy>(places: &[(K, u64)]) -> bool
     free_place(places, 0, places.len()).is_some()
 }
 
-/// Whether a block of `2^size` pages, above the block's own, takes the pairs and the new key.
-fn has_room<S: Shape>(
-    places: &[(S::Key, u64)],
-    log2: u64,
-    linear: bool,
-    key: &S::Key,
-    size: u64,
-) -> bool
-    requires { MayHavePlaces ⟦<S as Shape>⟧ log2 (length places.now) }
-    ensures within { IsTrue result → size ≤ S.MAX_LOG2 }
-    ensures exact { IsLawfulBlock (paging_of ⟦<S as Shape>⟧) log2 linear places.now
-        → IsCrowded linear (page_of (paging_of ⟦<S as Shape>⟧) log2 key.now) places.now
-        → 0 < length places.now → log2 ≤ size
-        → (IsTrue result ↔ HasRoom (paging_of ⟦<S as Shape>⟧) (key.now ∷ keys_of places.now) size) }
+/// Whether a block of `2^log2` pages takes the pairs of a block that has no more pages, and the new key.
+fn has_room<S: Shape>(places: &[(S::Key, u64)], size: BlockSize, key: &S::Key, log2: u64) -> bool
+    requires { MayHavePlaces ⟦<S as Shape>⟧ size.log2 (length places.now) }
+    ensures within { IsTrue result → log2 ≤ S.MAX_LOG2 }
+    ensures exact { IsLawfulBlock (paging_of ⟦<S as Shape>⟧) size.log2 size.linear places.now
+        → IsCrowded size.linear (page_of (paging_of ⟦<S as Shape>⟧) size.log2 key.now) places.now
+        → 0 < length places.now → size.log2 ≤ log2
+        → (IsTrue result ↔ HasRoom (paging_of ⟦<S as Shape>⟧) (key.now ∷ keys_of places.now) log2) }
 {
-    if S::MAX_LOG2 < size {
+    if S::MAX_LOG2 < log2 {
         return false;
     }
-    if linear {
-        return fits::<S>(places, key, size);
+    if size.linear {
+        return fits::<S>(places, key, log2);
     }
     // A page's pairs go to pages that no other page's go to, so only the key's page can overflow.
-    let (from, to) = open_places::<S>(places.len(), log2, linear, key);
-    has_other_page::<S>(places, from, to, key, size)
+    let (from, to) = open_places::<S>(places.len(), size, key);
+    has_other_page::<S>(places, from, to, key, log2)
 }
 
 /// Whether one of the pairs, from one place to before another, has another page than the key.
@@ -130,10 +120,8 @@ fn has_other_page<S: Shape>(
 ) -> bool
     requires pages { MayHavePages ⟦<S as Shape>⟧ log2 }
     requires range { IsRange places.now to }
-    ensures other { let own = page_of (paging_of ⟦<S as Shape>⟧) log2 key.now in
-        OnTrue result ((i : ℕ) × (from ≤ i) × (i < to) × (NamesPage (paging_of ⟦<S as Shape>⟧) log2 own places.now i → ⊥)) }
-    ensures same { let own = page_of (paging_of ⟦<S as Shape>⟧) log2 key.now in
-        OnFalse result ((i : ℕ) → from ≤ i → i < to → NamesPage (paging_of ⟦<S as Shape>⟧) log2 own places.now i) }
+    ensures { let own = page_of (paging_of ⟦<S as Shape>⟧) log2 key.now in
+        TellsOtherPage (paging_of ⟦<S as Shape>⟧) log2 own places.now from to result }
 {
     let own = page::<S>(key, log2);
     for i in from..to {

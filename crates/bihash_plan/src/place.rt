@@ -4,9 +4,9 @@ ghost use Rattle.std.specs.Prelude.{◌≡◌, ◌≤◌, ◌<◌, ◌+◌, ◌^
 ghost use Rattle.bihash_words.specs.Sizes.{IsSound, sizes_of};
 ghost use Rattle.bihash_plan.specs.Blocks.{IsOpen, IsSized};
 ghost use Rattle.bihash_plan.specs.Pages.{MayHavePages, page_of, paging_of};
-ghost use Rattle.bihash_plan.specs.Searches.{MayHavePlaces};
+ghost use Rattle.bihash_plan.specs.Searches.{AreOpenPlaces, MayHavePlaces};
 
-use bihash_words::{PAGE_PLACES, Shape};
+use bihash_words::{BlockSize, PAGE_PLACES, Shape};
 
 /// The page that the key's hash names in a block of `2^log2` pages.
 pub(crate) fn page<S: Shape>(key: &S::Key, log2: u64) -> usize
@@ -26,21 +26,13 @@ pub(crate) fn page_count(log2: u64) -> usize
 }
 
 /// The places open to the key, as the first of them and the one after the last.
-pub(crate) fn open_places<S: Shape>(
-    count: usize,
-    log2: u64,
-    linear: bool,
-    key: &S::Key,
-) -> (usize, usize)
-    requires { MayHavePlaces ⟦<S as Shape>⟧ log2 count }
-    ensures order { result.0 ≤ result.1 }
-    ensures within { result.1 ≤ count }
-    ensures exact { (i : ℕ) → i < count
-        → ((result.0 ≤ i) × (i < result.1)) ↔ IsOpen linear (page_of (paging_of ⟦<S as Shape>⟧) log2 key.now) i }
+pub(crate) fn open_places<S: Shape>(count: usize, size: BlockSize, key: &S::Key) -> (usize, usize)
+    requires { MayHavePlaces ⟦<S as Shape>⟧ size.log2 count }
+    ensures { AreOpenPlaces size.linear (page_of (paging_of ⟦<S as Shape>⟧) size.log2 key.now) count result.0 result.1 }
 {
-    if linear || count == 0 {
+    if size.linear || count == 0 {
         return (0, count);
     }
-    let first = PAGE_PLACES * page::<S>(key, log2);
+    let first = PAGE_PLACES * page::<S>(key, size.log2);
     (first, first + PAGE_PLACES)
 }

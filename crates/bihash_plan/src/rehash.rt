@@ -4,28 +4,27 @@ ghost use Rattle.std.specs.Prelude.{◌≡◌, ◌≢◌, ◌≤◌, ◌<◌, �
 ghost use Rattle.bihash_words.specs.Sizes.{IsSound, sizes_of};
 ghost use Rattle.bihash_words.specs.Patches.{free_mark};
 ghost use Rattle.bihash_plan.specs.Blocks.{IsCrowded, IsFirstFree, IsLawfulBlock};
-ghost use Rattle.bihash_plan.specs.Layouts.{IsNamed, IsRehash, IsTakenBefore};
+ghost use Rattle.bihash_plan.specs.Layouts.{HasPlacesTo, IsFirstFreeOrNone, IsNamed, IsRehash, IsTakenBefore};
 ghost use Rattle.bihash_plan.specs.Pages.{MayHavePages, page_of, paging_of};
 ghost use Rattle.bihash_plan.specs.Searches.{HasPlaces};
 
 use crate::place::open_places;
 use crate::search::free_place;
-use bihash_words::{FREE, Shape};
+use bihash_words::{BlockSize, FREE, Shape};
 
-/// Writes a block of `2^log2` pages into `out`: the pairs in the order of their places and then
+/// Writes a block of this size into `out`: the pairs in the order of their places and then
 /// the new one, each at the first free place open to its key. `plan` has to have named this block
 /// for the key, and the value isn't all ones; else pairs for which there is no place are left out.
 pub fn lay<S: Shape>(
     places: &[(S::Key, u64)],
     key: &S::Key,
     value: u64,
-    log2: u64,
-    linear: bool,
+    size: BlockSize,
     out: &mut [(S::Key, u64)],
 )
-    requires { HasPlaces ⟦<S as Shape>⟧ log2 (length out.old) }
-    ensures { IsNamed (paging_of ⟦<S as Shape>⟧) places.now key.now log2 linear → value ≢ free_mark
-        → IsRehash (paging_of ⟦<S as Shape>⟧) log2 linear places.now key.now value out.new }
+    requires { HasPlaces ⟦<S as Shape>⟧ size.log2 (length out.old) }
+    ensures { IsNamed (paging_of ⟦<S as Shape>⟧) places.now key.now size → value ≢ free_mark
+        → IsRehash (paging_of ⟦<S as Shape>⟧) size.log2 size.linear places.now key.now value out.new }
 {
     clear(*key, out);
     let mut next = 0;
@@ -33,9 +32,9 @@ pub fn lay<S: Shape>(
         if pair.1 == FREE {
             continue;
         }
-        next = put::<S>(*pair, log2, linear, next, out);
+        next = put::<S>(*pair, size, next, out);
     }
-    put::<S>((*key, value), log2, linear, next, out);
+    put::<S>((*key, value), size, next, out);
 }
 
 /// Makes each place free.
@@ -51,20 +50,18 @@ fn clear<K: Copy>(key: K, out: &mut [(K, u64)])
 /// `next`, and says before which place it has none afterwards.
 fn put<S: Shape>(
     pair: (S::Key, u64),
-    log2: u64,
-    linear: bool,
+    size: BlockSize,
     next: usize,
     out: &mut [(S::Key, u64)],
 ) -> usize
-    requires places { HasPlaces ⟦<S as Shape>⟧ log2 (length out.old) }
-    requires within { next ≤ length out.old }
+    requires { HasPlacesTo ⟦<S as Shape>⟧ size.log2 (length out.old) next }
     ensures within { result ≤ length out.new }
-    ensures placed { pair.1 ≢ free_mark → IsTakenBefore linear next out.old
-        → (IsCrowded linear (page_of (paging_of ⟦<S as Shape>⟧) log2 pair.0) out.old → ⊥)
-        → (i : ℕ) × IsFirstFree linear (page_of (paging_of ⟦<S as Shape>⟧) log2 pair.0) out.old i
-        × (out.new ≡ slice_set out.old i pair) × IsTakenBefore linear result out.new }
+    ensures placed { pair.1 ≢ free_mark → IsTakenBefore size.linear next out.old
+        → (IsCrowded size.linear (page_of (paging_of ⟦<S as Shape>⟧) size.log2 pair.0) out.old → ⊥)
+        → (i : ℕ) × IsFirstFree size.linear (page_of (paging_of ⟦<S as Shape>⟧) size.log2 pair.0) out.old i
+        × (out.new ≡ slice_set out.old i pair) × IsTakenBefore size.linear result out.new }
 {
-    match first_free::<S>(out, log2, linear, next, &pair.0) {
+    match first_free::<S>(out, size, next, &pair.0) {
         Some(i) => {
             out[i] = pair;
             i + 1
@@ -76,22 +73,18 @@ fn put<S: Shape>(
 /// The first free place open to the key, where a linear block has none before `next`.
 fn first_free<S: Shape>(
     places: &[(S::Key, u64)],
-    log2: u64,
-    linear: bool,
+    size: BlockSize,
     next: usize,
     key: &S::Key,
 ) -> Option<usize>
-    requires places { HasPlaces ⟦<S as Shape>⟧ log2 (length places.now) }
-    requires within { next ≤ length places.now }
+    requires { HasPlacesTo ⟦<S as Shape>⟧ size.log2 (length places.now) next }
     ensures within { IfSome result (λ i. i < length places.now) }
-    ensures found { IsTakenBefore linear next places.now
-        → IfSome result (IsFirstFree linear (page_of (paging_of ⟦<S as Shape>⟧) log2 key.now) places.now) }
-    ensures none { IsTakenBefore linear next places.now
-        → IfNone result (IsCrowded linear (page_of (paging_of ⟦<S as Shape>⟧) log2 key.now) places.now) }
+    ensures first { IsTakenBefore size.linear next places.now
+        → IsFirstFreeOrNone size.linear (page_of (paging_of ⟦<S as Shape>⟧) size.log2 key.now) places.now result }
 {
-    if linear {
+    if size.linear {
         return free_place(places, next, places.len());
     }
-    let (from, to) = open_places::<S>(places.len(), log2, linear, key);
+    let (from, to) = open_places::<S>(places.len(), size, key);
     free_place(places, from, to)
 }

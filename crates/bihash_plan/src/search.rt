@@ -4,30 +4,25 @@ ghost use Rattle.std.specs.Prelude.{◌≡◌, ◌≤◌, ◌<◌, ◌^◌, ◌�
 ghost use Rattle.bihash_words.specs.Sizes.{IsSound, sizes_of};
 ghost use Rattle.bihash_plan.specs.Blocks.{HasKey, IsFree, IsLawfulBlock, IsNew, IsOpen, IsSized};
 ghost use Rattle.bihash_plan.specs.Pages.{page_of, paging_of};
-ghost use Rattle.bihash_plan.specs.Searches.{IsPlace, IsPlaceOfKey, IsRange, MayHavePlaces};
+ghost use Rattle.bihash_plan.specs.Searches.{IsFirstFreeOf, IsPlace, IsPlaceOfKey, IsRange, MayHavePlaces};
 
 use crate::place::open_places;
-use bihash_words::{FREE, Shape, is_same};
+use bihash_words::{BlockSize, FREE, Shape, is_same};
 
 /// The place where the key's pair stands. `places` has four places a page, and none where the
 /// bucket has no block. Where they are no lawful block, as in a read that a writer overtook, only
 /// the places open to the key are searched.
-pub fn find<S: Shape>(
-    places: &[(S::Key, u64)],
-    log2: u64,
-    linear: bool,
-    key: &S::Key,
-) -> Option<usize>
-    requires { MayHavePlaces ⟦<S as Shape>⟧ log2 (length places.now) }
+pub fn find<S: Shape>(places: &[(S::Key, u64)], size: BlockSize, key: &S::Key) -> Option<usize>
+    requires { MayHavePlaces ⟦<S as Shape>⟧ size.log2 (length places.now) }
 
     ensures found { IfSome result (HasKey places.now key.now) }
-    ensures open_only { IfNone result ((i : ℕ) → IsOpen linear (page_of (paging_of ⟦<S as Shape>⟧) log2 key.now) i
+    ensures open_only { IfNone result ((i : ℕ) → IsOpen size.linear (page_of (paging_of ⟦<S as Shape>⟧) size.log2 key.now) i
         → HasKey places.now key.now i → ⊥) }
     // On a lawful block the answer is the key's place, and None exactly where no pair has the key.
-    ensures lawful { IsLawfulBlock (paging_of ⟦<S as Shape>⟧) log2 linear places.now
+    ensures lawful { IsLawfulBlock (paging_of ⟦<S as Shape>⟧) size.log2 size.linear places.now
         → IsPlaceOfKey places.now key.now result }
 {
-    let (from, to) = open_places::<S>(places.len(), log2, linear, key);
+    let (from, to) = open_places::<S>(places.len(), size, key);
     place_of_key::<S>(places, from, to, key)
 }
 
@@ -54,9 +49,7 @@ pub(crate) fn place_of_key<S: Shape>(
 /// The first free place, among those from one place to before another.
 pub(crate) fn free_place<K: Copy>(places: &[(K, u64)], from: usize, to: usize) -> Option<usize>
     requires range { IsRange places.now to }
-    ensures found { IfSome result (λ i. (from ≤ i) × (i < to) × IsFree places.now i) }
-    ensures first { IfSome result (λ i. (j : ℕ) → from ≤ j → j < i → IsFree places.now j → ⊥) }
-    ensures none { IfNone result ((i : ℕ) → from ≤ i → i < to → IsFree places.now i → ⊥) }
+    ensures { IsFirstFreeOf places.now from to result }
 {
     for i in from..to {
         if is_free(places, i) {

@@ -2,7 +2,7 @@
 //! the even keys share a bucket and k / 2 names the page.
 
 use crate::{Plan, find, larger, lay, plan};
-use bihash_words::Tiny;
+use bihash_words::{BlockSize, Tiny};
 
 type Small = Tiny<8, 1000>;
 
@@ -14,25 +14,41 @@ const fn pair(key: u64, value: u64) -> Place {
     ([key, 0], value)
 }
 
-fn grow(log2: u64, linear: bool) -> Plan {
-    Plan::Grow { log2, linear }
+const fn paged(log2: u64) -> BlockSize {
+    BlockSize {
+        log2,
+        linear: false,
+    }
+}
+
+const fn linear(log2: u64) -> BlockSize {
+    BlockSize { log2, linear: true }
 }
 
 #[test]
 fn first_split(rt: HostRuntime) {
-    assert_eq!(rt; plan::<Small>(&[], 0, false, &[0, 0]), grow(0, false));
+    assert_eq!(rt; plan::<Small>(&[], paged(0), &[0, 0]), Plan::Grow(paged(0)));
     let mut one = [FREE; 4];
-    lay::<Small>(&[], &[0, 0], 100, 0, false, &mut one);
+    lay::<Small>(&[], &[0, 0], 100, paged(0), &mut one);
     assert_eq!(rt; one[0], pair(0, 100));
-    assert_eq!(rt; plan::<Small>(&one, 0, false, &[2, 0]), Plan::InPlace(1));
+    assert_eq!(rt; plan::<Small>(&one, paged(0), &[2, 0]), Plan::InPlace(1));
 
     let full = [pair(0, 100), pair(2, 101), pair(4, 102), pair(6, 103)];
-    assert_eq!(rt; plan::<Small>(&full, 0, false, &[4, 0]), Plan::InPlace(2));
-    assert_eq!(rt; plan::<Small>(&full, 0, false, &[8, 0]), grow(1, false));
-    assert_eq!(rt; larger::<Small>(&full, 0, false, &[8, 0]), grow(1, false));
-    assert_eq!(rt; larger::<Small>(&[], 0, false, &[8, 0]), grow(0, false));
+    assert_eq!(rt; plan::<Small>(&full, paged(0), &[4, 0]), Plan::InPlace(2));
+    assert_eq!(rt;
+        plan::<Small>(&full, paged(0), &[8, 0]),
+        Plan::Grow(paged(1))
+    );
+    assert_eq!(rt;
+        larger::<Small>(&full, paged(0), &[8, 0]),
+        Plan::Grow(paged(1))
+    );
+    assert_eq!(rt;
+        larger::<Small>(&[], paged(0), &[8, 0]),
+        Plan::Grow(paged(0))
+    );
     let mut two = [FREE; 8];
-    lay::<Small>(&full, &[8, 0], 104, 1, false, &mut two);
+    lay::<Small>(&full, &[8, 0], 104, paged(1), &mut two);
     let free = ([8, 0], u64::MAX);
     let want = [
         pair(0, 100),
@@ -47,20 +63,23 @@ fn first_split(rt: HostRuntime) {
     assert_eq!(rt; two, want);
     for (key, place) in [(0, 0), (4, 1), (8, 2), (2, 4), (6, 5)] {
         assert_eq!(rt;
-            find::<Small>(&two, 1, false, &[key, 0]),
+            find::<Small>(&two, paged(1), &[key, 0]),
             Some(place),
             "key {key}"
         );
     }
-    assert_eq!(rt; find::<Small>(&two, 1, false, &[10, 0]), None);
+    assert_eq!(rt; find::<Small>(&two, paged(1), &[10, 0]), None);
 }
 
 #[test]
 fn second_split(rt: HostRuntime) {
     let full = [pair(0, 1), pair(4, 2), pair(8, 3), pair(12, 4)];
-    assert_eq!(rt; plan::<Small>(&full, 0, false, &[16, 0]), grow(2, false));
+    assert_eq!(rt;
+        plan::<Small>(&full, paged(0), &[16, 0]),
+        Plan::Grow(paged(2))
+    );
     let mut four = [FREE; 16];
-    lay::<Small>(&full, &[16, 0], 5, 2, false, &mut four);
+    lay::<Small>(&full, &[16, 0], 5, paged(2), &mut four);
     let free = ([16, 0], u64::MAX);
     let want = [
         pair(0, 1),
@@ -84,11 +103,14 @@ fn second_split(rt: HostRuntime) {
 }
 
 #[test]
-fn linear(rt: HostRuntime) {
+fn linear_block(rt: HostRuntime) {
     let full = [pair(0, 1), pair(8, 2), pair(16, 3), pair(24, 4)];
-    assert_eq!(rt; plan::<Small>(&full, 0, false, &[32, 0]), grow(1, true));
+    assert_eq!(rt;
+        plan::<Small>(&full, paged(0), &[32, 0]),
+        Plan::Grow(linear(1))
+    );
     let mut two = [FREE; 8];
-    lay::<Small>(&full, &[32, 0], 5, 1, true, &mut two);
+    lay::<Small>(&full, &[32, 0], 5, linear(1), &mut two);
     let free = ([32, 0], u64::MAX);
     let want = [
         pair(0, 1),
@@ -114,13 +136,13 @@ fn linear(rt: HostRuntime) {
     ];
     for (key, place) in [(0, 0), (16, 2), (24, 3), (32, 4)] {
         assert_eq!(rt;
-            find::<Small>(&gap, 1, true, &[key, 0]),
+            find::<Small>(&gap, linear(1), &[key, 0]),
             Some(place),
             "key {key}"
         );
     }
-    assert_eq!(rt; find::<Small>(&gap, 1, true, &[8, 0]), None);
-    assert_eq!(rt; plan::<Small>(&gap, 1, true, &[8, 0]), Plan::InPlace(1));
+    assert_eq!(rt; find::<Small>(&gap, linear(1), &[8, 0]), None);
+    assert_eq!(rt; plan::<Small>(&gap, linear(1), &[8, 0]), Plan::InPlace(1));
 
     // A full linear block whose pairs fit four pages has pages again.
     let eight = [
@@ -133,7 +155,10 @@ fn linear(rt: HostRuntime) {
         pair(6, 7),
         pair(10, 8),
     ];
-    assert_eq!(rt; plan::<Small>(&eight, 1, true, &[12, 0]), grow(2, false));
+    assert_eq!(rt;
+        plan::<Small>(&eight, linear(1), &[12, 0]),
+        Plan::Grow(paged(2))
+    );
 }
 
 #[test]
@@ -148,13 +173,16 @@ fn full(rt: HostRuntime) {
         pair(48, 7),
         pair(56, 8),
     ];
-    assert_eq!(rt; plan::<Small>(&eight, 1, true, &[64, 0]), grow(2, true));
+    assert_eq!(rt;
+        plan::<Small>(&eight, linear(1), &[64, 0]),
+        Plan::Grow(linear(2))
+    );
     let mut sixteen = [FREE; 16];
-    lay::<Small>(&eight, &[64, 0], 9, 2, true, &mut sixteen);
+    lay::<Small>(&eight, &[64, 0], 9, linear(2), &mut sixteen);
     assert_eq!(rt; sixteen[7], pair(56, 8));
     assert_eq!(rt; sixteen[8], pair(64, 9));
     assert_eq!(rt;
-        plan::<Small>(&sixteen, 2, true, &[72, 0]),
+        plan::<Small>(&sixteen, linear(2), &[72, 0]),
         Plan::InPlace(9)
     );
     let full = [
@@ -175,9 +203,12 @@ fn full(rt: HostRuntime) {
         pair(112, 15),
         pair(120, 16),
     ];
-    assert_eq!(rt; plan::<Small>(&full, 2, true, &[128, 0]), Plan::Full);
-    assert_eq!(rt; find::<Small>(&full, 2, true, &[128, 0]), None);
-    assert_eq!(rt; plan::<Small>(&full, 2, true, &[120, 0]), Plan::InPlace(15));
+    assert_eq!(rt; plan::<Small>(&full, linear(2), &[128, 0]), Plan::Full);
+    assert_eq!(rt; find::<Small>(&full, linear(2), &[128, 0]), None);
+    assert_eq!(rt;
+        plan::<Small>(&full, linear(2), &[120, 0]),
+        Plan::InPlace(15)
+    );
 }
 
 #[test]
@@ -200,18 +231,21 @@ fn linear_at_the_limit(rt: HostRuntime) {
         FREE,
         FREE,
     ];
-    assert_eq!(rt; plan::<Small>(&four, 2, false, &[24, 0]), Plan::InPlace(3));
+    assert_eq!(rt; plan::<Small>(&four, paged(2), &[24, 0]), Plan::InPlace(3));
     let mut crowded = four;
     crowded[3] = pair(24, 6);
-    assert_eq!(rt; plan::<Small>(&crowded, 2, false, &[32, 0]), grow(2, true));
-    let mut linear = [FREE; 16];
-    lay::<Small>(&crowded, &[32, 0], 7, 2, true, &mut linear);
+    assert_eq!(rt;
+        plan::<Small>(&crowded, paged(2), &[32, 0]),
+        Plan::Grow(linear(2))
+    );
+    let mut laid = [FREE; 16];
+    lay::<Small>(&crowded, &[32, 0], 7, linear(2), &mut laid);
     for (key, place) in [(0, 0), (8, 1), (16, 2), (24, 3), (4, 4), (12, 5), (32, 6)] {
         assert_eq!(rt;
-            find::<Small>(&linear, 2, true, &[key, 0]),
+            find::<Small>(&laid, linear(2), &[key, 0]),
             Some(place),
             "key {key}"
         );
     }
-    assert_eq!(rt; linear[7].1, u64::MAX);
+    assert_eq!(rt; laid[7].1, u64::MAX);
 }

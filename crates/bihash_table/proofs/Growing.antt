@@ -1,11 +1,12 @@
 -- A larger block that was planned and laid out from what was read of a bucket: what it is without the lock, and
 -- after it.
-use Rattle.std.proofs.Common.{◌≡◌, ◌≢◌, ◌<◌, ◌≤◌, ℕ, Bool, List, None, subst, sym}
+use Rattle.std.proofs.Common.{◌≡◌, ◌≢◌, ◌<◌, ◌≤◌, ℕ, Bool, List, None, ap, subst, sym}
 use Rattle.std.specs.FinMap.{get, insert, len}
 use Rattle.bihash_words.specs.declared.shape.Shape.{Ghosts}
 use Rattle.bihash_words.specs.Maps.{most_pairs}
 use Rattle.bihash_words.specs.Patches.{free_mark}
 use Rattle.bihash_words.specs.Sizes.{sizes_of}
+use Rattle.bihash_words.specs.declared.block_size.BlockSize.{BlockSize}
 use Rattle.bihash_words.specs.declared.patch.Change.TheVariants.{Set}
 use Rattle.bihash_words.specs.declared.patch.Reply.TheVariants.{Full}
 use Rattle.bihash_words.specs.Words.{Bucket, Fits, packed}
@@ -13,6 +14,7 @@ use Rattle.bihash_plan.specs.Blocks.{IsCrowded, IsLawfulBlock, IsNew}
 use Rattle.bihash_plan.specs.Layouts.{IsNamed, IsRehash}
 use Rattle.bihash_plan.specs.Pages.{page_of, paging_of}
 use Rattle.bihash_plan.specs.Plans.{IsPlan}
+use Rattle.bihash_plan.specs.Searches.{IsOnlyPlan}
 use Rattle.bihash_plan.specs.declared.outcome.Plan.{Plan}
 use Rattle.bihash_plan.specs.declared.outcome.Plan.TheVariants.{Grow}
 use Rattle.bihash_steps.specs.Histories.{bounds_of}
@@ -36,12 +38,18 @@ use Rattle.bihash_table.proofs.Stores.{linear_is, log2_is}
 
 module _ {A K : Type 0} (g : Ghosts A K) (keys : AreKeyWords g) (v : View) (b word : ℕ) (key : K) (ps : List (K × ℕ))
     (h : HasSeen (sizes_of g) v b word (λ e block. IsNewAndCrowded (sizes_of g) (g.words_of key) e block × ArePlaces g ps block))
-    (log2 : ℕ) (linear : Bool) (log2_told : (x : Bucket) → Fits x → word ≡ packed x → log2 ≡ x.log2)
-    (linear_told : (x : Bucket) → Fits x → word ≡ packed x → linear ≡ x.linear)
-    (plan : Plan) (exact : IsLawfulBlock (paging_of g) log2 linear ps → IsNew ps key
-    → IsCrowded linear (page_of (paging_of g) log2 key) ps → IsPlan (paging_of g) log2 linear ps key plan) where
+    (was : BlockSize) (was_told : (x : Bucket) → Fits x → word ≡ packed x → was ≡ record { log2 = x.log2; linear = x.linear })
+    (plan : Plan) (told_plan : IsLawfulBlock (paging_of g) was.log2 was.linear ps → IsNew ps key
+    → IsCrowded was.linear (page_of (paging_of g) was.log2 key) ps → IsOnlyPlan (paging_of g) was.log2 was.linear ps key plan) where
+  -- the fields that the word tells
+  log2_told : (x : Bucket) → Fits x → word ≡ packed x → was.log2 ≡ x.log2
+  log2_told x fits is = ap (λ (s : BlockSize). s.log2) (was_told x fits is)
+
+  linear_told : (x : Bucket) → Fits x → word ≡ packed x → was.linear ≡ x.linear
+  linear_told x fits is = ap (λ (s : BlockSize). s.linear) (was_told x fits is)
+
   -- a plan that isn't a larger block
-  pub full_seen : ((size : ℕ) (mark : Bool) → plan ≡ Grow size mark → ⊥) → (value n : ℕ) → n < g.LIMIT
+  pub full_seen : ((size : BlockSize) → plan ≡ Grow size → ⊥) → (value n : ℕ) → n < g.LIMIT
       → HasSeen (sizes_of g) v b word (IsAnswerOf (sizes_of g) n (event (g.words_of key) None (Set value) Full))
   full_seen other value n unworn = let z = sizes_of g in let e = h.seen.extent in let block = h.seen.block.open_bucket.block in
       let tells = word_notes z v word e h.seen.block in
@@ -50,8 +58,8 @@ module _ {A K : Type 0} (g : Ghosts A K) (keys : AreKeyWords g) (v : View) (b wo
         m,
         crowds (bounds_of z) m n (g.words_of key) value unworn
             (is_full g keys e block m key h.seen.block.size pairs told.0.1 absent ps told.1 plan
-            (planned g keys e block m key h.seen.block.size pairs told.0.1 absent ps told.1 log2 linear plan
-            (log2_is z word e tells log2 log2_told) (linear_is z word e tells linear linear_told) exact) other) absent,
+            (planned g keys e block m key h.seen.block.size pairs told.0.1 absent ps told.1 was.log2 was.linear plan
+            (log2_is z word e tells was.log2 log2_told) (linear_is z word e tells was.linear linear_told) told_plan) other) absent,
       ))
 
   -- ---- After the lock
@@ -69,29 +77,29 @@ module _ {A K : Type 0} (g : Ghosts A K) (keys : AreKeyWords g) (v : View) (b wo
     pub absent_there : get (map_now u b) (g.words_of key) ≡ None
     absent_there = sym (pair_value (sizes_of g) k.locked.lock.extent k.locked.lock.now (g.words_of key) (map_now u b) None told.0.0 has.pairs)
 
-    module _ (size : ℕ) (mark : Bool) (is : plan ≡ Grow size mark) where
-      named : IsPlan (paging_of g) k.locked.lock.extent.log2 k.locked.lock.extent.linear ps key (Grow size mark)
+    module _ (size : BlockSize) (is : plan ≡ Grow size) where
+      named : IsPlan (paging_of g) k.locked.lock.extent.log2 k.locked.lock.extent.linear ps key (Grow size)
       named = let z = sizes_of g in let e = k.locked.lock.extent in let tells = word_tells z u b word k.locked.lock has in
           subst (λ (p : Plan). IsPlan (paging_of g) e.log2 e.linear ps key p) is
-          (planned g keys e k.locked.lock.now (map_now u b) key has.size has.pairs told.0.1 absent_there ps told.1 log2 linear plan
-          (log2_is z word e tells log2 log2_told) (linear_is z word e tells linear linear_told) exact)
+          (planned g keys e k.locked.lock.now (map_now u b) key has.size has.pairs told.0.1 absent_there ps told.1 was.log2 was.linear plan
+          (log2_is z word e tells was.log2 log2_told) (linear_is z word e tells was.linear linear_told) told_plan)
 
       pub room_there : len (map_now u b) < most_pairs (bounds_of (sizes_of g))
       room_there = has_room g keys k.locked.lock.extent k.locked.lock.now (map_now u b) key has.size has.pairs told.0.1 absent_there ps told.1
-          size mark named
+          size named
 
       pub laid_there : (value : ℕ) (new : List (K × ℕ)) → value ≢ free_mark
-          → (IsNamed (paging_of g) ps key size mark → value ≢ free_mark → IsRehash (paging_of g) size mark ps key value new)
+          → (IsNamed (paging_of g) ps key size → value ≢ free_mark → IsRehash (paging_of g) size.log2 size.linear ps key value new)
           → (page : ℕ) (words : List ℕ) → 1 ≤ page → ArePlaces g new words
-          → IsBlockOf (sizes_of g) (extent_of page size mark) words (insert (map_now u b) (g.words_of key) value)
+          → IsBlockOf (sizes_of g) (extent_of page size.log2 size.linear) words (insert (map_now u b) (g.words_of key) value)
       laid_there value new storable lays page words some there =
           let e = k.locked.lock.extent in let block = k.locked.lock.now in let m = map_now u b in
-          block_of_rehash g keys page size mark ps key value m new words some
+          block_of_rehash g keys page size.log2 size.linear ps key value m new words some
           (hold g keys e block m key has.size has.pairs told.0.1 absent_there ps told.1)
           (of_keys g keys e block m key has.size has.pairs told.0.1 absent_there ps told.1)
           absent_there
-          (lays (is_named g keys e block m key has.size has.pairs told.0.1 absent_there ps told.1 size mark named) storable) there
+          (lays (is_named g keys e block m key has.size has.pairs told.0.1 absent_there ps told.1 size named) storable) there
 
-      pub planned_there : IsPlanned g (map_now u b) key size mark
+      pub planned_there : IsPlanned g (map_now u b) key size
       planned_there = is_planned g keys k.locked.lock.extent k.locked.lock.now (map_now u b) key has.size has.pairs told.0.1 absent_there ps told.1
-          size mark named
+          size named

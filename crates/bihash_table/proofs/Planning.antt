@@ -5,10 +5,12 @@ use Rattle.std.proofs.lemmas.Option.{slice_get-get_or}
 use Rattle.bihash_words.specs.declared.shape.Shape.{Ghosts}
 use Rattle.bihash_words.specs.Maps.{Pairs, most_pairs}
 use Rattle.bihash_words.specs.Sizes.{sizes_of}
+use Rattle.bihash_words.specs.declared.block_size.BlockSize.{BlockSize}
 use Rattle.bihash_plan.specs.Blocks.{HasKey, IsCrowded, IsFree, IsLawfulBlock, IsNew, IsOpen}
 use Rattle.bihash_plan.specs.Layouts.{IsNamed}
 use Rattle.bihash_plan.specs.Pages.{Paging, page_of, paging_of}
 use Rattle.bihash_plan.specs.Plans.{CanBecomeLinear, IsExhausted, IsGrowth, IsPlan}
+use Rattle.bihash_plan.specs.Searches.{IsOnlyPlan}
 use Rattle.bihash_plan.specs.declared.outcome.Plan.{Plan}
 use Rattle.bihash_plan.specs.declared.outcome.Plan.TheVariants.{Full, Grow, InPlace}
 use Rattle.bihash_plan.proofs.Places.{free_at, free_inside}
@@ -94,12 +96,12 @@ module _ {A K : Type 0} (g : Ghosts A K) (keys : AreKeyWords g) (e : Extent) (bl
   -- the plan was made on the fields that the word tells
   pub planned : (log2 : ℕ) (linear : Bool) (plan : Plan) → log2 ≡ e.log2 → linear ≡ e.linear
       → (IsLawfulBlock (paging_of g) log2 linear ps → IsNew ps key → IsCrowded linear (page_of (paging_of g) log2 key) ps
-      → IsPlan (paging_of g) log2 linear ps key plan)
+      → IsOnlyPlan (paging_of g) log2 linear ps key plan)
       → IsPlan (paging_of g) e.log2 e.linear ps key plan
-  planned log2 linear plan log2_at linear_at exact =
-      subst (λ (x : ℕ × Bool). IsLawfulBlock (paging_of g) x.0 x.1 ps → IsNew ps key
-      → IsCrowded x.1 (page_of (paging_of g) x.0 key) ps → IsPlan (paging_of g) x.0 x.1 ps key plan)
-      (λ i. (log2_at i, linear_at i)) exact lawful is_new is_crowded
+  planned log2 linear plan log2_at linear_at told =
+      (subst (λ (x : ℕ × Bool). IsLawfulBlock (paging_of g) x.0 x.1 ps → IsNew ps key
+      → IsCrowded x.1 (page_of (paging_of g) x.0 key) ps → IsOnlyPlan (paging_of g) x.0 x.1 ps key plan)
+      (λ i. (log2_at i, linear_at i)) told lawful is_new is_crowded).exact
 
   not_placed : (i : ℕ) → IsPlan (paging_of g) e.log2 e.linear ps key (InPlace i) → ⊥
   not_placed i plan = ⊎_elim (λ (had : HasKey ps key i). is_new i had) (λ first. is_crowded i first.1.reached first.1.vacant) plan
@@ -132,17 +134,17 @@ module _ {A K : Type 0} (g : Ghosts A K) (keys : AreKeyWords g) (e : Extent) (bl
 
   -- a plan that isn't a larger block says that the bucket has as many pairs as it can
   pub is_full : (plan : Plan) → IsPlan (paging_of g) e.log2 e.linear ps key plan
-      → ((log2 : ℕ) (linear : Bool) → plan ≡ Grow log2 linear → ⊥)
+      → ((size : BlockSize) → plan ≡ Grow size → ⊥)
       → most_pairs (bounds_of (sizes_of g)) ≤ len m
   is_full (InPlace i) plan other = absurd (not_placed i plan)
-  is_full (Grow log2 linear) plan other = absurd (other log2 linear refl)
+  is_full (Grow size) plan other = absurd (other size refl)
   is_full Full plan other = full plan
 
   -- a larger block says that there is room
-  pub has_room : (log2 : ℕ) (linear : Bool)
-      → IsPlan (paging_of g) e.log2 e.linear ps key (Grow log2 linear)
+  pub has_room : (size : BlockSize)
+      → IsPlan (paging_of g) e.log2 e.linear ps key (Grow size)
       → len m < most_pairs (bounds_of (sizes_of g))
-  has_room log2 linear plan = ⊎_elim
+  has_room size plan = ⊎_elim
       (λ (none : length ps ≡ 0).
       let all : len m ≡ places e.page e.log2 =
       full_block (sizes_of g) e block m held (λ i inside. absurd (omega (arith, count))) in
@@ -151,38 +153,35 @@ module _ {A K : Type 0} (g : Ghosts A K) (keys : AreKeyWords g) (e : Extent) (bl
       (λ (below : e.log2 < g.MAX_LOG2). few_places (sizes_of g) e block m held below)
       (λ (vacant : (i : ℕ) × IsFree ps i). few_pairs (sizes_of g) e block m vacant.0 held
       (free_inside_block vacant.0 vacant.1) (free_value vacant.0 vacant.1)) more)
-      (grows (paging_of g) e.log2 e.linear ps key log2 linear plan.2)
+      (grows (paging_of g) e.log2 e.linear ps key size.log2 size.linear plan.2)
 
-  pub is_named : (log2 : ℕ) (linear : Bool)
-      → IsPlan (paging_of g) e.log2 e.linear ps key (Grow log2 linear)
-      → IsNamed (paging_of g) ps key log2 linear
-  is_named log2 linear plan = record {
-    was_log2 = e.log2;
-    was_linear = e.linear;
+  pub is_named : (size : BlockSize)
+      → IsPlan (paging_of g) e.log2 e.linear ps key (Grow size)
+      → IsNamed (paging_of g) ps key size
+  is_named size plan = record {
+    was = record { log2 = e.log2; linear = e.linear };
     lawful = lawful;
     plan = plan;
   }
 
-  pub is_planned : (log2 : ℕ) (linear : Bool) → IsPlan (paging_of g) e.log2 e.linear ps key (Grow log2 linear)
-      → IsPlanned g m key log2 linear
-  is_planned log2 linear plan = record {
+  pub is_planned : (size : BlockSize) → IsPlan (paging_of g) e.log2 e.linear ps key (Grow size)
+      → IsPlanned g m key size
+  is_planned size plan = record {
     places = ps;
-    was_log2 = e.log2;
-    was_linear = e.linear;
+    was = record { log2 = e.log2; linear = e.linear };
     lawful = lawful;
     map = hold;
     plan = plan;
   }
 
 -- in the page store that the entry bears, the block that was planned is wanting
-pub is_shortage : {A K : Type 0} (g : Ghosts A K) (m : Pairs) (key : K) (w : View) (b : ℕ) → map_now w b ≡ m → (log2 left : ℕ) (linear : Bool)
-    (store : PageStore) → IsPlanned g m key log2 linear → LacksPages (sizes_of g) store log2 left → Bears w b store
-    → IsOutOfPages g w b key log2 left
-is_shortage g m key w b same log2 left linear store p wanting bears = record {
+pub is_shortage : {A K : Type 0} (g : Ghosts A K) (m : Pairs) (key : K) (w : View) (b : ℕ) → map_now w b ≡ m → (size : BlockSize) (left : ℕ)
+    (store : PageStore) → IsPlanned g m key size → LacksPages (sizes_of g) store size.log2 left → Bears w b store
+    → IsOutOfPages g w b key size.log2 left
+is_shortage g m key w b same size left store p wanting bears = record {
   places = p.places;
-  was_log2 = p.was_log2;
-  was_linear = p.was_linear;
-  linear = linear;
+  was = p.was;
+  linear = size.linear;
   lawful = p.lawful;
   map = subst (HoldMap g p.places) (sym same) p.map;
   plan = p.plan;

@@ -2,6 +2,7 @@
 use Rattle.std.specs.Prelude.{◌≡◌, ℕ, ◌+◌, ◌<◌, ◌^◌, Bool, List, [], length, Some}
 use Rattle.std.specs.FinMap.{get}
 use Rattle.bihash_words.specs.Maps.{Pairs}
+use Rattle.bihash_words.specs.declared.block_size.BlockSize.{BlockSize}
 use Rattle.bihash_words.specs.declared.shape.Shape.{Ghosts}
 use Rattle.bihash_plan.specs.Blocks.{HasKey, IsLawfulBlock}
 use Rattle.bihash_plan.specs.Pages.{paging_of}
@@ -19,14 +20,13 @@ pub record HoldMap {A K : Type 0} (g : Ghosts A K) (places : List (K × ℕ)) (m
   pub mapped : (key : K) (i : ℕ) (h : HasKey places key i) → get m (g.words_of key) ≡ Some h.value
   pub found : (key : K) (value : ℕ) → get m (g.words_of key) ≡ Some value → (i : ℕ) × HasKey places key i
 
--- the new key wants a block of 2 ^ log2 pages, as the plan of a block that holds the map says
-pub record IsPlanned {A K : Type 0} (g : Ghosts A K) (m : Pairs) (key : K) (log2 : ℕ) (linear : Bool) : Type 0 where
+-- the new key wants a block of this size, as the plan of a block that holds the map says
+pub record IsPlanned {A K : Type 0} (g : Ghosts A K) (m : Pairs) (key : K) (size : BlockSize) : Type 0 where
   pub places : List (K × ℕ)
-  pub was_log2 : ℕ
-  pub was_linear : Bool
-  pub lawful : IsLawfulBlock (paging_of g) was_log2 was_linear places
+  pub was : BlockSize
+  pub lawful : IsLawfulBlock (paging_of g) was.log2 was.linear places
   pub map : HoldMap g places m
-  pub plan : IsPlan (paging_of g) was_log2 was_linear places key (Grow log2 linear)
+  pub plan : IsPlan (paging_of g) was.log2 was.linear places key (Grow size)
 
 -- the entry of the last call comes after all writes that are known of bucket b, and bears this page store
 abbrev pub Bears : View → ℕ → PageStore → Type 0
@@ -38,12 +38,11 @@ Bears w b store = (c : Call) → last_call w.records ≡ Some c
 -- no block of this size was returned, and the `left` pages that were never used are fewer.
 pub record IsOutOfPages {A K : Type 0} (g : Ghosts A K) (w : View) (b : ℕ) (key : K) (log2 left : ℕ) : Type 0 where
   pub places : List (K × ℕ)
-  pub was_log2 : ℕ
-  pub was_linear : Bool
+  pub was : BlockSize
   pub linear : Bool
-  pub lawful : IsLawfulBlock (paging_of g) was_log2 was_linear places
+  pub lawful : IsLawfulBlock (paging_of g) was.log2 was.linear places
   pub map : HoldMap g places (map_now w b)
-  pub plan : IsPlan (paging_of g) was_log2 was_linear places key (Grow log2 linear)
+  pub plan : IsPlan (paging_of g) was.log2 was.linear places key (Grow (record { log2 = log2; linear = linear }))
   pub store : PageStore
   pub bears : Bears w b store
   pub none : returned_in store log2 ≡ []

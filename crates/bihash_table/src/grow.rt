@@ -20,7 +20,7 @@ use crate::snapshot::read_block;
 use bihash_plan::{Plan, larger, lay};
 use bihash_steps::view::Extent;
 use bihash_steps::{Caller, CallerSeat, Event, Row};
-use bihash_words::{BucketWord, Change, Reply, Shape};
+use bihash_words::{BlockSize, BucketWord, Change, Reply, Shape};
 
 /// Enters a new pair that finds no place in the block that was seen: the block grows, or the call is
 /// refused.
@@ -57,27 +57,15 @@ fn enter_as_planned<S: Shape>(
     row.is_sound();
     let old = &mut old[..place_count::<S>(seen.word)];
     read_block(row, seat, seen.word, old);
-    let Plan::Grow { log2, linear } = larger::<S>(
-        old,
-        seen.word.log2(),
-        seen.word.linear(),
-        seen.site.key,
-    ) else {
+    let Plan::Grow(size) = larger::<S>(old, seen.word.block_size(), seen.site.key) else {
         return answer(row, seat, seen, None, Change::Set(value), Reply::Full);
     };
-    let new = &mut new[..places_of(log2)];
-    lay::<S>(old, seen.site.key, value, log2, linear, new);
+    let new = &mut new[..places_of(size.log2)];
+    lay::<S>(old, seen.site.key, value, size, new);
     if !lock_seen(row, seat, seen.site.bucket, seen.word) {
         return Err(Contended);
     }
-    enter(row, seat, seen, value, BlockSize { log2, linear }, new)
-}
-
-/// The size of a block, `2^log2` pages, and whether it is linear.
-#[derive(Clone, Copy)]
-struct BlockSize {
-    log2: u64,
-    linear: bool,
+    enter(row, seat, seen, value, size, new)
 }
 
 /// Gives the bucket a block of this size, in which its pairs and the new one are laid out.
@@ -90,7 +78,7 @@ fn enter<S: Shape>(
     block: &[(S::Key, u64)],
 ) -> Result<Reply, Contended>
     requires { IsLaidFor ⟦<S as Shape>⟧ row.now seat.old seen.now.site.bucket seen.now.word seen.now.site.key.now
-        value size.log2 size.linear block.now }
+        value size block.now }
     ensures { Finished ⟦<S as Shape>⟧ seat.old seat.new seen.now.site.key.now None (Set value) result }
 {
     row.is_sound();

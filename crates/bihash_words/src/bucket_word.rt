@@ -2,6 +2,7 @@
 ghost use Rattle.std.specs.Prelude.{◌≡◌, ◌<◌, ◌+◌, ◌-◌, ◌^◌, true, false};
 ghost use Rattle.bihash_words.specs.Words.{Bucket, Fits, packed, version_of};
 
+use crate::block_size::BlockSize;
 use std::marker::Model;
 
 /// The word of a bucket. From the lowest bit: 24 bits for the number of its block's first page, 0 for
@@ -65,6 +66,16 @@ impl BucketWord {
         ensures { (b : Bucket) → Fits b → self ≡ packed b → result ≡ b.linear }
     {
         (self.0 >> 29) & 1 == 1
+    }
+
+    /// The size of the block, and whether it is linear.
+    pub fn block_size(self) -> BlockSize
+        ensures { (b : Bucket) → Fits b → self ≡ packed b → result ≡ record { log2 = b.log2; linear = b.linear } }
+    {
+        BlockSize {
+            log2: self.log2(),
+            linear: self.linear(),
+        }
     }
 
     /// Whether a writer holds the bucket.

@@ -2,6 +2,7 @@
 //! decisions of updates.
 #![tactic(auto)]
 
+mod block_size;
 mod bucket;
 mod bucket_word;
 mod flow_shapes;
@@ -12,6 +13,7 @@ mod patch;
 mod shape;
 mod tiny;
 
+pub use block_size::BlockSize;
 pub use bucket::bucket_of;
 pub use bucket_word::BucketWord;
 pub use flow_shapes::{ShapeV4, ShapeV6};

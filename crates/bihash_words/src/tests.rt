@@ -1,8 +1,12 @@
 //! Words, hashes and decisions that were worked out by hand or published.
 use crate::{
-    Add, AddIfAbsent, BucketWord, Change, Delete, Patch, Shape, ShapeV4, ShapeV6, Tiny, Touch,
-    bucket_of, is_same, mix,
+    Add, AddIfAbsent, BlockSize, BucketWord, Change, Delete, Patch, Shape, ShapeV4, ShapeV6, Tiny,
+    Touch, bucket_of, is_same, mix,
 };
+
+const fn block(log2: u64, linear: bool) -> BlockSize {
+    BlockSize { log2, linear }
+}
 
 #[test]
 fn bucket_words(rt: HostRuntime) {
@@ -14,6 +18,7 @@ fn bucket_words(rt: HostRuntime) {
     assert_eq!(rt; word.page(), 5);
     assert_eq!(rt; word.log2(), 1);
     assert!(rt; word.linear());
+    assert_eq!(rt; word.block_size(), block(1, true));
     assert!(rt; !word.locked());
     assert!(rt; word.with_lock().locked());
     assert_eq!(rt; word.version(), 6);

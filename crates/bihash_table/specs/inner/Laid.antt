@@ -2,6 +2,7 @@
 use Rattle.std.specs.Prelude.{◌≡◌, ℕ, ◌*◌, ◌^◌, ◌<◌, ◌≤◌, Bool, List, length, None}
 use Rattle.std.specs.FinMap.{insert, len}
 use Rattle.bihash_words.specs.Maps.{most_pairs}
+use Rattle.bihash_words.specs.declared.block_size.BlockSize.{BlockSize}
 use Rattle.bihash_words.specs.Sizes.{sizes_of}
 use Rattle.bihash_words.specs.declared.shape.Shape.{Ghosts}
 use Rattle.bihash_words.specs.declared.patch.Change.TheVariants.{Set}
@@ -16,13 +17,13 @@ use Rattle.bihash_table.specs.OutOfPages.{IsPlanned}
 
 -- Bucket b has room for the new key, and these places of a block of this size, which is the planned one, hold its
 -- pairs and the new one.
-pub record IsLaidFor {A K : Type 0} (g : Ghosts A K) (row : _) (s : CallerState) (b word : ℕ) (key : K) (value log2 : ℕ)
-    (linear : Bool) (block : List (K × ℕ)) : Type 0 where
+pub record IsLaidFor {A K : Type 0} (g : Ghosts A K) (row : _) (s : CallerState) (b word : ℕ) (key : K) (value : ℕ)
+    (size : BlockSize) (block : List (K × ℕ)) : Type 0 where
   pub held : UnderLock (sizes_of g) row s b word (Set value) (IsPairIn (sizes_of g) (g.words_of key) None)
   pub room : len (map_now s.view b) < most_pairs (bounds_of (sizes_of g))
-  pub small : log2 ≤ g.MAX_LOG2
-  pub sized : length block ≡ 4 * 2 ^ log2
+  pub small : size.log2 ≤ g.MAX_LOG2
+  pub sized : length block ≡ 4 * 2 ^ size.log2
   pub laid : (page : ℕ) (words : List ℕ) → 1 ≤ page → ArePlaces g block words
-      → IsBlockOf (sizes_of g) (record { page = page; log2 = log2; linear = linear }) words
+      → IsBlockOf (sizes_of g) (record { page = page; log2 = size.log2; linear = size.linear }) words
       (insert (map_now s.view b) (g.words_of key) value)
-  pub planned : IsPlanned g (map_now s.view b) key log2 linear
+  pub planned : IsPlanned g (map_now s.view b) key size

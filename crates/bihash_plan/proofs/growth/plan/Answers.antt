@@ -10,6 +10,6 @@ returns-in-Some-free_place-clause-lawful g c = λ lawful. only_plan _ _ _ _ _ _ 
 ))
 
 pub returns-clause-lawful : goal.returns-clause-lawful
-returns-clause-lawful g c = λ lawful. only_plan _ _ _ _ _ _ lawful (c.larger.ensures.exact lawful
+returns-clause-lawful g c = λ lawful. c.larger.ensures.lawful lawful
     (new_from_open _ _ _ _ _ _ _ c.open_places-from.ensures.exact c.in_default.ensures.none lawful)
-    (crowded_from_open _ _ _ _ _ c.open_places-from.ensures.exact c.in_default-free_place.ensures.none))
+    (crowded_from_open _ _ _ _ _ c.open_places-from.ensures.exact c.in_default-free_place.ensures.none)

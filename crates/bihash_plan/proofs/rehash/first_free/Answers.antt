@@ -42,14 +42,14 @@ crowded_page : {K : Type 0} (linear : Bool) (page : ℕ) (places : List (K × �
 crowded_page linear page places from to None open_are none = crowded_from_open linear page places from to open_are none
 crowded_page linear page places from to (Some i) open_are none = tt
 
-pub returns-then-linear-clause-found : goal.returns-then-linear-clause-found
-returns-then-linear-clause-found g c = first_linear _ _ _ _ _ c.if-linear.true c.free_place.ensures.found c.free_place.ensures.first
+pub returns-then-size-clause-first : goal.returns-then-size-clause-first
+returns-then-size-clause-first g c = λ before. record {
+  found = first_linear _ _ _ _ _ c.if-size.true c.free_place.ensures.found c.free_place.ensures.first before;
+  none = crowded_linear _ _ _ _ _ c.if-size.true c.free_place.ensures.none before;
+}
 
-pub returns-then-linear-clause-none : goal.returns-then-linear-clause-none
-returns-then-linear-clause-none g c = crowded_linear _ _ _ _ _ c.if-linear.true c.free_place.ensures.none
-
-pub returns-clause-found : goal.returns-clause-found
-returns-clause-found g c = λ before. first_in_page _ _ _ _ _ _ c.open_places-from.ensures.exact c.free_place-2.ensures.found c.free_place-2.ensures.first
-
-pub returns-clause-none : goal.returns-clause-none
-returns-clause-none g c = λ before. crowded_page _ _ _ _ _ _ c.open_places-from.ensures.exact c.free_place-2.ensures.none
+pub returns-clause-first : goal.returns-clause-first
+returns-clause-first g c = λ before. record {
+  found = first_in_page _ _ _ _ _ _ c.open_places-from.ensures.exact c.free_place-2.ensures.found c.free_place-2.ensures.first;
+  none = crowded_page _ _ _ _ _ _ c.open_places-from.ensures.exact c.free_place-2.ensures.none;
+}

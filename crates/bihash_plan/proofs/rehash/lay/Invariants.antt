@@ -8,6 +8,6 @@ use Rattle.bihash_plan.proofs.rehash.lay.Given as goal
 abbrev pub invariant-loop-pair : goal.invariant-loop-pair
 invariant-loop-pair g l = record {
   within : l.next ≤ length l.out;
-  laid : IsNamed (paging_of g.S.Shape) l.places l.key l.log2 l.linear
-      → IsLaidSoFar (paging_of g.S.Shape) l.log2 l.linear l.places l.key l.pair-index l.next l.out;
+  laid : IsNamed (paging_of g.S.Shape) l.places l.key l.size
+      → IsLaidSoFar (paging_of g.S.Shape) l.size.log2 l.size.linear l.places l.key l.pair-index l.next l.out;
 }

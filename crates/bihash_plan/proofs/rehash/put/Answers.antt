@@ -17,5 +17,5 @@ taken_after false page places i pair taken first e j less h = absurd (false≢tr
 
 pub returns-in-Some-clause-placed : goal.returns-in-Some-clause-placed
 returns-in-Some-clause-placed g c = λ taken before _.
-    let first = c.in-Some.ensures.found before in
+    let first = (c.in-Some.ensures.first before).found in
     (c.in-Some.i, first, refl, taken_after _ _ _ _ _ taken first)

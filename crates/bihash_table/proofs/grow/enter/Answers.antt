@@ -208,7 +208,7 @@ returns-in-Err g c =
     let few : c.in-Err.left ≡ left = cc in
     subst (λ (b : ℕ). IsOutOfPages g.S.Shape t.view b site.key.now wanted left) site.home
     (subst (λ (x : ℕ × ℕ). IsOutOfPages g.S.Shape t.view site.bucket site.key.now x.0 x.1) (λ i. (size i, few i))
-    (is_shortage g.S.Shape _ site.key.now t.view site.bucket (ap (λ (x : View). map_now x site.bucket) refused) c.args.size.log2 c.in-Err.left
-    c.args.size.linear locks.store c.requires.planned (c.in-Err.ensures.refused.1 (locked_on locks.store) store)
+    (is_shortage g.S.Shape _ site.key.now t.view site.bucket (ap (λ (x : View). map_now x site.bucket) refused) c.args.size c.in-Err.left
+    locks.store c.requires.planned (c.in-Err.ensures.refused.1 (locked_on locks.store) store)
     (bears_noted s.view t.view site.bucket locks.store key None (Set c.args.value) c.args.size.log2 c.in-Err.left refused))))
     refl

@@ -1,5 +1,6 @@
 use Rattle.std.proofs.Common.{◌≤◌, ◌∙◌, ◌^◌, None, Err, ap, arith, length, length-take, length-take-le, pow_mono, refl, subst, sym}
 use Rattle.bihash_words.specs.Sizes.{sizes_of}
+use Rattle.bihash_words.specs.declared.block_size.BlockSize.{BlockSize}
 use Rattle.bihash_words.specs.declared.patch.Change.TheVariants.{Set}
 use Rattle.bihash_plan.specs.declared.outcome.Plan.TheVariants.{Grow}
 use Rattle.bihash_steps.specs.Blocks.{places}
@@ -31,10 +32,11 @@ larger-requires g c =
     let h = c.requires.wants.seen.seen in
     let e = h.extent in
     let tells = word_notes z v c.args.seen.now.word e h.block in
-    let log2_at = log2_is z c.args.seen.now.word e tells c.log2.result c.log2.ensures in
+    let log2_at = log2_is z c.args.seen.now.word e tells c.block_size.result.log2
+    (λ x fits is. ap (λ (s : BlockSize). s.log2) (c.block_size.ensures x fits is)) in
     record {
       pages = record { shape = c.is_sound.ensures; small = omega (arith, tells.small, log2_at) };
-      sized = sized e.page c.log2.result (length c.read_block.new.out) (c.read_block.ensures.sized
+      sized = sized e.page c.block_size.result.log2 (length c.read_block.new.out) (c.read_block.ensures.sized
           ∙ places_read e.page e.page e.log2 c.place_count.result _ c.args.old.now refl
           (c.place_count.ensures.count e tells) c.place_count.ensures.few c.requires.room.0
           ∙ ap (places e.page) (sym log2_at));
@@ -50,8 +52,8 @@ answer-requires g c =
     let h = seen_more z c.args.seat.now.view y.view site.bucket c.args.seen.now.word read.saw w.seen in
     let keys : AreKeyWords g.S.Shape = record { law = g.met.S.Shape.key_of_words } in record {
       own = own_through c.args.seat.now _ _ read.same w.own;
-      seen = full_seen g.S.Shape keys y.view site.bucket c.args.seen.now.word site.key.now c.read_block.new.out h c.log2.result c.linear.result
-          c.log2.ensures c.linear.ensures c.larger.result c.larger.ensures.exact c.in_default.not-Grow c.args.value _
+      seen = full_seen g.S.Shape keys y.view site.bucket c.args.seen.now.word site.key.now c.read_block.new.out h c.block_size.result
+          c.block_size.ensures c.larger.result c.larger.ensures.lawful c.in_default.not-Grow c.args.value _
           (unworn_read g.S.Shape c.args.seat.now y site.bucket read w.unworn);
       reads = refl;
       paged = λ log2 left e. absurd cc;
@@ -65,20 +67,20 @@ returns-in_default g c =
 
 pub slice_bounds-new-end : goal.slice_bounds-new-end
 slice_bounds-new-end g c =
-    let small : c.in-Grow.log2 ≤ g.S.Shape.MAX_LOG2 = c.in-Grow.ensures.safe in
-    let few : 2 ^ c.in-Grow.log2 ≤ 2 ^ g.S.Shape.MAX_LOG2 = pow_mono small in
+    let small : c.in-Grow.size.log2 ≤ g.S.Shape.MAX_LOG2 = c.in-Grow.ensures.safe in
+    let few : 2 ^ c.in-Grow.size.log2 ≤ 2 ^ g.S.Shape.MAX_LOG2 = pow_mono small in
     omega (arith, c.places_of.ensures, c.requires.room.1)
 
 pub slice_bounds-new-end-2 : goal.slice_bounds-new-end-2
 slice_bounds-new-end-2 g c =
-    let small : c.in-Grow.log2 ≤ g.S.Shape.MAX_LOG2 = c.in-Grow.ensures.safe in
-    let few : 2 ^ c.in-Grow.log2 ≤ 2 ^ g.S.Shape.MAX_LOG2 = pow_mono small in
+    let small : c.in-Grow.size.log2 ≤ g.S.Shape.MAX_LOG2 = c.in-Grow.ensures.safe in
+    let few : 2 ^ c.in-Grow.size.log2 ≤ 2 ^ g.S.Shape.MAX_LOG2 = pow_mono small in
     omega (arith, c.places_of.ensures, c.requires.room.1, length-take c.places_of.result c.args.new.now)
 
 pub lay-requires : goal.lay-requires
 lay-requires g c =
-    let small : c.in-Grow.log2 ≤ g.S.Shape.MAX_LOG2 = c.in-Grow.ensures.safe in
-    let few : 2 ^ c.in-Grow.log2 ≤ 2 ^ g.S.Shape.MAX_LOG2 = pow_mono small in
+    let small : c.in-Grow.size.log2 ≤ g.S.Shape.MAX_LOG2 = c.in-Grow.ensures.safe in
+    let few : 2 ^ c.in-Grow.size.log2 ≤ 2 ^ g.S.Shape.MAX_LOG2 = pow_mono small in
     record {
       pages = record { shape = c.is_sound.ensures; small = small };
       sized = omega (arith, c.places_of.ensures, c.requires.room.1, length-take c.places_of.result c.args.new.now);
@@ -107,21 +109,21 @@ enter-requires g c =
     let w = c.requires.wants in
     let h = seen_more z c.args.seat.now.view y.view site.bucket c.args.seen.now.word read.saw w.seen in
     let keys : AreKeyWords g.S.Shape = record { law = g.met.S.Shape.key_of_words } in
-    let small : c.in-Grow.log2 ≤ g.S.Shape.MAX_LOG2 = c.in-Grow.ensures.safe in
-    let few : 2 ^ c.in-Grow.log2 ≤ 2 ^ g.S.Shape.MAX_LOG2 = pow_mono small in
+    let small : c.in-Grow.size.log2 ≤ g.S.Shape.MAX_LOG2 = c.in-Grow.ensures.safe in
+    let few : 2 ^ c.in-Grow.size.log2 ≤ 2 ^ g.S.Shape.MAX_LOG2 = pow_mono small in
     let k = c.lock_seen.ensures.locked c.if-not-lock_seen.false in record {
       held = under_as (under_lock g.S.Shape y _ _ _ (Set c.args.value) (own_through c.args.seat.now _ _ read.same w.own)
           (unworn_read g.S.Shape c.args.seat.now y site.bucket read w.unworn) w.storable h c.lock_seen.ensures c.if-not-lock_seen.false)
           (λ told. told.0.0);
-      room = room_there g.S.Shape keys y.view site.bucket c.args.seen.now.word site.key.now c.read_block.new.out h c.log2.result c.linear.result
-          c.log2.ensures c.linear.ensures (Grow c.in-Grow.log2 c.in-Grow.linear) c.in-Grow.ensures.exact c.lock_seen.new.seat.view k c.in-Grow.log2 c.in-Grow.linear refl;
+      room = room_there g.S.Shape keys y.view site.bucket c.args.seen.now.word site.key.now c.read_block.new.out h c.block_size.result
+          c.block_size.ensures (Grow c.in-Grow.size) c.in-Grow.ensures.lawful c.lock_seen.new.seat.view k c.in-Grow.size refl;
       small = small;
       sized = omega (arith, c.lay.auto.out, c.places_of.ensures, c.requires.room.1, length-take c.places_of.result c.args.new.now);
-      laid = laid_there g.S.Shape keys y.view site.bucket c.args.seen.now.word site.key.now c.read_block.new.out h c.log2.result c.linear.result
-          c.log2.ensures c.linear.ensures (Grow c.in-Grow.log2 c.in-Grow.linear) c.in-Grow.ensures.exact c.lock_seen.new.seat.view k c.in-Grow.log2 c.in-Grow.linear refl
+      laid = laid_there g.S.Shape keys y.view site.bucket c.args.seen.now.word site.key.now c.read_block.new.out h c.block_size.result
+          c.block_size.ensures (Grow c.in-Grow.size) c.in-Grow.ensures.lawful c.lock_seen.new.seat.view k c.in-Grow.size refl
           c.args.value c.lay.new.out w.storable c.lay.ensures;
-      planned = planned_there g.S.Shape keys y.view site.bucket c.args.seen.now.word site.key.now c.read_block.new.out h c.log2.result c.linear.result
-          c.log2.ensures c.linear.ensures (Grow c.in-Grow.log2 c.in-Grow.linear) c.in-Grow.ensures.exact c.lock_seen.new.seat.view k c.in-Grow.log2 c.in-Grow.linear refl;
+      planned = planned_there g.S.Shape keys y.view site.bucket c.args.seen.now.word site.key.now c.read_block.new.out h c.block_size.result
+          c.block_size.ensures (Grow c.in-Grow.size) c.in-Grow.ensures.lawful c.lock_seen.new.seat.view k c.in-Grow.size refl;
     }
 
 pub returns : goal.returns
