@@ -3,7 +3,7 @@ use Rattle.bihash_words.specs.Sizes.{sizes_of}
 use Rattle.bihash_steps.specs.Seats.{CallerState, with_view}
 use Rattle.bihash_table.proofs.Composed.{not_yet_tried, again_turned_away, again_answered}
 use Rattle.bihash_table.proofs.SameCallers.{same_through}
-use Rattle.bihash_table.proofs.sessions.Sessions.search.Goals as goal
+use Rattle.bihash_table.proofs.sessions.Sessions.search_again.Goals as goal
 
 pub loop-init : goal.loop-init
 loop-init g c = record { next = tt; finite = tt; same = refl; tried = not_yet_tried (sizes_of g.S.Shape) _ _ c.requires.free; no_lock = refl }

@@ -4,7 +4,7 @@ use Rattle.bihash_steps.specs.Histories.{bucket_of}
 use Rattle.bihash_steps.specs.Seats.{with_view}
 use Rattle.bihash_table.specs.Answers.{locks_of}
 use Rattle.bihash_table.specs.Promise.{IsContended}
-use Rattle.bihash_table.proofs.sessions.Sessions.search.Given as goal
+use Rattle.bihash_table.proofs.sessions.Sessions.search_again.Given as goal
 
 -- each try so far was turned away
 abbrev pub invariant-loop : goal.invariant-loop

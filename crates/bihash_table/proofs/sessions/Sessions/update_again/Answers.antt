@@ -5,7 +5,7 @@ use Rattle.bihash_steps.specs.declared.view.View.{View}
 use Rattle.bihash_table.proofs.Composed.{not_yet_tried, again_turned_away, again_updated}
 use Rattle.bihash_table.proofs.LockCounts.{took_by_tries, took_no_lock, took_then}
 use Rattle.bihash_table.proofs.SameCallers.{same_through}
-use Rattle.bihash_table.proofs.sessions.Sessions.update.Goals as goal
+use Rattle.bihash_table.proofs.sessions.Sessions.update_again.Goals as goal
 
 pub loop-init : goal.loop-init
 loop-init g c = record { next = tt; finite = tt; same = refl; tried = not_yet_tried (sizes_of g.S.Shape) _ _ c.requires.free; tries = (0, took_no_lock _ _ refl 0, λ _. refl); lone = λ _. refl }
