@@ -9,12 +9,13 @@ use Rattle.atomic_table.proofs.Lists.{at_set}
 use Rattle.bihash_words.specs.Maps.{Pairs}
 use Rattle.bihash_words.specs.Sizes.{Sizes}
 use Rattle.bihash_steps.specs.Words.{count_of, returned_count_at, list_at, lists_words, front_words, bucket_at, page_at, page_words, all_words, Stands}
-use Rattle.bihash_steps.specs.Callers.{IsWhole, Apart, opening_in}
+use Rattle.bihash_steps.specs.Callers.{IsWhole, Apart, known_at, opening_in}
 use Rattle.bihash_steps.specs.Partition.{IsPartition, run_of, runs_of}
-use Rattle.bihash_steps.specs.Buckets.{BucketState, IsBucket, HoldsBucketIf, StandsStillIf}
+use Rattle.bihash_steps.specs.Buckets.{BucketState, IsBucket, HoldsBucket, HoldsBucketIf, StandsStillIf}
 use Rattle.bihash_steps.specs.PageStores.{StoreState, returned_in, all_writes, IsStore, IsListedIf, HoldsStoreIf, HoldsBlockIf, run_in, run_held, runs_now}
 use Rattle.bihash_steps.specs.WordRule.{TableState, IsView, WordRule}
 use Rattle.bihash_steps.specs.declared.view.Record.{Record}
+use Rattle.bihash_steps.specs.declared.view.Write.{Write}
 use Rattle.bihash_steps.specs.declared.view.Known.{Known}
 use Rattle.bihash_steps.specs.declared.view.PageStore.{PageStore}
 use Rattle.bihash_steps.specs.declared.view.ListedPage.{ListedPage}
@@ -36,6 +37,23 @@ list_front z log2 = let x : ℕ = lists_words z log2 in omega arith
 
 pub some_words : (z : Sizes) → 0 < all_words z
 some_words z = let h = front z in let x : ℕ = z.pages * page_words z in omega arith
+
+-- The lock of a bucket is held as before, where the words of its block stand as before. The caller may have learned
+-- of its history.
+pub held_still : (z : Sizes) (words words' : List ℕ) (j : ℕ) (known known' : List Write) (l : LockedBucket) (x : BucketState)
+    → known' ≡ x.history → Stands words' (page_at z l.extent.page) l.now → HoldsBucket z words j known l x → HoldsBucket z words' j known' l x
+held_still z words words' j known known' l x fresh stands h = record {
+  inside = h.inside;
+  held = h.held;
+  extent = h.extent;
+  version = h.version;
+  fresh = fresh;
+  was = h.was;
+  size = h.size;
+  stands = stands;
+  clean = h.clean;
+  dirty = h.dirty;
+}
 
 -- all words but the caller count are the same
 abbrev pub SameButCount : List ℕ → List ℕ → Type 0
@@ -79,18 +97,8 @@ module _ (z : Sizes) (words words' : List ℕ) (same : SameButCount words words'
   pub still_lock : (x : ℕ → BucketState) (j : ℕ) (known : Known) (lock : Option LockedBucket) → HoldsBucketIf z words x j known lock
       → HoldsBucketIf z words' x j known lock
   still_lock x j known None h = tt
-  still_lock x j known (Some l) h = record {
-    inside = h.inside;
-    held = h.held;
-    extent = h.extent;
-    version = h.version;
-    fresh = h.fresh;
-    was = h.was;
-    size = h.size;
-    stands = still_stands (page_at z l.extent.page) l.now (page_front l.extent.page) h.stands;
-    clean = h.clean;
-    dirty = h.dirty;
-  }
+  still_lock x j known (Some l) h = held_still z words words' j (known_at known l.bucket) (known_at known l.bucket) l (x l.bucket)
+      h.fresh (still_stands (page_at z l.extent.page) l.now (page_front l.extent.page) h.stands) h
 
   still_listed : (store : PageStore) (listed : Option ListedPage) → IsListedIf z words store listed → IsListedIf z words' store listed
   still_listed store None h = tt

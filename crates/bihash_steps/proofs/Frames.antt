@@ -31,7 +31,7 @@ use Rattle.bihash_steps.specs.declared.view.OpenBucket.{OpenBucket}
 use Rattle.bihash_steps.specs.declared.view.PageStore.{PageStore}
 use Rattle.bihash_steps.specs.declared.view.View.{View}
 use Rattle.bihash_steps.proofs.Lists.{within, at_either}
-use Rattle.bihash_steps.proofs.CountWord.{front, apart_set, as_view, not_lone, others_apart}
+use Rattle.bihash_steps.proofs.CountWord.{front, held_still, apart_set, as_view, not_lone, others_apart}
 
 -- the history grows by writes that bear numbers of these records
 pub record Grows (records : List Record) (old new : List Write) : Type 0 where
@@ -258,19 +258,10 @@ module _ (z : Sizes) (s : State (Unit {0}) View) (r : WordRule z s) (b id : ℕ)
     lock_beside known None h = tt
     lock_beside known (Some l) h =
         let other : l.bucket ≢ b = λ e. m.free j ne (ap (λ (c : ℕ). (r.table.bucket c).lock) (sym e) ∙ h.held) in
-        subst (HoldsBucket z words' j (known_at known l.bucket) l) (sym (m.elsewhere l.bucket other)) record {
-          inside = h.inside;
-          held = h.held;
-          extent = h.extent;
-          version = h.version;
-          fresh = h.fresh;
-          was = h.was;
-          size = h.size;
-          stands = stands_beside z (runs_now r.table.bucket r.table.store.store s.views) s.words words' b id (of_bucket l.bucket) l.extent.page
-              l.extent.log2 l.now m.beside (ap (λ (e : Extent). run_of e.page e.log2) (sym h.extent)) (λ e. other (cc)) (λ e. cc) h.size h.stands;
-          clean = h.clean;
-          dirty = h.dirty;
-        }
+        subst (HoldsBucket z words' j (known_at known l.bucket) l) (sym (m.elsewhere l.bucket other))
+        (held_still z s.words words' j (known_at known l.bucket) (known_at known l.bucket) l (r.table.bucket l.bucket) h.fresh
+        (stands_beside z (runs_now r.table.bucket r.table.store.store s.views) s.words words' b id (of_bucket l.bucket) l.extent.page
+        l.extent.log2 l.now m.beside (ap (λ (e : Extent). run_of e.page e.log2) (sym h.extent)) (λ e. other (cc)) (λ e. cc) h.size h.stands) h)
 
     store_beside : (lock : Option LockedStore) → HoldsStoreIf z s.words r.table.store j lock → HoldsStoreIf z words' store' j lock
     store_beside None h = tt

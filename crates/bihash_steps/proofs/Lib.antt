@@ -7,6 +7,7 @@ pub mod Lawful
 pub mod Pushed
 pub mod Informed
 pub mod CountWord
+pub mod NotedViews
 pub mod Frames
 pub mod Runs
 pub mod Exchange

@@ -153,6 +153,10 @@ module _ (z : Sizes) (key : List ℕ) where
         → HasRead u w (IsPairIn z key (Some pair))
     pair_among pair now = read_then u v w (λ o noted seen here. here) before now
 
+  -- from a place to before itself there is none
+  pub nothing_among : (u : CallerState) (from to : ℕ) → from ≡ to → HasRead u u (IsPairAmong z key from to None)
+  nothing_among u from to same = read_nothing u (λ e block i low high. absurd (omega arith))
+
   -- the places that are open to the key are those from one to before another
   pub open_there : (u : CallerState) (word from to : ℕ) (e : Extent) (o : OpenBucket) → NotesBlock z u.view word e → u.view.notes.open_bucket ≡ Some o
       → AreOpenTo z e key from to → AreOpenTo z o.extent key from to
@@ -163,6 +167,12 @@ module _ (z : Sizes) (key : List ℕ) where
   absent_among u v word from to end e h open_to all = read_as u v (λ o noted none i reached pair.
       let among = ((open_there u word from to e o h noted open_to).exact i pair.pair.0).1 reached in
       none i among.0 (let high = among.1 in omega arith) pair)
+
+  -- what was found among all places that are open to the key
+  pub pair_among_open : (u v : CallerState) (word from to : ℕ) (e : Extent) → NotesBlock z u.view word e → AreOpenTo z e key from to
+      → (found : Option (ℕ × ℕ)) → HasRead u v (IsPairAmong z key from to found) → HasRead u v (IsPairIn z key found)
+  pair_among_open u v word from to e h open_to (Some pair) read = read
+  pair_among_open u v word from to e h open_to None read = absent_among u v word from to to e h open_to (omega arith) read
 
 -- ---- Free places, and other pairs
 

@@ -128,9 +128,14 @@ may_still {z} {row} {s} {t} {word} before h inside = record {
   inside = inside;
 }
 
+-- a caller that may read may read so many places
+pub may_all : {z : Sizes} {row : _} {s : CallerState} {word n m : ℕ} (h : MayRead z row s word n) → m ≤ places h.extent.page h.extent.log2
+    → MayRead z row s word m
+may_all h inside = record { own = h.own; extent = h.extent; block = h.block; inside = inside }
+
 -- and what it may read of more places
 pub may_less : {z : Sizes} {row : _} {s : CallerState} {word n m : ℕ} → MayRead z row s word n → m ≤ n → MayRead z row s word m
-may_less h less = record { own = h.own; extent = h.extent; block = h.block; inside = let room = h.inside in omega arith }
+may_less h less = may_all h (let room = h.inside in omega arith)
 
 pub may_read : {z : Sizes} {row : _} {s : CallerState} {b word : ℕ} → s.row ≡ row → HasOpen z s.view b word → MayRead z row s word 0
 may_read own h = record { own = own; extent = h.extent; block = h.block; inside = omega arith }

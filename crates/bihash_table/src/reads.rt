@@ -23,13 +23,16 @@ pub(crate) fn find_pair<S: Shape>(
     ensures { HasRead seat.old seat.new (IsPairIn (sizes_of S.Shape) (S.words_of site.now.key.now) result) }
 {
     row.is_sound();
-    let (from, to) = open_pages(word, site);
-    for page in from..to {
-        if let Some(pair) = pair_in_page(row, seat, word, page, site) {
-            return Some(pair);
+    if !word.linear() {
+        let (from, to) = open_pages(word, site);
+        if from == to {
+            return None;
+        }
+        if from + 1 == to {
+            return pair_in_page(row, seat, word, from, site);
         }
     }
-    None
+    pair_in_pages(row, seat, word, site)
 }
 
 /// The value of the pair that was found.
@@ -137,6 +140,27 @@ fn pair_in_page<S: Shape>(
             return Some((place, value));
         }
         marks = later_marks(marks);
+    }
+    None
+}
+
+// The same, page by page, as a linear block wants it.
+#[inline(never)]
+fn pair_in_pages<S: Shape>(
+    row: &Row<S>,
+    seat: &mut CallerSeat<S>,
+    word: BucketWord,
+    site: &Site<'_, S>,
+) -> Option<(usize, u64)>
+    requires { MayRead (sizes_of S.Shape) row.now seat.old word 0 }
+    ensures { HasRead seat.old seat.new (IsPairIn (sizes_of S.Shape) (S.words_of site.now.key.now) result) }
+{
+    row.is_sound();
+    let (from, to) = open_pages(word, site);
+    for page in from..to {
+        if let Some(pair) = pair_in_page(row, seat, word, page, site) {
+            return Some(pair);
+        }
     }
     None
 }

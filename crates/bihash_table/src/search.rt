@@ -15,6 +15,7 @@ use std::sync::Wait;
 
 impl<S: Shape> Sessions<S> {
     /// The value of the key, `None` where it is absent. It takes no lock.
+    #[inline(always)]
     pub fn try_search(&self, caller: &mut Caller<S>, key: &S::Key) -> Result<Option<u64>, Contended>
         requires own { caller.old.seat.row ≡ self.now.row }
         requires free { caller.old.seat.view.holds ≡ nothing_held }
@@ -46,12 +47,25 @@ impl<S: Shape> Sessions<S> {
         requires free { caller.old.seat.view.holds ≡ nothing_held }
         ensures { TellsSearch ⟦<S as Shape>⟧ caller.old.seat caller.new.seat key.now result }
     {
+        if let Ok(found) = self.try_search(caller, key) {
+            return found;
+        }
+        self.search_again(rt, caller, key)
+    }
+
+    // A search that met another caller. It stands apart, so that the first try keeps nothing for it.
+    #[inline(never)]
+    fn search_again<R: Wait>(&self, rt: &R, caller: &mut Caller<S>, key: &S::Key) -> Option<u64>
+        requires own { caller.old.seat.row ≡ self.now.row }
+        requires free { caller.old.seat.view.holds ≡ nothing_held }
+        ensures { TellsSearch ⟦<S as Shape>⟧ caller.old.seat caller.new.seat key.now result }
+    {
         let backoff = Backoff::new();
         for _ in rt.forever() {
+            backoff.snooze();
             if let Ok(found) = self.try_search(caller, key) {
                 return found;
             }
-            backoff.snooze();
         }
         unreachable!()
     }

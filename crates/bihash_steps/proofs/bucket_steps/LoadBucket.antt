@@ -24,8 +24,8 @@ use Rattle.bihash_steps.specs.declared.view.LockedBucket.{LockedBucket}
 use Rattle.bihash_steps.specs.declared.view.View.{View}
 use Rattle.bihash_steps.proofs.KnownLists.{lawful_here}
 use Rattle.bihash_steps.proofs.Lists.{there}
-use Rattle.bihash_steps.proofs.CountWord.{stays_at, others_apart, not_lone}
-use Rattle.bihash_steps.proofs.caller_steps.LoadCount.{unnoted_view}
+use Rattle.bihash_steps.proofs.CountWord.{held_still, not_lone, others_apart, stays_at}
+use Rattle.bihash_steps.proofs.NotedViews.{unnoted_view}
 use Rattle.bihash_steps.proofs.Runs.{extent_near_end}
 use Rattle.bihash_steps.proofs.Whole.{whole_known}
 use Rattle.bihash_steps.proofs.Informed.{known_learned, known_else, learned_informed}
@@ -79,21 +79,13 @@ module _ (z : Sizes) where
   pub learned_lock : (words : List ℕ) (t : TableState) (j b : ℕ) (v : View) (lock : Option LockedBucket) → b < length v.known.writes
       → HoldsBucketIf z words t.bucket j v.known lock → HoldsBucketIf z words t.bucket j (with_history v b (t.bucket b).history).known lock
   learned_lock words t j b v None inside h = tt
-  learned_lock words t j b v (Some l) inside h = record {
-    inside = h.inside;
-    held = h.held;
-    extent = h.extent;
-    version = h.version;
-    fresh = dite (ℕ_discrete l.bucket b)
-        (λ e. subst (λ (c : ℕ). known_at (with_history v b (t.bucket b).history).known c ≡ (t.bucket c).history) (sym e)
-        (known_learned v b (t.bucket b).history inside))
-        (λ ne. known_else v b l.bucket (t.bucket b).history ne ∙ h.fresh);
-    was = h.was;
-    size = h.size;
-    stands = h.stands;
-    clean = h.clean;
-    dirty = h.dirty;
-  }
+  learned_lock words t j b v (Some l) inside h = let x = t.bucket b in
+      held_still z words words j (known_at v.known l.bucket) (known_at (with_history v b x.history).known l.bucket) l (t.bucket l.bucket)
+      (dite (ℕ_discrete l.bucket b)
+      (λ e. subst (λ (c : ℕ). known_at (with_history v b x.history).known c ≡ (t.bucket c).history) (sym e)
+      (known_learned v b x.history inside))
+      (λ ne. known_else v b l.bucket x.history ne ∙ h.fresh))
+      h.stands h
 
   -- the view of a caller that saw bucket b without its lock
   abbrev pub seeing : View → ℕ → BucketState → View

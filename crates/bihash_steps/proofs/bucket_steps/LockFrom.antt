@@ -19,7 +19,7 @@ use Rattle.bihash_steps.specs.declared.view.LockedBucket.{LockedBucket}
 use Rattle.bihash_steps.specs.declared.view.View.{View}
 use Rattle.bihash_steps.proofs.KnownLists.{lawful_here, lawful_set}
 use Rattle.bihash_steps.proofs.CountWord.{stays_at, others_apart}
-use Rattle.bihash_steps.proofs.caller_steps.LoadCount.{unnoted_view}
+use Rattle.bihash_steps.proofs.NotedViews.{unnoted_view}
 use Rattle.bihash_steps.proofs.Frames.{free_none, free_own}
 use Rattle.bihash_steps.proofs.Runs.{beside_bucket, block_keeps, front_still, store_still, count_still, bucket_behind, bucket_inside}
 use Rattle.bihash_steps.proofs.Pushed.{counted_numbers, counted_whole, counted_number, counted_short, counted-length}

@@ -24,7 +24,7 @@ use Rattle.bihash_steps.specs.declared.view.View.{View}
 use Rattle.bihash_steps.proofs.KnownLists.{lawful_here}
 use Rattle.bihash_steps.proofs.Lists.{there}
 use Rattle.bihash_steps.proofs.CountWord.{stays_at, others_apart}
-use Rattle.bihash_steps.proofs.caller_steps.LoadCount.{unnoted_view}
+use Rattle.bihash_steps.proofs.NotedViews.{seen_view, unnoted_view}
 use Rattle.bihash_steps.proofs.Pushed.{push_numbers, push_whole, push_short, push-length, push_renumbers}
 use Rattle.bihash_steps.proofs.Whole.{prefix_whole}
 use Rattle.bihash_steps.proofs.Informed.{answered_informed, bears_own}
@@ -87,25 +87,15 @@ module _ (z : Sizes) (s : State (Unit {0}) View) (r : WordRule z s) where
   reading_view : (id k : ℕ) (v : View) (o : OpenBucket) → get_elem? s.views id ≡ some v → v.notes.open_bucket ≡ Some o
       → k < block_words z o.extent.page o.extent.log2
       → IsView z s.words (count_of s.words) r.table id (with_reading v ((k, slice_index s.words (page_at z o.extent.page + k)) ∷ []))
-  reading_view id k v o at noted inside = let ok = r.each_view id v at in record {
-    informed = ok.informed;
-    numbers = ok.numbers;
-    seen = ok.seen;
-    lone = ok.lone;
-    able = ok.able;
-    bucket = ok.bucket;
-    only = ok.only;
-    store = ok.store;
-    only_store = ok.only_store;
-    block = ok.block;
-    open_bucket = subst (λ (seen : Option OpenBucket). IsOpenIf z r.table.bucket (read_more ((k, word) ∷ []) seen)) (sym noted)
-        (reads_word o k inside (subst (IsOpenIf z r.table.bucket) noted ok.open_bucket));
-    still = λ lone. subst (λ (seen : Option OpenBucket). StandsStillIf z s.words (read_more ((k, word) ∷ []) seen)) (sym noted)
-        (subst (StandsStillIf z s.words) noted (ok.still lone));
-    short = ok.short;
-    left = ok.left;
-    meeting = ok.meeting;
-  }
+  reading_view id k v o at noted inside = let ok = r.each_view id v at in
+      seen_view z s.words (count_of s.words) r.table id v v.seen v.lone (with_reading v ((k, word) ∷ [])).notes ok.numbers ok.seen ok.lone record {
+        open_bucket = subst (λ (seen : Option OpenBucket). IsOpenIf z r.table.bucket (read_more ((k, word) ∷ []) seen)) (sym noted)
+            (reads_word o k inside (subst (IsOpenIf z r.table.bucket) noted ok.open_bucket));
+        still = λ lone. subst (λ (seen : Option OpenBucket). StandsStillIf z s.words (read_more ((k, word) ∷ []) seen)) (sym noted)
+            (subst (StandsStillIf z s.words) noted (ok.still lone));
+        left = ok.left;
+        meeting = ok.meeting;
+      } ok
     where
       word : ℕ
       word = slice_index s.words (page_at z o.extent.page + k)

@@ -14,6 +14,7 @@ use Rattle.bihash_steps.specs.Callers.{IsWhole, known_writes, known_at, opening_
 use Rattle.bihash_steps.specs.Buckets.{IsBucket}
 use Rattle.bihash_steps.specs.PageStores.{BearOutOfPages, HasCall, writes_in}
 use Rattle.bihash_steps.specs.Views.{empty_record, no_notes}
+use Rattle.std.specs.Prelude.{◌==◌}
 use Rattle.bihash_steps.specs.WordRule.{TableState, HaveMet, HaveMetIf, IsView, WordRule}
 use Rattle.bihash_steps.specs.Steps.{ViewOfSeat, view_after_count, view_after_number, recounted, joining, TellsCount, TellsNumber, TellsAgreement}
 use Rattle.bihash_steps.specs.declared.view.Known.{Known}
@@ -29,30 +30,17 @@ use Rattle.bihash_steps.proofs.Whole.{prefix_whole}
 use Rattle.bihash_steps.proofs.Prefixes.{one_begins}
 use Rattle.bihash_steps.proofs.Numbers.{few_numbers, whole_by_count}
 use Rattle.bihash_steps.proofs.Lawful.{more_informed, more_numbers, parts_apart, wider}
+use Rattle.bihash_steps.proofs.NotedViews.{counted_view, recounted_view, unnoted_view}
 use Rattle.bihash_steps.proofs.CountWord.{SameButCount, still_lock, still_pool, still_block, one_moved, stays, some_words, others_apart, not_lone}
 
 module _ (z : Sizes) where
   -- ---- A load of the caller count
 
-  counted_view : (words : List ℕ) (count : ℕ) (t : TableState) (j : ℕ) (v : View) → IsView z words count t j v
+  counted : (words : List ℕ) (count : ℕ) (t : TableState) (j : ℕ) (v : View) → IsView z words count t j v
       → IsView z words count t j (view_after_count v count)
-  counted_view words count t j v ok = let numbers = wider v.seen count v.records ok.seen ok.numbers in record {
-    informed = ok.informed;
-    numbers = numbers;
-    seen = le_refl count;
-    lone = λ e. whole_by_count count v.records numbers (eqb-true count (length v.records) e);
-    able = ok.able;
-    bucket = ok.bucket;
-    only = ok.only;
-    store = ok.store;
-    only_store = ok.only_store;
-    block = ok.block;
-    open_bucket = tt;
-    still = λ _. tt;
-    short = ok.short;
-    left = tt;
-    meeting = tt;
-  }
+  counted words count t j v ok = let numbers = wider v.seen count v.records ok.seen ok.numbers in
+      counted_view z words count t j v count (count == length v.records) numbers (le_refl count)
+      (λ e. whole_by_count count v.records numbers (eqb-true count (length v.records) e)) ok
 
   -- a whole view knows each history whole
   known_whole : (s : State (Unit {0}) View) (r : WordRule z s) (id : ℕ) (v : View) → IsView z s.words (count_of s.words) r.table id v
@@ -78,7 +66,7 @@ module _ (z : Sizes) where
       let v = m.0 in
       let count : ℕ = count_of s.words in
       let ok = r.each_view id v at in
-      let good = counted_view s.words count r.table id v ok in
+      let good = counted s.words count r.table id v ok in
       let lawful = lawful_here z s r (view_after_count v count) acts good.numbers good.informed good.lone in (
         view_after_count v count,
         keeps,
@@ -101,26 +89,6 @@ module _ (z : Sizes) where
 
   -- ---- A load after a join
 
-  pub unnoted_view : (words : List ℕ) (count : ℕ) (t : TableState) (j : ℕ) (v : View) → IsView z words count t j v
-      → IsView z words count t j (record v { notes = no_notes })
-  unnoted_view words count t j v ok = record {
-    informed = ok.informed;
-    numbers = ok.numbers;
-    seen = ok.seen;
-    lone = ok.lone;
-    able = ok.able;
-    bucket = ok.bucket;
-    only = ok.only;
-    store = ok.store;
-    only_store = ok.only_store;
-    block = ok.block;
-    open_bucket = tt;
-    still = λ _. tt;
-    short = ok.short;
-    left = tt;
-    meeting = tt;
-  }
-
   consistent : (t : TableState) (y : Meeting) → HaveMet z t y → IsConsistent y.first y.second
   consistent t y met = (
     met.openings,
@@ -139,7 +107,7 @@ module _ (z : Sizes) where
         record v { notes = no_notes },
         keeps,
         tt,
-        stays z s r id v (record v { notes = no_notes }) at refl (unnoted_view s.words (count_of s.words) r.table id v ok)
+        stays z s r id v (record v { notes = no_notes }) at refl (unnoted_view z s.words (count_of s.words) r.table id v ok)
             (others_apart z s r id v at),
         record {
           seat = refl;
@@ -198,26 +166,6 @@ module _ (z : Sizes) where
         | inl o ↦ (h.0, h.1, h.2, o, h.4)
         | inr o ↦ absurd (some-ne-none c (sym (ap (λ (p : Record). get_elem? p.calls h.1) o.1 ∙ h.4)))
       ]
-
-  recounted_view : (words : List ℕ) (count : ℕ) (t : TableState) (j : ℕ) (v : View) → IsView z words count t j v
-      → IsView z words count t j (recounted v count)
-  recounted_view words count t j v ok = record {
-    informed = ok.informed;
-    numbers = wider v.seen count v.records ok.seen ok.numbers;
-    seen = le_refl count;
-    lone = ok.lone;
-    able = ok.able;
-    bucket = ok.bucket;
-    only = ok.only;
-    store = ok.store;
-    only_store = ok.only_store;
-    block = ok.block;
-    open_bucket = ok.open_bucket;
-    still = ok.still;
-    short = ok.short;
-    left = ok.left;
-    meeting = ok.meeting;
-  }
 
   -- the next number is nobody's
   new_apart : (count seen : ℕ) (rs qs : List Record) → seen ≤ count → HasNumbers seen qs → Apart rs qs
@@ -298,7 +246,7 @@ module _ (z : Sizes) where
       )
 
       lost : count ≢ n → Outcome
-      lost ne = let good = recounted_view s.words count r.table id v ok in (
+      lost ne = let good = recounted_view z s.words count r.table id v count (wider v.seen count v.records ok.seen ok.numbers) (le_refl count) ok in (
         recounted v count,
         keeps,
         tt,

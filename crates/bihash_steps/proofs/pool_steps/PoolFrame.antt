@@ -6,6 +6,7 @@ use Rattle.std.specs.Prelude.{slice_index}
 use Rattle.atomic_table.specs.Table.{State}
 use Rattle.bihash_words.specs.Sizes.{Sizes}
 use Rattle.bihash_steps.specs.Words.{count_of, front_words, buckets, page_words}
+use Rattle.bihash_steps.specs.Callers.{known_at}
 use Rattle.bihash_steps.specs.Partition.{IsPartition}
 use Rattle.bihash_steps.specs.Buckets.{BucketState, HoldsBucketIf}
 use Rattle.bihash_steps.specs.PageStores.{StoreState, IsStore, all_writes, IsListedIf, HoldsStore, HoldsStoreIf, NotesStore, HoldsBlockIf, LeftIf, runs_now}
@@ -20,8 +21,8 @@ use Rattle.bihash_steps.specs.declared.view.ListedPage.{ListedPage}
 use Rattle.bihash_steps.specs.declared.view.LockedStore.{LockedStore}
 use Rattle.bihash_steps.specs.declared.view.HeldBlock.{HeldBlock}
 use Rattle.bihash_steps.specs.declared.view.View.{View}
-use Rattle.bihash_steps.proofs.CountWord.{others_apart, stays_at}
-use Rattle.bihash_steps.proofs.caller_steps.LoadCount.{unnoted_view}
+use Rattle.bihash_steps.proofs.CountWord.{held_still, others_apart, stays_at}
+use Rattle.bihash_steps.proofs.NotedViews.{unnoted_view}
 use Rattle.bihash_steps.proofs.Frames.{Free, free_none, free_own, grows_not, keeps_refl, moved}
 use Rattle.bihash_steps.proofs.bucket_steps.Relocks.{same_informed}
 use Rattle.bihash_steps.proofs.Runs.{beside_store, front_still, count_still}
@@ -45,18 +46,8 @@ module _ (z : Sizes) where
     lock_still : (x : ℕ → BucketState) (j : ℕ) (known : Known) (lock : Option LockedBucket) → HoldsBucketIf z words x j known lock
         → HoldsBucketIf z (set words i n) x j known lock
     lock_still x j known None h = tt
-    lock_still x j known (Some l) h = record {
-      inside = h.inside;
-      held = h.held;
-      extent = h.extent;
-      version = h.version;
-      fresh = h.fresh;
-      was = h.was;
-      size = h.size;
-      stands = front_still z words i n l.extent.page l.now (omega arith) h.stands;
-      clean = h.clean;
-      dirty = h.dirty;
-    }
+    lock_still x j known (Some l) h = held_still z words (set words i n) j (known_at known l.bucket) (known_at known l.bucket) l
+        (x l.bucket) h.fresh (front_still z words i n l.extent.page l.now (omega arith) h.stands) h
 
     view_still : (count : ℕ) (t : TableState) (q : StoreState) (id : ℕ) (v : View) (store : Option LockedStore) (block : Option HeldBlock)
         (left : Option PageStore) → 1 ≤ length v.records → HoldsStoreIf z (set words i n) q id store → NotesStore q id store

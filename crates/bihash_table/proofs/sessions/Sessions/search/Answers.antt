@@ -1,28 +1,22 @@
-use Rattle.std.proofs.Common.{refl, ap, ◌∙◌}
+use Rattle.std.proofs.Common.{refl, ◌∙◌}
 use Rattle.bihash_words.specs.Sizes.{sizes_of}
-use Rattle.bihash_steps.specs.Seats.{CallerState, with_view}
-use Rattle.bihash_table.proofs.Composed.{not_yet_tried, again_turned_away, again_answered}
-use Rattle.bihash_table.proofs.SameCallers.{same_through}
+use Rattle.bihash_table.proofs.Composed.{again_answered}
+use Rattle.bihash_table.proofs.SameCallers.{own_through, same_through}
 use Rattle.bihash_table.proofs.sessions.Sessions.search.Goals as goal
 
-pub loop-init : goal.loop-init
-loop-init g c = record { next = tt; finite = tt; same = refl; tried = not_yet_tried (sizes_of g.S.Shape) _ _ c.requires.free; no_lock = refl }
+pub search_again-requires-clause-own : goal.search_again-requires-clause-own
+search_again-requires-clause-own g c = own_through c.args.caller.now.seat _ _ c.try_search.ensures.same c.requires.own
 
-pub returns-in-Ok : goal.returns-in-Ok
-returns-in-Ok g c =
+pub search_again-requires-clause-free : goal.search_again-requires-clause-free
+search_again-requires-clause-free g c = c.in_default.ensures.contended.free
+
+pub returns : goal.returns
+returns g c =
     let s = c.args.caller.now.seat in
-    let told = c.in-Ok.ensures in record {
-      same = same_through s c.loop.caller.seat c.try_search.new.caller.seat _ c.loop.invariant.same told.same;
-      answered = again_answered (sizes_of g.S.Shape) _ _ _ _ _ refl c.loop.invariant.tried told.answered;
-      no_lock = told.no_lock ∙ c.loop.invariant.no_lock;
+    let first = c.in_default.ensures in
+    let told = c.search_again.ensures in record {
+      same = same_through s c.try_search.new.caller.seat c.search_again.new.caller.seat _ first.same told.same;
+      answered = again_answered (sizes_of g.S.Shape) _ _ _ _ _ refl first.contended told.answered;
+      no_lock = told.no_lock ∙ first.no_lock;
       lawful = told.lawful;
     }
-
-pub loop-preserved : goal.loop-preserved
-loop-preserved g c = record {
-  next = tt;
-  finite = tt;
-  same = c.try_search.ensures.same ∙ ap (λ (k : CallerState). with_view k c.try_search.new.caller.seat.view) c.loop.invariant.same;
-  tried = again_turned_away (sizes_of g.S.Shape) _ _ _ _ c.loop.invariant.tried c.in_default.ensures.contended;
-  no_lock = c.try_search.ensures.no_lock ∙ c.loop.invariant.no_lock;
-}

@@ -2,7 +2,7 @@ use Rattle.std.proofs.Common.{◌*◌}
 use Rattle.bihash_words.specs.Sizes.{sizes_of}
 use Rattle.bihash_table.specs.inner.OpenReads.{HasRead}
 use Rattle.bihash_table.proofs.LookedAt.{NoneAmong}
-use Rattle.bihash_table.proofs.reads.find_pair.Given as goal
+use Rattle.bihash_table.proofs.reads.pair_in_pages.Given as goal
 
 -- the pages so far don't hold the key
 abbrev pub invariant-loop-page : goal.invariant-loop-page

@@ -1,12 +1,12 @@
-use Rattle.std.proofs.Common.{◌≡◌, ℕ, true}
+use Rattle.std.proofs.Common.{◌≡◌}
 use Rattle.bihash_words.specs.Sizes.{sizes_of}
 use Rattle.bihash_steps.specs.Histories.{bucket_of}
 use Rattle.bihash_steps.specs.Seats.{with_view}
+use Rattle.bihash_table.specs.Answers.{locks_of}
 use Rattle.bihash_table.specs.Promise.{IsContended}
-use Rattle.bihash_table.specs.Tries.{TookAtMost}
-use Rattle.bihash_table.proofs.sessions.Sessions.update.Given as goal
+use Rattle.bihash_table.proofs.sessions.Sessions.search_again.Given as goal
 
--- each try so far was turned away and took one lock at most, and there was none where the caller is lone
+-- each try so far was turned away
 abbrev pub invariant-loop : goal.invariant-loop
 invariant-loop g l = record {
   next : (goal.iterator-loop g).can_next l.iterator';
@@ -14,7 +14,5 @@ invariant-loop g l = record {
   same : l.caller.seat ≡ with_view l.initial.caller.seat l.caller.seat.view;
   tried : IsContended (sizes_of g.S.Shape) l.initial.caller.seat.view l.caller.seat.view
       (bucket_of (sizes_of g.S.Shape) (g.S.Shape.words_of l.key));
-  tries : (tries : ℕ) × TookAtMost l.initial.caller.seat.view l.caller.seat.view tries
-      × (l.initial.caller.seat.view.lone ≡ true → tries ≡ 0);
-  lone : l.initial.caller.seat.view.lone ≡ true → l.caller.seat.view ≡ l.initial.caller.seat.view;
+  no_lock : locks_of l.caller.seat.view.records ≡ locks_of l.initial.caller.seat.view.records;
 }
