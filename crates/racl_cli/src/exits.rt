@@ -5,6 +5,7 @@ ghost use Rattle.std.specs.IoError.{error_kind};
 ghost use Rattle.racl_cli.specs.Endings.{said_after};
 ghost use Rattle.racl_cli.specs.Statuses.{status_of};
 ghost use Rattle.racl_io.specs.declared.fault.Fault.TheVariants.{Memory, Write};
+ghost use Rattle.racl_words.specs.CommandLine.{IsRequest};
 
 use crate::message::{Ending, Message};
 use clap::error::ErrorKind;
@@ -42,10 +43,10 @@ pub fn ending(outcome: &Result<Totals, Fault>) -> Ending
 
 /// The end after words that `options` refuses. Without a message `clap`'s own text is printed.
 pub fn words_ending(error: &clap::Error) -> Ending
-    ensures help { kind_of error.now ≡ ErrorKind.DisplayHelp → result ≡ record { message = None; status = 0 } }
+    ensures request { IsRequest (kind_of error.now) → result ≡ record { message = None; status = 0 } }
     ensures memory { kind_of error.now ≡ ErrorKind.OutOfMemory
         → result ≡ record { message = Some (Message.Fault Memory); status = 4 } }
-    ensures mistake { kind_of error.now ≢ ErrorKind.DisplayHelp → kind_of error.now ≢ ErrorKind.OutOfMemory
+    ensures mistake { (IsRequest (kind_of error.now) → ⊥) → kind_of error.now ≢ ErrorKind.OutOfMemory
         → result ≡ record { message = None; status = 2 } }
 {
     let message = match error.kind() {

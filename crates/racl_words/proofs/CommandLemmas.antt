@@ -7,11 +7,10 @@ use Rattle.std.proofs.lemmas.Bool.{cases_lt}
 use Rattle.std.proofs.lemmas.List.{get_or-map, length-map}
 use Rattle.std.proofs.lemmas.Map.Keys.{apart_from_distinct}
 use Rattle.std.proofs.lemmas.Slice.Eq.{bytes_eq-Decides}
-use Rattle.clap.specs.Words.{App, FailsBy, HasKind, HasMatchesOf, IsParsedFrom, Rule, Text, app_of, args_of, fault_of, found_of, is_simple, is_simple_and_free, kind_of, matches_of, one_of, one_text, rule_of, shape_of}
+use Rattle.clap.specs.Words.{App, FailsBy, HasMatchesOf, IsParsedFrom, Rule, Text, app_of, args_of, fault_of, found_of, is_simple, is_simple_and_free, matches_of, one_of, one_text, rule_of, shape_of}
 use Rattle.clap.specs.declared.builder.arg.Arg.{Arg}
 use Rattle.clap.specs.declared.builder.command.Command.{Command}
 use Rattle.clap.specs.declared.error.Error.{Error}
-use Rattle.clap.specs.declared.error.kind.ErrorKind.TheVariants.{OutOfMemory}
 use Rattle.clap.specs.declared.parser.matches.ArgMatches.{ArgMatches}
 use Rattle.clap.proofs.OnLiterals.{clap_on_literals}
 use Rattle.clap.proofs.SimpleLemmas.{all_simple, plain_fields, simple_groups}

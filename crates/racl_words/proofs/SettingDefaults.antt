@@ -1,14 +1,14 @@
 -- What the end of a parse makes of the options that the words left out.
-use Rattle.std.proofs.Common.{◌≡◌, ◌∙◌, ◌||◌, ap, cond, refl, Bool, true, false, List, [], ◌∷◌, Option, Some, None, codes, is_some}
+use Rattle.std.proofs.Common.{◌≡◌, ◌∙◌, ◌||◌, ap, cond, refl, Bool, true, false, List, [], ◌∷◌, Option, Some, None, is_some}
 use Rattle.std.specs.List.{find, fold}
 use Rattle.std.specs.Option.{option_or}
 use Rattle.std.specs.Str.{bytes_eq}
 use Rattle.std.proofs.lemmas.List.Folds.{find-append}
 use Rattle.clap.specs.Faults.{check_fault, default_fault, defaults_fault, entered_fault, settle_fault, walk_fault}
 use Rattle.clap.specs.Kinds.{or_else}
-use Rattle.clap.specs.Simple.{entered, filled, help_rule}
-use Rattle.clap.specs.Walk.{Held, Walk, finished, has_row, more_values, nothing_held, settled, walked, with_default, with_values}
-use Rattle.clap.specs.Words.{Row, Text, built, fault_of}
+use Rattle.clap.specs.Simple.{entered, filled, help_rule, version_rule}
+use Rattle.clap.specs.Walk.{Held, Walk, default_rows, finished, has_row, more_values, nothing_held, reading_by, settled, walked, with_default, with_values}
+use Rattle.clap.specs.Words.{Row, Rule, Text, built, fault_of}
 use Rattle.clap.specs.declared.builder.value_parser.Reading.TheVariants.{WithoutMinus}
 use Rattle.clap.specs.declared.error.kind.ErrorKind.{ErrorKind}
 use Rattle.clap.specs.declared.parser.matches.ValueSource.TheVariants.{DefaultValue}
@@ -34,8 +34,9 @@ default_passes Established rows = pass_either _ _ refl
 default_passes Transient rows = pass_either _ _ refl
 default_passes Udp rows = pass_either _ _ refl
 
-help_passes : (rows : List Row) → default_fault rows (filled help_rule) ≡ []
-help_passes rows = rw (or_right (has_row (codes "help") rows)) refl
+-- nor does a flag, which has none
+flag_passes : (r : Rule) (rows : List Row) → r.defaults ≡ [] → default_fault rows r ≡ []
+flag_passes r rows none = rw (none, or_right (has_row r.id rows)) refl
 
 -- the rows with the default of one option after another
 abbrev workers_filled : List Row → List Row
@@ -50,11 +51,15 @@ transient_filled rows = with_default (established_filled rows) (filled_rule Tran
 abbrev udp_filled : List Row → List Row
 udp_filled rows = with_default (transient_filled rows) (filled_rule Udp)
 
+abbrev help_filled : List Row → List Row
+help_filled rows = with_default (udp_filled rows) (filled help_rule)
+
 defaults_pass : (rows : List Row) → defaults_fault rows top.rules ≡ []
 unfolding clap_on_literals
 defaults_pass rows = both_pass (default_passes Workers rows) (both_pass (default_passes Established (workers_filled rows))
     (both_pass (default_passes Transient (established_filled rows)) (both_pass (default_passes Udp (transient_filled rows))
-    (both_pass (help_passes (udp_filled rows)) refl))))
+    (both_pass (flag_passes (filled help_rule) (udp_filled rows) refl)
+    (both_pass (flag_passes (filled version_rule) (help_filled rows) refl) refl)))))
 
 -- what the words come to in the end, by where the walk stopped
 abbrev pub end_fault : List ErrorKind → Walk → List ErrorKind
@@ -126,12 +131,14 @@ default_keeps o Established rows = keep_row (name_of o) (name_of Established) (d
 default_keeps o Transient rows = keep_row (name_of o) (name_of Transient) (default_of Transient) rows
 default_keeps o Udp rows = keep_row (name_of o) (name_of Udp) (default_of Udp) rows
 
-help_keeps : (o : OptionName) (rows : List Row) → find_row (name_of o) (with_default rows (filled help_rule)) ≡ find_row (name_of o) rows
-help_keeps o rows = go (has_row (codes "help") rows)
+-- and a flag leaves all rows
+flag_keeps : (r : Rule) (rows : List Row) → r.defaults ≡ [] → with_default rows r ≡ rows
+flag_keeps r rows none = go (has_row r.id rows) r.defaults none
   where
-    go : (b : Bool) → find_row (name_of o) (cond b rows rows) ≡ find_row (name_of o) rows
-    go true = refl
-    go false = refl
+    go : (b : Bool) (defaults : List Text) → defaults ≡ [] → cond b rows (default_rows r.id (reading_by r) defaults rows) ≡ rows
+    go true defaults none = refl
+    go false [] none = refl
+    go false (d ∷ ds) none = cc
 
 or_default : (o : OptionName) (f g : Option Row) → f ≡ g → option_or f (Some (default_row o)) ≡ option_or g (Some (default_row o))
 or_default o f g = ap (λ found. option_or found (Some (default_row o)))
@@ -147,4 +154,4 @@ filled_by Udp rows = default_fills Udp (transient_filled rows)
     ∙ or_default Udp _ _ (default_keeps Udp Transient (established_filled rows) refl ∙ default_keeps Udp Established (workers_filled rows) refl ∙ default_keeps Udp Workers rows refl)
 
 pub all_filled : (o : OptionName) (rows : List Row) → find_row (name_of o) (fold with_default rows top.rules) ≡ option_or (find_row (name_of o) rows) (Some (default_row o))
-all_filled o rows = help_keeps o (udp_filled rows) ∙ filled_by o rows
+all_filled o rows = ap (find_row (name_of o)) (flag_keeps (filled version_rule) (help_filled rows) refl ∙ flag_keeps (filled help_rule) (udp_filled rows) refl) ∙ filled_by o rows

@@ -1,10 +1,13 @@
 -- The command line: the command's options, and the numbers to which the words set them.
-use Rattle.std.specs.Prelude.{◌≡◌, ◌≤◌, ℕ, List, [], ◌∷◌, Option, Some, codes, pos}
+use Rattle.std.specs.Prelude.{◌≡◌, ◌≤◌, ◌⊎◌, ℕ, true, List, [], ◌∷◌, Option, Some, codes, pos}
 use Rattle.std.specs.Str.Parse.{IsNumeral, digits_value, without_leading_plus}
+use Rattle.clap.specs.Simple.{on_top}
 use Rattle.clap.specs.Words.{App, IsSignedIn, Rule, Text, fault_of, matches_of, new_app, new_rule}
 use Rattle.clap.specs.Words.{one_of, with_rule, without_minus}
 use Rattle.clap.specs.declared.builder.action.ArgAction.TheVariants.{Set}
 use Rattle.clap.specs.declared.builder.value_parser.ValueParser.TheVariants.{Signed}
+use Rattle.clap.specs.declared.error.kind.ErrorKind.{ErrorKind}
+use Rattle.clap.specs.declared.error.kind.ErrorKind.TheVariants.{DisplayHelp, DisplayVersion}
 use Rattle.racl_words.specs.declared.settings.Options.{Options}
 
 -- ---- the command
@@ -49,9 +52,13 @@ number_option name default most = record (new_rule name) {
 abbrev pub option_rule : OptionName → Rule
 option_rule option = number_option (name_of option) (default_of option) (most_of option)
 
+-- the command before its options; as it has a version, a parse also reads `--version`
+abbrev pub without_options : App
+without_options = on_top (λ s. record s { has_version = true }) (new_app (codes "racl"))
+
 -- the command with its four options
 abbrev pub racl : App
-racl = with_rule (with_rule (with_rule (with_rule (new_app (codes "racl")) (option_rule Workers))
+racl = with_rule (with_rule (with_rule (with_rule without_options (option_rule Workers))
     (option_rule Established)) (option_rule Transient)) (option_rule Udp)
 
 -- ---- what the words ask for
@@ -99,6 +106,10 @@ text_at words name = one_of name (matches_of racl words)
 pub record AskFor (words : List Text) (facts : OptionFacts) : Type 0 where
   pub faultless : fault_of racl words ≡ []
   pub options : SpellsOptions (text_at words) facts
+
+-- an error of this kind is a request for the help or for the version
+abbrev pub IsRequest : ErrorKind → Type 0
+IsRequest kind = (kind ≡ DisplayHelp) ⊎ (kind ≡ DisplayVersion)
 
 -- ---- what a parse leaves to be read
 

@@ -1,11 +1,11 @@
 //! The command line: the words with which the program is called, read by `clap`.
-ghost use Rattle.std.specs.Prelude.{◌≡◌, ◌≢◌, List, ◌∷◌, IfErr, IfOk, MatchResult, codes, false};
+ghost use Rattle.std.specs.Prelude.{◌≡◌, ◌≢◌, List, ◌∷◌, IfErr, IfOk, MatchResult, false};
 ghost use Rattle.std.specs.List.{flat_map};
 ghost use Rattle.clap.specs.Walk.{Text, texts};
-ghost use Rattle.clap.specs.Words.{HasKind, app_of, fault_of, found_of, kind_of, new_app};
-ghost use Rattle.clap.specs.Words.{one_text, rule_of};
-ghost use Rattle.racl_words.specs.CommandLine.{AskFor, HoldsNumber, HoldsNumbers, OptionFacts};
-ghost use Rattle.racl_words.specs.CommandLine.{OptionName, Spells, SpellsOptions, option_facts, racl};
+ghost use Rattle.clap.specs.Words.{HasKind, app_of, fault_of, found_of, kind_of, one_text, rule_of};
+ghost use Rattle.racl_words.specs.CommandLine.{AskFor, HoldsNumber, HoldsNumbers, IsRequest};
+ghost use Rattle.racl_words.specs.CommandLine.{OptionFacts, OptionName, Spells, SpellsOptions};
+ghost use Rattle.racl_words.specs.CommandLine.{option_facts, racl, without_options};
 ghost use Rattle.racl_words.specs.CommandLine as line;
 ghost use Rattle.racl_words.specs.Options.{AreSettings, Setting, facts_of, words_of};
 
@@ -15,8 +15,8 @@ use clap::{Arg, ArgAction, ArgMatches, Command, Error, value_parser};
 use session_state::Timeouts;
 use std::alloc::{AllocError, Global};
 
-/// Reads the words, of which the first is the program's name. An `Err` is a request for help, a
-/// mistake in the words or out of memory, by its kind.
+/// Reads the words, of which the first is the program's name. An `Err` is a request for the help
+/// or the version, a mistake in the words or out of memory, by its kind.
 pub fn options<'a>(alloc: Global, words: &'a [&'a str]) -> Result<Options, Error>
     ensures ok { IfOk result (λ o. AskFor (texts words.entry.now) (option_facts o)) }
 
@@ -39,17 +39,19 @@ pub fn options<'a>(alloc: Global, words: &'a [&'a str]) -> Result<Options, Error
 
 /// The status with which the program ends after words that `options` refuses.
 pub fn words_status(error: &Error) -> u8
-    ensures help { kind_of error.now ≡ ErrorKind.DisplayHelp → result ≡ 0 }
+    ensures request { IsRequest (kind_of error.now) → result ≡ 0 }
     ensures memory { kind_of error.now ≡ ErrorKind.OutOfMemory → result ≡ 4 }
-    ensures mistake { kind_of error.now ≢ ErrorKind.DisplayHelp
+    ensures mistake { (IsRequest (kind_of error.now) → ⊥)
         → kind_of error.now ≢ ErrorKind.OutOfMemory → result ≡ 2 }
 {
     match error.kind() {
-        ErrorKind::DisplayHelp => 0,
+        ErrorKind::DisplayHelp | ErrorKind::DisplayVersion => 0,
         ErrorKind::OutOfMemory => 4,
         _ => 2,
     }
 }
+
+const VERSION: &str = "0.1.0";
 
 const ABOUT: &str = "Judges the packets of a capture by ordered rules and by sessions.";
 
@@ -103,9 +105,10 @@ fn command<'a>(alloc: Global) -> Result<Command<'a>, AllocError>
 
 // The command with its texts, and no option yet.
 fn described_command<'a>(alloc: Global) -> Command<'a>
-    ensures { app_of result ≡ new_app (codes "racl") }
+    ensures { app_of result ≡ without_options }
 {
     Command::new(alloc, "racl")
+        .version(VERSION)
         .about(ABOUT)
         .override_usage(USAGE)
         .after_help(AFTER_HELP)

@@ -57,6 +57,7 @@ fn status_after<'a>(alloc: Global, words: &'a [&'a str]) -> Option<u8> {
 fn other_words_end_with_a_status(rt: HostRuntime) {
     let alloc = rt.alloc();
     assert_eq!(rt; status_after(alloc, &["racl", "--help"]), Some(0));
+    assert_eq!(rt; status_after(alloc, &["racl", "-V"]), Some(0));
     assert_eq!(rt; status_after(alloc, &["racl", "extra"]), Some(2));
     assert_eq!(rt; status_after(alloc, &["racl", "--udp"]), Some(2));
     assert_eq!(rt; status_after(alloc, &["racl", "--udp", "soon"]), Some(2));
@@ -84,4 +85,14 @@ fn other_words_end_with_a_status(rt: HostRuntime) {
     assert_eq!(rt; status_after(alloc, &["racl", "--workers", "0"]), Some(2));
     assert_eq!(rt; status_after(alloc, &["racl", "--workers", "17"]), Some(2));
     assert_eq!(rt; words_status(&Error::from(AllocError)), 4);
+}
+
+#[test]
+fn the_version_is_told(rt: HostRuntime) -> Result<(), Fail> {
+    let alloc = rt.alloc();
+    let refused = options(alloc, &["racl", "--udp", "5", "--version"]);
+    let error = refused.err().expect(&rt, "a request");
+    assert_eq!(rt; words_status(&error), 0);
+    assert_eq!(rt; format!(in alloc; "{error}")?.as_str(), "racl 0.1.0\n");
+    Ok(())
 }
