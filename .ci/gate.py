@@ -112,7 +112,7 @@ def main():
     counts = [gate]
     if is_there:
         built = [it + by for it in (PROGRAM, TABLE_PROGRAM) for by in ("", BY_RATTLE)]
-        checks = (["checks/documents"], ["checks/launcher"], ["checks/run", *programs],
+        checks = (["checks/house"], ["checks/documents"], ["checks/launcher"], ["checks/run", *programs],
                   ["checks/refused_memory", *built])
         counts += [counted(*followed(it, lambda _: None)) for it in checks]
     else:

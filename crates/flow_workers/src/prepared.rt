@@ -23,7 +23,7 @@ impl<'a, D: HasRuling> Prepared<'a, D> {
     ghost use Rattle.flow_workers.specs.inner.Preparing.{IsPrepared, IsRuling, reading_with};
 
     /// The rules are asked here only where the packet takes no part in sessions.
-    pub fn new(filter: &ReadyFilter<'a>, packet: &ViewedPacket<'a>) -> Prepared<'a, D>
+    pub fn new(filter: &'a ReadyFilter<'a>, packet: &ViewedPacket<'a>) -> Prepared<'a, D>
         requires { IsRuling (policy_in filter.now) (frame_facts packet.now.frame.now) D.ruling }
         ensures { IsPrepared ⟦<D as HasRuling>⟧ filter.now.times
             (reading_with packet.now.moment (frame_facts packet.now.frame.now) D.ruling) result }
