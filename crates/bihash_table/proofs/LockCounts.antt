@@ -59,13 +59,3 @@ took_by_tries u v w n reply before first last =
       took = subst (λ (k : ℕ). TookAtMost u w (k + try_locks (Ok reply))) same
           (took_then u v w n (try_locks (Ok reply)) before last);
     }
-
--- one try more before them, which no lone caller needs
-pub took_once_more : (u v w : View) (reply : Reply) → TookAtMost u v 1 → (u.lone ≡ true → ⊥) → TookByTries v w reply → TookByTries u w reply
-took_once_more u v w reply first crowd h = let some = h.some in let same : 1 + (h.tries - 1 + try_locks (Ok reply)) ≡ h.tries + 1 - 1 + try_locks (Ok reply)
-    = (let locks : ℕ = try_locks (Ok reply) in omega arith) in record {
-      tries = h.tries + 1;
-      some = omega arith;
-      alone = λ lone. absurd (crowd lone);
-      took = subst (TookAtMost u w) same (took_then u v w 1 (h.tries - 1 + try_locks (Ok reply)) first h.took);
-    }

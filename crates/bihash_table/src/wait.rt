@@ -25,31 +25,12 @@ impl<S: Shape> Sessions<S> {
         requires free { caller.old.seat.view.holds ≡ nothing_held }
         ensures { TellsUpdate ⟦<S as Shape>⟧ caller.old.seat caller.new.seat key.now (P.decision patch.now) result }
     {
-        if let Ok(reply) = self.try_update(caller, key, patch) {
-            return reply;
-        }
-        self.update_again(rt, caller, key, patch)
-    }
-
-    // An update that met another caller. It stands apart, so that the first try keeps nothing for it.
-    #[inline(never)]
-    fn update_again<P: Patch, R: Wait>(
-        &self,
-        rt: &R,
-        caller: &mut Caller<S>,
-        key: &S::Key,
-        patch: &P,
-    ) -> Reply
-        requires own { caller.old.seat.row ≡ self.now.row }
-        requires free { caller.old.seat.view.holds ≡ nothing_held }
-        ensures { TellsUpdate ⟦<S as Shape>⟧ caller.old.seat caller.new.seat key.now (P.decision patch.now) result }
-    {
         let backoff = Backoff::new();
         for _ in rt.forever() {
-            backoff.snooze();
             if let Ok(reply) = self.try_update(caller, key, patch) {
                 return reply;
             }
+            backoff.snooze();
         }
         unreachable!()
     }

@@ -4,7 +4,7 @@ use Rattle.bihash_steps.specs.Histories.{bucket_of}
 use Rattle.bihash_steps.specs.Seats.{with_view}
 use Rattle.bihash_table.specs.Promise.{IsContended}
 use Rattle.bihash_table.specs.Tries.{TookAtMost}
-use Rattle.bihash_table.proofs.sessions.Sessions.update_again.Given as goal
+use Rattle.bihash_table.proofs.sessions.Sessions.update.Given as goal
 
 -- each try so far was turned away and took one lock at most, and there was none where the caller is lone
 abbrev pub invariant-loop : goal.invariant-loop
