@@ -2,6 +2,7 @@ pub mod Deciders
 pub mod Filters
 pub mod Judged
 pub mod LazyPatches
+pub mod Liveness
 pub mod OneThread
 pub mod PacketFlows
 pub mod Passing

@@ -1,9 +1,10 @@
 //! What a packet does to its flow's session, where the rules are asked only if no session is live.
-ghost use Rattle.std.specs.Prelude.{◌≡◌, ◌<◌};
+ghost use Rattle.std.specs.Prelude.{◌≡◌, ◌<◌, ℕ, Bool, Option};
 ghost use Rattle.std.specs.Option.{ForSome};
 ghost use Rattle.packet_view.specs.Tuples.{tuple_facts};
 ghost use Rattle.acl_policy.specs.Matching.{IsDecision};
 ghost use Rattle.acl_policy.specs.Rules.{most_rules};
+ghost use Rattle.flow_filter.specs.Liveness.{IsForeseen};
 ghost use Rattle.flow_filter.specs.Readings.{Ruling};
 ghost use Rattle.flow_filter.specs.Filters.{policy_in};
 ghost use Rattle.flow_filter.specs.PacketFlows.{IsRulingOn};
@@ -23,15 +24,29 @@ use session_state::PacketPatch;
 use std::cell::Cell;
 use std::marker::{Brand, PhantomData};
 
-/// What the rules say of one packet, as proofs know it before the rules are asked.
+/// What the rules say of one packet, as proofs know it before the rules are asked, and which stored values are live
+/// sessions for it.
 pub trait HasRuling {
     ghost ruling: { Ruling };
+
+    ghost is_live: { Option ℕ → Bool };
 }
 
 impl HasRuling for Brand {
-    ghost use Rattle.std.specs.Prelude.{None};
+    ghost use Rattle.std.specs.Prelude.{None, false};
 
     ghost ruling = { None };
+
+    ghost is_live = { λ _. false };
+}
+
+/// What that packet found when it was asked last, and whether it is a live session.
+#[derive(Drop)]
+struct Seen<D: HasRuling> {
+    found: Option<u64>,
+    is_live: bool,
+    of: PhantomData<D>,
+    ghost told: { is_live ≡ D.is_live found },
 }
 
 /// What the rules said of that packet.
@@ -61,12 +76,14 @@ pub struct LazyPatch<'a, D: HasRuling> {
     filter: &'a ReadyFilter<'a>,
     packet: PacketFlow<'a>,
     decided: Cell<Option<Decided<D>>>,
+    seen: Cell<Option<Seen<D>>>,
+    ghost lives: { IsForeseen filter.now.times packet.moment D.is_live },
     ghost said: { (d : Ruling) → IsRulingOn (policy_in filter.now) packet d → d ≡ D.ruling },
 }
 
 impl<'a, D: HasRuling> LazyPatch<'a, D> {
     ghost use Rattle.std.specs.Prelude.{None};
-    ghost use Rattle.session_state.specs.Decisions.{patch_facts};
+    ghost use Rattle.session_state.specs.Decisions.{is_live_for, patch_facts};
     ghost use Rattle.flow_filter.specs.Deciders.{decider_of};
     ghost use Rattle.flow_filter.specs.PacketFlows.{update_by};
     ghost use Rattle.flow_filter.specs.Verdicts.{verdict_of};
@@ -75,13 +92,15 @@ impl<'a, D: HasRuling> LazyPatch<'a, D> {
 
     #[inline]
     pub fn new(filter: &'a ReadyFilter<'a>, packet: PacketFlow<'a>) -> LazyPatch<'a, D>
-        requires { IsRulingOn (policy_in filter.now) packet D.ruling }
+        requires ruling { IsRulingOn (policy_in filter.now) packet D.ruling }
+        requires lives { IsForeseen filter.now.times packet.moment D.is_live }
         ensures { facts_of ⟦<D as HasRuling>⟧ result ≡ (update_by filter.now.times packet.entry D.ruling).patch }
     {
         LazyPatch {
             filter,
             packet,
             decided: Cell::new(None),
+            seen: Cell::new(None),
         }
     }
 
@@ -131,18 +150,30 @@ impl<'a, D: HasRuling> LazyPatch<'a, D> {
         Decider::Rules(self.ruling())
     }
 
+    // Whether the value is a live session, which is known where the packet was asked with it last.
+    #[inline(always)]
+    fn is_live(&self, found: Option<u64>) -> bool
+        ensures { result ≡ is_live_for (facts_of ⟦<D as HasRuling>⟧ self.now) found }
+    {
+        if let Some(seen) = self.seen.replace(None) {
+            if seen.found == found {
+                return seen.is_live;
+            }
+        }
+        self.unruled().live_session(found).is_some()
+    }
+
     /// The verdict on the packet, by the reply to its update.
     #[inline]
     pub fn verdict(&self, reply: Reply) -> Verdict
         ensures { result ≡ verdict_of (facts_of ⟦<D as HasRuling>⟧ self.now) D.ruling (found_by reply) reply }
     {
-        match self.decider(found_in(reply)) {
-            Decider::Session(_) => Verdict::Session,
-            Decider::Rules(ruling) => {
-                let patch = patch_of(&self.filter.times, &self.packet, ruling);
-                verdict_without_session(&patch, ruling, reply)
-            }
+        if self.is_live(found_in(reply)) {
+            return Verdict::Session;
         }
+        let ruling = self.ruling();
+        let patch = patch_of(&self.filter.times, &self.packet, ruling);
+        verdict_without_session(&patch, ruling, reply)
     }
 }
 
@@ -155,7 +186,13 @@ impl<'a, D: HasRuling> Patch for LazyPatch<'a, D> {
 
     #[inline(always)]
     fn decide(&self, old: Option<u64>) -> Change {
-        match self.decider(old) {
+        let decider = self.decider(old);
+        self.seen.set(Some(Seen {
+            found: old,
+            is_live: matches!(decider, Decider::Session(_)),
+            of: PhantomData,
+        }));
+        match decider {
             Decider::Session(session) => self.unruled().touch(session),
             Decider::Rules(ruling) => patch_of(&self.filter.times, &self.packet, ruling).decide(old),
         }

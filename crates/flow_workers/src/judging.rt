@@ -1,6 +1,7 @@
 //! The verdict on one packet, by one update at most.
 ghost use Rattle.packet_view.specs.Frames.{frame_facts};
 ghost use Rattle.flow_filter.specs.Filters.{policy_in};
+ghost use Rattle.flow_filter.specs.Liveness.{IsForeseen};
 ghost use Rattle.flow_workers.specs.Calls.{MayAsk, TellsVerdict, TellsVerdictTry};
 ghost use Rattle.flow_workers.specs.inner.Preparing.{IsRuling};
 ghost use Rattle.flow_workers.specs.inner.ViewedPackets.{TellsViewed, TellsViewedTry};
@@ -25,6 +26,7 @@ fn try_judge_as<A: Shape, B: Shape, D: HasRuling>(
 ) -> Result<Verdict, Contended>
     requires asks { MayAsk tables.now callers.old }
     requires ruling { IsRuling (policy_in filter.now) (frame_facts packet.now.frame.now) D.ruling }
+    requires lives { IsForeseen filter.now.times packet.now.moment D.is_live }
     ensures { TellsViewedTry filter.now packet.now tables.now callers.old callers.new result }
 {
     match Prepared::<D>::new(filter, packet) {
@@ -46,6 +48,7 @@ fn judge_as<A: Shape, B: Shape, D: HasRuling, R: Wait>(
 ) -> Verdict
     requires asks { MayAsk tables.now callers.old }
     requires ruling { IsRuling (policy_in filter.now) (frame_facts packet.now.frame.now) D.ruling }
+    requires lives { IsForeseen filter.now.times packet.now.moment D.is_live }
     ensures { TellsViewed filter.now packet.now tables.now callers.old callers.new result }
 {
     match Prepared::<D>::new(filter, packet) {

@@ -1,6 +1,7 @@
 //! A packet's update with the rules that are asked late.
 ghost use Rattle.std.specs.Prelude.{◌≡◌};
 ghost use Rattle.flow_filter.specs.Filters.{policy_in};
+ghost use Rattle.flow_filter.specs.Liveness.{IsForeseen};
 ghost use Rattle.flow_filter.specs.PacketFlows.{IsRulingOn};
 
 use super::{HasRuling, LazyPatch};
@@ -63,7 +64,8 @@ fn outcome_as<D: HasRuling>(
     reply: Reply,
     found: Option<u64>,
 ) -> Outcome
-    requires { IsRulingOn (policy_in filter.now) packet D.ruling }
+    requires ruling { IsRulingOn (policy_in filter.now) packet D.ruling }
+    requires lives { IsForeseen filter.now.times packet.moment D.is_live }
 {
     let patch = LazyPatch::<D>::new(filter, packet);
     let change = patch.decide(found);
