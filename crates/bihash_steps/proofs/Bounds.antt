@@ -30,6 +30,16 @@ front_is z log2 top listed sound el et ef =
     let f : u ≤ suc z.max_log2 * 16777216 = few_listed z (suc z.max_log2) sound in
     let a = sound.few_buckets in (omega arith, omega arith)
 
+-- the words before the page words
+pub pages_are : (z : Sizes) (front buckets : ℕ) → IsSound z → front ≡ front_words z → front < 1073741824 → buckets ≡ z.log2_buckets
+    → (front + 1 * 2 ^ buckets % 18446744073709551616 ≡ front_words z + 2 ^ z.log2_buckets)
+    × (front + 1 * 2 ^ buckets % 18446744073709551616 < 2147483648)
+pages_are z front buckets sound ef few eb =
+    let p : 2 ^ buckets ≡ 2 ^ z.log2_buckets = ap (λ (k : ℕ). 2 ^ k) eb in
+    let b = few_buckets z sound in
+    let w : ℕ = 2 ^ buckets in let v : ℕ = 2 ^ z.log2_buckets in
+    let e : w ≡ v = p in let c : v ≤ 16777216 = b in (omega arith, omega arith)
+
 -- all words of a row
 pub row_is : (z : Sizes) (front buckets pages words : ℕ) → IsSound z → front ≡ front_words z → front < 1073741824
     → buckets ≡ z.log2_buckets → pages ≡ z.pages → words ≡ z.key_words

@@ -6,7 +6,7 @@ ghost use Rattle.bihash_steps.specs.Callers.{IsLawfulCaller};
 ghost use Rattle.bihash_steps.specs.Views.{first_view};
 
 use crate::faults::CreateFault;
-use crate::places::{front_words, row_words};
+use crate::places::row_words;
 use crate::row::{Caller, CallerSeat, Row};
 use crate::scratch::Scratch;
 use atomic_table::Table;
@@ -34,13 +34,7 @@ pub fn open_row<S: Shape>(alloc: Global) -> Result<(Row<S>, Caller<S>), CreateFa
     let scratch = Scratch::reserve(alloc)?;
     let words = fresh_words::<S>(alloc)?;
     let (table, seat) = Table::of_words(alloc, words.as_slice(), &())?;
-    let buckets_at = front_words::<S>();
-    let pages_at = buckets_at + (1 << S::LOG2_BUCKETS);
-    let row = Row {
-        table,
-        buckets_at,
-        pages_at,
-    };
+    let row = Row { table };
     let seat = CallerSeat {
         seat,
         numbers: 1,

@@ -16,7 +16,9 @@ pub(crate) const ALLOCATION_LOCK: usize = 1;
 
 pub(crate) const USED_MARK: usize = 2;
 
-// How many words the lists of returned blocks of all smaller log2 have together.
+// How many words the lists of returned blocks of all smaller log2 have together. Compiled into its callers it is a
+// number, so that no step loads where a word stands.
+#[inline(always)]
 fn lists_words<S: Shape>(log2: u64) -> usize
     requires sound { IsSound (sizes_of S.Shape) }
     requires small { log2 ≤ S.MAX_LOG2 + 1 }
@@ -30,12 +32,23 @@ fn lists_words<S: Shape>(log2: u64) -> usize
 }
 
 /// How many words stand before the bucket words: the counts and locks, and the lists.
+#[inline(always)]
 pub(crate) fn front_words<S: Shape>() -> usize
     requires sound { IsSound (sizes_of S.Shape) }
     ensures words { result ≡ Words.front_words (sizes_of S.Shape) }
     ensures few { result < 2 ^ 30 }
 {
     4 + S::MAX_LOG2 as usize + lists_words::<S>(S::MAX_LOG2 + 1)
+}
+
+/// How many words stand before the page words.
+#[inline(always)]
+fn pages_front<S: Shape>() -> usize
+    requires sound { IsSound (sizes_of S.Shape) }
+    ensures words { result ≡ Words.front_words (sizes_of S.Shape) + buckets (sizes_of S.Shape) }
+    ensures few { result < 2 ^ 31 }
+{
+    front_words::<S>() + (1 << S::LOG2_BUCKETS)
 }
 
 /// How many words a row has.
@@ -54,7 +67,9 @@ impl<S: Shape> Row<S> {
         ensures place { result ≡ Words.bucket_at (sizes_of S.Shape) bucket }
         ensures inside { result < self.now.words }
     {
-        self.buckets_at + bucket
+        // That the sizes are sound is in the invariant of a row.
+        let _ = &self.table;
+        front_words::<S>() + bucket
     }
 
     /// Word k of the block that begins at this page.
@@ -64,7 +79,9 @@ impl<S: Shape> Row<S> {
         ensures place { result ≡ Words.page_at (sizes_of S.Shape) page + k }
         ensures inside { result < self.now.words }
     {
-        self.pages_at + (page - 1) as usize * (4 * (S::WORDS + 1)) + k
+        // That the sizes are sound is in the invariant of a row.
+        let _ = &self.table;
+        pages_front::<S>() + (page - 1) as usize * (4 * (S::WORDS + 1)) + k
     }
 
     /// The count of the returned blocks of this log2.

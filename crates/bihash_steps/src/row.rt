@@ -2,7 +2,6 @@
 ghost use Rattle.std.specs.Prelude.{◌≡◌, ◌+◌, []};
 ghost use Rattle.atomic_table.specs.Seated.{TableId};
 ghost use Rattle.bihash_words.specs.Sizes.{sizes_of};
-ghost use Rattle.bihash_steps.specs.Words.{front_words, buckets};
 ghost use Rattle.bihash_steps.specs.Seats.{CallerState, caller_state, IsRow, CanAct, stamp_of};
 ghost use Rattle.bihash_steps.specs.Views.{first_view};
 ghost use Rattle.bihash_steps.specs.WordRule.{WordRule};
@@ -29,9 +28,6 @@ impl<S: Shape> TableRule<(), View, ()> for RowRule<S> {
 #[derive(Drop)]
 pub struct Row<S: Shape> {
     pub(crate) table: Table<(), View, (), RowRule<S>, Global>,
-    // Where the bucket words begin, and where the page words do.
-    pub(crate) buckets_at: usize,
-    pub(crate) pages_at: usize,
 }
 
 impl<S: Shape> Model for Row<S> {
@@ -39,9 +35,7 @@ impl<S: Shape> Model for Row<S> {
 
     ghost view = { λ r. r.table.shared.table_id };
 
-    ghost invariant = { λ r. IsRow (sizes_of S.Shape) r.table.shared.table_id
-        × (r.buckets_at ≡ front_words (sizes_of S.Shape))
-        × (r.pages_at ≡ front_words (sizes_of S.Shape) + buckets (sizes_of S.Shape)) };
+    ghost invariant = { λ r. IsRow (sizes_of S.Shape) r.table.shared.table_id };
 }
 
 /// The seat of a caller at one table. Contracts see its row and what the caller knows.

@@ -7,7 +7,7 @@ use Rattle.bihash_steps.proofs.row.Row.bucket_at.Goals as goal
 pub overflow_add-result : goal.overflow_add-result
 overflow_add-result g c =
     let z = sizes_of g.S.Shape in
-    let few = few_words z c.self.invariant.0.sound in
-    let at = c.self.invariant.1 in
+    let few = few_words z c.self.invariant.sound in
+    let at = c.front_words.ensures.words in
     let inside = c.requires in
     let pages : ℕ = z.pages * page_words z in omega arith

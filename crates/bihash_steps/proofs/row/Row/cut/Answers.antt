@@ -10,7 +10,7 @@ use Rattle.bihash_steps.proofs.row.Row.cut.Goals as goal
 pub split_seat-seat-requires : goal.split_seat-seat-requires
 split_seat-seat-requires g c = (
   search rules,
-  rw c.self.invariant.0.wide (some_words _),
+  rw c.self.invariant.wide (some_words _),
   splits_numbers _ _ _ _
       (ap (λ (k : CallerState). k.view.holds) c.caller.view_is ∙ c.requires.may.free),
 )

@@ -5,4 +5,4 @@ use Rattle.bihash_steps.proofs.SeatCounts.{can_act}
 use Rattle.bihash_steps.proofs.row.Row.load_count.Goals as goal
 
 pub load-requires : goal.load-requires
-load-requires g c = (search rules, rw c.self.invariant.0.wide (some_words _), loads_count _ _ _ _ (can_act _ _ c.caller.invariant.1))
+load-requires g c = (search rules, rw c.self.invariant.wide (some_words _), loads_count _ _ _ _ (can_act _ _ c.caller.invariant.1))

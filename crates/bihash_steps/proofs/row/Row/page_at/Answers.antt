@@ -7,8 +7,8 @@ use Rattle.bihash_steps.proofs.row.Row.page_at.Goals as goal
 pub overflow_add-result-2 : goal.overflow_add-result-2
 overflow_add-result-2 g c =
     let z = sizes_of g.S.Shape in
-    let few = few_words z c.self.invariant.0.sound in
-    let at = c.self.invariant.2 in
+    let few = few_words z c.self.invariant.sound in
+    let at = c.pages_front.ensures.words in
     let inside = c.requires.inside in
     let same = ap (λ (words : ℕ). (c.args.page - 1) * (4 * (words + 1))) c.WORDS.ensures in
     let x : ℕ = (c.args.page - 1) * (4 * (c.WORDS.result + 1)) in
@@ -18,8 +18,8 @@ overflow_add-result-2 g c =
 pub overflow_add-result-3 : goal.overflow_add-result-3
 overflow_add-result-3 g c =
     let z = sizes_of g.S.Shape in
-    let few = few_words z c.self.invariant.0.sound in
-    let at = c.self.invariant.2 in
+    let few = few_words z c.self.invariant.sound in
+    let at = c.pages_front.ensures.words in
     let inside = c.requires.inside in
     let same = ap (λ (words : ℕ). (c.args.page - 1) * (4 * (words + 1))) c.WORDS.ensures in
     let x : ℕ = (c.args.page - 1) * (4 * (c.WORDS.result + 1)) in

@@ -13,7 +13,7 @@ overflow_add-count g c =
     let z = sizes_of g.S.Shape in
     let room = c.requires.may.room in
     let few = div-le_self z.pages (2 ^ c.args.log2) in
-    let sound = c.self.invariant.0.sound.few_pages in
+    let sound = c.self.invariant.sound.few_pages in
     let words : ℕ = list_words z c.args.log2 in let all : words ≤ z.pages = few in omega arith
 
 pub store-requires : goal.store-requires

@@ -10,11 +10,11 @@ pub store-requires : goal.store-requires
 store-requires g c =
     let may = of_seat (λ v. MayTakeUnused (sizes_of g.S.Shape) v c.args.log2 c.args.used) c.caller.view_is c.requires.may in
     let left = c.requires.may.left in
-    let few = c.self.invariant.0.sound.few_pages in
+    let few = c.self.invariant.sound.few_pages in
     let x : ℕ = 2 ^ c.args.log2 in
     let number : c.args.used + 1 * x % 18446744073709551616 ≡ c.args.used + x = omega arith in (
       search rules,
-      rw c.self.invariant.0.wide (some_front _).1,
+      rw c.self.invariant.wide (some_front _).1,
       takes_unused_block _ _ _ _ _ _ _ may number (can_act _ _ c.caller.invariant.1),
     )
 
@@ -22,7 +22,7 @@ pub invariant_of-caller : goal.invariant_of-caller
 invariant_of-caller g c =
     let may = of_seat (λ v. MayTakeUnused (sizes_of g.S.Shape) v c.args.log2 c.args.used) c.caller.view_is c.requires.may in
     let left = c.requires.may.left in
-    let few = c.self.invariant.0.sound.few_pages in
+    let few = c.self.invariant.sound.few_pages in
     let x : ℕ = 2 ^ c.args.log2 in
     let number : c.args.used + 1 * x % 18446744073709551616 ≡ c.args.used + x = omega arith in
     counted_unused (sizes_of g.S.Shape) _ _ _ c.caller.inside.seat.me _ _ _ may number c.store.ensures.2 c.caller.invariant

@@ -9,6 +9,6 @@ pub store-requires : goal.store-requires
 store-requires g c =
     let n = c.requires.settled in (
       search rules,
-      rw c.self.invariant.0.wide (some_front _).0,
+      rw c.self.invariant.wide (some_front _).0,
       opens_store _ _ _ _ n.0 (ap (λ (k : CallerState). k.view.holds.store) c.caller.view_is ∙ n.1) n.2 (can_act _ _ c.caller.invariant.1),
     )

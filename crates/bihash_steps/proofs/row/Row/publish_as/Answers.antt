@@ -15,7 +15,7 @@ next-next-requires-clause-log2 g c =
     let may = c.requires.may.write in let is = c.log2.ensures _ may.fits may.stood in let fits = may.fits.log2 in omega arith
 
 pub next-next-requires-clause-version : goal.next-next-requires-clause-version
-next-next-requires-clause-version g c = version_rises _ _ _ _ _ c.requires.may.write c.self.invariant.0.sound
+next-next-requires-clause-version g c = version_rises _ _ _ _ _ c.requires.may.write c.self.invariant.sound
 
 pub store-requires : goal.store-requires
 store-requires g c =

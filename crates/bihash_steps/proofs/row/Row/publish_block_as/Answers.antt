@@ -10,14 +10,14 @@ use Rattle.bihash_steps.proofs.row.Row.publish_block_as.Goals as goal
 
 pub next-next-requires-clause-page : goal.next-next-requires-clause-page
 next-next-requires-clause-page g c =
-    let near = c.requires.may.near in let few = c.self.invariant.0.sound.few_pages in let some = pow_pos c.args.extent.log2 in omega arith
+    let near = c.requires.may.near in let few = c.self.invariant.sound.few_pages in let some = pow_pos c.args.extent.log2 in omega arith
 
 pub next-next-requires-clause-log2 : goal.next-next-requires-clause-log2
 next-next-requires-clause-log2 g c =
-    let small = c.requires.may.pairs.small in let few = c.self.invariant.0.sound.few_buckets in omega arith
+    let small = c.requires.may.pairs.small in let few = c.self.invariant.sound.few_buckets in omega arith
 
 pub next-next-requires-clause-version : goal.next-next-requires-clause-version
-next-next-requires-clause-version g c = version_rises _ _ _ _ _ c.requires.may.write c.self.invariant.0.sound
+next-next-requires-clause-version g c = version_rises _ _ _ _ _ c.requires.may.write c.self.invariant.sound
 
 pub store-requires : goal.store-requires
 store-requires g c =

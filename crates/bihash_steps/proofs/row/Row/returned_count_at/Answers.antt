@@ -10,5 +10,5 @@ returns-clause-inside g c =
     let z = sizes_of g.S.Shape in
     let few = front z in
     let small = c.requires in
-    let wide = ap (λ (t : TableId). t.words) (sym c.self.view_is) ∙ c.self.invariant.0.wide in
+    let wide = ap (λ (t : TableId). t.words) (sym c.self.view_is) ∙ c.self.invariant.wide in
     let pages : ℕ = z.pages * page_words z in omega arith

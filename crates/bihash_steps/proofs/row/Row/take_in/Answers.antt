@@ -12,7 +12,7 @@ join_seat-requires g c = (
   search rules,
   search rules,
   search rules,
-  rw c.self.invariant.0.wide (some_words _),
+  rw c.self.invariant.wide (some_words _),
   joins_numbers _ _ _ _ _ (let a = c.caller.invariant.1.count in let b = c.caller.invariant.1.some in omega arith)
       (let a = c.other.invariant.1.count in let b = c.other.invariant.1.some in omega arith)
       (ap (λ (k : CallerState). k.view.holds) c.caller.view_is ∙ c.requires.idle.free.0)
@@ -24,7 +24,7 @@ load-requires g c =
     let joined = ap (λ (m : ViewOfSeat). length m.0.records) c.join_seat.ensures.2 in
     let both = length-append c.caller.inside.seat.me.0.records c.other.inside.seat.me.0.records in
     let acts = can_act _ _ c.caller.invariant.1 in
-    (search rules, rw c.self.invariant.0.wide (some_words _), agrees_known _ _ _ _ (omega arith))
+    (search rules, rw c.self.invariant.wide (some_words _), agrees_known _ _ _ _ (omega arith))
 
 pub returns-clause-joined : goal.returns-clause-joined
 returns-clause-joined g c =
