@@ -195,7 +195,7 @@ one_fault text (TooMany n) (TooMany m) first second =
     ap TooMany (one_line IsSurplus IsSurplus IsSurplus-refuted IsSurplus-refuted (lines text) n m first.1 second.1).0
 
 -- What was read is the policy of a text that has one, and the fault of a text that has one, unless memory ran out.
-pub accepted : {A : Type 0} (view : A → PolicyFacts) (text : List ℕ) (result : Result A PolicyFault) → IsUtf8 text
+accepted : {A : Type 0} (view : A → PolicyFacts) (text : List ℕ) (result : Result A PolicyFault) → IsUtf8 text
     → IfOk result (λ read. AreLinesOf (lines text) (view read)) → IfErr result (LinesFail (lines text)) → (policy : PolicyFacts) → IsPolicyText text policy
     → MatchResult result (λ read. view read ≡ policy) (λ fault. fault ≡ Memory)
 accepted view text (Ok read) utf8 ok fault policy is = one_policy (lines text) (view read) policy ok is.1
@@ -204,7 +204,7 @@ accepted view text (Err NotUtf8) utf8 ok fault policy is = absurd fault
 accepted view text (Err (BadLine n)) utf8 ok fault policy is = absurd (policy_or_fault text policy (BadLine n) is (utf8, fault))
 accepted view text (Err (TooMany n)) utf8 ok fault policy is = absurd (policy_or_fault text policy (TooMany n) is (utf8, fault))
 
-pub refused : {A : Type 0} (view : A → PolicyFacts) (text : List ℕ) (result : Result A PolicyFault) → IsUtf8 text
+refused : {A : Type 0} (view : A → PolicyFacts) (text : List ℕ) (result : Result A PolicyFault) → IsUtf8 text
     → IfOk result (λ read. AreLinesOf (lines text) (view read)) → IfErr result (LinesFail (lines text)) → (fault : PolicyFault) → IsPolicyFault text fault
     → MatchResult result (λ _. ⊥) (λ found. (found ≡ fault) ⊎ (found ≡ Memory))
 refused view text (Ok read) utf8 ok found fault is = policy_or_fault text (view read) fault (utf8, ok) is
@@ -212,6 +212,16 @@ refused view text (Err Memory) utf8 ok found fault is = inr refl
 refused view text (Err NotUtf8) utf8 ok found fault is = absurd found
 refused view text (Err (BadLine n)) utf8 ok found fault is = inl (one_fault text (BadLine n) fault (utf8, found) is)
 refused view text (Err (TooMany n)) utf8 ok found fault is = inl (one_fault text (TooMany n) fault (utf8, found) is)
+
+-- The same of a text as it was decoded.
+pub answered : {A : Type 0} (view : A → PolicyFacts) (text decoded : List ℕ) (result : Result A PolicyFault) → (decoded ≡ text) × IsUtf8 text
+    → IfOk result (λ read. AreLinesOf (lines decoded) (view read)) → IfErr result (LinesFail (lines decoded))
+    → ((policy : PolicyFacts) → IsPolicyText text policy → MatchResult result (λ read. view read ≡ policy) (λ fault. fault ≡ Memory))
+    × ((fault : PolicyFault) → IsPolicyFault text fault → MatchResult result (λ _. ⊥) (λ found. (found ≡ fault) ⊎ (found ≡ Memory)))
+answered view text decoded result same ok fault =
+    let here = rw same.0 at ok in
+    let there = rw same.0 at fault in
+    (accepted view text result same.1 here there, refused view text result same.1 here there)
 
 -- Out of memory comes of a rule.
 pub wanting : {A : Type 0} (text : List ℕ) (result : Result A PolicyFault) → IsUtf8 text → IfErr result (LinesFail (lines text))

@@ -78,7 +78,7 @@ fn read_lines(alloc: Global, text: &str) -> Result<Policy, PolicyFault>
     Ok(policy)
 }
 
-/// AreLinesOf a policy from its text.
+/// Reads a policy from its text.
 ///
 /// An `Err` other than `Memory` names the first fault: bytes that aren't UTF-8 anywhere in the text,
 /// and else the first line that is wrong or one rule too many.

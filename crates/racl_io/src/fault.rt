@@ -19,11 +19,11 @@ pub enum Fault {
     TooLarge,
     #[error("no pcap or hex line")]
     NoCapture,
-    #[error("policy is not UTF-8")]
+    #[error("{}", PolicyFault::NotUtf8)]
     NotUtf8,
-    #[error("policy line {0} is wrong")]
+    #[error("{}", PolicyFault::BadLine(*.0))]
     BadLine(u64),
-    #[error("policy line {0} is one rule too many")]
+    #[error("{}", PolicyFault::TooMany(*.0))]
     TooMany(u64),
     #[error("bad hexadecimal")]
     Hex,

@@ -1,20 +1,14 @@
 use Rattle.acl_policy.specs.Policies.{policy_facts}
-use Rattle.acl_policy.proofs.TextLaws.{accepted, refused, wanting}
+use Rattle.acl_policy.proofs.TextLaws.{answered, wanting}
 use Rattle.acl_policy.proofs.reading.read_policy.Goals as goal
 
 pub returns-in-Ok-clause-accepts : goal.returns-in-Ok-clause-accepts
 returns-in-Ok-clause-accepts c =
-    let cases = c.in-Ok.ensures.cases in
-    let ok = rw cases.0 at c.read_lines.ensures.ok in
-    let fault = rw cases.0 at c.read_lines.ensures.fault in
-    accepted policy_facts c.args.text.now c.read_lines.result cases.1 ok fault
+    (answered policy_facts c.args.text.now _ c.read_lines.result c.in-Ok.ensures.cases c.read_lines.ensures.ok c.read_lines.ensures.fault).0
 
 pub returns-in-Ok-clause-refuses : goal.returns-in-Ok-clause-refuses
 returns-in-Ok-clause-refuses c =
-    let cases = c.in-Ok.ensures.cases in
-    let ok = rw cases.0 at c.read_lines.ensures.ok in
-    let fault = rw cases.0 at c.read_lines.ensures.fault in
-    refused policy_facts c.args.text.now c.read_lines.result cases.1 ok fault
+    (answered policy_facts c.args.text.now _ c.read_lines.result c.in-Ok.ensures.cases c.read_lines.ensures.ok c.read_lines.ensures.fault).1
 
 pub returns-in-Ok-clause-memory : goal.returns-in-Ok-clause-memory
 returns-in-Ok-clause-memory c =
