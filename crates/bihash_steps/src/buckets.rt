@@ -10,7 +10,7 @@ ghost use Rattle.bihash_steps.specs.Seats.{Becomes, IsAt, with_view};
 use crate::event::Event;
 use crate::row::{CallerSeat, Row};
 use crate::view::Extent;
-use bihash_words::{BucketWord, Shape};
+use bihash_words::{BlockSize, BucketWord, Shape};
 use std::marker::Brand;
 
 mod plays;
@@ -192,7 +192,7 @@ impl<S: Shape> Row<S> {
         ensures { Becomes (sizes_of S.Shape) caller.old (view_after_write caller.old.view E.call) caller.new }
     {
         let shared = &self.table.shared;
-        let next = word.next(word.page(), word.log2(), word.linear());
+        let next = word.next(word.page(), word.block_size());
         shared.store::<Publishes<S, E>>(&mut caller.seat, self.bucket_at(bucket), next.to_word());
         caller.stamp = Some((bucket as u64, word.version() + 1));
     }
@@ -230,7 +230,8 @@ impl<S: Shape> Row<S> {
         ensures { Becomes (sizes_of S.Shape) caller.old (view_after_replace caller.old.view E.call) caller.new }
     {
         let shared = &self.table.shared;
-        let next = word.next(extent.page, extent.log2, extent.linear);
+        let Extent { page, log2, linear } = extent;
+        let next = word.next(page, BlockSize { log2, linear });
         shared.store::<Replaces<S, E>>(&mut caller.seat, self.bucket_at(bucket), next.to_word());
         caller.stamp = Some((bucket as u64, word.version() + 1));
     }

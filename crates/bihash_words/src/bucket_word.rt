@@ -36,15 +36,15 @@ impl BucketWord {
     }
 
     /// The word of these fields.
-    pub fn pack(page: u64, log2: u64, linear: bool, locked: bool, version: u64) -> BucketWord
+    pub fn pack(page: u64, size: BlockSize, locked: bool, version: u64) -> BucketWord
         requires page { page < 2 ^ 24 }
-        requires log2 { log2 < 2 ^ 5 }
+        requires log2 { size.log2 < 2 ^ 5 }
         requires version { version < 2 ^ 33 }
-        ensures { result ≡ packed (record { page = page; log2 = log2; linear = linear; locked = locked; version = version }) }
+        ensures { result ≡ packed (record { page = page; log2 = size.log2; linear = size.linear; locked = locked; version = version }) }
     {
-        let linear = u64::from(linear);
+        let linear = u64::from(size.linear);
         let locked = u64::from(locked);
-        BucketWord(page + (log2 << 24) + (linear << 29) + (locked << 30) + (version << 31))
+        BucketWord(page + (size.log2 << 24) + (linear << 29) + (locked << 30) + (version << 31))
     }
 
     /// The number of the block's first page, 0 where the bucket has no block.
@@ -103,14 +103,14 @@ impl BucketWord {
     }
 
     /// The unlocked word after one more change, with this block.
-    pub fn next(self, page: u64, log2: u64, linear: bool) -> BucketWord
+    pub fn next(self, page: u64, size: BlockSize) -> BucketWord
         requires page { page < 2 ^ 24 }
-        requires log2 { log2 < 2 ^ 5 }
+        requires log2 { size.log2 < 2 ^ 5 }
         requires version { version_of self < 2 ^ 33 - 1 }
         ensures { (b : Bucket) → Fits b → self ≡ packed b
-            → result ≡ packed (record { page = page; log2 = log2; linear = linear; locked = false; version = b.version + 1 }) }
+            → result ≡ packed (record { page = page; log2 = size.log2; linear = size.linear; locked = false; version = b.version + 1 }) }
     {
         let version = self.0 >> 31;
-        BucketWord::pack(page, log2, linear, false, version + 1)
+        BucketWord::pack(page, size, false, version + 1)
     }
 }

@@ -10,7 +10,7 @@ const fn block(log2: u64, linear: bool) -> BlockSize {
 
 #[test]
 fn bucket_words(rt: HostRuntime) {
-    let word = BucketWord::pack(5, 1, true, false, 6);
+    let word = BucketWord::pack(5, block(1, true), false, 6);
     assert_eq!(rt; word.to_word(), 0x3_2100_0005);
     assert_eq!(rt; word.with_lock().to_word(), 0x3_6100_0005);
     assert_eq!(rt; word.with_lock().with_lock().to_word(), 0x3_6100_0005);
@@ -31,10 +31,10 @@ fn bucket_words(rt: HostRuntime) {
 
 #[test]
 fn next_word(rt: HostRuntime) {
-    let word = BucketWord::pack(5, 1, true, false, 6);
-    assert_eq!(rt; word.next(5, 1, true).to_word(), 0x3_a100_0005);
-    let locked = BucketWord::pack(5, 1, true, true, 6);
-    assert_eq!(rt; locked.next(0, 0, false).to_word(), 0x3_8000_0000);
+    let word = BucketWord::pack(5, block(1, true), false, 6);
+    assert_eq!(rt; word.next(5, block(1, true)).to_word(), 0x3_a100_0005);
+    let locked = BucketWord::pack(5, block(1, true), true, 6);
+    assert_eq!(rt; locked.next(0, block(0, false)).to_word(), 0x3_8000_0000);
 }
 
 #[test]

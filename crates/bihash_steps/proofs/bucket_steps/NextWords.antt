@@ -1,5 +1,6 @@
 -- The word of a bucket after a write, and the stamp that its caller keeps.
 use Rattle.std.proofs.Common.{◌≡◌, ℕ, ◌+◌, ◌-◌, ◌^◌, ◌<◌, Bool, true, false, length, sym, ap, ◌∙◌, arith, Option, Some}
+use Rattle.bihash_words.specs.declared.block_size.BlockSize.{BlockSize}
 use Rattle.bihash_words.specs.Sizes.{Sizes, IsSound}
 use Rattle.bihash_words.specs.Words.{Bucket, Fits, packed, version_of}
 use Rattle.bihash_steps.specs.Callers.{known_at}
@@ -19,11 +20,12 @@ version_is page log2 version true p l = omega arith
 version_is page log2 version false p l = omega arith
 
 -- the word of an extent, by its fields
-pub next_is : (e : Extent) (page log2 version next : ℕ) (linear : Bool) → page ≡ e.page → log2 ≡ e.log2 → linear ≡ e.linear
-    → next ≡ packed (record { page = page; log2 = log2; linear = linear; locked = false; version = version })
+pub next_is : (e : Extent) (page version next : ℕ) (size : BlockSize) → page ≡ e.page
+    → size ≡ record { log2 = e.log2; linear = e.linear }
+    → next ≡ packed (record { page = page; log2 = size.log2; linear = size.linear; locked = false; version = version })
     → next ≡ packed (word_of e false version)
-next_is e page log2 version next linear p l n is =
-    is ∙ (λ i. packed (record { page = p i; log2 = l i; linear = n i; locked = false; version = version }))
+next_is e page version next size p s is =
+    is ∙ (λ i. packed (record { page = p i; log2 = (s i).log2; linear = (s i).linear; locked = false; version = version }))
 
 module _ (z : Sizes) (v : View) (b word : ℕ) (c : Call) (may : MayWrite z v b word c) where
   -- the bucket's version may rise

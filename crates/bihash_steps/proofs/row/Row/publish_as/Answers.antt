@@ -1,4 +1,5 @@
-use Rattle.std.proofs.Common.{rules, refl, arith, ◌∙◌}
+use Rattle.std.proofs.Common.{ap, rules, refl, arith, ◌∙◌}
+use Rattle.bihash_words.specs.declared.block_size.BlockSize.{BlockSize}
 use Rattle.bihash_words.specs.Sizes.{sizes_of}
 use Rattle.bihash_steps.specs.BucketSteps.{MayPublish, view_after_write}
 use Rattle.bihash_steps.proofs.Addresses.{publishes_at}
@@ -12,7 +13,7 @@ next-next-requires-clause-page g c =
 
 pub next-next-requires-clause-log2 : goal.next-next-requires-clause-log2
 next-next-requires-clause-log2 g c =
-    let may = c.requires.may.write in let is = c.log2.ensures _ may.fits may.stood in let fits = may.fits.log2 in omega arith
+    let may = c.requires.may.write in let is = ap (λ (s : BlockSize). s.log2) (c.block_size.ensures _ may.fits may.stood) in let fits = may.fits.log2 in omega arith
 
 pub next-next-requires-clause-version : goal.next-next-requires-clause-version
 next-next-requires-clause-version g c = version_rises _ _ _ _ _ c.requires.may.write c.self.invariant.sound
@@ -25,8 +26,8 @@ store-requires g c =
       search rules,
       search rules,
       publishes_at _ _ _ _ _ _ _ _ _ may c.bucket_at.ensures.place (can_act _ _ c.caller.invariant.1)
-          (c.to_word.ensures ∙ next_is may.write.lock.extent _ _ _ _ _ (c.page.ensures _ fits stood) (c.log2.ensures _ fits stood)
-          (c.linear.ensures _ fits stood) (c.next-next.ensures _ fits stood)),
+          (c.to_word.ensures ∙ next_is may.write.lock.extent _ _ _ _ (c.page.ensures _ fits stood) (c.block_size.ensures _ fits stood)
+          (c.next-next.ensures _ fits stood)),
     )
 
 pub overflow_add-caller : goal.overflow_add-caller
