@@ -1,4 +1,3 @@
-pub mod Deciders
 pub mod HomeLemmas
 pub mod OneThreadLemmas
 pub mod OrderLemmas

@@ -140,9 +140,7 @@ impl<'a, D: HasRuling> LazyPatch<'a, D> {
     // The rules are asked here alone.
     #[inline(always)]
     fn decider(&self, found: Option<u64>) -> Decider
-        ensures is { result ≡ decider_of (facts_of ⟦<D as HasRuling>⟧ self.now) found D.ruling }
-        ensures few { (ruling : Ruling) → result ≡ Decider.Rules ruling
-            → ForSome ruling (λ decided. decided.0 < most_rules) }
+        ensures { result ≡ decider_of (facts_of ⟦<D as HasRuling>⟧ self.now) found D.ruling }
     {
         if let Some(session) = self.unruled().live_session(found) {
             return Decider::Session(session);
