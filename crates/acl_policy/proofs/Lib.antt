@@ -1,6 +1,4 @@
 pub mod ColonLaws
-pub mod DecisionLaws
-pub mod DecisionLemmas
 pub mod GroupLaws
 pub mod GroupLemmas
 pub mod LineLaws
@@ -15,6 +13,8 @@ pub mod PrefixBits
 pub mod PrefixLaws
 pub mod RangeLaws
 pub mod ReadingLaws
+pub mod RulingLaws
+pub mod RulingLemmas
 pub mod TextLaws
 pub mod TrafficLaws
 pub mod WordLemmas

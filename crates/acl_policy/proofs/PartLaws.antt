@@ -3,14 +3,14 @@ use Rattle.std.proofs.Common.{◌≡◌, ℕ, false, List, [], ◌∷◌, ◌++�
 use Rattle.std.specs.Prelude.{option_map}
 use Rattle.std.specs.Str.{bytes_eq}
 use Rattle.acl_policy.specs.inner.Reading.{next_in}
-use Rattle.acl_policy.specs.inner.Reading.Traffic.{behind_in, flags_in, part_in, range_in, ranges_in, value_in}
+use Rattle.acl_policy.specs.inner.Reading.Traffic.{after_in, flags_in, part_in, range_in, ranges_in, value_in}
 use Rattle.acl_policy.specs.Traffic.{IsFlags, IsPart, IsRange, every}
 use Rattle.acl_policy.proofs.OptionLemmas.{bind_some, bytes_eq-same, bytes_eq-true, guarded, map_some, next_in-some, same_some}
 use Rattle.acl_policy.proofs.RangeLaws.{flags_in-complete, flags_in-sound, range_in-complete, range_in-sound}
 
-behind_in-sound : (name : List ℕ) (words rest : List (List ℕ)) → behind_in name words ≡ Some rest → words ≡ name ∷ rest
-unfolding behind_in
-behind_in-sound name words rest found =
+after_in-sound : (name : List ℕ) (words rest : List (List ℕ)) → after_in name words ≡ Some rest → words ≡ name ∷ rest
+unfolding after_in
+after_in-sound name words rest found =
     let next = bind_some (next_in words) _ rest found in
     let named = guarded (bytes_eq next.0.0 name) next.0.1 rest next.2 in
     next_in-some words next.0.0 next.0.1 next.1 ∙ ap (λ (w : List ℕ). w ∷ next.0.1) (bytes_eq-true next.0.0 name named.0) ∙ ap (λ (ws : List (List ℕ)). name ∷ ws) named.1
@@ -20,14 +20,14 @@ abbrev pub StartsOtherwise : List ℕ → List (List ℕ) → Type 0
 StartsOtherwise name [] = Unit {0}
 StartsOtherwise name (word ∷ words) = bytes_eq word name ≡ false
 
-behind_in-none : (name : List ℕ) (words : List (List ℕ)) → StartsOtherwise name words → behind_in name words ≡ None
-unfolding behind_in
-behind_in-none name [] other = refl
-behind_in-none name (word ∷ words) other = rw other refl
+after_in-none : (name : List ℕ) (words : List (List ℕ)) → StartsOtherwise name words → after_in name words ≡ None
+unfolding after_in
+after_in-none name [] other = refl
+after_in-none name (word ∷ words) other = rw other refl
 
-behind_in-complete : (name word : List ℕ) (words : List (List ℕ)) → word ≡ name → behind_in name (word ∷ words) ≡ Some words
-unfolding behind_in
-behind_in-complete name word words same = rw (bytes_eq-same word name same) refl
+after_in-complete : (name word : List ℕ) (words : List (List ℕ)) → word ≡ name → after_in name (word ∷ words) ≡ Some words
+unfolding after_in
+after_in-complete name word words same = rw (bytes_eq-same word name same) refl
 
 -- what a reader of the value of a part is to do
 pub record ReadsValue (read : List ℕ → Option (ℕ × ℕ)) (IsValue : List ℕ → ℕ × ℕ → Type 0) : Type 0 where
@@ -47,7 +47,7 @@ pub record HasPart (name : List ℕ) (IsValue : List ℕ → ℕ × ℕ → Type
   pub is : IsPart name IsValue usual part found.0
 
 value_in-sound : (name : List ℕ) (read : List ℕ → Option (ℕ × ℕ)) (IsValue : List ℕ → ℕ × ℕ → Type 0) (usual : ℕ × ℕ) (words : List (List ℕ))
-    (behind : Option (List (List ℕ))) (found : (ℕ × ℕ) × List (List ℕ)) → ReadsValue read IsValue → behind_in name words ≡ behind
+    (behind : Option (List (List ℕ))) (found : (ℕ × ℕ) × List (List ℕ)) → ReadsValue read IsValue → after_in name words ≡ behind
     → value_in read usual words behind ≡ Some found → HasPart name IsValue usual words found
 value_in-sound name read IsValue usual words None found reads named given =
     let same = same_some {A = (ℕ × ℕ) × List (List ℕ)} (usual, words) found given in
@@ -61,7 +61,7 @@ value_in-sound name read IsValue usual words (Some rest) found reads named given
     let value = map_some {B = (ℕ × ℕ) × List (List ℕ)} (λ value. (value, next.0.1)) (read next.0.0) found next.2 in
     record {
       part = name ∷ next.0.0 ∷ [];
-      split = behind_in-sound name words rest named ∙ ap (λ (ws : List (List ℕ)). name ∷ ws) (next_in-some rest next.0.0 next.0.1 next.1)
+      split = after_in-sound name words rest named ∙ ap (λ (ws : List (List ℕ)). name ∷ ws) (next_in-some rest next.0.0 next.0.1 next.1)
           ∙ ap (λ (f : (ℕ × ℕ) × List (List ℕ)). name ∷ next.0.0 ∷ f.1) (sym value.2);
       is = (refl, subst (λ (f : (ℕ × ℕ) × List (List ℕ)). IsValue next.0.0 f.0) (sym value.2) (reads.sound next.0.0 value.0 value.1));
     }
@@ -69,16 +69,16 @@ value_in-sound name read IsValue usual words (Some rest) found reads named given
 pub part_in-sound : (name : List ℕ) (read : List ℕ → Option (ℕ × ℕ)) (IsValue : List ℕ → ℕ × ℕ → Type 0) (usual : ℕ × ℕ) (words : List (List ℕ))
     (found : (ℕ × ℕ) × List (List ℕ)) → ReadsValue read IsValue → part_in name read usual words ≡ Some found → HasPart name IsValue usual words found
 unfolding part_in
-part_in-sound name read IsValue usual words found reads given = value_in-sound name read IsValue usual words (behind_in name words) found reads refl given
+part_in-sound name read IsValue usual words found reads given = value_in-sound name read IsValue usual words (after_in name words) found reads refl given
 
 pub part_in-complete : (name : List ℕ) (read : List ℕ → Option (ℕ × ℕ)) (IsValue : List ℕ → ℕ × ℕ → Type 0) (usual : ℕ × ℕ) (part rest : List (List ℕ))
     (value : ℕ × ℕ) → ReadsValue read IsValue → IsPart name IsValue usual part value → StartsOtherwise name rest → part_in name read usual (part ++ rest) ≡ Some (value, rest)
 unfolding part_in
 part_in-complete name read IsValue usual [] rest value reads is other =
-    ap (value_in read usual rest) (behind_in-none name rest other) ∙ ap (λ (v : ℕ × ℕ). Some (v, rest)) (sym is)
+    ap (value_in read usual rest) (after_in-none name rest other) ∙ ap (λ (v : ℕ × ℕ). Some (v, rest)) (sym is)
 part_in-complete name read IsValue usual (word ∷ []) rest value reads is other = absurd is
 part_in-complete name read IsValue usual (word ∷ text ∷ []) rest value reads is other =
-    ap (value_in read usual (word ∷ text ∷ rest)) (behind_in-complete name word (text ∷ rest) is.0)
+    ap (value_in read usual (word ∷ text ∷ rest)) (after_in-complete name word (text ∷ rest) is.0)
     ∙ ap (option_map {U = (ℕ × ℕ) × List (List ℕ)} (λ value. (value, rest))) (reads.complete text value is.1)
 part_in-complete name read IsValue usual (word ∷ text ∷ third ∷ more) rest value reads is other = absurd is
 

@@ -223,7 +223,7 @@ answered view text decoded result same ok fault =
     let there = rw same.0 at fault in
     (accepted view text result same.1 here there, refused view text result same.1 here there)
 
--- Out of memory comes of a rule.
+-- Memory runs out at a rule.
 pub wanting : {A : Type 0} (text : List ℕ) (result : Result A PolicyFault) → IsUtf8 text → IfErr result (LinesFail (lines text))
     → IfErr result (λ fault. fault ≡ Memory → IsUtf8 text × HasRule (lines text))
 wanting text (Ok read) utf8 fault = tt

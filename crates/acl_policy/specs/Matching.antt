@@ -41,6 +41,6 @@ Decides rules tuple i action =
 abbrev pub DecidesByDefault : List RuleFacts → TupleFacts → Type 0
 DecidesByDefault rules tuple = (k : ℕ) (other : RuleFacts) → slice_get rules k ≡ Some other → Matches other tuple → ⊥
 
-abbrev pub IsDecision : List RuleFacts → TupleFacts → Option (ℕ × Action) → Type 0
-IsDecision rules tuple None = DecidesByDefault rules tuple
-IsDecision rules tuple (Some decision) = Decides rules tuple decision.0 decision.1
+abbrev pub IsRuling : List RuleFacts → TupleFacts → Option (ℕ × Action) → Type 0
+IsRuling rules tuple None = DecidesByDefault rules tuple
+IsRuling rules tuple (Some ruling) = Decides rules tuple ruling.0 ruling.1

@@ -91,7 +91,7 @@ HasRule texts =
 abbrev pub IsPolicyText : List ℕ → PolicyFacts → Type 0
 IsPolicyText text policy = IsUtf8 text × AreLinesOf (lines text) policy
 
--- The text has this fault, and none before it. Out of memory is no fault of a text.
+-- The text has this fault, and none before it. That memory ran out is no fault of a text.
 abbrev pub IsPolicyFault : List ℕ → PolicyFault → Type 0
 IsPolicyFault text Memory = ⊥
 IsPolicyFault text NotUtf8 = ¬ IsUtf8 text

@@ -2,7 +2,6 @@
 #![tactic(auto)]
 
 mod address;
-mod decision_laws;
 mod family;
 mod laws;
 mod line;
@@ -14,13 +13,14 @@ mod policy;
 mod prefix;
 mod reading;
 mod rule;
+mod ruling_laws;
 mod traffic;
 mod words;
 
-pub use decision_laws::rules_decide_each_packet;
 pub use family::width_of;
 pub use laws::one_reading;
 pub use matching::{first_match, is_match};
 pub use policy::{Policy, PolicyFault};
 pub use reading::read_policy;
 pub use rule::{Action, Rule};
+pub use ruling_laws::rules_decide_each_packet;

@@ -1,7 +1,7 @@
 //! Which rule decides a packet.
 ghost use Rattle.std.specs.Prelude.{◌≡◌, ◌≤◌, ◌<◌, ◌↔◌, ℕ, IsTrue, Option, map};
 ghost use Rattle.acl_policy.specs.declared.rule.Action.{Action};
-ghost use Rattle.acl_policy.specs.Matching.{HasFields, HoldsPrefix, IsDecision, IsIn, Matches};
+ghost use Rattle.acl_policy.specs.Matching.{HasFields, HoldsPrefix, IsRuling, IsIn, Matches};
 ghost use Rattle.acl_policy.specs.Rules.{rule_facts};
 ghost use Rattle.acl_policy.specs.Widths.{width};
 ghost use Rattle.packet_view.specs.Addresses.{address_limit};
@@ -63,9 +63,9 @@ pub fn is_match(rule: &Rule, tuple: &Tuple) -> bool
 
 /// The first rule that matches, by its place from 0, and what it does. `None`: no rule matches.
 pub fn first_match(rules: &[Rule], tuple: &Tuple) -> Option<(usize, Action)>
-    ensures decided { IsDecision (map rule_facts rules.now) (tuple_facts tuple.now) result }
+    ensures decided { IsRuling (map rule_facts rules.now) (tuple_facts tuple.now) result }
     ensures only { (other : Option (ℕ × Action))
-        → IsDecision (map rule_facts rules.now) (tuple_facts tuple.now) other → other ≡ result }
+        → IsRuling (map rule_facts rules.now) (tuple_facts tuple.now) other → other ≡ result }
 {
     for (i, rule) in rules.iter().enumerate() {
         if is_match(rule, tuple) {

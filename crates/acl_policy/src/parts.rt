@@ -1,6 +1,6 @@
 //! The parts of a rule after its protocol: ranges of numbers, and flags.
 ghost use Rattle.std.specs.Prelude.{◌≡◌, ◌≤◌, IfSome, codes, option_map};
-ghost use Rattle.acl_policy.specs.inner.Reading.Traffic.{behind_in, flags_in, number_up_to_in, part_in, range_in, ranges_in};
+ghost use Rattle.acl_policy.specs.inner.Reading.Traffic.{after_in, flags_in, number_up_to_in, part_in, range_in, ranges_in};
 ghost use Rattle.acl_policy.specs.Traffic.{every};
 ghost use Rattle.acl_policy.specs.Words.{words_of};
 
@@ -50,9 +50,9 @@ fn flags_of(word: &[u8]) -> Option<(u8, u8)>
 }
 
 /// The text after a name. `None`: the first word is another, or there is none.
-#[tactic(auto, unfolding(crate::specs::inner::Reading::Traffic::behind_in))]
-fn behind_name<'a>(text: &'a [u8], name: &[u8]) -> Option<&'a [u8]>
-    ensures { option_map (λ rest. words_of rest.now) result ≡ behind_in name.now (words_of text.now) }
+#[tactic(auto, unfolding(crate::specs::inner::Reading::Traffic::after_in))]
+fn after_name<'a>(text: &'a [u8], name: &[u8]) -> Option<&'a [u8]>
+    ensures { option_map (λ rest. words_of rest.now) result ≡ after_in name.now (words_of text.now) }
 {
     let (word, rest) = next_word(text)?;
     if word == name { Some(rest) } else { None }
@@ -65,7 +65,7 @@ fn range_part<'a>(text: &'a [u8], name: &[u8], most: u16) -> Option<((u16, u16),
     ensures { option_map (λ r. (r.0, words_of r.1.now)) result
         ≡ part_in name.now (range_in most) every (words_of text.now) }
 {
-    let Some(rest) = behind_name(text, name) else {
+    let Some(rest) = after_name(text, name) else {
         return Some((EVERY, text));
     };
     let (word, rest) = next_word(rest)?;
@@ -80,7 +80,7 @@ pub fn flags_part(text: &[u8]) -> Option<((u8, u8), &[u8])>
     ensures { option_map (λ r. (r.0, words_of r.1.now)) result
         ≡ part_in (codes "flags") flags_in (0, 0) (words_of text.now) }
 {
-    let Some(rest) = behind_name(text, b"flags") else {
+    let Some(rest) = after_name(text, b"flags") else {
         return Some(((0, 0), text));
     };
     let (word, rest) = next_word(rest)?;

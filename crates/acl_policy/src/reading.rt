@@ -91,7 +91,7 @@ pub fn read_policy(alloc: Global, text: &[u8]) -> Result<Policy, PolicyFault>
         → IsUtf8 text.now × HasRule (lines text.now)) }
 
     // A text of a policy is refused only where memory ran out, and a text with a fault for that fault
-    // or out of memory.
+    // or that memory ran out.
     ensures accepts { (policy : PolicyFacts) → IsPolicyText text.now policy
         → MatchResult result (λ read. policy_facts read ≡ policy) (λ fault. fault ≡ PolicyFault.Memory) }
     ensures refuses { (fault : PolicyFault) → IsPolicyFault text.now fault

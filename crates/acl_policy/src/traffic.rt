@@ -77,7 +77,7 @@ fn protocol_flags(family: Family, proto: u8, text: &[u8]) -> Option<((u8, u8), &
 }
 
 #[tactic(auto, unfolding(crate::specs::inner::Reading::Traffic::parts_in))]
-fn parts_behind(family: Family, proto: u8, text: &[u8]) -> Option<Traffic>
+fn parts_after(family: Family, proto: u8, text: &[u8]) -> Option<Traffic>
     ensures { result ≡ parts_in (parts_of family proto) proto (words_of text.now) }
 {
     let (first, second, text) = protocol_ranges(family, proto, text)?;
@@ -110,5 +110,5 @@ pub fn traffic_of(family: Family, text: &[u8]) -> Option<Traffic>
         });
     };
     let proto = protocol_of(family, word)?;
-    parts_behind(family, proto, text)
+    parts_after(family, proto, text)
 }

@@ -73,8 +73,8 @@ module _ {A : Type 0} (moment : A → ℕ) where
       → 1 ≤ moment x → 1 ≤ moment y → moment x ≤ moment y
 
   -- after an element of a later moment none comes at this one
-  none_behind : (k : ℕ) (x : A) (xs : List A) → 1 ≤ k → AreOrdered (x ∷ xs) → k < moment x → at_moment k xs ≡ []
-  none_behind k x xs some_moment ordered more = filter_none (λ y. eqb (moment y) k) xs (λ i y at. elim (eqb_tells (moment y) k) [
+  none_after : (k : ℕ) (x : A) (xs : List A) → 1 ≤ k → AreOrdered (x ∷ xs) → k < moment x → at_moment k xs ≡ []
+  none_after k x xs some_moment ordered more = filter_none (λ y. eqb (moment y) k) xs (λ i y at. elim (eqb_tells (moment y) k) [
     | inl (is, h) ↦ let after = ordered 0 (suc i) x y (omega arith) refl at (omega arith) (omega arith) in absurd (omega arith)
     | inr (is, h) ↦ is
   ])
@@ -103,4 +103,4 @@ module _ {A : Type 0} (moment : A → ℕ) where
   by_moments k [] some_moment ordered = refl
   by_moments k (x ∷ xs) some_moment ordered = one_more k x (from_moment k xs) (at_moment k xs) (from_moment (k + 1) xs)
       (by_moments k xs some_moment (λ i j a b lt at_a at_b. ordered (suc i) (suc j) a b (omega arith) at_a at_b))
-      (none_behind k x xs some_moment ordered)
+      (none_after k x xs some_moment ordered)

@@ -15,7 +15,7 @@ use Rattle.bihash_steps.specs.declared.view.Call.{Call}
 use Rattle.bihash_steps.specs.declared.view.Record.{Record}
 use Rattle.bihash_steps.specs.declared.view.View.{View}
 use Rattle.bihash_steps.proofs.Lists.{there, within}
-use Rattle.bihash_laws.specs.Runs.{IsOneWriter, IsRun, calls_on, writes_behind}
+use Rattle.bihash_laws.specs.Runs.{IsOneWriter, IsRun, calls_on, writes_after}
 use Rattle.bihash_laws.proofs.MapSteps.{after_next, no_more, one_more, step_changes, step_leaves}
 
 module _ (z : Sizes) (b : ℕ) (opening : Pairs) (H : List Write) (by : ℕ) where
@@ -111,13 +111,13 @@ module _ (z : Sizes) (b : ℕ) (opening : Pairs) (H : List Write) (by : ℕ) whe
           let at : get_elem? H n ≡ some (write_of by c) = ap (get_elem? H) (sym place) ∙ o.2 in
           let leaves : answer.0 ≡ after opening H (n + 1) =
           step_changes (bounds_of z) (after opening H n) answer.0 n (event_of c) answer.1 wrote ∙ sym (after_next opening H n (write_of by c) at) in
-          let count : writes_behind n c ≡ n + 1 = one_more c.reply n wrote in
+          let count : writes_after n c ≡ n + 1 = one_more c.reply n wrote in
           let stamp : c.stamp ≡ n + 1 = o.1 ∙ ap (λ (p : ℕ). p + 1) place in
           let tail : AreLeft (n + 1) cs = tail_left c cs n (n + 1) left (omega arith) (omega arith) (λ p from _ _ is. omega arith)
           (λ k d at there. subst (λ (s : ℕ). (s ≤ d.stamp) × (is_changed d.reply ≡ true → s < d.stamp)) stamp (later k d at there)) in (
             answer.0,
             answer.1,
-            subst (λ (m : Pairs). End m (writes_behind n c) (calls_on b cs)) (sym leaves)
+            subst (λ (m : Pairs). End m (writes_after n c) (calls_on b cs)) (sym leaves)
                 (subst (λ (k : ℕ). End (after opening H (n + 1)) k (calls_on b cs)) (sym count) (rest (n + 1) tail)),
           )
 
@@ -126,12 +126,12 @@ module _ (z : Sizes) (b : ℕ) (opening : Pairs) (H : List Write) (by : ℕ) whe
           let stamp : c.stamp ≡ n = read_stamp c cs n left home kept in
           let answer : IsAnswer z (after opening H n) n c = subst (λ p. IsAnswer z (after opening H p) p c) stamp (legal.other kept) in
           let leaves : answer.0 ≡ after opening H n = step_leaves (bounds_of z) (after opening H n) answer.0 n (event_of c) answer.1 kept in
-          let count : writes_behind n c ≡ n = no_more c.reply n kept in
+          let count : writes_after n c ≡ n = no_more c.reply n kept in
           let tail : AreLeft n cs = tail_left c cs n n left (omega arith) left.passed
           (λ p from _ wrote _. let clash = sym kept ∙ wrote in let f : ⊥ = cc in f) (λ k d at. left.late (suc k) d at) in (
             answer.0,
             answer.1,
-            subst (λ (m : Pairs). End m (writes_behind n c) (calls_on b cs)) (sym leaves)
+            subst (λ (m : Pairs). End m (writes_after n c) (calls_on b cs)) (sym leaves)
                 (subst (λ (k : ℕ). End (after opening H n) k (calls_on b cs)) (sym count) (rest n tail)),
           )
 

@@ -16,7 +16,7 @@ use Rattle.bihash_steps.specs.declared.view.Write.{Write}
 use Rattle.bihash_steps.specs.declared.view.Call.{Call}
 use Rattle.bihash_steps.specs.declared.view.Record.{Record}
 use Rattle.bihash_steps.specs.declared.view.View.{View}
-use Rattle.bihash_laws.specs.Runs.{AreLegal, IsRun, calls_on, writes_behind}
+use Rattle.bihash_laws.specs.Runs.{AreLegal, IsRun, calls_on, writes_after}
 use Rattle.bihash_laws.specs.Serializations.{AreStamped, IsCalled, IsSerialization, Operation, calls_by, calls_in, writes_in}
 use Rattle.bihash_laws.proofs.MapSteps.{after_next, no_more, step_leaves}
 use Rattle.bihash_laws.proofs.Moments.{at_moment, by_moments, from_moment}
@@ -91,7 +91,7 @@ module _ (z : Sizes) (b : ℕ) (opening : Pairs) (H : List Write) (records : Lis
     run = (
       answer.0,
       answer.1,
-      subst (λ (p : Pairs). IsRun z p (writes_behind n t.call) (calls_in ts) last (length H)) (sym leaves)
+      subst (λ (p : Pairs). IsRun z p (writes_after n t.call) (calls_in ts) last (length H)) (sym leaves)
           (subst (λ (k : ℕ). IsRun z m k (calls_in ts) last (length H)) (sym count) good.run),
     );
     writes = ap (λ (s : Bool). map (λ (x : Operation). write_of x.by x.call) (cond s (t ∷ W) W)) reads.kept ∙ good.writes;
@@ -112,7 +112,7 @@ module _ (z : Sizes) (b : ℕ) (opening : Pairs) (H : List Write) (records : Lis
       leaves : answer.0 ≡ m
       leaves = step_leaves (bounds_of z) m answer.0 n (event_of t.call) answer.1 reads.kept
 
-      count : writes_behind n t.call ≡ n
+      count : writes_after n t.call ≡ n
       count = no_more t.call.reply n reads.kept
 
   reads_good : (n : ℕ) (m : Pairs) (ws : List Write) (ts us : List Operation) → m ≡ after opening H n → All (IsReadAt n) ts

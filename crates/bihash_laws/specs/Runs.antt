@@ -25,8 +25,8 @@ abbrev pub calls_on : ℕ → List Call → List Call
 calls_on b calls = filter (λ c. c.bucket == b) calls
 
 -- how many writes there are after a call that came after n writes
-abbrev pub writes_behind : ℕ → Call → ℕ
-writes_behind n c = n + writes_of c.reply
+abbrev pub writes_after : ℕ → Call → ℕ
+writes_after n c = n + writes_of c.reply
 
 -- The calls are a run of one bounded map: each is a step of the map that the one before it left. They lead
 -- from the map m after n writes to the map `last` after `writes`.

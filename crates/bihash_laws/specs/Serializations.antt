@@ -11,7 +11,7 @@ use Rattle.bihash_steps.specs.declared.view.Write.{Write}
 use Rattle.bihash_steps.specs.declared.view.Call.{Call}
 use Rattle.bihash_steps.specs.declared.view.Record.{Record}
 use Rattle.bihash_steps.specs.declared.view.View.{View}
-use Rattle.bihash_laws.specs.Runs.{IsCommonHistory, IsRun, calls_on, writes_behind}
+use Rattle.bihash_laws.specs.Runs.{IsCommonHistory, IsRun, calls_on, writes_after}
 
 -- a call, and the caller number under which it was made
 pub record Operation : Type 0 where
@@ -32,7 +32,7 @@ writes_in operations = map (λ t. write_of t.by t.call) (filter (λ t. is_change
 -- the stamp of each call is how many writes there are up to it and with it, where n stand before the first
 abbrev pub AreStamped : ℕ → List Call → Type 0
 AreStamped n [] = Unit {0}
-AreStamped n (c ∷ cs) = (c.stamp ≡ writes_behind n c) × AreStamped (writes_behind n c) cs
+AreStamped n (c ∷ cs) = (c.stamp ≡ writes_after n c) × AreStamped (writes_after n c) cs
 
 -- These operations on bucket b, one after the other, are what one bounded map answers. Each record finds just
 -- its own calls under its number, in its order. The writes are the history. Stamps never fall.

@@ -14,7 +14,7 @@ use Rattle.bihash_plan.specs.Searches.{IsOnlyPlan}
 use Rattle.bihash_plan.specs.Plans.{CanBecomeLinear, HasRoom, IsExhausted, IsGrowth, IsLinearSize, IsPlan, IsSplit, NeedsLinear, keys_of}
 use Rattle.bihash_plan.proofs.Counts.{count_by-all, count_by-missing}
 use Rattle.bihash_plan.proofs.Pairs.{is_taken-free, is_taken-pair}
-use Rattle.bihash_plan.proofs.Places.{block_sized, free_at, free_inside, free_value_at, key_inside}
+use Rattle.bihash_plan.proofs.Places.{block_sized, free_at, free_inside, free_value_at}
 
 pub exhausted : {K : Type 0} (paging : Paging K) (log2 : ℕ) (linear : Bool) (places : List (K × ℕ))
     (key : K)

@@ -1,5 +1,5 @@
 -- Lawful blocks: the places of a bucket, and where its pairs may stand. This is the table's own rule.
-use Rattle.std.specs.Prelude.{◌≡◌, ◌≢◌, ◌≤◌, ◌<◌, ◌⊎◌, ℕ, ◌-◌, ◌*◌, ◌/◌, ◌^◌, Bool, true, false, not, ◌==◌, List, length, filter, slice_get, Some}
+use Rattle.std.specs.Prelude.{◌≡◌, ◌≢◌, ◌≤◌, ◌<◌, ◌⊎◌, ℕ, ◌*◌, ◌/◌, ◌^◌, Bool, true, false, not, ◌==◌, List, length, filter, slice_get, Some}
 use Rattle.bihash_words.specs.Patches.{free_mark}
 use Rattle.bihash_plan.specs.Pages.{Paging, page_of}
 

@@ -3,7 +3,7 @@ use Rattle.std.specs.Prelude.{◌≡◌, ◌≤◌, ◌<◌, ◌*◌, ◌^◌, �
 use Rattle.std.specs.Bool.{OnTrue, OnFalse}
 use Rattle.bihash_words.specs.declared.shape.Shape.{Ghosts}
 use Rattle.bihash_plan.specs.Blocks.{HasKey, IsFree, IsNew, IsOpen, IsSized, NamesPage, pairs}
-use Rattle.bihash_plan.specs.Pages.{MayHavePages, Paging, page_of}
+use Rattle.bihash_plan.specs.Pages.{MayHavePages, Paging}
 use Rattle.bihash_plan.specs.Plans.{IsPlan}
 use Rattle.bihash_plan.specs.declared.outcome.Plan.{Plan}
 use Rattle.bihash_plan.specs.declared.outcome.Plan.TheVariants.{Full}

@@ -16,7 +16,7 @@ use Rattle.bihash_steps.specs.declared.view.Write.{Write}
 use Rattle.bihash_steps.specs.declared.view.Call.{Call}
 use Rattle.bihash_steps.specs.declared.view.Record.{Record}
 use Rattle.bihash_steps.specs.declared.view.Known.{Known}
-use Rattle.bihash_steps.proofs.Lists.{within, there, at_behind, at_end, at_either, at_take, at_drop}
+use Rattle.bihash_steps.proofs.Lists.{within, there, at_after, at_end, at_either, at_take, at_drop}
 use Rattle.bihash_steps.proofs.Prefixes.{after_longer, prefix_length, prefix_at, prefix_below, longer_known, longer_length}
 
 -- ---- Numbers
@@ -69,7 +69,7 @@ both_numbers seen seen' rs rs' apart has has' = record {
 -- the numbers of the first records are none of the others
 pub parts_apart : (seen : ℕ) (rs rs' : List Record) → HasNumbers seen (rs ++ rs') → Apart rs rs'
 parts_apart seen rs rs' has i k r q e f =
-    let l = within rs i r e in has.once i (length rs + k) r q (λ h. omega arith) (at_longer rs rs' i r e) (at_behind rs rs' k q f)
+    let l = within rs i r e in has.once i (length rs + k) r q (λ h. omega arith) (at_longer rs rs' i r e) (at_after rs rs' k q f)
 
 -- ---- Parts of records
 

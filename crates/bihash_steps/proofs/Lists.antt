@@ -27,10 +27,10 @@ module _ {A : Type 0} where
   at_either (x ∷ xs) m zero a e = inl e
   at_either (x ∷ xs) m (suc i) a e = elim (at_either xs m i a e) [ inl h ↦ inl h | inr h ↦ inr (h.0, (let p = h.1 in omega arith), h.2) ]
 
-  pub at_behind : (l m : List A) (k : ℕ) (a : A) → get_elem? m k ≡ some a → get_elem? (l ++ m) (length l + k) ≡ some a
-  at_behind [] m k a e = let n : 0 + k ≡ k = omega arith in ap (get_elem? m) n ∙ e
-  at_behind (x ∷ xs) m k a e = let n : suc (length xs) + k ≡ suc (length xs + k) = omega arith in ap (get_elem? (x ∷ (xs ++ m))) n
-      ∙ at_behind xs m k a e
+  pub at_after : (l m : List A) (k : ℕ) (a : A) → get_elem? m k ≡ some a → get_elem? (l ++ m) (length l + k) ≡ some a
+  at_after [] m k a e = let n : 0 + k ≡ k = omega arith in ap (get_elem? m) n ∙ e
+  at_after (x ∷ xs) m k a e = let n : suc (length xs) + k ≡ suc (length xs + k) = omega arith in ap (get_elem? (x ∷ (xs ++ m))) n
+      ∙ at_after xs m k a e
 
   pub at_take : (n : ℕ) (l : List A) (i : ℕ) (a : A) → get_elem? (take n l) i ≡ some a → (i < n) × (get_elem? l i ≡ some a)
   at_take zero l i a e = absurd (some-ne-none a (sym e))

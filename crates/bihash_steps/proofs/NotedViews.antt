@@ -1,5 +1,5 @@
 -- A caller that has seen another caller count, or notes something else, and did nothing else.
-use Rattle.std.proofs.Common.{◌≡◌, ℕ, ◌≤◌, Bool, true, List, length}
+use Rattle.std.proofs.Common.{◌≡◌, ℕ, ◌≤◌, Bool, true, List}
 use Rattle.bihash_words.specs.Sizes.{Sizes}
 use Rattle.bihash_steps.specs.Callers.{HasNumbers, IsWhole}
 use Rattle.bihash_steps.specs.Buckets.{IsOpenIf, StandsStillIf}

@@ -152,14 +152,14 @@ module _ (z : Sizes) where
 
   -- ---- Words are in the row
 
-  pub bucket_behind : (b : ℕ) → 1 ≤ bucket_at z b
-  bucket_behind b = let h = front z in omega arith
+  pub bucket_after : (b : ℕ) → 1 ≤ bucket_at z b
+  bucket_after b = let h = front z in omega arith
 
   pub bucket_inside : (b : ℕ) → b < buckets z → bucket_at z b < all_words z
   bucket_inside b l = let x : ℕ = z.pages * page_words z in omega arith
 
-  pub page_behind : (page k : ℕ) → front_words z ≤ page_at z page + k
-  page_behind page k = let x : ℕ = (page - 1) * page_words z in omega arith
+  pub page_after : (page k : ℕ) → front_words z ≤ page_at z page + k
+  page_after page k = let x : ℕ = (page - 1) * page_words z in omega arith
 
   -- a word of a block that ends with the last page, or before it
   pub word_of_block : (page log2 k : ℕ) → page + 2 ^ log2 ≤ z.pages + 1 → k < block_words z page log2 → page_at z page + k < all_words z

@@ -99,8 +99,8 @@ module _ (z : Sizes) (v x y w : View) (b word : ℕ) (lone : v.lone ≡ true) (s
   took_read free = took_both v y (without_lock w) (took_notes v y y.notes only_notes)
       (took_lock z y w b word (ap (λ (u : View). u.holds) only_notes ∙ free) k.locked k.known)
 
-  pub known_behind : w.known ≡ v.known
-  known_behind = locked_known z y w b word k.locked k.known ∙ ap (λ (u : View). u.known) only_notes
+  pub known_after : w.known ≡ v.known
+  known_after = locked_known z y w b word k.locked k.known ∙ ap (λ (u : View). u.known) only_notes
 
 -- where no memory was refused, the pairs of the bucket were added to the list
 pub bucket_if_ok : {A K T E : Type 0} (g : Ghosts A K) (v x y w : View) (b word : ℕ) (old new : List (K × ℕ)) (r : Result T E) → v.lone ≡ true
@@ -110,7 +110,7 @@ bucket_if_ok g v x y w b word old new (Err fault) lone s t k lists = tt
 bucket_if_ok g v x y w b word old new (Ok done) lone s t k lists =
     let z : Sizes = sizes_of g in
     let l = k.locked.lock in
-    let known : w.known ≡ v.known = known_behind z v x y w b word lone s t k in
+    let known : w.known ≡ v.known = known_after z v x y w b word lone s t k in
     let here : IsBlockIn z w.known b l.extent l.now = record { pairs = k.locked.has.pairs; writes = k.locked.has.writes } in
     told_locked z y w b word (seen_first z x y b word t s.has) k v.known b
     (subst (λ (n : Known). IsBlockIn z n b l.extent l.now) known here) lists

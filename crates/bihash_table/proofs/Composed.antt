@@ -18,7 +18,7 @@ use Rattle.bihash_steps.proofs.Prefixes.{prefix_refl}
 use Rattle.bihash_table.specs.Answers.{locks_of, with_locks, entry_of, own_writes}
 use Rattle.bihash_table.specs.Promise.{IsAnswered, IsContended, IsUpdated}
 use Rattle.bihash_table.specs.inner.Locked.{IsLocked}
-use Rattle.bihash_table.proofs.Promised.{answered_as, answered_by, turned_away_as, turned_away_by}
+use Rattle.bihash_table.proofs.Promised.{answered_as, answered_by, contended_as, contended_by}
 use Rattle.bihash_table.proofs.Released.{with_locks-locks_of}
 
 -- ---- Lock counts
@@ -65,8 +65,8 @@ locked_ahead z v u b word s = let same = sym s.is in record {
   alone = s.alone;
 }
 
-pub turned_away_ahead : (z : Sizes) (v u : View) (b : ℕ) → IsContended z v u b → IsAhead v u b
-turned_away_ahead z v u b a = let s = turned_away_as z v u b a in let same = sym s.is in record {
+pub contended_ahead : (z : Sizes) (v u : View) (b : ℕ) → IsContended z v u b → IsAhead v u b
+contended_ahead z v u b a = let s = contended_as z v u b a in let same = sym s.is in record {
   history = s.history;
   begins = s.begins;
   locks = s.locks;
@@ -94,8 +94,8 @@ module _ (z : Sizes) (v u w : View) where
   goes_on b H s p = prefix_through v.known.writes b s.history H s.begins
       (subst (λ (x : View). IsPrefix (known_at x.known b) H) s.is p)
 
-  pub ahead_turned_away : (b : ℕ) → IsAhead v u b → IsContended z u w b → IsContended z v w b
-  ahead_turned_away b s a = let t = turned_away_as z u w b a in turned_away_by z v w b record {
+  pub ahead_contended : (b : ℕ) → IsAhead v u b → IsContended z u w b → IsContended z v w b
+  ahead_contended b s a = let t = contended_as z u w b a in contended_by z v w b record {
     history = t.history;
     begins = goes_on b t.history s t.begins;
     locks = t.locks;
@@ -141,21 +141,21 @@ module _ (z : Sizes) (v u w : View) where
       → IsUpdated z u w key decision reply → IsUpdated z v w key decision reply
   ahead_updated b key decision reply home s t = record { found = t.found; answered = ahead_answered b _ home s t.answered }
 
-  -- ---- What was turned away, and tried again
+  -- ---- What was contended, and tried again
 
-  pub again_turned_away : (b : ℕ) → IsContended z v u b → IsContended z u w b → IsContended z v w b
-  again_turned_away b s = ahead_turned_away b (turned_away_ahead z v u b s)
+  pub again_contended : (b : ℕ) → IsContended z v u b → IsContended z u w b → IsContended z v w b
+  again_contended b s = ahead_contended b (contended_ahead z v u b s)
 
   pub again_answered : (b : ℕ) (e : Event) → bucket_of z e.key ≡ b → IsContended z v u b → IsAnswered z u w e → IsAnswered z v w e
-  again_answered b e home s = ahead_answered b e home (turned_away_ahead z v u b s)
+  again_answered b e home s = ahead_answered b e home (contended_ahead z v u b s)
 
   pub again_updated : (b : ℕ) (key : List ℕ) (decision : Option ℕ → Change) (reply : Reply) → bucket_of z key ≡ b → IsContended z v u b
       → IsUpdated z u w key decision reply → IsUpdated z v w key decision reply
-  again_updated b key decision reply home s = ahead_updated b key decision reply home (turned_away_ahead z v u b s)
+  again_updated b key decision reply home s = ahead_updated b key decision reply home (contended_ahead z v u b s)
 
 -- before the first try
 pub not_yet_tried : (z : Sizes) (v : View) (b : ℕ) → v.holds ≡ nothing_held → IsContended z v v b
-not_yet_tried z v b free = turned_away_by z v v b record {
+not_yet_tried z v b free = contended_by z v v b record {
   history = known_at v.known b;
   begins = prefix_refl (known_at v.known b);
   locks = locks_of v.records;
@@ -192,7 +192,7 @@ module _ (z : Sizes) (v u : View) (b word : ℕ) where
   ]
 
   pub locked_turns_away : v.holds ≡ nothing_held → SeesLocked v word u → IsContended z v u b
-  locked_turns_away free s = let notes = ap (λ (x : View). x.notes) s.is in turned_away_by z v u b record {
+  locked_turns_away free s = let notes = ap (λ (x : View). x.notes) s.is in contended_by z v u b record {
     history = known_at v.known b;
     begins = prefix_refl (known_at v.known b);
     locks = locks_of v.records;

@@ -1,6 +1,6 @@
 -- A larger block that was planned and laid out from what was read of a bucket: what it is without the lock, and
 -- after it.
-use Rattle.std.proofs.Common.{◌≡◌, ◌≢◌, ◌<◌, ◌≤◌, ℕ, Bool, List, None, ap, subst, sym}
+use Rattle.std.proofs.Common.{◌≡◌, ◌≢◌, ◌<◌, ◌≤◌, ℕ, List, None, ap, subst, sym}
 use Rattle.std.specs.FinMap.{get, insert, len}
 use Rattle.bihash_words.specs.declared.shape.Shape.{Ghosts}
 use Rattle.bihash_words.specs.Maps.{most_pairs}

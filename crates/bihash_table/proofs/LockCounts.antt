@@ -41,13 +41,13 @@ took_then u v w m n s t =
     let up = s.rises in let few = s.few in let then_up = t.rises in let then_few = t.few in
     record { rises = omega arith; few = omega arith }
 
-pub took_behind : (u v w : View) (n : ℕ) → locks_of v.records ≡ locks_of u.records → TookAtMost v w n → TookAtMost u w n
-took_behind u v w n same t = record {
+pub took_after : (u v w : View) (n : ℕ) → locks_of v.records ≡ locks_of u.records → TookAtMost v w n → TookAtMost u w n
+took_after u v w n same t = record {
   rises = subst (λ (k : ℕ). k ≤ locks_of w.records) same t.rises;
   few = subst (λ (k : ℕ). locks_of w.records ≤ k + n) same t.few;
 }
 
--- so many tries were turned away, and the next was answered
+-- so many tries were contended, and the next was answered
 pub took_by_tries : (u v w : View) (n : ℕ) (reply : Reply) → TookAtMost u v n → (u.lone ≡ true → n ≡ 0)
     → TookAtMost v w (try_locks (Ok reply)) → TookByTries u w reply
 took_by_tries u v w n reply before first last =

@@ -24,7 +24,7 @@ use Rattle.bihash_table.specs.Answers.{locks_of, search_of}
 use Rattle.bihash_table.specs.Promise.{IsContended}
 use Rattle.bihash_table.specs.inner.Locked.{IsLocked}
 use Rattle.bihash_table.specs.inner.OpenReads.{HasOpen, IsOpened}
-use Rattle.bihash_table.proofs.Promised.{turned_away_by}
+use Rattle.bihash_table.proofs.Promised.{contended_by}
 use Rattle.bihash_table.proofs.Released.{with_locks-locks_of}
 
 -- ---- A bucket that was seen without its lock
@@ -80,7 +80,7 @@ is_read z key found m n is = (m, record { found = is; answers = (refl, refl) })
 -- ---- The lock is taken after the reads
 
 pub not_taken : (z : Sizes) (v w : View) (b : ℕ) → v.holds ≡ nothing_held → w ≡ without_notes v → IsContended z v w b
-not_taken z v w b free is = let notes = ap (λ (x : View). x.notes) is in turned_away_by z v w b record {
+not_taken z v w b free is = let notes = ap (λ (x : View). x.notes) is in contended_by z v w b record {
   history = known_at v.known b;
   begins = prefix_refl (known_at v.known b);
   locks = locks_of v.records;
@@ -124,8 +124,8 @@ module _ (z : Sizes) (v w : View) (b word : ℕ) (h : HasOpen z v b word) (t : T
   pub reads_rest : AreReadIn h.block.open_bucket.reads h.block.open_bucket.block
   reads_rest = subst (AreReadIn h.block.open_bucket.reads) rests_here.block rests_here.reads
 
-  abbrev pub locked_behind : IsLocked z v w b word
-  locked_behind = record {
+  abbrev pub locked_after : IsLocked z v w b word
+  locked_after = record {
     history = t.history;
     begins = t.found.begins;
     lock = lock_taken;

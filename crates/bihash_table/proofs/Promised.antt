@@ -27,7 +27,7 @@ pub record LeavesEntry (z : Sizes) (v w : View) (e : Event) : Type 0 where
   pub alone : v.lone ≡ true → length history
       ≤ length (known_at v.known (bucket_of z e.key)) + own_writes e.reply
 
--- the call was turned away, as one equation
+-- the call was contended, as one equation
 pub record LeavesNone (z : Sizes) (v w : View) (b : ℕ) : Type 0 where
   pub history : List Write
   pub begins : IsPrefix (known_at v.known b) history
@@ -77,8 +77,8 @@ module _ (z : Sizes) (v w : View) where
     alone = a.alone;
   }
 
-  pub turned_away_by : (b : ℕ) → LeavesNone z v w b → IsContended z v w b
-  turned_away_by b a = record {
+  pub contended_by : (b : ℕ) → LeavesNone z v w b → IsContended z v w b
+  contended_by b a = record {
     history = a.history;
     begins = a.begins;
     known = ap (λ (u : View). u.known) a.is;
@@ -90,8 +90,8 @@ module _ (z : Sizes) (v w : View) where
     alone = a.alone;
   }
 
-  pub turned_away_as : (b : ℕ) → IsContended z v w b → LeavesNone z v w b
-  turned_away_as b a = record {
+  pub contended_as : (b : ℕ) → IsContended z v w b → LeavesNone z v w b
+  contended_as b a = record {
     history = a.history;
     begins = a.begins;
     locks = a.locks;

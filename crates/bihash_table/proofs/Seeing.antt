@@ -12,7 +12,7 @@ use Rattle.bihash_steps.specs.Seats.{CallerState, with_view}
 use Rattle.bihash_steps.specs.declared.view.Extent.{Extent}
 use Rattle.bihash_steps.specs.declared.view.OpenBucket.{OpenBucket}
 use Rattle.bihash_steps.specs.declared.view.View.{View}
-use Rattle.bihash_steps.proofs.Lists.{at_behind}
+use Rattle.bihash_steps.proofs.Lists.{at_after}
 use Rattle.bihash_table.specs.inner.OpenReads.{HasOpen, HasRead, MayRead, NotesBlock, Saw}
 use Rattle.bihash_table.specs.inner.Scans.{IsWordOf, NamesBlock}
 use Rattle.bihash_table.proofs.PlaceReads.{place_inside}
@@ -21,7 +21,7 @@ use Rattle.bihash_table.proofs.SameCallers.{own_through, same_but_view, same_thr
 -- ---- Words that were read
 
 pub read_last : (xs ys : List (ℕ × ℕ)) (block : List ℕ) → AreReadIn (xs ++ ys) block → AreReadIn ys block
-read_last xs ys block h i p e = h (length xs + i) p (at_behind xs ys i p e)
+read_last xs ys block h i p e = h (length xs + i) p (at_after xs ys i p e)
 
 pub read_first : (xs ys : List (ℕ × ℕ)) (block : List ℕ) → AreReadIn (xs ++ ys) block → AreReadIn xs block
 read_first xs ys block h i p e = h i p (longer xs i e)

@@ -24,7 +24,7 @@ use Rattle.bihash_table.specs.inner.OpenReads.{HasOpen, IsOpened, Saw}
 use Rattle.bihash_table.specs.inner.Seen.{HasSeen, LocksSeen}
 use Rattle.bihash_table.proofs.Composed.{IsAhead}
 use Rattle.bihash_table.proofs.LockCounts.{locks_pushed}
-use Rattle.bihash_table.proofs.Opened.{locked_behind, reads_rest, rests_here, same_known, same_map}
+use Rattle.bihash_table.proofs.Opened.{locked_after, reads_rest, rests_here, same_known, same_map}
 use Rattle.bihash_table.proofs.Promised.{answered_by}
 use Rattle.bihash_table.proofs.Released.{with_locks-locks_of}
 use Rattle.bihash_table.proofs.Seeing.{notes_more, read_first, read_last}
@@ -177,7 +177,7 @@ module _ (z : Sizes) (y : View) (b word : ℕ) {P : Extent → List ℕ → Type
 module _ (z : Sizes) (v w : View) (b word : ℕ) (h : HasOpen z v b word) (t : TakesLock z v b word w)
     (rests : (l : LockedBucket) → w.holds.bucket ≡ Some l → RestsOn h.block.open_bucket l) where
   pub locks_seen : LocksSeen z v w b word
-  locks_seen = let l = locked_behind z v w b word h t rests in record {
+  locks_seen = let l = locked_after z v w b word h t rests in record {
     locked = l;
     known = same_known z v w b word h t rests;
     map = same_map z v w b word h t rests;

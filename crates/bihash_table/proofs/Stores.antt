@@ -35,7 +35,7 @@ use Rattle.bihash_table.specs.inner.Locked.{HasLock}
 use Rattle.bihash_table.specs.inner.Scans.{IsWordOf}
 use Rattle.bihash_table.specs.OutOfPages.{Bears}
 use Rattle.bihash_table.proofs.Entering.{looked_at}
-use Rattle.bihash_table.proofs.Promised.{turned_away_by}
+use Rattle.bihash_table.proofs.Promised.{contended_by}
 use Rattle.bihash_table.proofs.Released.{answered_noting, with_locks-locks_of, written_from_lock}
 
 -- ---- The word of a bucket
@@ -198,11 +198,11 @@ still_lawful z u w gone lawful = subst (IsLawfulCaller z) (sym gone.is)
 -- ---- Without a write
 
 -- the lock was opened again, since the allocation lock was held
-pub turned_away : (z : Sizes) (v u w : View) (b word : ℕ) (l : LockedBucket)
+pub contended : (z : Sizes) (v u w : View) (b word : ℕ) (l : LockedBucket)
     → HasLock z v b word l → u ≡ without_notes v → w ≡ without_lock u → IsContended z v w b
-turned_away z v u w b word l lock not opened =
+contended z v u w b word l lock not opened =
     let is : w ≡ without_lock (without_notes v) = opened ∙ ap without_lock not in
-    let notes = ap (λ (x : View). x.notes) (sym is) in turned_away_by z v w b record {
+    let notes = ap (λ (x : View). x.notes) (sym is) in contended_by z v w b record {
       history = known_at v.known b;
       begins = record { rest = []; whole = sym (append-nil (known_at v.known b)) };
       locks = locks_of v.records;

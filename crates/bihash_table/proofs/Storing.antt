@@ -1,5 +1,5 @@
 -- Words that are stored at one place of a locked block, one after another.
-use Rattle.std.proofs.Common.{◌≡◌, ◌≢◌, ◌∙◌, ◌+◌, ◌*◌, ◌^◌, ◌<◌, ◌≤◌, ℕ, zero, suc, true, false, List, length, set, Some, ap, arith, refl, sym, ⊎_elim, get_or-set_same, get_or-set_other, length-set}
+use Rattle.std.proofs.Common.{◌≡◌, ◌≢◌, ◌∙◌, ◌+◌, ◌*◌, ◌<◌, ◌≤◌, ℕ, true, false, List, length, set, Some, ap, arith, refl, sym, ⊎_elim, get_or-set_same, get_or-set_other, length-set}
 use Rattle.std.specs.Prelude.{slice_index}
 use Rattle.std.proofs.lemmas.Bool.{cases_eq}
 use Rattle.bihash_words.specs.Sizes.{Sizes}
@@ -80,6 +80,12 @@ module _ (z : Sizes) (v : View) (b word : ℕ) (l : LockedBucket) (has : HasLock
 
     pub held_now : w.holds.bucket ≡ Some lock_now
     held_now = ap (λ (u : View). u.holds.bucket) h.is
+
+    -- what a store under the lock tells, after those of the key's words
+    pub store_told : (u t : CallerState) → u.view ≡ w → (at value : ℕ)
+        → ((m : LockedBucket) → u.view.holds.bucket ≡ Some m → t ≡ with_view u (with_lock u.view (Some (stored_in m at value))))
+        → t ≡ with_view u (with_lock u.view (Some (stored_in lock_now at value)))
+    store_told u t same at value told = told lock_now (ap (λ (x : View). x.holds.bucket) same ∙ held_now)
 
     pub holds_stored : HoldsPlace z w word i
     holds_stored = record {

@@ -1,4 +1,4 @@
--- One try of an update: answered without the lock, turned away, or answered after the lock.
+-- One try of an update: answered without the lock, contended, or answered under the lock.
 use Rattle.std.proofs.Common.{◌≡◌, ◌≢◌, ◌∙◌, ◌<◌, ℕ, Bool, true, false, true≢false, List, length, Option, Some, Result, Ok, Err, refl, sym, ap, subst, eq-eqb}
 use Rattle.std.specs.Prelude.{IfOk, if◌then◌else◌}
 use Rattle.bihash_words.specs.Maps.{Event, effect_of}
@@ -21,12 +21,12 @@ use Rattle.bihash_table.specs.Answers.{locks_of}
 use Rattle.bihash_table.specs.Promise.{IsAnswered, IsContended, IsUpdated}
 use Rattle.bihash_table.specs.inner.Locked.{IsPairBeside, UnderLock}
 use Rattle.bihash_table.specs.inner.OpenReads.{HasRead, IsPairIn, OtherPairTells, value_of}
-use Rattle.bihash_table.specs.inner.Seen.{HasSeen, IsValueOf, TellsLock}
+use Rattle.bihash_table.specs.inner.Seen.{Found, HasSeen, IsValueOf, TellsLock, WantsChange}
 use Rattle.bihash_table.specs.OutOfPages.{IsOutOfPages}
 use Rattle.bihash_table.specs.Tries.{Finished, Tried, TookAtMost, is_without_lock, try_locks}
 use Rattle.bihash_table.specs.declared.contended.Contended.{Contended}
-use Rattle.bihash_table.proofs.Composed.{IsAhead, ahead_answered, ahead_turned_away, locked_ahead}
-use Rattle.bihash_table.proofs.LockCounts.{took_behind, took_no_lock, took_one_lock, took_then}
+use Rattle.bihash_table.proofs.Composed.{IsAhead, ahead_answered, ahead_contended, locked_ahead}
+use Rattle.bihash_table.proofs.LockCounts.{took_after, took_no_lock, took_one_lock, took_then}
 use Rattle.bihash_table.proofs.LookedAt.{pair_value}
 use Rattle.bihash_table.proofs.Opened.{not_taken}
 use Rattle.bihash_table.proofs.SameCallers.{own_through, same_but_view, same_through, view_is}
@@ -41,6 +41,20 @@ pub value_seen : (z : Sizes) (v : View) (b word : ℕ) (key : List ℕ) (pair : 
     → HasSeen z v b word (IsPairIn z key pair) → HasSeen z v b word (IsValueOf z key found)
 value_seen z v b word key pair found is h = seen_as z v b word h (λ told m pairs.
     is ∙ pair_value z h.seen.extent h.seen.block.open_bucket.block key m pair told pairs)
+
+-- what was found wants the change, where the version isn't used up
+pub wants_change : {A K : Type 0} (g : Ghosts A K) (row : _) (s : CallerState) (b word : ℕ) (key : K) (pair held : Option (ℕ × ℕ))
+    (found : Option ℕ) (change : Change) → pair ≡ held → found ≡ value_of pair → Found g row s b word key pair
+    → length (known_at s.view.known b) < g.LIMIT → effect_of change found ≢ Keep → IsStorable change
+    → WantsChange g row s b word key held change
+wants_change g row s b word key pair held found change is value h unworn wanted storable =
+    subst (λ (p : Option (ℕ × ℕ)). WantsChange g row s b word key p change) is record {
+      own = h.own;
+      seen = h.seen;
+      unworn = unworn;
+      wanted = subst (λ (f : Option ℕ). effect_of change f ≢ Keep) value wanted;
+      storable = storable;
+    }
 
 module _ {A K : Type 0} (g : Ghosts A K) (s t : CallerState) (b : ℕ) (key : K) (found : Option ℕ) (change : Change)
     (home : bucket_of (sizes_of g) (g.words_of key) ≡ b) where
@@ -61,7 +75,7 @@ module _ {A K : Type 0} (g : Ghosts A K) (s t : CallerState) (b : ℕ) (key : K)
   -- the lock was not taken
   pub tried_not : {word : ℕ} {won : Bool} (refused : Contended) → TellsLock (sizes_of g) s t b word won → won ≡ false
       → Tried g s t key found change (Err refused)
-  tried_not refused told lost = tried_away refused told.same (told.turned_away lost) (ap locks_of (told.no_lock lost))
+  tried_not refused told lost = tried_away refused told.same (told.contended lost) (ap locks_of (told.no_lock lost))
       (λ lone. true≢false (sym (told.lone lone) ∙ lost)) told.lawful
 
   -- ---- Without the lock
@@ -142,14 +156,14 @@ module _ {A K : Type 0} (g : Ghosts A K) (s u t : CallerState) (b : ℕ) (key : 
     answered = tt;
     no_pages = tt;
     locks = locks;
-    contended = ahead_turned_away z s.view u.view t.view (bucket_of z (g.words_of key)) (subst (IsAhead s.view u.view) (sym home) a) h.contended;
+    contended = ahead_contended z s.view u.view t.view (bucket_of z (g.words_of key)) (subst (IsAhead s.view u.view) (sym home) a) h.contended;
     lone = λ lone. h.lone (ap (λ (v : View). v.lone) a.is ∙ lone);
     lawful = h.lawful;
   }
 
   pub tried_seen : locks_of u.view.records ≡ locks_of s.view.records → (r : Result Reply Contended)
       → Tried g u t key found change r → Tried g s t key found change r
-  tried_seen locks r h = tried_ahead r (took_behind s.view u.view t.view (try_locks r) locks h.locks) h
+  tried_seen locks r h = tried_ahead r (took_after s.view u.view t.view (try_locks r) locks h.locks) h
 
 -- words of the block were read before
 pub tried_read : {A K : Type 0} (g : Ghosts A K) (s u t : CallerState) (b : ℕ) (key : K) (found : Option ℕ) (change : Change)

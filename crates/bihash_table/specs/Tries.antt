@@ -41,7 +41,7 @@ pub record TookByTries (v w : View) (reply : Reply) : Type 0 where
   pub alone : v.lone ≡ true → tries ≡ 1
   pub took : TookAtMost v w (tries - 1 + try_locks (Ok reply))
 
--- One try of an update, on a value that was found and what was decided on it: it was answered, or turned away. A
+-- One try of an update, on a value that was found and what was decided on it: it was answered, or contended. A
 -- lone caller is answered.
 pub record Tried {A K : Type 0} (g : Ghosts A K) (s t : CallerState) (key : K) (found : Option ℕ) (change : Change)
     (r : Result Reply Contended) : Type 0 where
@@ -54,7 +54,7 @@ pub record Tried {A K : Type 0} (g : Ghosts A K) (s t : CallerState) (key : K) (
   pub lone : s.view.lone ≡ true → is_ok r ≡ true
   pub lawful : IsLawfulCaller (sizes_of g) t.view
 
--- the end of a try that has the lock of the bucket: it takes no other, and is turned away or gives a reply that is
+-- the end of a try that has the lock of the bucket: it takes no other, and is contended or gives a reply that is
 -- given under the lock
 pub record Finished {A K : Type 0} (g : Ghosts A K) (s t : CallerState) (key : K) (found : Option ℕ) (change : Change)
     (r : Result Reply Contended) : Type 0 where

@@ -10,7 +10,7 @@ ghost use Rattle.bihash_steps.specs.Views.{nothing_held};
 ghost use Rattle.bihash_steps.specs.Seats.{with_view};
 ghost use Rattle.bihash_table.specs.inner.OpenReads.{HasRead, MayRead};
 ghost use Rattle.bihash_table.specs.Closing.{ArePairsOf, IsCloseRefused, WasWhole};
-ghost use Rattle.bihash_table.specs.inner.PairLists.{AddsBlock, IsBehindLocks, IsIdleAndLone, ListsBuckets};
+ghost use Rattle.bihash_table.specs.inner.PairLists.{AddsBlock, IsAfterLocks, IsIdleAndLone, ListsBuckets};
 
 use crate::close_fault::CloseFault;
 use crate::lock::{lock_seen, look};
@@ -61,7 +61,7 @@ fn read_all<S: Shape>(
     alloc: Global,
 ) -> Result<Vec<(S::Key, u64)>, AllocError>
     requires { IsIdleAndLone (sizes_of S.Shape) row.now seat.old }
-    ensures behind { IsBehindLocks (sizes_of S.Shape) seat.old seat.new }
+    ensures after { IsAfterLocks (sizes_of S.Shape) seat.old seat.new }
     ensures pairs { IfOk result (λ ps. ListsBuckets ⟦<S as Shape>⟧ seat.old.view.known (buckets (sizes_of S.Shape)) ps.items) }
 {
     row.is_sound();
@@ -82,7 +82,7 @@ fn read_bucket<S: Shape>(
     requires lone { IsIdleAndLone (sizes_of S.Shape) row.now seat.old }
     requires inside { bucket < buckets (sizes_of S.Shape) }
     requires pairs { ListsBuckets ⟦<S as Shape>⟧ seat.old.view.known bucket pairs.old.items }
-    ensures behind { IsBehindLocks (sizes_of S.Shape) seat.old seat.new }
+    ensures after { IsAfterLocks (sizes_of S.Shape) seat.old seat.new }
     ensures pairs { IfOk result (λ _. ListsBuckets ⟦<S as Shape>⟧ seat.old.view.known (bucket + 1) pairs.new.items) }
 {
     let Some(word) = look(row, seat, bucket) else {

@@ -1,7 +1,7 @@
 -- The values and the number of pairs of a map, after one key was set or removed.
-use Rattle.std.proofs.Common.{◌≡◌, ◌≢◌, ◌⊎◌, ◌∙◌, ◌+◌, ◌-◌, ℕ, true, false, cond, ap, sym, refl, inl, inr, List, Some, None}
+use Rattle.std.proofs.Common.{◌≡◌, ◌≢◌, ◌⊎◌, ◌∙◌, ◌-◌, ℕ, true, false, cond, ap, sym, refl, inl, inr, List, Some, None}
 use Rattle.std.specs.Cmp.Lexicographic.{nat_list_cmp_total, slice_cmp}
-use Rattle.std.specs.FinMap.{get, get-insert, get-remove, insert, len, len-insert, len-remove, nat_cmp-IsAntisymmetric, remove, slice_cmp-IsAntisymmetric}
+use Rattle.std.specs.FinMap.{get, get-insert, get-remove, insert, len, len-remove, nat_cmp-IsAntisymmetric, remove, slice_cmp-IsAntisymmetric}
 use Rattle.std.specs.Cmp.{eq_by_cmp_equiv}
 use Rattle.std.specs.Ordering.{eq_by_cmp, is_eq, nat_cmp}
 use Rattle.std.specs.Prelude.{is_some}

@@ -23,7 +23,7 @@ use Rattle.bihash_steps.specs.declared.view.Call.{Call}
 use Rattle.bihash_steps.specs.declared.view.Known.{Known}
 use Rattle.bihash_steps.specs.declared.view.Record.{Record}
 use Rattle.bihash_steps.specs.declared.view.View.{View}
-use Rattle.bihash_steps.proofs.Lists.{at_behind, there}
+use Rattle.bihash_steps.proofs.Lists.{at_after, there}
 use Rattle.session_state.specs.declared.flow.Flow.{Flow}
 use Rattle.session_state.specs.declared.timeouts.Timeouts.{Timeouts}
 use Rattle.session_state.specs.Flows.{flow_of}
@@ -55,7 +55,7 @@ in_all [] i k r c at_i at_k = absurd (some-ne-none r (sym at_i))
 in_all (q ∷ qs) zero k r c at_i at_k =
     (k, at_front q.calls (all_calls qs) k c (ap (λ (x : Record). get_elem? x.calls k) (some-injective q r at_i) ∙ at_k))
 in_all (q ∷ qs) (suc i) k r c at_i at_k =
-    let p = in_all qs i k r c at_i at_k in (length q.calls + p.0, at_behind q.calls (all_calls qs) p.0 c p.1)
+    let p = in_all qs i k r c at_i at_k in (length q.calls + p.0, at_after q.calls (all_calls qs) p.0 c p.1)
 
 how_many : (records : List Record) (w : ℕ) (f : ℕ → ℕ) → ((i : ℕ) (r : Record) → get_elem? records i ≡ some r → length r.calls ≡ f (w + i))
     → length (all_calls records) ≡ sum_at w (length records) f

@@ -34,16 +34,16 @@ pub record IsThread (l : Layout) (times : Timeouts) (maps : Home → Pairs) (cou
   pub paged : All HasPages js
 
 -- what the buckets hold, and how often they changed, after an event of the bucket `at`
-abbrev maps_behind : (Home → Pairs) → Home → Pairs → Home → Pairs
-maps_behind maps at n = with maps at n
+abbrev maps_after : (Home → Pairs) → Home → Pairs → Home → Pairs
+maps_after maps at n = with maps at n
 
-abbrev counts_behind : (Home → ℕ) → Home → Event → Home → ℕ
-counts_behind counts at e = with counts at (counts at + writes_of e.reply)
+abbrev counts_after : (Home → ℕ) → Home → Event → Home → ℕ
+counts_after counts at e = with counts at (counts at + writes_of e.reply)
 
 -- a run of a bucket after an event that may be of it, with that event
 before_run : (l : Layout) (home at : Home) (maps : Home → Pairs) (counts : Home → ℕ) (n : Pairs) (e : Event) (events : List Event)
     → IsEvent (bounds_in l at.family) (maps at) (counts at) e n
-    → Runs (bounds_in l home.family) (maps_behind maps at n home) (counts_behind counts at e home) events
+    → Runs (bounds_in l home.family) (maps_after maps at n home) (counts_after counts at e home) events
     → Runs (bounds_in l home.family) (maps home) (counts home) (if same_home home at then e ∷ events else events)
 before_run l home at maps counts n e events step =
     elim (same_home home at) as (λ t. same_home home at ≡ t
@@ -56,11 +56,11 @@ before_run l home at maps counts n e events step =
     ] refl
 
 -- a run of a bucket with an event that may be of it, after that event
-behind_run : (l : Layout) (home at : Home) (maps : Home → Pairs) (counts : Home → ℕ) (n : Pairs) (e : Event)
+after_run : (l : Layout) (home at : Home) (maps : Home → Pairs) (counts : Home → ℕ) (n : Pairs) (e : Event)
     (events : Home → List Event) → Runs (bounds_in l at.family) n (counts at + writes_of e.reply) (events at)
     → Runs (bounds_in l home.family) (maps home) (counts home) (if same_home home at then e ∷ events home else events home)
-    → Runs (bounds_in l home.family) (maps_behind maps at n home) (counts_behind counts at e home) (events home)
-behind_run l home at maps counts n e events here =
+    → Runs (bounds_in l home.family) (maps_after maps at n home) (counts_after counts at e home) (events home)
+after_run l home at maps counts n e events here =
     elim (same_home home at) as (λ t. same_home home at ≡ t
     → Runs (bounds_in l home.family) (maps home) (counts home) (if t then e ∷ events home else events home)
     → Runs (bounds_in l home.family) (if t then n else maps home) (if t then counts at + writes_of e.reply else counts home) (events home)) [
@@ -91,7 +91,7 @@ one_unasked l times maps counts reading readings none (js, same, thread) = (
 one_asked : (l : Layout) (times : Timeouts) (maps : Home → Pairs) (counts : Home → ℕ) (reading : Reading) (readings : List Reading)
     (u : Update) (e : Event) (n : Pairs) → update_of times reading ≡ Some u → IsEventOf u e → IsNoRefusal e.reply
     → IsEvent (bounds_in l (home_of l u.key).family) (maps (home_of l u.key)) (counts (home_of l u.key)) e n
-    → Thread l times (maps_behind maps (home_of l u.key) n) (counts_behind counts (home_of l u.key) e) readings
+    → Thread l times (maps_after maps (home_of l u.key) n) (counts_after counts (home_of l u.key) e) readings
     → Thread l times maps counts (reading ∷ readings)
 one_asked l times maps counts reading readings u e n is of paged step (js, same, thread) = (
   record { reading = reading; event = Some e } ∷ js,
@@ -120,7 +120,7 @@ one_more l times maps counts reading readings rest (Some u) is =
       reply = reply;
     } in
     one_asked l times maps counts reading readings u e n is (record { key = refl; change = refl }) paged step
-    (rest (maps_behind maps at n) (counts_behind counts at e))
+    (rest (maps_after maps at n) (counts_after counts at e))
 
 -- packets of each list of readings can be judged on one thread
 pub some_thread : (l : Layout) (times : Timeouts) (readings : List Reading) (maps : Home → Pairs) (counts : Home → ℕ)
@@ -138,7 +138,7 @@ record IsFirst (l : Layout) (times : Timeouts) (maps : Home → Pairs) (counts :
   pub of : IsEventOf u event
   pub paged : IsNoRefusal event.reply
   pub step : IsEvent (bounds_in l (home_of l u.key).family) (maps (home_of l u.key)) (counts (home_of l u.key)) event left
-  pub behind : IsThread l times (maps_behind maps (home_of l u.key) left) (counts_behind counts (home_of l u.key) event) js
+  pub behind : IsThread l times (maps_after maps (home_of l u.key) left) (counts_after counts (home_of l u.key) event) js
 
 -- the events on a bucket begin with the packet's where its key is of it
 pub events_are : (l : Layout) (times : Timeouts) (home : Home) (u : Option Update) (e : Option Event) (j : Judged) (js : List Judged)
@@ -166,7 +166,7 @@ first_asked l times maps counts u j js is thread =
       step = step;
       behind = record {
         asked = All-tail (IsAsked times) j js thread.asked;
-        runs = λ h in_table. behind_run l h home maps counts n e events (last, writes, rest) (runs h in_table);
+        runs = λ h in_table. after_run l h home maps counts n e events (last, writes, rest) (runs h in_table);
         paged = All-tail HasPages j js thread.paged;
       };
     }
@@ -201,11 +201,11 @@ one_by_update l times maps counts j k js ks same (Some u) is rest one two =
     let b = first_asked l times maps counts u k ks (ap (update_of times) (sym same) ∙ is) two in
     let both = one_call (bounds_in l home.family) (maps home) a.left b.left (counts home) (decision_of u.patch) a.event b.event
     (a.of.key ∙ sym b.of.key) a.of.change b.of.change a.paged b.paged a.step b.step in
-    let behind : IsThread l times (maps_behind maps home a.left) (counts_behind counts home a.event) ks =
-    subst (λ n. IsThread l times (maps_behind maps home n) (counts_behind counts home a.event) ks) (sym both.1)
-    (subst (λ e. IsThread l times (maps_behind maps home b.left) (counts_behind counts home e) ks) (sym both.0) b.behind) in
+    let behind : IsThread l times (maps_after maps home a.left) (counts_after counts home a.event) ks =
+    subst (λ n. IsThread l times (maps_after maps home n) (counts_after counts home a.event) ks) (sym both.1)
+    (subst (λ e. IsThread l times (maps_after maps home b.left) (counts_after counts home e) ks) (sym both.0) b.behind) in
     ap₂ (λ x xs. x ∷ xs) (same_judged j k same (a.is ∙ ap Some both.0 ∙ sym b.is))
-    (rest (maps_behind maps home a.left) (counts_behind counts home a.event) a.behind behind)
+    (rest (maps_after maps home a.left) (counts_after counts home a.event) a.behind behind)
 
 -- and in one way
 pub one_thread : (l : Layout) (times : Timeouts) (js ks : List Judged) (maps : Home → Pairs) (counts : Home → ℕ)

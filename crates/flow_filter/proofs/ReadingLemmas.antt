@@ -6,8 +6,8 @@ use Rattle.packet_view.specs.Frames.{FrameFacts}
 use Rattle.packet_view.specs.inner.FrameSteps.{view_of}
 use Rattle.packet_view.proofs.FrameLemmas.{view_only, view_shown}
 use Rattle.acl_policy.specs.Policies.{PolicyFacts, rules_of}
-use Rattle.acl_policy.proofs.DecisionLaws.{some_decision}
-use Rattle.acl_policy.proofs.DecisionLemmas.{one_decision}
+use Rattle.acl_policy.proofs.RulingLaws.{some_ruling_of}
+use Rattle.acl_policy.proofs.RulingLemmas.{one_ruling}
 use Rattle.flow_filter.specs.declared.verdict.Verdict.TheVariants as verdict
 use Rattle.flow_filter.specs.Readings.{AreReadings, Framed, IsReading, IsReadingOf, Reading, Ruled}
 
@@ -16,7 +16,7 @@ some_reading_of policy moment frames.NotIp = (Framed verdict.NotIp, refl)
 some_reading_of policy moment frames.Malformed = (Framed verdict.Malformed, refl)
 some_reading_of policy moment frames.Short = (Framed verdict.Short, refl)
 some_reading_of policy moment (frames.Ip direction tuple) =
-    let (ruling, decides) = some_decision (rules_of direction policy) tuple in
+    let (ruling, decides) = some_ruling_of (rules_of direction policy) tuple in
     (Ruled moment tuple ruling, (ruling, decides, refl))
 
 -- each packet has a reading
@@ -31,7 +31,7 @@ one_reading_of policy moment frames.NotIp a b one two = one ∙ sym two
 one_reading_of policy moment frames.Malformed a b one two = one ∙ sym two
 one_reading_of policy moment frames.Short a b one two = one ∙ sym two
 one_reading_of policy moment (frames.Ip direction tuple) a b (ruling, decides, one) (other, decides', two) =
-    one ∙ ap (λ d. Ruled moment tuple d) (sym (one_decision (rules_of direction policy) tuple ruling other decides decides'))
+    one ∙ ap (λ d. Ruled moment tuple d) (sym (one_ruling (rules_of direction policy) tuple ruling other decides decides'))
     ∙ sym two
 
 -- and one

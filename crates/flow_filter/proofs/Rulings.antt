@@ -3,7 +3,7 @@ use Rattle.std.proofs.Common.{◌≡◌, Some, ap}
 use Rattle.std.specs.Prelude.{option_map}
 use Rattle.packet_view.specs.Tuples.{tuple_facts}
 use Rattle.acl_policy.specs.Policies.{PolicyFacts, rules_of}
-use Rattle.acl_policy.proofs.DecisionLaws.{some_decision}
+use Rattle.acl_policy.proofs.RulingLaws.{some_ruling_of}
 use Rattle.bihash_words.specs.Maps.{Event}
 use Rattle.session_state.specs.declared.timeouts.Timeouts.{Timeouts}
 use Rattle.flow_filter.specs.declared.packet_flow.PacketFlow.{PacketFlow}
@@ -15,7 +15,7 @@ use Rattle.flow_filter.specs.Verdicts.{verdict_of}
 
 -- a policy says something of each packet
 pub some_ruling : (policy : PolicyFacts) (p : PacketFlow) → (ruling : Ruling) × IsRulingOn policy p ruling
-some_ruling policy p = some_decision (rules_of p.direction policy) (tuple_facts p.tuple.now)
+some_ruling policy p = some_ruling_of (rules_of p.direction policy) (tuple_facts p.tuple.now)
 
 -- the update of a packet with a flow
 pub update_is : (times : Timeouts) (p : PacketFlow) (ruling : Ruling)

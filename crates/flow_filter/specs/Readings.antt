@@ -6,7 +6,7 @@ use Rattle.packet_view.specs.Frames as frames
 use Rattle.packet_view.specs.Frames.{IsFrame, FrameFacts}
 use Rattle.packet_view.specs.Tuples.{TupleFacts}
 use Rattle.acl_policy.specs.declared.rule.Action.{Action}
-use Rattle.acl_policy.specs.Matching.{IsDecision}
+use Rattle.acl_policy.specs.Matching.{IsRuling}
 use Rattle.acl_policy.specs.Policies.{PolicyFacts, rules_of}
 use Rattle.flow_filter.specs.declared.verdict.Verdict.{Verdict}
 use Rattle.flow_filter.specs.declared.verdict.Verdict.TheVariants as verdict
@@ -26,7 +26,7 @@ IsReadingOf policy moment frames.NotIp reading = reading ≡ Framed verdict.NotI
 IsReadingOf policy moment frames.Malformed reading = reading ≡ Framed verdict.Malformed
 IsReadingOf policy moment frames.Short reading = reading ≡ Framed verdict.Short
 IsReadingOf policy moment (frames.Ip direction tuple) reading =
-    (ruling : Ruling) × IsDecision (rules_of direction policy) tuple ruling × (reading ≡ Ruled moment tuple ruling)
+    (ruling : Ruling) × IsRuling (rules_of direction policy) tuple ruling × (reading ≡ Ruled moment tuple ruling)
 
 abbrev pub IsReading : PolicyFacts → PacketFacts → Reading → Type 0
 IsReading policy packet reading = (view : FrameFacts) × IsFrame packet.frame policy.own view × IsReadingOf policy packet.moment view reading

@@ -2,7 +2,7 @@
 ghost use Rattle.std.specs.Prelude.{◌≡◌, ◌<◌, ℕ, Bool, Option};
 ghost use Rattle.std.specs.Option.{ForSome};
 ghost use Rattle.packet_view.specs.Tuples.{tuple_facts};
-ghost use Rattle.acl_policy.specs.Matching.{IsDecision};
+ghost use Rattle.acl_policy.specs.Matching.{IsRuling};
 ghost use Rattle.acl_policy.specs.Rules.{most_rules};
 ghost use Rattle.flow_filter.specs.Liveness.{IsForeseen};
 ghost use Rattle.flow_filter.specs.Readings.{Ruling};
@@ -62,8 +62,8 @@ struct Decided<D: HasRuling> {
 #[cold]
 #[inline(never)]
 fn asked(rules: Ruleset<'_>, tuple: Tuple) -> Option<(usize, Action)>
-    ensures only { (other : Ruling) → IsDecision (rules_in rules.entry) (tuple_facts tuple) other → other ≡ result }
-    ensures decided { IsDecision (rules_in rules.entry) (tuple_facts tuple) result }
+    ensures only { (other : Ruling) → IsRuling (rules_in rules.entry) (tuple_facts tuple) other → other ≡ result }
+    ensures decided { IsRuling (rules_in rules.entry) (tuple_facts tuple) result }
     ensures few { ForSome result (λ decided. decided.0 < most_rules) }
 {
     rules.first_match(&tuple)
@@ -192,7 +192,9 @@ impl<'a, D: HasRuling> Patch for LazyPatch<'a, D> {
         }));
         match decider {
             Decider::Session(session) => self.unruled().touch(session),
-            Decider::Rules(ruling) => patch_of(&self.filter.times, &self.packet, ruling).decide(old),
+            Decider::Rules(ruling) => patch_of(&self.filter.times, &self.packet, ruling).decide(
+                old,
+            ),
         }
     }
 }

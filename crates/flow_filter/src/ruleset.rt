@@ -17,7 +17,7 @@ pub struct Ruleset<'a> {
 impl Ruleset<'_> {
     ghost use Rattle.std.specs.Prelude.{◌≡◌, ◌<◌};
     ghost use Rattle.std.specs.Option.{ForSome};
-    ghost use Rattle.acl_policy.specs.Matching.{IsDecision};
+    ghost use Rattle.acl_policy.specs.Matching.{IsRuling};
     ghost use Rattle.acl_policy.specs.Rules.{most_rules};
     ghost use Rattle.packet_view.specs.Tuples.{tuple_facts};
     ghost use Rattle.flow_filter.specs.Readings.{Ruling};
@@ -25,8 +25,8 @@ impl Ruleset<'_> {
 
     /// The first rule that matches, by its place from 0, and what it does. `None`: no rule matches.
     pub fn first_match(&self, tuple: &Tuple) -> Option<(usize, Action)>
-        ensures decided { IsDecision (rules_in self.now) (tuple_facts tuple.now) result }
-        ensures only { (other : Ruling) → IsDecision (rules_in self.now) (tuple_facts tuple.now) other → other ≡ result }
+        ensures decided { IsRuling (rules_in self.now) (tuple_facts tuple.now) result }
+        ensures only { (other : Ruling) → IsRuling (rules_in self.now) (tuple_facts tuple.now) other → other ≡ result }
         ensures few { ForSome result (λ decided. decided.0 < most_rules) }
     {
         match self.search {

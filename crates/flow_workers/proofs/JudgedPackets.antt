@@ -2,9 +2,9 @@
 use Rattle.std.proofs.Common.{◌≡◌, ◌∙◌, ℕ, Some, None, ap, refl, sym, subst}
 use Rattle.packet_view.specs.Captures.{PacketFacts}
 use Rattle.packet_view.specs.Frames as frames
-use Rattle.packet_view.specs.Frames.{IsFrame, FrameFacts, frame_facts}
+use Rattle.packet_view.specs.Frames.{FrameFacts, frame_facts}
 use Rattle.acl_policy.specs.Policies.{PolicyFacts, rules_of}
-use Rattle.acl_policy.proofs.DecisionLaws.{some_decision}
+use Rattle.acl_policy.proofs.RulingLaws.{some_ruling_of}
 use Rattle.bihash_words.specs.Maps.{Event, found_by}
 use Rattle.bihash_words.specs.declared.patch.Reply.{Reply}
 use Rattle.session_state.specs.declared.timeouts.Timeouts.{Timeouts}
@@ -18,7 +18,7 @@ use Rattle.flow_filter.specs.OneThread.{Layout}
 use Rattle.flow_dealing.specs.Views.{Views}
 use Rattle.flow_workers.specs.declared.viewed_packet.ViewedPacket.{ViewedPacket}
 use Rattle.flow_workers.specs.Judging.{IsAway, IsEntered, IsEnteredBy, IsJudged, IsRefused}
-use Rattle.flow_workers.specs.inner.Preparing.{IsRuling, reading_with}
+use Rattle.flow_workers.specs.inner.Preparing.{IsFrameRuling, reading_with}
 use Rattle.flow_workers.specs.inner.Updates.{told}
 use Rattle.flow_workers.specs.inner.ViewedPackets.{IsViewed}
 
@@ -27,15 +27,15 @@ abbrev pub ruling_on : PolicyFacts → FrameFacts → Ruling
 ruling_on policy frames.NotIp = None
 ruling_on policy frames.Malformed = None
 ruling_on policy frames.Short = None
-ruling_on policy (frames.Ip direction tuple) = (some_decision (rules_of direction policy) tuple).0
+ruling_on policy (frames.Ip direction tuple) = (some_ruling_of (rules_of direction policy) tuple).0
 
-pub is_ruling : (policy : PolicyFacts) (view : FrameFacts) → IsRuling policy view (ruling_on policy view)
+pub is_ruling : (policy : PolicyFacts) (view : FrameFacts) → IsFrameRuling policy view (ruling_on policy view)
 is_ruling policy frames.NotIp = tt
 is_ruling policy frames.Malformed = tt
 is_ruling policy frames.Short = tt
-is_ruling policy (frames.Ip direction tuple) = (some_decision (rules_of direction policy) tuple).1
+is_ruling policy (frames.Ip direction tuple) = (some_ruling_of (rules_of direction policy) tuple).1
 
-reading_of : (policy : PolicyFacts) (moment : ℕ) (view : FrameFacts) (ruling : Ruling) → IsRuling policy view ruling
+reading_of : (policy : PolicyFacts) (moment : ℕ) (view : FrameFacts) (ruling : Ruling) → IsFrameRuling policy view ruling
     → IsReadingOf policy moment view (reading_with moment view ruling)
 reading_of policy moment frames.NotIp ruling is = refl
 reading_of policy moment frames.Malformed ruling is = refl
@@ -49,7 +49,7 @@ of_filter P {t} {u} {p} {q} times policy is = subst (λ other. P other q) times 
 -- a packet that was viewed, under what the rules say of it
 pub record IsRuled (policy : PolicyFacts) (s : PacketFacts) (p : ViewedPacket) (ruling : Ruling) : Type 0 where
   pub seen : IsViewed policy.own s p
-  pub ruled : IsRuling policy (frame_facts p.frame.now) ruling
+  pub ruled : IsFrameRuling policy (frame_facts p.frame.now) ruling
 
 abbrev pub reading_in : ViewedPacket → Ruling → Reading
 reading_in p ruling = reading_with p.moment (frame_facts p.frame.now) ruling

@@ -3,7 +3,7 @@ ghost use Rattle.packet_view.specs.Frames.{frame_facts};
 ghost use Rattle.flow_filter.specs.Filters.{policy_in};
 ghost use Rattle.flow_filter.specs.Liveness.{IsForeseen};
 ghost use Rattle.flow_workers.specs.Calls.{MayAsk, TellsVerdict, TellsVerdictTry};
-ghost use Rattle.flow_workers.specs.inner.Preparing.{IsRuling};
+ghost use Rattle.flow_workers.specs.inner.Preparing.{IsFrameRuling};
 ghost use Rattle.flow_workers.specs.inner.ViewedPackets.{TellsViewed, TellsViewedTry};
 
 use crate::prepared::Prepared;
@@ -25,7 +25,7 @@ fn try_judge_as<A: Shape, B: Shape, D: HasRuling>(
     packet: &ViewedPacket<'_>,
 ) -> Result<Verdict, Contended>
     requires asks { MayAsk tables.now callers.old }
-    requires ruling { IsRuling (policy_in filter.now) (frame_facts packet.now.frame.now) D.ruling }
+    requires ruling { IsFrameRuling (policy_in filter.now) (frame_facts packet.now.frame.now) D.ruling }
     requires lives { IsForeseen filter.now.times packet.now.moment D.is_live }
     ensures { TellsViewedTry filter.now packet.now tables.now callers.old callers.new result }
 {
@@ -47,7 +47,7 @@ fn judge_as<A: Shape, B: Shape, D: HasRuling, R: Wait>(
     packet: &ViewedPacket<'_>,
 ) -> Verdict
     requires asks { MayAsk tables.now callers.old }
-    requires ruling { IsRuling (policy_in filter.now) (frame_facts packet.now.frame.now) D.ruling }
+    requires ruling { IsFrameRuling (policy_in filter.now) (frame_facts packet.now.frame.now) D.ruling }
     requires lives { IsForeseen filter.now.times packet.now.moment D.is_live }
     ensures { TellsViewed filter.now packet.now tables.now callers.old callers.new result }
 {

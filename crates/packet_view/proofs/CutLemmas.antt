@@ -108,9 +108,9 @@ cut_first order header frame others moment kept r less =
     short_front order (header ++ (frame ++ others)) kept (omega arith) (λ long. (omega (arith, r.limit), omega arith))
 
 -- a cut after the first record
-cut_behind : (header frame others : List ℕ) (kept more : ℕ) → length header ≡ 16 → kept ≡ 16 + length frame + more
+cut_after : (header frame others : List ℕ) (kept more : ℕ) → length header ≡ 16 → kept ≡ 16 + length frame + more
     → take kept (header ++ (frame ++ others)) ≡ header ++ (frame ++ take more others)
-cut_behind header frame others kept more sixteen is =
+cut_after header frame others kept more sixteen is =
     let size : kept ≡ length (header ++ frame) + more = simp (length-append, sixteen) is in
     ap (λ (bytes : List ℕ). take kept bytes) (sym (append_assoc header frame others)) ∙ ap (λ (n : ℕ). take n ((header ++ frame) ++ others)) size
     ∙ take-append-add (header ++ frame) others more ∙ append_assoc header frame (take more others)
@@ -131,7 +131,7 @@ cut_records order (packet ∷ packets) bytes rest end kept (others, (header, spe
             later.0 + 1,
             later.1,
             later.2,
-            rw add-one (take more others, (header, ap (take kept) spelt ∙ cut_behind header packet.frame others kept more r.sixteen (omega arith), r), later.3),
+            rw add-one (take more others, (header, ap (take kept) spelt ∙ cut_after header packet.frame others kept more r.sixteen (omega arith), r), later.3),
             later.4,
           )
     ]

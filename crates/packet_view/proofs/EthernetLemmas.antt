@@ -8,20 +8,20 @@ use Rattle.byteorder.specs.Endian.{big_number}
 use Rattle.byteorder.specs.Numbers.{big_from-append, big_from-take}
 use Rattle.packet_view.specs.Bytes.{number_from}
 use Rattle.packet_view.specs.Ethernet.{EndsInTag, IsCut, IsEthernet, IsTag, is_tag_type}
-use Rattle.packet_view.specs.inner.FrameSteps.{behind_tag, content_of}
+use Rattle.packet_view.specs.inner.FrameSteps.{after_tag, content_of}
 
 -- what is found where a type or a tag begins, and after that
 abbrev once : List ℕ → Option (ℕ × List ℕ)
-once body = behind_tag (number_from 0 2 body) (drop 2 body)
+once body = after_tag (number_from 0 2 body) (drop 2 body)
 
 abbrev twice : List ℕ → Option (ℕ × List ℕ)
-twice body = option_and_then (λ (p : ℕ × List ℕ). behind_tag p.0 p.1) (once body)
+twice body = option_and_then (λ (p : ℕ × List ℕ). after_tag p.0 p.1) (once body)
 
 -- a type and what follows it
 abbrev front : List ℕ → ℕ × List ℕ
 front body = (number_from 0 2 body, drop 2 body)
 
-plain : (kind : ℕ) (content : List ℕ) → is_tag_type kind ≡ false → behind_tag kind content ≡ Some (kind, content)
+plain : (kind : ℕ) (content : List ℕ) → is_tag_type kind ≡ false → after_tag kind content ≡ Some (kind, content)
 plain kind content h = cond-false (is_tag_type kind) _ _ h
 
 cut_tag : (body : List ℕ) → is_tag_type (number_from 0 2 body) ≡ true → length body < 6 → once body ≡ None
@@ -39,20 +39,20 @@ past body tag long =
 -- after no tag, and after one
 no_tag : (body : List ℕ) → is_tag_type (number_from 0 2 body) ≡ false → twice body ≡ Some (front body)
 no_tag body none =
-    ap (option_and_then (λ (p : ℕ × List ℕ). behind_tag p.0 p.1)) (plain (number_from 0 2 body) (drop 2 body) none) ∙ plain (number_from 0 2 body) (drop 2 body) none
+    ap (option_and_then (λ (p : ℕ × List ℕ). after_tag p.0 p.1)) (plain (number_from 0 2 body) (drop 2 body) none) ∙ plain (number_from 0 2 body) (drop 2 body) none
 
 one_tag : (body : List ℕ) → is_tag_type (number_from 0 2 body) ≡ true → 6 ≤ length body → twice body ≡ once (drop 4 body)
-one_tag body tag long = ap (option_and_then (λ (p : ℕ × List ℕ). behind_tag p.0 p.1)) (past body tag long)
+one_tag body tag long = ap (option_and_then (λ (p : ℕ × List ℕ). after_tag p.0 p.1)) (past body tag long)
 
 cut_first : (body : List ℕ) → is_tag_type (number_from 0 2 body) ≡ true → length body < 6 → twice body ≡ None
-cut_first body tag short = ap (option_and_then (λ (p : ℕ × List ℕ). behind_tag p.0 p.1)) (cut_tag body tag short)
+cut_first body tag short = ap (option_and_then (λ (p : ℕ × List ℕ). after_tag p.0 p.1)) (cut_tag body tag short)
 
 -- the number at the front of a tag, whatever follows
 tag_front : (tag more : List ℕ) → IsTag tag → is_tag_type (number_from 0 2 (tag ++ more)) ≡ true
 tag_front tag more h = rw (big_from-append 2 tag more (omega (arith, h.0))) h.1
 
-behind_tag_four : (tag more : List ℕ) → IsTag tag → drop 4 (tag ++ more) ≡ more
-behind_tag_four tag more h = drop_at tag more 4 h.0
+after_tag_four : (tag more : List ℕ) → IsTag tag → drop 4 (tag ++ more) ≡ more
+after_tag_four tag more h = drop_at tag more 4 h.0
 
 tag_then : (tag more : List ℕ) → IsTag tag → 2 ≤ length more → 6 ≤ length (tag ++ more)
 tag_then tag more h long = simp length-append (omega (arith, h.0))
@@ -63,12 +63,12 @@ twice_whole : (tags : List (List ℕ)) (more : List ℕ) → AllByRecursion IsTa
 twice_whole [] more each few long last = no_tag more (last (lit< tt))
 twice_whole (a ∷ []) more each few long last =
     rw append-nil (one_tag (a ++ more) (tag_front a more each.0) (tag_then a more each.0 long)
-    ∙ ap once (behind_tag_four a more each.0) ∙ plain (number_from 0 2 more) (drop 2 more) (last (lit< tt)))
+    ∙ ap once (after_tag_four a more each.0) ∙ plain (number_from 0 2 more) (drop 2 more) (last (lit< tt)))
 twice_whole (a ∷ b ∷ []) more each few long last =
     let size : 2 ≤ length (b ++ more) = simp length-append (omega arith) in
     rw (append-nil, append_assoc a b more) (one_tag (a ++ (b ++ more)) (tag_front a (b ++ more) each.0) (tag_then a (b ++ more) each.0 size)
-    ∙ ap once (behind_tag_four a (b ++ more) each.0) ∙ past (b ++ more) (tag_front b more each.1.0) (tag_then b more each.1.0 long)
-    ∙ ap (λ (rest : List ℕ). Some (front rest)) (behind_tag_four b more each.1.0))
+    ∙ ap once (after_tag_four a (b ++ more) each.0) ∙ past (b ++ more) (tag_front b more each.1.0) (tag_then b more each.1.0 long)
+    ∙ ap (λ (rest : List ℕ). Some (front rest)) (after_tag_four b more each.1.0))
 twice_whole (a ∷ b ∷ c ∷ tags) more each few long last = absurd (omega arith)
 
 -- a frame that ends inside a tag has none
@@ -76,7 +76,7 @@ twice_cut : (tags : List (List ℕ)) (rest : List ℕ) → AllByRecursion IsTag 
     → is_tag_type (number_from 0 2 rest) ≡ true → length rest < 6 → twice (concat tags ++ rest) ≡ None
 twice_cut [] rest each few long tag cut = cut_first rest tag cut
 twice_cut (a ∷ []) rest each few long tag cut =
-    rw append-nil (one_tag (a ++ rest) (tag_front a rest each.0) (tag_then a rest each.0 long) ∙ ap once (behind_tag_four a rest each.0) ∙ cut_tag rest tag cut)
+    rw append-nil (one_tag (a ++ rest) (tag_front a rest each.0) (tag_then a rest each.0 long) ∙ ap once (after_tag_four a rest each.0) ∙ cut_tag rest tag cut)
 twice_cut (a ∷ b ∷ tags) rest each few long tag cut = absurd (omega arith)
 
 -- all that can follow the addresses
@@ -117,7 +117,7 @@ body_of body long =
 content_is : (frame : List ℕ) → 14 ≤ length frame → content_of frame ≡ twice (drop 12 frame)
 content_is frame long =
     cond-false _ _ _ (le-ltb (length frame) 14 long)
-    ∙ ap (λ (rest : List ℕ). option_and_then (λ (p : ℕ × List ℕ). behind_tag p.0 p.1) (behind_tag (number_from 12 2 frame) rest)) (sym (drop-drop 2 12 frame))
+    ∙ ap (λ (rest : List ℕ). option_and_then (λ (p : ℕ × List ℕ). after_tag p.0 p.1) (after_tag (number_from 12 2 frame) rest)) (sym (drop-drop 2 12 frame))
 
 -- a whole frame's addresses and type
 pub whole_only : (frame source : List ℕ) (kind : ℕ) (content : List ℕ) → IsEthernet frame source kind content
@@ -185,11 +185,11 @@ ends_in_tag frame tags rest size body each few long tag cut = record {
   cut = cut;
 }
 
-behind_addresses : (frame : List ℕ) → 14 ≤ length frame → Body (drop 12 frame) → Content frame
-behind_addresses frame size (Whole tags more spelt each few long last) =
+after_addresses : (frame : List ℕ) → 14 ≤ length frame → Body (drop 12 frame) → Content frame
+after_addresses frame size (Whole tags more spelt each few long last) =
     IsWhole (number_from 0 2 more) (drop 2 more) (whole frame tags more size spelt each few long last)
     (content_is frame size ∙ ap twice spelt ∙ twice_whole tags more each few long last)
-behind_addresses frame size (InTag tags rest spelt each few long tag cut) =
+after_addresses frame size (InTag tags rest spelt each few long tag cut) =
     Ends (inr (ends_in_tag frame tags rest size spelt each few long tag cut))
     (content_is frame size ∙ ap twice spelt ∙ twice_cut tags rest each few long tag cut)
 
@@ -197,5 +197,5 @@ pub content_cases : (frame : List ℕ) → Content frame
 content_cases frame =
     elim (cases_lt (length frame) 14) [
       | inl short ↦ Ends (inl short) (cond-true _ _ _ (lt-ltb (length frame) 14 short))
-      | inr size ↦ behind_addresses frame size (body_of (drop 12 frame) (simp length-drop (omega arith)))
+      | inr size ↦ after_addresses frame size (body_of (drop 12 frame) (simp length-drop (omega arith)))
     ]

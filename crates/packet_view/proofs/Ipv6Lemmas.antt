@@ -10,7 +10,7 @@ use Rattle.byteorder.specs.Numbers.{big_from-append}
 use Rattle.packet_view.specs.declared.tuple.Family.TheVariants.{V6}
 use Rattle.packet_view.specs.Ipv6.{Carries, IsChain, IsMalformed, IsSkipped, Skips, dest, extension_length, fragment_offset, is_extension, next_header, payload_length, source, version}
 use Rattle.packet_view.specs.Packets.{Upper, LaterFragment, Payload, extent}
-use Rattle.packet_view.specs.inner.FrameSteps.{IpPacketFacts, Skipped, Last, behind_header, header_of, is_malformed_v6, packet_of_v6, walk}
+use Rattle.packet_view.specs.inner.FrameSteps.{IpPacketFacts, Skipped, Last, after_header, header_of, is_malformed_v6, packet_of_v6, walk}
 use Rattle.packet_view.proofs.PacketLemmas.{extent_within}
 use Rattle.packet_view.proofs.Walks.{walk_ends, walk_skips, walk_full, walk_last}
 
@@ -167,7 +167,7 @@ abbrev read : List ℕ → Upper → IpPacketFacts
 read bytes upper = record { family = V6; source = source bytes; dest = dest bytes; upper = upper }
 
 -- what the skipped headers and the rest make up
-region : (packet : List ℕ) (skipped : List (List ℕ)) (next : ℕ) (rest : List ℕ) → Skips packet skipped next rest → behind_header packet ≡ concat skipped ++ rest
+region : (packet : List ℕ) (skipped : List (List ℕ)) (next : ℕ) (rest : List ℕ) → Skips packet skipped next rest → after_header packet ≡ concat skipped ++ rest
 region packet skipped next rest h =
     ap (take (extent (payload_length packet) (length packet - 40))) (ap (drop 40) h.spelt ∙ drop_at h.header ((concat skipped ++ rest) ++ h.trailer) 40 h.header_end)
     ∙ take_at (concat skipped ++ rest) h.trailer (extent (payload_length packet) (length packet - 40)) h.packet_end
@@ -175,7 +175,7 @@ region packet skipped next rest h =
 long_enough : (packet : List ℕ) (skipped : List (List ℕ)) (next : ℕ) (rest : List ℕ) → Skips packet skipped next rest → 40 ≤ length packet
 long_enough packet skipped next rest h = rw h.spelt (simp length-append (omega (arith, h.header_end)))
 
-skips : (packet : List ℕ) (skipped : List (List ℕ)) (next : ℕ) (rest : List ℕ) → 40 ≤ length packet → behind_header packet ≡ concat skipped ++ rest
+skips : (packet : List ℕ) (skipped : List (List ℕ)) (next : ℕ) (rest : List ℕ) → 40 ≤ length packet → after_header packet ≡ concat skipped ++ rest
     → length skipped ≤ 8 → IsChain (next_header packet) skipped next → Skips packet skipped next rest
 skips packet skipped next rest long spelt few chain =
     let size : ℕ = extent (payload_length packet) (length packet - 40) in
@@ -191,7 +191,7 @@ skips packet skipped next rest long spelt few chain =
       at_most_eight = few;
     }
 
-is_read : (bytes : List ℕ) → 40 ≤ length bytes → version bytes ≡ 6 → packet_of_v6 bytes ≡ option_map (read bytes) (walk 8 (next_header bytes) (behind_header bytes))
+is_read : (bytes : List ℕ) → 40 ≤ length bytes → version bytes ≡ 6 → packet_of_v6 bytes ≡ option_map (read bytes) (walk 8 (next_header bytes) (after_header bytes))
 is_read bytes long six = cond-false (is_malformed_v6 bytes) _ _ (grind (arith, nat_tests))
 
 pub carries_only : (bytes : List ℕ) (upper : Upper) → Carries bytes upper → packet_of_v6 bytes ≡ Some (read bytes upper)
@@ -231,7 +231,7 @@ right bytes upper h = Right upper h (carries_only bytes upper h)
 wrong : (bytes : List ℕ) → IsMalformed bytes → Reading bytes
 wrong bytes h = Wrong h (malformed_only bytes h)
 
-by_walk : (bytes : List ℕ) → 40 ≤ length bytes → version bytes ≡ 6 → Walked 8 (next_header bytes) (behind_header bytes) → Reading bytes
+by_walk : (bytes : List ℕ) → 40 ≤ length bytes → version bytes ≡ 6 → Walked 8 (next_header bytes) (after_header bytes) → Reading bytes
 by_walk bytes long six (Arrives skipped next rest spelt few chain last) =
     right bytes (Payload next rest) (six, skipped, skips bytes skipped next rest long spelt few chain, last)
 by_walk bytes long six (Meets skipped header rest spelt few chain size later) =
@@ -245,7 +245,7 @@ cases bytes =
     elim (cases_lt (length bytes) 40) [
       | inl short ↦ wrong bytes (inl short)
       | inr long ↦ elim (cases_eq (version bytes) 6) [
-        | inl six ↦ by_walk bytes long six (walked 8 (next_header bytes) (behind_header bytes))
+        | inl six ↦ by_walk bytes long six (walked 8 (next_header bytes) (after_header bytes))
         | inr other ↦ wrong bytes (inr (inl other))
       ]
     ]

@@ -17,8 +17,8 @@ use Rattle.packet_view.proofs.RecordLemmas.{part_shown, records_once}
 abbrev HasHeaderOrFault : List ℕ → Type 0
 HasHeaderOrFault bytes = ((order : Order) × HasHeader order bytes) ⊎ ((found : CaptureFault) × IsHeaderFault bytes found)
 
-behind_magic : (bytes : List ℕ) (order : Order) → 24 ≤ length bytes → HasMagic order bytes → HasHeaderOrFault bytes
-behind_magic bytes order long magic =
+after_magic : (bytes : List ℕ) (order : Order) → 24 ≤ length bytes → HasMagic order bytes → HasHeaderOrFault bytes
+after_magic bytes order long magic =
     elim (cases_eq (version order bytes) 2) [
       | inl two ↦ elim (cases_eq (link_type order bytes) 1) [
         | inl ethernet ↦ inl (order, record { whole = long; magic = magic; two = two; ethernet = ethernet })
@@ -46,9 +46,9 @@ header_or_fault bytes =
     elim (cases_lt (length bytes) 24) [
       | inl short ↦ inr (fault.Short, short)
       | inr long ↦ elim (magic_or_none Little bytes) [
-        | inl magic ↦ behind_magic bytes Little long magic
+        | inl magic ↦ after_magic bytes Little long magic
         | inr little ↦ elim (magic_or_none Big bytes) [
-          | inl magic ↦ behind_magic bytes Big long magic
+          | inl magic ↦ after_magic bytes Big long magic
           | inr big ↦ inr (fault.Magic, (long, no_magic bytes little big))
         ]
       ]

@@ -8,7 +8,7 @@ use Rattle.byteorder.specs.Numbers.{big_from-append, little_from-append}
 use Rattle.packet_view.specs.declared.capture.Order.{Order}
 use Rattle.packet_view.specs.declared.capture.Order.TheVariants.{Little, Big}
 use Rattle.packet_view.specs.Captures.{AreRecords, IsPiece, IsRecord, PieceFacts, Record, Nothing, Cut, TooLong, PacketFacts, kept_length, kept_limit, number_from}
-use Rattle.packet_view.specs.RecordLists.{bytes_of, front_packet, packets_in, record_length}
+use Rattle.packet_view.specs.RecordLists.{front_packet, record_length}
 use Rattle.packet_view.specs.inner.RecordSteps.{part_of}
 
 -- a number lies in the front that holds its bytes
@@ -66,13 +66,13 @@ record_is_found order bytes packet rest is =
     let is_found = found order bytes (omega (arith, front.size)) (omega arith) (omega (arith, front.size)) in
     cc
 
-number_behind : (order : Order) (place width : ℕ) (bytes : List ℕ) → number_from order 0 width (drop place bytes) ≡ number_from order place width bytes
-number_behind Little place width bytes = refl
-number_behind Big place width bytes = refl
+number_after : (order : Order) (place width : ℕ) (bytes : List ℕ) → number_from order 0 width (drop place bytes) ≡ number_from order place width bytes
+number_after Little place width bytes = refl
+number_after Big place width bytes = refl
 
 -- a length that was read after the first eight bytes is the one that the record's header says
 pub read_length : (order : Order) (bytes : List ℕ) (kept : ℕ) → kept ≡ number_from order 0 4 (take (length bytes - 8) (drop 8 bytes)) → kept ≡ kept_length order bytes
-read_length order bytes kept said = said ∙ ap (number_from order 0 4) (take_rest bytes 8) ∙ number_behind order 8 4 bytes
+read_length order bytes kept said = said ∙ ap (number_from order 0 4) (take_rest bytes 8) ∙ number_after order 8 4 bytes
 
 -- a record that is cut out of the bytes is found
 pub cut_out : (order : Order) (bytes : List ℕ) (kept moment : ℕ) → 16 ≤ length bytes → kept ≡ number_from order 0 4 (take (length bytes - 8) (drop 8 bytes))

@@ -1,7 +1,7 @@
 //! Ethernet headers with up to two VLAN tags (IEEE 802.3, 802.1Q and 802.1ad).
 ghost use Rattle.std.specs.Prelude.{◌≡◌};
 ghost use Rattle.packet_view.specs.Ethernet.{is_tag_type};
-ghost use Rattle.packet_view.specs.inner.FrameSteps.{behind_tag, content_of, contents};
+ghost use Rattle.packet_view.specs.inner.FrameSteps.{after_tag, content_of, contents};
 
 use byteorder::{BigEndian, ByteOrder};
 
@@ -16,7 +16,7 @@ fn is_tag(kind: u16) -> bool
 /// The type that a frame's content has after one tag, if a tag stands here. None where the tag is cut.
 #[inline]
 fn past_tag(kind: u16, content: &[u8]) -> Option<(u16, &[u8])>
-    ensures { contents result ≡ behind_tag kind content.now }
+    ensures { contents result ≡ after_tag kind content.now }
 {
     if !is_tag(kind) {
         return Some((kind, content));

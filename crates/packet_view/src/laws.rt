@@ -18,7 +18,7 @@ pub fn each_frame_has_one_view()
 {}
 
 /// Bytes after the end of an IP packet that declares its length never change what the frame is.
-pub fn bytes_behind_the_packet_are_not_seen()
+pub fn bytes_after_the_packet_are_not_seen()
     ensures { (frame more source packet : List ℕ) (family : Family) → IsEthernet frame source (ether_type family) packet →
         EndsWithin family packet → (own : Option Mac) (view : FrameFacts) → IsFrame frame own view ↔ IsFrame (frame ++ more) own view }
 {}

@@ -21,7 +21,7 @@ pub use capture::{
 };
 pub use frame::{Frame, view};
 pub use laws::{
-    a_cut_capture_keeps_its_front, bytes_behind_the_packet_are_not_seen,
+    a_cut_capture_keeps_its_front, bytes_after_the_packet_are_not_seen,
     each_capture_has_one_reading, each_frame_has_one_view, own_address_decides_the_way_alone,
 };
 pub use packets::Packets;

@@ -27,19 +27,19 @@ use Rattle.racl_cli.proofs.RunLemmas.{fault_of_known_content, fault_of_known_par
 
 -- ---- bytes within bytes
 
-bytes_behind : (front rest : List ℕ) → AreBytes (front ++ rest) → AreBytes rest
-bytes_behind [] rest fit = fit
-bytes_behind (b ∷ front) rest fit = bytes_behind front rest (λ place. fit (suc place))
+bytes_after : (front rest : List ℕ) → AreBytes (front ++ rest) → AreBytes rest
+bytes_after [] rest fit = fit
+bytes_after (b ∷ front) rest fit = bytes_after front rest (λ place. fit (suc place))
 
 no_bytes : AreBytes []
 no_bytes place = omega arith
 
 bytes_marked : (form : Form) (content marked : List ℕ) → AreBytes marked → IsMarked form content marked → AreBytes content
-bytes_marked form content marked fit (inl (line, marker, same)) = λ place. bytes_behind line (10 ∷ content) (subst AreBytes same fit) (suc place)
+bytes_marked form content marked fit (inl (line, marker, same)) = λ place. bytes_after line (10 ∷ content) (subst AreBytes same fit) (suc place)
 bytes_marked form content marked fit (inr (same, none)) = subst AreBytes (sym none) no_bytes
 
 bytes_of_content : (bytes : List ℕ) (parts : InputFacts) → AreBytes bytes → IsInput bytes parts → AreBytes parts.content
-bytes_of_content bytes parts fit is = bytes_marked parts.form parts.content is.marked (bytes_behind parts.policy is.marked (subst AreBytes is.parted fit)) is.content
+bytes_of_content bytes parts fit is = bytes_marked parts.form parts.content is.marked (bytes_after parts.policy is.marked (subst AreBytes is.parted fit)) is.content
 
 bytes_of_capture : (form : Form) (content capture : List ℕ) → AreBytes content → IsContent form content capture → AreBytes capture
 bytes_of_capture Binary content capture fit is = subst AreBytes (sym is) fit
@@ -237,16 +237,16 @@ parts_of_front bytes rest content form front marked =
     (parts, record { lines = front.lines; plain = front.plain; policy = refl; marked = rest; parted = front.parted; content = marked })
 
 -- the parts, or none are there, where what stands before the rest are lines that are no markers
-parts_behind : (fuel : ℕ) (bytes rest : List ℕ) → length rest < fuel → IsFront bytes rest
+parts_after : (fuel : ℕ) (bytes rest : List ℕ) → length rest < fuel → IsFront bytes rest
     → ((parts : InputFacts) × IsInput bytes parts) ⊎ ((parts : InputFacts) → IsInput bytes parts → ⊥)
-parts_behind zero bytes rest short front = absurd (omega (arith, short))
-parts_behind (suc fuel) bytes rest short front =
+parts_after zero bytes rest short front = absurd (omega (arith, short))
+parts_after (suc fuel) bytes rest short front =
     elim (first_line rest) [
       | inl first ↦ elim (in_one_form (λ form. IsMarker form first.line) (λ form. marks form first.line)) [
         | inl marker ↦ inl (parts_of_front bytes rest first.after marker.0 front (inl (first.line, marker.1, first.is.parted)))
         | inr unmarked ↦
             let shorter : length first.after < fuel = omega (arith, short, ap length first.is.parted, length-append first.line (10 ∷ first.after)) in
-            parts_behind fuel bytes first.after shorter (front_grows bytes rest first.line first.after front first.is unmarked)
+            parts_after fuel bytes first.after shorter (front_grows bytes rest first.line first.after front first.is unmarked)
       ]
       | inr none ↦ elim (in_one_form (λ form. rest ≡ word_of form) (λ form. same_text rest (word_of form))) [
         | inl word ↦ inl (parts_of_front bytes rest [] word.0 front (inr (word.1, refl)))
@@ -256,7 +256,7 @@ parts_behind (suc fuel) bytes rest short front =
 
 outcome_or_fault_of_bytes : (times : Timeouts) (bytes : List ℕ) → ((outcome : Outcome) × FiltersInput (ByOneThread times) bytes outcome) ⊎ ((fault : Fault) × IsFaultOfBytes bytes fault)
 outcome_or_fault_of_bytes times bytes =
-    elim (parts_behind (suc (length bytes)) bytes bytes (omega arith) (front_of_all bytes)) [
+    elim (parts_after (suc (length bytes)) bytes bytes (omega arith) (front_of_all bytes)) [
       | inl is ↦ elim (outcome_or_fault_of_parts times is.0) [
         | inl has ↦ inl (has.0, record { parts = is.0; parted = is.1; policy = has.1.policy; says = has.1.says; filters = has.1.filters })
         | inr found ↦ inr (found.0, inr (is.0, is.1, found.1))

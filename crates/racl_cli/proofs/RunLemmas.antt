@@ -31,7 +31,7 @@ pub fault_without_parts : (bytes : List ℕ) (fault : Fault) → ((parts : Input
 fault_without_parts bytes fault none (inl (same, none')) = same
 fault_without_parts bytes fault none (inr (parts, parted, of)) = absurd (none parts parted)
 
--- where the policy is refused for a cause or out of memory, that is the program's fault
+-- where the policy is refused for a cause or since memory ran out, that is the program's fault
 pub fault_of_wrong_policy : (parts : InputFacts) (found : PolicyFault) (fault : Fault)
     → ((right : PolicyFacts) → IsPolicyText parts.policy right → found ≡ policy.Memory)
     → ((cause : PolicyFault) → IsPolicyFault parts.policy cause → (found ≡ cause) ⊎ (found ≡ policy.Memory))
@@ -71,7 +71,7 @@ excluded_by_input None bytes Excludes read excludes = tt
 excluded_by_input (Some input) bytes Excludes read excludes = λ fault of.
     excludes fault (fault_of_few bytes fault read.few (subst (λ b. IsInputFault b fault) (sym read.whole) of))
 
--- a fault is out of memory or a device's, or what else it is said to be
+-- a fault is that memory ran out, or a device's, or what else it is said to be
 pub device_or : (fault : Fault) (P : Type 0) → (fault ≢ Memory → P) → IsSystemFault fault ⊎ P
 device_or Memory P other = inl tt
 device_or Read P other = inl tt

@@ -93,7 +93,7 @@ pub record Agrees (options : Options) (Has : Judging → Outcome → Type 0) (on
   pub same : HavePages outcome.verdicts → outcome ≡ one_thread
 
 -- What is answered of something that has outcomes and faults. What is right gets an outcome, what has a fault gets that
--- fault, and either may get out of memory.
+-- fault, and either may be told that memory ran out.
 pub record IsAnswer (options : Options) (Has : Judging → Outcome → Type 0) (IsFault : Fault → Type 0) (result : Result Outcome Fault) : Type 0 where
   pub ok : IfOk result (IsReached options Has)
   pub accepts : (one_thread : Outcome) → Has (ByOneThread options.times) one_thread → MatchResult result (Agrees options Has one_thread) (λ fault. fault ≡ Memory)

@@ -15,7 +15,7 @@ use std::io;
 use std::io::ErrorKind as FailureKind;
 
 /// The status with which the program ends: 0 done, 3 done but the capture was truncated, 1 a fault
-/// of the input, 4 out of memory or a device that failed.
+/// of the input, 4 memory that ran out or a device that failed.
 pub fn status(outcome: &Result<Totals, Fault>) -> u8
     ensures { result ≡ status_of outcome.now }
 {

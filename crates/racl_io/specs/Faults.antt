@@ -60,15 +60,15 @@ IsInputFault bytes fault =
     ((fault ≡ TooLarge) × (most_bytes < length bytes))
     ⊎ ((length bytes ≤ most_bytes) × IsFaultOfBytes bytes fault)
 
--- nothing but this fault or out of memory is answered
+-- nothing is answered but this fault, or that memory ran out
 abbrev pub Refuses : {X : Type 0} → Fault → Result X Fault → Type 0
 Refuses fault result = MatchResult result (λ _. ⊥) (λ found. (found ≡ fault) ⊎ (found ≡ Memory))
 
--- nothing but this fault, out of memory, or a device that failed
+-- nothing but this fault, that memory ran out, or that a device failed
 abbrev pub RefusesRead : {X : Type 0} → Fault → Result X Fault → Type 0
 RefusesRead fault result = MatchResult result (λ _. ⊥) (λ found. (found ≡ fault) ⊎ (found ≡ Memory) ⊎ (found ≡ Read))
 
--- no fault of the input: out of memory, or a device that failed
+-- no fault of the input: memory ran out, or a device failed
 abbrev pub IsSystemFault : Fault → Type 0
 IsSystemFault Memory = Unit {0}
 IsSystemFault Read = Unit {0}

@@ -16,7 +16,7 @@ pub trait Source {
     /// How often it failed.
     ghost failures: { Self → ℕ };
 
-    /// failures_after_read some bytes, and none only at the end or where there is no room.
+    /// Reads some bytes, and none only at the end or where there is no room.
     fn read(&mut self, buf: &mut [u8]) -> Result<usize, DeviceFault>
         requires { failures self.old < 2 ^ 64 - 1 }
         ensures bound { IfOk result (λ n. n ≤ length buf.new) }
@@ -32,7 +32,7 @@ pub trait Sink {
     /// How often it failed.
     ghost failures: { Self → ℕ };
 
-    /// failures_after_write some of the bytes.
+    /// Writes some of the bytes.
     fn write(&mut self, buf: &[u8]) -> Result<usize, DeviceFault>
         requires { failures self.old < 2 ^ 64 - 1 }
         ensures bound { IfOk result (λ n. n ≤ length buf.now) }

@@ -16,7 +16,7 @@ use session_state::Timeouts;
 use std::alloc::{AllocError, Global};
 
 /// Reads the words, of which the first is the program's name. An `Err` is a request for the help
-/// or the version, a mistake in the words or out of memory, by its kind.
+/// or the version, a mistake in the words, or that memory ran out, by its kind.
 pub fn options<'a>(alloc: Global, words: &'a [&'a str]) -> Result<Options, Error>
     ensures ok { IfOk result (λ o. AskFor (texts words.entry.now) (option_facts o)) }
 

@@ -3,7 +3,7 @@ use Rattle.std.proofs.Common.{◌≡◌, ◌∙◌, ℕ, List, Some, map, subst,
 use Rattle.std.specs.Prelude.{slice_get}
 use Rattle.acl_policy.specs.declared.rule.Rule.{Rule}
 use Rattle.acl_policy.specs.Rules.{RuleFacts, rule_facts}
-use Rattle.acl_policy.proofs.DecisionLemmas.{slice_get-rule_facts}
+use Rattle.acl_policy.proofs.RulingLemmas.{slice_get-rule_facts}
 use Rattle.acl_policy.proofs.OptionLemmas.{same_some}
 
 -- the facts read at a place are those of the rule there

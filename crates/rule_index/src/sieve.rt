@@ -1,6 +1,6 @@
 //! The first rule that matches, among those that rows of bits leave.
 ghost use Rattle.std.specs.Prelude.{◌≤◌, ◌*◌, ◌+◌, List, map, length, MatchOption};
-ghost use Rattle.acl_policy.specs.Matching.{Decides, IsDecision};
+ghost use Rattle.acl_policy.specs.Matching.{Decides, IsRuling};
 ghost use Rattle.acl_policy.specs.Rules.{RuleFacts, rule_facts};
 ghost use Rattle.packet_view.specs.Tuples.{TupleFacts, tuple_facts};
 ghost use Rattle.rule_index.specs.inner.Candidates.{AllSift, AreLong};
@@ -59,7 +59,7 @@ fn word_of(rows: &Candidates<'_>, i: usize) -> u64
 /// The first rule that matches, where each of the packet's rows has the bit of each rule that does.
 pub fn first_of(rules: &[Rule], tuple: &Tuple, rows: &Candidates<'_>) -> Option<(usize, Action)>
     requires { AllSift (map rule_facts rules.now) (tuple_facts tuple.now) rows.now }
-    ensures { IsDecision (map rule_facts rules.now) (tuple_facts tuple.now) result }
+    ensures { IsRuling (map rule_facts rules.now) (tuple_facts tuple.now) result }
 {
     for i in 0..rows.source.len() {
         if let Some(found) = first_in(rules, tuple, i * 64, word_of(rows, i)) {

@@ -375,7 +375,7 @@ fn first_faults(rt: HostRuntime) {
 }
 
 #[test]
-fn own_address_behind_rules(rt: HostRuntime) -> Result<(), Fail> {
+fn own_address_after_rules(rt: HostRuntime) -> Result<(), Fail> {
     let policy = read_policy(rt.alloc(), b"out deny ipv4 any any\nmac Aa:00:00:00:00:01")?;
     assert_eq!(rt; policy.own, Some(Mac([0xaa, 0, 0, 0, 0, 1])));
     assert_eq!(rt; policy.outbound.len(), 1);

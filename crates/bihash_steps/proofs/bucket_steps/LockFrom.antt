@@ -21,7 +21,7 @@ use Rattle.bihash_steps.proofs.KnownLists.{lawful_here, lawful_set}
 use Rattle.bihash_steps.proofs.CountWord.{stays_at, others_apart}
 use Rattle.bihash_steps.proofs.NotedViews.{unnoted_view}
 use Rattle.bihash_steps.proofs.Frames.{free_none, free_own}
-use Rattle.bihash_steps.proofs.Runs.{beside_bucket, block_keeps, front_still, store_still, count_still, bucket_behind, bucket_inside}
+use Rattle.bihash_steps.proofs.Runs.{beside_bucket, block_keeps, front_still, store_still, count_still, bucket_after, bucket_inside}
 use Rattle.bihash_steps.proofs.Pushed.{counted_numbers, counted_whole, counted_number, counted_short, counted-length}
 use Rattle.bihash_steps.proofs.Whole.{whole_known}
 use Rattle.bihash_steps.proofs.Informed.{known_learned, learned_informed, counted_informed}
@@ -52,7 +52,7 @@ module _ (z : Sizes) where
         acts = acts;
         inside = inside;
         wide = length-set s.words i word';
-        count = count_still z s.words i word' (bucket_behind z b);
+        count = count_still z s.words i word' (bucket_after z b);
         front = store_still z s.words i word' (omega arith);
         beside = beside_bucket z (runs_now r.table.bucket r.table.store.store s.views) s.words b id word' inside;
         block = block_keeps z s.words i word' (omega arith) v.holds.block ok.block;

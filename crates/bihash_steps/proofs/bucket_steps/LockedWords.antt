@@ -21,7 +21,7 @@ use Rattle.bihash_steps.specs.declared.view.HeldBlock.{HeldBlock}
 use Rattle.bihash_steps.specs.declared.view.View.{View}
 use Rattle.bihash_steps.proofs.CountWord.{stays_at, others_apart}
 use Rattle.bihash_steps.proofs.Frames.{Beside, free_own, stands_beside}
-use Rattle.bihash_steps.proofs.Runs.{beside_block, stored_stands, store_still, count_still, bucket_behind, page_behind, word_of_block}
+use Rattle.bihash_steps.proofs.Runs.{beside_block, stored_stands, store_still, count_still, bucket_after, page_after, word_of_block}
 use Rattle.bihash_steps.proofs.bucket_steps.Relocks.{relocked_rule}
 
 module _ (z : Sizes) (s : State (Unit {0}) View) (r : WordRule z s) (id : ℕ) (v : View) (l : LockedBucket) (at : get_elem? s.views id ≡ some v)
@@ -97,8 +97,8 @@ module _ (z : Sizes) where
           acts = acts;
           inside = h.inside;
           wide = length-set s.words i n;
-          count = count_still z s.words i n (let a = page_behind z l.extent.page k in let c = bucket_behind z 0 in omega arith);
-          front = store_still z s.words i n (page_behind z l.extent.page k);
+          count = count_still z s.words i n (let a = page_after z l.extent.page k in let c = bucket_after z 0 in omega arith);
+          front = store_still z s.words i n (page_after z l.extent.page k);
           beside = beside_lock id;
           block = own_block v.holds.block refl ok.block;
           free = free_own id (r.table.bucket l.bucket).lock h.held;

@@ -30,7 +30,7 @@ use Rattle.bihash_steps.specs.declared.view.View.{View}
 use Rattle.bihash_steps.proofs.KnownLists.{lawful_set}
 use Rattle.bihash_steps.proofs.Lists.{there}
 use Rattle.bihash_steps.proofs.Frames.{Keeps, Undisturbed, store_keeps, store_lock_beside, more_writes, more_short, moved}
-use Rattle.bihash_steps.proofs.Runs.{beside_bucket, block_keeps, front_still, store_still, count_still, bucket_behind, bucket_inside, runs_still}
+use Rattle.bihash_steps.proofs.Runs.{beside_bucket, block_keeps, front_still, store_still, count_still, bucket_after, bucket_inside, runs_still}
 use Rattle.bihash_steps.proofs.Put.{put, put_here, put_else}
 use Rattle.bihash_steps.proofs.Pushed.{push-length, push_numbers, push_whole, push_number, push_short, acting_is}
 use Rattle.bihash_steps.proofs.bucket_steps.Written.{after_last, list_more, bearers_more, written_informed}
@@ -188,7 +188,7 @@ module _ (z : Sizes) where
         at = at;
         acts = acts;
         wide = length-set s.words i n;
-        count = count_still z s.words i n (bucket_behind z b);
+        count = count_still z s.words i n (bucket_after z b);
         elsewhere = elsewhere;
         beside = beside_bucket z (runs_now r.table.bucket r.table.store.store s.views) s.words b id n bucket_in;
         free = λ j ne f. ne (let h = held_bucket.held in cc);

@@ -21,7 +21,7 @@ use Rattle.bihash_steps.specs.declared.view.Extent.{Extent}
 use Rattle.bihash_steps.specs.declared.view.View.{View}
 use Rattle.bihash_steps.proofs.KnownLists.{lawful_here}
 use Rattle.bihash_steps.proofs.Frames.{free_none, free_own}
-use Rattle.bihash_steps.proofs.Runs.{beside_bucket, block_keeps, front_still, store_still, count_still, bucket_behind, bucket_inside}
+use Rattle.bihash_steps.proofs.Runs.{beside_bucket, block_keeps, front_still, store_still, count_still, bucket_after, bucket_inside}
 use Rattle.bihash_steps.proofs.Pushed.{push_numbers, push_whole, push_number, push_short, push-length}
 use Rattle.bihash_steps.proofs.Informed.{answered_informed, bears_own}
 use Rattle.bihash_steps.proofs.bucket_steps.Relocks.{relocking, relocked_rule}
@@ -63,7 +63,7 @@ module _ (z : Sizes) where
         acts = acts;
         inside = inside;
         wide = length-set s.words i word;
-        count = count_still z s.words i word (bucket_behind z b);
+        count = count_still z s.words i word (bucket_after z b);
         front = store_still z s.words i word (omega arith);
         beside = beside_bucket z (runs_now r.table.bucket r.table.store.store s.views) s.words b id word inside;
         block = block_keeps z s.words i word (omega arith) v.holds.block ok.block;

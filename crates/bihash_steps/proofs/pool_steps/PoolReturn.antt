@@ -20,7 +20,7 @@ use Rattle.bihash_steps.proofs.CountWord.{front}
 use Rattle.bihash_steps.proofs.Frames.{list_inside}
 use Rattle.bihash_steps.proofs.Runs.{block_keeps, runs_still}
 use Rattle.bihash_steps.proofs.Exchange.{parted_relisted}
-use Rattle.bihash_steps.proofs.pool_steps.PoolWords.{list_behind, list_still, same_list}
+use Rattle.bihash_steps.proofs.pool_steps.PoolWords.{list_after, list_still, same_list}
 use Rattle.bihash_steps.proofs.pool_steps.PoolFrame.{after_store, word_inside, held_store, known_store, known_runs, held_moved}
 
 first_at : (xs : List ℕ) (page k : ℕ) → k < length xs → slice_index (xs ++ page ∷ []) k ≡ slice_index xs k
@@ -34,10 +34,10 @@ last_at (x ∷ xs) page = last_at xs page
 
 module _ (z : Sizes) where
   -- a store after the last of a list leaves the page store
-  store_behind : (words : List ℕ) (writes log2 count word : ℕ) (q : StoreState) → log2 ≤ z.max_log2 → length (returned_in q.store log2) ≡ count
+  store_after : (words : List ℕ) (writes log2 count word : ℕ) (q : StoreState) → log2 ≤ z.max_log2 → length (returned_in q.store log2) ≡ count
       → count < list_words z log2 → IsStore z words writes q → IsStore z (set words (list_at z log2 + count) word) writes q
-  store_behind words writes log2 count word q small is room ok =
-      let behind = list_behind z log2 in
+  store_after words writes log2 count word q small is room ok =
+      let behind = list_after z log2 in
       let i : ℕ = list_at z log2 + count in
       let far : (k : ℕ) → k ≢ i → slice_index (set words i word) k ≡ slice_index words k = λ k ne. get_or-set_other words i k word 0 ne in record {
         lock = far 1 (λ e. omega arith) ∙ ok.lock;
@@ -84,7 +84,7 @@ module _ (z : Sizes) where
       rule : WordRule z (after_store s id (holding v (Some known) v.holds.block) (list_at z log2 + count) page)
       rule = let low = inside.0 in
           held_moved z s r id v seat n may.store (list_at z log2 + count) page n.store known.listed v.holds.block acts (omega arith) inside.1
-          (store_behind s.words (all_writes z r.table.bucket) log2 count page (record { store = n.store; lock = Some id }) may.small may.listed
+          (store_after s.words (all_writes z r.table.bucket) log2 count page (record { store = n.store; lock = Some id }) may.small may.listed
           may.room (known_store z s r id v seat n may.store))
           record {
             small = may.small;

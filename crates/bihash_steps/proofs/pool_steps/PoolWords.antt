@@ -16,9 +16,9 @@ same_power m n e = dite (dec_lt m n) (λ h. absurd (let l = pow_below m n h in o
 module _ (z : Sizes) where
   -- ---- The lists of returned blocks, one after the other
 
-  pub list_behind : (log2 : ℕ) → 4 + z.max_log2 ≤ list_at z log2
+  pub list_after : (log2 : ℕ) → 4 + z.max_log2 ≤ list_at z log2
   unfolding list_at
-  list_behind log2 = let x : ℕ = lists_words z log2 in omega arith
+  list_after log2 = let x : ℕ = lists_words z log2 in omega arith
 
   -- a word of one list is none of another
   pub lists_apart : (log2 other i k : ℕ) → log2 ≢ other → i < list_words z log2 → k < list_words z other → list_at z log2 + i ≢ list_at z other + k
@@ -35,7 +35,7 @@ module _ (z : Sizes) where
   -- a store before the lists leaves them
   pub list_still : (words : List ℕ) (i n log2 : ℕ) (xs : List ℕ) → i < 4 + z.max_log2 → Stands words (list_at z log2) xs
       → Stands (set words i n) (list_at z log2) xs
-  list_still words i n log2 xs before stands k lt = let a = list_behind log2 in
+  list_still words i n log2 xs before stands k lt = let a = list_after log2 in
       get_or-set_other words i (list_at z log2 + k) n 0 (λ e. omega arith) ∙ stands k lt
 
 -- the words from `at` on

@@ -19,7 +19,7 @@ use Rattle.bihash_steps.specs.declared.view.HeldBlock.{HeldBlock}
 use Rattle.bihash_steps.specs.declared.view.View.{View}
 use Rattle.bihash_steps.proofs.CountWord.{front}
 use Rattle.bihash_steps.proofs.Frames.{Beside, free_none, grows_not, keeps_refl, stands_beside, store_keeps, store_lock_beside, moved}
-use Rattle.bihash_steps.proofs.Runs.{near_end, run_word, beside_block, stored_stands, store_still, count_still, page_behind, word_of_block, runs_still}
+use Rattle.bihash_steps.proofs.Runs.{near_end, run_word, beside_block, stored_stands, store_still, count_still, page_after, word_of_block, runs_still}
 
 module _ (z : Sizes) (s : State (Unit {0}) View) (r : WordRule z s) (id : ℕ) (v : View) (at : get_elem? s.views id ≡ some v)
     (acts : 1 ≤ length v.records) (h : HeldBlock) (held : v.holds.block ≡ Some h) (k n : ℕ) (below : k < block_words z h.page h.log2) where
@@ -44,7 +44,7 @@ module _ (z : Sizes) (s : State (Unit {0}) View) (r : WordRule z s) (id : ℕ) (
   beside = beside_block z r.table.store.store.used has r.parted s.words (buckets z) id h.page h.log2 k n (inr owned) below
 
   front_same : (i : ℕ) → 1 ≤ i → i < front_words z → slice_index words' i ≡ slice_index s.words i
-  front_same = store_still z s.words (page_at z h.page + k) n (page_behind z h.page k)
+  front_same = store_still z s.words (page_at z h.page + k) n (page_after z h.page k)
 
   -- the seat's own bucket has another block
   lock_still : (known : Known) (lock : Option LockedBucket) → HoldsBucketIf z s.words r.table.bucket id known lock
@@ -95,7 +95,7 @@ module _ (z : Sizes) (s : State (Unit {0}) View) (r : WordRule z s) (id : ℕ) (
   held_word_rule : WordRule z record { words = words'; homes = s.homes; views = set s.views id stored }
   held_word_rule =
       let nobody = r.outside (buckets z) (le_refl (buckets z)) in
-      let behind : 1 ≤ page_at z h.page + k = let top = front z in let past = page_behind z h.page k in omega arith in
+      let behind : 1 ≤ page_at z h.page + k = let top = front z in let past = page_after z h.page k in omega arith in
       moved z s r (buckets z) id v stored words' r.table.bucket r.table.store record {
         at = at;
         acts = acts;

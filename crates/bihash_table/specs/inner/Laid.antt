@@ -1,5 +1,5 @@
 -- A larger block that is laid out for a bucket whose lock the caller has.
-use Rattle.std.specs.Prelude.{◌≡◌, ℕ, ◌*◌, ◌^◌, ◌<◌, ◌≤◌, Bool, List, length, None}
+use Rattle.std.specs.Prelude.{◌≡◌, ℕ, ◌*◌, ◌^◌, ◌<◌, ◌≤◌, List, length, None}
 use Rattle.std.specs.FinMap.{insert, len}
 use Rattle.bihash_words.specs.Maps.{most_pairs}
 use Rattle.bihash_words.specs.declared.block_size.BlockSize.{BlockSize}

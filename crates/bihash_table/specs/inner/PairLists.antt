@@ -80,7 +80,7 @@ pub record IsIdleAndLone (z : Sizes) (row : _) (s : CallerState) : Type 0 where
   pub lawful : IsLawfulCaller z s.view
 
 -- the same caller, lawful, after locks that it took and opened
-pub record IsBehindLocks (z : Sizes) (s t : CallerState) : Type 0 where
+pub record IsAfterLocks (z : Sizes) (s t : CallerState) : Type 0 where
   pub same : t ≡ with_view s t.view
   pub took : TookLocks s.view t.view
   pub lawful : IsLawfulCaller z t.view

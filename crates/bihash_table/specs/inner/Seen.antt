@@ -58,7 +58,7 @@ pub record LocksSeen (z : Sizes) (v w : View) (b word : ℕ) : Type 0 where
 pub record TellsLook (z : Sizes) (s t : CallerState) (b : ℕ) (r : Option ℕ) : Type 0 where
   pub same : t ≡ with_view s t.view
   pub opened : IfSome r (IsOpened z s.view t.view b)
-  pub turned_away : IfNone r (IsContended z s.view t.view b)
+  pub contended : IfNone r (IsContended z s.view t.view b)
   pub no_lock : IfNone r (t.view.records ≡ s.view.records)
   pub lone : s.view.lone ≡ true → is_some r ≡ true
   pub lawful : IsLawfulCaller z t.view
@@ -67,7 +67,7 @@ pub record TellsLook (z : Sizes) (s t : CallerState) (b : ℕ) (r : Option ℕ) 
 pub record TellsLock (z : Sizes) (s t : CallerState) (b word : ℕ) (won : Bool) : Type 0 where
   pub same : t ≡ with_view s t.view
   pub locked : won ≡ true → LocksSeen z s.view t.view b word
-  pub turned_away : won ≡ false → IsContended z s.view t.view b
+  pub contended : won ≡ false → IsContended z s.view t.view b
   pub no_lock : won ≡ false → t.view.records ≡ s.view.records
   pub lone : s.view.lone ≡ true → won ≡ true
   pub lawful : IsLawfulCaller z t.view

@@ -28,15 +28,15 @@ abbrev pub contents : Option (ℕ × Bor (List ℕ)) → Option (ℕ × List ℕ
 contents found = option_map (λ c. (c.0, c.1.now)) found
 
 -- after a tag, where one stands
-abbrev pub behind_tag : ℕ → List ℕ → Option (ℕ × List ℕ)
-behind_tag kind content =
+abbrev pub after_tag : ℕ → List ℕ → Option (ℕ × List ℕ)
+after_tag kind content =
     if is_tag_type kind then (if nat_lt (length content) 4 then None else Some (number_from 2 2 content, drop 4 content))
     else Some (kind, content)
 
 abbrev pub content_of : List ℕ → Option (ℕ × List ℕ)
 content_of frame =
     if nat_lt (length frame) 14 then None
-    else option_and_then (λ c. behind_tag c.0 c.1) (behind_tag (number_from 12 2 frame) (drop 14 frame))
+    else option_and_then (λ c. after_tag c.0 c.1) (after_tag (number_from 12 2 frame) (drop 14 frame))
 
 -- an `IpPacket` as a value
 pub record IpPacketFacts : Type 0 where
@@ -102,14 +102,14 @@ abbrev pub is_malformed_v6 : List ℕ → Bool
 is_malformed_v6 bytes = nat_lt (length bytes) 40 || not (ipv6.version bytes == 6)
 
 -- the bytes after the first forty, up to the packet's end
-abbrev pub behind_header : List ℕ → List ℕ
-behind_header bytes = take (extent (ipv6.payload_length bytes) (length bytes - 40)) (drop 40 bytes)
+abbrev pub after_header : List ℕ → List ℕ
+after_header bytes = take (extent (ipv6.payload_length bytes) (length bytes - 40)) (drop 40 bytes)
 
 abbrev pub packet_of_v6 : List ℕ → Option IpPacketFacts
 packet_of_v6 bytes =
     if is_malformed_v6 bytes then None
     else option_map (λ u. record { family = V6; source = ipv6.source bytes; dest = ipv6.dest bytes; upper = u })
-    (walk 8 (ipv6.next_header bytes) (behind_header bytes))
+    (walk 8 (ipv6.next_header bytes) (after_header bytes))
 
 abbrev pub fields_of : Family → ℕ → List ℕ → Option Fields
 fields_of family proto payload =

@@ -1,7 +1,7 @@
 //! Rules indexed, and the rule of a packet found.
 ghost use Rattle.std.specs.Prelude.{◌≡◌, ◌<◌, ℕ, IfOk, IfSome, Option, length, map};
 ghost use Rattle.acl_policy.specs.declared.rule.Action.{Action};
-ghost use Rattle.acl_policy.specs.Matching.{IsDecision};
+ghost use Rattle.acl_policy.specs.Matching.{IsRuling};
 ghost use Rattle.acl_policy.specs.Rules.{rule_facts};
 ghost use Rattle.packet_view.specs.Tuples.{tuple_facts};
 ghost use Rattle.rule_index.specs.inner.Candidates.{AllSift};
@@ -99,9 +99,9 @@ impl RuleIndex {
 
     /// The first rule that matches, by its place from 0, and what it does. `None`: no rule matches.
     pub fn first_match(&self, tuple: &Tuple) -> Option<(usize, Action)>
-        ensures decided { IsDecision (map rule_facts self.now.rules.items) (tuple_facts tuple.now) result }
+        ensures decided { IsRuling (map rule_facts self.now.rules.items) (tuple_facts tuple.now) result }
         ensures only { (other : Option (ℕ × Action))
-            → IsDecision (map rule_facts self.now.rules.items) (tuple_facts tuple.now) other → other ≡ result }
+            → IsRuling (map rule_facts self.now.rules.items) (tuple_facts tuple.now) other → other ≡ result }
         ensures place { IfSome result (λ d. d.0 < length self.now.rules.items) }
     {
         first_of(&self.rules, tuple, &self.candidates(tuple))

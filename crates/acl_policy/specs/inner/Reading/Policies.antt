@@ -32,14 +32,14 @@ abbrev pub HasRoom : PolicyFacts → Option LineFacts → Type 0
 HasRoom policy (Some (Ruled direction rule)) = length (rules_of direction policy) < most_rules
 HasRoom policy other = ⊥
 
--- The fault is the one that a function gives, or out of memory, which comes only so.
+-- The fault is the one that a function gives, or that memory ran out, which is told only so.
 abbrev pub Fails : {A : Type 0} → Type 0 → Result A PolicyFault → PolicyFault → Type 0
 Fails AsksMemory wanted Memory = AsksMemory
 Fails AsksMemory wanted NotUtf8 = wanted ≡ Err NotUtf8
 Fails AsksMemory wanted (BadLine number) = wanted ≡ Err (BadLine number)
 Fails AsksMemory wanted (TooMany number) = wanted ≡ Err (TooMany number)
 
--- The fault is the first one of these lines, or out of memory for a rule.
+-- The fault is the first one of these lines, or that memory ran out for a rule.
 abbrev pub LinesFail : List (List ℕ) → PolicyFault → Type 0
 LinesFail texts Memory = HasRule texts
 LinesFail texts NotUtf8 = ⊥

@@ -34,8 +34,8 @@ flags_in word = do
   Some (value, mask)
 
 -- the words after a name
-unfoldable pub behind_in : List ℕ → List (List ℕ) → Option (List (List ℕ))
-behind_in name words = next_in words >>= λ next. if bytes_eq next.0 name then Some next.1 else None
+unfoldable pub after_in : List ℕ → List (List ℕ) → Option (List (List ℕ))
+after_in name words = next_in words >>= λ next. if bytes_eq next.0 name then Some next.1 else None
 
 -- the value of a part, and the words after it, where the words after its name are known
 abbrev pub value_in : (List ℕ → Option (ℕ × ℕ)) → ℕ × ℕ → List (List ℕ) → Option (List (List ℕ)) → Option ((ℕ × ℕ) × List (List ℕ))
@@ -44,7 +44,7 @@ value_in read usual words (Some rest) = next_in rest >>= λ next. option_map (λ
 
 -- the value of a part, and the words after it; the usual value where the part isn't the first
 unfoldable pub part_in : List ℕ → (List ℕ → Option (ℕ × ℕ)) → ℕ × ℕ → List (List ℕ) → Option ((ℕ × ℕ) × List (List ℕ))
-part_in name read usual words = value_in read usual words (behind_in name words)
+part_in name read usual words = value_in read usual words (after_in name words)
 
 abbrev pub made : ℕ → ℕ × ℕ → ℕ × ℕ → ℕ × ℕ → Traffic
 made proto first second flags = record { proto = proto; first = first; second = second; value = flags.0; mask = flags.1 }

@@ -1,4 +1,3 @@
-use Rattle.std.proofs.Common.{arith}
 use Rattle.bihash_steps.proofs.Bounds.{pages_are}
 use Rattle.bihash_steps.proofs.places.pages_front.Goals as goal
 

@@ -1,4 +1,4 @@
-use Rattle.std.proofs.Common.{◌∙◌, None, ap, arith, sym}
+use Rattle.std.proofs.Common.{◌∙◌, None, ap, arith, refl, sym}
 use Rattle.bihash_words.specs.Sizes.{sizes_of}
 use Rattle.bihash_words.specs.declared.patch.Change.TheVariants.{Set}
 use Rattle.bihash_steps.specs.BucketSteps.{map_now}
@@ -9,7 +9,7 @@ use Rattle.bihash_table.proofs.Changes.{filled, may_fill, value_is_stored}
 use Rattle.bihash_table.proofs.LookedAt.{pair_value}
 use Rattle.bihash_table.proofs.LockCounts.{locks_pushed}
 use Rattle.bihash_table.proofs.SameCallers.{own_through, same_through, view_is}
-use Rattle.bihash_table.proofs.Storing.{held_now, holds_stored}
+use Rattle.bihash_table.proofs.Storing.{holds_stored, store_told}
 use Rattle.bihash_table.proofs.Tries.{finished_write}
 use Rattle.bihash_table.proofs.change.fill.Goals as goal
 
@@ -33,9 +33,8 @@ publish-requires-clause-at g c =
     let z = sizes_of g.S.Shape in let v = c.args.seat.now.view in let site = c.args.seen.now.site in
     let h = c.requires in
     let k = c.store_key.ensures.stored h.lock h.has in
-    let held = held_now z v site.bucket c.args.seen.now.word h.lock h.has c.store_key.new.seat.view c.args.place h.told.1.inside
-    (g.S.Shape.words_of site.key.now) g.S.Shape.WORDS k in
-    let step = c.store_word.ensures (record h.lock { now = k.now; stored = k.stored }) held in
+    let step = store_told z v site.bucket c.args.seen.now.word h.lock h.has c.store_key.new.seat.view c.args.place h.told.1.inside _ _ k
+    c.store_key.new.seat c.store_word.new.seat refl _ _ c.store_word.ensures in
     record { own = own_through c.store_key.new.seat _ _ step (own_through c.args.seat.now _ _ c.store_key.ensures.same h.own); inside = h.has.inside }
 
 pub publish-requires-clause-may : goal.publish-requires-clause-may
@@ -43,9 +42,8 @@ publish-requires-clause-may g c =
     let z = sizes_of g.S.Shape in let v = c.args.seat.now.view in let site = c.args.seen.now.site in
     let h = c.requires in
     let k = c.store_key.ensures.stored h.lock h.has in
-    let held = held_now z v site.bucket c.args.seen.now.word h.lock h.has c.store_key.new.seat.view c.args.place h.told.1.inside
-    (g.S.Shape.words_of site.key.now) g.S.Shape.WORDS k in
-    let step = c.store_word.ensures (record h.lock { now = k.now; stored = k.stored }) held in
+    let step = store_told z v site.bucket c.args.seen.now.word h.lock h.has c.store_key.new.seat.view c.args.place h.told.1.inside _ _ k
+    c.store_key.new.seat c.store_word.new.seat refl _ _ c.store_word.ensures in
     may_fill z v site.bucket c.args.seen.now.word h.lock h.has (g.S.Shape.words_of site.key.now) site.counted (sym site.home) h.unworn
     c.args.place c.args.value h.told.1
     (sym (pair_value z h.lock.extent h.lock.now (g.S.Shape.words_of site.key.now) (map_now v site.bucket) None h.told.0 h.has.pairs))
@@ -58,9 +56,8 @@ returns g c =
     let z = sizes_of g.S.Shape in let v = c.args.seat.now.view in let site = c.args.seen.now.site in
     let h = c.requires in
     let k = c.store_key.ensures.stored h.lock h.has in
-    let held = held_now z v site.bucket c.args.seen.now.word h.lock h.has c.store_key.new.seat.view c.args.place h.told.1.inside
-    (g.S.Shape.words_of site.key.now) g.S.Shape.WORDS k in
-    let step = c.store_word.ensures (record h.lock { now = k.now; stored = k.stored }) held in
+    let step = store_told z v site.bucket c.args.seen.now.word h.lock h.has c.store_key.new.seat.view c.args.place h.told.1.inside _ _ k
+    c.store_key.new.seat c.store_word.new.seat refl _ _ c.store_word.ensures in
     let done = c.publish.ensures.view in
     finished_write g.S.Shape c.args.seat.now c.publish.new.caller site.key.now None (Set c.args.value)
     (same_through c.args.seat.now c.store_word.new.seat c.publish.new.caller _

@@ -16,8 +16,8 @@ pub lock_seen-requires-clause-seen : goal.lock_seen-requires-clause-seen
 lock_seen-requires-clause-seen g c =
     (seen_first (sizes_of g.S.Shape) _ _ _ _ c.read_pairs-read.ensures.saw c.in-Some.ensures.opened.has).seen
 
-pub returns-clause-behind : goal.returns-clause-behind
-returns-clause-behind g c =
+pub returns-clause-after : goal.returns-clause-behind
+returns-clause-after g c =
     let s = c.args.seat.now in
     let v = s.view in
     let is : c.release.new.caller.view ≡ without_lock c.lock_seen.new.seat.view = ap (λ (s : CallerState). s.view) c.release.ensures.view in

@@ -19,7 +19,7 @@ use Rattle.bihash_table.proofs.OpenPlaces.{word_tells}
 use Rattle.bihash_table.proofs.Planning.{is_shortage}
 use Rattle.bihash_table.proofs.Replacing.{block_held, block_of, is_ready, locked_on, looked, looked_same, may_enter, may_refuse, published, ready_same, same_through, seen_same, store_held, was_answered}
 use Rattle.bihash_table.proofs.SameCallers.{own_through}
-use Rattle.bihash_table.proofs.Stores.{bears_noted, holds_old, left_answered, left_written, some_places, still_lawful, turned_away}
+use Rattle.bihash_table.proofs.Stores.{bears_noted, holds_old, left_answered, left_written, some_places, still_lawful, contended}
 use Rattle.bihash_table.proofs.Tries.{finished, finished_away, finished_write}
 use Rattle.bihash_table.proofs.grow.enter.Goals as goal
 
@@ -33,7 +33,7 @@ returns-then-not-pool_lock g c =
     (seen_same s c.release.new.caller (c.release.ensures.view ∙ ap (λ (k : CallerState). with_view k (without_lock k.view)) c.pool_lock.ensures.same))
     c.release.ensures.lawful (ap (λ (k : CallerState). locks_of k.view.records) c.release.ensures.view ∙ ap (λ (v : View). locks_of v.records) not)
     _ site.bucket (sym site.home)
-    (turned_away (sizes_of g.S.Shape) s.view c.pool_lock.new.caller.view c.release.new.caller.view site.bucket c.args.seen.now.word h.lock h.has
+    (contended (sizes_of g.S.Shape) s.view c.pool_lock.new.caller.view c.release.new.caller.view site.bucket c.args.seen.now.word h.lock h.has
     not (ap (λ (k : CallerState). k.view) c.release.ensures.view))
     (λ lone. true≢false (sym (c.pool_lock.ensures.lone lone (ap (λ (k : Holdings). k.store) h.has.held)) ∙ c.if-not-pool_lock.true))
 

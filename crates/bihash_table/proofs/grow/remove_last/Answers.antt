@@ -12,7 +12,7 @@ use Rattle.bihash_table.proofs.LockCounts.{locks_pushed}
 use Rattle.bihash_table.proofs.OpenPlaces.{word_tells}
 use Rattle.bihash_table.proofs.Replacing.{emptied, found_there, locked_on, may_empty, published, same_through, seen_same, store_only}
 use Rattle.bihash_table.proofs.SameCallers.{own_through}
-use Rattle.bihash_table.proofs.Stores.{holds_old, left_written, still_lawful, turned_away}
+use Rattle.bihash_table.proofs.Stores.{holds_old, left_written, still_lawful, contended}
 use Rattle.bihash_table.proofs.Tries.{finished_away, finished_write}
 use Rattle.bihash_table.proofs.grow.remove_last.Goals as goal
 
@@ -26,7 +26,7 @@ returns-then-not-pool_lock g c =
     (seen_same s c.release.new.caller (c.release.ensures.view ∙ ap (λ (k : CallerState). with_view k (without_lock k.view)) c.pool_lock.ensures.same))
     c.release.ensures.lawful (ap (λ (k : CallerState). locks_of k.view.records) c.release.ensures.view ∙ ap (λ (v : View). locks_of v.records) not)
     _ site.bucket (sym site.home)
-    (turned_away (sizes_of g.S.Shape) s.view c.pool_lock.new.caller.view c.release.new.caller.view site.bucket c.args.seen.now.word h.lock h.has
+    (contended (sizes_of g.S.Shape) s.view c.pool_lock.new.caller.view c.release.new.caller.view site.bucket c.args.seen.now.word h.lock h.has
     not (ap (λ (k : CallerState). k.view) c.release.ensures.view))
     (λ lone. true≢false (sym (c.pool_lock.ensures.lone lone (ap (λ (k : Holdings). k.store) h.has.held)) ∙ c.if-not-pool_lock.true))
 

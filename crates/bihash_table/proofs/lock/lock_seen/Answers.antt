@@ -24,7 +24,7 @@ returns g c = let h = c.requires.seen in let told = c.lock_from.ensures in recor
   same = told.same;
   locked = λ won. locks_seen (sizes_of g.S.Shape) _ _ _ _ h (told.taken won)
       (told.rests won h.block.open_bucket h.block.noted h.bucket (open_word_is (sizes_of g.S.Shape) _ _ _ h));
-  turned_away = λ lost. not_taken (sizes_of g.S.Shape) _ _ _ h.held (told.not lost);
+  contended = λ lost. not_taken (sizes_of g.S.Shape) _ _ _ h.held (told.not lost);
   no_lock = λ lost. ap (λ (v : View). v.records) (told.not lost);
   lone = λ lone. told.lone lone h.block.open_bucket h.block.noted h.bucket (open_word_is (sizes_of g.S.Shape) _ _ _ h);
   lawful = told.lawful;

@@ -10,7 +10,7 @@ pub returns-then-locked : goal.returns-then-locked
 returns-then-locked g c = record {
   same = c.load_bucket-word.ensures.same;
   opened = tt;
-  turned_away = locked_turns_away (sizes_of g.S.Shape) _ _ _ _ c.requires.free
+  contended = locked_turns_away (sizes_of g.S.Shape) _ _ _ _ c.requires.free
       (sees_locked _ _ _ _ _ _ c.locked.ensures c.if-locked.true c.load_bucket-word.ensures.seen);
   no_lock = seen_records (sizes_of g.S.Shape) _ _ _ _ c.load_bucket-word.ensures.seen;
   lone = λ lone. absurd (open_not_locked _ _ _ _ _ _ c.locked.ensures c.if-locked.true
@@ -23,7 +23,7 @@ returns g c = record {
   same = c.load_bucket-word.ensures.same;
   opened = opened (sizes_of g.S.Shape) _ _ _ _ c.requires.inside c.requires.free
       (sees_open _ _ _ _ _ _ c.locked.ensures c.if-locked.false c.load_bucket-word.ensures.seen) c.load_bucket-word.ensures.whole;
-  turned_away = tt;
+  contended = tt;
   no_lock = tt;
   lone = λ lone. refl;
   lawful = c.load_bucket-word.ensures.lawful;

@@ -1,4 +1,4 @@
-use Rattle.std.proofs.Common.{◌*◌, ◌+◌, ℕ, None, arith, subst}
+use Rattle.std.proofs.Common.{◌*◌, ℕ, None, arith, subst}
 use Rattle.bihash_words.specs.Sizes.{sizes_of}
 use Rattle.bihash_table.specs.inner.OpenReads.{HasRead, IsPairAmong}
 use Rattle.bihash_table.proofs.LookedAt.{nothing_among, pair_among_open}

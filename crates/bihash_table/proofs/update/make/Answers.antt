@@ -1,14 +1,11 @@
-use Rattle.std.proofs.Common.{◌≢◌, ◌∙◌, ℕ, Option, ap, refl, subst, sym}
+use Rattle.std.proofs.Common.{ℕ, Option, ap, refl, subst, sym}
 use Rattle.bihash_words.specs.Sizes.{sizes_of}
-use Rattle.bihash_words.specs.Maps.{effect_of}
-use Rattle.bihash_words.specs.declared.patch.Change.TheVariants.{Keep}
 use Rattle.bihash_steps.specs.Histories.{bounds_of}
 use Rattle.bihash_table.specs.inner.OpenReads.{value_of}
-use Rattle.bihash_table.specs.inner.Seen.{Found}
 use Rattle.bihash_table.specs.Tries.{Tried}
 use Rattle.bihash_table.proofs.Decisions.{kept_step, worn_step}
 use Rattle.bihash_table.proofs.Sights.{seen_as}
-use Rattle.bihash_table.proofs.Tries.{value_seen}
+use Rattle.bihash_table.proofs.Tries.{value_seen, wants_change}
 use Rattle.bihash_table.proofs.Versions.{unworn, worn}
 use Rattle.bihash_table.proofs.update.make.Goals as goal
 
@@ -48,16 +45,9 @@ returns-then-is_worn g c = let site = c.args.seen.now.site in
     c.answer-then-is_worn.result) c.value_found-found.ensures c.answer-then-is_worn.ensures
 
 pub change_pair-requires : goal.change_pair-requires
-change_pair-requires g c =
-    let h = subst (λ (p : Option (ℕ × ℕ)). Found g.S.Shape c.args.row.now c.args.caller.now.seat c.args.seen.now.site.bucket c.args.seen.now.word
-    c.args.seen.now.site.key.now p) c.in-Some.is c.requires.found in record {
-      own = h.own;
-      seen = h.seen;
-      unworn = unworn (sizes_of g.S.Shape) _ _ _ h.seen.seen c.is_worn.result c.is_worn.ensures c.if-is_worn.false;
-      wanted = subst (λ (f : Option ℕ). effect_of c.args.change f ≢ Keep) (c.value_found-found.ensures ∙ ap value_of c.in-Some.is)
-          (c.is_idle.ensures.no c.if-is_idle.false);
-      storable = c.requires.storable;
-    }
+change_pair-requires g c = wants_change g.S.Shape _ _ _ _ _ _ _ _ _ c.in-Some.is c.value_found-found.ensures c.requires.found
+    (unworn (sizes_of g.S.Shape) _ _ _ c.requires.found.seen.seen c.is_worn.result c.is_worn.ensures c.if-is_worn.false)
+    (c.is_idle.ensures.no c.if-is_idle.false) c.requires.storable
 
 pub returns-in-Some : goal.returns-in-Some
 returns-in-Some g c = let site = c.args.seen.now.site in
@@ -65,16 +55,9 @@ returns-in-Some g c = let site = c.args.seen.now.site in
     c.change_pair.result) (sym (ap value_of c.in-Some.is)) c.change_pair.ensures
 
 pub enter_new-requires : goal.enter_new-requires
-enter_new-requires g c =
-    let h = subst (λ (p : Option (ℕ × ℕ)). Found g.S.Shape c.args.row.now c.args.caller.now.seat c.args.seen.now.site.bucket c.args.seen.now.word
-    c.args.seen.now.site.key.now p) c.in-None.is c.requires.found in record {
-      own = h.own;
-      seen = h.seen;
-      unworn = unworn (sizes_of g.S.Shape) _ _ _ h.seen.seen c.is_worn.result c.is_worn.ensures c.if-is_worn.false;
-      wanted = subst (λ (f : Option ℕ). effect_of c.args.change f ≢ Keep) (c.value_found-found.ensures ∙ ap value_of c.in-None.is)
-          (c.is_idle.ensures.no c.if-is_idle.false);
-      storable = c.requires.storable;
-    }
+enter_new-requires g c = wants_change g.S.Shape _ _ _ _ _ _ _ _ _ c.in-None.is c.value_found-found.ensures c.requires.found
+    (unworn (sizes_of g.S.Shape) _ _ _ c.requires.found.seen.seen c.is_worn.result c.is_worn.ensures c.if-is_worn.false)
+    (c.is_idle.ensures.no c.if-is_idle.false) c.requires.storable
 
 pub returns-in-None : goal.returns-in-None
 returns-in-None g c = let site = c.args.seen.now.site in

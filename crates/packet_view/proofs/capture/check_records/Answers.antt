@@ -2,7 +2,7 @@ use Rattle.std.proofs.Common.{◌≡◌, ◌∙◌, ◌≤◌, ◌++◌, ◌∷�
 use Rattle.packet_view.specs.Captures.{AreRecords, IsEnd, PacketFacts, end_of}
 use Rattle.packet_view.specs.RecordLists.{packets_in, bytes_of}
 use Rattle.packet_view.proofs.RecordLemmas.{AreRecords-push}
-use Rattle.packet_view.proofs.RecordListLemmas.{records_few, records_listed, records_within}
+use Rattle.packet_view.proofs.RecordListLemmas.{records_listed, records_within}
 use Rattle.packet_view.proofs.capture.check_records.Goals as goal
 use Rattle.packet_view.proofs.capture.check_records.Goals.{in-End, in-Truncated}
 

@@ -5,7 +5,7 @@ use Rattle.std.proofs.lemmas.Option.{slice_get_read, slice_get_within}
 use Rattle.packet_view.specs.Tuples.{tuple_facts}
 use Rattle.acl_policy.specs.Matching.{Matches}
 use Rattle.acl_policy.specs.Rules.{RuleFacts, rule_facts}
-use Rattle.acl_policy.proofs.DecisionLemmas.{slice_get-rule_facts}
+use Rattle.acl_policy.proofs.RulingLemmas.{slice_get-rule_facts}
 use Rattle.acl_policy.proofs.OptionLemmas.{same_some}
 use Rattle.rule_index.proofs.sieve.match_at.Goals as goal
 

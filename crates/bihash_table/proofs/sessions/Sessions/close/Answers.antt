@@ -35,10 +35,10 @@ returns-in-Err-clause-refused g c =
     let is : c.load_count.new.caller.view ≡ view_after_count v count = ap (λ (s : CallerState). s.view) c.load_count.ensures.view in
     let all : count ≡ length v.records = c.if-load_count-numbers.false ∙ (c.numbers.ensures.count ∙ ap (λ (u : View). length u.records) is) in
     let lone : c.load_count.new.caller.view.lone ≡ true = ap (λ (u : View). u.lone) is ∙ eq-eqb count (length v.records) all in
-    let t = c.read_all.ensures.behind.took in
+    let t = c.read_all.ensures.after.took in
     let w = c.read_all.new.seat.view in (
       refl,
-      c.read_all.ensures.behind.same ∙ ap (λ (s : CallerState). with_view s w) c.load_count.ensures.view,
+      c.read_all.ensures.after.same ∙ ap (λ (s : CallerState). with_view s w) c.load_count.ensures.view,
       (
         count,
         t.locks,

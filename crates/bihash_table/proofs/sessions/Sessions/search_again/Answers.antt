@@ -1,7 +1,7 @@
 use Rattle.std.proofs.Common.{refl, ap, ◌∙◌}
 use Rattle.bihash_words.specs.Sizes.{sizes_of}
 use Rattle.bihash_steps.specs.Seats.{CallerState, with_view}
-use Rattle.bihash_table.proofs.Composed.{not_yet_tried, again_turned_away, again_answered}
+use Rattle.bihash_table.proofs.Composed.{not_yet_tried, again_contended, again_answered}
 use Rattle.bihash_table.proofs.SameCallers.{same_through}
 use Rattle.bihash_table.proofs.sessions.Sessions.search_again.Goals as goal
 
@@ -23,6 +23,6 @@ loop-preserved g c = record {
   next = tt;
   finite = tt;
   same = c.try_search.ensures.same ∙ ap (λ (k : CallerState). with_view k c.try_search.new.caller.seat.view) c.loop.invariant.same;
-  tried = again_turned_away (sizes_of g.S.Shape) _ _ _ _ c.loop.invariant.tried c.in_default.ensures.contended;
+  tried = again_contended (sizes_of g.S.Shape) _ _ _ _ c.loop.invariant.tried c.in_default.ensures.contended;
   no_lock = c.try_search.ensures.no_lock ∙ c.loop.invariant.no_lock;
 }

@@ -6,7 +6,7 @@ use Rattle.bihash_table.specs.Answers.{locks_of}
 use Rattle.bihash_table.specs.Promise.{IsContended}
 use Rattle.bihash_table.proofs.sessions.Sessions.search_again.Given as goal
 
--- each try so far was turned away
+-- each try so far was contended
 abbrev pub invariant-loop : goal.invariant-loop
 invariant-loop g l = record {
   next : (goal.iterator-loop g).can_next l.iterator';

@@ -5,7 +5,7 @@ use Rattle.bihash_steps.specs.BucketSteps.{map_now}
 use Rattle.bihash_steps.specs.declared.view.View.{View}
 use Rattle.bihash_table.specs.Answers.{locks_of, search_of}
 use Rattle.bihash_table.specs.Promise.{IsAnswered}
-use Rattle.bihash_table.proofs.Composed.{ahead_answered, ahead_turned_away}
+use Rattle.bihash_table.proofs.Composed.{ahead_answered, ahead_contended}
 use Rattle.bihash_table.proofs.Opened.{is_read, lost_at, not_taken}
 use Rattle.bihash_table.proofs.SameCallers.{own_through, same_through}
 use Rattle.bihash_table.proofs.Seeing.{may_read}
@@ -32,7 +32,7 @@ pub returns-in_default : goal.returns-in_default
 returns-in_default g c = let told = c.in_default.ensures in record {
   same = told.same;
   answered = tt;
-  contended = lost_at (sizes_of g.S.Shape) (g.S.Shape.words_of c.args.key.now) _ _ _ c.of-site.ensures.home told.turned_away;
+  contended = lost_at (sizes_of g.S.Shape) (g.S.Shape.words_of c.args.key.now) _ _ _ c.of-site.ensures.home told.contended;
   no_lock = ap locks_of told.no_lock;
   lone = λ lone. told.lone lone;
   lawful = told.lawful;
@@ -76,7 +76,7 @@ returns g c =
       same = same_through s c.find_pair-pair.new.seat c.validate.new.caller _
           (same_through s c.look.new.seat c.find_pair-pair.new.seat _ c.look.ensures.same read.same) told;
       answered = tt;
-      contended = lost_at z (g.S.Shape.words_of c.args.key.now) _ _ _ c.of-site.ensures.home (ahead_turned_away z _ _ _ site.bucket ahead
+      contended = lost_at z (g.S.Shape.words_of c.args.key.now) _ _ _ c.of-site.ensures.home (ahead_contended z _ _ _ site.bucket ahead
           (not_taken z _ _ _ h.seen.held (ap (λ (k : CallerState). k.view) told)));
       no_lock = ap (λ (k : CallerState). locks_of k.view.records) told ∙ ap locks_of (seen_records z _ _ _ _ _ opened read.saw);
       lone = λ lone. absurd (true≢false (sym (c.validate.ensures.lone (ap (λ (v : View). v.lone) ahead.is ∙ lone)) ∙ c.if-validate.false));

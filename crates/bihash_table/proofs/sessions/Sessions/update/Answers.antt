@@ -2,7 +2,7 @@ use Rattle.std.proofs.Common.{◌+◌, refl, ap, sym, ◌∙◌, true≢false}
 use Rattle.bihash_words.specs.Sizes.{sizes_of}
 use Rattle.bihash_steps.specs.Seats.{CallerState, with_view}
 use Rattle.bihash_steps.specs.declared.view.View.{View}
-use Rattle.bihash_table.proofs.Composed.{not_yet_tried, again_turned_away, again_updated}
+use Rattle.bihash_table.proofs.Composed.{not_yet_tried, again_contended, again_updated}
 use Rattle.bihash_table.proofs.LockCounts.{took_by_tries, took_no_lock, took_then}
 use Rattle.bihash_table.proofs.SameCallers.{same_through}
 use Rattle.bihash_table.proofs.sessions.Sessions.update.Goals as goal
@@ -26,7 +26,7 @@ loop-preserved g c = record {
   next = tt;
   finite = tt;
   same = c.try_update.ensures.same ∙ ap (λ (k : CallerState). with_view k c.try_update.new.caller.seat.view) c.loop.invariant.same;
-  tried = again_turned_away (sizes_of g.S.Shape) _ _ _ _ c.loop.invariant.tried c.in_default.ensures.contended;
+  tried = again_contended (sizes_of g.S.Shape) _ _ _ _ c.loop.invariant.tried c.in_default.ensures.contended;
   tries = let before = c.loop.invariant.tries in (
     before.0 + 1,
     took_then _ _ _ before.0 1 before.1 c.in_default.ensures.locks,

@@ -6,7 +6,7 @@ use Rattle.bihash_table.specs.Promise.{IsContended}
 use Rattle.bihash_table.specs.Tries.{TookAtMost}
 use Rattle.bihash_table.proofs.sessions.Sessions.update.Given as goal
 
--- each try so far was turned away and took one lock at most, and there was none where the caller is lone
+-- each try so far was contended and took one lock at most, and there was none where the caller is lone
 abbrev pub invariant-loop : goal.invariant-loop
 invariant-loop g l = record {
   next : (goal.iterator-loop g).can_next l.iterator';

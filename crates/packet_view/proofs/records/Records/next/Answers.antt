@@ -1,5 +1,3 @@
-use Rattle.std.proofs.Common.{◌∙◌, ◌∷◌, ap, ap₂, sym}
-use Rattle.packet_view.specs.RecordLists.{packets_in}
 use Rattle.packet_view.proofs.RecordListLemmas.{front_packets, others_whole}
 use Rattle.packet_view.proofs.records.Records.next.Goals as goal
 

@@ -1,4 +1,4 @@
-use Rattle.std.proofs.Common.{◌∙◌, ◌≤◌, ◌++◌, ◌+◌, ap, arith, drop, length, sym, take}
+use Rattle.std.proofs.Common.{◌∙◌, ◌≤◌, ◌++◌, ◌+◌, ap, arith, length, take}
 use Rattle.std.proofs.lemmas.List.{length-take-le}
 use Rattle.racl_io.proofs.PieceLemmas.{counted_more}
 use Rattle.racl_io.proofs.piece.Piece.push_first.Goals as goal

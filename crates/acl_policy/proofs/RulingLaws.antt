@@ -1,4 +1,4 @@
--- A list of rules has a decision for each packet.
+-- A list of rules decides each packet.
 use Rattle.std.specs.Prelude.{slice_get, bit_and}
 use Rattle.std.proofs.Common.{◌≡◌, ◌<◌, ◌≤◌, ◌⊎◌, ℕ, zero, suc, List, [], ◌∷◌, Option, Some, None, refl, sym, subst, inl, inr, arith}
 use Rattle.std.proofs.lemmas.Bool.{cases_eq, cases_lt}
@@ -8,7 +8,7 @@ use Rattle.packet_view.specs.declared.tuple.Family.TheVariants.{V4, V6}
 use Rattle.packet_view.specs.declared.tuple.Fields.{Fields}
 use Rattle.packet_view.specs.declared.tuple.Fields.TheVariants.{Absent, Ports, Tcp, Icmp}
 use Rattle.acl_policy.specs.declared.rule.Action.{Action}
-use Rattle.acl_policy.specs.Matching.{DecidesByDefault, HasFields, HoldsPrefix, HoldsProtocol, IsDecision, IsIn, Matches}
+use Rattle.acl_policy.specs.Matching.{DecidesByDefault, HasFields, HoldsPrefix, HoldsProtocol, IsRuling, IsIn, Matches}
 use Rattle.acl_policy.specs.Rules.{RuleFacts}
 
 -- it holds, or it doesn't
@@ -83,16 +83,16 @@ unmatched_all rule rules tuple fails none zero other read m = let same : rule �
 unmatched_all rule rules tuple fails none (suc k) other read m = none k other read m
 
 -- after a rule that doesn't match, what decides the rest decides
-behind : (rule : RuleFacts) (rules : List RuleFacts) (tuple : TupleFacts) → (Matches rule tuple → ⊥) → (decision : Option (ℕ × Action)) → IsDecision rules tuple decision
-    → (found : Option (ℕ × Action)) × IsDecision (rule ∷ rules) tuple found
+behind : (rule : RuleFacts) (rules : List RuleFacts) (tuple : TupleFacts) → (Matches rule tuple → ⊥) → (decision : Option (ℕ × Action)) → IsRuling rules tuple decision
+    → (found : Option (ℕ × Action)) × IsRuling (rule ∷ rules) tuple found
 behind rule rules tuple fails None none = (None, unmatched_all rule rules tuple fails none)
 behind rule rules tuple fails (Some (i, action)) (other, read, m, is, first) =
     (Some (suc i, action), (other, read, m, is, unmatched rule rules tuple i fails first))
 
-pub some_decision : (rules : List RuleFacts) (tuple : TupleFacts) → (decision : Option (ℕ × Action)) × IsDecision rules tuple decision
-some_decision [] tuple = (None, λ k other read m. cc)
-some_decision (rule ∷ rules) tuple =
+pub some_ruling_of : (rules : List RuleFacts) (tuple : TupleFacts) → (ruling : Option (ℕ × Action)) × IsRuling rules tuple ruling
+some_ruling_of [] tuple = (None, λ k other read m. cc)
+some_ruling_of (rule ∷ rules) tuple =
     elim (matches rule tuple) [
       | inl m ↦ (Some (0, rule.action), (rule, refl, m, refl, λ k other before read n. omega (arith, before)))
-      | inr fails ↦ let rest = some_decision rules tuple in behind rule rules tuple fails rest.0 rest.1
+      | inr fails ↦ let rest = some_ruling_of rules tuple in behind rule rules tuple fails rest.0 rest.1
     ]
