@@ -1,10 +1,14 @@
 //! Words, hashes and decisions that were worked out by hand or published.
+ghost use Rattle.std.specs.Prelude.{◌≡◌};
+
 use crate::{
     Add, AddIfAbsent, BlockSize, BucketWord, Change, Delete, Patch, Shape, ShapeV4, ShapeV6, Tiny,
     Touch, bucket_of, is_same, mix,
 };
 
-const fn block(log2: u64, linear: bool) -> BlockSize {
+const fn block(log2: u64, linear: bool) -> BlockSize
+    ensures { result ≡ record { log2 = log2; linear = linear } }
+{
     BlockSize { log2, linear }
 }
 
