@@ -10,6 +10,7 @@ use lib.ListN.{get_elem?}
 use mathlib.Core.Option.{some, some-ne-none, some-injective}
 use Rattle.packet_view.specs.Captures.{PacketFacts}
 use Rattle.packet_view.specs.Frames as frames
+use Rattle.packet_view.specs.Frames.{IsFrame}
 use Rattle.packet_view.specs.inner.FrameSteps.{view_of}
 use Rattle.packet_view.specs.declared.tuple.Mac.{Mac}
 use Rattle.packet_view.proofs.FrameLemmas.{view_only, view_shown}

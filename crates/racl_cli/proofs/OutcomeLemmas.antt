@@ -14,10 +14,11 @@ use Rattle.flow_dealing.specs.Runs.{AreFew, AreJudged, HasPagesIn, HavePages}
 use Rattle.racl_words.specs.declared.settings.Options.{Options}
 use Rattle.racl_io.specs.declared.fault.Fault.{Fault}
 use Rattle.racl_io.specs.declared.input.Form.{Form}
+use Rattle.racl_io.specs.declared.input.Form.TheVariants.{Hexadecimal}
 use Rattle.racl_io.specs.declared.report.Totals.{Totals}
 use Rattle.racl_io.specs.Faults.{IsSystemFault, capture_fault, policy_fault}
 use Rattle.racl_io.specs.Reports.{report_of, totals_of}
-use Rattle.racl_io.specs.declared.fault.Fault.TheVariants.{Memory, NoCapture, Write}
+use Rattle.racl_io.specs.declared.fault.Fault.TheVariants.{Hex, Memory, NoCapture, Write}
 use Rattle.racl_io.specs.Inputs.{IsContent, IsInput, InputFacts, most_bytes}
 use Rattle.racl_io.proofs.InputLemmas.{one_input}
 use Rattle.racl_cli.specs.Runs.{Agrees, AnswersCapture, AnswersContent, AnswersInput, ByOneThread, ByWorkers, FiltersCapture, FiltersContent, FiltersInput, HasOutcome, HasReported, HasRun, IsAnswer, IsReached, Judging, Outcome, dealt_to, flow_layout}

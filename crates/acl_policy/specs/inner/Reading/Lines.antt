@@ -10,7 +10,7 @@ use Rattle.acl_policy.specs.declared.line.Line.TheVariants as read
 use Rattle.acl_policy.specs.declared.rule.Action.{Action}
 use Rattle.acl_policy.specs.declared.rule.Action.TheVariants.{Deny, Permit, Reflect}
 use Rattle.acl_policy.specs.Lines.{Blank, LineFacts, Own, Ruled}
-use Rattle.acl_policy.specs.inner.Reading.{if_last, next_in}
+use Rattle.acl_policy.specs.inner.Reading.{if_last, next_in, ◌>>=◌}
 use Rattle.acl_policy.specs.inner.Reading.Prefixes.{mac_in, prefix_in}
 use Rattle.acl_policy.specs.inner.Reading.Traffic.{traffic_in}
 use Rattle.acl_policy.specs.Rules.{rule_facts}

@@ -16,7 +16,7 @@ pub lock_seen-requires-clause-seen : goal.lock_seen-requires-clause-seen
 lock_seen-requires-clause-seen g c =
     (seen_first (sizes_of g.S.Shape) _ _ _ _ c.read_pairs-read.ensures.saw c.in-Some.ensures.opened.has).seen
 
-pub returns-clause-after : goal.returns-clause-behind
+pub returns-clause-after : goal.returns-clause-after
 returns-clause-after g c =
     let s = c.args.seat.now in
     let v = s.view in
