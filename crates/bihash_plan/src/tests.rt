@@ -1,5 +1,6 @@
 //! Worked layouts of small buckets: four places a page, at most four pages. Key k hashes to k, so
 //! the even keys share a bucket and k / 2 names the page.
+ghost use Rattle.std.specs.Prelude.{◌≡◌, true, false};
 
 use crate::{Plan, find, larger, lay, plan};
 use bihash_words::{BlockSize, Tiny};
@@ -14,14 +15,18 @@ const fn pair(key: u64, value: u64) -> Place {
     ([key, 0], value)
 }
 
-const fn paged(log2: u64) -> BlockSize {
+const fn paged(log2: u64) -> BlockSize
+    ensures { result ≡ record { log2 = log2; linear = false } }
+{
     BlockSize {
         log2,
         linear: false,
     }
 }
 
-const fn linear(log2: u64) -> BlockSize {
+const fn linear(log2: u64) -> BlockSize
+    ensures { result ≡ record { log2 = log2; linear = true } }
+{
     BlockSize { log2, linear: true }
 }
 
