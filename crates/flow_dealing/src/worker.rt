@@ -1,5 +1,5 @@
 //! Which worker a packet is dealt to.
-ghost use Rattle.std.specs.Prelude.{◌≡◌, ◌<◌, length};
+ghost use Rattle.std.specs.Prelude.{◌≡◌, ◌<◌, ◌%◌, length};
 ghost use Rattle.bihash_words.specs.Sizes;
 ghost use Rattle.bihash_words.specs.Sizes.{IsSound, sizes_of};
 ghost use Rattle.flow_filter.specs.OneThread.{IsFlowLayout, home_of, layout_of};
@@ -29,6 +29,21 @@ fn bucket<A: Shape, B: Shape>(key: FlowKey) -> u64
     }
 }
 
+// Dividing by a number that the compiler knows costs a tenth of the cycles, and workers are often so many.
+fn remainder(bucket: u64, workers: u64) -> u64
+    requires some { 0 < workers }
+    ensures is { result ≡ bucket % workers }
+    ensures less { result < workers }
+{
+    match workers {
+        2 => bucket % 2,
+        4 => bucket % 4,
+        8 => bucket % 8,
+        16 => bucket % 16,
+        _ => bucket % workers,
+    }
+}
+
 /// The worker that a packet goes to, by its number, from 0, and its flow, `None` where it takes no part in sessions.
 pub fn worker_of<A: Shape, B: Shape>(
     dealing: Dealing,
@@ -46,6 +61,6 @@ pub fn worker_of<A: Shape, B: Shape>(
     match (dealing, flow) {
         (Dealing::Round, _) => number % workers,
         (Dealing::Bucket, None) => 0,
-        (Dealing::Bucket, Some(flow)) => (bucket::<A, B>(flow.key) % workers as u64) as usize,
+        (Dealing::Bucket, Some(flow)) => remainder(bucket::<A, B>(flow.key), workers as u64) as usize,
     }
 }
