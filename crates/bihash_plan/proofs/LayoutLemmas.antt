@@ -13,15 +13,15 @@ use Rattle.std.proofs.lemmas.Nat.{pow_pos}
 use Rattle.std.proofs.lemmas.Option.{get_or_from_slice_get}
 use Rattle.bihash_words.specs.Patches.{free_mark}
 use Rattle.bihash_words.specs.declared.block_size.BlockSize.{BlockSize}
-use Rattle.bihash_plan.specs.Blocks.{HasKey, IsCrowded, IsFirstFree, IsLawfulBlock, IsNew, is_taken, pairs}
+use Rattle.bihash_words.specs.Pages.{Paging, page_of}
+use Rattle.bihash_plan.specs.Blocks.{HasKey, HasPairAt, IsCrowded, IsFirstFree, IsLawfulBlock, IsNew, is_taken, pairs}
 use Rattle.bihash_plan.specs.Layouts.{AreLaidOut, IsNamed, IsRehash, IsTakenBefore}
-use Rattle.bihash_plan.specs.Pages.{Paging, page_of}
 use Rattle.bihash_plan.specs.Plans.{IsGrowth, IsLinearSize}
 use Rattle.bihash_plan.proofs.Counts.{le-count_by-from}
 use Rattle.bihash_plan.proofs.Orders.{AllFree, AllTaken, laid_out_none, laid_out_put, none_taken}
 use Rattle.bihash_plan.proofs.PageLemmas.{page_of-lt}
 use Rattle.bihash_plan.proofs.Pairs.{count_by-filter, count_by-map, is_taken-pair, pairs-append, pairs_more, pairs_same}
-use Rattle.bihash_plan.proofs.Places.{block_sized, free_at, free_inside, has_key_read, key_inside}
+use Rattle.bihash_plan.proofs.Places.{block_sized, free_at, free_inside, has_key_read, pair_inside}
 use Rattle.bihash_plan.proofs.PlanLemmas.{all_taken, one_free}
 use Rattle.bihash_plan.proofs.Puts.{key_after_put, lawful_put, pairs_put}
 use Rattle.bihash_plan.proofs.Room.{taken_key}
@@ -72,7 +72,7 @@ full_page {K} paging log2 out key lawful sized crowded =
           let here : i / 4 ≡ page = omega arith in
           let taken = is_taken-pair (get_or out i d) (λ e. crowded i here (free_at out i d inside e)) in
           and_from _ _ taken
-          (eq-eqb _ _ (sym (lawful.paged (get_or out i d).0 i (taken_key out i d inside taken)) ∙ here))),
+          (eq-eqb _ _ (sym (lawful.rule.paged _ _ i (taken_key out i d inside taken).pair) ∙ here))),
     )
 
 -- so there is a free place for each pair
@@ -173,7 +173,7 @@ growth_suits {K} paging was log2 was_linear true (place ∷ places) key value la
     room : IsLinearSize paging was was_linear (place ∷ places) log2 → length (pairs (place ∷ places)) + 1 ≤ 4 * 2 ^ log2
     room (inl e) = omega (arith, fewer, sized, pow_pos was, ap (λ n. 2 ^ n) e.0, pow_more 2 was)
     room (inr e) =
-        let same : log2 ≡ was = omega (arith, e.0, e.1.0, lawful.small) in
+        let same : log2 ≡ was = omega (arith, e.0, e.1.0, lawful.rule.small) in
         omega (arith, one_free (place ∷ places) e.1.2.0 e.1.2.1, sized, ap (λ n. 2 ^ n) same)
 
 pub named_suits : {K : Type 0} {paging : Paging K} {size : BlockSize} {places : List (K × ℕ)}
@@ -196,27 +196,29 @@ pub laid_none : {K : Type 0} (paging : Paging K) (log2 : ℕ) (linear : Bool) (o
 laid_none {K} paging log2 linear old key out n small sized cleared = record {
   laid = record {
     lawful = record {
-      small = small;
       sized = inr sized;
-      once = λ k i j h _. absurd (no_key k i h);
-      paged = λ k i h. absurd (no_key k i h);
+      rule = record {
+        small = small;
+        once = λ k v w i j h _. absurd (no_pair k v i h);
+        paged = λ k v i h. absurd (no_pair k v i h);
+      };
     };
     same_pairs = subst (IsPermutation {X = K × ℕ} []) (sym (none_taken out free_all)) (IsPermutation-refl []);
     in_order = laid_out_none paging log2 linear out free_all;
   };
   before = λ e i less. absurd (omega arith);
-  from_old = λ k j h. absurd (no_key k j h);
+  from_old = λ k j h. absurd (no_pair k h.value j h.pair);
 }
   where
     free_all : AllFree out
     free_all = All-same (λ place. is_taken place ≡ false) out (replicate n (key, free_mark)) cleared
         (All-replicate (λ place. is_taken place ≡ false) n (key, free_mark) refl)
 
-    no_key : (k : K) (j : ℕ) → HasKey out k j → ⊥
-    no_key k j h =
-        let d : K × ℕ = (k, h.value) in
-        let read : get_or out j d ≡ d = get_or_from_slice_get out j (k, h.value) d h.at in
-        both_ways _ (ap is_taken (sym read) ∙ free_all j d (key_inside h)) (is_taken-pair d h.taken)
+    no_pair : (k : K) (v j : ℕ) → HasPairAt out k v j → ⊥
+    no_pair k v j h =
+        let d : K × ℕ = (k, v) in
+        let read : get_or out j d ≡ d = get_or_from_slice_get out j (k, v) d h.at in
+        both_ways _ (ap is_taken (sym read) ∙ free_all j d (pair_inside h)) (is_taken-pair d h.taken)
 
 -- what `put` did, where there was a place
 abbrev pub IsPlaced : {K : Type 0} → Paging K → ℕ → Bool → K × ℕ → List (K × ℕ) → List (K × ℕ) → ℕ → Type 0
@@ -244,7 +246,7 @@ laid_more {K} paging log2 linear old key i next result out after place so_far si
     let new : IsNew out place.0 = λ j h. let was = so_far.from_old place.0 j h in absurd (omega (
       arith,
       was.1,
-      named.lawful.once place.0 was.0 i was.2 stands,
+      named.lawful.rule.once place.0 was.2.value stands.value was.0 i was.2.pair stands.pair,
     )) in
     let laid : IsLaid paging log2 linear (done ++ place ∷ [])
     (set out there.0 place) = put_laid paging log2 linear done out place there.0 so_far.laid there.1 new taken (filter_passes is_taken (take i old)) in
@@ -257,9 +259,10 @@ laid_more {K} paging log2 linear old key i next result out after place so_far si
             omega arith,
             subst (λ (other : K). HasKey old other i) (sym put.1) stands,
           ))
-          (λ (had : HasKey out k j). let was = so_far.from_old k j had in (was.0, omega (arith, was.1), was.2))
-          (key_after_put out there.0 place k j (free_inside there.1.vacant)
-          (subst (λ (places : List (K × ℕ)). HasKey places k j) there.2 h));
+          (λ (had : HasPairAt out k h.value j).
+          let was = so_far.from_old k j (record { value = h.value; pair = had }) in (was.0, omega (arith, was.1), was.2))
+          (key_after_put out there.0 place k h.value j (free_inside there.1.vacant)
+          (subst (λ (places : List (K × ℕ)). HasPairAt places k h.value j) there.2 h.pair));
     }
 
 pub laid_last : {K : Type 0} (paging : Paging K) (log2 : ℕ) (linear : Bool) (old : List (K × ℕ)) (key : K)

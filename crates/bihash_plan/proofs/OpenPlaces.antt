@@ -1,8 +1,9 @@
 -- Lemmas on searches of the places that are open to a key.
 use Rattle.std.proofs.Common.{◌≤◌, ◌<◌, ◌↔◌, ℕ, Bool, List, length}
-use Rattle.bihash_plan.specs.Blocks.{HasKey, IsCrowded, IsFirstFree, IsFree, IsLawfulBlock, IsNew, IsOpen}
-use Rattle.bihash_plan.specs.Pages.{Paging, page_of}
-use Rattle.bihash_plan.proofs.Places.{free_inside, key_inside}
+use Rattle.bihash_words.specs.Blocks.{IsOpen}
+use Rattle.bihash_words.specs.Pages.{Paging, page_of}
+use Rattle.bihash_plan.specs.Blocks.{HasKey, IsCrowded, IsFirstFree, IsFree, IsLawfulBlock, IsNew}
+use Rattle.bihash_plan.proofs.Places.{free_inside, pair_inside}
 
 -- the places from one to before another are those open to a page
 abbrev pub AreOpen : Bool → ℕ → ℕ → ℕ → ℕ → Type 0
@@ -15,7 +16,7 @@ pub new_from_open : {K : Type 0} (paging : Paging K) (log2 : ℕ) (linear : Bool
     → ((i : ℕ) → from ≤ i → i < to → HasKey places key i → ⊥) → IsLawfulBlock paging log2 linear places
     → IsNew places key
 new_from_open paging log2 linear places key from to open_are none lawful i h =
-    let looked = (open_are i (key_inside h)).1 (lawful.paged key i h) in
+    let looked = (open_are i (pair_inside h.pair)).1 (lawful.rule.paged key h.value i h.pair) in
     none i looked.0 looked.1 h
 
 pub crowded_from_open : {K : Type 0} (linear : Bool) (page : ℕ) (places : List (K × ℕ)) (from to : ℕ)

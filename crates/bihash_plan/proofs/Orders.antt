@@ -7,9 +7,9 @@ use Rattle.std.proofs.lemmas.Bool.{both_ways, cases_eq, cases_lt, cases_order, e
 use Rattle.std.proofs.lemmas.List.{append-nil, append_assoc, drop-set-add, drop-set-lt, get_or-drop, get_or-take, get_or_append_left, get_or_at, length-append, length-drop, length-take, set_at, take-set-le}
 use Rattle.std.proofs.lemmas.List.Elements.{All-drop, All-filter, All-head, All-tail, All-take, filter-append}
 use Rattle.bihash_words.specs.Patches.{free_mark}
+use Rattle.bihash_words.specs.Pages.{Paging, page_of}
 use Rattle.bihash_plan.specs.Blocks.{IsFirstFree, IsFree, is_taken, pairs}
 use Rattle.bihash_plan.specs.Layouts.{AreInOrder, AreLaidOut}
-use Rattle.bihash_plan.specs.Pages.{Paging, page_of}
 use Rattle.bihash_plan.proofs.Pairs.{is_taken-free}
 use Rattle.bihash_plan.proofs.Places.{free_at, free_inside, free_value_at}
 

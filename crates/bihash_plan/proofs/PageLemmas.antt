@@ -1,7 +1,7 @@
 -- Lemmas on the page that a key's hash names.
 use Rattle.std.proofs.Common.{◌≡◌, ◌≤◌, ◌<◌, ◌+◌, ◌-◌, ◌^◌, ◌/◌, ◌%◌, ℕ, arith, rules, sym, ap, ◌∙◌}
 use Rattle.std.proofs.Math.Pow.{mod-mod-pow}
-use Rattle.bihash_plan.specs.Pages.{Paging, page_of}
+use Rattle.bihash_words.specs.Pages.{Paging, page_of}
 
 pub page_of-lt : {K : Type 0} (paging : Paging K) (log2 : ℕ) (key : K) → page_of paging log2 key < 2 ^ log2
 page_of-lt paging log2 key = search (rules, arith)

@@ -2,7 +2,7 @@
 use Rattle.std.proofs.Common.{◌*◌, ◌^◌, ⊎_elim, arith, ◌≡◌, ◌≢◌, ◌<◌, ℕ, List, Some, length, get_or, refl, ap, ◌∙◌}
 use Rattle.std.proofs.lemmas.Option.{get_or_from_slice_get, slice_get-get_or, slice_get_read, slice_get_within}
 use Rattle.bihash_words.specs.Patches.{free_mark}
-use Rattle.bihash_plan.specs.Blocks.{HasKey, IsFree, IsSized}
+use Rattle.bihash_plan.specs.Blocks.{HasKey, HasPairAt, IsFree, IsSized}
 
 -- a place that was read has a pair with the key, where it shows the key and no free place's value
 pub has_key_read : {K : Type 0} (places : List (K × ℕ)) (key : K) (i : ℕ) (place : K × ℕ)
@@ -10,13 +10,15 @@ pub has_key_read : {K : Type 0} (places : List (K × ℕ)) (key : K) (i : ℕ) (
     → HasKey places key i
 has_key_read places key i place inside is taken same = record {
   value = place.1;
-  at = slice_get_read places (length places) i place refl inside is ∙ ap (λ k. Some (k, place.1)) same;
-  taken = taken;
+  pair = record {
+    at = slice_get_read places (length places) i place refl inside is ∙ ap (λ k. Some (k, place.1)) same;
+    taken = taken;
+  };
 }
 
 pub pair_read : {K : Type 0} {places : List (K × ℕ)} {key : K} {i : ℕ} (place : K × ℕ)
     → place ≡ get_or places i place → (h : HasKey places key i) → place ≡ (key, h.value)
-pair_read {places = places} {i = i} place is h = is ∙ get_or_from_slice_get places i _ place h.at
+pair_read {places = places} {i = i} place is h = is ∙ get_or_from_slice_get places i _ place h.pair.at
 
 -- a bucket that has a place has a block of four places a page
 pub block_sized : {X : Type 0} (places : List X) (log2 : ℕ)
@@ -26,9 +28,9 @@ block_sized places log2 some sized = ⊎_elim
     (λ (whole : length places ≡ 4 * 2 ^ log2). whole)
     sized
 
-pub key_inside : {K : Type 0} {places : List (K × ℕ)} {key : K} {i : ℕ}
-    → HasKey places key i → i < length places
-key_inside {places = places} {i = i} h = slice_get_within places i _ h.at
+pub pair_inside : {K : Type 0} {places : List (K × ℕ)} {key : K} {value i : ℕ}
+    → HasPairAt places key value i → i < length places
+pair_inside {places = places} {i = i} h = slice_get_within places i _ h.at
 
 pub free_inside : {K : Type 0} {places : List (K × ℕ)} {i : ℕ} → IsFree places i → i < length places
 free_inside {places = places} {i = i} h = slice_get_within places i _ h.at

@@ -6,10 +6,10 @@ use Rattle.std.proofs.lemmas.List.Sums.{count_by-le-length, length-filter}
 use Rattle.std.proofs.lemmas.Nat.{pow_below, pow_pos}
 use Rattle.std.proofs.Math.Pow.{pow_mono}
 use Rattle.bihash_words.specs.declared.block_size.BlockSize.{BlockSize}
+use Rattle.bihash_words.specs.Pages.{Paging, page_of}
 use Rattle.bihash_plan.specs.declared.outcome.Plan.{Plan}
 use Rattle.bihash_plan.specs.declared.outcome.Plan.TheVariants.{InPlace, Grow, Full}
 use Rattle.bihash_plan.specs.Blocks.{IsCrowded, IsFirstFree, IsFree, IsLawfulBlock, IsNew, is_taken, pairs}
-use Rattle.bihash_plan.specs.Pages.{Paging, page_of}
 use Rattle.bihash_plan.specs.Searches.{IsOnlyPlan}
 use Rattle.bihash_plan.specs.Plans.{CanBecomeLinear, HasRoom, IsExhausted, IsGrowth, IsLinearSize, IsPlan, IsSplit, NeedsLinear, keys_of}
 use Rattle.bihash_plan.proofs.Counts.{count_by-all, count_by-missing}
@@ -98,7 +98,7 @@ plan_only : {K : Type 0} (paging : Paging K) (log2 : ℕ) (linear : Bool) (place
     → IsLawfulBlock paging log2 linear places → IsPlan paging log2 linear places key a
     → IsPlan paging log2 linear places key b → a ≡ b
 plan_only paging log2 linear places key (InPlace i) (InPlace j) lawful (inl p) (inl q) = ap InPlace
-    (lawful.once key i j p q)
+    (lawful.rule.once key p.value q.value i j p.pair q.pair)
 plan_only paging log2 linear places key (InPlace i) (InPlace j) lawful (inl p) (inr q) = absurd (q.0 i p)
 plan_only paging log2 linear places key (InPlace i) (InPlace j) lawful (inr p) (inl q) = absurd (p.0 j q)
 plan_only paging log2 linear places key (InPlace i) (InPlace j) lawful (inr p) (inr q) = ap InPlace
@@ -156,7 +156,7 @@ pub exhausted_count : {K : Type 0} (paging : Paging K) (log2 : ℕ) (linear : Bo
     → IsExhausted paging log2 linear places key → length (pairs places) ≡ 4 * 2 ^ paging.max_log2
 exhausted_count paging log2 linear [] key lawful crowded none = absurd none
 exhausted_count paging log2 linear (place ∷ places) key lawful crowded none =
-    let same : log2 ≡ paging.max_log2 = omega (arith, none.0, lawful.small) in
+    let same : log2 ≡ paging.max_log2 = omega (arith, none.0, lawful.rule.small) in
     all_taken (place ∷ places) place
     (none_free paging log2 linear (page_of paging log2 key) (place ∷ places) none.0 crowded none.1)
     ∙ block_sized (place ∷ places) log2 (omega arith) lawful.sized
@@ -172,7 +172,7 @@ filled : {K : Type 0} (paging : Paging K) (log2 : ℕ) (linear : Bool) (places :
     → IsLawfulBlock paging log2 linear places → length (pairs places) ≡ 4 * 2 ^ paging.max_log2
     → IsFilled paging log2 places
 filled paging log2 linear places lawful count =
-    let small : 2 ^ log2 ≤ 2 ^ paging.max_log2 = pow_mono lawful.small in
+    let small : 2 ^ log2 ≤ 2 ^ paging.max_log2 = pow_mono lawful.rule.small in
     let positive = pow_pos paging.max_log2 in
     let fewer : length (pairs places) ≤ length places = omega (
       arith,

@@ -4,8 +4,8 @@ use Rattle.std.specs.Prelude.{count_by}
 use Rattle.std.proofs.lemmas.Bool.{and_from, and_parts, both_ways, cases_eq, cond-true, cond-false, eq-eqb, eqb-true, false_from_ne_true, ne_eqb, not-true}
 use Rattle.std.proofs.lemmas.List.Sums.{sum_by-cons}
 use Rattle.std.proofs.lemmas.Option.{get_or_from_slice_get, slice_get-get_or}
+use Rattle.bihash_words.specs.Pages.{Paging, page_of}
 use Rattle.bihash_plan.specs.Blocks.{HasKey, IsCrowded, IsLawfulBlock, is_taken, NamesPage}
-use Rattle.bihash_plan.specs.Pages.{Paging, page_of}
 use Rattle.bihash_plan.specs.Plans.{Fits, keys_of}
 use Rattle.bihash_plan.proofs.Counts.{count_by-page-le, count_by-page-missing, le-count_by-from}
 use Rattle.bihash_plan.proofs.PageLemmas.{page_of-lt, page_of-mod}
@@ -20,8 +20,10 @@ pub taken_key : {K : Type 0} (places : List (K × ℕ)) (i : ℕ) (d : K × ℕ)
     → i < length places → is_taken (get_or places i d) ≡ true → HasKey places (get_or places i d).0 i
 taken_key places i d inside taken = record {
   value = (get_or places i d).1;
-  at = slice_get-get_or places i d inside;
-  taken = λ e. both_ways _ (not-true _ taken) (eq-eqb _ _ e);
+  pair = record {
+    at = slice_get-get_or places i d inside;
+    taken = λ e. both_ways _ (not-true _ taken) (eq-eqb _ _ e);
+  };
 }
 
 -- the keys that name a page, one more key among them
@@ -39,7 +41,7 @@ in_one_page : {K : Type 0} (paging : Paging K) (log2 size : ℕ) (places : List 
     → taken_in paging size page (get_or places i d) ≡ true → i / 4 ≡ page % 2 ^ log2
 in_one_page paging log2 size places page lawful larger d i inside passes =
     let parts = and_parts _ _ passes in
-    lawful.paged _ i (taken_key places i d inside parts.0)
+    lawful.rule.paged _ _ i (taken_key places i d inside parts.0).pair
     ∙ sym (page_of-mod paging log2 size (get_or places i d).0 larger)
     ∙ ap (λ n. n % 2 ^ log2) (eqb-true _ _ parts.1)
 

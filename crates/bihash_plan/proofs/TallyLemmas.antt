@@ -5,7 +5,7 @@ use Rattle.std.proofs.lemmas.Bool.{cases_lt, cond-true, eq-eqb, ne_eqb}
 use Rattle.std.proofs.lemmas.List.{get_or-replicate, take_all}
 use Rattle.std.proofs.lemmas.List.Sums.{count_by-le-length, sum_by-cons, sum_by_push}
 use Rattle.bihash_words.specs.Patches.{free_mark}
-use Rattle.bihash_plan.specs.Pages.{Paging, page_of}
+use Rattle.bihash_words.specs.Pages.{Paging, page_of}
 use Rattle.bihash_plan.specs.Plans.{Fits, keys_of}
 use Rattle.bihash_plan.proofs.Pairs.{count_by-keys_of-take, count_by-none, keys_more}
 use Rattle.bihash_plan.proofs.PageLemmas.{page_of-lt}

@@ -1,7 +1,8 @@
 -- Lawful blocks: the places of a bucket, and where its pairs may stand. This is the table's own rule.
-use Rattle.std.specs.Prelude.{◌≡◌, ◌≢◌, ◌≤◌, ◌<◌, ◌⊎◌, ℕ, ◌*◌, ◌/◌, ◌^◌, Bool, true, false, not, ◌==◌, List, length, filter, slice_get, Some}
+use Rattle.std.specs.Prelude.{◌≡◌, ◌≢◌, ◌<◌, ◌⊎◌, ℕ, ◌*◌, ◌^◌, Bool, not, ◌==◌, List, length, filter, slice_get, Some}
+use Rattle.bihash_words.specs.Blocks.{AreLawfulPlaces, IsOpen}
+use Rattle.bihash_words.specs.Pages.{Paging, page_of}
 use Rattle.bihash_words.specs.Patches.{free_mark}
-use Rattle.bihash_plan.specs.Pages.{Paging, page_of}
 
 abbrev pub is_taken : {K : Type 0} → K × ℕ → Bool
 is_taken place = not (place.1 == free_mark)
@@ -10,11 +11,15 @@ is_taken place = not (place.1 == free_mark)
 abbrev pub pairs : {K : Type 0} → List (K × ℕ) → List (K × ℕ)
 pairs places = filter is_taken places
 
+-- this pair is at place i
+pub record HasPairAt {K : Type 0} (places : List (K × ℕ)) (key : K) (value i : ℕ) : Type 0 where
+  pub at : slice_get places i ≡ Some (key, value)
+  pub taken : value ≢ free_mark
+
 -- a pair with the key is at place i
 pub record HasKey {K : Type 0} (places : List (K × ℕ)) (key : K) (i : ℕ) : Type 0 where
   pub value : ℕ
-  pub at : slice_get places i ≡ Some (key, value)
-  pub taken : value ≢ free_mark
+  pub pair : HasPairAt places key value i
 
 -- place i is free, and the key that it shows means nothing
 pub record IsFree {K : Type 0} (places : List (K × ℕ)) (i : ℕ) : Type 0 where
@@ -24,12 +29,6 @@ pub record IsFree {K : Type 0} (places : List (K × ℕ)) (i : ℕ) : Type 0 whe
 -- no pair of the block has the key
 abbrev pub IsNew : {K : Type 0} → List (K × ℕ) → K → Type 0
 IsNew places key = (i : ℕ) → HasKey places key i → ⊥
-
--- place i is open to the keys of a page: each place is where the block is linear, and else the
--- four places of the page are
-abbrev pub IsOpen : Bool → ℕ → ℕ → Type 0
-IsOpen true page i = Unit {0}
-IsOpen false page i = i / 4 ≡ page
 
 -- no place that is open to the page is free
 abbrev pub IsCrowded : {K : Type 0} → Bool → ℕ → List (K × ℕ) → Type 0
@@ -45,14 +44,11 @@ pub record IsFirstFree {K : Type 0} (linear : Bool) (page : ℕ) (places : List 
 abbrev pub IsSized : ℕ → ℕ → Type 0
 IsSized log2 count = (count ≡ 0) ⊎ (count ≡ 4 * 2 ^ log2)
 
--- the places of a lawful block, or of no block: each key stands once and, unless the block is
--- linear, in the page that its hash names
+-- the places of a lawful block, or of no block
 pub record IsLawfulBlock {K : Type 0} (paging : Paging K) (log2 : ℕ) (linear : Bool)
     (places : List (K × ℕ)) : Type 0 where
-  pub small : log2 ≤ paging.max_log2
   pub sized : IsSized log2 (length places)
-  pub once : (key : K) (i j : ℕ) → HasKey places key i → HasKey places key j → i ≡ j
-  pub paged : (key : K) (i : ℕ) → HasKey places key i → IsOpen linear (page_of paging log2 key) i
+  pub rule : AreLawfulPlaces paging log2 linear (HasPairAt places)
 
 -- the key that place i shows names the page
 pub record NamesPage {K : Type 0} (paging : Paging K) (log2 page : ℕ) (places : List (K × ℕ))

@@ -1,11 +1,11 @@
 -- How pairs are laid out in a larger block. This is the table's own rule.
 use Rattle.std.specs.Prelude.{◌≡◌, ◌<◌, ◌≤◌, ℕ, ◌*◌, ◌^◌, Bool, true, false, ◌==◌, List, [], ◌∷◌, ◌++◌, take, drop, filter, Option, IfNone, IfSome}
 use Rattle.std.specs.List.Sorted.{IsPermutation}
+use Rattle.bihash_words.specs.Pages.{Paging, page_of}
 use Rattle.bihash_plan.specs.declared.outcome.Plan.TheVariants.{Grow}
 use Rattle.bihash_words.specs.declared.block_size.BlockSize.{BlockSize}
 use Rattle.bihash_words.specs.declared.shape.Shape.{Ghosts}
 use Rattle.bihash_plan.specs.Blocks.{IsCrowded, IsFirstFree, IsFree, IsLawfulBlock, pairs}
-use Rattle.bihash_plan.specs.Pages.{Paging, page_of}
 use Rattle.bihash_plan.specs.Plans.{IsPlan}
 use Rattle.bihash_plan.specs.Searches.{HasPlaces}
 

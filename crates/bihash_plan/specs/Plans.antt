@@ -1,10 +1,10 @@
 -- What a key needs of its bucket's block: its own place, a free one, or a larger block. This is
 -- the table's own rule.
 use Rattle.std.specs.Prelude.{◌≡◌, ◌≤◌, ◌<◌, ◌⊎◌, ℕ, ◌+◌, Bool, true, false, ◌==◌, List, [], ◌∷◌, map, count_by}
+use Rattle.bihash_words.specs.Pages.{Paging, page_of}
 use Rattle.bihash_plan.specs.declared.outcome.Plan.{Plan}
 use Rattle.bihash_plan.specs.declared.outcome.Plan.TheVariants.{InPlace, Grow, Full}
 use Rattle.bihash_plan.specs.Blocks.{HasKey, IsCrowded, IsFirstFree, IsFree, IsNew, pairs}
-use Rattle.bihash_plan.specs.Pages.{Paging, page_of}
 
 -- the keys of a block's pairs
 abbrev pub keys_of : {K : Type 0} → List (K × ℕ) → List K

@@ -2,11 +2,18 @@
 use Rattle.std.specs.Prelude.{◌≡◌, ◌≤◌, ◌<◌, ◌*◌, ◌^◌, ◌↔◌, ℕ, Bool, List, Option, Some, None, IfNone, IfSome, length}
 use Rattle.std.specs.Bool.{OnTrue, OnFalse}
 use Rattle.bihash_words.specs.declared.shape.Shape.{Ghosts}
-use Rattle.bihash_plan.specs.Blocks.{HasKey, IsFree, IsNew, IsOpen, IsSized, NamesPage, pairs}
-use Rattle.bihash_plan.specs.Pages.{MayHavePages, Paging}
+use Rattle.bihash_words.specs.Blocks.{IsOpen}
+use Rattle.bihash_words.specs.Pages.{Paging}
+use Rattle.bihash_words.specs.Sizes.{IsSound, sizes_of}
+use Rattle.bihash_plan.specs.Blocks.{HasKey, IsFree, IsNew, IsSized, NamesPage, pairs}
 use Rattle.bihash_plan.specs.Plans.{IsPlan}
 use Rattle.bihash_plan.specs.declared.outcome.Plan.{Plan}
 use Rattle.bihash_plan.specs.declared.outcome.Plan.TheVariants.{Full}
+
+-- the shape is sound, and its blocks may have 2 ^ log2 pages
+pub record MayHavePages {A K : Type 0} (s : Ghosts A K) (log2 : ℕ) : Type 0 where
+  pub shape : IsSound (sizes_of s)
+  pub small : log2 ≤ s.MAX_LOG2
 
 -- so many places are those of a block of 2 ^ log2 pages, or of none
 pub record MayHavePlaces {A K : Type 0} (s : Ghosts A K) (log2 count : ℕ) : Type 0 where

@@ -3,9 +3,9 @@
 ghost use Rattle.std.specs.Prelude.{◌≡◌, ◌≤◌, ◌<◌, ◌+◌, ◌^◌, ◌↔◌, [], ◌∷◌, ◌++◌, ℕ, List, IsTrue, length};
 ghost use Rattle.std.specs.Bool.{OnTrue, OnFalse};
 ghost use Rattle.bihash_words.specs.Sizes.{IsSound, sizes_of};
-ghost use Rattle.bihash_plan.specs.Pages.{MayHavePages, page_of, paging_of};
+ghost use Rattle.bihash_words.specs.Pages.{paging_of};
+ghost use Rattle.bihash_plan.specs.Searches.{MayHavePages, MayLookAt};
 ghost use Rattle.bihash_plan.specs.Plans.{Fits, keys_of};
-ghost use Rattle.bihash_plan.specs.Searches.{MayLookAt};
 ghost use Rattle.bihash_plan.specs.inner.Tallies.{FitsWindow, IsCounted};
 
 use crate::place::{page, page_count};

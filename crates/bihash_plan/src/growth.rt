@@ -2,10 +2,10 @@
 
 ghost use Rattle.std.specs.Prelude.{◌≡◌, ◌≤◌, ◌<◌, ◌+◌, ◌*◌, ◌^◌, ◌↔◌, ◌∷◌, ℕ, false, IsTrue, length};
 ghost use Rattle.bihash_words.specs.Sizes.{IsSound, sizes_of};
+ghost use Rattle.bihash_words.specs.Pages.{page_of, paging_of};
 ghost use Rattle.bihash_plan.specs.Blocks.{HasKey, IsCrowded, IsFree, IsLawfulBlock, IsNew, IsSized, NamesPage, pairs};
-ghost use Rattle.bihash_plan.specs.Pages.{MayHavePages, page_of, paging_of};
+ghost use Rattle.bihash_plan.specs.Searches.{IsOnlyPlan, IsPlace, IsRange, MayHavePages, MayHavePlaces, TellsOtherPage};
 ghost use Rattle.bihash_plan.specs.Plans.{HasRoom, IsSafe, keys_of};
-ghost use Rattle.bihash_plan.specs.Searches.{IsOnlyPlan, IsPlace, IsRange, MayHavePlaces, TellsOtherPage};
 
 use crate::fit::fits;
 use crate::outcome::Plan;

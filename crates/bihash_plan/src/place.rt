@@ -2,9 +2,9 @@
 
 ghost use Rattle.std.specs.Prelude.{◌≡◌, ◌≤◌, ◌<◌, ◌+◌, ◌^◌, ◌↔◌, ℕ};
 ghost use Rattle.bihash_words.specs.Sizes.{IsSound, sizes_of};
-ghost use Rattle.bihash_plan.specs.Blocks.{IsOpen, IsSized};
-ghost use Rattle.bihash_plan.specs.Pages.{MayHavePages, page_of, paging_of};
-ghost use Rattle.bihash_plan.specs.Searches.{AreOpenPlaces, MayHavePlaces};
+ghost use Rattle.bihash_words.specs.Pages.{page_of, paging_of};
+ghost use Rattle.bihash_plan.specs.Blocks.{IsSized};
+ghost use Rattle.bihash_plan.specs.Searches.{AreOpenPlaces, MayHavePages, MayHavePlaces};
 
 use bihash_words::{BlockSize, PAGE_PLACES, Shape};
 

@@ -3,9 +3,9 @@
 ghost use Rattle.std.specs.Prelude.{◌≡◌, ◌≢◌, ◌≤◌, ◌<◌, ◌*◌, ◌^◌, ℕ, length, replicate, slice_set, IfSome, IfNone};
 ghost use Rattle.bihash_words.specs.Sizes.{IsSound, sizes_of};
 ghost use Rattle.bihash_words.specs.Patches.{free_mark};
+ghost use Rattle.bihash_words.specs.Pages.{page_of, paging_of};
 ghost use Rattle.bihash_plan.specs.Blocks.{IsCrowded, IsFirstFree, IsLawfulBlock};
 ghost use Rattle.bihash_plan.specs.Layouts.{HasPlacesTo, IsFirstFreeOrNone, IsNamed, IsRehash, IsTakenBefore};
-ghost use Rattle.bihash_plan.specs.Pages.{MayHavePages, page_of, paging_of};
 ghost use Rattle.bihash_plan.specs.Searches.{HasPlaces};
 
 use crate::place::open_places;

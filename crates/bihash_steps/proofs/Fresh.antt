@@ -12,7 +12,7 @@ use Rattle.std.specs.Cmp.Lexicographic.{slice_cmp}
 use Rattle.atomic_table.specs.Table.{opening}
 use Rattle.bihash_words.specs.Sizes.{Sizes, IsSound}
 use Rattle.bihash_steps.specs.Words.{buckets, bucket_at, page_words, list_words, list_at, returned_count_at, Stands}
-use Rattle.bihash_steps.specs.Blocks.{no_block, IsBlockOf}
+use Rattle.bihash_steps.specs.Blocks.{no_block}
 use Rattle.bihash_steps.specs.Partition.{PageRun, Owner, of_bucket, returned_at, never_used, held_by, run_at}
 use Rattle.bihash_steps.specs.Histories.{IsWriteList}
 use Rattle.bihash_steps.specs.Callers.{known_at, opening_in, IsLawfulCaller}
@@ -25,6 +25,7 @@ use Rattle.bihash_steps.specs.declared.view.Write.{Write}
 use Rattle.bihash_steps.specs.declared.view.PageStore.{PageStore}
 use Rattle.bihash_steps.specs.declared.view.Record.{Record}
 use Rattle.bihash_steps.specs.declared.view.View.{View}
+use Rattle.bihash_steps.proofs.BlockLemmas.{bare_block}
 use Rattle.bihash_steps.proofs.CountWord.{front}
 
 -- a bucket without writes
@@ -99,17 +100,6 @@ module _ (z : Sizes) where
 
   -- ---- The bucket and the view
 
-  bare_block : IsBlockOf z no_block [] empty
-  bare_block = record {
-    small = omega arith;
-    absent = λ _. refl;
-    bare = λ _. refl;
-    mapped = λ i h. absurd (let l = h.0 in omega arith);
-    found = λ key value e. absurd (let n = get-empty {X = ℕ} (slice_cmp nat_cmp) key in cc);
-    once = λ i k h. absurd (let l = h.0 in omega arith);
-    paged = λ e i h. absurd (let l = h.0 in omega arith);
-  }
-
   new_view : (words : List ℕ) → IsView z words 1 bare_table 0 (first_view z)
   new_view words = record {
     informed = record {
@@ -152,7 +142,7 @@ module _ (z : Sizes) where
           writes = no_writes b;
           bearers = λ n w e. absurd (some-ne-none w (sym e));
           size = refl;
-          pairs = bare_block;
+          pairs = bare_block z empty (λ key v e. let n = get-empty {X = ℕ} (slice_cmp nat_cmp) key in cc);
           at_rest = λ _ k h. absurd (omega arith);
           clean = λ _. refl;
         };

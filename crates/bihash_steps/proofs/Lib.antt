@@ -1,3 +1,4 @@
+pub mod BlockLemmas
 pub mod Lists
 pub mod Put
 pub mod Prefixes

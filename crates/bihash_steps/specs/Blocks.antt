@@ -1,10 +1,12 @@
 -- The block of a bucket: pages of four places each, in which the pairs of a map stand.
-use Rattle.std.specs.Prelude.{◌≡◌, ◌≢◌, ℕ, ◌+◌, ◌*◌, ◌/◌, ◌^◌, ◌<◌, ◌≤◌, false, List, slice_index, Some, zero, suc}
+use Rattle.std.specs.Prelude.{◌≡◌, ◌≢◌, ℕ, ◌+◌, ◌*◌, ◌^◌, ◌<◌, false, List, slice_index, zero, suc}
 use Rattle.std.proofs.Math.ListN.{take, drop}
-use Rattle.std.specs.FinMap.{empty, get}
+use Rattle.std.specs.FinMap.{empty}
+use Rattle.bihash_words.specs.Blocks.{HoldsMap, AreLawfulPlaces}
 use Rattle.bihash_words.specs.Maps.{Pairs}
+use Rattle.bihash_words.specs.Pages.{word_paging}
 pub use Rattle.bihash_words.specs.Patches.{free_mark as free}
-use Rattle.bihash_words.specs.Sizes.{Sizes, page_in}
+use Rattle.bihash_words.specs.Sizes.{Sizes}
 use Rattle.bihash_steps.specs.Words.{place_words}
 use Rattle.bihash_steps.specs.declared.view.Extent.{Extent}
 
@@ -28,20 +30,15 @@ value_in z block i = slice_index block (i * place_words z + z.key_words)
 abbrev pub HasPair : Sizes → Extent → List ℕ → ℕ → Type 0
 HasPair z e block i = (i < places e.page e.log2) × (value_in z block i ≢ free)
 
--- the page that the hash of a key names
-abbrev pub page_of : Sizes → ℕ → List ℕ → ℕ
-page_of z log2 key = page_in z.log2_buckets log2 (z.hash key)
+-- place i has this pair
+pub record HoldsPair (z : Sizes) (e : Extent) (block key : List ℕ) (value i : ℕ) : Type 0 where
+  pub pair : HasPair z e block i
+  pub stands : key_in z block i ≡ key
+  pub has : value_in z block i ≡ value
 
--- A lawful block of the map m: its pairs are those of the map, each key stands once and, unless the
--- block is linear, in its page. A bucket without pairs has no block.
+-- A lawful block of the map m. A bucket without pairs has no block.
 pub record IsBlockOf (z : Sizes) (e : Extent) (block : List ℕ) (m : Pairs) : Type 0 where
-  pub small : e.log2 ≤ z.max_log2
   pub absent : e.page ≡ 0 → e ≡ no_block
   pub bare : m ≡ empty → e.page ≡ 0
-  pub mapped : (i : ℕ) → HasPair z e block i → get m (key_in z block i) ≡ Some (value_in z block i)
-  pub found : (key : List ℕ) (value : ℕ) → get m key ≡ Some value → (i : ℕ) × HasPair z e block i
-      × (key_in z block i ≡ key)
-  pub once : (i k : ℕ) → HasPair z e block i → HasPair z e block k → key_in z block i ≡ key_in z block k
-      → i ≡ k
-  pub paged : e.linear ≡ false → (i : ℕ) → HasPair z e block i
-      → page_of z e.log2 (key_in z block i) ≡ i / 4
+  pub rule : AreLawfulPlaces (word_paging z) e.log2 e.linear (HoldsPair z e block)
+  pub map : HoldsMap (λ key. key) (HoldsPair z e block) m

@@ -1,5 +1,5 @@
 -- The writes for which a locked block has room: what was stored may be published, and is the answer then.
-use Rattle.std.proofs.Common.{◌≡◌, ◌≢◌, ◌∙◌, ◌+◌, ◌*◌, ◌<◌, ℕ, true, List, length, set, Some, None, ap, arith, refl, sym}
+use Rattle.std.proofs.Common.{◌≡◌, ◌≢◌, ◌+◌, ◌*◌, ◌<◌, ℕ, true, List, length, set, Some, None, ap, arith, refl, sym}
 use Rattle.std.specs.FinMap.{get}
 use Rattle.bihash_words.specs.Sizes.{Sizes}
 use Rattle.bihash_words.specs.declared.patch.Change.TheVariants.{Set, Remove}
@@ -7,7 +7,7 @@ use Rattle.bihash_words.specs.declared.patch.Reply.TheVariants.{Changed}
 use Rattle.bihash_steps.specs.Words.{place_words}
 use Rattle.bihash_steps.specs.Histories.{bounds_of, bucket_of}
 use Rattle.bihash_steps.specs.Callers.{known_at}
-use Rattle.bihash_steps.specs.Blocks.{HasPair, free, value_in}
+use Rattle.bihash_steps.specs.Blocks.{HasPair, HoldsPair, free}
 use Rattle.bihash_steps.specs.BucketCalls.{event}
 use Rattle.bihash_steps.specs.BucketSteps.{MayPublish, call_of, map_now, with_lock, stored_in, view_after_write}
 use Rattle.bihash_steps.specs.Seats.{CallerState, with_view}
@@ -15,20 +15,13 @@ use Rattle.bihash_steps.specs.declared.view.LockedBucket.{LockedBucket}
 use Rattle.bihash_steps.specs.declared.view.View.{View}
 use Rattle.bihash_table.specs.Promise.{IsAnswered}
 use Rattle.bihash_table.specs.inner.Locked.{HasLock}
-use Rattle.bihash_table.specs.inner.Places.{HasPairOf, IsFreeFor}
+use Rattle.bihash_table.specs.inner.Places.{IsFreeFor}
 use Rattle.bihash_table.specs.inner.Stores.{HasStored}
 use Rattle.bihash_table.proofs.Blocks.{filled_block, freed_block, overwritten_block}
 use Rattle.bihash_table.proofs.Count.{few_pairs}
 use Rattle.bihash_table.proofs.Decisions.{enter_step, remove_step, set_step}
 use Rattle.bihash_table.proofs.Publishing.{may_publish, published}
 use Rattle.bihash_table.proofs.Storing.{key_stored, stored_before, stored_here, stored_is, stored_none, stored_placed, value_stored, view_stored}
-
--- the value of the pair at a place is the map's
-pub found_there : (z : Sizes) (v : View) (b word : ℕ) (l : LockedBucket) → HasLock z v b word l
-    → (key : List ℕ) (i value : ℕ)
-    → HasPairOf z l.extent l.now key i → value_in z l.now i ≡ value → Some value ≡ get (map_now v b) key
-found_there z v b word l has key i value pair is =
-    sym (ap (get (map_now v b)) (sym pair.stands) ∙ (has.pairs.mapped i pair.pair ∙ ap Some is))
 
 -- the word after the key of place i gets this value
 abbrev pub IsValueStored : Sizes → View → LockedBucket → ℕ → ℕ → View → Type 0
@@ -70,9 +63,9 @@ module _ (z : Sizes) (v : View) (b word : ℕ) (l : LockedBucket) (has : HasLock
     filled = published z v b word l has key long home None (Set value) w' _ filled_is
 
   -- the pair of the key at place i
-  module _ (i old : ℕ) (pair : HasPairOf z l.extent l.now key i) (was : value_in z l.now i ≡ old) where
+  module _ (i old : ℕ) (pair : HoldsPair z l.extent l.now key old i) where
     there : Some old ≡ get (map_now v b) key
-    there = found_there z v b word l has key i old pair was
+    there = sym (has.pairs.map.mapped key old i pair)
 
     -- it gets another value
     module _ (value : ℕ) (other : value ≢ old) (storable : value ≢ free) (w' : View)
@@ -87,7 +80,7 @@ module _ (z : Sizes) (v : View) (b word : ℕ) (l : LockedBucket) (has : HasLock
           (set_step (bounds_of z) (map_now v b) (length (known_at v.known b)) key old value there other unworn)
           (overwritten_block z l.extent l.now _ (map_now v b) i has.pairs
           (stored_placed z v b word l has v i pair.pair.0 key z.key_words h w' z.key_words value is (omega arith))
-          key value pair storable
+          key old value pair storable
           (key_stored z v b word l has v i pair.pair.0 key z.key_words h w' value refl long is)
           (value_stored z v b word l has v i pair.pair.0 key z.key_words h w' value refl long is))
 
@@ -107,7 +100,7 @@ module _ (z : Sizes) (v : View) (b word : ℕ) (l : LockedBucket) (has : HasLock
           (remove_step (bounds_of z) (map_now v b) (length (known_at v.known b)) key old there unworn)
           (freed_block z l.extent l.now _ (map_now v b) i has.pairs
           (stored_placed z v b word l has v i pair.pair.0 key 0 h w' z.key_words free is (omega arith))
-          key pair (stored_here z v b word l has v i pair.pair.0 key 0 h w' z.key_words free is (omega arith)) k apart left)
+          key old pair (stored_here z v b word l has v i pair.pair.0 key 0 h w' z.key_words free is (omega arith)) k apart left)
 
       pub removed : (u : View) → u ≡ view_after_write w' (call_of w' b 1 (event key (Some old) Remove (Changed (Some old))))
           → IsAnswered z v u (record { key = key; found = Some old; change = Remove; reply = Changed (Some old) })

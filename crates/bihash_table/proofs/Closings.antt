@@ -45,8 +45,8 @@ module _ {A K : Type 0} (g : Ghosts A K) where
             subst (λ (x : Extent). n < places x.page x.log2) (sym (note_extent (sizes_of g) u.view word e o h noted)) inside,
             λ is. taken (sym here.1 ∙ is),
           );
-          key = sym here.0;
-          value = sym here.1;
+          stands = here.0;
+          has = here.1;
         }) (seen known b has lists)) before now
 
     -- nothing is told where it was refused

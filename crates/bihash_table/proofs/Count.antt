@@ -5,10 +5,13 @@ use Rattle.std.specs.FinMap.{empty, empty_of_len, get, get-empty, len, len-empty
 use Rattle.std.specs.Ordering.{nat_cmp}
 use Rattle.std.proofs.lemmas.Bool.{cases_eq}
 use Rattle.std.proofs.Math.Pow.{pow-lt, pow_mono}
+use Rattle.bihash_words.specs.Blocks.{HoldsMap, AreLawfulPlaces}
 use Rattle.bihash_words.specs.Maps.{Pairs}
+use Rattle.bihash_words.specs.Pages.{word_paging}
 use Rattle.bihash_words.specs.Sizes.{Sizes}
-use Rattle.bihash_words.proofs.MapValues.{get_left, get_removed, len_less, same_or_other}
-use Rattle.bihash_steps.specs.Blocks.{IsBlockOf, places, key_in, value_in, free}
+use Rattle.bihash_words.proofs.BlockLemmas.{holds_without}
+use Rattle.bihash_words.proofs.MapValues.{len_less}
+use Rattle.bihash_steps.specs.Blocks.{HasPair, HoldsPair, IsBlockOf, places, key_in, value_in, free}
 use Rattle.bihash_steps.specs.declared.view.Extent.{Extent}
 
 -- how many of the first n places have a pair
@@ -35,82 +38,69 @@ some_pair m key value is = ⊎_elim
     (λ (some : len m ≡ 0 → ⊥). omega arith)
     (cases_eq (len m) 0)
 
--- the pairs at the first n places are those of the map, each key once
-record HasFirst (z : Sizes) (block : List ℕ) (n : ℕ) (m : Pairs) : Type 0 where
-  mapped : (i : ℕ) → i < n → value_in z block i ≢ free
-      → get m (key_in z block i) ≡ Some (value_in z block i)
-  found : (key : List ℕ) (value : ℕ) → get m key ≡ Some value → (i : ℕ) × (i < n)
-      × (value_in z block i ≢ free) × (key_in z block i ≡ key)
-  once : (i k : ℕ) → i < n → k < n → value_in z block i ≢ free → value_in z block k ≢ free
-      → key_in z block i ≡ key_in z block k → i ≡ k
+module _ (z : Sizes) (e : Extent) (block : List ℕ) (rule : AreLawfulPlaces (word_paging z) e.log2 e.linear (HoldsPair z e block)) where
+  -- the pairs at the first n places are those of the map
+  abbrev HasFirst : ℕ → Pairs → Type 0
+  HasFirst n m = HoldsMap (λ key. key) (λ key v i. (i < n) × HoldsPair z e block key v i) m
 
-nothing_first : (z : Sizes) (block : List ℕ) (m : Pairs) → HasFirst z block 0 m → len m ≡ 0
-nothing_first z block m has =
-    let none : (key : List ℕ) → get m key ≡ get (empty {X = ℕ} {R = slice_cmp nat_cmp}) key =
-    λ key. elim (get m key) as (λ o. get m key ≡ o → o ≡ get (empty {X = ℕ} {R = slice_cmp nat_cmp}) key) [
-      | None ↦ λ is. sym (get-empty _ key)
-      | Some value ↦ λ is. absurd (let at = has.found key value is in let below = at.1 in omega arith)
-    ] refl in
-    ap len (same_map nat_list_cmp_total (slice_cmp-IsAntisymmetric nat_cmp-IsAntisymmetric) m empty none)
-    ∙ len-empty (slice_cmp nat_cmp) ℕ
+  nothing_first : (m : Pairs) → HasFirst 0 m → len m ≡ 0
+  nothing_first m has =
+      let none : (key : List ℕ) → get m key ≡ get (empty {X = ℕ} {R = slice_cmp nat_cmp}) key =
+      λ key. elim (get m key) as (λ o. get m key ≡ o → o ≡ get (empty {X = ℕ} {R = slice_cmp nat_cmp}) key) [
+        | None ↦ λ is. sym (get-empty _ key)
+        | Some value ↦ λ is. absurd (let at = has.found key value is in let below = at.1.0 in omega arith)
+      ] refl in
+      ap len (same_map nat_list_cmp_total (slice_cmp-IsAntisymmetric nat_cmp-IsAntisymmetric) m empty none)
+      ∙ len-empty (slice_cmp nat_cmp) ℕ
 
--- without the last of them
-module _ (z : Sizes) (block : List ℕ) (n : ℕ) (m : Pairs) (has : HasFirst z block (suc n) m) where
-  less_free : value_in z block n ≡ free → HasFirst z block n m
-  less_free is = record {
-    mapped = λ i below. has.mapped i (omega arith);
-    found = λ key value there.
-        let at = has.found key value there in
-        let other : at.0 ≢ n = λ here. at.2 (ap (value_in z block) here ∙ is) in
-        let below = at.1 in
-        (at.0, omega arith, at.2, at.3);
-    once = λ i k i_in k_in. has.once i k (omega arith) (omega arith);
+  -- without the last of them
+  less_free : (n : ℕ) (m : Pairs) → HasFirst (suc n) m → value_in z block n ≡ free → HasFirst n m
+  less_free n m has is = record {
+    mapped = λ key v i h. let below = h.0 in has.mapped key v i (omega arith, h.1);
+    found = λ key v there.
+        let at = has.found key v there in
+        let other : at.0 ≢ n = λ here. at.1.1.pair.1 (ap (value_in z block) here ∙ is) in
+        let below = at.1.0 in
+        (at.0, (omega arith, at.1.1));
   }
 
-  less_taken : value_in z block n ≢ free → HasFirst z block n (remove m (key_in z block n))
-  less_taken taken = record {
-    mapped = λ i below some.
-        let other : key_in z block i ≢ key_in z block n = λ same.
-        (let e = has.once i n (omega arith) (omega arith) some taken same in omega arith) in
-        get_left m (key_in z block n) (key_in z block i) other ∙ has.mapped i (omega arith) some;
-    found = λ key value there. ⊎_elim
-        (λ (same : key ≡ key_in z block n). absurd (let clash = sym (get_removed m (key_in z block n))
-        ∙ (ap (get (remove m (key_in z block n))) (sym same) ∙ there) in let c : ⊥ = cc in c))
-        (λ (apart : key ≢ key_in z block n).
-        let at = has.found key value (sym (get_left m (key_in z block n) key apart) ∙ there) in
-        let other : at.0 ≢ n = λ here. apart (sym at.3 ∙ ap (key_in z block) here) in
-        let below = at.1 in
-        (at.0, omega arith, at.2, at.3))
-        (same_or_other key (key_in z block n));
-    once = λ i k i_in k_in. has.once i k (omega arith) (omega arith);
-  }
+  less_taken : (n : ℕ) (m : Pairs) → HasFirst (suc n) m → HasPair z e block n → HasFirst n (remove m (key_in z block n))
+  less_taken n m has pair = holds_without m (key_in z block n)
+      (λ key v i h. let below = h.0 in (
+        λ same. let here = rule.once key v (value_in z block n) i n h.1 (record { pair = pair; stands = sym same; has = refl }) in omega arith,
+        has.mapped key v i (omega arith, h.1),
+      ))
+      (λ key v apart there.
+      let at = has.found key v there in
+      let other : at.0 ≢ n = λ here. apart (sym at.1.1.stands ∙ ap (key_in z block) here) in
+      let below = at.1.0 in
+      (at.0, (omega arith, at.1.1)))
 
-count_first : (z : Sizes) (block : List ℕ) (n : ℕ) (m : Pairs) → HasFirst z block n m
-    → len m ≡ pairs_before z block n
-count_first z block zero m has = nothing_first z block m has
-count_first z block (suc n) m has = ⊎_elim
-    (λ (is : value_in z block n ≡ free).
-    count_first z block n m (less_free z block n m has is) ∙ sym (more_free z block n is))
-    (λ (taken : value_in z block n ≢ free).
-    let there = has.mapped n (omega arith) taken in
-    let fewer : len (remove m (key_in z block n)) ≡ pairs_before z block n =
-    count_first z block n (remove m (key_in z block n)) (less_taken z block n m has taken) in
-    omega (
-      arith,
-      fewer,
-      len_less m (key_in z block n) (value_in z block n) there,
-      some_pair m (key_in z block n) (value_in z block n) there,
-      more_taken z block n taken,
-    ))
-    (cases_eq (value_in z block n) free)
+  count_first : (n : ℕ) (m : Pairs) → n ≤ places e.page e.log2 → HasFirst n m → len m ≡ pairs_before z block n
+  count_first zero m room has = nothing_first m has
+  count_first (suc n) m room has = ⊎_elim
+      (λ (is : value_in z block n ≡ free).
+      count_first n m (omega arith) (less_free n m has is) ∙ sym (more_free z block n is))
+      (λ (taken : value_in z block n ≢ free).
+      let pair : HasPair z e block n = (omega arith, taken) in
+      let there = has.mapped (key_in z block n) (value_in z block n) n (omega arith, record { pair = pair; stands = refl; has = refl }) in
+      let fewer : len (remove m (key_in z block n)) ≡ pairs_before z block n =
+      count_first n (remove m (key_in z block n)) (omega arith) (less_taken n m has pair) in
+      omega (
+        arith,
+        fewer,
+        len_less m (key_in z block n) (value_in z block n) there,
+        some_pair m (key_in z block n) (value_in z block n) there,
+        more_taken z block n taken,
+      ))
+      (cases_eq (value_in z block n) free)
 
 -- a map has as many pairs as its block
 pub len-pairs_before : (z : Sizes) (e : Extent) (block : List ℕ) (m : Pairs) → IsBlockOf z e block m
     → len m ≡ pairs_before z block (places e.page e.log2)
-len-pairs_before z e block m pairs = count_first z block (places e.page e.log2) m (record {
-  mapped = λ i inside some. pairs.mapped i (inside, some);
-  found = λ key value there. let at = pairs.found key value there in (at.0, at.1.0, at.1.1, at.2);
-  once = λ i k i_in k_in some_i some_k. pairs.once i k (i_in, some_i) (k_in, some_k);
+len-pairs_before z e block m pairs = count_first z e block pairs.rule (places e.page e.log2) m (omega arith) (record {
+  mapped = λ key v i h. pairs.map.mapped key v i h.1;
+  found = λ key v there. let at = pairs.map.found key v there in (at.0, (at.1.pair.0, at.1));
 })
 
 pub pairs_before-le : (z : Sizes) (block : List ℕ) (n : ℕ) → pairs_before z block n ≤ n
@@ -158,7 +148,7 @@ few_pairs z e block m i pairs inside is =
       arith,
       len-pairs_before z e block m pairs,
       pairs_before-free z block i (places e.page e.log2) inside is,
-      places-le e.page e.log2 z.max_log2 pairs.small,
+      places-le e.page e.log2 z.max_log2 pairs.rule.small,
     )
 
 -- a block of places that all have pairs has as many pairs

@@ -10,9 +10,9 @@ use Rattle.bihash_words.specs.declared.block_size.BlockSize.{BlockSize}
 use Rattle.bihash_words.specs.declared.patch.Change.TheVariants.{Set}
 use Rattle.bihash_words.specs.declared.patch.Reply.TheVariants.{Full}
 use Rattle.bihash_words.specs.Words.{Bucket, Fits, packed}
+use Rattle.bihash_words.specs.Pages.{page_of, paging_of}
 use Rattle.bihash_plan.specs.Blocks.{IsCrowded, IsLawfulBlock, IsNew}
 use Rattle.bihash_plan.specs.Layouts.{IsNamed, IsRehash}
-use Rattle.bihash_plan.specs.Pages.{page_of, paging_of}
 use Rattle.bihash_plan.specs.Plans.{IsPlan}
 use Rattle.bihash_plan.specs.Searches.{IsOnlyPlan}
 use Rattle.bihash_plan.specs.declared.outcome.Plan.{Plan}
@@ -94,11 +94,11 @@ module _ {A K : Type 0} (g : Ghosts A K) (keys : AreKeyWords g) (v : View) (b wo
           → IsBlockOf (sizes_of g) (extent_of page size.log2 size.linear) words (insert (map_now u b) (g.words_of key) value)
       laid_there value new storable lays page words some there =
           let e = k.locked.lock.extent in let block = k.locked.lock.now in let m = map_now u b in
-          block_of_rehash g keys page size.log2 size.linear ps key value m new words some
+          block_of_rehash g keys page size.log2 size.linear ps key value m new
           (hold g keys e block m key has.size has.pairs told.0.1 absent_there ps told.1)
           (of_keys g keys e block m key has.size has.pairs told.0.1 absent_there ps told.1)
           absent_there
-          (lays (is_named g keys e block m key has.size has.pairs told.0.1 absent_there ps told.1 size named) storable) there
+          (lays (is_named g keys e block m key has.size has.pairs told.0.1 absent_there ps told.1 size named) storable) words some there
 
       pub planned_there : IsPlanned g (map_now u b) key size
       planned_there = is_planned g keys k.locked.lock.extent k.locked.lock.now (map_now u b) key has.size has.pairs told.0.1 absent_there ps told.1

@@ -6,7 +6,7 @@ use Rattle.std.specs.FinMap.{get}
 use Rattle.bihash_words.specs.Sizes.{Sizes}
 use Rattle.bihash_words.specs.Maps.{Pairs}
 use Rattle.bihash_steps.specs.Words.{place_words, block_words}
-use Rattle.bihash_steps.specs.Blocks.{HasPair, places, page_of, value_in, free, IsBlockOf}
+use Rattle.bihash_steps.specs.Blocks.{HasPair, places, value_in, free, IsBlockOf}
 use Rattle.bihash_steps.specs.declared.view.Extent.{Extent}
 use Rattle.bihash_steps.specs.declared.view.OpenBucket.{OpenBucket}
 use Rattle.bihash_steps.specs.Seats.{CallerState}
@@ -42,17 +42,15 @@ module _ (z : Sizes) (e : Extent) (block key : List ℕ) (i : ℕ) where
   -- the words but the last, the last one and the value
   pub found_value : (n k : ℕ) → k ≡ z.key_words - 1 → length block ≡ block_words z e.page e.log2 → i < places e.page e.log2 → length key ≡ z.key_words
       → SameTo z block i key k → n ≡ value_in z block i → n ≢ free → LastWordTells z key i true e block → IsValueAt z key i (Some n) e block
-  found_value n k is size inside long same here pair last = (
-    record {
-      pair = (inside, λ h. pair (here ∙ h));
-      stands = all_same z block key i e.page e.log2 size inside long (λ j low. elim (cases_lt j k) [
-        | inl before ↦ same j before
-        | inr behind ↦ let at : j ≡ z.key_words - 1 = omega arith in
-            subst (λ (j : ℕ). slice_index block (i * place_words z + j) ≡ slice_index key j) (sym at) last
-      ]);
-    },
-    here,
-  )
+  found_value n k is size inside long same here pair last = record {
+    pair = (inside, λ h. pair (here ∙ h));
+    stands = all_same z block key i e.page e.log2 size inside long (λ j low. elim (cases_lt j k) [
+      | inl before ↦ same j before
+      | inr behind ↦ let at : j ≡ z.key_words - 1 = omega arith in
+          subst (λ (j : ℕ). slice_index block (i * place_words z + j) ≡ slice_index key j) (sym at) last
+    ]);
+    has = sym here;
+  }
 
 module _ (z : Sizes) (e : Extent) (block key : List ℕ) where
   pub same_more : (i k n m : ℕ) → SameTo z block i key k → n ≡ slice_index block (i * place_words z + k) → m ≡ slice_index key k → n ≡ m
@@ -249,12 +247,11 @@ module _ (z : Sizes) where
 -- what a look for a pair found tells the map of a lawful block
 pub pair_value : (z : Sizes) (e : Extent) (block key : List ℕ) (m : Pairs) (found : Option (ℕ × ℕ)) → IsPairIn z key found e block → IsBlockOf z e block m
     → value_of found ≡ get m key
-pair_value z e block key m (Some pair) told ok = ap Some told.1 ∙ (sym (ok.mapped pair.0 told.0.pair) ∙ ap (get m) told.0.stands)
+pair_value z e block key m (Some pair) told ok = sym (ok.map.mapped key pair.1 pair.0 told)
 pair_value z e block key m None told ok = go (get m key) refl
   where
     go : (found : Option ℕ) → get m key ≡ found → None ≡ found
     go None is = refl
     go (Some value) is =
-        let at = ok.found key value is in
-        let pair : HasPairOf z e block key at.0 = record { pair = at.1; stands = at.2 } in
-        absurd (told at.0 (λ linear. ap (page_of z e.log2) (sym at.2) ∙ ok.paged linear at.0 at.1) pair)
+        let at = ok.map.found key value is in
+        absurd (told at.0 (ok.rule.paged key value at.0 at.1) (record { pair = at.1.pair; stands = at.1.stands; has = refl }))

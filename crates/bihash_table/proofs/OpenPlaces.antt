@@ -1,7 +1,10 @@
 -- The places of a block that are open to a key, and what a search of them leaves out.
-use Rattle.std.proofs.Common.{◌≡◌, ◌≢◌, ℕ, zero, suc, ◌+◌, ◌*◌, ◌/◌, ◌%◌, ◌^◌, ◌<◌, ◌≤◌, true, false, true≢false, List, pow_mono, mod-lt, pow_pos, refl, sym, ap, ◌∙◌, subst, arith}
+use Rattle.std.proofs.Common.{◌≡◌, ◌≢◌, ℕ, zero, suc, ◌+◌, ◌*◌, ◌/◌, ◌%◌, ◌^◌, ◌<◌, ◌≤◌, true, false, true≢false, List, pow_mono, refl, sym, ap, ◌∙◌, subst, arith}
+use Rattle.bihash_words.specs.Pages.{page_of, word_paging}
 use Rattle.bihash_words.specs.Sizes.{Sizes, IsSound}
-use Rattle.bihash_steps.specs.Blocks.{places, page_of}
+use Rattle.bihash_words.proofs.BlockLemmas.{in_page, open_of_page}
+use Rattle.bihash_plan.proofs.PageLemmas.{page_of-lt}
+use Rattle.bihash_steps.specs.Blocks.{places}
 use Rattle.bihash_steps.specs.declared.view.Extent.{Extent}
 use Rattle.bihash_steps.specs.declared.view.LockedBucket.{LockedBucket}
 use Rattle.bihash_steps.specs.declared.view.View.{View}
@@ -16,9 +19,6 @@ some_places (suc page) log2 some = refl
 pub few_pages : (z : Sizes) (log2 : ℕ) → IsSound z → log2 ≤ z.max_log2 → 2 ^ log2 ≤ 2 ^ 24
 few_pages z log2 sound small = let few = sound.few_buckets in let low : log2 ≤ 24 = omega arith in pow_mono low
 
-pub page_inside : (z : Sizes) (log2 : ℕ) (key : List ℕ) → page_of z log2 key < 2 ^ log2
-page_inside z log2 key = mod-lt (z.hash key / 2 ^ z.log2_buckets) (pow_pos log2)
-
 module _ (z : Sizes) (e : Extent) (key : List ℕ) where
   pub none_open : e.page ≡ 0 → AreOpenTo z e key 0 0
   none_open is = let none_there : places e.page e.log2 ≡ 0 = ap (λ (page : ℕ). places page e.log2) is in record {
@@ -29,15 +29,15 @@ module _ (z : Sizes) (e : Extent) (key : List ℕ) where
   pub all_open : (count : ℕ) → e.page ≢ 0 → e.linear ≡ true → count ≡ 2 ^ e.log2 → AreOpenTo z e key 0 (4 * count)
   all_open count some linear is = let n = some_places e.page e.log2 some in record {
     within = omega arith;
-    exact = λ i l. (λ _ not_linear. absurd (true≢false (sym linear ∙ not_linear)), λ _. (omega arith, omega arith));
+    exact = λ i l. (λ _. open_of_page e.linear _ i (λ plain. absurd (true≢false (sym linear ∙ plain))), λ _. (omega arith, omega arith));
   }
 
-  pub page_open : (page : ℕ) → e.page ≢ 0 → e.linear ≡ false → page ≡ page_of z e.log2 key → AreOpenTo z e key (4 * page) (4 * page + 4)
+  pub page_open : (page : ℕ) → e.page ≢ 0 → e.linear ≡ false → page ≡ page_of (word_paging z) e.log2 key → AreOpenTo z e key (4 * page) (4 * page + 4)
   page_open page some linear is =
       let n = some_places e.page e.log2 some in
-      let low : page < 2 ^ e.log2 = rw is (page_inside z e.log2 key) in record {
+      let low : page < 2 ^ e.log2 = rw is (page_of-lt (word_paging z) e.log2 key) in record {
         within = omega arith;
-        exact = λ i l. (λ among _. sym is ∙ omega arith, λ reached. let at : page ≡ i / 4 = is ∙ reached linear in (omega arith, omega arith));
+        exact = λ i l. (λ among. open_of_page e.linear _ i (λ _. omega arith), λ reached. let at = in_page e.linear _ i linear reached in (omega arith, omega arith));
       }
 
   -- the same, where the page after it is named
@@ -49,4 +49,4 @@ module _ (z : Sizes) (e : Extent) (key : List ℕ) where
 
 -- the word of a locked bucket tells its block
 pub word_tells : (z : Sizes) (v : View) (b word : ℕ) (l : LockedBucket) → HasLock z v b word l → IsWordOf z word l.extent
-word_tells z v b word l h = record { version = l.version; fits = h.fits; stood = h.stood; small = h.pairs.small }
+word_tells z v b word l h = record { version = l.version; fits = h.fits; stood = h.stood; small = h.pairs.rule.small }

@@ -58,7 +58,7 @@ module _ (z : Sizes) (v u : View) (b word : ℕ) (inside : b < buckets z) (free 
         extent = refl;
         fits = s.found.fits;
         stood = s.found.stood;
-        small = s.found.pairs.small;
+        small = s.found.pairs.rule.small;
         near = s.found.near;
         size = s.found.size;
       };

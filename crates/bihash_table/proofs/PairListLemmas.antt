@@ -1,5 +1,5 @@
 -- Lists of pairs: what one more pair makes of them, and what the places of a block do.
-use Rattle.std.proofs.Common.{◌≡◌, ◌∙◌, ◌⊎◌, ℕ, ◌+◌, ◌<◌, Bool, false, List, [], ◌∷◌, ◌++◌, length, get_or, arith, sym, ap, subst, inl, inr, Option, Some}
+use Rattle.std.proofs.Common.{◌≡◌, ◌∙◌, ◌⊎◌, ℕ, ◌+◌, ◌<◌, Bool, false, List, [], ◌∷◌, ◌++◌, length, get_or, arith, sym, ap, subst, inl, inr, Some}
 use lib.ListN.{length-map}
 use Rattle.std.proofs.lemmas.Bool.{cases_lt}
 use Rattle.std.proofs.lemmas.List.{get_or-map, map-append}
@@ -12,18 +12,17 @@ use Rattle.std.specs.FinMap.{get}
 use Rattle.std.specs.List.{Contains, IsDistinct}
 use Rattle.std.specs.List.Sorted.{IsPermutation, IsSortedBy}
 use Rattle.std.specs.Ordering.{eq_by_cmp, is_lt, nat_cmp}
-use Rattle.std.specs.Option.{unwrap_or}
 use Rattle.bihash_words.specs.Sizes.{Sizes, sizes_of}
 use Rattle.bihash_words.specs.declared.shape.Shape.{Ghosts}
 use Rattle.bihash_words.proofs.MapValues.{apart}
 use Rattle.bihash_steps.specs.Words.{buckets}
 use Rattle.bihash_steps.specs.Histories.{bucket_of}
 use Rattle.bihash_steps.specs.Callers.{known_at, opening_at}
-use Rattle.bihash_steps.specs.Blocks.{HasPair, free, key_in, places, value_in}
+use Rattle.bihash_steps.specs.Blocks.{HoldsPair, free, key_in, places, value_in}
 use Rattle.bihash_steps.specs.declared.view.Known.{Known}
 use Rattle.bihash_steps.specs.declared.view.Extent.{Extent}
 use Rattle.bihash_table.specs.Closing.{ArePairsOf, keys_of, map_in}
-use Rattle.bihash_table.specs.inner.PairLists.{InBucketsBelow, InPart, InPlacesBelow, IsBlockIn, IsPairAt, ListsBuckets, ListsPairs}
+use Rattle.bihash_table.specs.inner.PairLists.{InBucketsBelow, InPart, InPlacesBelow, IsBlockIn, ListsBuckets, ListsPairs}
 use Rattle.bihash_table.proofs.Homes.{key_home}
 use Rattle.bihash_table.proofs.Sorting.{sorted_strictly}
 
@@ -101,16 +100,14 @@ module _ {A K : Type 0} (g : Ghosts A K) where
     further n key value here = record {
       place = here.place;
       below = let low = here.below in omega arith;
-      pair = here.pair;
-      stands = here.stands;
-      has = here.has;
+      at = here.at;
     }
 
     -- below n, or at n
     before : (n : ℕ) (key : List ℕ) (value : ℕ) → InPlacesBelow sizes e block (n + 1) key value
         → InPlacesBelow sizes e block n key value ⊎ ((here : InPlacesBelow sizes e block (n + 1) key value) × (here.place ≡ n))
     before n key value here = elim (cases_lt here.place n) [
-      | inl low ↦ inl (record { place = here.place; below = low; pair = here.pair; stands = here.stands; has = here.has })
+      | inl low ↦ inl (record { place = here.place; below = low; at = here.at })
       | inr high ↦ inr (here, let low = here.below in omega arith)
     ]
 
@@ -122,7 +119,7 @@ module _ {A K : Type 0} (g : Ghosts A K) where
           | inl low ↦ inl low
           | inr here ↦ elim (before n key value here) [
             | inl low ↦ inr low
-            | inr (at, is) ↦ absurd (at.pair.1 (ap (value_in sizes block) is ∙ empty))
+            | inr (at, is) ↦ absurd (at.at.pair.1 (ap (value_in sizes block) is ∙ empty))
           ]
         ])
 
@@ -130,21 +127,16 @@ module _ {A K : Type 0} (g : Ghosts A K) where
       here_home : (key : List ℕ) (value : ℕ) → get (map_in known b) key ≡ Some value → bucket_of sizes key ≡ b
       here_home key value h = key_home sizes b (opening_at known b) (known_at known b) key value has.writes h
 
-      at_place : (i : ℕ) (key : List ℕ) → HasPair sizes e block i → key_in sizes block i ≡ key
-          → get (map_in known b) key ≡ Some (value_in sizes block i)
-      at_place i key pair stands =
-          subst (λ (k : List ℕ). get (map_in known b) k ≡ Some (value_in sizes block i)) stands (has.pairs.mapped i pair)
-
       -- no pair so far has the key of the next place
-      is_new : (n : ℕ) (p : K × ℕ) → IsPairAt g sizes e block n p → (value : ℕ)
+      is_new : (n : ℕ) (p : K × ℕ) → HoldsPair sizes e block (g.words_of p.0) p.1 n → (value : ℕ)
           → InPart sizes known b e block n (g.words_of p.0) value → ⊥
       is_new n p at value (inl low) =
-          let here = here_home (g.words_of p.0) (value_in sizes block n) (at_place n (g.words_of p.0) at.pair (sym at.key)) in
+          let here = here_home (g.words_of p.0) p.1 (has.pairs.map.mapped (g.words_of p.0) p.1 n at) in
           let other = low.0 in omega arith
       is_new n p at value (inr here) =
-          let same = has.pairs.once here.place n here.pair at.pair (here.stands ∙ at.key) in let low = here.below in omega arith
+          let same = has.pairs.rule.once (g.words_of p.0) value p.1 here.place n here.at at in let low = here.below in omega arith
 
-      pub part_more : (n : ℕ) (p : K × ℕ) (ps : List (K × ℕ)) → IsPairAt g sizes e block n p
+      pub part_more : (n : ℕ) (p : K × ℕ) (ps : List (K × ℕ)) → HoldsPair sizes e block (g.words_of p.0) p.1 n
           → ListsPairs g ps (InPart sizes known b e block n) → ListsPairs g (ps ++ p ∷ []) (InPart sizes known b e block (n + 1))
       part_more n p ps at so_far =
           lists_same (ps ++ p ∷ []) (With p (InPart sizes known b e block n)) (InPart sizes known b e block (n + 1))
@@ -154,9 +146,7 @@ module _ {A K : Type 0} (g : Ghosts A K) where
             | inr same ↦ inr (record {
               place = n;
               below = omega arith;
-              pair = at.pair;
-              stands = sym at.key ∙ same.0;
-              has = sym at.value ∙ same.1;
+              at = record { pair = at.pair; stands = at.stands ∙ same.0; has = at.has ∙ same.1 };
             })
           ])
           (λ key value h. elim h [
@@ -164,8 +154,8 @@ module _ {A K : Type 0} (g : Ghosts A K) where
             | inr here ↦ elim (before n key value here) [
               | inl low ↦ inl (inr low)
               | inr (late, is) ↦ inr (
-                at.key ∙ (ap (key_in sizes block) (sym is) ∙ late.stands),
-                at.value ∙ (ap (value_in sizes block) (sym is) ∙ late.has),
+                sym at.stands ∙ ap (key_in sizes block) (sym is) ∙ late.at.stands,
+                sym at.has ∙ ap (value_in sizes block) (sym is) ∙ late.at.has,
               )
             ]
           ])
@@ -179,7 +169,7 @@ module _ {A K : Type 0} (g : Ghosts A K) where
         pairs = lists_same ps (InPart sizes known b e block (places e.page e.log2)) (InBucketsBelow sizes known (b + 1))
             (λ key value h. elim h [
               | inl low ↦ (let l = low.0 in omega arith, low.1)
-              | inr here ↦ in_bucket key value (at_place here.place key here.pair here.stands ∙ ap Some here.has)
+              | inr here ↦ in_bucket key value (has.pairs.map.mapped key value here.place here.at)
             ])
             (λ key value h. elim (cases_lt (bucket_of sizes key) b) [
               | inl low ↦ inl (low, h.1)
@@ -200,13 +190,8 @@ module _ {A K : Type 0} (g : Ghosts A K) where
 
           in_place : (key : List ℕ) (value : ℕ) → get (map_in known b) key ≡ Some value
               → InPlacesBelow sizes e block (places e.page e.log2) key value
-          in_place key value h = let found = has.pairs.found key value h in record {
-            place = found.0;
-            below = found.1.0;
-            pair = found.1;
-            stands = found.2;
-            has = ap (λ (o : Option ℕ). unwrap_or o 0) (sym (at_place found.0 key found.1 found.2) ∙ h);
-          }
+          in_place key value h = let found = has.pairs.map.found key value h in
+              record { place = found.0; below = found.1.pair.0; at = found.1 }
 
   -- ---- All buckets
 

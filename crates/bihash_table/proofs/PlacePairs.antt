@@ -6,13 +6,13 @@ use Rattle.std.proofs.lemmas.List.{set-get_or, set_split}
 use Rattle.std.proofs.lemmas.List.Elements.{All-contains, All-contains_itself, All-filter, Contains-append_right, filter_passes}
 use Rattle.std.proofs.lemmas.Option.{get_or_from_slice_get, slice_get-get_or, slice_get_within}
 use Rattle.bihash_plan.proofs.Pairs.{is_taken-free, is_taken-pair, pairs-append}
-use Rattle.bihash_plan.specs.Blocks.{HasKey, is_taken, pairs}
+use Rattle.bihash_plan.specs.Blocks.{HasPairAt, is_taken, pairs}
 
 -- a pair that is at a place is one of the pairs
-pub contains_pair : {K : Type 0} (places : List (K × ℕ)) (key : K) (i : ℕ) (h : HasKey places key i)
-    → Contains (pairs places) (key, h.value)
-contains_pair {K} places key i h =
-    let pair : K × ℕ = (key, h.value) in
+pub contains_pair : {K : Type 0} (places : List (K × ℕ)) (key : K) (value i : ℕ) → HasPairAt places key value i
+    → Contains (pairs places) (key, value)
+contains_pair {K} places key value i h =
+    let pair : K × ℕ = (key, value) in
     let inside : i < length places = slice_get_within places i pair h.at in
     let same : set places i pair ≡ places = ap (set places i) (sym (get_or_from_slice_get places i pair pair h.at))
     ∙ set-get_or places i pair in
@@ -26,7 +26,7 @@ contains_pair {K} places key i h =
 
 -- each of the pairs is at a place
 pub stands_at : {K : Type 0} (places : List (K × ℕ)) (key : K) (value : ℕ)
-    → Contains (pairs places) (key, value) → (i : ℕ) × (h : HasKey places key i) × (h.value ≡ value)
+    → Contains (pairs places) (key, value) → (i : ℕ) × HasPairAt places key value i
 stands_at {K} places key value there =
     let pair : K × ℕ = (key, value) in
     let at : Contains places pair = All-contains (Contains places) (pairs places) pair
@@ -35,9 +35,7 @@ stands_at {K} places key value there =
     (filter_passes is_taken places) there in (
       at.0,
       record {
-        value = value;
         at = slice_get-get_or places at.0 pair at.1 ∙ ap Some at.2;
         taken = λ e. true≢false (sym taken ∙ is_taken-free pair e);
       },
-      refl,
     )

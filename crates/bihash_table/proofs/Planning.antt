@@ -6,9 +6,11 @@ use Rattle.bihash_words.specs.declared.shape.Shape.{Ghosts}
 use Rattle.bihash_words.specs.Maps.{Pairs, most_pairs}
 use Rattle.bihash_words.specs.Sizes.{sizes_of}
 use Rattle.bihash_words.specs.declared.block_size.BlockSize.{BlockSize}
-use Rattle.bihash_plan.specs.Blocks.{HasKey, IsCrowded, IsFree, IsLawfulBlock, IsNew, IsOpen}
+use Rattle.bihash_words.specs.Blocks.{HoldsMap}
+use Rattle.bihash_words.proofs.BlockLemmas.{open_of_page}
+use Rattle.bihash_words.specs.Pages.{Paging, page_of, paging_of}
+use Rattle.bihash_plan.specs.Blocks.{HasKey, HasPairAt, IsCrowded, IsFree, IsLawfulBlock, IsNew}
 use Rattle.bihash_plan.specs.Layouts.{IsNamed}
-use Rattle.bihash_plan.specs.Pages.{Paging, page_of, paging_of}
 use Rattle.bihash_plan.specs.Plans.{CanBecomeLinear, IsExhausted, IsGrowth, IsPlan}
 use Rattle.bihash_plan.specs.Searches.{IsOnlyPlan}
 use Rattle.bihash_plan.specs.declared.outcome.Plan.{Plan}
@@ -23,7 +25,7 @@ use Rattle.bihash_steps.specs.declared.view.PageStore.{PageStore}
 use Rattle.bihash_steps.specs.declared.view.View.{View}
 use Rattle.bihash_table.specs.inner.Copying.{LacksPages}
 use Rattle.bihash_table.specs.inner.Places.{ArePlaces, IsCrowdedFor}
-use Rattle.bihash_table.specs.OutOfPages.{Bears, HoldMap, IsPlanned, IsOutOfPages}
+use Rattle.bihash_table.specs.OutOfPages.{Bears, IsPlanned, IsOutOfPages}
 use Rattle.bihash_table.proofs.Bridge.{AreKeyWords, AreKeysOf, are_keys, count_places, hold_map, lawful_places}
 use Rattle.bihash_table.proofs.Count.{few_pairs, few_places, full_block}
 
@@ -69,11 +71,11 @@ module _ {A K : Type 0} (g : Ghosts A K) (keys : AreKeyWords g) (e : Extent) (bl
   pub lawful : IsLawfulBlock (paging_of g) e.log2 e.linear ps
   lawful = lawful_places g keys e block ps m size held are
 
-  pub hold : HoldMap g ps m
+  pub hold : HoldsMap g.words_of (HasPairAt ps) m
   hold = hold_map g keys e block ps m size held are
 
   pub of_keys : AreKeysOf g m
-  of_keys = are_keys g e block ps m key size held are
+  of_keys = are_keys g keys e block ps m size held are key
 
   -- the value of a free place
   free_value : (i : ℕ) → IsFree ps i → value_in (sizes_of g) block i ≡ free
@@ -84,13 +86,13 @@ module _ {A K : Type 0} (g : Ghosts A K) (keys : AreKeyWords g) (e : Extent) (bl
 
   -- the key is new in the places, and no place that is open to it is free
   is_new : IsNew ps key
-  is_new i had = let clash = sym absent ∙ hold.mapped key i had in let c : ⊥ = cc in c
+  is_new i had = let clash = sym absent ∙ hold.mapped key had.value i had.pair in let c : ⊥ = cc in c
 
   is_crowded : IsCrowded e.linear (page_of (paging_of g) e.log2 key) ps
   is_crowded i reached vacant = crowded i (record {
     inside = free_inside_block i vacant;
     free = free_value i vacant;
-    reached = λ plain. sym (subst (λ y. IsOpen y (page_of (paging_of g) e.log2 key) i) plain reached);
+    reached = reached;
   })
 
   -- the plan was made on the fields that the word tells
@@ -109,10 +111,7 @@ module _ {A K : Type 0} (g : Ghosts A K) (keys : AreKeyWords g) (e : Extent) (bl
   none_free : IsPlan (paging_of g) e.log2 e.linear ps key Full → (i : ℕ) → IsFree ps i → ⊥
   none_free plan i vacant =
       let x = exhausted (paging_of g) e.log2 e.linear ps key plan.2 in
-      elim e.linear as (λ y. e.linear ≡ y → ⊥) [
-        | true ↦ λ is. plan.1 i (subst (λ y. IsOpen y (page_of (paging_of g) e.log2 key) i) (sym is) tt) vacant
-        | false ↦ λ is. x.1 (x.0, is, (i, vacant))
-      ] refl
+      plan.1 i (open_of_page e.linear _ i (λ plain. absurd (x.1 (x.0, plain, (i, vacant))))) vacant
 
   full : IsPlan (paging_of g) e.log2 e.linear ps key Full
       → most_pairs (bounds_of (sizes_of g)) ≤ len m
@@ -125,7 +124,7 @@ module _ {A K : Type 0} (g : Ghosts A K) (keys : AreKeyWords g) (e : Extent) (bl
       let d : K × ℕ = (key, 0) in
       let within : i < length ps = omega (arith, count) in
       none_free plan i (free_at ps i d within (sym (are.value i (get_or ps i d) (slice_get-get_or ps i d within)) ∙ vacant))) in
-      let greatest : e.log2 ≡ g.MAX_LOG2 = omega (arith, lawful.small) in
+      let greatest : e.log2 ≡ g.MAX_LOG2 = omega (arith, lawful.rule.small) in
       let same : 2 ^ e.log2 ≡ 2 ^ g.MAX_LOG2 = ap (λ n. 2 ^ n) greatest in
       ⊎_elim
       (λ (none : length ps ≡ 0). absurd (omega arith))
@@ -183,7 +182,7 @@ is_shortage g m key w b same size left store p wanting bears = record {
   was = p.was;
   linear = size.linear;
   lawful = p.lawful;
-  map = subst (HoldMap g p.places) (sym same) p.map;
+  map = subst (HoldsMap g.words_of (HasPairAt p.places)) (sym same) p.map;
   plan = p.plan;
   store = store;
   bears = bears;

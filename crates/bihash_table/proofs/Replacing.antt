@@ -11,7 +11,7 @@ use Rattle.bihash_words.specs.declared.patch.Reply.{Reply}
 use Rattle.bihash_words.specs.declared.patch.Reply.TheVariants.{Changed, NoPages}
 use Rattle.bihash_steps.specs.Histories.{IsKeyOf, bounds_of}
 use Rattle.bihash_steps.specs.Callers.{known_at}
-use Rattle.bihash_steps.specs.Blocks.{HasPair, IsBlockOf, key_in, no_block, places, value_in}
+use Rattle.bihash_steps.specs.Blocks.{HasPair, HoldsPair, IsBlockOf, key_in, no_block}
 use Rattle.bihash_steps.specs.BucketCalls.{event}
 use Rattle.bihash_steps.specs.BucketSteps.{MayAnswer, view_after_answer, call_of, map_now}
 use Rattle.bihash_steps.specs.StoreSteps.{LocksStore, MayReplace, TakesBlock, holding, view_after_replace, store_opened}
@@ -25,8 +25,9 @@ use Rattle.bihash_steps.specs.declared.view.PageStore.{PageStore}
 use Rattle.bihash_steps.specs.declared.view.View.{View}
 use Rattle.bihash_table.specs.inner.Copying.{HasBlock, HasStore, LacksPages, TakesPages, with_words}
 use Rattle.bihash_table.specs.inner.Locked.{HasLock}
-use Rattle.bihash_table.specs.inner.Places.{ArePlaces, HasPairOf}
+use Rattle.bihash_table.specs.inner.Places.{ArePlaces}
 use Rattle.bihash_words.proofs.MapValues.{get_left, get_removed, same_or_other}
+use Rattle.bihash_steps.proofs.BlockLemmas.{bare_block}
 use Rattle.bihash_table.proofs.Bridge.{extent_of}
 use Rattle.bihash_table.proofs.Entering.{entering, looked_at, may_want, may_write, removing}
 use Rattle.bihash_table.proofs.Stores.{has_store, has_taken, taken_block}
@@ -187,32 +188,17 @@ was_answered s t b key found change reply v e is = ap (λ (c : CallerState). c.v
 
 -- ---- The last pair goes
 
-pub found_there : (z : Sizes) (e : Extent) (block key : List ℕ) (m : Pairs) (i found : ℕ)
-    → IsBlockOf z e block m → HasPairOf z e block key i → value_in z block i ≡ found → get m key ≡ Some found
-found_there z e block key m i found pairs has is = ap (get m) (sym has.stands) ∙ pairs.mapped i has.pair ∙ ap Some is
-
 -- no block holds a map whose only pair was removed
-pub emptied : (z : Sizes) (e : Extent) (block key : List ℕ) (m : Pairs) (i : ℕ)
-    → IsBlockOf z e block m → HasPairOf z e block key i → ((k : ℕ) → HasPair z e block k → k ≡ i)
+pub emptied : (z : Sizes) (e : Extent) (block key : List ℕ) (m : Pairs) (old i : ℕ)
+    → IsBlockOf z e block m → HoldsPair z e block key old i → ((k : ℕ) → HasPair z e block k → k ≡ i)
     → IsBlockOf z no_block [] (remove m key)
-emptied z e block key m i pairs has only = record {
-  small = omega arith;
-  absent = λ _. refl;
-  bare = λ _. refl;
-  mapped = λ k pair. absurd (nowhere k pair.0);
-  found = λ other value there. absurd (⊎_elim
-      (λ (same : other ≡ key). (let clash = sym (get_removed m key) ∙ ap (get (remove m key)) (sym same) ∙ there in
-      let c : ⊥ = cc in c))
-      (λ (apart : other ≢ key).
-      let at = pairs.found other value (sym (get_left m key other apart) ∙ there) in
-      apart (sym at.2 ∙ ap (key_in z block) (only at.0 at.1) ∙ has.stands))
-      (same_or_other other key));
-  once = λ k n pair. absurd (nowhere k pair.0);
-  paged = λ _ k pair. absurd (nowhere k pair.0);
-}
-  where
-    nowhere : (k : ℕ) → k < places 0 0 → ⊥
-    nowhere k less = omega arith
+emptied z e block key m old i pairs has only = bare_block z (remove m key) (λ other value there. ⊎_elim
+    (λ (same : other ≡ key). (let clash = sym (get_removed m key) ∙ ap (get (remove m key)) (sym same) ∙ there in
+    let c : ⊥ = cc in c))
+    (λ (apart : other ≢ key).
+    let at = pairs.map.found other value (sym (get_left m key other apart) ∙ there) in
+    apart (sym at.1.stands ∙ ap (key_in z block) (only at.0 at.1.pair) ∙ has.stands))
+    (same_or_other other key))
 
 -- the caller has both locks, and no block
 pub store_only : (z : Sizes) (v u : View) (b word : ℕ) (l : LockedBucket) → HasLock z v b word l → (locks : LocksStore z v u)

@@ -48,7 +48,7 @@ module _ (z : Sizes) (v : View) (b word : ℕ) (l : LockedBucket) (has : HasLock
     fits = has.fits;
     stood = has.stood;
     near = has.near;
-    small = has.pairs.small;
+    small = has.pairs.rule.small;
     inside = inside;
   }
 
@@ -94,7 +94,7 @@ module _ (z : Sizes) (v : View) (b word : ℕ) (l : LockedBucket) (has : HasLock
       fits = has.fits;
       stood = has.stood;
       near = has.near;
-      small = has.pairs.small;
+      small = has.pairs.rule.small;
       inside = inside;
     }
 

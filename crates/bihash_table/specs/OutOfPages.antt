@@ -1,11 +1,11 @@
 -- Why a refusal for want of pages was right.
 use Rattle.std.specs.Prelude.{◌≡◌, ℕ, ◌+◌, ◌<◌, ◌^◌, Bool, List, [], length, Some}
-use Rattle.std.specs.FinMap.{get}
+use Rattle.bihash_words.specs.Blocks.{HoldsMap}
 use Rattle.bihash_words.specs.Maps.{Pairs}
 use Rattle.bihash_words.specs.declared.block_size.BlockSize.{BlockSize}
 use Rattle.bihash_words.specs.declared.shape.Shape.{Ghosts}
-use Rattle.bihash_plan.specs.Blocks.{HasKey, IsLawfulBlock}
-use Rattle.bihash_plan.specs.Pages.{paging_of}
+use Rattle.bihash_words.specs.Pages.{paging_of}
+use Rattle.bihash_plan.specs.Blocks.{HasPairAt, IsLawfulBlock}
 use Rattle.bihash_plan.specs.Plans.{IsPlan}
 use Rattle.bihash_plan.specs.declared.outcome.Plan.TheVariants.{Grow}
 use Rattle.bihash_steps.specs.Callers.{known_at}
@@ -15,17 +15,12 @@ use Rattle.bihash_steps.specs.declared.view.Call.{Call}
 use Rattle.bihash_steps.specs.declared.view.PageStore.{PageStore}
 use Rattle.bihash_steps.specs.declared.view.View.{View}
 
--- the pairs of a lawful block, or of none, are those of the map
-pub record HoldMap {A K : Type 0} (g : Ghosts A K) (places : List (K × ℕ)) (m : Pairs) : Type 0 where
-  pub mapped : (key : K) (i : ℕ) (h : HasKey places key i) → get m (g.words_of key) ≡ Some h.value
-  pub found : (key : K) (value : ℕ) → get m (g.words_of key) ≡ Some value → (i : ℕ) × HasKey places key i
-
 -- the new key wants a block of this size, as the plan of a block that holds the map says
 pub record IsPlanned {A K : Type 0} (g : Ghosts A K) (m : Pairs) (key : K) (size : BlockSize) : Type 0 where
   pub places : List (K × ℕ)
   pub was : BlockSize
   pub lawful : IsLawfulBlock (paging_of g) was.log2 was.linear places
-  pub map : HoldMap g places m
+  pub map : HoldsMap g.words_of (HasPairAt places) m
   pub plan : IsPlan (paging_of g) was.log2 was.linear places key (Grow size)
 
 -- the entry of the last call comes after all writes that are known of bucket b, and bears this page store
@@ -41,7 +36,7 @@ pub record IsOutOfPages {A K : Type 0} (g : Ghosts A K) (w : View) (b : ℕ) (ke
   pub was : BlockSize
   pub linear : Bool
   pub lawful : IsLawfulBlock (paging_of g) was.log2 was.linear places
-  pub map : HoldMap g places (map_now w b)
+  pub map : HoldsMap g.words_of (HasPairAt places) (map_now w b)
   pub plan : IsPlan (paging_of g) was.log2 was.linear places key (Grow (record { log2 = log2; linear = linear }))
   pub store : PageStore
   pub bears : Bears w b store

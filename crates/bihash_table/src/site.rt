@@ -1,9 +1,9 @@
 //! Where a key belongs.
 ghost use Rattle.std.specs.Prelude.{◌≡◌, ◌-◌, ◌/◌, ◌%◌, ◌^◌, ◌<◌, ◌≤◌, length, slice_index};
 ghost use Rattle.bihash_words.specs.Sizes.{IsSound, sizes_of};
+ghost use Rattle.bihash_words.specs.Pages.{page_of, word_paging};
 ghost use Rattle.bihash_steps.specs.Words.{buckets};
 ghost use Rattle.bihash_steps.specs.Histories.{bucket_of};
-ghost use Rattle.bihash_steps.specs.Blocks.{page_of};
 
 use bihash_words::{BucketWord, Shape};
 
@@ -50,7 +50,7 @@ impl<'k, S: Shape> Site<'k, S> {
     pub(crate) fn page(&self, log2: u64) -> usize
         requires sound { IsSound (sizes_of S.Shape) }
         requires small { log2 ≤ S.MAX_LOG2 }
-        ensures page { result ≡ page_of (sizes_of S.Shape) log2 (S.words_of self.now.key.now) }
+        ensures page { result ≡ page_of (word_paging (sizes_of S.Shape)) log2 (S.words_of self.now.key.now) }
         ensures inside { result < 2 ^ 24 }
     {
         (self.page_bits % (1u64 << log2)) as usize

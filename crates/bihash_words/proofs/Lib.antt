@@ -1,3 +1,4 @@
+pub mod BlockLemmas
 pub mod CallLemmas
 pub mod MapLemmas
 pub mod MapValues

@@ -1,5 +1,7 @@
+pub mod Blocks
 pub mod Hash
 pub mod Maps
+pub mod Pages
 pub mod Patches
 pub mod Refusals
 pub mod Runs

@@ -1,7 +1,7 @@
 -- How often pages are named, counted for a window of 64 pages at a time.
 use Rattle.std.specs.Prelude.{◌≡◌, ◌≤◌, ◌<◌, ℕ, ◌+◌, ◌==◌, ◌∷◌, ◌++◌, Bool, List, [], length, count_by, slice_index}
 use Rattle.std.specs.Bool.{OnTrue, OnFalse}
-use Rattle.bihash_plan.specs.Pages.{Paging, page_of}
+use Rattle.bihash_words.specs.Pages.{Paging, page_of}
 
 -- for each of the 64 pages from the first on there is the number of keys that name it, at most four
 pub record IsTally {K : Type 0} (paging : Paging K) (log2 first : ℕ) (keys : List K)

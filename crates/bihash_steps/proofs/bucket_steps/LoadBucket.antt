@@ -40,7 +40,7 @@ module _ (z : Sizes) (s : State (Unit {0}) View) (r : WordRule z s) (b : ℕ) (i
   pub bucket_fits : (locked : Bool) → Fits (word_of (r.table.bucket b).extent locked (length (r.table.bucket b).history))
   bucket_fits locked = let sound = r.sound in let ok = r.each_bucket b inside in record {
     page = let few = sound.few_pages in let near = near_block in let some_page = pow_pos (r.table.bucket b).extent.log2 in omega arith;
-    log2 = let few = sound.few_buckets in let small = ok.pairs.small in omega arith;
+    log2 = let few = sound.few_buckets in let small = ok.pairs.rule.small in omega arith;
     version = let few = sound.few_writes in let short = ok.writes.short in omega arith;
   }
 

@@ -182,7 +182,7 @@ module _ (z : Sizes) where
           (more_writes r.table.bucket x' more (buckets z)) r.store
 
       small : l.extent.log2 ≤ z.max_log2
-      small = subst (λ (y : Extent). y.log2 ≤ z.max_log2) (sym h.extent) (r.each_bucket b inside).pairs.small
+      small = subst (λ (y : Extent). y.log2 ≤ z.max_log2) (sym h.extent) (r.each_bucket b inside).pairs.rule.small
 
       freed_is : freed v.holds.bucket ≡ old_block l.extent.page l.extent.log2 l.now
       freed_is = ap freed may.write.held

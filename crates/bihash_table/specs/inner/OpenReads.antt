@@ -6,7 +6,7 @@ use Rattle.bihash_words.specs.Words.{Fits, packed}
 use Rattle.bihash_steps.specs.Words.{buckets, block_words, place_words}
 use Rattle.bihash_steps.specs.Histories.{IsPrefix}
 use Rattle.bihash_steps.specs.Callers.{known_at}
-use Rattle.bihash_steps.specs.Blocks.{HasPair, IsBlockOf, key_in, places, value_in}
+use Rattle.bihash_steps.specs.Blocks.{HasPair, HoldsPair, IsBlockOf, key_in, places, value_in}
 use Rattle.bihash_steps.specs.Buckets.{AreReadIn, word_of}
 use Rattle.bihash_steps.specs.Views.{nothing_held}
 use Rattle.bihash_steps.specs.BucketSteps.{with_history, map_now, with_reading}
@@ -115,7 +115,7 @@ later_set (false, false, false, d) = (false, false, false, false)
 
 -- what a look at place i found: the value of the key's pair, or that it isn't there
 abbrev pub IsValueAt : Sizes → List ℕ → ℕ → Option ℕ → Extent → List ℕ → Type 0
-IsValueAt z key i (Some value) e block = HasPairOf z e block key i × (value ≡ value_in z block i)
+IsValueAt z key i (Some value) e block = HoldsPair z e block key value i
 IsValueAt z key i None e block = HasPairOf z e block key i → ⊥
 
 -- the same, where the last word of the key is at place i
@@ -124,12 +124,12 @@ TellsValue z key i found e block = LastWordTells z key i true e block → IsValu
 
 -- what a look at the places from one to before another found: where the key's pair stands, with its value
 abbrev pub IsPairAmong : Sizes → List ℕ → ℕ → ℕ → Option (ℕ × ℕ) → Extent → List ℕ → Type 0
-IsPairAmong z key from to (Some pair) e block = HasPairOf z e block key pair.0 × (pair.1 ≡ value_in z block pair.0)
+IsPairAmong z key from to (Some pair) e block = HoldsPair z e block key pair.1 pair.0
 IsPairAmong z key from to None e block = (i : ℕ) → from ≤ i → i < to → HasPairOf z e block key i → ⊥
 
 -- the same of all places that are open to the key
 abbrev pub IsPairIn : Sizes → List ℕ → Option (ℕ × ℕ) → Extent → List ℕ → Type 0
-IsPairIn z key (Some pair) e block = HasPairOf z e block key pair.0 × (pair.1 ≡ value_in z block pair.0)
+IsPairIn z key (Some pair) e block = HoldsPair z e block key pair.1 pair.0
 IsPairIn z key None e block = (i : ℕ) → IsOpenTo z e key i → HasPairOf z e block key i → ⊥
 
 -- the value that a look for a pair found

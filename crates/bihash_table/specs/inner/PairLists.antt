@@ -8,7 +8,7 @@ use Rattle.bihash_words.specs.Sizes.{Sizes, sizes_of}
 use Rattle.bihash_words.specs.declared.shape.Shape.{Ghosts}
 use Rattle.bihash_steps.specs.Histories.{IsWriteList, bucket_of}
 use Rattle.bihash_steps.specs.Callers.{IsLawfulCaller, known_at, opening_at}
-use Rattle.bihash_steps.specs.Blocks.{key_in, value_in, HasPair, IsBlockOf}
+use Rattle.bihash_steps.specs.Blocks.{HoldsPair, IsBlockOf}
 use Rattle.bihash_steps.specs.Seats.{CallerState, with_view}
 use Rattle.bihash_steps.specs.Views.{nothing_held}
 use Rattle.bihash_steps.specs.declared.view.Extent.{Extent}
@@ -38,9 +38,7 @@ pub record ListsBuckets {A K : Type 0} (g : Ghosts A K) (known : Known) (n : ℕ
 pub record InPlacesBelow (z : Sizes) (e : Extent) (block : List ℕ) (n : ℕ) (key : List ℕ) (value : ℕ) : Type 0 where
   pub place : ℕ
   pub below : place < n
-  pub pair : HasPair z e block place
-  pub stands : key_in z block place ≡ key
-  pub has : value_in z block place ≡ value
+  pub at : HoldsPair z e block key value place
 
 -- those of the buckets below b, and those of the places below n of the block of b
 abbrev pub InPart : Sizes → Known → ℕ → Extent → List ℕ → ℕ → List ℕ → ℕ → Type 0
@@ -60,12 +58,6 @@ AddsPlaces g n e block old new = (known : Known) (b : ℕ) → IsBlockIn (sizes_
 abbrev pub AddsBlock : {A K : Type 0} → Ghosts A K → Extent → List ℕ → List (K × ℕ) → List (K × ℕ) → Type 0
 AddsBlock g e block old new = (known : Known) (b : ℕ) → IsBlockIn (sizes_of g) known b e block → ListsBuckets g known b old
     → ListsBuckets g known (b + 1) new
-
--- the pair is at this place of a block
-pub record IsPairAt {A K : Type 0} (g : Ghosts A K) (z : Sizes) (e : Extent) (block : List ℕ) (place : ℕ) (p : K × ℕ) : Type 0 where
-  pub pair : HasPair z e block place
-  pub key : g.words_of p.0 ≡ key_in z block place
-  pub value : p.1 ≡ value_in z block place
 
 -- locks were taken and opened, and nothing changed but what was noted
 pub record TookLocks (v w : View) : Type 0 where

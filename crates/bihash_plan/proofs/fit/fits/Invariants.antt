@@ -1,6 +1,6 @@
 use Rattle.std.proofs.Common.{◌≤◌, ◌<◌, ◌*◌, ◌==◌, ◌∷◌, ℕ}
 use Rattle.std.specs.Prelude.{count_by}
-use Rattle.bihash_plan.specs.Pages.{page_of, paging_of}
+use Rattle.bihash_words.specs.Pages.{page_of, paging_of}
 use Rattle.bihash_plan.specs.Plans.{keys_of}
 use Rattle.bihash_plan.proofs.fit.fits.Given as goal
 

@@ -1,7 +1,7 @@
 use Rattle.std.proofs.Common.{ℕ, [], ◌∷◌, Bool, true, false, List, refl}
 use Rattle.std.specs.Bool.{OnTrue, OnFalse}
 use Rattle.std.proofs.lemmas.Bool.{false≢true}
-use Rattle.bihash_plan.specs.Pages.{Paging}
+use Rattle.bihash_words.specs.Pages.{Paging}
 use Rattle.bihash_plan.specs.inner.Tallies.{FitsWindow, IsTally}
 use Rattle.bihash_plan.proofs.TallyLemmas.{one_fits, tally_all, tally_more, tally_none, window_full}
 use Rattle.bihash_plan.proofs.fit.fits_window.Goals as goal

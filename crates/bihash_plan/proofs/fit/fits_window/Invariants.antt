@@ -1,5 +1,5 @@
 use Rattle.std.proofs.Common.{◌∷◌, take}
-use Rattle.bihash_plan.specs.Pages.{paging_of}
+use Rattle.bihash_words.specs.Pages.{paging_of}
 use Rattle.bihash_plan.specs.Plans.{keys_of}
 use Rattle.bihash_plan.specs.inner.Tallies.{IsTally}
 use Rattle.bihash_plan.proofs.fit.fits_window.Given as goal

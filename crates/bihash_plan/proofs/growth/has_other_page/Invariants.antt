@@ -1,6 +1,6 @@
 use Rattle.std.proofs.Common.{◌≤◌, ◌<◌, ℕ}
+use Rattle.bihash_words.specs.Pages.{page_of, paging_of}
 use Rattle.bihash_plan.specs.Blocks.{NamesPage}
-use Rattle.bihash_plan.specs.Pages.{page_of, paging_of}
 use Rattle.bihash_plan.proofs.growth.has_other_page.Given as goal
 
 -- each key so far names the key's page

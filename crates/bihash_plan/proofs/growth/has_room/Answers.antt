@@ -1,8 +1,8 @@
 use Rattle.std.proofs.Common.{◌≡◌, ◌≤◌, ◌<◌, ◌*◌, ◌/◌, ◌^◌, ◌↔◌, ℕ, Bool, true, false, List, ◌∷◌, IsTrue, length, refl, arith}
 use Rattle.std.specs.Bool.{OnTrue, OnFalse}
 use Rattle.std.proofs.lemmas.Bool.{false≢true, true≢false}
+use Rattle.bihash_words.specs.Pages.{Paging, page_of}
 use Rattle.bihash_plan.specs.Blocks.{IsCrowded, IsLawfulBlock, NamesPage}
-use Rattle.bihash_plan.specs.Pages.{Paging, page_of}
 use Rattle.bihash_plan.specs.Plans.{HasRoom, keys_of}
 use Rattle.bihash_plan.proofs.OpenPlaces.{AreOpen}
 use Rattle.bihash_plan.proofs.Places.{block_sized}

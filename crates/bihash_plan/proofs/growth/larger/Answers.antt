@@ -1,6 +1,6 @@
 use Rattle.std.proofs.Common.{◌≢◌, ap, arith, eq-eqb, length, not, rules, sym, ◌∙◌}
 use Rattle.std.proofs.lemmas.Bool.{false≢true}
-use Rattle.bihash_plan.specs.Pages.{paging_of}
+use Rattle.bihash_words.specs.Pages.{paging_of}
 use Rattle.bihash_plan.proofs.PlanLemmas.{exhausted, only_plan}
 use Rattle.bihash_plan.proofs.growth.larger.Goals as goal
 use Rattle.bihash_plan.proofs.growth.larger.Goals.{else-not-size-via-then-not-size+else-has_free_place, else-not-size-via-else-not-size}

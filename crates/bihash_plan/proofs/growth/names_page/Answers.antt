@@ -1,8 +1,8 @@
 use Rattle.std.proofs.Common.{◌≡◌, ◌<◌, ℕ, List, length, get_or, sym, ap, ◌∙◌}
 use Rattle.std.proofs.lemmas.Bool.{eq-eqb, eqb-true}
 use Rattle.std.proofs.lemmas.Option.{get_or_from_slice_get, slice_get-get_or}
+use Rattle.bihash_words.specs.Pages.{Paging, page_of}
 use Rattle.bihash_plan.specs.Blocks.{NamesPage}
-use Rattle.bihash_plan.specs.Pages.{Paging, page_of}
 use Rattle.bihash_plan.proofs.growth.names_page.Goals as goal
 
 named : {K : Type 0} (paging : Paging K) (log2 page : ℕ) (places : List (K × ℕ)) (i : ℕ) (d : K × ℕ)

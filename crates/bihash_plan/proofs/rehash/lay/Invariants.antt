@@ -1,6 +1,6 @@
 use Rattle.std.proofs.Common.{◌≤◌, length}
+use Rattle.bihash_words.specs.Pages.{paging_of}
 use Rattle.bihash_plan.specs.Layouts.{IsNamed}
-use Rattle.bihash_plan.specs.Pages.{paging_of}
 use Rattle.bihash_plan.proofs.LayoutLemmas.{IsLaidSoFar}
 use Rattle.bihash_plan.proofs.rehash.lay.Given as goal
 

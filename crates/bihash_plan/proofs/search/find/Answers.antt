@@ -1,7 +1,8 @@
 use Rattle.std.proofs.Common.{◌≡◌, ◌≤◌, ◌<◌, ℕ, Bool, List, length, Option, Some, None, IfSome, IfNone, ap, refl}
-use Rattle.bihash_plan.specs.Blocks.{HasKey, IsLawfulBlock, IsNew, IsOpen}
-use Rattle.bihash_plan.specs.Pages.{Paging, page_of}
-use Rattle.bihash_plan.proofs.Places.{key_inside}
+use Rattle.bihash_words.specs.Blocks.{IsOpen}
+use Rattle.bihash_words.specs.Pages.{Paging, page_of}
+use Rattle.bihash_plan.specs.Blocks.{HasKey, IsLawfulBlock, IsNew}
+use Rattle.bihash_plan.proofs.Places.{pair_inside}
 use Rattle.bihash_plan.proofs.search.find.Goals as goal
 
 -- the places that are open are those that were looked at
@@ -10,7 +11,7 @@ open_only : {K : Type 0} (places : List (K × ℕ)) (key : K) (linear : Bool) (p
     → IfNone r ((i : ℕ) → from ≤ i → i < to → HasKey places key i → ⊥)
     → IfNone r ((i : ℕ) → IsOpen linear page i → HasKey places key i → ⊥)
 open_only places key linear page from to None among none = λ i is_open h. let looked = among i
-    (key_inside h) is_open in none i looked.0 looked.1 h
+    (pair_inside h.pair) is_open in none i looked.0 looked.1 h
 open_only places key linear page from to (Some i) among none = none
 
 -- a lawful block has the key nowhere else
@@ -19,8 +20,8 @@ found_is : {K : Type 0} (paging : Paging K) (log2 : ℕ) (linear : Bool) (places
     → IfSome r (HasKey places key)
     → IfNone r ((i : ℕ) → IsOpen linear (page_of paging log2 key) i → HasKey places key i → ⊥)
     → IsLawfulBlock paging log2 linear places → (i : ℕ) → HasKey places key i → r ≡ Some i
-found_is paging log2 linear places key None found none lawful i h = absurd (none i (lawful.paged key i h) h)
-found_is paging log2 linear places key (Some j) found none lawful i h = ap Some (lawful.once key j i found h)
+found_is paging log2 linear places key None found none lawful i h = absurd (none i (lawful.rule.paged key h.value i h.pair) h)
+found_is paging log2 linear places key (Some j) found none lawful i h = ap Some (lawful.rule.once key found.value h.value j i found.pair h.pair)
 
 none_is : {K : Type 0} (places : List (K × ℕ)) (key : K) (r : Option ℕ)
     → IfSome r (HasKey places key) → IsNew places key → r ≡ None

@@ -18,6 +18,6 @@ returns-then-value g c =
 pub returns-else-value : goal.returns-else-value
 returns-else-value g c = (
   λ yes. absurd (not_both _ c.if-value.false yes),
-  λ h. absurd (h.taken (sym (ap (λ place. place.1) (pair_read _ c.index-places-i.is h))
+  λ h. absurd (h.pair.taken (sym (ap (λ place. place.1) (pair_read _ c.index-places-i.is h))
       ∙ c.if-value.false)),
 )

@@ -15,7 +15,7 @@ pub store_word-requires : goal.store_word-requires
 store_word-requires g c = let h = c.requires.held in record {
   own = h.own;
   held = holds_place (sizes_of g.S.Shape) c.args.seat.now.view c.args.seen.now.site.bucket c.args.seen.now.word h.lock h.has
-      c.args.pair.0 h.told.0.pair.0;
+      c.args.pair.0 h.told.pair.0;
   inside = let same = c.WORDS.ensures in omega arith;
 }
 
@@ -32,7 +32,7 @@ publish-requires-clause-may g c =
     let step = c.store_word.ensures h.lock (ap (λ (k : Holdings). k.bucket) h.has.held) in
     may_overwrite z c.args.seat.now.view site.bucket c.args.seen.now.word h.lock h.has
     (g.S.Shape.words_of site.key.now) site.counted (sym site.home) h.unworn
-    c.args.pair.0 c.args.pair.1 h.told.0 (sym h.told.1) c.args.value c.requires.other h.storable c.store_word.new.seat.view
+    c.args.pair.0 c.args.pair.1 h.told c.args.value c.requires.other h.storable c.store_word.new.seat.view
     (value_is_stored z c.args.seat.now c.store_word.new.seat h.lock c.args.pair.0 c.args.value c.WORDS.result c.WORDS.ensures step)
 
 pub returns : goal.returns
@@ -48,6 +48,6 @@ returns g c =
     (locks_pushed _ _ _ (ap (λ (k : CallerState). k.view.records) done) ∙ ap (λ (k : CallerState). locks_of k.view.records) step)
     (overwritten z c.args.seat.now.view site.bucket c.args.seen.now.word h.lock h.has
     (g.S.Shape.words_of site.key.now) site.counted (sym site.home) h.unworn
-    c.args.pair.0 c.args.pair.1 h.told.0 (sym h.told.1) c.args.value c.requires.other h.storable c.store_word.new.seat.view
+    c.args.pair.0 c.args.pair.1 h.told c.args.value c.requires.other h.storable c.store_word.new.seat.view
     (value_is_stored z c.args.seat.now c.store_word.new.seat h.lock c.args.pair.0 c.args.value c.WORDS.result c.WORDS.ensures step)
     c.publish.new.caller.view (view_is c.store_word.new.seat c.publish.new.caller _ done))

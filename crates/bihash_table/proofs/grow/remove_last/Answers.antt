@@ -10,7 +10,7 @@ use Rattle.bihash_steps.specs.BucketCalls.{event}
 use Rattle.bihash_table.specs.Answers.{locks_of}
 use Rattle.bihash_table.proofs.LockCounts.{locks_pushed}
 use Rattle.bihash_table.proofs.OpenPlaces.{word_tells}
-use Rattle.bihash_table.proofs.Replacing.{emptied, found_there, locked_on, may_empty, published, same_through, seen_same, store_only}
+use Rattle.bihash_table.proofs.Replacing.{emptied, locked_on, may_empty, published, same_through, seen_same, store_only}
 use Rattle.bihash_table.proofs.SameCallers.{own_through}
 use Rattle.bihash_table.proofs.Stores.{holds_old, left_written, still_lawful, contended}
 use Rattle.bihash_table.proofs.Tries.{finished_away, finished_write}
@@ -47,9 +47,9 @@ publish_block-requires-clause-may g c =
     let n = locked_on locks.store in
     may_empty z s.view site.bucket c.args.seen.now.word h.lock key h.has (record { long = site.counted; home = sym site.home }) h.unworn n
     c.args.pair.1
-    (found_there z h.lock.extent h.lock.now key (map_now s.view site.bucket) c.args.pair.0 c.args.pair.1 h.has.pairs h.told.0.0 (sym h.told.0.1))
+    (h.has.pairs.map.mapped key c.args.pair.1 c.args.pair.0 h.told.0)
     c.is_sound.ensures.some_page
-    (emptied z h.lock.extent h.lock.now key (map_now s.view site.bucket) c.args.pair.0 h.has.pairs h.told.0.0 h.told.1)
+    (emptied z h.lock.extent h.lock.now key (map_now s.view site.bucket) c.args.pair.1 c.args.pair.0 h.has.pairs h.told.0 h.told.1)
     c.pool_lock.new.caller.view (store_only z s.view c.pool_lock.new.caller.view site.bucket c.args.seen.now.word h.lock h.has locks)
 
 pub leave_store-requires : goal.leave_store-requires

@@ -78,7 +78,7 @@ module _ (z : Sizes) (v u : View) (b word : ℕ) (s : SeesOpen z v b word u) (fi
         let stands = all_same z s.block key 0 s.extent.page s.extent.log2 s.found.size first_place (sym two) (λ j below.
         let from : 0 * place_words z + j ≡ j = omega arith in
         ap (slice_index s.block) from ∙ same_word read j (omega arith)) in
-        ap Some here ∙ (sym (ok.mapped 0 (first_place, λ none. taken (here ∙ none))) ∙ ap (get m) stands)
+        sym (ok.map.mapped key value 0 (record { pair = (first_place, λ none. taken (here ∙ none)); stands = stands; has = sym here }))
 
     may_answer : (w : View) → IsKeyOf z b key → w.known ≡ u.known → Noted w reads
         → MayValidate z w b word (call_of w b 0 (event key (Some value) Keep (Kept (Some value))))

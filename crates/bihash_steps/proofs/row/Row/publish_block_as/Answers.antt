@@ -14,7 +14,7 @@ next-next-requires-clause-page g c =
 
 pub next-next-requires-clause-log2 : goal.next-next-requires-clause-log2
 next-next-requires-clause-log2 g c =
-    let small = c.requires.may.pairs.small in let few = c.self.invariant.sound.few_buckets in omega arith
+    let small = c.requires.may.pairs.rule.small in let few = c.self.invariant.sound.few_buckets in omega arith
 
 pub next-next-requires-clause-version : goal.next-next-requires-clause-version
 next-next-requires-clause-version g c = version_rises _ _ _ _ _ c.requires.may.write c.self.invariant.sound
