@@ -1,56 +1,32 @@
 -- Lemmas on a block after a pair was put at one of its free places.
-use Rattle.std.proofs.Common.{◌≡◌, ◌≢◌, ◌<◌, ◌*◌, ◌^◌, ◌⊎◌, ℕ, suc, Bool, List, ◌∷◌, ◌++◌, Some, length, cond, get_or, set, take, drop, arith, ap, sym, ◌∙◌, inl, inr, ⊎_elim}
+use Rattle.std.proofs.Common.{◌≡◌, ◌≢◌, ◌<◌, ◌*◌, ◌^◌, ◌⊎◌, ℕ, suc, Bool, List, ◌∷◌, ◌++◌, length, cond, get_or, set, take, drop, ap, sym, ◌∙◌, inl, inr, ⊎_elim}
 use Rattle.std.specs.List.Sorted.{IsPermutation}
-use Rattle.std.proofs.lemmas.Bool.{cases_eq}
-use Rattle.std.proofs.lemmas.List.{get_or-set_other, get_or-set_same, length-set, set-get_or, set_split}
+use Rattle.std.proofs.lemmas.List.{length-set, set-get_or, set_split}
 use Rattle.std.proofs.lemmas.List.Sorted.{IsPermutation-middle, IsPermutation-sym}
-use Rattle.std.proofs.lemmas.Option.{get_or_from_slice_get, slice_get-get_or}
-use Rattle.bihash_words.specs.Patches.{free_mark}
-use Rattle.bihash_words.proofs.BlockLemmas.{lawful_with}
 use Rattle.bihash_words.specs.Blocks.{IsOpen}
 use Rattle.bihash_words.specs.Pages.{Paging, page_of}
+use Rattle.bihash_words.specs.Patches.{free_mark}
+use Rattle.bihash_words.proofs.BlockLemmas.{lawful_with}
 use Rattle.bihash_plan.specs.Blocks.{HasPairAt, IsFree, IsLawfulBlock, IsNew, pairs}
 use Rattle.bihash_plan.proofs.Pairs.{is_taken-free, is_taken-pair, pairs-append}
-use Rattle.bihash_plan.proofs.Places.{free_inside, free_value_at, pair_inside}
+use Rattle.bihash_plan.proofs.Places.{free_inside, free_value_at, get_after}
 
 -- the pair is at its place, and each other one where it stood
 pub key_after_put : {K : Type 0} (places : List (K × ℕ)) (i : ℕ) (pair : K × ℕ) (key : K) (value j : ℕ)
     → i < length places → HasPairAt (set places i pair) key value j
     → ((j ≡ i) × (key ≡ pair.0)) ⊎ HasPairAt places key value j
-key_after_put {K} places i pair key value j inside h =
-    let d : K × ℕ = (key, value) in
-    let read : get_or (set places i pair) j d ≡ d = get_or_from_slice_get (set places i pair) j (key, value) d h.at in
-    ⊎_elim
-    (λ (here : j ≡ i).
-    let put : get_or (set places i pair) j d ≡ pair = ap (λ n. get_or (set places i pair) n d) here
-    ∙ get_or-set_same places i pair d inside in
-    inl (here, ap (λ p. p.0) (sym read ∙ put)))
-    (λ (there : j ≡ i → ⊥).
-    inr (record {
-      at = slice_get-get_or places j d (omega (arith, pair_inside h, length-set places i pair))
-          ∙ ap Some (sym (get_or-set_other places i j pair d there) ∙ read);
-      taken = h.taken;
-    }))
-    (cases_eq j i)
+key_after_put places i pair key value j inside h = elim (get_after places i j pair (key, value) inside h.at) [
+  | inl here ↦ inl (here.0, ap (λ p. p.0) (sym here.1))
+  | inr there ↦ inr (record { at = there.1; taken = h.taken })
+]
 
 -- what is free afterwards was so before
 pub free_after_put : {K : Type 0} (places : List (K × ℕ)) (i : ℕ) (pair : K × ℕ) (j : ℕ)
     → i < length places → pair.1 ≢ free_mark → IsFree (set places i pair) j → (j ≢ i) × IsFree places j
-free_after_put {K} places i pair j inside taken h =
-    let d : K × ℕ = (h.key, free_mark) in
-    let read : get_or (set places i pair) j d ≡ (
-      h.key,
-      free_mark,
-    ) = get_or_from_slice_get (set places i pair) j (h.key, free_mark) d h.at in
-    let other : j ≢ i = λ here. taken (ap (λ p. p.1) (sym (ap (λ n. get_or (set places i pair) n d) here
-    ∙ get_or-set_same places i pair d inside) ∙ read)) in (
-      other,
-      record {
-        key = h.key;
-        at = slice_get-get_or places j d (omega (arith, free_inside h, length-set places i pair))
-            ∙ ap Some (sym (get_or-set_other places i j pair d other) ∙ read);
-      },
-    )
+free_after_put places i pair j inside taken h = elim (get_after places i j pair (h.key, free_mark) inside h.at) [
+  | inl here ↦ absurd (taken (ap (λ p. p.1) here.1))
+  | inr there ↦ (there.0, record { key = h.key; at = there.1 })
+]
 
 pub lawful_put : {K : Type 0} (paging : Paging K) (log2 : ℕ) (linear : Bool) (places : List (K × ℕ)) (i : ℕ)
     (pair : K × ℕ)

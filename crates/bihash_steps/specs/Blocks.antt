@@ -2,7 +2,7 @@
 use Rattle.std.specs.Prelude.{◌≡◌, ◌≢◌, ℕ, ◌+◌, ◌*◌, ◌^◌, ◌<◌, false, List, slice_index, zero, suc}
 use Rattle.std.proofs.Math.ListN.{take, drop}
 use Rattle.std.specs.FinMap.{empty}
-use Rattle.bihash_words.specs.Blocks.{HoldsMap, AreLawfulPlaces}
+use Rattle.bihash_words.specs.Blocks.{AreLawfulPlaces, HoldsMap}
 use Rattle.bihash_words.specs.Maps.{Pairs}
 use Rattle.bihash_words.specs.Pages.{word_paging}
 pub use Rattle.bihash_words.specs.Patches.{free_mark as free}

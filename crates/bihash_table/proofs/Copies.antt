@@ -1,12 +1,13 @@
 -- Copies of a block's words, word by word and place by place.
-use Rattle.std.proofs.Common.{◌≡◌, ◌≢◌, ◌∙◌, ◌<◌, ◌≤◌, ◌+◌, ◌*◌, ◌⊎◌, ℕ, zero, suc, List, Some, ap, arith, get_or, inl, inr, length, mul-le-mul_right, refl, set, slice_index, subst, sym, ⊎_elim}
+use Rattle.std.proofs.Common.{◌≡◌, ◌≢◌, ◌∙◌, ◌<◌, ◌≤◌, ◌+◌, ◌*◌, ◌⊎◌, ℕ, zero, suc, List, Some, ap, arith, length, mul-le-mul_right, refl, set, slice_index, subst, sym, ⊎_elim}
 use Rattle.std.specs.Prelude.{slice_get}
 use Rattle.std.proofs.Math.ListN.{drop}
 use Rattle.std.proofs.lemmas.Bool.{cases_eq}
 use Rattle.std.proofs.lemmas.List.{get_or-set_other, get_or-set_same, length-drop, length-set, length-take}
-use Rattle.std.proofs.lemmas.Option.{get_or_from_slice_get, same_Some, slice_get-get_or, slice_get_within}
+use Rattle.std.proofs.lemmas.Option.{same_Some, slice_get_within}
 use Rattle.bihash_words.specs.Sizes.{Sizes, sizes_of}
 use Rattle.bihash_words.specs.declared.shape.Shape.{Ghosts}
+use Rattle.bihash_plan.proofs.Places.{get_after}
 use Rattle.bihash_steps.specs.Words.{block_words, place_words}
 use Rattle.bihash_steps.specs.Blocks.{free, key_in, places, value_in}
 use Rattle.bihash_steps.specs.StoreSteps.{IsHeldWord, holding, stored_at}
@@ -47,25 +48,6 @@ read_more block words first i word inside before is k less = ⊎_elim
     ∙ is ∙ ap (λ n. slice_index block (first + n)) (sym here))
     (λ (there : k ≢ i). get_or-set_other words i k word 0 there ∙ before k (omega arith))
     (cases_eq k i)
-
--- what is at a place afterwards was set or stood there
-get_after : {X : Type 0} (xs : List X) (i j : ℕ) (x y : X)
-    → i < length xs → slice_get (set xs i x) j ≡ Some y
-    → ((j ≡ i) × (x ≡ y)) ⊎ ((j ≢ i) × (slice_get xs j ≡ Some y))
-get_after xs i j x y inside at =
-    let read : get_or (set xs i x) j y ≡ y = get_or_from_slice_get (set xs i x) j y y at in
-    ⊎_elim
-    (λ (here : j ≡ i). inl (
-      here,
-      sym (get_or-set_same xs i x y inside)
-          ∙ ap (λ n. get_or (set xs i x) n y) (sym here) ∙ read,
-    ))
-    (λ (there : j ≢ i). inr (
-      there,
-      slice_get-get_or xs j y (omega (arith, length-set xs i x, slice_get_within (set xs i x) j y at))
-          ∙ ap Some (sym (get_or-set_other xs i j x y there) ∙ read),
-    ))
-    (cases_eq j i)
 
 -- the first places have the values of the words and, where they aren't free, the keys
 pub record AreRead {A K : Type 0} (g : Ghosts A K) (ps : List (K × ℕ)) (i : ℕ) (block : List ℕ) : Type 0 where

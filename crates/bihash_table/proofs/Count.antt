@@ -5,7 +5,7 @@ use Rattle.std.specs.FinMap.{empty, empty_of_len, get, get-empty, len, len-empty
 use Rattle.std.specs.Ordering.{nat_cmp}
 use Rattle.std.proofs.lemmas.Bool.{cases_eq}
 use Rattle.std.proofs.Math.Pow.{pow-lt, pow_mono}
-use Rattle.bihash_words.specs.Blocks.{HoldsMap, AreLawfulPlaces}
+use Rattle.bihash_words.specs.Blocks.{AreLawfulPlaces, HoldsMap}
 use Rattle.bihash_words.specs.Maps.{Pairs}
 use Rattle.bihash_words.specs.Pages.{word_paging}
 use Rattle.bihash_words.specs.Sizes.{Sizes}

@@ -7,8 +7,8 @@ use Rattle.bihash_words.specs.Maps.{Pairs, most_pairs}
 use Rattle.bihash_words.specs.Sizes.{sizes_of}
 use Rattle.bihash_words.specs.declared.block_size.BlockSize.{BlockSize}
 use Rattle.bihash_words.specs.Blocks.{HoldsMap}
-use Rattle.bihash_words.proofs.BlockLemmas.{open_of_page}
 use Rattle.bihash_words.specs.Pages.{Paging, page_of, paging_of}
+use Rattle.bihash_words.proofs.BlockLemmas.{open_of_page}
 use Rattle.bihash_plan.specs.Blocks.{HasKey, HasPairAt, IsCrowded, IsFree, IsLawfulBlock, IsNew}
 use Rattle.bihash_plan.specs.Layouts.{IsNamed}
 use Rattle.bihash_plan.specs.Plans.{CanBecomeLinear, IsExhausted, IsGrowth, IsPlan}

@@ -2,7 +2,7 @@
 -- or less.
 use Rattle.std.proofs.Common.{◌≡◌, ◌≢◌, ◌≤◌, ◌⊎◌, ◌∙◌, ◌/◌, ℕ, Bool, true, false, List, Some, None, ap, sym, subst, refl, inl, inr}
 use Rattle.std.specs.FinMap.{get, insert, remove}
-use Rattle.bihash_words.specs.Blocks.{HoldsMap, AreLawfulPlaces, IsOpen}
+use Rattle.bihash_words.specs.Blocks.{AreLawfulPlaces, HoldsMap, IsOpen}
 use Rattle.bihash_words.specs.Maps.{Pairs}
 use Rattle.bihash_words.specs.Pages.{Paging, page_of}
 use Rattle.bihash_words.proofs.MapValues.{get_left, get_other, get_removed, get_set, same_or_other}
