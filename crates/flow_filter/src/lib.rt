@@ -18,7 +18,7 @@ pub use laws::{
     each_capture_has_one_list_of_verdicts, each_list_is_judged_once, each_packet_has_one_reading,
     packets_pass_by_rule_or_session,
 };
-pub use lazy_patch::{HasRuling, LazyPatch};
+pub use lazy_patch::{HasReading, LazyPatch};
 pub use packet_flow::{PacketFlow, copied};
 pub use prepared_rules::PreparedRules;
 pub use rule_search::RuleSearch;

@@ -12,13 +12,13 @@ use crate::updates::{try_update, update};
 use crate::viewed_packet::{ViewedPacket, flow_in};
 use bihash_table::Contended;
 use bihash_words::Shape;
-use flow_filter::{Filter, HasRuling, ReadyFilter, Verdict};
+use flow_filter::{Filter, HasReading, ReadyFilter, Verdict};
 use packet_view::{Packet, view};
 use std::marker::Brand;
 use std::sync::Wait;
 
 // One try, under what the rules will say of the packet.
-fn try_judge_as<A: Shape, B: Shape, D: HasRuling>(
+fn try_judge_as<A: Shape, B: Shape, D: HasReading>(
     filter: &ReadyFilter<'_>,
     tables: &Tables<A, B>,
     callers: &mut Callers<A, B>,
@@ -39,7 +39,7 @@ fn try_judge_as<A: Shape, B: Shape, D: HasRuling>(
 }
 
 // The verdict, under what the rules will say of the packet.
-fn judge_as<A: Shape, B: Shape, D: HasRuling, R: Wait>(
+fn judge_as<A: Shape, B: Shape, D: HasReading, R: Wait>(
     rt: &R,
     filter: &ReadyFilter<'_>,
     tables: &Tables<A, B>,
