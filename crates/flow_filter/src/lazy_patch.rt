@@ -192,9 +192,10 @@ impl<'a, D: HasReading> Patch for LazyPatch<'a, D> {
         }));
         match decider {
             Decider::Session(session) => self.unruled().touch(session),
-            Decider::Rules(ruling) => patch_of(&self.filter.times, &self.packet, ruling).decide(
-                old,
-            ),
+            Decider::Rules(ruling) => {
+                let patch = patch_of(&self.filter.times, &self.packet, ruling);
+                patch.decide(old)
+            }
         }
     }
 }
