@@ -1,4 +1,5 @@
-//! What becomes of a packet: its reading by the rules, the one update that it makes of a session table, and the verdict.
+//! What becomes of a packet: its reading by the rules, the one update that it makes of a session table, and the
+//! verdict.
 #![tactic(auto)]
 
 mod decider;

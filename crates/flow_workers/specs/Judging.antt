@@ -42,7 +42,8 @@ IsAway l (Four key) v w = IsContended l.four v.four w.four (bucket_of l.four key
 IsAway l (Six key) v w = IsContended l.six v.six w.six (bucket_of l.six key) × (w.four ≡ v.four)
 
 -- The packet met another caller's change or lock; only a packet with a flow can.
-pub record IsRefused (l : Layout) (times : Timeouts) (policy : PolicyFacts) (packet : PacketFacts) (v w : Views) : Type 0 where
+pub record IsRefused (l : Layout) (times : Timeouts) (policy : PolicyFacts) (packet : PacketFacts)
+    (v w : Views) : Type 0 where
   pub reading : Reading
   pub read : IsReading policy packet reading
   pub update : Update

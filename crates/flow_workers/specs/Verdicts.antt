@@ -24,7 +24,8 @@ HasVerdict ga gb times policy s old new verdict =
 -- the packet met another caller's change or lock
 abbrev pub HasNoVerdict : {A B K L : Type 0} (ga : Ghosts A K) (gb : Ghosts B L) → Timeouts → PolicyFacts → PacketFacts
     → Callers A B K L ga gb → Callers A B K L ga gb → Type 0
-HasNoVerdict ga gb times policy s old new = IsRefused (layout_of ga gb) times policy s (views_of ga gb old) (views_of ga gb new)
+HasNoVerdict ga gb times policy s old new =
+    IsRefused (layout_of ga gb) times policy s (views_of ga gb old) (views_of ga gb new)
 
 -- the packet takes no part in sessions
 pub record HasNoFlow (own : Option Mac) (packet : PacketFacts) : Type 0 where
@@ -35,4 +36,5 @@ pub record HasNoFlow (own : Option Mac) (packet : PacketFacts) : Type 0 where
 -- no pages are said where there were too few
 abbrev pub ShowsOutOfPages : {A B K L : Type 0} (ga : Ghosts A K) (gb : Ghosts B L) → PolicyFacts → PacketFacts
     → Callers A B K L ga gb → Verdict → Type 0
-ShowsOutOfPages ga gb policy s new verdict = verdict ≡ NoPages → IsPacketOutOfPages ga gb policy.own s (views_of ga gb new)
+ShowsOutOfPages ga gb policy s new verdict =
+    verdict ≡ NoPages → IsPacketOutOfPages ga gb policy.own s (views_of ga gb new)

@@ -26,8 +26,8 @@ abbrev pub told : List ℕ → (Option ℕ → Change) → Reply → Event
 told key decision reply = update_of key (found_by reply) decision reply
 
 -- an update of the key of these words that was answered so: s is the caller before it, t after it
-pub record TellsWords {A K : Type 0} (g : Ghosts A K) (s t : CallerState) (words : List ℕ) (decision : Option ℕ → Change)
-    (reply : Reply) : Type 0 where
+pub record TellsWords {A K : Type 0} (g : Ghosts A K) (s t : CallerState) (words : List ℕ)
+    (decision : Option ℕ → Change) (reply : Reply) : Type 0 where
   pub same : t ≡ with_view s t.view
   pub answered : IsAnswered (sizes_of g) s.view t.view (told words decision reply)
   pub no_pages : (log2 left : ℕ) → reply ≡ NoPages log2 left

@@ -20,16 +20,19 @@ abbrev pub IsViewed : Option Mac → PacketFacts → ViewedPacket → Type 0
 IsViewed own packet v = (packet.moment ≡ v.moment) × IsFrame packet.frame own (frame_facts v.frame.now)
 
 -- the verdict on each packet that was viewed so (`TellsVerdict` says it of one)
-pub record TellsViewed {A B K L : Type 0} {ga : Ghosts A K} {gb : Ghosts B L} (filter : ReadyFilter) (packet : ViewedPacket)
+pub record TellsViewed {A B K L : Type 0} {ga : Ghosts A K} {gb : Ghosts B L} (filter : ReadyFilter)
+    (packet : ViewedPacket)
     (tables : Tables A B K L) (old new : Callers A B K L ga gb) (verdict : Verdict) : Type 0 where
   pub same : AreSame ga gb old new
   pub idle : AreIdle ga gb tables new
   pub judged : (s : PacketFacts) → IsViewed filter.own s packet
       → HasVerdict ga gb filter.times (policy_in filter) s old new verdict
-  pub no_pages : (s : PacketFacts) → IsViewed filter.own s packet → ShowsOutOfPages ga gb (policy_in filter) s new verdict
+  pub no_pages : (s : PacketFacts) → IsViewed filter.own s packet
+      → ShowsOutOfPages ga gb (policy_in filter) s new verdict
 
 -- one try (`TellsVerdictTry` says it of one packet)
-pub record TellsViewedTry {A B K L : Type 0} {ga : Ghosts A K} {gb : Ghosts B L} (filter : ReadyFilter) (packet : ViewedPacket)
+pub record TellsViewedTry {A B K L : Type 0} {ga : Ghosts A K} {gb : Ghosts B L} (filter : ReadyFilter)
+    (packet : ViewedPacket)
     (tables : Tables A B K L) (old new : Callers A B K L ga gb) (r : Result Verdict Contended) : Type 0 where
   pub same : AreSame ga gb old new
   pub idle : AreIdle ga gb tables new

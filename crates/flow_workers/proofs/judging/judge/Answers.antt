@@ -11,8 +11,12 @@ returns g c =
     let packet = packet_facts c.args.packet.now in record {
       same = tells.same;
       idle = tells.idle;
-      judged = of_filter (λ times policy. HasVerdict g.A.Shape g.B.Shape times policy packet c.args.callers.now c.judge_viewed.new.callers
+      judged =
+          of_filter (λ times policy.
+          HasVerdict g.A.Shape g.B.Shape times policy packet c.args.callers.now c.judge_viewed.new.callers
           c.judge_viewed.result) c.ready-filter.ensures.times c.ready-filter.ensures.policy (tells.judged packet seen);
-      no_pages = of_filter (λ times policy. ShowsOutOfPages g.A.Shape g.B.Shape policy packet c.judge_viewed.new.callers c.judge_viewed.result)
+      no_pages =
+          of_filter (λ times policy.
+          ShowsOutOfPages g.A.Shape g.B.Shape policy packet c.judge_viewed.new.callers c.judge_viewed.result)
           c.ready-filter.ensures.times c.ready-filter.ensures.policy (tells.no_pages packet seen);
     }

@@ -11,7 +11,8 @@ use Rattle.flow_workers.proofs.JudgedPackets.{is_ruling, of_filter}
 use Rattle.flow_workers.proofs.judging.try_judge.Goals as goal
 
 pub try_judge_as-requires-clause-ruling : goal.try_judge_as-requires-clause-ruling
-try_judge_as-requires-clause-ruling g c = is_ruling (policy_in c.ready-filter.result) (frame_facts c.new-packet.result.frame.now)
+try_judge_as-requires-clause-ruling g c =
+    is_ruling (policy_in c.ready-filter.result) (frame_facts c.new-packet.result.frame.now)
 
 pub returns : goal.returns
 returns g c =
@@ -22,13 +23,16 @@ returns g c =
       same = tells.same;
       idle = tells.idle;
       judged = if_ok _ _ c.try_judge_as.result
-          (λ verdict judged. of_filter (λ times policy. HasVerdict g.A.Shape g.B.Shape times policy packet c.args.callers.now new verdict)
+          (λ verdict judged.
+          of_filter (λ times policy.
+          HasVerdict g.A.Shape g.B.Shape times policy packet c.args.callers.now new verdict)
           c.ready-filter.ensures.times c.ready-filter.ensures.policy (judged packet seen)) tells.judged;
       no_pages = if_ok _ _ c.try_judge_as.result
           (λ verdict short. of_filter (λ times policy. ShowsOutOfPages g.A.Shape g.B.Shape policy packet new verdict)
           c.ready-filter.ensures.times c.ready-filter.ensures.policy (short packet seen)) tells.no_pages;
       refused = if_err _ _ c.try_judge_as.result
-          (λ contended refused. of_filter (λ times policy. HasNoVerdict g.A.Shape g.B.Shape times policy packet c.args.callers.now new)
+          (λ contended refused.
+          of_filter (λ times policy. HasNoVerdict g.A.Shape g.B.Shape times policy packet c.args.callers.now new)
           c.ready-filter.ensures.times c.ready-filter.ensures.policy (refused packet seen)) tells.refused;
       lone = tells.lone;
       settled = λ has.

@@ -11,9 +11,11 @@ returns-in-Settled g c = record {
   same = record { four = refl; six = refl };
   idle = c.requires.asks.idle;
   judged = λ s seen.
-      settled _ _ _ s c.args.packet.now g.D.HasReading.ruling _ _ (record { seen = seen; ruled = c.requires.ruling }) c.in-Settled.ensures;
+      settled _ _ _ s c.args.packet.now g.D.HasReading.ruling _ _
+      (record { seen = seen; ruled = c.requires.ruling }) c.in-Settled.ensures;
   no_pages = λ s seen said. absurd
-      (settled_has_pages c.args.filter.now.times c.args.packet.now.moment (frame_facts c.args.packet.now.frame.now) g.D.HasReading.ruling _ c.in-Settled.ensures said);
+      (settled_has_pages c.args.filter.now.times c.args.packet.now.moment
+      (frame_facts c.args.packet.now.frame.now) g.D.HasReading.ruling _ c.in-Settled.ensures said);
   refused = tt;
   lone = λ four six. refl;
   settled = λ none. refl;
@@ -24,11 +26,16 @@ returns-in-Ok g c = record {
   same = c.in-Ok.ensures.same;
   idle = c.in-Ok.ensures.idle;
   judged = λ s seen.
-      answered _ _ _ s c.args.packet.now g.D.HasReading.ruling _ _ _ _ c.in-Ok.reply (record { seen = seen; ruled = c.requires.ruling })
+      answered _ _ _ s c.args.packet.now g.D.HasReading.ruling _ _ _ _ c.in-Ok.reply (record {
+        seen = seen;
+        ruled = c.requires.ruling;
+      })
       c.in-Asks.ensures c.in-Ok.ensures.entered c.verdict.ensures;
   no_pages = λ s seen said.
-      short_packet _ _ _ c.args.filter.now.times s c.args.packet.now g.D.HasReading.ruling _ _ c.in-Ok.reply (found_by c.in-Ok.reply) seen
-      c.in-Asks.ensures (let idle = c.in-Ok.ensures.idle in flow_reply _ _ _ _ _ c.in-Ok.ensures.entered idle.lawful.0.acts idle.lawful.1.acts)
+      short_packet _ _ _ c.args.filter.now.times s c.args.packet.now g.D.HasReading.ruling _ _ c.in-Ok.reply
+      (found_by c.in-Ok.reply) seen
+      c.in-Asks.ensures (let idle = c.in-Ok.ensures.idle in
+      flow_reply _ _ _ _ _ c.in-Ok.ensures.entered idle.lawful.0.acts idle.lawful.1.acts)
       c.in-Ok.ensures.no_pages (sym c.verdict.ensures ∙ said);
   refused = tt;
   lone = λ four six. refl;
@@ -46,6 +53,8 @@ returns-in-Err g c = record {
       c.in-Asks.ensures c.in-Err.ensures.contended;
   lone = c.in-Err.ensures.lone;
   settled = λ none.
-      let flow = flow_updated c.args.filter.now.times c.args.packet.now.moment (frame_facts c.args.packet.now.frame.now) g.D.HasReading.ruling _ c.in-Asks.ensures in
+      let flow =
+      flow_updated c.args.filter.now.times c.args.packet.now.moment
+      (frame_facts c.args.packet.now.frame.now) g.D.HasReading.ruling _ c.in-Asks.ensures in
       absurd (let both = sym flow.1 ∙ none in let f : ⊥ = cc in f);
 }
