@@ -16,7 +16,6 @@ ghost use Rattle.flow_filter.specs.Updates.{Update, update_of};
 ghost use Rattle.flow_filter.specs.Verdicts.{passes};
 
 /// A policy reads each packet, and in one way.
-#[tactic(auto, using(crate::proofs::ReadingLemmas::some_reading, crate::proofs::ReadingLemmas::one_reading, crate::proofs::ReadingLemmas::some_readings, crate::proofs::ReadingLemmas::one_readings))]
 pub fn each_packet_has_one_reading()
     ensures some { (policy : PolicyFacts) (packet : PacketFacts)
         → (reading : Reading) × IsReading policy packet reading }
