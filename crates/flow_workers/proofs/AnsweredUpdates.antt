@@ -13,8 +13,11 @@ use Rattle.bihash_steps.specs.declared.view.View.{View}
 use Rattle.bihash_table.specs.Answers.{entry_of}
 use Rattle.bihash_table.specs.Promise.{IsAnswered, IsUpdated}
 use Rattle.bihash_table.specs.OutOfPages.{IsOutOfPages}
+use Rattle.bihash_table.specs.Tries.{TookAtMost, try_locks}
+use Rattle.bihash_table.specs.declared.contended.Contended.{Contended}
 use Rattle.bihash_laws.specs.Runs.{IsLawfulAnswer}
 use Rattle.bihash_laws.proofs.AnsweredCalls.{legal}
+use Rattle.flow_workers.specs.Judging.{TookByOneTry}
 use Rattle.flow_workers.specs.inner.Updates.{told}
 
 found_in : (z : Sizes) (v w : View) (e : Event) → IsAnswered z v w e → IsLawfulCaller z w → e.found ≡ found_by e.reply
@@ -47,6 +50,12 @@ if_ok P Q (Err e) f p = tt
 pub if_err : {T E : Type 0} (P Q : E → Type 0) (r : Result T E) → ((e : E) → P e → Q e) → IfErr r P → IfErr r Q
 if_err P Q (Ok x) f p = tt
 if_err P Q (Err e) f p = f e p
+
+-- the locks that one try took, by how it ended
+pub took_by_one : (v w : View) (r : Result Reply Contended) → TookAtMost v w (try_locks r)
+    → IfOk r (TookByOneTry v w) × IfErr r (λ _. TookAtMost v w 1)
+took_by_one v w (Ok reply) took = (took, tt)
+took_by_one v w (Err contended) took = (tt, took)
 
 -- a shortage at the key of these words
 pub short_at : {S K : Type 0} (g : Ghosts S K) (w : View) (key : K) (words : List ℕ) (log2 left : ℕ)

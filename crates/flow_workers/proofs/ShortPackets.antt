@@ -117,15 +117,14 @@ last_reply z v w e answered some =
       refl,
     )
 
-pub flow_reply : (l : Layout) (key : FlowKey) (e : Event) (v w : Views) → IsEntered l key e v w
-    → 1 ≤ length w.four.records → 1 ≤ length w.six.records → IsFlowReply key w e.reply
-flow_reply l (Four key) e v w entered four six = last_reply l.four v.four w.four e entered.0 four
-flow_reply l (Six key) e v w entered four six = last_reply l.six v.six w.six e entered.0 six
+pub flow_reply : (l : Layout) (took : View → View → Reply → Type 0) (key : FlowKey) (e : Event) (v w : Views)
+    → IsEntered l took key e v w → 1 ≤ length w.four.records → 1 ≤ length w.six.records → IsFlowReply key w e.reply
+flow_reply l took (Four key) e v w entered four six = last_reply l.four v.four w.four e entered.0 four
+flow_reply l took (Six key) e v w entered four six = last_reply l.six v.six w.six e entered.0 six
 
 pub short_packet : {A B K L : Type 0} (ga : Ghosts A K) (gb : Ghosts B L) (own : Option Mac) (times : Timeouts)
-    (s : PacketFacts) (p : ViewedPacket) (ruling : Ruling)
-    (u : Update) (w : Views) (r : Reply) (found : Option ℕ) → IsViewed own s p
-    → update_of times (reading_in p ruling) ≡ Some u
+    (s : PacketFacts) (p : ViewedPacket) (ruling : Ruling) (u : Update) (w : Views) (r : Reply) (found : Option ℕ)
+    → IsViewed own s p → update_of times (reading_in p ruling) ≡ Some u
     → IsFlowReply u.key w r → ((log2 left : ℕ) → r ≡ reply.NoPages log2 left → IsFlowOutOfPages ga gb u.key w log2 left)
     → verdict_of u.patch ruling found r ≡ verdict.NoPages → IsPacketOutOfPages ga gb own s w
 short_packet ga gb own times s p ruling u w r found seen asks replied short e =

@@ -21,6 +21,7 @@ use Rattle.bihash_steps.specs.declared.view.Known.{Known}
 use Rattle.bihash_steps.specs.declared.view.View.{View}
 use Rattle.bihash_table.specs.Answers.{entry_of, with_locks}
 use Rattle.bihash_table.specs.Promise.{IsAnswered}
+use Rattle.bihash_table.specs.Tries.{TookByTries}
 use Rattle.session_state.specs.declared.flow.FlowKey.{FlowKey}
 use Rattle.session_state.specs.declared.flow.FlowKey.TheVariants.{Four, Six}
 use Rattle.session_state.specs.declared.timeouts.Timeouts.{Timeouts}
@@ -71,8 +72,8 @@ record Left (l : Layout) (update : Option Update) (event : Option Event) (v w : 
   six : Continues v.six w.six (c6 ++ call_in V6 update call [])
 
 by_key : (l : Layout) (u : Update) (key : FlowKey) (e : Event) (v x w : Views) (c4 c6 : List Call)
-    → u.key ≡ key → e.key ≡ words_of key → IsEntered l key e x w → Continues v.four x.four c4 → Continues v.six x.six c6
-    → Left l (Some u) (Some e) v w c4 c6
+    → u.key ≡ key → e.key ≡ words_of key → IsEntered l TookByTries key e x w
+    → Continues v.four x.four c4 → Continues v.six x.six c6 → Left l (Some u) (Some e) v w c4 c6
 by_key l u (Four words) e v x w c4 c6 same asked entered four six =
     let c : Call = entry_of l.four (length entered.0.history) e entered.0.noted in
     record {
@@ -103,8 +104,8 @@ event_key u e asked = let same : asked.0 ≡ e = let s = asked.1 in cc in
     ap (λ (x : Event). x.key) (sym same) ∙ asked.2.key
 
 left_by : (l : Layout) (update : Option Update) (event : Option Event) (v x w : Views) (c4 c6 : List Call)
-    → IsAskedBy update event → IsEnteredBy l update event x w → Continues v.four x.four c4 → Continues v.six x.six c6
-    → Left l update event v w c4 c6
+    → IsAskedBy update event → IsEnteredBy l TookByTries update event x w
+    → Continues v.four x.four c4 → Continues v.six x.six c6 → Left l update event v w c4 c6
 left_by l None event v x w c4 c6 asked entered four six = record {
   call = None;
   is = sym asked;
@@ -260,7 +261,7 @@ said_push run trace i verdicts numbers more verdict old is noted = record {
 pub work_push : (run : RunFacts) (w at : ℕ) (v x y : Views) (verdicts : List Verdict) (numbers more : List ℕ)
     (packet : PacketFacts) (view : frames.FrameFacts)
     (verdict : Verdict) → IsAt run at packet view → worker_of run.deal at (flow_shown view) ≡ w
-    → IsJudged run.deal.layout run.times run.policy packet x y verdict
+    → IsJudged run.deal.layout TookByTries run.times run.policy packet x y verdict
     → (run.deal.workers ≢ 1 → more ≡ numbers ++ at ∷ [])
     → IsWorkUntil run w at v x verdicts numbers → IsWorkUntil run w (at + 1) v y (verdicts ++ verdict ∷ []) more
 work_push run w at v x y verdicts numbers more packet view verdict is mine j noted old = record {

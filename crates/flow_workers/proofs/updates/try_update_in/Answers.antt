@@ -2,7 +2,7 @@
 use Rattle.std.proofs.Common.{◌≡◌, ◌∙◌, IfErr, ap, subst}
 use Rattle.bihash_words.specs.Sizes.{bucket_of, sizes_of}
 use Rattle.bihash_table.specs.Promise.{IsContended}
-use Rattle.flow_workers.proofs.AnsweredUpdates.{as_told, if_ok, short_at}
+use Rattle.flow_workers.proofs.AnsweredUpdates.{as_told, if_ok, short_at, took_by_one}
 use Rattle.flow_workers.proofs.updates.try_update_in.Goals as goal
 
 pub returns : goal.returns
@@ -19,6 +19,7 @@ returns g c =
           short_at g.S.Shape c.try_update.new.caller.seat.view c.key.result c.args.words.now log2 left c.key.ensures key
           (short log2 left is))
           tells.no_pages;
+      locks = took_by_one _ _ c.try_update.result tells.locks;
       contended =
           subst (λ words. IfErr c.try_update.result (λ _. IsContended (sizes_of g.S.Shape) c.args.caller.now.seat.view
           c.try_update.new.caller.seat.view (bucket_of (sizes_of g.S.Shape) words))) key tells.contended;
