@@ -12,20 +12,24 @@ module _ {X : Type 0} where
   no_more test [] = omega arith
   no_more test (x ∷ xs) = go (test x) (no_more test xs)
     where
-      go : (t : Bool) → length (filter test xs) ≤ length xs → length (cond t (x ∷ filter test xs) (filter test xs)) ≤ suc (length xs)
+      go : (t : Bool) → length (filter test xs) ≤ length xs
+          → length (cond t (x ∷ filter test xs) (filter test xs)) ≤ suc (length xs)
       go true few = omega arith
       go false few = omega arith
 
   -- a list is longer than what passes a test that one element fails
-  fewer : (test : X → Bool) (xs : List X) (p : ℕ) (x : X) → get_elem? xs p ≡ some x → test x ≡ false → length (filter test xs) + 1 ≤ length xs
+  fewer : (test : X → Bool) (xs : List X) (p : ℕ) (x : X) → get_elem? xs p ≡ some x → test x ≡ false
+      → length (filter test xs) + 1 ≤ length xs
   fewer test [] p x at fails = absurd (some-ne-none x (sym at))
   fewer test (y ∷ ys) zero x at fails =
       let here : test y ≡ false = ap test (some-injective y x at) ∙ fails in
       let few = no_more test ys in
-      subst (λ (t : Bool). length (cond t (y ∷ filter test ys) (filter test ys)) + 1 ≤ suc (length ys)) (sym here) (omega arith)
+      subst (λ (t : Bool). length (cond t (y ∷ filter test ys) (filter test ys)) + 1 ≤ suc (length ys)) (sym here)
+      (omega arith)
   fewer test (y ∷ ys) (suc p) x at fails = go (test y) (fewer test ys p x at fails)
     where
-      go : (t : Bool) → length (filter test ys) + 1 ≤ length ys → length (cond t (y ∷ filter test ys) (filter test ys)) + 1 ≤ suc (length ys)
+      go : (t : Bool) → length (filter test ys) + 1 ≤ length ys
+          → length (cond t (y ∷ filter test ys) (filter test ys)) + 1 ≤ suc (length ys)
       go true few = omega arith
       go false few = omega arith
 

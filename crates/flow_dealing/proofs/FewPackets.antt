@@ -49,19 +49,21 @@ abbrev all_calls : List Record → List Call
 all_calls [] = []
 all_calls (r ∷ rs) = r.calls ++ all_calls rs
 
-in_all : (records : List Record) (i k : ℕ) (r : Record) (c : Call) → get_elem? records i ≡ some r → get_elem? r.calls k ≡ some c
-    → (p : ℕ) × (get_elem? (all_calls records) p ≡ some c)
+in_all : (records : List Record) (i k : ℕ) (r : Record) (c : Call) → get_elem? records i ≡ some r
+    → get_elem? r.calls k ≡ some c → (p : ℕ) × (get_elem? (all_calls records) p ≡ some c)
 in_all [] i k r c at_i at_k = absurd (some-ne-none r (sym at_i))
 in_all (q ∷ qs) zero k r c at_i at_k =
     (k, at_front q.calls (all_calls qs) k c (ap (λ (x : Record). get_elem? x.calls k) (some-injective q r at_i) ∙ at_k))
 in_all (q ∷ qs) (suc i) k r c at_i at_k =
     let p = in_all qs i k r c at_i at_k in (length q.calls + p.0, at_after q.calls (all_calls qs) p.0 c p.1)
 
-how_many : (records : List Record) (w : ℕ) (f : ℕ → ℕ) → ((i : ℕ) (r : Record) → get_elem? records i ≡ some r → length r.calls ≡ f (w + i))
+how_many : (records : List Record) (w : ℕ) (f : ℕ → ℕ)
+    → ((i : ℕ) (r : Record) → get_elem? records i ≡ some r → length r.calls ≡ f (w + i))
     → length (all_calls records) ≡ sum_at w (length records) f
 how_many [] w f each = refl
 how_many (r ∷ rs) w f each =
-    let more = how_many rs (w + 1) f (λ i q at. let e : w + suc i ≡ w + 1 + i = omega arith in each (suc i) q at ∙ ap f e) in
+    let more =
+    how_many rs (w + 1) f (λ i q at. let e : w + suc i ≡ w + 1 + i = omega arith in each (suc i) q at ∙ ap f e) in
     let here : length r.calls ≡ f w = let e : w + 0 ≡ w = omega arith in each 0 r refl ∙ ap f e in
     let both = length-append r.calls (all_calls rs) in
     omega arith
@@ -89,10 +91,13 @@ label_of_write known c b n m wrote at_bucket stamp is =
     ap (λ t. cond t (known_writes known c.bucket + c.stamp) 0) wrote ∙ all
 
 -- a caller that made all that it knows made more calls than it knows writes, where one of them wrote nothing
-more_calls : (z : Sizes) (v : View) (i k : ℕ) (r : Record) (c : Call) → IsLawfulCaller z v → HasMadeAll z v → get_elem? v.records i ≡ some r
-    → get_elem? r.calls k ≡ some c → is_changed c.reply ≡ false → known_writes v.known (buckets z) + 1 ≤ length (all_calls v.records)
+more_calls : (z : Sizes) (v : View) (i k : ℕ) (r : Record) (c : Call) → IsLawfulCaller z v → HasMadeAll z v
+    → get_elem? v.records i ≡ some r
+    → get_elem? r.calls k ≡ some c → is_changed c.reply ≡ false
+    → known_writes v.known (buckets z) + 1 ≤ length (all_calls v.records)
 more_calls z v i k r c caller made at_i at_k kept =
-    let all = at_least (label v.known) (suc (known_writes v.known (buckets z))) (all_calls v.records) each in omega arith
+    let all = at_least (label v.known) (suc (known_writes v.known (buckets z))) (all_calls v.records) each in
+    omega arith
   where
     each : (m : ℕ) → m < suc (known_writes v.known (buckets z)) → IsLabelled (label v.known) (all_calls v.records) m
     each zero few = let p = in_all v.records i k r c at_i at_k in
@@ -126,9 +131,11 @@ module _ (d : Deal) (times : Timeouts) (family : Family) where
   its_count n js w = length (events_by d times family w n js)
 
   one_packet : (n : ℕ) (j : Judged) (js : List Judged) (w : ℕ) → its_count n (j ∷ js) w
-      ≤ cond (worker_of d n (flow_in j.reading) == w) (its_count (n + 1) js w + cond (is_in family (update_of times j.reading)) 1 0) (its_count (n + 1) js w)
+      ≤ cond (worker_of d n (flow_in j.reading) == w)
+      (its_count (n + 1) js w + cond (is_in family (update_of times j.reading)) 1 0) (its_count (n + 1) js w)
   one_packet n j js w =
-      subst (λ es. length es ≤ cond test (its_count (n + 1) js w + cond (is_in family (update_of times j.reading)) 1 0) (its_count (n + 1) js w))
+      subst (λ es. length es ≤ cond test (its_count (n + 1) js w + cond (is_in family (update_of times j.reading)) 1 0)
+      (its_count (n + 1) js w))
       (sym (events_by-cons d times family w n j js)) (go test)
     where
       test : Bool
@@ -147,12 +154,16 @@ module _ (d : Deal) (times : Timeouts) (family : Family) where
       let none = sum_zero w workers (its_count n []) (λ k. ap length (events_by-nil d times family k n)) in omega arith
   no_more_events w workers n (j ∷ js) =
       let x : ℕ = cond (is_in family (update_of times j.reading)) 1 0 in
-      let one = sum_one (worker_of d n (flow_in j.reading)) x (its_count (n + 1) js) (its_count n (j ∷ js)) (one_packet n j js) w workers in
+      let one =
+      sum_one (worker_of d n (flow_in j.reading)) x (its_count (n + 1) js) (its_count n (j ∷ js))
+      (one_packet n j js) w workers in
       let more = no_more_events w workers (n + 1) js in
-      let all : keyed times family (j ∷ js) ≡ x + keyed times family js = sum_by-cons (λ (i : Judged). cond (is_in family (update_of times i.reading)) 1 0) j js in
+      let all : keyed times family (j ∷ js) ≡ x + keyed times family js =
+      sum_by-cons (λ (i : Judged). cond (is_in family (update_of times i.reading)) 1 0) j js in
       omega arith
 
-  no_more_calls : (js : List Judged) (v : View) → AreRecorded d times family js v → length (all_calls v.records) ≤ keyed times family js
+  no_more_calls : (js : List Judged) (v : View) → AreRecorded d times family js v
+      → length (all_calls v.records) ≤ keyed times family js
   no_more_calls js v recorded =
       let all = how_many v.records 0 (its_count 0 js) (λ i r at.
       let e : 0 + i ≡ i = omega arith in
@@ -175,59 +186,77 @@ inside_flow : (times : Timeouts) (reading : Reading) (flow : Flow) → flow_in r
     → is_in (family_of flow.key) (update_of times reading) ≡ true
 inside_flow times (Framed said) flow has = let f : ⊥ = cc in absurd f
 inside_flow times (Ruled moment tuple ruling) flow has =
-    ap (λ f. is_in (family_of flow.key) (option_map (update_in times moment tuple ruling) f)) has ∙ family_as_itself (family_of flow.key)
+    ap (λ f. is_in (family_of flow.key) (option_map (update_in times moment tuple ruling) f)) has
+    ∙ family_as_itself (family_of flow.key)
 
 -- with so few packets of a family none of them is refused for want of pages
 abbrev IsPagedIn : Timeouts → Family → Judged → Type 0
 IsPagedIn times family j = is_in family (update_of times j.reading) ≡ true → HasPages j
 
-events_for_few : (d : Deal) (times : Timeouts) (policy : PolicyFacts) (packets : List PacketFacts) (verdicts : List Verdict)
+events_for_few : (d : Deal) (times : Timeouts) (policy : PolicyFacts) (packets : List PacketFacts)
+    (verdicts : List Verdict)
     (are : AreJudged d times policy packets verdicts) (family : Family) → AreFew d.layout times family are.judged
     → All (IsPagedIn times family) are.judged
-events_for_few d times policy packets verdicts are family few = all_from (IsPagedIn times family) are.judged (λ k j at is e its log2 left short.
+events_for_few d times policy packets verdicts are family few =
+    all_from (IsPagedIn times family) are.judged (λ k j at is e its log2 left short.
     let recorded = are.recorded family in
     let v : View = view_in are.views family in
     let (flow, has, inside) = flow_inside d times family j.reading is in
     let c = call_of_packet d times family are.judged v recorded k j flow e at has inside its in
     let refused : c.call.reply ≡ reply.NoPages log2 left = ap (λ (x : Event). x.reply) c.event ∙ short in
-    let want = wants (sizes_in d.layout family) v c.at c.place c.record_at c.call log2 left recorded.lawful c.stands c.called refused in
+    let want =
+    wants (sizes_in d.layout family) v c.at c.place c.record_at c.call log2 left recorded.lawful c.stands c.called
+    refused in
     let taken = (recorded.told.short c.call (c.at, c.place, c.record_at, c.stands, c.called) log2 left refused).taken in
-    let calls = more_calls (sizes_in d.layout family) v c.at c.place c.record_at c.call recorded.lawful recorded.told.made c.stands c.called (ap is_changed refused) in
+    let calls =
+    more_calls (sizes_in d.layout family) v c.at c.place c.record_at c.call recorded.lawful recorded.told.made
+    c.stands c.called (ap is_changed refused) in
     let packets_few = no_more_calls d times family are.judged v recorded in
     let M : ℕ = (sizes_in d.layout family).max_log2 in
     let writes : ℕ = known_writes v.known (buckets (sizes_in d.layout family)) in
     let block : 2 ^ log2 ≤ 2 ^ M = pow-le-pow_right (omega arith) want.small in
     let left_few : left < 2 ^ log2 = want.few in
-    let enough : (writes + 1) * 2 ^ M ≤ keyed times family are.judged * 2 ^ M = mul-le-mul_right (2 ^ M) (omega arith) in
+    let enough : (writes + 1) * 2 ^ M ≤ keyed times family are.judged * 2 ^ M =
+    mul-le-mul_right (2 ^ M) (omega arith) in
     omega (arith, few, taken))
 
 -- a packet that was judged has another verdict where it wasn't refused for want of pages
 told_else : (d : Deal) (times : Timeouts) (policy : PolicyFacts) (packets : List PacketFacts) (verdicts : List Verdict)
-    (are : AreJudged d times policy packets verdicts) (k : ℕ) (j : Judged) → get_elem? are.judged k ≡ some j → HasPages j
-    → verdict_on times j ≢ NoPages
+    (are : AreJudged d times policy packets verdicts) (k : ℕ) (j : Judged) → get_elem? are.judged k ≡ some j
+    → HasPages j → verdict_on times j ≢ NoPages
 told_else d times policy packets verdicts are k j at paged =
-    let p = packet_of (readings_of are.judged) packets k j.reading are.read (after_map (λ (i : Judged). i.reading) are.judged k j at) in
+    let p =
+    packet_of (readings_of are.judged) packets k j.reading are.read
+    (after_map (λ (i : Judged). i.reading) are.judged k j at) in
     paged_is_told times policy p.0 j p.1 paged
   where
-    packet_of : (readings : List Reading) (ps : List PacketFacts) (k : ℕ) (reading : Reading) → AreReadings policy ps readings
+    packet_of : (readings : List Reading) (ps : List PacketFacts) (k : ℕ) (reading : Reading)
+        → AreReadings policy ps readings
         → get_elem? readings k ≡ some reading → (packet : PacketFacts) × IsReading policy packet reading
     packet_of [] [] k reading read at = absurd (some-ne-none reading (sym at))
     packet_of [] (p ∷ ps) k reading read at = absurd read
     packet_of (r ∷ rs) [] k reading read at = absurd read
-    packet_of (r ∷ rs) (p ∷ ps) zero reading read at = (p, subst (IsReading policy p) (some-injective r reading at) read.0)
+    packet_of (r ∷ rs) (p ∷ ps) zero reading read at =
+        (p, subst (IsReading policy p) (some-injective r reading at) read.0)
     packet_of (r ∷ rs) (p ∷ ps) (suc k) reading read at = packet_of rs ps k reading read.1 at
 
 -- with so few packets of a family none of them is refused for want of pages, and no verdict of theirs says so
-pub pages_for_few : (d : Deal) (times : Timeouts) (policy : PolicyFacts) (packets : List PacketFacts) (verdicts : List Verdict)
+pub pages_for_few : (d : Deal) (times : Timeouts) (policy : PolicyFacts) (packets : List PacketFacts)
+    (verdicts : List Verdict)
     (are : AreJudged d times policy packets verdicts) (family : Family) → AreFew d.layout times family are.judged
     → All (HasPagesIn times family) are.judged
-pages_for_few d times policy packets verdicts are family few = all_from (HasPagesIn times family) are.judged (λ k j at is.
-    let paged = all_at (IsPagedIn times family) are.judged k j (events_for_few d times policy packets verdicts are family few) at is in
+pages_for_few d times policy packets verdicts are family few =
+    all_from (HasPagesIn times family) are.judged (λ k j at is.
+    let paged =
+    all_at (IsPagedIn times family) are.judged k j
+    (events_for_few d times policy packets verdicts are family few) at is in
     (paged, told_else d times policy packets verdicts are k j at paged))
 
 -- with so few packets of both families no verdict says that pages were wanting
-pub verdicts_for_few : (d : Deal) (times : Timeouts) (policy : PolicyFacts) (packets : List PacketFacts) (verdicts : List Verdict)
-    (are : AreJudged d times policy packets verdicts) → ((family : Family) → AreFew d.layout times family are.judged) → HavePages verdicts
+pub verdicts_for_few : (d : Deal) (times : Timeouts) (policy : PolicyFacts) (packets : List PacketFacts)
+    (verdicts : List Verdict)
+    (are : AreJudged d times policy packets verdicts) → ((family : Family) → AreFew d.layout times family are.judged)
+    → HavePages verdicts
 verdicts_for_few d times policy packets verdicts are few =
     subst HavePages (sym are.said) (All-map (λ v. v ≢ NoPages) (verdict_on times) are.judged
     (all_from (λ j. verdict_on times j ≢ NoPages) are.judged (λ k j at.
@@ -238,7 +267,9 @@ verdicts_for_few d times policy packets verdicts are few =
       where
         go : (f : Option Flow) → flow_in j.reading ≡ f → IsNoRefusal e.reply
         go None is =
-            let none : j.event ≡ None = subst (λ f. IsFlowEvent f j.event) is (asked_flow times j (all_at (IsAsked times) are.judged k j are.asked at)) in
+            let none : j.event ≡ None =
+            subst (λ f. IsFlowEvent f j.event) is
+            (asked_flow times j (all_at (IsAsked times) are.judged k j are.asked at)) in
             let clash = sym none ∙ its in let f : ⊥ = cc in absurd f
         go (Some flow) is =
             all_at (IsPagedIn times (family_of flow.key)) are.judged k j

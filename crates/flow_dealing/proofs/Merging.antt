@@ -47,8 +47,10 @@ worker_few d number flow some_worker = go d.dealing flow
     go Bucket (Some flow) = mod-lt (home_of d.layout flow.key).bucket some_worker
 
 -- the numbers of a worker's packets, whether the first is its own
-numbers-cons : (d : Deal) (w at : ℕ) (view : frames.FrameFacts) (views : List frames.FrameFacts) → numbers_from d w at (view ∷ views)
-    ≡ cond (worker_of d at (flow_shown view) == w) (at ∷ numbers_from d w (at + 1) views) (numbers_from d w (at + 1) views)
+numbers-cons : (d : Deal) (w at : ℕ) (view : frames.FrameFacts) (views : List frames.FrameFacts)
+    → numbers_from d w at (view ∷ views)
+    ≡ cond (worker_of d at (flow_shown view) == w) (at ∷ numbers_from d w (at + 1) views)
+    (numbers_from d w (at + 1) views)
 unfolding numbers_from
 numbers-cons d w at view views = refl
 
@@ -59,7 +61,8 @@ numbers-nil d w at = refl
 -- the events of a worker's packets, whether the first is its own
 pub events_by-cons : (d : Deal) (times : Timeouts) (family : Family) (w n : ℕ) (j : Judged) (js : List Judged)
     → events_by d times family w n (j ∷ js) ≡ cond (worker_of d n (flow_in j.reading) == w)
-    (add_in family (update_of times j.reading) j.event (events_by d times family w (n + 1) js)) (events_by d times family w (n + 1) js)
+    (add_in family (update_of times j.reading) j.event (events_by d times family w (n + 1) js))
+    (events_by d times family w (n + 1) js)
 unfolding events_by
 events_by-cons d times family w n j js = refl
 
@@ -74,11 +77,14 @@ events_of_call family None call calls = refl
 events_of_call family (Some u) None calls = refl
 events_of_call family (Some u) (Some c) calls = go (same_family family (family_of u.key))
   where
-    go : (same : Bool) → map event_of (if same then c ∷ calls else calls) ≡ (if same then event_of c ∷ map event_of calls else map event_of calls)
+    go : (same : Bool)
+        → map event_of (if same then c ∷ calls else calls)
+        ≡ (if same then event_of c ∷ map event_of calls else map event_of calls)
     go true = refl
     go false = refl
 
-module _ (d : Deal) (times : Timeouts) (policy : PolicyFacts) (packets : List PacketFacts) (verdicts : List Verdict) where
+module _ (d : Deal) (times : Timeouts) (policy : PolicyFacts) (packets : List PacketFacts)
+    (verdicts : List Verdict) where
   -- what is known of an item, whichever worker's it is
   pub record IsSaid (i : Item) : Type 0 where
     pub item : IsItem d.layout times i
@@ -112,18 +118,20 @@ module _ (d : Deal) (times : Timeouts) (policy : PolicyFacts) (packets : List Pa
     own : IsOwn w item
     left : IsLeft w (at + 1) views rest
 
-  first : (w at : ℕ) (view : frames.FrameFacts) (views : List frames.FrameFacts) (trace : List Item) → IsLeft w at (view ∷ views) trace
-      → worker_of d at (flow_shown view) ≡ w → First w at views trace
+  first : (w at : ℕ) (view : frames.FrameFacts) (views : List frames.FrameFacts) (trace : List Item)
+      → IsLeft w at (view ∷ views) trace → worker_of d at (flow_shown view) ≡ w → First w at views trace
   first w at view views trace left mine = go trace left.numbers left.own
     where
       numbers : numbers_from d w at (view ∷ views) ≡ at ∷ numbers_from d w (at + 1) views
       numbers = numbers-cons d w at view views
           ∙ elim (eqb_tells (worker_of d at (flow_shown view)) w) [
-            | inl (test, same) ↦ ap (λ t. cond t (at ∷ numbers_from d w (at + 1) views) (numbers_from d w (at + 1) views)) test
+            | inl (test, same) ↦ ap (λ t.
+                cond t (at ∷ numbers_from d w (at + 1) views) (numbers_from d w (at + 1) views)) test
             | inr (test, other) ↦ absurd (other mine)
           ]
 
-      go : (is : List Item) → numbers_of is ≡ numbers_from d w at (view ∷ views) → All (IsOwn w) is → First w at views is
+      go : (is : List Item) → numbers_of is ≡ numbers_from d w at (view ∷ views) → All (IsOwn w) is
+          → First w at views is
       go [] e own = let clash : [] ≡ at ∷ numbers_from d w (at + 1) views = e ∙ numbers in let f : ⊥ = cc in absurd f
       go (i ∷ rest) e own =
           let same : i.packet ∷ numbers_of rest ≡ at ∷ numbers_from d w (at + 1) views = e ∙ numbers in
@@ -138,13 +146,14 @@ module _ (d : Deal) (times : Timeouts) (policy : PolicyFacts) (packets : List Pa
             left = record { numbers = tail; own = All-tail (IsOwn w) i rest own };
           }
 
-  passed : (w at : ℕ) (view : frames.FrameFacts) (views : List frames.FrameFacts) (trace : List Item) → IsLeft w at (view ∷ views) trace
-      → worker_of d at (flow_shown view) ≢ w → IsLeft w (at + 1) views trace
+  passed : (w at : ℕ) (view : frames.FrameFacts) (views : List frames.FrameFacts) (trace : List Item)
+      → IsLeft w at (view ∷ views) trace → worker_of d at (flow_shown view) ≢ w → IsLeft w (at + 1) views trace
   passed w at view views trace left other = record {
     numbers = left.numbers ∙ (numbers-cons d w at view views
         ∙ elim (eqb_tells (worker_of d at (flow_shown view)) w) [
           | inl (test, same) ↦ absurd (other same)
-          | inr (test, apart) ↦ ap (λ t. cond t (at ∷ numbers_from d w (at + 1) views) (numbers_from d w (at + 1) views)) test
+          | inr (test, apart) ↦ ap (λ t.
+              cond t (at ∷ numbers_from d w (at + 1) views) (numbers_from d w (at + 1) views)) test
         ]);
     own = left.own;
   }
@@ -153,8 +162,8 @@ module _ (d : Deal) (times : Timeouts) (policy : PolicyFacts) (packets : List Pa
   abbrev without : (ℕ → List Item) → ℕ → List Item → ℕ → List Item
   without trace worker rest w = cond (worker == w) rest (trace w)
 
-  left_without : (at : ℕ) (view : frames.FrameFacts) (views : List frames.FrameFacts) (trace : ℕ → List Item) (worker : ℕ)
-      → worker_of d at (flow_shown view) ≡ worker → (f : First worker at views (trace worker))
+  left_without : (at : ℕ) (view : frames.FrameFacts) (views : List frames.FrameFacts) (trace : ℕ → List Item)
+      (worker : ℕ) → worker_of d at (flow_shown view) ≡ worker → (f : First worker at views (trace worker))
       → ((w : ℕ) → w < d.workers → IsLeft w at (view ∷ views) (trace w))
       → (w : ℕ) → w < d.workers → IsLeft w (at + 1) views (without trace worker f.rest w)
   left_without at view views trace worker is f left w few = elim (eqb_tells worker w) [
@@ -165,14 +174,16 @@ module _ (d : Deal) (times : Timeouts) (policy : PolicyFacts) (packets : List Pa
   ]
 
   -- each worker's events, with those of the packet before them
-  dealt_with : (at worker : ℕ) (item : Item) (rest merged : List Item) (trace : ℕ → List Item) → trace worker ≡ item ∷ rest
-      → worker_of d at (flow_in item.reading) ≡ worker → (family : Family) (w : ℕ)
-      → map event_of (calls_in times family (without trace worker rest w)) ≡ events_by d times family w (at + 1) (map judged_of merged)
+  dealt_with : (at worker : ℕ) (item : Item) (rest merged : List Item) (trace : ℕ → List Item)
+      → trace worker ≡ item ∷ rest → worker_of d at (flow_in item.reading) ≡ worker → (family : Family) (w : ℕ)
+      → map event_of (calls_in times family (without trace worker rest w))
+      ≡ events_by d times family w (at + 1) (map judged_of merged)
       → map event_of (calls_in times family (trace w)) ≡ events_by d times family w at (map judged_of (item ∷ merged))
   dealt_with at worker item rest merged trace split is family w more = elim (eqb_tells worker w) [
     | inl (test, mine) ↦
         let has : (worker_of d at (flow_in item.reading) == w) ≡ true = ap (λ k. k == w) is ∙ test in
-        let after : map event_of (calls_in times family rest) ≡ E = sym (ap (λ b. map event_of (calls_in times family (cond b rest (trace w)))) test) ∙ more in
+        let after : map event_of (calls_in times family rest) ≡ E =
+        sym (ap (λ b. map event_of (calls_in times family (cond b rest (trace w)))) test) ∙ more in
         ap (λ k. map event_of (calls_in times family (trace k))) (sym mine)
         ∙ (ap (λ x. map event_of (calls_in times family x)) split
         ∙ (events_of_call family (update_of times item.reading) item.call (calls_in times family rest)
@@ -182,7 +193,8 @@ module _ (d : Deal) (times : Timeouts) (policy : PolicyFacts) (packets : List Pa
     | inr (test, other) ↦
         let hasnt : (worker_of d at (flow_in item.reading) == w) ≡ false = ap (λ k. k == w) is ∙ test in
         sym (ap (λ b. map event_of (calls_in times family (cond b rest (trace w)))) test) ∙ (more
-        ∙ sym (ap (λ b. cond b A E) hasnt)) ∙ sym (events_by-cons d times family w at (judged_of item) (map judged_of merged))
+        ∙ sym (ap (λ b. cond b A E) hasnt))
+        ∙ sym (events_by-cons d times family w at (judged_of item) (map judged_of merged))
   ]
     where
       E : List Event
@@ -191,21 +203,25 @@ module _ (d : Deal) (times : Timeouts) (policy : PolicyFacts) (packets : List Pa
       A : List Event
       A = add_in family (update_of times item.reading) (option_map event_of item.call) E
 
-  next_placed : (at : ℕ) (x : Item) (xs : List Item) → x.packet ≡ at → ((k : ℕ) (i : Item) → get_elem? xs k ≡ some i → i.packet ≡ at + 1 + k)
+  next_placed : (at : ℕ) (x : Item) (xs : List Item) → x.packet ≡ at
+      → ((k : ℕ) (i : Item) → get_elem? xs k ≡ some i → i.packet ≡ at + 1 + k)
       → (k : ℕ) (i : Item) → get_elem? (x ∷ xs) k ≡ some i → i.packet ≡ at + k
   next_placed at x xs here more zero i stands =
       let e : at ≡ at + 0 = omega arith in ap (λ (y : Item). y.packet) (sym (some-injective x i stands)) ∙ (here ∙ e)
   next_placed at x xs here more (suc k) i stands = let e : at + 1 + k ≡ at + suc k = omega arith in more k i stands ∙ e
 
-  pub merge : (at : ℕ) (ps : List PacketFacts) (views : List frames.FrameFacts) (trace : ℕ → List Item) → 0 < d.workers → AreViews policy.own ps views
-      → ((k : ℕ) → slice_get packets (at + k) ≡ slice_get ps k) → ((w : ℕ) → w < d.workers → IsLeft w at views (trace w))
-      → AreMerged at ps trace
+  pub merge : (at : ℕ) (ps : List PacketFacts) (views : List frames.FrameFacts) (trace : ℕ → List Item) → 0 < d.workers
+      → AreViews policy.own ps views
+      → ((k : ℕ) → slice_get packets (at + k) ≡ slice_get ps k)
+      → ((w : ℕ) → w < d.workers → IsLeft w at views (trace w)) → AreMerged at ps trace
   merge at [] [] trace some_worker seen same left = record {
     merged = [];
     each = All-nil IsSaid;
     read = tt;
     placed = λ k i stands. absurd (some-ne-none i (sym stands));
-    dealt = λ family w few. ap (λ x. map event_of (calls_in times family x)) (nothing_left (trace w) ((left w few).numbers ∙ numbers-nil d w at))
+    dealt = λ family w few.
+        ap (λ x. map event_of (calls_in times family x))
+        (nothing_left (trace w) ((left w few).numbers ∙ numbers-nil d w at))
         ∙ sym (events_by-nil d times family w at);
   }
     where
@@ -216,22 +232,30 @@ module _ (d : Deal) (times : Timeouts) (policy : PolicyFacts) (packets : List Pa
   merge at (p ∷ ps) [] trace some_worker seen same left = absurd seen
   merge at (p ∷ ps) (view ∷ views) trace some_worker seen same left =
       let worker : ℕ = worker_of d at (flow_shown view) in
-      let f = first worker at view views (trace worker) (left worker (worker_few d at (flow_shown view) some_worker)) refl in
+      let f =
+      first worker at view views (trace worker)
+      (left worker (worker_few d at (flow_shown view) some_worker)) refl in
       let more = merge (at + 1) ps views (without trace worker f.rest) some_worker seen.1
       (λ k. ap (slice_get packets) (let e : at + 1 + k ≡ at + suc k = omega arith in e) ∙ same (suc k))
       (left_without at view views trace worker refl f left) in
       record {
         merged = f.item ∷ more.merged;
         each = All-cons IsSaid f.item more.merged f.own.is more.each;
-        read = (subst (λ (q : PacketFacts). IsReading policy q f.item.reading) (this f.item.packet f.own.of.packet f.here f.own.of.there) f.own.of.read, more.read);
+        read = (
+          subst (λ (q : PacketFacts). IsReading policy q f.item.reading)
+              (this f.item.packet f.own.of.packet f.here f.own.of.there) f.own.of.read,
+          more.read,
+        );
         placed = next_placed at f.item more.merged f.here more.placed;
         dealt = λ family w few. dealt_with at worker f.item f.rest more.merged trace f.split
-            (ap (λ k. worker_of d k (flow_in f.item.reading)) (sym f.here) ∙ f.own.of.dealt) family w (more.dealt family w few);
+            (ap (λ k. worker_of d k (flow_in f.item.reading)) (sym f.here) ∙ f.own.of.dealt) family w
+            (more.dealt family w few);
       }
     where
       this : (number : ℕ) (packet : PacketFacts) → number ≡ at → slice_get packets number ≡ Some packet → packet ≡ p
       this number packet here stands =
-          let there : Some p ≡ Some packet = sym (ap (slice_get packets) (let e : at ≡ at + 0 = omega arith in here ∙ e) ∙ same 0) ∙ stands in
+          let there : Some p ≡ Some packet =
+          sym (ap (slice_get packets) (let e : at ≡ at + 0 = omega arith in here ∙ e) ∙ same 0) ∙ stands in
           let e : packet ≡ p = cc in e
 
 -- ---- All workers
@@ -258,7 +282,8 @@ trace_of : (times : Timeouts) (family : Family) (ts : List (List Item)) (rs : Li
 trace_of times family [] [] w r all at = absurd (some-ne-none r (sym at))
 trace_of times family [] (x ∷ xs) w r all at = absurd all
 trace_of times family (t ∷ ts) [] w r all at = absurd (some-ne-none r (sym at))
-trace_of times family (t ∷ ts) (x ∷ xs) zero r all at = (t, refl, subst (HasCalls times family t) (some-injective x r at) all.0)
+trace_of times family (t ∷ ts) (x ∷ xs) zero r all at =
+    (t, refl, subst (HasCalls times family t) (some-injective x r at) all.0)
 trace_of times family (t ∷ ts) (x ∷ xs) (suc w) r all at = trace_of times family ts xs w r all.1 at
 
 -- a list whose elements are at their places
@@ -269,35 +294,44 @@ same_list times [] [] count each = refl
 same_list times [] (v ∷ vs) count each = absurd (omega arith)
 same_list times (i ∷ is) [] count each = absurd (omega arith)
 same_list times (i ∷ is) (v ∷ vs) count each =
-    (λ k. some-injective v (verdict_in times i) (each 0 i refl) k ∷ same_list times is vs (omega arith) (λ k j at. each (suc k) j at) k)
+    (λ k. some-injective v (verdict_in times i) (each 0 i refl) k ∷ same_list times is vs (omega arith)
+    (λ k j at. each (suc k) j at) k)
 
 -- what is known of the items of one worker's trace
-own_items : (d : Deal) (times : Timeouts) (policy : PolicyFacts) (packets : List PacketFacts) (traces : List (List Item)) (verdicts : List Verdict)
-    → ArePlaced times packets traces verdicts → (w : ℕ) (t : List Item) → get_elem? traces w ≡ some t → IsTrace d times w policy packets t
-    → All (IsOwn d times policy packets verdicts w) t
-own_items d times policy packets traces verdicts placed w t at is = all_from (IsOwn d times policy packets verdicts w) t (λ k i stands. record {
-  is = record { item = all_at (IsItem d.layout times) t k i is.items stands; said = placed.each w t at k i stands };
-  of = all_at (IsItemOf d w policy packets) t k i is.of stands;
-})
+own_items : (d : Deal) (times : Timeouts) (policy : PolicyFacts) (packets : List PacketFacts)
+    (traces : List (List Item)) (verdicts : List Verdict)
+    → ArePlaced times packets traces verdicts → (w : ℕ) (t : List Item) → get_elem? traces w ≡ some t
+    → IsTrace d times w policy packets t → All (IsOwn d times policy packets verdicts w) t
+own_items d times policy packets traces verdicts placed w t at is =
+    all_from (IsOwn d times policy packets verdicts w) t (λ k i stands. record {
+      is = record { item = all_at (IsItem d.layout times) t k i is.items stands; said = placed.each w t at k i stands };
+      of = all_at (IsItemOf d w policy packets) t k i is.of stands;
+    })
 
-pub judge_each_packet : (d : Deal) (times : Timeouts) (policy : PolicyFacts) (packets : List PacketFacts) (traces : List (List Item)) (v : Views)
+pub judge_each_packet : (d : Deal) (times : Timeouts) (policy : PolicyFacts) (packets : List PacketFacts)
+    (traces : List (List Item)) (v : Views)
     (verdicts : List Verdict) → 0 < d.workers → AreTraces d times policy packets traces
-    → ((family : Family) → AreGathered d times family traces (view_in v family)) → ArePlaced times packets traces verdicts
-    → AreJudged d times policy packets verdicts
+    → ((family : Family) → AreGathered d times family traces (view_in v family))
+    → ArePlaced times packets traces verdicts → AreJudged d times policy packets verdicts
 judge_each_packet d times policy packets traces v verdicts some_worker are gathered placed =
     let vs = all_views policy.own packets in
     let m = merge d times policy packets verdicts 0 packets vs.0 (trace_or traces) some_worker vs.1
     (λ k. ap (slice_get packets) (let e : 0 + k ≡ k = omega arith in e))
     (λ w few. let t = there traces w (let count = are.count in omega arith) in let is = are.each w t.0 t.1 in
     subst (λ x. IsLeft d times policy packets verdicts w 0 vs.0 x) (sym (trace_there traces w t.0 t.1))
-    (record { numbers = is.dealt vs.0 vs.1; own = own_items d times policy packets traces verdicts placed w t.0 t.1 is })) in
+    (record {
+      numbers = is.dealt vs.0 vs.1;
+      own = own_items d times policy packets traces verdicts placed w t.0 t.1 is;
+    })) in
     record {
       judged = map judged_of m.merged;
       read = m.read;
       asked = All-map (IsAsked times) judged_of m.merged
-          (All-weaker (IsSaid d times policy packets verdicts) (λ i. IsAsked times (judged_of i)) (λ i is. is.item.asked) m.merged m.each);
+          (All-weaker (IsSaid d times policy packets verdicts) (λ i. IsAsked times (judged_of i))
+          (λ i is. is.item.asked) m.merged m.each);
       said = same_list times m.merged verdicts
-          (placed.count ∙ zip_count (IsReading policy) packets (readings_of (map judged_of m.merged)) m.read ∙ counted m.merged)
+          (placed.count ∙ zip_count (IsReading policy) packets (readings_of (map judged_of m.merged)) m.read
+          ∙ counted m.merged)
           (λ k i at. let e : 0 + k ≡ k = omega arith in ap (get_elem? verdicts) (sym (m.placed k i at ∙ e))
           ∙ (all_at (IsSaid d times policy packets verdicts) m.merged k i m.each at).said);
       views = v;

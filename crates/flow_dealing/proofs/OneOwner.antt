@@ -44,7 +44,8 @@ pub record IsOwner (d : Deal) (home : Home) (w : ℕ) : Type 0 where
   pub few : w < d.workers
   pub each : (number : ℕ) (flow : Flow) → home_of d.layout flow.key ≡ home → worker_of d number (Some flow) ≡ w
 
-pub owner : (d : Deal) (home : Home) → 0 < d.workers → (d.dealing ≡ Bucket) ⊎ (d.workers ≡ 1) → (w : ℕ) × IsOwner d home w
+pub owner : (d : Deal) (home : Home) → 0 < d.workers → (d.dealing ≡ Bucket) ⊎ (d.workers ≡ 1)
+    → (w : ℕ) × IsOwner d home w
 owner d home some_worker (inl by_bucket) = (
   home.bucket % d.workers,
   record {
@@ -67,14 +68,17 @@ owner d home some_worker (inr one) = (
 abbrev events_on : Sizes → ℕ → List Event → List Event
 events_on z b es = filter (λ e. bucket_of z e.key == b) es
 
-on_bucket : (z : Sizes) (b : ℕ) (calls : List Call) → ((k : ℕ) (c : Call) → get_elem? calls k ≡ some c → bucket_of z c.key ≡ c.bucket)
+on_bucket : (z : Sizes) (b : ℕ) (calls : List Call)
+    → ((k : ℕ) (c : Call) → get_elem? calls k ≡ some c → bucket_of z c.key ≡ c.bucket)
     → map event_of (calls_on b calls) ≡ events_on z b (map event_of calls)
 on_bucket z b [] home = refl
 on_bucket z b (c ∷ cs) home = go (c.bucket == b)
     ∙ ap₂ (λ (k : ℕ) (es : List Event). cond (k == b) (event_of c ∷ es) es) (sym (home 0 c refl))
     (on_bucket z b cs (λ k x at. home (suc k) x at))
   where
-    go : (t : Bool) → map event_of (cond t (c ∷ calls_on b cs) (calls_on b cs)) ≡ cond t (event_of c ∷ map event_of (calls_on b cs)) (map event_of (calls_on b cs))
+    go : (t : Bool)
+        → map event_of (cond t (c ∷ calls_on b cs) (calls_on b cs))
+        ≡ cond t (event_of c ∷ map event_of (calls_on b cs)) (map event_of (calls_on b cs))
     go true = refl
     go false = refl
 
@@ -89,12 +93,14 @@ module _ (d : Deal) (times : Timeouts) (family : Family) (b w : ℕ)
   -- ---- The owner's events on the bucket are the packets'
 
   -- the key of a flow of the family is of that bucket
-  key_home : (flow : Flow) → family_of flow.key ≡ family → bucket_of z (words_of flow.key) ≡ b → home_of d.layout flow.key ≡ home
+  key_home : (flow : Flow) → family_of flow.key ≡ family → bucket_of z (words_of flow.key) ≡ b
+      → home_of d.layout flow.key ≡ home
   key_home flow inside is =
       (λ i. record { family = inside i; bucket = bucket_of (sizes_in d.layout (inside i)) (words_of flow.key) })
       ∙ ap (λ (k : ℕ). record { family = family; bucket = k }) is
 
-  one_more : (n : ℕ) (f : Option Flow) (event : Option Event) (E R : List Event) → IsFlowEvent f event → events_on z b E ≡ R
+  one_more : (n : ℕ) (f : Option Flow) (event : Option Event) (E R : List Event) → IsFlowEvent f event
+      → events_on z b E ≡ R
       → events_on z b (cond (worker_of d n f == w) (add_flow family f event E) E) ≡ add_flow_at d.layout home f event R
   one_more n None event E R its same = go (worker_of d n None == w)
     where
@@ -102,7 +108,8 @@ module _ (d : Deal) (times : Timeouts) (family : Family) (b w : ℕ)
       go true = same
       go false = same
   one_more n (Some flow) event E R its same =
-      subst (λ ev. events_on z b (cond (worker_of d n (Some flow) == w) (add_flow family (Some flow) ev E) E) ≡ add_flow_at d.layout home (Some flow) ev R)
+      subst (λ ev. events_on z b (cond (worker_of d n (Some flow) == w) (add_flow family (Some flow) ev E) E)
+      ≡ add_flow_at d.layout home (Some flow) ev R)
       (sym its.1) (go (same_family family (family_of flow.key)) refl (eqb_tells b (home_of d.layout flow.key).bucket))
     where
       e : Event
@@ -117,7 +124,8 @@ module _ (d : Deal) (times : Timeouts) (family : Family) (b w : ℕ)
       skips test false = same
 
       of_key : family_of flow.key ≡ family → bucket_of z e.key ≡ (home_of d.layout flow.key).bucket
-      of_key inside = ap (bucket_of z) its.2 ∙ ap (λ g. bucket_of (sizes_in d.layout g) (words_of flow.key)) (sym inside)
+      of_key inside =
+          ap (bucket_of z) its.2 ∙ ap (λ g. bucket_of (sizes_in d.layout g) (words_of flow.key)) (sym inside)
 
       go : (s : Bool) → same_family family (family_of flow.key) ≡ s
           → (((b == (home_of d.layout flow.key).bucket) ≡ true) × (b ≡ (home_of d.layout flow.key).bucket))
@@ -130,7 +138,8 @@ module _ (d : Deal) (times : Timeouts) (family : Family) (b w : ℕ)
           let its_bucket : bucket_of z e.key ≡ b = of_key inside ∙ sym here in
           let mine : (worker_of d n (Some flow) == w) ≡ true = elim (eqb_tells (worker_of d n (Some flow)) w) [
             | inl (hit, _) ↦ hit
-            | inr (miss, other) ↦ absurd (other (own.each n flow (key_home flow inside (ap (bucket_of z) (sym its.2) ∙ its_bucket))))
+            | inr (miss, other) ↦
+                absurd (other (own.each n flow (key_home flow inside (ap (bucket_of z) (sym its.2) ∙ its_bucket))))
           ] in
           let hit : (bucket_of z e.key == b) ≡ true = elim (eqb_tells (bucket_of z e.key) b) [
             | inl (hit, _) ↦ hit
@@ -152,13 +161,17 @@ module _ (d : Deal) (times : Timeouts) (family : Family) (b w : ℕ)
   its_events n [] asked = ap (events_on z b) (events_by-nil d times family w n)
   its_events n (j ∷ js) asked =
       ap (events_on z b) (events_by-flow d times family w n j js)
-      ∙ (one_more n (flow_in j.reading) j.event (events_by d times family w (n + 1) js) (events_at d.layout times home js)
-      (asked_flow times j (All-head (IsAsked times) j js asked)) (its_events (n + 1) js (All-tail (IsAsked times) j js asked))
+      ∙ (one_more n (flow_in j.reading) j.event (events_by d times family w (n + 1) js)
+      (events_at d.layout times home js)
+      (asked_flow times j (All-head (IsAsked times) j js asked))
+      (its_events (n + 1) js (All-tail (IsAsked times) j js asked))
       ∙ sym (add_event-flow d.layout home times j.reading j.event (events_at d.layout times home js)))
 
-  module _ (js : List Judged) (v : View) (recorded : AreRecorded d times family js v) (asked : AreAsked times js) (inside : b < buckets z) where
+  module _ (js : List Judged) (v : View) (recorded : AreRecorded d times family js v) (asked : AreAsked times js)
+      (inside : b < buckets z) where
     -- a call on the bucket is in the owner's record
-    owner_of_call : (i k : ℕ) (r : Record) (c : Call) → get_elem? v.records i ≡ some r → get_elem? r.calls k ≡ some c → c.bucket ≡ b → i ≡ w
+    owner_of_call : (i k : ℕ) (r : Record) (c : Call) → get_elem? v.records i ≡ some r → get_elem? r.calls k ≡ some c
+        → c.bucket ≡ b → i ≡ w
     owner_of_call i k r c at_i at_k is =
         let f = packet_of_event d times family i 0 js asked k (event_of c)
         (ap (λ es. get_elem? es k) (sym (recorded.each i r at_i)) ∙ after_map event_of r.calls k c at_k) in
@@ -185,5 +198,6 @@ module _ (d : Deal) (times : Timeouts) (family : Family) (b w : ℕ)
           map_now v b,
           length (known_at v.known b),
           subst (λ es. IsRun (bounds_of z) empty 0 es (map_now v b) (length (known_at v.known b))) its
-              (subst (λ m. IsRun (bounds_of z) m 0 (map event_of (calls_on b r.0.calls)) (map_now v b) (length (known_at v.known b))) start run),
+              (subst (λ m. IsRun (bounds_of z) m 0 (map event_of (calls_on b r.0.calls)) (map_now v b)
+              (length (known_at v.known b))) start run),
         )

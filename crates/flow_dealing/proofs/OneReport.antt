@@ -26,8 +26,8 @@ use Rattle.flow_dealing.proofs.Refusals.{IsWant, refusal_is_verdict, wants}
 module _ (d : Deal) (times : Timeouts) (policy : PolicyFacts) (packets : List PacketFacts) (verdicts : List Verdict)
     (are : AreJudged d times policy packets verdicts) where
   -- a packet whose event was refused for want of pages is told so
-  refused : (k : ℕ) (j : Judged) (e : Event) (log2 left : ℕ) → get_elem? are.judged k ≡ some j → j.event ≡ Some e → e.reply ≡ reply.NoPages log2 left
-      → verdict_on times j ≡ verdict.NoPages
+  refused : (k : ℕ) (j : Judged) (e : Event) (log2 left : ℕ) → get_elem? are.judged k ≡ some j → j.event ≡ Some e
+      → e.reply ≡ reply.NoPages log2 left → verdict_on times j ≡ verdict.NoPages
   refused k j e log2 left at its short = go (flow_in j.reading) refl
     where
       asked : IsAsked times j
@@ -40,13 +40,19 @@ module _ (d : Deal) (times : Timeouts) (policy : PolicyFacts) (packets : List Pa
       go (Some flow) is =
           let family : Family = family_of flow.key in
           let recorded = are.recorded family in
-          let c = call_of_packet d times family are.judged (view_in are.views family) recorded k j flow e at is refl its in
-          let want = wants (sizes_in d.layout family) (view_in are.views family) c.at c.place c.record_at c.call log2 left recorded.lawful
+          let c =
+          call_of_packet d times family are.judged (view_in are.views family) recorded k j flow e at is refl its in
+          let want =
+          wants (sizes_in d.layout family)
+          (view_in are.views family) c.at c.place c.record_at c.call log2 left recorded.lawful
           c.stands c.called (ap (λ (x : Event). x.reply) c.event ∙ short) in
-          refusal_is_verdict times j.reading j.event flow e (bounds_of (sizes_in d.layout family)) log2 left is asked its
-          (subst (λ (x : Event). IsWant (bounds_of (sizes_in d.layout family)) x.found x.change log2 left) c.event want) short
+          refusal_is_verdict times j.reading j.event flow e
+          (bounds_of (sizes_in d.layout family)) log2 left is asked its
+          (subst (λ (x : Event). IsWant (bounds_of (sizes_in d.layout family)) x.found x.change log2 left) c.event want)
+          short
 
-  pub one_report : (d.dealing ≡ Bucket) ⊎ (d.workers ≡ 1) → HavePages verdicts → AreVerdicts d.layout times policy packets verdicts
+  pub one_report : (d.dealing ≡ Bucket) ⊎ (d.workers ≡ 1) → HavePages verdicts
+      → AreVerdicts d.layout times policy packets verdicts
   one_report one paged = record {
     judged = are.judged;
     read = are.read;
@@ -54,11 +60,14 @@ module _ (d : Deal) (times : Timeouts) (policy : PolicyFacts) (packets : List Pa
       asked = are.asked;
       runs = λ home inside.
           let recorded = are.recorded home.family in
-          let o = owner d home (some_worker d times home.family are.judged (view_in are.views home.family) recorded) one in
-          runs_at d times home.family home.bucket o.0 o.1 are.judged (view_in are.views home.family) recorded are.asked inside;
+          let o =
+          owner d home (some_worker d times home.family are.judged (view_in are.views home.family) recorded) one in
+          runs_at d times home.family home.bucket o.0 o.1 are.judged
+          (view_in are.views home.family) recorded are.asked inside;
       paged = all_from HasPages are.judged (λ k j at e its log2 left short.
           all_at (λ v. v ≢ verdict.NoPages) verdicts k (verdict_on times j) paged
-          (ap (λ vs. get_elem? vs k) are.said ∙ after_map (verdict_on times) are.judged k j at) (refused k j e log2 left at its short));
+          (ap (λ vs. get_elem? vs k) are.said ∙ after_map (verdict_on times) are.judged k j at)
+          (refused k j e log2 left at its short));
     };
     said = are.said;
   }

@@ -47,22 +47,27 @@ add_in-flow : (family : Family) (times : Timeouts) (reading : Reading) (event : 
 add_in-flow family times (Framed verdict) event events = refl
 add_in-flow family times (Ruled moment tuple ruling) event events = go (flow_of tuple) event
   where
-    go : (f : Option Flow) (ev : Option Event) → add_in family (option_map (update_in times moment tuple ruling) f) ev events ≡ add_flow family f ev events
+    go : (f : Option Flow) (ev : Option Event)
+        → add_in family (option_map (update_in times moment tuple ruling) f) ev events ≡ add_flow family f ev events
     go None ev = refl
     go (Some flow) None = refl
     go (Some flow) (Some e) = refl
 
-pub add_event-flow : (l : Layout) (home : Home) (times : Timeouts) (reading : Reading) (event : Option Event) (events : List Event)
+pub add_event-flow : (l : Layout) (home : Home) (times : Timeouts) (reading : Reading) (event : Option Event)
+    (events : List Event)
     → add_event l home (update_of times reading) event events ≡ add_flow_at l home (flow_in reading) event events
 add_event-flow l home times (Framed verdict) event events = refl
 add_event-flow l home times (Ruled moment tuple ruling) event events = go (flow_of tuple) event
   where
-    go : (f : Option Flow) (ev : Option Event) → add_event l home (option_map (update_in times moment tuple ruling) f) ev events ≡ add_flow_at l home f ev events
+    go : (f : Option Flow) (ev : Option Event)
+        → add_event l home (option_map (update_in times moment tuple ruling) f) ev events
+        ≡ add_flow_at l home f ev events
     go None ev = refl
     go (Some flow) None = refl
     go (Some flow) (Some e) = refl
 
-asked_in : (times : Timeouts) (reading : Reading) (event : Option Event) → IsAskedBy (update_of times reading) event → IsFlowEvent (flow_in reading) event
+asked_in : (times : Timeouts) (reading : Reading) (event : Option Event) → IsAskedBy (update_of times reading) event
+    → IsFlowEvent (flow_in reading) event
 asked_in times (Framed verdict) event asked = asked
 asked_in times (Ruled moment tuple ruling) event asked = go (flow_of tuple) asked
   where
@@ -76,7 +81,8 @@ asked_flow times j asked = asked_in times j.reading j.event asked
 -- a worker's events, whether the first packet is its own, by the packet's flow
 pub events_by-flow : (d : Deal) (times : Timeouts) (family : Family) (w n : ℕ) (j : Judged) (js : List Judged)
     → events_by d times family w n (j ∷ js) ≡ cond (worker_of d n (flow_in j.reading) == w)
-    (add_flow family (flow_in j.reading) j.event (events_by d times family w (n + 1) js)) (events_by d times family w (n + 1) js)
+    (add_flow family (flow_in j.reading) j.event (events_by d times family w (n + 1) js))
+    (events_by d times family w (n + 1) js)
 events_by-flow d times family w n j js = events_by-cons d times family w n j js
     ∙ ap (λ es. cond (worker_of d n (flow_in j.reading) == w) es (events_by d times family w (n + 1) js))
     (add_in-flow family times j.reading j.event (events_by d times family w (n + 1) js))
@@ -92,13 +98,16 @@ module _ (d : Deal) (times : Timeouts) (family : Family) where
     pub key : e.key ≡ words_of flow.key
     pub dealt : worker_of d number (Some flow) ≡ w
 
-  from_first : (w n k : ℕ) (f : Option Flow) (event : Option Event) (E : List Event) (e : Event) → IsFlowEvent f event → worker_of d n f ≡ w
+  from_first : (w n k : ℕ) (f : Option Flow) (event : Option Event) (E : List Event) (e : Event) → IsFlowEvent f event
+      → worker_of d n f ≡ w
       → get_elem? (add_flow family f event E) k ≡ some e → ((m : ℕ) → get_elem? E m ≡ some e → IsFrom w e) → IsFrom w e
   from_first w n k None event E e its mine at more = more k at
   from_first w n k (Some flow) event E e its mine at more =
-      go (same_family family (family_of flow.key)) refl k (ap (λ ev. get_elem? (add_flow family (Some flow) ev E) k) (sym its.1) ∙ at)
+      go (same_family family (family_of flow.key)) refl k
+      (ap (λ ev. get_elem? (add_flow family (Some flow) ev E) k) (sym its.1) ∙ at)
     where
-      go : (t : Bool) → same_family family (family_of flow.key) ≡ t → (m : ℕ) → get_elem? (if t then its.0 ∷ E else E) m ≡ some e → IsFrom w e
+      go : (t : Bool) → same_family family (family_of flow.key) ≡ t → (m : ℕ)
+          → get_elem? (if t then its.0 ∷ E else E) m ≡ some e → IsFrom w e
       go true is zero there = record {
         number = n;
         flow = flow;
@@ -111,9 +120,11 @@ module _ (d : Deal) (times : Timeouts) (family : Family) where
 
   pub packet_of_event : (w n : ℕ) (js : List Judged) → AreAsked times js → (k : ℕ) (e : Event)
       → get_elem? (events_by d times family w n js) k ≡ some e → IsFrom w e
-  packet_of_event w n [] asked k e at = absurd (some-ne-none e (sym (ap (λ es. get_elem? es k) (sym (events_by-nil d times family w n)) ∙ at)))
+  packet_of_event w n [] asked k e at =
+      absurd (some-ne-none e (sym (ap (λ es. get_elem? es k) (sym (events_by-nil d times family w n)) ∙ at)))
   packet_of_event w n (j ∷ js) asked k e at = elim (eqb_tells (worker_of d n (flow_in j.reading)) w) [
-    | inl (test, mine) ↦ from_first w n k (flow_in j.reading) j.event E e (asked_flow times j (All-head (IsAsked times) j js asked)) mine
+    | inl (test, mine) ↦ from_first w n k (flow_in j.reading) j.event E e
+        (asked_flow times j (All-head (IsAsked times) j js asked)) mine
         (ap (λ b. get_elem? (cond b (add_flow family (flow_in j.reading) j.event E) E) k) (sym test) ∙ here)
         (λ m there. packet_of_event w (n + 1) js (All-tail (IsAsked times) j js asked) m e there)
     | inr (test, other) ↦ packet_of_event w (n + 1) js (All-tail (IsAsked times) j js asked) k e
@@ -123,7 +134,8 @@ module _ (d : Deal) (times : Timeouts) (family : Family) where
       E : List Event
       E = events_by d times family w (n + 1) js
 
-      here : get_elem? (cond (worker_of d n (flow_in j.reading) == w) (add_flow family (flow_in j.reading) j.event E) E) k ≡ some e
+      here : get_elem? (cond (worker_of d n (flow_in j.reading) == w) (add_flow family (flow_in j.reading) j.event E) E)
+          k ≡ some e
       here = ap (λ es. get_elem? es k) (sym (events_by-flow d times family w n j js)) ∙ at
 
   -- ---- The event of a packet
@@ -131,7 +143,8 @@ module _ (d : Deal) (times : Timeouts) (family : Family) where
   abbrev Stands : List Event → Event → Type 0
   Stands es e = (p : ℕ) × (get_elem? es p ≡ some e)
 
-  behind : (f : Option Flow) (event : Option Event) (E : List Event) (e : Event) → Stands E e → Stands (add_flow family f event E) e
+  behind : (f : Option Flow) (event : Option Event) (E : List Event) (e : Event) → Stands E e
+      → Stands (add_flow family f event E) e
   behind None event E e s = s
   behind (Some flow) None E e s = s
   behind (Some flow) (Some x) E e s = go (same_family family (family_of flow.key))
@@ -140,9 +153,10 @@ module _ (d : Deal) (times : Timeouts) (family : Family) where
       go true = (suc s.0, s.1)
       go false = s
 
-  pub event_of_packet : (w n : ℕ) (js : List Judged) (k : ℕ) (j : Judged) (flow : Flow) (e : Event) → get_elem? js k ≡ some j
-      → flow_in j.reading ≡ Some flow → family_of flow.key ≡ family → j.event ≡ Some e → worker_of d (n + k) (Some flow) ≡ w
-      → Stands (events_by d times family w n js) e
+  pub event_of_packet : (w n : ℕ) (js : List Judged) (k : ℕ) (j : Judged) (flow : Flow) (e : Event)
+      → get_elem? js k ≡ some j
+      → flow_in j.reading ≡ Some flow → family_of flow.key ≡ family → j.event ≡ Some e
+      → worker_of d (n + k) (Some flow) ≡ w → Stands (events_by d times family w n js) e
   event_of_packet w n [] k j flow e at has inside its mine = absurd (some-ne-none j (sym at))
   event_of_packet w n (x ∷ js) zero j flow e at has inside its mine =
       let same : x ≡ j = some-injective x j at in
@@ -150,16 +164,22 @@ module _ (d : Deal) (times : Timeouts) (family : Family) where
       ∙ (ap (worker_of d n) has ∙ (let z : n ≡ n + 0 = omega arith in ap (λ m. worker_of d m (Some flow)) z ∙ mine)) in
       let E : List Event = events_by d times family w (n + 1) js in
       let first : add_flow family (flow_in x.reading) x.event E ≡ e ∷ E =
-      ap₂ (λ f ev. add_flow family f ev E) (ap (λ (y : Judged). flow_in y.reading) same ∙ has) (ap (λ (y : Judged). y.event) same ∙ its)
+      ap₂ (λ f ev. add_flow family f ev E) (ap (λ (y : Judged). flow_in y.reading) same ∙ has)
+      (ap (λ (y : Judged). y.event) same ∙ its)
       ∙ ap (λ (b : Bool). if b then e ∷ E else E) (ap (same_family family) inside ∙ family_as_itself family) in (
         0,
         ap (λ es. get_elem? es 0) (events_by-flow d times family w n x js)
             ∙ (ap (λ (b : Bool). get_elem? (cond b (add_flow family (flow_in x.reading) x.event E) E) 0)
-            (elim (eqb_tells (worker_of d n (flow_in x.reading)) w) [ inl (test, _) ↦ test | inr (test, other) ↦ absurd (other own) ])
+            (elim (eqb_tells (worker_of d n (flow_in x.reading)) w) [
+              | inl (test, _) ↦ test
+              | inr (test, other) ↦
+                  absurd (other own)
+            ])
             ∙ ap (λ es. get_elem? es 0) first),
       )
   event_of_packet w n (x ∷ js) (suc k) j flow e at has inside its mine =
-      subst (λ es. Stands es e) (sym (events_by-flow d times family w n x js)) (later (worker_of d n (flow_in x.reading) == w)
+      subst (λ es. Stands es e) (sym (events_by-flow d times family w n x js))
+      (later (worker_of d n (flow_in x.reading) == w)
       (event_of_packet w (n + 1) js k j flow e at has inside its
       (let z : n + 1 + k ≡ n + suc k = omega arith in ap (λ m. worker_of d m (Some flow)) z ∙ mine)))
     where
@@ -185,11 +205,13 @@ module _ (d : Deal) (times : Timeouts) (family : Family) where
     pub some_worker : 0 < d.workers
     some_worker = let acts = recorded.lawful.acts in let count = recorded.count in omega arith
 
-    pub call_of_packet : (k : ℕ) (j : Judged) (flow : Flow) (e : Event) → get_elem? js k ≡ some j → flow_in j.reading ≡ Some flow
-        → family_of flow.key ≡ family → j.event ≡ Some e → IsCallFor v e
+    pub call_of_packet : (k : ℕ) (j : Judged) (flow : Flow) (e : Event) → get_elem? js k ≡ some j
+        → flow_in j.reading ≡ Some flow → family_of flow.key ≡ family → j.event ≡ Some e → IsCallFor v e
     call_of_packet k j flow e at has inside its =
         let w : ℕ = worker_of d k (Some flow) in
-        let r = there v.records w (let few = worker_few d k (Some flow) some_worker in let count = recorded.count in omega arith) in
+        let r =
+        there v.records w (let few = worker_few d k (Some flow) some_worker in let count = recorded.count in
+        omega arith) in
         let number : 0 + k ≡ k = omega arith in
         let s = event_of_packet w 0 js k j flow e at has inside its (ap (λ m. worker_of d m (Some flow)) number) in
         let c = before_map event_of r.0.calls s.0 e (ap (λ es. get_elem? es s.0) (recorded.each w r.0 r.1) ∙ s.1) in

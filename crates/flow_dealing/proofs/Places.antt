@@ -28,7 +28,8 @@ module _ {X : Type 0} where
   before_map f (x ∷ xs) zero y at = (x, refl, some-injective (f x) y at)
   before_map f (x ∷ xs) (suc k) y at = before_map f xs k y at
 
-  pub after_map : {Y : Type 0} (f : X → Y) (xs : List X) (k : ℕ) (x : X) → get_elem? xs k ≡ some x → get_elem? (map f xs) k ≡ some (f x)
+  pub after_map : {Y : Type 0} (f : X → Y) (xs : List X) (k : ℕ) (x : X) → get_elem? xs k ≡ some x
+      → get_elem? (map f xs) k ≡ some (f x)
   after_map f [] k x at = absurd (some-ne-none x (sym at))
   after_map f (y ∷ ys) zero x at = ap (λ z. some (f z)) (some-injective y x at)
   after_map f (y ∷ ys) (suc k) x at = after_map f ys k x at

@@ -66,17 +66,21 @@ pub record IsWant (b : Bounds) (found : Option ℕ) (change : Change) (log2 left
 wants_new : (b : Bounds) (m m' : Pairs) (e : Event) (value log2 left : ℕ) (may room : Bool)
     → Answers (if may then (if room then NewKey else NoRoom) else WornOut) b m e m' → e.reply ≡ reply.NoPages log2 left
     → IsWant b None (Set value) log2 left
-wants_new b m m' e value log2 left true true (inl sure) short = absurd (changed_pages None log2 left (sym sure.0 ∙ short))
+wants_new b m m' e value log2 left true true (inl sure) short =
+    absurd (changed_pages None log2 left (sym sure.0 ∙ short))
 wants_new b m m' e value log2 left true true (inr ((other, rest, is, small, few), same)) short =
     let told : reply.NoPages other rest ≡ reply.NoPages log2 left = sym is ∙ short in record {
       absent = refl;
       value = value;
       sets = refl;
       small = subst (λ k. k ≤ b.max_log2) (same_log2 other rest log2 left told) small;
-      few = subst (λ k. left < 2 ^ k) (same_log2 other rest log2 left told) (subst (λ k. k < 2 ^ other) (same_left other rest log2 left told) few);
+      few =
+          subst (λ k. left < 2 ^ k) (same_log2 other rest log2 left told)
+          (subst (λ k. k < 2 ^ other) (same_left other rest log2 left told) few);
     }
 wants_new b m m' e value log2 left true false answers short = absurd (full_pages log2 left (sym answers.0 ∙ short))
-wants_new b m m' e value log2 left false room answers short = absurd (worn_pages e.found log2 left (sym answers.0 ∙ short))
+wants_new b m m' e value log2 left false room answers short =
+    absurd (worn_pages e.found log2 left (sym answers.0 ∙ short))
 
 present : (b : Bounds) (m m' : Pairs) (e : Event) (log2 left : ℕ) (may : Bool)
     → Answers (if may then OldKey else WornOut) b m e m' → e.reply ≡ reply.NoPages log2 left → ⊥
@@ -86,28 +90,35 @@ present b m m' e log2 left false answers short = worn_pages e.found log2 left (s
 wants_at : (b : Bounds) (pairs w : ℕ) (found : Option ℕ) (change : Change) (e : Event) (m m' : Pairs) (log2 left : ℕ)
     → Answers (case_with b pairs w found (effect_of change found)) b m e m' → e.reply ≡ reply.NoPages log2 left
     → IsWant b found change log2 left
-wants_at b pairs w found Keep e m m' log2 left answers short = absurd (kept_pages e.found log2 left (sym answers.0 ∙ short))
-wants_at b pairs w None Remove e m m' log2 left answers short = absurd (kept_pages e.found log2 left (sym answers.0 ∙ short))
-wants_at b pairs w (Some old) Remove e m m' log2 left answers short = absurd (present b m m' e log2 left (nat_lt w b.limit) answers short)
+wants_at b pairs w found Keep e m m' log2 left answers short =
+    absurd (kept_pages e.found log2 left (sym answers.0 ∙ short))
+wants_at b pairs w None Remove e m m' log2 left answers short =
+    absurd (kept_pages e.found log2 left (sym answers.0 ∙ short))
+wants_at b pairs w (Some old) Remove e m m' log2 left answers short =
+    absurd (present b m m' e log2 left (nat_lt w b.limit) answers short)
 wants_at b pairs w None (Set value) e m m' log2 left answers short =
     wants_new b m m' e value log2 left (nat_lt w b.limit) (nat_lt pairs (most_pairs b)) answers short
 wants_at b pairs w (Some old) (Set value) e m m' log2 left answers short = go (old == value) answers
   where
-    go : (s : Bool) → Answers (case_with b pairs w (Some old) (if s then Keep else Set value)) b m e m' → IsWant b (Some old) (Set value) log2 left
+    go : (s : Bool) → Answers (case_with b pairs w (Some old) (if s then Keep else Set value)) b m e m'
+        → IsWant b (Some old) (Set value) log2 left
     go true x = absurd (kept_pages e.found log2 left (sym x.0 ∙ short))
     go false x = absurd (present b m m' e log2 left (nat_lt w b.limit) x short)
 
 -- ---- In a record
 
-pub legal_call : (z : Sizes) (v : View) (i k : ℕ) (r : Record) (c : Call) → IsLawfulCaller z v → get_elem? v.records i ≡ some r
+pub legal_call : (z : Sizes) (v : View) (i k : ℕ) (r : Record) (c : Call) → IsLawfulCaller z v
+    → get_elem? v.records i ≡ some r
     → get_elem? r.calls k ≡ some c → IsLegal z (opening_at v.known c.bucket) (known_at v.known c.bucket) r.number c
 legal_call z v i k r c caller at_i at_k = caller.lawful.legal i k r c at_i at_k
 
-pub wants : (z : Sizes) (v : View) (i k : ℕ) (r : Record) (c : Call) (log2 left : ℕ) → IsLawfulCaller z v → get_elem? v.records i ≡ some r
+pub wants : (z : Sizes) (v : View) (i k : ℕ) (r : Record) (c : Call) (log2 left : ℕ) → IsLawfulCaller z v
+    → get_elem? v.records i ≡ some r
     → get_elem? r.calls k ≡ some c → c.reply ≡ reply.NoPages log2 left → IsWant (bounds_of z) c.found c.change log2 left
 wants z v i k r c log2 left caller at_i at_k short =
     let answer = (legal_call z v i k r c caller at_i at_k).other (ap is_changed short) in
-    wants_at (bounds_of z) (len (after (opening_at v.known c.bucket) (known_at v.known c.bucket) c.stamp)) c.stamp c.found c.change (event_of c)
+    wants_at (bounds_of z) (len (after (opening_at v.known c.bucket) (known_at v.known c.bucket) c.stamp)) c.stamp
+    c.found c.change (event_of c)
     (after (opening_at v.known c.bucket) (known_at v.known c.bucket) c.stamp) answer.0 log2 left answer.1.answers short
 
 -- ---- In the verdict
@@ -118,21 +129,25 @@ sets_reflects patch value sets = go patch.reflects refl
   where
     go : (t : Bool) → patch.reflects ≡ t → patch.reflects ≡ true
     go true e = e
-    go false e = let kept : decision_of patch None ≡ Keep = rw e refl in let clash = sym kept ∙ sets in let f : ⊥ = cc in absurd f
+    go false e = let kept : decision_of patch None ≡ Keep = rw e refl in let clash = sym kept ∙ sets in
+        let f : ⊥ = cc in absurd f
 
 -- a reflecting packet that is refused for want of pages is told so
 refused_is_told : (patch : PatchFacts) (ruling : Ruling) (starts : Bool) (found : Option ℕ) (r : Reply) (log2 left : ℕ)
     → patch.reflects ≡ (reflects ruling && starts) → found ≡ None → patch.reflects ≡ true → r ≡ reply.NoPages log2 left
     → verdict_of patch ruling found r ≡ verdict.NoPages
-refused_is_told patch ruling starts found r log2 left is absent sure short = rw absent (rw short (rw sure (go ruling (sym is ∙ sure))))
+refused_is_told patch ruling starts found r log2 left is absent sure short =
+    rw absent (rw short (rw sure (go ruling (sym is ∙ sure))))
   where
     go : (d : Ruling) → (reflects d && starts) ≡ true → verdict_reflected d (reply.NoPages log2 left) ≡ verdict.NoPages
     go None clash = let f : ⊥ = cc in absurd f
     go (Some decided) ok = refl
 
 -- a packet whose event was refused for want of pages has that verdict
-pub refusal_is_verdict : (times : Timeouts) (reading : Reading) (event : Option Event) (flow : Flow) (e : Event) (b : Bounds) (log2 left : ℕ)
-    → flow_in reading ≡ Some flow → IsAskedBy (update_of times reading) event → event ≡ Some e → IsWant b e.found e.change log2 left
+pub refusal_is_verdict : (times : Timeouts) (reading : Reading) (event : Option Event) (flow : Flow) (e : Event)
+    (b : Bounds) (log2 left : ℕ)
+    → flow_in reading ≡ Some flow → IsAskedBy (update_of times reading) event → event ≡ Some e
+    → IsWant b e.found e.change log2 left
     → e.reply ≡ reply.NoPages log2 left → verdict_with times reading event ≡ verdict.NoPages
 refusal_is_verdict times (Framed said) event flow e b log2 left has asked its want short = let f : ⊥ = cc in absurd f
 refusal_is_verdict times (Ruled moment tuple ruling) event flow e b log2 left has asked its want short =
@@ -144,8 +159,10 @@ refusal_is_verdict times (Ruled moment tuple ruling) event flow e b log2 left ha
     go (Some other) is a =
         let patch : PatchFacts = (update_in times moment tuple ruling other).patch in
         let same : a.0 ≡ e = let both : Some a.0 ≡ Some e = sym a.1 ∙ its in cc in
-        let decided : e.change ≡ decision_of patch e.found = subst (λ (x : Event). x.change ≡ decision_of patch x.found) same a.2.change in
-        let sure = sets_reflects patch want.value (ap (decision_of patch) (sym want.absent) ∙ (sym decided ∙ want.sets)) in
+        let decided : e.change ≡ decision_of patch e.found =
+        subst (λ (x : Event). x.change ≡ decision_of patch x.found) same a.2.change in
+        let sure =
+        sets_reflects patch want.value (ap (decision_of patch) (sym want.absent) ∙ (sym decided ∙ want.sets)) in
         ap (verdict_by_event ruling (Some (update_in times moment tuple ruling other))) its
         ∙ refused_is_told patch ruling other.starts e.found e.reply log2 left refl want.absent sure short
 
@@ -169,17 +186,20 @@ reflected_says_other : (ruling : Ruling) (r : Reply) → IsNoRefusal r → verdi
 reflected_says_other None r paged e = let f : ⊥ = cc in f
 reflected_says_other (Some decided) r paged e = entered_says_other (decided.0 + 1) r paged e
 
-verdict_says_other : (patch : PatchFacts) (ruling : Ruling) (found : Option ℕ) (r : Reply) → IsNoRefusal r → verdict_of patch ruling found r ≢ verdict.NoPages
+verdict_says_other : (patch : PatchFacts) (ruling : Ruling) (found : Option ℕ) (r : Reply) → IsNoRefusal r
+    → verdict_of patch ruling found r ≢ verdict.NoPages
 verdict_says_other patch ruling found r paged = go (is_live_for patch found) patch.reflects
   where
-    go : (s t : Bool) → (if s then verdict.Session else (if t then verdict_reflected ruling r else verdict_of_rules ruling)) ≢ verdict.NoPages
+    go : (s t : Bool)
+        → (if s then verdict.Session else (if t then verdict_reflected ruling r else verdict_of_rules ruling))
+        ≢ verdict.NoPages
     go true t e = let f : ⊥ = cc in f
     go false true e = reflected_says_other ruling r paged e
     go false false e = rules_say_other ruling e
 
 -- a packet whose event wasn't refused for want of pages has another verdict
-pub paged_is_told : (times : Timeouts) (policy : PolicyFacts) (packet : PacketFacts) (j : Judged) → IsReading policy packet j.reading → HasPages j
-    → verdict_on times j ≢ verdict.NoPages
+pub paged_is_told : (times : Timeouts) (policy : PolicyFacts) (packet : PacketFacts) (j : Judged)
+    → IsReading policy packet j.reading → HasPages j → verdict_on times j ≢ verdict.NoPages
 paged_is_told times policy packet j read paged = go read.0 read.2
   where
     ruled : (u : Option Update) (ruling : Ruling) (event : Option Event) → ForSome event (λ e. IsNoRefusal e.reply)
@@ -188,9 +208,14 @@ paged_is_told times policy packet j read paged = go read.0 read.2
     ruled (Some u) ruling None has e = rules_say_other ruling e
     ruled (Some u) ruling (Some x) has e = verdict_says_other u.patch ruling x.found x.reply (has x refl) e
 
-    go : (view : frames.FrameFacts) → IsReadingOf policy packet.moment view j.reading → verdict_on times j ≢ verdict.NoPages
-    go frames.NotIp is = subst (λ (r : Reading). verdict_with times r j.event ≢ verdict.NoPages) (sym is) (λ e. let f : ⊥ = cc in f)
-    go frames.Malformed is = subst (λ (r : Reading). verdict_with times r j.event ≢ verdict.NoPages) (sym is) (λ e. let f : ⊥ = cc in f)
-    go frames.Short is = subst (λ (r : Reading). verdict_with times r j.event ≢ verdict.NoPages) (sym is) (λ e. let f : ⊥ = cc in f)
-    go (frames.Ip direction tuple) is = subst (λ (r : Reading). verdict_with times r j.event ≢ verdict.NoPages) (sym is.2)
+    go : (view : frames.FrameFacts) → IsReadingOf policy packet.moment view j.reading
+        → verdict_on times j ≢ verdict.NoPages
+    go frames.NotIp is =
+        subst (λ (r : Reading). verdict_with times r j.event ≢ verdict.NoPages) (sym is) (λ e. let f : ⊥ = cc in f)
+    go frames.Malformed is =
+        subst (λ (r : Reading). verdict_with times r j.event ≢ verdict.NoPages) (sym is) (λ e. let f : ⊥ = cc in f)
+    go frames.Short is =
+        subst (λ (r : Reading). verdict_with times r j.event ≢ verdict.NoPages) (sym is) (λ e. let f : ⊥ = cc in f)
+    go (frames.Ip direction tuple) is =
+        subst (λ (r : Reading). verdict_with times r j.event ≢ verdict.NoPages) (sym is.2)
         (ruled (update_of times (Ruled packet.moment tuple is.0)) is.0 j.event paged)

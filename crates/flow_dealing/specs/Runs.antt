@@ -72,7 +72,8 @@ AreFew l times family js = keyed times family js * 2 ^ (sizes_in l family).max_l
 
 -- a packet of this family's flows was not refused for want of pages, and its verdict doesn't say so
 abbrev pub HasPagesIn : Timeouts → Family → Judged → Type 0
-HasPagesIn times family j = is_in family (update_of times j.reading) ≡ true → HasPages j × (verdict_on times j ≢ NoPages)
+HasPagesIn times family j =
+    is_in family (update_of times j.reading) ≡ true → HasPages j × (verdict_on times j ≢ NoPages)
 
 -- no verdict says no-pages
 abbrev pub HavePages : List Verdict → Type 0

@@ -47,7 +47,8 @@ pub record IsItem (l : Layout) (times : Timeouts) (i : Item) : Type 0 where
   pub placed : IsCallAt l (update_of times i.reading) i.call
 
 -- the item is of a packet of this worker, and has its reading
-pub record IsItemOf (d : Deal) (worker : ℕ) (policy : PolicyFacts) (packets : List PacketFacts) (i : Item) : Type 0 where
+pub record IsItemOf (d : Deal) (worker : ℕ) (policy : PolicyFacts) (packets : List PacketFacts)
+    (i : Item) : Type 0 where
   pub packet : PacketFacts
   pub there : slice_get packets i.packet ≡ Some packet
   pub read : IsReading policy packet i.reading
@@ -82,7 +83,8 @@ pub record IsTrace (d : Deal) (times : Timeouts) (worker : ℕ) (policy : Policy
     (trace : List Item) : Type 0 where
   pub items : All (IsItem d.layout times) trace
   pub of : All (IsItemOf d worker policy packets) trace
-  pub dealt : (views : List frames.FrameFacts) → AreViews policy.own packets views → numbers_of trace ≡ numbers_from d worker 0 views
+  pub dealt : (views : List frames.FrameFacts) → AreViews policy.own packets views
+      → numbers_of trace ≡ numbers_from d worker 0 views
 
 -- the record has the calls of this trace
 abbrev pub HasCalls : Timeouts → Family → List Item → Record → Type 0
@@ -94,18 +96,21 @@ pub record HaveTraces (times : Timeouts) (family : Family) (traces : List (List 
   pub openings : v.known.openings ≡ []
 
 -- the traces are those of all workers, in their order
-pub record AreTraces (d : Deal) (times : Timeouts) (policy : PolicyFacts) (packets : List PacketFacts) (traces : List (List Item)) : Type 0 where
+pub record AreTraces (d : Deal) (times : Timeouts) (policy : PolicyFacts) (packets : List PacketFacts)
+    (traces : List (List Item)) : Type 0 where
   pub count : length traces ≡ d.workers
   pub each : (w : ℕ) (trace : List Item) → get_elem? traces w ≡ some trace → IsTrace d times w policy packets trace
 
 -- one family's callers of these workers, all of them, as one caller that is lawful and whole
-pub record AreGathered (d : Deal) (times : Timeouts) (family : Family) (traces : List (List Item)) (v : View) : Type 0 where
+pub record AreGathered (d : Deal) (times : Timeouts) (family : Family) (traces : List (List Item))
+    (v : View) : Type 0 where
   pub lawful : IsLawfulCaller (sizes_in d.layout family) v
   pub told : IsToldWhole (sizes_in d.layout family) v
   pub did : HaveTraces times family traces v
 
 -- each packet's verdict is at its place
-pub record ArePlaced (times : Timeouts) (packets : List PacketFacts) (traces : List (List Item)) (verdicts : List Verdict) : Type 0 where
+pub record ArePlaced (times : Timeouts) (packets : List PacketFacts) (traces : List (List Item))
+    (verdicts : List Verdict) : Type 0 where
   pub count : length verdicts ≡ length packets
-  pub each : (w : ℕ) (trace : List Item) → get_elem? traces w ≡ some trace → (k : ℕ) (i : Item) → get_elem? trace k ≡ some i
-      → get_elem? verdicts i.packet ≡ some (verdict_in times i)
+  pub each : (w : ℕ) (trace : List Item) → get_elem? traces w ≡ some trace → (k : ℕ) (i : Item)
+      → get_elem? trace k ≡ some i → get_elem? verdicts i.packet ≡ some (verdict_in times i)

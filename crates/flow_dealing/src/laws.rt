@@ -17,8 +17,9 @@ ghost use Rattle.flow_dealing.specs.Runs.{AreFew, AreJudged, HasPagesIn, HavePag
 /// Where each worker judged the packets that were dealt to it, each packet was judged once, and its event
 /// is in the record of its worker.
 pub fn traces_judge_each_packet()
-    ensures { (d : Deal) (times : Timeouts) (policy : PolicyFacts) (packets : List PacketFacts) (traces : List (List Item))
-        (v : Views) (verdicts : List Verdict) → 0 < d.workers → AreTraces d times policy packets traces
+    ensures { (d : Deal) (times : Timeouts) (policy : PolicyFacts) (packets : List PacketFacts)
+        (traces : List (List Item)) (v : Views) (verdicts : List Verdict)
+        → 0 < d.workers → AreTraces d times policy packets traces
         → ((family : Family) → AreGathered d times family traces (view_in v family))
         → ArePlaced times packets traces verdicts → AreJudged d times policy packets verdicts }
 {}
@@ -26,7 +27,8 @@ pub fn traces_judge_each_packet()
 /// With one worker, or where packets are dealt by bucket, and no verdict says that pages were wanting, the
 /// verdicts are those of the one-thread filter.
 pub fn workers_give_one_report()
-    ensures { (d : Deal) (times : Timeouts) (policy : PolicyFacts) (packets : List PacketFacts) (verdicts : List Verdict)
+    ensures { (d : Deal) (times : Timeouts) (policy : PolicyFacts) (packets : List PacketFacts)
+        (verdicts : List Verdict)
         → AreJudged d times policy packets verdicts → (d.dealing ≡ Bucket) ⊎ (d.workers ≡ 1) → HavePages verdicts
         → AreVerdicts d.layout times policy packets verdicts }
 {}
@@ -34,10 +36,10 @@ pub fn workers_give_one_report()
 /// With so few packets of a family's flows that its pages can't run out, none of them is refused for want of
 /// pages, and none of their verdicts says that pages were wanting; with so few of both families no verdict does.
 pub fn few_packets_have_pages()
-    ensures one_family { (d : Deal) (times : Timeouts) (policy : PolicyFacts) (packets : List PacketFacts) (verdicts : List Verdict)
-        (are : AreJudged d times policy packets verdicts) (family : Family) → AreFew d.layout times family are.judged
-        → All (HasPagesIn times family) are.judged }
-    ensures both_families { (d : Deal) (times : Timeouts) (policy : PolicyFacts) (packets : List PacketFacts) (verdicts : List Verdict)
-        (are : AreJudged d times policy packets verdicts)
+    ensures one_family { (d : Deal) (times : Timeouts) (policy : PolicyFacts) (packets : List PacketFacts)
+        (verdicts : List Verdict) (are : AreJudged d times policy packets verdicts) (family : Family)
+        → AreFew d.layout times family are.judged → All (HasPagesIn times family) are.judged }
+    ensures both_families { (d : Deal) (times : Timeouts) (policy : PolicyFacts) (packets : List PacketFacts)
+        (verdicts : List Verdict) (are : AreJudged d times policy packets verdicts)
         → ((family : Family) → AreFew d.layout times family are.judged) → HavePages verdicts }
 {}

@@ -23,10 +23,13 @@ family_as_itself V6 = refl
 pub homes_are_one : (a b : Home) → same_home a b ≡ true → a ≡ b
 homes_are_one a b same =
     let parts = and_parts (same_family a.family b.family) (a.bucket == b.bucket) same in
-    ap₂ (λ f n. record { family = f; bucket = n }) (families_are_one a.family b.family parts.0) (eqb-true a.bucket b.bucket parts.1)
+    ap₂ (λ f n. record { family = f; bucket = n }) (families_are_one a.family b.family parts.0)
+    (eqb-true a.bucket b.bucket parts.1)
 
 pub same_as_itself : (a : Home) → same_home a a ≡ true
-same_as_itself a = and_from (same_family a.family a.family) (a.bucket == a.bucket) (family_as_itself a.family) (eq-eqb a.bucket a.bucket refl)
+same_as_itself a =
+    and_from (same_family a.family a.family) (a.bucket == a.bucket) (family_as_itself a.family)
+    (eq-eqb a.bucket a.bucket refl)
 
 -- the bucket of a key is one of its table
 pub is_home : (l : Layout) (key : FlowKey) → IsHome l (home_of l key)

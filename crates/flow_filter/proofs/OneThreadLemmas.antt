@@ -28,9 +28,11 @@ abbrev pub Runs : Bounds → Pairs → ℕ → List Event → Type 0
 Runs b m w events = (last : Pairs) × (writes : ℕ) × IsRun b m w events last writes
 
 -- one thread, where the buckets held this and had changed so often
-pub record IsThread (l : Layout) (times : Timeouts) (maps : Home → Pairs) (counts : Home → ℕ) (js : List Judged) : Type 0 where
+pub record IsThread (l : Layout) (times : Timeouts) (maps : Home → Pairs) (counts : Home → ℕ)
+    (js : List Judged) : Type 0 where
   pub asked : AreAsked times js
-  pub runs : (home : Home) → IsHome l home → Runs (bounds_in l home.family) (maps home) (counts home) (events_at l times home js)
+  pub runs : (home : Home) → IsHome l home
+      → Runs (bounds_in l home.family) (maps home) (counts home) (events_at l times home js)
   pub paged : All HasPages js
 
 -- what the buckets hold, and how often they changed, after an event of the bucket `at`
@@ -41,13 +43,14 @@ abbrev counts_after : (Home → ℕ) → Home → Event → Home → ℕ
 counts_after counts at e = with counts at (counts at + writes_of e.reply)
 
 -- a run of a bucket after an event that may be of it, with that event
-before_run : (l : Layout) (home at : Home) (maps : Home → Pairs) (counts : Home → ℕ) (n : Pairs) (e : Event) (events : List Event)
-    → IsEvent (bounds_in l at.family) (maps at) (counts at) e n
+before_run : (l : Layout) (home at : Home) (maps : Home → Pairs) (counts : Home → ℕ) (n : Pairs) (e : Event)
+    (events : List Event) → IsEvent (bounds_in l at.family) (maps at) (counts at) e n
     → Runs (bounds_in l home.family) (maps_after maps at n home) (counts_after counts at e home) events
     → Runs (bounds_in l home.family) (maps home) (counts home) (if same_home home at then e ∷ events else events)
 before_run l home at maps counts n e events step =
     elim (same_home home at) as (λ t. same_home home at ≡ t
-    → Runs (bounds_in l home.family) (if t then n else maps home) (if t then counts at + writes_of e.reply else counts home) events
+    → Runs (bounds_in l home.family) (if t then n else maps home)
+    (if t then counts at + writes_of e.reply else counts home) events
     → Runs (bounds_in l home.family) (maps home) (counts home) (if t then e ∷ events else events)) [
       | true ↦ λ same. subst (λ h. Runs (bounds_in l h.family) n (counts at + writes_of e.reply) events
           → Runs (bounds_in l h.family) (maps h) (counts h) (e ∷ events)) (sym (homes_are_one home at same))
@@ -58,12 +61,14 @@ before_run l home at maps counts n e events step =
 -- a run of a bucket with an event that may be of it, after that event
 after_run : (l : Layout) (home at : Home) (maps : Home → Pairs) (counts : Home → ℕ) (n : Pairs) (e : Event)
     (events : Home → List Event) → Runs (bounds_in l at.family) n (counts at + writes_of e.reply) (events at)
-    → Runs (bounds_in l home.family) (maps home) (counts home) (if same_home home at then e ∷ events home else events home)
+    → Runs (bounds_in l home.family) (maps home) (counts home)
+    (if same_home home at then e ∷ events home else events home)
     → Runs (bounds_in l home.family) (maps_after maps at n home) (counts_after counts at e home) (events home)
 after_run l home at maps counts n e events here =
     elim (same_home home at) as (λ t. same_home home at ≡ t
     → Runs (bounds_in l home.family) (maps home) (counts home) (if t then e ∷ events home else events home)
-    → Runs (bounds_in l home.family) (if t then n else maps home) (if t then counts at + writes_of e.reply else counts home) (events home)) [
+    → Runs (bounds_in l home.family) (if t then n else maps home)
+    (if t then counts at + writes_of e.reply else counts home) (events home)) [
       | true ↦ λ same run. subst (λ h. Runs (bounds_in l h.family) n (counts at + writes_of e.reply) (events h))
           (sym (homes_are_one home at same)) here
       | false ↦ λ other run. run
@@ -74,21 +79,28 @@ abbrev pub Thread : Layout → Timeouts → (Home → Pairs) → (Home → ℕ) 
 Thread l times maps counts readings = (js : List Judged) × (readings_of js ≡ readings) × IsThread l times maps counts js
 
 -- one more packet, which has no update
-one_unasked : (l : Layout) (times : Timeouts) (maps : Home → Pairs) (counts : Home → ℕ) (reading : Reading) (readings : List Reading)
-    → update_of times reading ≡ None → Thread l times maps counts readings → Thread l times maps counts (reading ∷ readings)
+one_unasked : (l : Layout) (times : Timeouts) (maps : Home → Pairs) (counts : Home → ℕ) (reading : Reading)
+    (readings : List Reading)
+    → update_of times reading ≡ None → Thread l times maps counts readings
+    → Thread l times maps counts (reading ∷ readings)
 one_unasked l times maps counts reading readings none (js, same, thread) = (
   record { reading = reading; event = None } ∷ js,
   ap (λ rs. reading ∷ rs) same,
   record {
-    asked = All-cons (IsAsked times) (record { reading = reading; event = None }) js (subst (λ u. IsAskedBy u None) (sym none) refl) thread.asked;
+    asked =
+        All-cons (IsAsked times) (record { reading = reading; event = None }) js
+        (subst (λ u. IsAskedBy u None) (sym none) refl) thread.asked;
     runs = λ home is. subst (λ u. Runs (bounds_in l home.family) (maps home) (counts home)
         (add_event l home u None (events_at l times home js))) (sym none) (thread.runs home is);
-    paged = All-cons HasPages (record { reading = reading; event = None }) js (λ e is. let f : ⊥ = cc in absurd f) thread.paged;
+    paged =
+        All-cons HasPages (record { reading = reading; event = None }) js
+        (λ e is. let f : ⊥ = cc in absurd f) thread.paged;
   },
 )
 
 -- one more packet with this update and this event
-one_asked : (l : Layout) (times : Timeouts) (maps : Home → Pairs) (counts : Home → ℕ) (reading : Reading) (readings : List Reading)
+one_asked : (l : Layout) (times : Timeouts) (maps : Home → Pairs) (counts : Home → ℕ) (reading : Reading)
+    (readings : List Reading)
     (u : Update) (e : Event) (n : Pairs) → update_of times reading ≡ Some u → IsEventOf u e → IsNoRefusal e.reply
     → IsEvent (bounds_in l (home_of l u.key).family) (maps (home_of l u.key)) (counts (home_of l u.key)) e n
     → Thread l times (maps_after maps (home_of l u.key) n) (counts_after counts (home_of l u.key) e) readings
@@ -97,22 +109,27 @@ one_asked l times maps counts reading readings u e n is of paged step (js, same,
   record { reading = reading; event = Some e } ∷ js,
   ap (λ rs. reading ∷ rs) same,
   record {
-    asked = All-cons (IsAsked times) (record { reading = reading; event = Some e }) js (subst (λ u. IsAskedBy u (Some e)) (sym is) (e, refl, of)) thread.asked;
+    asked =
+        All-cons (IsAsked times) (record { reading = reading; event = Some e }) js
+        (subst (λ u. IsAskedBy u (Some e)) (sym is) (e, refl, of)) thread.asked;
     runs = λ home at. subst (λ u. Runs (bounds_in l home.family) (maps home) (counts home)
         (add_event l home u (Some e) (events_at l times home js))) (sym is)
         (before_run l home (home_of l u.key) maps counts n e (events_at l times home js) step (thread.runs home at));
-    paged = All-cons HasPages (record { reading = reading; event = Some e }) js (λ f at. subst (λ (f : Event). IsNoRefusal f.reply) (let s : e ≡ f = cc in s) paged) thread.paged;
+    paged =
+        All-cons HasPages (record { reading = reading; event = Some e }) js
+        (λ f at. subst (λ (f : Event). IsNoRefusal f.reply) (let s : e ≡ f = cc in s) paged) thread.paged;
   },
 )
 
-one_more : (l : Layout) (times : Timeouts) (maps : Home → Pairs) (counts : Home → ℕ) (reading : Reading) (readings : List Reading)
-    → ((maps : Home → Pairs) (counts : Home → ℕ) → Thread l times maps counts readings)
+one_more : (l : Layout) (times : Timeouts) (maps : Home → Pairs) (counts : Home → ℕ) (reading : Reading)
+    (readings : List Reading) → ((maps : Home → Pairs) (counts : Home → ℕ) → Thread l times maps counts readings)
     → (u : Option Update) → update_of times reading ≡ u → Thread l times maps counts (reading ∷ readings)
 one_more l times maps counts reading readings rest None none =
     one_unasked l times maps counts reading readings none (rest maps counts)
 one_more l times maps counts reading readings rest (Some u) is =
     let at = home_of l u.key in
-    let (reply, n, paged, step) = some_call (bounds_in l at.family) (maps at) (counts at) (words_of u.key) (decision_of u.patch) in
+    let (reply, n, paged, step) =
+    some_call (bounds_in l at.family) (maps at) (counts at) (words_of u.key) (decision_of u.patch) in
     let e : Event = record {
       key = words_of u.key;
       found = get (maps at) (words_of u.key);
@@ -125,35 +142,49 @@ one_more l times maps counts reading readings rest (Some u) is =
 -- packets of each list of readings can be judged on one thread
 pub some_thread : (l : Layout) (times : Timeouts) (readings : List Reading) (maps : Home → Pairs) (counts : Home → ℕ)
     → Thread l times maps counts readings
-some_thread l times [] maps counts =
-    ([], refl, record { asked = All-nil (IsAsked times); runs = λ home is. (maps home, counts home, (refl, refl)); paged = All-nil HasPages })
+some_thread l times [] maps counts = (
+  [],
+  refl,
+  record {
+    asked = All-nil (IsAsked times);
+    runs = λ home is. (maps home, counts home, (refl, refl));
+    paged = All-nil HasPages;
+  },
+)
 some_thread l times (reading ∷ readings) maps counts =
     one_more l times maps counts reading readings (some_thread l times readings) (update_of times reading) refl
 
 -- the first of packets that are judged on one thread, with its event, and the packets after it
-record IsFirst (l : Layout) (times : Timeouts) (maps : Home → Pairs) (counts : Home → ℕ) (u : Update) (j : Judged) (js : List Judged) : Type 0 where
+record IsFirst (l : Layout) (times : Timeouts) (maps : Home → Pairs) (counts : Home → ℕ) (u : Update) (j : Judged)
+    (js : List Judged) : Type 0 where
   pub event : Event
   pub left : Pairs
   pub is : j.event ≡ Some event
   pub of : IsEventOf u event
   pub paged : IsNoRefusal event.reply
-  pub step : IsEvent (bounds_in l (home_of l u.key).family) (maps (home_of l u.key)) (counts (home_of l u.key)) event left
-  pub behind : IsThread l times (maps_after maps (home_of l u.key) left) (counts_after counts (home_of l u.key) event) js
+  pub step : IsEvent (bounds_in l (home_of l u.key).family) (maps (home_of l u.key))
+      (counts (home_of l u.key)) event left
+  pub behind : IsThread l times (maps_after maps (home_of l u.key) left)
+      (counts_after counts (home_of l u.key) event) js
 
 -- the events on a bucket begin with the packet's where its key is of it
-pub events_are : (l : Layout) (times : Timeouts) (home : Home) (u : Option Update) (e : Option Event) (j : Judged) (js : List Judged)
-    → update_of times j.reading ≡ u → j.event ≡ e
+pub events_are : (l : Layout) (times : Timeouts) (home : Home) (u : Option Update) (e : Option Event) (j : Judged)
+    (js : List Judged) → update_of times j.reading ≡ u → j.event ≡ e
     → events_at l times home (j ∷ js) ≡ add_event l home u e (events_at l times home js)
 events_are l times home u e j js is at = ap₂ (λ u e. add_event l home u e (events_at l times home js)) is at
 
-first_asked : (l : Layout) (times : Timeouts) (maps : Home → Pairs) (counts : Home → ℕ) (u : Update) (j : Judged) (js : List Judged)
+first_asked : (l : Layout) (times : Timeouts) (maps : Home → Pairs) (counts : Home → ℕ) (u : Update) (j : Judged)
+    (js : List Judged)
     → update_of times j.reading ≡ Some u → IsThread l times maps counts (j ∷ js) → IsFirst l times maps counts u j js
 first_asked l times maps counts u j js is thread =
-    let (e, at, of) : IsAskedBy (Some u) j.event = subst (λ u. IsAskedBy u j.event) is (All-head (IsAsked times) j js thread.asked) in
+    let (e, at, of) : IsAskedBy (Some u) j.event =
+    subst (λ u. IsAskedBy u j.event) is (All-head (IsAsked times) j js thread.asked) in
     let home : Home = home_of l u.key in
     let events : Home → List Event = λ h. events_at l times h js in
-    let runs : (h : Home) → IsHome l h → Runs (bounds_in l h.family) (maps h) (counts h) (add_event l h (Some u) (Some e) (events h)) =
-    λ h in_table. subst (Runs (bounds_in l h.family) (maps h) (counts h)) (events_are l times h (Some u) (Some e) j js is at) (thread.runs h in_table) in
+    let runs : (h : Home) → IsHome l h
+    → Runs (bounds_in l h.family) (maps h) (counts h) (add_event l h (Some u) (Some e) (events h)) =
+    λ h in_table. subst (Runs (bounds_in l h.family) (maps h) (counts h))
+    (events_are l times h (Some u) (Some e) j js is at) (thread.runs h in_table) in
     let (last, writes, (n, step, rest)) : Runs (bounds_in l home.family) (maps home) (counts home) (e ∷ events home) =
     subst (λ t. Runs (bounds_in l home.family) (maps home) (counts home) (if t then e ∷ events home else events home))
     (same_as_itself home) (runs home (is_home l u.key)) in
@@ -171,14 +202,18 @@ first_asked l times maps counts u j js is thread =
       };
     }
 
-first_unasked : (l : Layout) (times : Timeouts) (maps : Home → Pairs) (counts : Home → ℕ) (j : Judged) (js : List Judged)
-    → update_of times j.reading ≡ None → IsThread l times maps counts (j ∷ js) → (j.event ≡ None) × IsThread l times maps counts js
+first_unasked : (l : Layout) (times : Timeouts) (maps : Home → Pairs) (counts : Home → ℕ) (j : Judged)
+    (js : List Judged)
+    → update_of times j.reading ≡ None → IsThread l times maps counts (j ∷ js)
+    → (j.event ≡ None) × IsThread l times maps counts js
 first_unasked l times maps counts j js none thread =
     let at : j.event ≡ None = subst (λ u. IsAskedBy u j.event) none (All-head (IsAsked times) j js thread.asked) in (
       at,
       record {
         asked = All-tail (IsAsked times) j js thread.asked;
-        runs = λ h in_table. subst (Runs (bounds_in l h.family) (maps h) (counts h)) (events_are l times h None None j js none at) (thread.runs h in_table);
+        runs = λ h in_table.
+            subst (Runs (bounds_in l h.family) (maps h) (counts h)) (events_are l times h None None j js none at)
+            (thread.runs h in_table);
         paged = All-tail HasPages j js thread.paged;
       },
     )
@@ -187,9 +222,10 @@ same_judged : (j k : Judged) → j.reading ≡ k.reading → j.event ≡ k.event
 same_judged j k readings events = ap₂ (λ r e. record { reading = r; event = e }) readings events
 
 -- where both lists of the packets after are one, both lists are
-one_by_update : (l : Layout) (times : Timeouts) (maps : Home → Pairs) (counts : Home → ℕ) (j k : Judged) (js ks : List Judged)
-    → j.reading ≡ k.reading → (u : Option Update) → update_of times j.reading ≡ u
-    → ((maps : Home → Pairs) (counts : Home → ℕ) → IsThread l times maps counts js → IsThread l times maps counts ks → js ≡ ks)
+one_by_update : (l : Layout) (times : Timeouts) (maps : Home → Pairs) (counts : Home → ℕ) (j k : Judged)
+    (js ks : List Judged) → j.reading ≡ k.reading → (u : Option Update) → update_of times j.reading ≡ u
+    → ((maps : Home → Pairs) (counts : Home → ℕ) → IsThread l times maps counts js → IsThread l times maps counts ks
+    → js ≡ ks)
     → IsThread l times maps counts (j ∷ js) → IsThread l times maps counts (k ∷ ks) → (j ∷ js) ≡ (k ∷ ks)
 one_by_update l times maps counts j k js ks same None none rest one two =
     let a = first_unasked l times maps counts j js none one in
@@ -199,11 +235,13 @@ one_by_update l times maps counts j k js ks same (Some u) is rest one two =
     let home : Home = home_of l u.key in
     let a = first_asked l times maps counts u j js is one in
     let b = first_asked l times maps counts u k ks (ap (update_of times) (sym same) ∙ is) two in
-    let both = one_call (bounds_in l home.family) (maps home) a.left b.left (counts home) (decision_of u.patch) a.event b.event
+    let both =
+    one_call (bounds_in l home.family) (maps home) a.left b.left (counts home) (decision_of u.patch) a.event b.event
     (a.of.key ∙ sym b.of.key) a.of.change b.of.change a.paged b.paged a.step b.step in
     let behind : IsThread l times (maps_after maps home a.left) (counts_after counts home a.event) ks =
     subst (λ n. IsThread l times (maps_after maps home n) (counts_after counts home a.event) ks) (sym both.1)
-    (subst (λ e. IsThread l times (maps_after maps home b.left) (counts_after counts home e) ks) (sym both.0) b.behind) in
+    (subst (λ e. IsThread l times (maps_after maps home b.left) (counts_after counts home e) ks)
+    (sym both.0) b.behind) in
     ap₂ (λ x xs. x ∷ xs) (same_judged j k same (a.is ∙ ap Some both.0 ∙ sym b.is))
     (rest (maps_after maps home a.left) (counts_after counts home a.event) a.behind behind)
 
@@ -219,8 +257,8 @@ one_thread l times (j ∷ js) (k ∷ ks) maps counts same one two =
     one_by_update l times maps counts j k js ks here (update_of times j.reading) refl
     (λ maps counts. one_thread l times js ks maps counts rest) one two
 
-of_one_thread : (l : Layout) (times : Timeouts) (opening : Home → Pairs) (js : List Judged) → IsOneThread l times opening js
-    → IsThread l times opening (λ home. 0) js
+of_one_thread : (l : Layout) (times : Timeouts) (opening : Home → Pairs) (js : List Judged)
+    → IsOneThread l times opening js → IsThread l times opening (λ home. 0) js
 of_one_thread l times opening js is = record { asked = is.asked; runs = is.runs; paged = is.paged }
 
 -- the same of the one-thread filter
@@ -230,23 +268,32 @@ some_judged l times opening readings =
     let (js, same, is) = some_thread l times readings opening (λ home. 0) in
     (js, same, record { asked = is.asked; runs = is.runs; paged = is.paged })
 
-pub one_judged : (l : Layout) (times : Timeouts) (opening : Home → Pairs) (js ks : List Judged) → readings_of js ≡ readings_of ks
-    → IsOneThread l times opening js → IsOneThread l times opening ks → js ≡ ks
+pub one_judged : (l : Layout) (times : Timeouts) (opening : Home → Pairs) (js ks : List Judged)
+    → readings_of js ≡ readings_of ks → IsOneThread l times opening js → IsOneThread l times opening ks → js ≡ ks
 one_judged l times opening js ks same one two =
-    one_thread l times js ks opening (λ home. 0) same (of_one_thread l times opening js one) (of_one_thread l times opening ks two)
+    one_thread l times js ks opening (λ home. 0) same (of_one_thread l times opening js one)
+    (of_one_thread l times opening ks two)
 
 -- the packets of a capture have verdicts
 pub some_verdicts : (l : Layout) (times : Timeouts) (policy : PolicyFacts) (packets : List PacketFacts)
     → (verdicts : List Verdict) × AreVerdicts l times policy packets verdicts
 some_verdicts l times policy packets =
     let (readings, are) = some_readings policy packets in
-    let (js, same, is) = some_judged l times nothing readings in
-    (verdicts_on times js, record { judged = js; read = subst (AreReadings policy packets) (sym same) are; one_thread = is; said = refl })
+    let (js, same, is) = some_judged l times nothing readings in (
+      verdicts_on times js,
+      record {
+        judged = js;
+        read = subst (AreReadings policy packets) (sym same) are;
+        one_thread = is;
+        said = refl;
+      },
+    )
 
 -- and one list of them
-pub one_verdicts : (l : Layout) (times : Timeouts) (policy : PolicyFacts) (packets : List PacketFacts) (a b : List Verdict)
-    → AreVerdicts l times policy packets a → AreVerdicts l times policy packets b → a ≡ b
+pub one_verdicts : (l : Layout) (times : Timeouts) (policy : PolicyFacts) (packets : List PacketFacts)
+    (a b : List Verdict) → AreVerdicts l times policy packets a → AreVerdicts l times policy packets b → a ≡ b
 one_verdicts l times policy packets a b one two =
     let same = one_judged l times nothing one.judged two.judged
-    (one_readings policy packets (readings_of one.judged) (readings_of two.judged) one.read two.read) one.one_thread two.one_thread in
+    (one_readings policy packets (readings_of one.judged) (readings_of two.judged) one.read two.read) one.one_thread
+    two.one_thread in
     one.said ∙ ap (verdicts_on times) same ∙ sym two.said

@@ -29,7 +29,8 @@ add_append l home None e front back = refl
 add_append l home (Some u) None front back = refl
 add_append l home (Some u) (Some e) front back = go (same_home home (home_of l u.key))
   where
-    go : (here : Bool) → (if here then e ∷ (front ++ back) else front ++ back) ≡ ((if here then e ∷ front else front) ++ back)
+    go : (here : Bool)
+        → (if here then e ∷ (front ++ back) else front ++ back) ≡ ((if here then e ∷ front else front) ++ back)
     go true = refl
     go false = refl
 
@@ -39,7 +40,8 @@ pub events_append : (l : Layout) (times : Timeouts) (home : Home) (before after 
 events_append l times home [] after = refl
 events_append l times home (j ∷ before) after =
     ap (add_event l home (update_of times j.reading) j.event) (events_append l times home before after)
-    ∙ add_append l home (update_of times j.reading) j.event (events_at l times home before) (events_at l times home after)
+    ∙ add_append l home (update_of times j.reading) j.event (events_at l times home before)
+    (events_at l times home after)
 
 -- the packet's event on its bucket, with those of the packets after it
 own_events : (l : Layout) (times : Timeouts) (u : Update) (e : Event) (j : Judged) (after : List Judged)
@@ -51,18 +53,21 @@ own_events l times u e j after is at =
     ∙ ap (λ t. if t then e ∷ events_at l times home after else events_at l times home after) (same_as_itself home)
 
 -- the packet's one event, between what was left before it and what it leaves
-record IsPlaced (l : Layout) (times : Timeouts) (opening : Home → Pairs) (before : List Judged) (j : Judged) (u : Update) : Type 0 where
+record IsPlaced (l : Layout) (times : Timeouts) (opening : Home → Pairs) (before : List Judged) (j : Judged)
+    (u : Update) : Type 0 where
   pub event : Event
   pub is : j.event ≡ Some event
   pub of : IsEventOf u event
   pub left : Pairs
   pub count : ℕ
   pub leaves : Pairs
-  pub before_it : IsRun (bounds_in l (home_of l u.key).family) (opening (home_of l u.key)) 0 (events_at l times (home_of l u.key) before) left count
+  pub before_it : IsRun (bounds_in l (home_of l u.key).family) (opening (home_of l u.key)) 0
+      (events_at l times (home_of l u.key) before) left count
   pub step : IsEvent (bounds_in l (home_of l u.key).family) left count event leaves
 
 placed : (l : Layout) (times : Timeouts) (opening : Home → Pairs) (before after : List Judged) (j : Judged) (u : Update)
-    → IsOneThread l times opening (before ++ j ∷ after) → update_of times j.reading ≡ Some u → IsPlaced l times opening before j u
+    → IsOneThread l times opening (before ++ j ∷ after) → update_of times j.reading ≡ Some u
+    → IsPlaced l times opening before j u
 placed l times opening before after j u thread is =
     let asked : IsAskedBy (update_of times j.reading) j.event = among (IsAsked times) before after j thread.asked in
     let (e, at, of) : IsAskedBy (Some u) j.event = subst (λ u. IsAskedBy u j.event) is asked in
@@ -70,15 +75,16 @@ placed l times opening before after j u thread is =
     let (last, writes, run) : Runs (bounds_in l home.family) (opening home) 0
     (events_at l times home before ++ e ∷ events_at l times home after) =
     subst (Runs (bounds_in l home.family) (opening home) 0)
-    (events_append l times home before (j ∷ after) ∙ ap (λ es. events_at l times home before ++ es) (own_events l times u e j after is at))
+    (events_append l times home before (j ∷ after)
+    ∙ ap (λ es. events_at l times home before ++ es) (own_events l times u e j after is at))
     (thread.runs home (is_home l u.key)) in
     let (m, v, first, (n, step, rest)) = run_parts (bounds_in l home.family) (opening home) last 0 writes
     (events_at l times home before) (e ∷ events_at l times home after) run in
     record { event = e; is = at; of = of; left = m; count = v; leaves = n; before_it = first; step = step }
 
 -- what is left after the packet
-leaves_behind : (l : Layout) (times : Timeouts) (opening : Home → Pairs) (before : List Judged) (j : Judged) (u : Update)
-    → update_of times j.reading ≡ Some u → (p : IsPlaced l times opening before j u)
+leaves_behind : (l : Layout) (times : Timeouts) (opening : Home → Pairs) (before : List Judged) (j : Judged)
+    (u : Update) → update_of times j.reading ≡ Some u → (p : IsPlaced l times opening before j u)
     → Leave l times opening (before ++ j ∷ []) (home_of l u.key) p.leaves
 leaves_behind l times opening before j u is p =
     let home : Home = home_of l u.key in (
@@ -86,19 +92,23 @@ leaves_behind l times opening before j u is p =
       subst (λ es. IsRun (bounds_in l home.family) (opening home) 0 es p.leaves (p.count + writes_of p.event.reply))
           (sym (events_append l times home before (j ∷ [])
           ∙ ap (λ es. events_at l times home before ++ es) (own_events l times u p.event j [] is p.is)))
-          (run_push (bounds_in l home.family) (opening home) p.left p.leaves 0 p.count (events_at l times home before) p.event p.before_it p.step),
+          (run_push (bounds_in l home.family) (opening home) p.left p.leaves 0 p.count
+          (events_at l times home before) p.event p.before_it p.step),
     )
 
-pub pass_in_order : (l : Layout) (times : Timeouts) (opening : Home → Pairs) (before after : List Judged) (j : Judged) (moment : ℕ)
-    (tuple : TupleFacts) (ruling : Ruling) (u : Update) → IsOneThread l times opening (before ++ j ∷ after)
+pub pass_in_order : (l : Layout) (times : Timeouts) (opening : Home → Pairs) (before after : List Judged) (j : Judged)
+    (moment : ℕ) (tuple : TupleFacts) (ruling : Ruling) (u : Update) → IsOneThread l times opening (before ++ j ∷ after)
     → j.reading ≡ Ruled moment tuple ruling → update_of times j.reading ≡ Some u
-    → (m n : Pairs) × Leave l times opening before (home_of l u.key) m × Leave l times opening (before ++ j ∷ []) (home_of l u.key) n
+    → (m n : Pairs) × Leave l times opening before (home_of l u.key) m
+    × Leave l times opening (before ++ j ∷ []) (home_of l u.key) n
     × ((passes (verdict_on times j) ≡ true) ↔ (HoldsLive u m ⊎ LetsThrough u n ruling))
 pass_in_order l times opening before after j moment tuple ruling u thread reads is =
     let p = placed l times opening before after j u thread is in
     let same : verdict_on times j ≡ verdict_with times (Ruled moment tuple ruling) (Some p.event) =
     ap₂ (λ r e. verdict_with times r e) reads p.is in
-    let passing = pass_by_reading times moment tuple ruling u (bounds_in l (home_of l u.key).family) p.left p.leaves p.count p.event
+    let passing =
+    pass_by_reading times moment tuple ruling u
+    (bounds_in l (home_of l u.key).family) p.left p.leaves p.count p.event
     (ap (update_of times) (sym reads) ∙ is) p.of p.step in (
       p.left,
       p.leaves,

@@ -104,7 +104,9 @@ pass_by_event u ruling b m n w e of step rules = go (is_live_for u.patch e.found
     found_is = step.found ∙ ap (get m) of.key
 
     told : (is_live_for u.patch e.found ≡ true) ↔ HoldsLive u m
-    told = subst (λ found. (is_live_for u.patch e.found ≡ true) ↔ ((session : SessionFacts) × IsLiveFor u.patch found session))
+    told =
+        subst (λ found. (is_live_for u.patch e.found ≡ true)
+        ↔ ((session : SessionFacts) × IsLiveFor u.patch found session))
         found_is (live_told u.patch e.found)
 
     go : (live : Bool) → is_live_for u.patch e.found ≡ live
@@ -121,11 +123,14 @@ pass_by_event u ruling b m n w e of step rules = go (is_live_for u.patch e.found
         )
 
 -- the same of a reading
-pub pass_by_reading : (times : Timeouts) (moment : ℕ) (tuple : TupleFacts) (ruling : Ruling) (u : Update) (b : Bounds) (m n : Pairs)
+pub pass_by_reading : (times : Timeouts) (moment : ℕ) (tuple : TupleFacts) (ruling : Ruling) (u : Update) (b : Bounds)
+    (m n : Pairs)
     (w : ℕ) (e : Event) → update_of times (Ruled moment tuple ruling) ≡ Some u → IsEventOf u e → IsEvent b m w e n
-    → (passes (verdict_with times (Ruled moment tuple ruling) (Some e)) ≡ true) ↔ (HoldsLive u m ⊎ LetsThrough u n ruling)
+    → (passes (verdict_with times (Ruled moment tuple ruling) (Some e)) ≡ true)
+    ↔ (HoldsLive u m ⊎ LetsThrough u n ruling)
 pass_by_reading times moment tuple ruling u b m n w e is of step =
-    subst (λ v. (passes (verdict_by_event ruling v (Some e)) ≡ true) ↔ (HoldsLive u m ⊎ LetsThrough u n ruling)) (sym is)
+    subst (λ v. (passes (verdict_by_event ruling v (Some e)) ≡ true) ↔ (HoldsLive u m ⊎ LetsThrough u n ruling))
+    (sym is)
     (pass_by_event u ruling b m n w e of step (reflects_by_rule times moment tuple ruling u is))
 
 -- a packet without a flow goes through exactly where the rule permits

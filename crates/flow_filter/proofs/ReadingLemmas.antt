@@ -11,7 +11,8 @@ use Rattle.acl_policy.proofs.RulingLemmas.{one_ruling}
 use Rattle.flow_filter.specs.declared.verdict.Verdict.TheVariants as verdict
 use Rattle.flow_filter.specs.Readings.{AreReadings, Framed, IsReading, IsReadingOf, Reading, Ruled}
 
-some_reading_of : (policy : PolicyFacts) (moment : ℕ) (view : FrameFacts) → (reading : Reading) × IsReadingOf policy moment view reading
+some_reading_of : (policy : PolicyFacts) (moment : ℕ) (view : FrameFacts)
+    → (reading : Reading) × IsReadingOf policy moment view reading
 some_reading_of policy moment frames.NotIp = (Framed verdict.NotIp, refl)
 some_reading_of policy moment frames.Malformed = (Framed verdict.Malformed, refl)
 some_reading_of policy moment frames.Short = (Framed verdict.Short, refl)
@@ -25,13 +26,14 @@ some_reading policy packet =
     let (reading, of) = some_reading_of policy packet.moment (view_of packet.frame policy.own) in
     (reading, (view_of packet.frame policy.own, view_shown packet.frame policy.own, of))
 
-one_reading_of : (policy : PolicyFacts) (moment : ℕ) (view : FrameFacts) (a b : Reading) → IsReadingOf policy moment view a
-    → IsReadingOf policy moment view b → a ≡ b
+one_reading_of : (policy : PolicyFacts) (moment : ℕ) (view : FrameFacts) (a b : Reading)
+    → IsReadingOf policy moment view a → IsReadingOf policy moment view b → a ≡ b
 one_reading_of policy moment frames.NotIp a b one two = one ∙ sym two
 one_reading_of policy moment frames.Malformed a b one two = one ∙ sym two
 one_reading_of policy moment frames.Short a b one two = one ∙ sym two
 one_reading_of policy moment (frames.Ip direction tuple) a b (ruling, decides, one) (other, decides', two) =
-    one ∙ ap (λ d. Ruled moment tuple d) (sym (one_ruling (rules_of direction policy) tuple ruling other decides decides'))
+    one ∙ ap (λ d. Ruled moment tuple d)
+    (sym (one_ruling (rules_of direction policy) tuple ruling other decides decides'))
     ∙ sym two
 
 -- and one
@@ -42,15 +44,16 @@ one_reading policy packet a b (view, shown, of) (other, shown', of') =
     view_only packet.frame policy.own view shown ∙ sym (view_only packet.frame policy.own other shown') in
     one_reading_of policy packet.moment view a b of (subst (λ v. IsReadingOf policy packet.moment v b) (sym same) of')
 
-pub some_readings : (policy : PolicyFacts) (packets : List PacketFacts) → (readings : List Reading) × AreReadings policy packets readings
+pub some_readings : (policy : PolicyFacts) (packets : List PacketFacts)
+    → (readings : List Reading) × AreReadings policy packets readings
 some_readings policy [] = ([], tt)
 some_readings policy (packet ∷ packets) =
     let (reading, is) = some_reading policy packet in
     let (readings, are) = some_readings policy packets in
     (reading ∷ readings, (is, are))
 
-pub one_readings : (policy : PolicyFacts) (packets : List PacketFacts) (a b : List Reading) → AreReadings policy packets a
-    → AreReadings policy packets b → a ≡ b
+pub one_readings : (policy : PolicyFacts) (packets : List PacketFacts) (a b : List Reading)
+    → AreReadings policy packets a → AreReadings policy packets b → a ≡ b
 one_readings policy [] [] [] one two = refl
 one_readings policy [] [] (y ∷ b) one two = absurd two
 one_readings policy [] (x ∷ a) b one two = absurd one

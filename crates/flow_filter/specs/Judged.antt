@@ -38,7 +38,8 @@ verdict_by_event ruling (Some u) (Some e) = verdict_of u.patch ruling e.found e.
 
 abbrev pub verdict_with : Timeouts → Reading → Option Event → Verdict
 verdict_with times (Framed verdict) event = verdict
-verdict_with times (Ruled moment tuple ruling) event = verdict_by_event ruling (update_of times (Ruled moment tuple ruling)) event
+verdict_with times (Ruled moment tuple ruling) event =
+    verdict_by_event ruling (update_of times (Ruled moment tuple ruling)) event
 
 abbrev pub verdict_on : Timeouts → Judged → Verdict
 verdict_on times j = verdict_with times j.reading j.event

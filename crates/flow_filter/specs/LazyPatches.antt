@@ -1,7 +1,7 @@
 -- What a packet decides whose rules are asked late.
 use Rattle.session_state.specs.Decisions.{PatchFacts}
 use Rattle.flow_filter.specs.PacketFlows.{update_by}
-use Rattle.flow_filter.specs.declared.lazy_patch.HasRuling.{Ghosts}
+use Rattle.flow_filter.specs.declared.lazy_patch.HasReading.{Ghosts}
 use Rattle.flow_filter.specs.declared.lazy_patch.LazyPatch.{LazyPatch}
 
 -- what is decided of the packet, under what the rules say of it

@@ -94,7 +94,8 @@ abbrev pub nothing : Home → Pairs
 nothing home = empty
 
 -- the verdicts of the one-thread filter on a capture's packets: no bucket holds anything at first
-pub record AreVerdicts (l : Layout) (times : Timeouts) (policy : PolicyFacts) (packets : List PacketFacts) (verdicts : List Verdict) : Type 0 where
+pub record AreVerdicts (l : Layout) (times : Timeouts) (policy : PolicyFacts) (packets : List PacketFacts)
+    (verdicts : List Verdict) : Type 0 where
   pub judged : List Judged
   pub read : AreReadings policy packets (readings_of judged)
   pub one_thread : IsOneThread l times nothing judged

@@ -37,4 +37,5 @@ LetsThrough u m (Some (i, Reflect)) = u.patch.reflects ≡ true → HoldsStarted
 
 -- packets that are judged one after the other leave this in a bucket that held `opening`
 abbrev pub Leave : Layout → Timeouts → (Home → Pairs) → List Judged → Home → Pairs → Type 0
-Leave l times opening js home m = (writes : ℕ) × IsRun (bounds_in l home.family) (opening home) 0 (events_at l times home js) m writes
+Leave l times opening js home m =
+    (writes : ℕ) × IsRun (bounds_in l home.family) (opening home) 0 (events_at l times home js) m writes

@@ -15,7 +15,8 @@ use Rattle.flow_filter.specs.declared.verdict.Verdict.TheVariants as verdict
 abbrev pub Ruling : Type 0
 Ruling = Option (ℕ × Action)
 
--- a packet as the filter sees it: a verdict that its frame alone gives, or its moment, its tuple and the rule that decides it
+-- a packet as the filter sees it: a verdict that its frame alone gives, or its moment, its tuple and the rule that
+-- decides it
 pub data Reading : Type 0 where
   Framed : Verdict → Reading
   Ruled : ℕ → TupleFacts → Ruling → Reading
@@ -29,7 +30,8 @@ IsReadingOf policy moment (frames.Ip direction tuple) reading =
     (ruling : Ruling) × IsRuling (rules_of direction policy) tuple ruling × (reading ≡ Ruled moment tuple ruling)
 
 abbrev pub IsReading : PolicyFacts → PacketFacts → Reading → Type 0
-IsReading policy packet reading = (view : FrameFacts) × IsFrame packet.frame policy.own view × IsReadingOf policy packet.moment view reading
+IsReading policy packet reading =
+    (view : FrameFacts) × IsFrame packet.frame policy.own view × IsReadingOf policy packet.moment view reading
 
 -- each packet has its reading
 abbrev pub AreReadings : PolicyFacts → List PacketFacts → List Reading → Type 0

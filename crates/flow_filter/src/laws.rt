@@ -16,9 +16,9 @@ ghost use Rattle.flow_filter.specs.Updates.{Update, update_of};
 ghost use Rattle.flow_filter.specs.Verdicts.{passes};
 
 /// A policy reads each packet, and in one way.
-#[tactic(auto, using(crate::proofs::ReadingLemmas::some_reading, crate::proofs::ReadingLemmas::one_reading, crate::proofs::ReadingLemmas::some_readings, crate::proofs::ReadingLemmas::one_readings))]
 pub fn each_packet_has_one_reading()
-    ensures some { (policy : PolicyFacts) (packet : PacketFacts) → (reading : Reading) × IsReading policy packet reading }
+    ensures some { (policy : PolicyFacts) (packet : PacketFacts)
+        → (reading : Reading) × IsReading policy packet reading }
     ensures one { (policy : PolicyFacts) (packet : PacketFacts) (a b : Reading)
         → IsReading policy packet a → IsReading policy packet b → a ≡ b }
     ensures list { (policy : PolicyFacts) (packets : List PacketFacts)
@@ -43,8 +43,8 @@ pub fn each_list_is_judged_once()
 pub fn each_capture_has_one_list_of_verdicts()
     ensures some { (l : Layout) (times : Timeouts) (policy : PolicyFacts) (packets : List PacketFacts)
         → (verdicts : List Verdict) × AreVerdicts l times policy packets verdicts }
-    ensures one { (l : Layout) (times : Timeouts) (policy : PolicyFacts) (packets : List PacketFacts) (a b : List Verdict)
-        → AreVerdicts l times policy packets a → AreVerdicts l times policy packets b → a ≡ b }
+    ensures one { (l : Layout) (times : Timeouts) (policy : PolicyFacts) (packets : List PacketFacts)
+        (a b : List Verdict) → AreVerdicts l times policy packets a → AreVerdicts l times policy packets b → a ≡ b }
 {}
 
 /// A packet passes exactly where a session of its flow is live in its bucket, or the first rule that matches

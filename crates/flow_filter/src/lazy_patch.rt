@@ -26,13 +26,13 @@ use std::marker::{Brand, PhantomData};
 
 /// What the rules say of one packet, as proofs know it before the rules are asked, and which stored values are live
 /// sessions for it.
-pub trait HasRuling {
+pub trait HasReading {
     ghost ruling: { Ruling };
 
     ghost is_live: { Option ℕ → Bool };
 }
 
-impl HasRuling for Brand {
+impl HasReading for Brand {
     ghost use Rattle.std.specs.Prelude.{None, false};
 
     ghost ruling = { None };
@@ -42,7 +42,7 @@ impl HasRuling for Brand {
 
 /// What that packet found when it was asked last, and whether it is a live session.
 #[derive(Drop)]
-struct Seen<D: HasRuling> {
+struct Seen<D: HasReading> {
     found: Option<u64>,
     is_live: bool,
     of: PhantomData<D>,
@@ -51,7 +51,7 @@ struct Seen<D: HasRuling> {
 
 /// What the rules said of that packet.
 #[derive(Drop)]
-struct Decided<D: HasRuling> {
+struct Decided<D: HasReading> {
     ruling: Option<(usize, Action)>,
     of: PhantomData<D>,
     ghost is: { ruling ≡ D.ruling },
@@ -72,7 +72,7 @@ fn asked(rules: Ruleset<'_>, tuple: Tuple) -> Option<(usize, Action)>
 /// What a packet does to its flow's session. The rules are asked once at most, and not at all where a
 /// session is live.
 #[derive(Drop)]
-pub struct LazyPatch<'a, D: HasRuling> {
+pub struct LazyPatch<'a, D: HasReading> {
     filter: &'a ReadyFilter<'a>,
     packet: PacketFlow<'a>,
     decided: Cell<Option<Decided<D>>>,
@@ -81,7 +81,7 @@ pub struct LazyPatch<'a, D: HasRuling> {
     ghost said: { (d : Ruling) → IsRulingOn (policy_in filter.now) packet d → d ≡ D.ruling },
 }
 
-impl<'a, D: HasRuling> LazyPatch<'a, D> {
+impl<'a, D: HasReading> LazyPatch<'a, D> {
     ghost use Rattle.std.specs.Prelude.{None};
     ghost use Rattle.session_state.specs.Decisions.{is_live_for, patch_facts};
     ghost use Rattle.flow_filter.specs.Deciders.{decider_of};
@@ -94,7 +94,7 @@ impl<'a, D: HasRuling> LazyPatch<'a, D> {
     pub fn new(filter: &'a ReadyFilter<'a>, packet: PacketFlow<'a>) -> LazyPatch<'a, D>
         requires ruling { IsRulingOn (policy_in filter.now) packet D.ruling }
         requires lives { IsForeseen filter.now.times packet.moment D.is_live }
-        ensures { facts_of ⟦<D as HasRuling>⟧ result ≡ (update_by filter.now.times packet.entry D.ruling).patch }
+        ensures { facts_of ⟦<D as HasReading>⟧ result ≡ (update_by filter.now.times packet.entry D.ruling).patch }
     {
         LazyPatch {
             filter,
@@ -140,7 +140,7 @@ impl<'a, D: HasRuling> LazyPatch<'a, D> {
     // The rules are asked here alone.
     #[inline(always)]
     fn decider(&self, found: Option<u64>) -> Decider
-        ensures { result ≡ decider_of (facts_of ⟦<D as HasRuling>⟧ self.now) found D.ruling }
+        ensures { result ≡ decider_of (facts_of ⟦<D as HasReading>⟧ self.now) found D.ruling }
     {
         if let Some(session) = self.unruled().live_session(found) {
             return Decider::Session(session);
@@ -151,7 +151,7 @@ impl<'a, D: HasRuling> LazyPatch<'a, D> {
     // Whether the value is a live session, which is known where the packet was asked with it last.
     #[inline(always)]
     fn is_live(&self, found: Option<u64>) -> bool
-        ensures { result ≡ is_live_for (facts_of ⟦<D as HasRuling>⟧ self.now) found }
+        ensures { result ≡ is_live_for (facts_of ⟦<D as HasReading>⟧ self.now) found }
     {
         if let Some(seen) = self.seen.replace(None) {
             if seen.found == found {
@@ -164,7 +164,7 @@ impl<'a, D: HasRuling> LazyPatch<'a, D> {
     /// The verdict on the packet, by the reply to its update.
     #[inline]
     pub fn verdict(&self, reply: Reply) -> Verdict
-        ensures { result ≡ verdict_of (facts_of ⟦<D as HasRuling>⟧ self.now) D.ruling (found_by reply) reply }
+        ensures { result ≡ verdict_of (facts_of ⟦<D as HasReading>⟧ self.now) D.ruling (found_by reply) reply }
     {
         if self.is_live(found_in(reply)) {
             return Verdict::Session;
@@ -175,12 +175,12 @@ impl<'a, D: HasRuling> LazyPatch<'a, D> {
     }
 }
 
-impl<'a, D: HasRuling> Patch for LazyPatch<'a, D> {
+impl<'a, D: HasReading> Patch for LazyPatch<'a, D> {
     ghost use Rattle.bihash_words.specs.Patches.{IsStorable};
     ghost use Rattle.session_state.specs.Decisions.{decision_of};
     ghost use Rattle.flow_filter.specs.LazyPatches.{facts_of};
 
-    ghost decision = { λ patch old. decision_of (facts_of ⟦<D as HasRuling>⟧ patch) old };
+    ghost decision = { λ patch old. decision_of (facts_of ⟦<D as HasReading>⟧ patch) old };
 
     #[inline(always)]
     fn decide(&self, old: Option<u64>) -> Change {
@@ -192,9 +192,10 @@ impl<'a, D: HasRuling> Patch for LazyPatch<'a, D> {
         }));
         match decider {
             Decider::Session(session) => self.unruled().touch(session),
-            Decider::Rules(ruling) => patch_of(&self.filter.times, &self.packet, ruling).decide(
-                old,
-            ),
+            Decider::Rules(ruling) => {
+                let patch = patch_of(&self.filter.times, &self.packet, ruling);
+                patch.decide(old)
+            }
         }
     }
 }

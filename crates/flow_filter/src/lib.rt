@@ -1,4 +1,5 @@
-//! What becomes of a packet: its reading by the rules, the one update that it makes of a session table, and the verdict.
+//! What becomes of a packet: its reading by the rules, the one update that it makes of a session table, and the
+//! verdict.
 #![tactic(auto)]
 
 mod decider;
@@ -18,7 +19,7 @@ pub use laws::{
     each_capture_has_one_list_of_verdicts, each_list_is_judged_once, each_packet_has_one_reading,
     packets_pass_by_rule_or_session,
 };
-pub use lazy_patch::{HasRuling, LazyPatch};
+pub use lazy_patch::{HasReading, LazyPatch};
 pub use packet_flow::{PacketFlow, copied};
 pub use prepared_rules::PreparedRules;
 pub use rule_search::RuleSearch;

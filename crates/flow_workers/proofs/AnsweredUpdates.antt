@@ -13,8 +13,11 @@ use Rattle.bihash_steps.specs.declared.view.View.{View}
 use Rattle.bihash_table.specs.Answers.{entry_of}
 use Rattle.bihash_table.specs.Promise.{IsAnswered, IsUpdated}
 use Rattle.bihash_table.specs.OutOfPages.{IsOutOfPages}
+use Rattle.bihash_table.specs.Tries.{TookAtMost, try_locks}
+use Rattle.bihash_table.specs.declared.contended.Contended.{Contended}
 use Rattle.bihash_laws.specs.Runs.{IsLawfulAnswer}
 use Rattle.bihash_laws.proofs.AnsweredCalls.{legal}
+use Rattle.flow_workers.specs.Judging.{TookByOneTry}
 use Rattle.flow_workers.specs.inner.Updates.{told}
 
 found_in : (z : Sizes) (v w : View) (e : Event) → IsAnswered z v w e → IsLawfulCaller z w → e.found ≡ found_by e.reply
@@ -23,8 +26,8 @@ found_in z v w e answered lawful = go (is_changed e.reply) refl
     is_answer : IsLawfulAnswer z (bucket_of z e.key) v w e
     is_answer = record { home = refl; answered = answered; lawful = lawful }
 
-    is_legal : IsLegal z (opening_at w.known (bucket_of z e.key)) (known_at w.known (bucket_of z e.key)) (acting v.records)
-        (entry_of z (length (known_at w.known (bucket_of z e.key))) e answered.noted)
+    is_legal : IsLegal z (opening_at w.known (bucket_of z e.key)) (known_at w.known (bucket_of z e.key))
+        (acting v.records) (entry_of z (length (known_at w.known (bucket_of z e.key))) e answered.noted)
     is_legal = legal z (bucket_of z e.key) v w e is_answer
 
     go : (t : Bool) → is_changed e.reply ≡ t → e.found ≡ found_by e.reply
@@ -33,7 +36,8 @@ found_in z v w e answered lawful = go (is_changed e.reply) refl
 
 -- an update that was answered on some value was answered on the one that its reply tells
 pub as_told : (z : Sizes) (v w : View) (key words : List ℕ) (decision : Option ℕ → Change) (reply : Reply)
-    → key ≡ words → IsUpdated z v w key decision reply → IsLawfulCaller z w → IsAnswered z v w (told words decision reply)
+    → key ≡ words → IsUpdated z v w key decision reply → IsLawfulCaller z w
+    → IsAnswered z v w (told words decision reply)
 as_told z v w key words decision reply same updated lawful =
     subst (λ k. IsAnswered z v w (told k decision reply)) same
     (subst (λ found. IsAnswered z v w (record { key = key; found = found; change = decision found; reply = reply }))
@@ -47,9 +51,17 @@ pub if_err : {T E : Type 0} (P Q : E → Type 0) (r : Result T E) → ((e : E) �
 if_err P Q (Ok x) f p = tt
 if_err P Q (Err e) f p = f e p
 
+-- the locks that one try took, by how it ended
+pub took_by_one : (v w : View) (r : Result Reply Contended) → TookAtMost v w (try_locks r)
+    → IfOk r (TookByOneTry v w) × IfErr r (λ _. TookAtMost v w 1)
+took_by_one v w (Ok reply) took = (took, tt)
+took_by_one v w (Err contended) took = (tt, took)
+
 -- a shortage at the key of these words
-pub short_at : {S K : Type 0} (g : Ghosts S K) (w : View) (key : K) (words : List ℕ) (log2 left : ℕ) → key ≡ g.key_of words → g.words_of key ≡ words
-    → IsOutOfPages g w (bucket_of (sizes_of g) (g.words_of key)) key log2 left → IsOutOfPages g w (bucket_of (sizes_of g) words) (g.key_of words) log2 left
+pub short_at : {S K : Type 0} (g : Ghosts S K) (w : View) (key : K) (words : List ℕ) (log2 left : ℕ)
+    → key ≡ g.key_of words → g.words_of key ≡ words
+    → IsOutOfPages g w (bucket_of (sizes_of g) (g.words_of key)) key log2 left
+    → IsOutOfPages g w (bucket_of (sizes_of g) words) (g.key_of words) log2 left
 short_at g w key words log2 left made same short =
     subst (λ k. IsOutOfPages g w (bucket_of (sizes_of g) words) k log2 left) made
     (subst (λ x. IsOutOfPages g w (bucket_of (sizes_of g) x) key log2 left) same short)

@@ -1,4 +1,5 @@
--- A packet that was prepared under what the rules say of it is judged by its verdict alone, or by the reply to its update.
+-- A packet that was prepared under what the rules say of it is judged by its verdict alone, or by the reply to its
+-- update.
 use Rattle.std.proofs.Common.{◌≡◌, ◌∙◌, ℕ, Some, None, ap, refl, sym, subst}
 use Rattle.packet_view.specs.Captures.{PacketFacts}
 use Rattle.packet_view.specs.Frames as frames
@@ -7,6 +8,7 @@ use Rattle.acl_policy.specs.Policies.{PolicyFacts, rules_of}
 use Rattle.acl_policy.proofs.RulingLaws.{some_ruling_of}
 use Rattle.bihash_words.specs.Maps.{Event, found_by}
 use Rattle.bihash_words.specs.declared.patch.Reply.{Reply}
+use Rattle.bihash_steps.specs.declared.view.View.{View}
 use Rattle.session_state.specs.declared.timeouts.Timeouts.{Timeouts}
 use Rattle.session_state.specs.Decisions.{decision_of}
 use Rattle.flow_filter.specs.declared.verdict.Verdict.{Verdict}
@@ -35,15 +37,16 @@ is_ruling policy frames.Malformed = tt
 is_ruling policy frames.Short = tt
 is_ruling policy (frames.Ip direction tuple) = (some_ruling_of (rules_of direction policy) tuple).1
 
-reading_of : (policy : PolicyFacts) (moment : ℕ) (view : FrameFacts) (ruling : Ruling) → IsFrameRuling policy view ruling
-    → IsReadingOf policy moment view (reading_with moment view ruling)
+reading_of : (policy : PolicyFacts) (moment : ℕ) (view : FrameFacts) (ruling : Ruling)
+    → IsFrameRuling policy view ruling → IsReadingOf policy moment view (reading_with moment view ruling)
 reading_of policy moment frames.NotIp ruling is = refl
 reading_of policy moment frames.Malformed ruling is = refl
 reading_of policy moment frames.Short ruling is = refl
 reading_of policy moment (frames.Ip direction tuple) ruling is = (ruling, is, refl)
 
 -- what is said of a filter at hand is said of the filter that it was made of
-pub of_filter : (P : Timeouts → PolicyFacts → Type 0) {t u : Timeouts} {p q : PolicyFacts} → t ≡ u → p ≡ q → P t p → P u q
+pub of_filter : (P : Timeouts → PolicyFacts → Type 0) {t u : Timeouts} {p q : PolicyFacts} → t ≡ u → p ≡ q → P t p
+    → P u q
 of_filter P {t} {u} {p} {q} times policy is = subst (λ other. P other q) times (subst (P t) policy is)
 
 -- a packet that was viewed, under what the rules say of it
@@ -63,15 +66,15 @@ reads policy s p ruling is = (
       (reading_of policy p.moment (frame_facts p.frame.now) ruling is.ruled),
 )
 
-pub settled : (l : Layout) (times : Timeouts) (policy : PolicyFacts) (s : PacketFacts) (p : ViewedPacket) (ruling : Ruling) (v : Views) (verdict : Verdict)
-    → IsRuled policy s p ruling
+pub settled : (l : Layout) (took : View → View → Reply → Type 0) (times : Timeouts) (policy : PolicyFacts)
+    (s : PacketFacts) (p : ViewedPacket) (ruling : Ruling) (v : Views) (verdict : Verdict) → IsRuled policy s p ruling
     → (update_of times (reading_in p ruling) ≡ None) × (verdict ≡ verdict_with times (reading_in p ruling) None)
-    → IsJudged l times policy s v v verdict
-settled l times policy s p ruling v verdict is known = record {
+    → IsJudged l took times policy s v v verdict
+settled l took times policy s p ruling v verdict is known = record {
   judged = record { reading = reading_in p ruling; event = None };
   read = reads policy s p ruling is;
   asked = subst (λ u. IsAskedBy u None) (sym known.0) refl;
-  entered = subst (λ u. IsEnteredBy l u None v v) (sym known.0) refl;
+  entered = subst (λ u. IsEnteredBy l took u None v v) (sym known.0) refl;
   said = known.1;
 }
 
@@ -82,25 +85,30 @@ said_by : (times : Timeouts) (moment : ℕ) (view : FrameFacts) (ruling : Ruling
 said_by times moment frames.NotIp ruling u e is = absurd (let f : ⊥ = cc in f)
 said_by times moment frames.Malformed ruling u e is = absurd (let f : ⊥ = cc in f)
 said_by times moment frames.Short ruling u e is = absurd (let f : ⊥ = cc in f)
-said_by times moment (frames.Ip direction tuple) ruling u e is = ap (λ update. verdict_by_event ruling update (Some e)) is
+said_by times moment (frames.Ip direction tuple) ruling u e is =
+    ap (λ update. verdict_by_event ruling update (Some e)) is
 
-pub answered : (l : Layout) (times : Timeouts) (policy : PolicyFacts) (s : PacketFacts) (p : ViewedPacket) (ruling : Ruling) (v w : Views) (verdict : Verdict)
-    (u : Update) (reply : Reply) → IsRuled policy s p ruling → update_of times (reading_in p ruling) ≡ Some u
-    → IsEntered l u.key (told (words_of u.key) (decision_of u.patch) reply) v w
-    → verdict ≡ verdict_of u.patch ruling (found_by reply) reply → IsJudged l times policy s v w verdict
-answered l times policy s p ruling v w verdict u reply is asks entered said = record {
+pub answered : (l : Layout) (took : View → View → Reply → Type 0) (times : Timeouts) (policy : PolicyFacts)
+    (s : PacketFacts) (p : ViewedPacket) (ruling : Ruling) (v w : Views) (verdict : Verdict) (u : Update)
+    (reply : Reply) → IsRuled policy s p ruling → update_of times (reading_in p ruling) ≡ Some u
+    → IsEntered l took u.key (told (words_of u.key) (decision_of u.patch) reply) v w
+    → verdict ≡ verdict_of u.patch ruling (found_by reply) reply → IsJudged l took times policy s v w verdict
+answered l took times policy s p ruling v w verdict u reply is asks entered said = record {
   judged = record { reading = reading_in p ruling; event = Some event };
   read = reads policy s p ruling is;
-  asked = subst (λ update. IsAskedBy update (Some event)) (sym asks) (event, refl, record { key = refl; change = refl });
-  entered = subst (λ update. IsEnteredBy l update (Some event) v w) (sym asks) entered;
+  asked =
+      subst (λ update. IsAskedBy update (Some event)) (sym asks) (event, refl, record { key = refl; change = refl });
+  entered = subst (λ update. IsEnteredBy l took update (Some event) v w) (sym asks) entered;
   said = said ∙ sym (said_by times p.moment (frame_facts p.frame.now) ruling u event asks);
 }
   where
     event : Event
     event = told (words_of u.key) (decision_of u.patch) reply
 
-pub refused : (l : Layout) (times : Timeouts) (policy : PolicyFacts) (s : PacketFacts) (p : ViewedPacket) (ruling : Ruling) (v w : Views) (u : Update)
-    → IsRuled policy s p ruling → update_of times (reading_in p ruling) ≡ Some u → IsAway l u.key v w → IsRefused l times policy s v w
+pub refused : (l : Layout) (times : Timeouts) (policy : PolicyFacts) (s : PacketFacts) (p : ViewedPacket)
+    (ruling : Ruling) (v w : Views) (u : Update)
+    → IsRuled policy s p ruling → update_of times (reading_in p ruling) ≡ Some u → IsAway l u.key v w
+    → IsRefused l times policy s v w
 refused l times policy s p ruling v w u is asks away = record {
   reading = reading_in p ruling;
   read = reads policy s p ruling is;

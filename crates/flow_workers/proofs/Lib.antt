@@ -5,4 +5,5 @@ pub mod PartLemmas
 pub mod PlacingLemmas
 pub mod ShortPackets
 pub mod TurnLemmas
+pub mod ViewedPacketLemmas
 pub mod WorkSteps

@@ -11,13 +11,15 @@ use Rattle.flow_dealing.specs.Traces.{HasCalls, HaveTraces, Item}
 
 -- one record before others
 with_trace : (times : Timeouts) (family : Family) (t : List Item) (ts : List (List Item)) (rs qs : List Record)
-    → AllZip (HasCalls times family) (t ∷ []) rs → AllZip (HasCalls times family) ts qs → AllZip (HasCalls times family) (t ∷ ts) (rs ++ qs)
+    → AllZip (HasCalls times family) (t ∷ []) rs → AllZip (HasCalls times family) ts qs
+    → AllZip (HasCalls times family) (t ∷ ts) (rs ++ qs)
 with_trace times family t ts [] qs one more = absurd one
 with_trace times family t ts (r ∷ []) qs one more = (one.0, more)
 with_trace times family t ts (r ∷ q ∷ rs) qs one more = absurd one.1
 
 pub joined_traces : (v w : View) (times : Timeouts) (family : Family) (t : List Item) (ts : List (List Item))
-    → HaveTraces times family (t ∷ []) v → HaveTraces times family ts w → HaveTraces times family (t ∷ ts) (view_after_join v w)
+    → HaveTraces times family (t ∷ []) v → HaveTraces times family ts w
+    → HaveTraces times family (t ∷ ts) (view_after_join v w)
 joined_traces v w times family t ts one more = record {
   records = with_trace times family t ts v.records w.records one.records more.records;
   openings = one.openings;
@@ -37,7 +39,8 @@ pub record LastOf {X Y : Type 0} (R : X → Y → Type 0) (xs : List X) (ys : Li
   pub others : AllZip R front ys
   pub one : R last y
 
-pub last_of : {X Y : Type 0} (R : X → Y → Type 0) (xs : List X) (ys : List Y) (y : Y) → AllZip R xs (ys ++ y ∷ []) → LastOf R xs ys y
+pub last_of : {X Y : Type 0} (R : X → Y → Type 0) (xs : List X) (ys : List Y) (y : Y) → AllZip R xs (ys ++ y ∷ [])
+    → LastOf R xs ys y
 last_of R [] [] y all = absurd all
 last_of R [] (z ∷ zs) y all = absurd all
 last_of R (x ∷ []) [] y all = record { front = []; last = x; split = refl; others = tt; one = all.0 }

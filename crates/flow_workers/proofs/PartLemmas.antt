@@ -34,13 +34,17 @@ module _ {A B R G K L : Type 0} (ga : Ghosts A K) (gb : Ghosts B L) where
   pub no_parts : ArePartsOf {R = R} {G = G} ga gb [] [] [] []
   no_parts = record { shares = []; past = refl; four = refl; six = refl; said = refl }
 
-  pub parts_push : (turns : List (Turn A B R G K L ga gb)) (turn : Turn A B R G K L ga gb) (fours fours' : List (Caller A K ga))
-      (sixes sixes' : List (Caller B L gb)) (saids saids' : List Said) (share : Share A B K L ga gb) → turn ≡ Over (Ok share)
-      → fours' ≡ fours ++ share.callers.four ∷ [] → sixes' ≡ sixes ++ share.callers.six ∷ [] → saids' ≡ saids ++ share.said ∷ []
+  pub parts_push : (turns : List (Turn A B R G K L ga gb)) (turn : Turn A B R G K L ga gb)
+      (fours fours' : List (Caller A K ga))
+      (sixes sixes' : List (Caller B L gb)) (saids saids' : List Said) (share : Share A B K L ga gb)
+      → turn ≡ Over (Ok share)
+      → fours' ≡ fours ++ share.callers.four ∷ [] → sixes' ≡ sixes ++ share.callers.six ∷ []
+      → saids' ≡ saids ++ share.said ∷ []
       → ArePartsOf ga gb turns fours sixes saids → ArePartsOf ga gb (turns ++ turn ∷ []) fours' sixes' saids'
   parts_push turns turn fours fours' sixes sixes' saids saids' share ended four six said old = record {
     shares = old.shares ++ share ∷ [];
-    past = ap (λ t. turns ++ t ∷ []) ended ∙ (ap (λ ts. ts ++ Over (Ok share) ∷ []) old.past ∙ sym (map-append _ old.shares (share ∷ [])));
+    past = ap (λ t. turns ++ t ∷ []) ended
+        ∙ (ap (λ ts. ts ++ Over (Ok share) ∷ []) old.past ∙ sym (map-append _ old.shares (share ∷ [])));
     four = four ∙ (ap (λ cs. cs ++ share.callers.four ∷ []) old.four ∙ sym (map-append _ old.shares (share ∷ [])));
     six = six ∙ (ap (λ cs. cs ++ share.callers.six ∷ []) old.six ∙ sym (map-append _ old.shares (share ∷ [])));
     said = said ∙ (ap (λ ss. ss ++ share.said ∷ []) old.said ∙ sym (map-append _ old.shares (share ∷ [])));
@@ -53,7 +57,8 @@ get_or_at [] k x d at = absurd (some-ne-none x (sym at))
 get_or_at (y ∷ ys) zero x d at = some-injective y x at
 get_or_at (y ∷ ys) (suc k) x d at = get_or_at ys k x d at
 
-zip_map : {X Y Z : Type 0} (R : X → Z → Type 0) (f : Y → Z) (xs : List X) (ys : List Y) → AllZip (λ x y. R x (f y)) xs ys → AllZip R xs (map f ys)
+zip_map : {X Y Z : Type 0} (R : X → Z → Type 0) (f : Y → Z) (xs : List X) (ys : List Y)
+    → AllZip (λ x y. R x (f y)) xs ys → AllZip R xs (map f ys)
 zip_map R f [] [] all = tt
 zip_map R f [] (y ∷ ys) all = absurd all
 zip_map R f (x ∷ xs) [] all = absurd all
@@ -64,13 +69,15 @@ module _ {A B K L : Type 0} (ga : Ghosts A K) (gb : Ghosts B L) (tables : Tables
   record AllDone (w : ℕ) (shares : List (Share A B K L ga gb)) : Type 0 where
     traces : List (List Item)
     count : length traces ≡ length shares
-    each : (k : ℕ) (t : List Item) → get_elem? traces k ≡ some t → IsTrace run.deal run.times (w + k) run.policy run.packets t
+    each : (k : ℕ) (t : List Item) → get_elem? traces k ≡ some t
+        → IsTrace run.deal run.times (w + k) run.policy run.packets t
     idle : All (λ s. AreIdle ga gb tables s.callers) shares
     four : AllZip (λ t s. HaveTraces run.times V4 (t ∷ []) s.callers.four.seat.view) traces shares
     six : AllZip (λ t s. HaveTraces run.times V6 (t ∷ []) s.callers.six.seat.view) traces shares
     said : AllZip (λ t s. AreSaid run t s.said.verdicts.items s.said.numbers.items) traces shares
 
-  all_done : (w : ℕ) (shares : List (Share A B K L ga gb)) → ((k : ℕ) (s : Share A B K L ga gb) → get_elem? shares k ≡ some s → IsDone ga gb tables run (w + k) s)
+  all_done : (w : ℕ) (shares : List (Share A B K L ga gb))
+      → ((k : ℕ) (s : Share A B K L ga gb) → get_elem? shares k ≡ some s → IsDone ga gb tables run (w + k) s)
       → AllDone w shares
   all_done w [] done = record {
     traces = [];
@@ -83,7 +90,9 @@ module _ {A B K L : Type 0} (ga : Ghosts A K) (gb : Ghosts B L) (tables : Tables
   }
   all_done w (s ∷ ss) done =
       let one = done 0 s refl in
-      let more = all_done (w + 1) ss (λ k x at. subst (λ n. IsDone ga gb tables run n x) (let e : w + suc k ≡ w + 1 + k = omega arith in e) (done (suc k) x at)) in
+      let more =
+      all_done (w + 1) ss (λ k x at. subst (λ n. IsDone ga gb tables run n x)
+      (let e : w + suc k ≡ w + 1 + k = omega arith in e) (done (suc k) x at)) in
       record {
         traces = one.trace ∷ more.traces;
         count = ap suc more.count;
@@ -95,10 +104,15 @@ module _ {A B K L : Type 0} (ga : Ghosts A K) (gb : Ghosts B L) (tables : Tables
       }
     where
       next : (x : List Item) (xs : List (List Item)) → IsTrace run.deal run.times (w + 0) run.policy run.packets x
-          → ((k : ℕ) (t : List Item) → get_elem? xs k ≡ some t → IsTrace run.deal run.times (w + 1 + k) run.policy run.packets t)
-          → (k : ℕ) (t : List Item) → get_elem? (x ∷ xs) k ≡ some t → IsTrace run.deal run.times (w + k) run.policy run.packets t
-      next x xs one more zero t at = subst (λ k. IsTrace run.deal run.times (w + 0) run.policy run.packets k) (some-injective x t at) one
-      next x xs one more (suc k) t at = subst (λ n. IsTrace run.deal run.times n run.policy run.packets t) (let e : w + 1 + k ≡ w + suc k = omega arith in e) (more k t at)
+          → ((k : ℕ) (t : List Item) → get_elem? xs k ≡ some t
+          → IsTrace run.deal run.times (w + 1 + k) run.policy run.packets t)
+          → (k : ℕ) (t : List Item) → get_elem? (x ∷ xs) k ≡ some t
+          → IsTrace run.deal run.times (w + k) run.policy run.packets t
+      next x xs one more zero t at =
+          subst (λ k. IsTrace run.deal run.times (w + 0) run.policy run.packets k) (some-injective x t at) one
+      next x xs one more (suc k) t at =
+          subst (λ n. IsTrace run.deal run.times n run.policy run.packets t)
+          (let e : w + 1 + k ≡ w + suc k = omega arith in e) (more k t at)
 
   -- there is a caller of each worker
   pub parts_count : (parts : Parts A B K L ga gb) → AreParts ga gb tables run parts
@@ -117,8 +131,8 @@ module _ {A B K L : Type 0} (ga : Ghosts A K) (gb : Ghosts B L) (tables : Tables
   gathered traces v lawful told four six V4 = record { lawful = lawful.0; told = told.0; did = four }
   gathered traces v lawful told four six V6 = record { lawful = lawful.1; told = told.1; did = six }
 
-  pub run_judged : (parts : Parts A B K L ga gb) (p : AreParts ga gb tables run parts) → 0 < run.deal.workers → (v : Views)
-      → IsLawfulCaller run.deal.layout.four v.four × IsLawfulCaller run.deal.layout.six v.six
+  pub run_judged : (parts : Parts A B K L ga gb) (p : AreParts ga gb tables run parts) → 0 < run.deal.workers
+      → (v : Views) → IsLawfulCaller run.deal.layout.four v.four × IsLawfulCaller run.deal.layout.six v.six
       → IsToldWhole run.deal.layout.four v.four × IsToldWhole run.deal.layout.six v.six
       → HaveTraces run.times V4 p.traces v.four → HaveTraces run.times V6 p.traces v.six
       → (verdicts : List Verdict) → ArePlaced run.times run.packets p.traces verdicts
@@ -134,37 +148,55 @@ module _ {A B R G K L : Type 0} (ga : Ghosts A K) (gb : Ghosts B L) (tables : Ta
 
   pub parts_are : (over : List (Turn A B R G K L ga gb)) → length over ≡ run.deal.workers
       → ((i : ℕ) (e : Turn A B R G K L ga gb) → i < length over → IsOver ga gb tables run i (get_or over i e))
-      → (parts : Parts A B K L ga gb) → ArePartsOf ga gb over parts.four.items parts.six.items parts.said.items → AreParts ga gb tables run parts
+      → (parts : Parts A B K L ga gb) → ArePartsOf ga gb over parts.four.items parts.six.items parts.said.items
+      → AreParts ga gb tables run parts
   parts_are over count each parts of = record {
     traces = all.traces;
     traced = record {
       count = all.count ∙ (sym (ap length of.past ∙ length-map of.shares (λ s. Over (Ok s))) ∙ count);
-      each = λ w t at. let e : 0 + w ≡ w = omega arith in subst (λ n. IsTrace run.deal run.times n run.policy run.packets t) e (all.each w t at);
+      each = λ w t at. let e : 0 + w ≡ w = omega arith in
+          subst (λ n. IsTrace run.deal run.times n run.policy run.packets t) e (all.each w t at);
     };
     own = (
-      subst (All (λ c. c.seat.row ≡ tables.four.row)) (sym of.four) (All-map (λ c. c.seat.row ≡ tables.four.row) (λ (s : Share A B K L ga gb). s.callers.four) of.shares
-          (All-weaker _ _ (λ (s : Share A B K L ga gb) (idle : AreIdle ga gb tables s.callers). idle.own.0) of.shares all.idle)),
-      subst (All (λ c. c.seat.row ≡ tables.six.row)) (sym of.six) (All-map (λ c. c.seat.row ≡ tables.six.row) (λ (s : Share A B K L ga gb). s.callers.six) of.shares
-          (All-weaker _ _ (λ (s : Share A B K L ga gb) (idle : AreIdle ga gb tables s.callers). idle.own.1) of.shares all.idle)),
+      subst (All (λ c. c.seat.row ≡ tables.four.row)) (sym of.four)
+          (All-map (λ c. c.seat.row ≡ tables.four.row) (λ (s : Share A B K L ga gb). s.callers.four) of.shares
+          (All-weaker _ _ (λ (s : Share A B K L ga gb) (idle : AreIdle ga gb tables s.callers). idle.own.0) of.shares
+          all.idle)),
+      subst (All (λ c. c.seat.row ≡ tables.six.row)) (sym of.six)
+          (All-map (λ c. c.seat.row ≡ tables.six.row) (λ (s : Share A B K L ga gb). s.callers.six) of.shares
+          (All-weaker _ _ (λ (s : Share A B K L ga gb) (idle : AreIdle ga gb tables s.callers). idle.own.1) of.shares
+          all.idle)),
     );
     free = (
-      subst (All (λ c. c.seat.view.holds ≡ nothing_held)) (sym of.four) (All-map (λ c. c.seat.view.holds ≡ nothing_held) (λ (s : Share A B K L ga gb). s.callers.four) of.shares
-          (All-weaker _ _ (λ (s : Share A B K L ga gb) (idle : AreIdle ga gb tables s.callers). idle.free.0) of.shares all.idle)),
-      subst (All (λ c. c.seat.view.holds ≡ nothing_held)) (sym of.six) (All-map (λ c. c.seat.view.holds ≡ nothing_held) (λ (s : Share A B K L ga gb). s.callers.six) of.shares
-          (All-weaker _ _ (λ (s : Share A B K L ga gb) (idle : AreIdle ga gb tables s.callers). idle.free.1) of.shares all.idle)),
+      subst (All (λ c. c.seat.view.holds ≡ nothing_held)) (sym of.four)
+          (All-map (λ c. c.seat.view.holds ≡ nothing_held) (λ (s : Share A B K L ga gb). s.callers.four) of.shares
+          (All-weaker _ _ (λ (s : Share A B K L ga gb) (idle : AreIdle ga gb tables s.callers). idle.free.0) of.shares
+          all.idle)),
+      subst (All (λ c. c.seat.view.holds ≡ nothing_held)) (sym of.six)
+          (All-map (λ c. c.seat.view.holds ≡ nothing_held) (λ (s : Share A B K L ga gb). s.callers.six) of.shares
+          (All-weaker _ _ (λ (s : Share A B K L ga gb) (idle : AreIdle ga gb tables s.callers). idle.free.1) of.shares
+          all.idle)),
     );
-    four = subst (AllZip (λ t c. HaveTraces run.times V4 (t ∷ []) c.seat.view) all.traces) (sym of.four) (zip_map _ _ all.traces of.shares all.four);
-    six = subst (AllZip (λ t c. HaveTraces run.times V6 (t ∷ []) c.seat.view) all.traces) (sym of.six) (zip_map _ _ all.traces of.shares all.six);
-    said = subst (AllZip (λ t s. AreSaid run t s.verdicts.items s.numbers.items) all.traces) (sym of.said) (zip_map _ _ all.traces of.shares all.said);
+    four =
+        subst (AllZip (λ t c. HaveTraces run.times V4 (t ∷ []) c.seat.view) all.traces) (sym of.four)
+        (zip_map _ _ all.traces of.shares all.four);
+    six =
+        subst (AllZip (λ t c. HaveTraces run.times V6 (t ∷ []) c.seat.view) all.traces) (sym of.six)
+        (zip_map _ _ all.traces of.shares all.six);
+    said =
+        subst (AllZip (λ t s. AreSaid run t s.verdicts.items s.numbers.items) all.traces) (sym of.said)
+        (zip_map _ _ all.traces of.shares all.said);
   }
     where
       done : (k : ℕ) (s : Share A B K L ga gb) → get_elem? of.shares k ≡ some s → IsDone ga gb tables run (0 + k) s
       done k s at =
           let ended : Turn A B R G K L ga gb = Over (Ok s) in
-          let there : get_elem? over k ≡ some ended = ap (λ ts. get_elem? ts k) of.past ∙ after_map (λ x. Over (Ok x)) of.shares k s at in
+          let there : get_elem? over k ≡ some ended =
+          ap (λ ts. get_elem? ts k) of.past ∙ after_map (λ x. Over (Ok x)) of.shares k s at in
           let e : k ≡ 0 + k = omega arith in
           subst (λ n. IsDone ga gb tables run n s) e
-          (subst (IsOver ga gb tables run k) (get_or_at over k ended ended there) (each k ended (within over k ended there)))
+          (subst (IsOver ga gb tables run k) (get_or_at over k ended ended there)
+          (each k ended (within over k ended there)))
 
       all : AllDone ga gb tables run 0 of.shares
       all = all_done ga gb tables run 0 of.shares done

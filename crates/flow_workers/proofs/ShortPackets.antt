@@ -64,18 +64,21 @@ by_reply : (ruling : Ruling) (r : Reply) → verdict_reflected ruling r ≡ verd
 by_reply None r e = absurd (let f : ⊥ = cc in f)
 by_reply (Some (i, action)) r e = by_entry (i + 1) r e
 
-told_no_pages : (p : PatchFacts) (ruling : Ruling) (found : Option ℕ) (r : Reply) → verdict_of p ruling found r ≡ verdict.NoPages → IsNoPages r
+told_no_pages : (p : PatchFacts) (ruling : Ruling) (found : Option ℕ) (r : Reply)
+    → verdict_of p ruling found r ≡ verdict.NoPages → IsNoPages r
 told_no_pages p ruling found r = go (is_live_for p found) p.reflects
   where
     go : (live reflects : Bool)
-        → (if live then verdict.Session else (if reflects then verdict_reflected ruling r else verdict_of_rules ruling)) ≡ verdict.NoPages → IsNoPages r
+        → (if live then verdict.Session else (if reflects then verdict_reflected ruling r else verdict_of_rules ruling))
+        ≡ verdict.NoPages → IsNoPages r
     go true reflects e = absurd (let f : ⊥ = cc in f)
     go false true e = by_reply ruling r e
     go false false e = absurd (by_rules ruling e)
 
 -- a packet without an update has pages
 pub settled_has_pages : (times : Timeouts) (moment : ℕ) (view : FrameFacts) (ruling : Ruling) (said : Verdict)
-    → (update_of times (reading_with moment view ruling) ≡ None) × (said ≡ verdict_with times (reading_with moment view ruling) None)
+    → (update_of times (reading_with moment view ruling) ≡ None)
+    × (said ≡ verdict_with times (reading_with moment view ruling) None)
     → said ≡ verdict.NoPages → ⊥
 settled_has_pages times moment frames.NotIp ruling said is e = let x = sym is.1 ∙ e in cc
 settled_has_pages times moment frames.Malformed ruling said is e = let x = sym is.1 ∙ e in cc
@@ -85,7 +88,8 @@ settled_has_pages times moment (frames.Ip direction tuple) ruling said is e =
 
 -- the update is that of the packet's flow
 pub flow_updated : (times : Timeouts) (moment : ℕ) (view : FrameFacts) (ruling : Ruling) (u : Update)
-    → update_of times (reading_with moment view ruling) ≡ Some u → (flow : Flow) × (flow_shown view ≡ Some flow) × (flow.key ≡ u.key)
+    → update_of times (reading_with moment view ruling) ≡ Some u
+    → (flow : Flow) × (flow_shown view ≡ Some flow) × (flow.key ≡ u.key)
 flow_updated times moment frames.NotIp ruling u is = absurd (let f : ⊥ = cc in f)
 flow_updated times moment frames.Malformed ruling u is = absurd (let f : ⊥ = cc in f)
 flow_updated times moment frames.Short ruling u is = absurd (let f : ⊥ = cc in f)
@@ -94,7 +98,8 @@ flow_updated times moment (frames.Ip direction tuple) ruling u is = go (flow_of 
     go : (found : Option Flow) → option_map (update_in times moment tuple ruling) found ≡ Some u
         → (flow : Flow) × (found ≡ Some flow) × (flow.key ≡ u.key)
     go None e = absurd (let f : ⊥ = cc in f)
-    go (Some flow) e = (flow, refl, (let same : update_in times moment tuple ruling flow ≡ u = cc in ap (λ (x : Update). x.key) same))
+    go (Some flow) e =
+        (flow, refl, (let same : update_in times moment tuple ruling flow ≡ u = cc in ap (λ (x : Update). x.key) same))
 
 last_of : (calls : List Call) (c : Call) (o : Option Call) → last_or o (calls ++ c ∷ []) ≡ Some c
 last_of [] c o = refl
@@ -112,13 +117,14 @@ last_reply z v w e answered some =
       refl,
     )
 
-pub flow_reply : (l : Layout) (key : FlowKey) (e : Event) (v w : Views) → IsEntered l key e v w → 1 ≤ length w.four.records
-    → 1 ≤ length w.six.records → IsFlowReply key w e.reply
-flow_reply l (Four key) e v w entered four six = last_reply l.four v.four w.four e entered.0 four
-flow_reply l (Six key) e v w entered four six = last_reply l.six v.six w.six e entered.0 six
+pub flow_reply : (l : Layout) (took : View → View → Reply → Type 0) (key : FlowKey) (e : Event) (v w : Views)
+    → IsEntered l took key e v w → 1 ≤ length w.four.records → 1 ≤ length w.six.records → IsFlowReply key w e.reply
+flow_reply l took (Four key) e v w entered four six = last_reply l.four v.four w.four e entered.0 four
+flow_reply l took (Six key) e v w entered four six = last_reply l.six v.six w.six e entered.0 six
 
-pub short_packet : {A B K L : Type 0} (ga : Ghosts A K) (gb : Ghosts B L) (own : Option Mac) (times : Timeouts) (s : PacketFacts) (p : ViewedPacket) (ruling : Ruling)
-    (u : Update) (w : Views) (r : Reply) (found : Option ℕ) → IsViewed own s p → update_of times (reading_in p ruling) ≡ Some u
+pub short_packet : {A B K L : Type 0} (ga : Ghosts A K) (gb : Ghosts B L) (own : Option Mac) (times : Timeouts)
+    (s : PacketFacts) (p : ViewedPacket) (ruling : Ruling) (u : Update) (w : Views) (r : Reply) (found : Option ℕ)
+    → IsViewed own s p → update_of times (reading_in p ruling) ≡ Some u
     → IsFlowReply u.key w r → ((log2 left : ℕ) → r ≡ reply.NoPages log2 left → IsFlowOutOfPages ga gb u.key w log2 left)
     → verdict_of u.patch ruling found r ≡ verdict.NoPages → IsPacketOutOfPages ga gb own s w
 short_packet ga gb own times s p ruling u w r found seen asks replied short e =
@@ -131,6 +137,8 @@ short_packet ga gb own times s p ruling u w r found seen asks replied short e =
       shown = flow.1;
       log2 = told.0;
       left = told.1;
-      replied = subst (λ key. IsFlowReply key w (reply.NoPages told.0 told.1)) (sym flow.2) (subst (IsFlowReply u.key w) told.2 replied);
+      replied =
+          subst (λ key. IsFlowReply key w (reply.NoPages told.0 told.1)) (sym flow.2)
+          (subst (IsFlowReply u.key w) told.2 replied);
       short = subst (λ key. IsFlowOutOfPages ga gb key w told.0 told.1) (sym flow.2) (short told.0 told.1 told.2);
     }

@@ -22,22 +22,25 @@ use Rattle.flow_workers.specs.inner.Jobs.{IsShareOf, run_facts}
 use Rattle.flow_workers.specs.inner.Turns.{Becomes, CanTake, IsAhead, IsDone, IsJob, IsOver}
 
 -- a fact of each element, when one more comes
-pub below_push : {X : Type 0} (P : ℕ → X → Type 0) (xs : List X) (x : X) → ((i : ℕ) (d : X) → i < length xs → P i (get_or xs i d)) → P (length xs) x
+pub below_push : {X : Type 0} (P : ℕ → X → Type 0) (xs : List X) (x : X)
+    → ((i : ℕ) (d : X) → i < length xs → P i (get_or xs i d)) → P (length xs) x
     → (i : ℕ) (d : X) → i < length xs + 1 → P i (get_or (xs ++ x ∷ []) i d)
 below_push P [] x each here zero d h = here
 below_push P [] x each here (suc i) d h = absurd (omega arith)
 below_push P (y ∷ ys) x each here zero d h = each zero d (omega arith)
-below_push P (y ∷ ys) x each here (suc i) d h = below_push (λ k. P (suc k)) ys x (λ k e b. each (suc k) e (omega arith)) here i d (omega arith)
+below_push P (y ∷ ys) x each here (suc i) d h =
+    below_push (λ k. P (suc k)) ys x (λ k e b. each (suc k) e (omega arith)) here i d (omega arith)
 
 pub push_count : {X : Type 0} (xs ys : List X) (x : X) (n : ℕ) → ys ≡ xs ++ x ∷ [] → length xs ≡ n → length ys ≡ n + 1
 push_count xs ys x n is count = ap length is ∙ (let e = length-append xs (x ∷ []) in omega arith)
 
-pub all_each : {X : Type 0} (P : X → Type 0) (xs : List X) → ((i : ℕ) (d : X) → i < length xs → P (get_or xs i d)) → All P xs
+pub all_each : {X : Type 0} (P : X → Type 0) (xs : List X) → ((i : ℕ) (d : X) → i < length xs → P (get_or xs i d))
+    → All P xs
 all_each P [] each = λ k d inside. absurd (omega arith)
 all_each P (x ∷ xs) each = All-from_get_or P (x ∷ xs) x (λ i inside. each i x inside)
 
-pub may_turn : {A B R G K L : Type 0} (ga : Ghosts A K) (gb : Ghosts B L) (tables : Tables A B K L) (run : RunFacts) (w : ℕ)
-    (t : Turn A B R G K L ga gb) → IsAhead ga gb tables run w t → CanTake ga gb t
+pub may_turn : {A B R G K L : Type 0} (ga : Ghosts A K) (gb : Ghosts B L) (tables : Tables A B K L) (run : RunFacts)
+    (w : ℕ) (t : Turn A B R G K L ga gb) → IsAhead ga gb tables run w t → CanTake ga gb t
 may_turn ga gb tables run w (Ahead job) is = is.can
 may_turn ga gb tables run w (Over result) is = tt
 
@@ -47,16 +50,17 @@ pub if_ok : {X E : Type 0} (P Q : X → Type 0) (r : Result X E) → ((x : X) �
 if_ok P Q (Ok x) f h = f x h
 if_ok P Q (Err e) f h = tt
 
-fresh_trace : (times : Timeouts) (family : Family) (v w : View) (t : List Item) → IsFresh v → Continues v w (calls_in times family t)
-    → HaveTraces times family (t ∷ []) w
+fresh_trace : (times : Timeouts) (family : Family) (v w : View) (t : List Item) → IsFresh v
+    → Continues v w (calls_in times family t) → HaveTraces times family (t ∷ []) w
 fresh_trace times family v w t fresh goes = let r = goes.calls (empty_record fresh.number) fresh.records in record {
   records = subst (AllZip (HasCalls times family) (t ∷ [])) (sym r.1) (refl, tt);
   openings = goes.openings ∙ fresh.openings;
 }
 
-module _ {A B R G K L : Type 0} (ga : Ghosts A K) (gb : Ghosts B L) (tables : Tables A B K L) (run : RunFacts) (w : ℕ) where
-  done : (job : Job A B R G K L ga gb) (share : Share A B K L ga gb) → IsJob ga gb tables run w job → IsShareOf ga gb job share
-      → IsDone ga gb tables run w share
+module _ {A B R G K L : Type 0} (ga : Ghosts A K) (gb : Ghosts B L) (tables : Tables A B K L) (run : RunFacts)
+    (w : ℕ) where
+  done : (job : Job A B R G K L ga gb) (share : Share A B K L ga gb) → IsJob ga gb tables run w job
+      → IsShareOf ga gb job share → IsDone ga gb tables run w share
   done job share is did = record {
     idle = subst (λ (t : Tables A B K L). AreIdle ga gb t share.callers) is.own did.idle;
     trace = work.trace;
@@ -75,9 +79,12 @@ module _ {A B R G K L : Type 0} (ga : Ghosts A K) (gb : Ghosts B L) (tables : Ta
       work : IsWork run w v u share.said.verdicts.items share.said.numbers.items
       work =
           subst (λ (f : RunFacts). IsWork f w v u share.said.verdicts.items share.said.numbers.items) is.facts
-          (subst (λ k. IsWork (run_facts ga gb job.run) k v u share.said.verdicts.items share.said.numbers.items) is.worker did.done)
+          (subst (λ k. IsWork (run_facts ga gb job.run) k v u share.said.verdicts.items share.said.numbers.items)
+          is.worker did.done)
 
-  pub turned : (t u : Turn A B R G K L ga gb) → IsAhead ga gb tables run w t → Becomes ga gb t u → IsOver ga gb tables run w u
+  pub turned : (t u : Turn A B R G K L ga gb) → IsAhead ga gb tables run w t → Becomes ga gb t u
+      → IsOver ga gb tables run w u
   turned (Ahead job) (Ahead other) is did = absurd did
-  turned (Ahead job) (Over result) is did = if_ok (IsShareOf ga gb job) (IsDone ga gb tables run w) result (λ share s. done job share is s) did
+  turned (Ahead job) (Over result) is did =
+      if_ok (IsShareOf ga gb job) (IsDone ga gb tables run w) result (λ share s. done job share is s) did
   turned (Over result) u is did = absurd is

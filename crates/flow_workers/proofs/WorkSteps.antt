@@ -21,6 +21,7 @@ use Rattle.bihash_steps.specs.declared.view.Known.{Known}
 use Rattle.bihash_steps.specs.declared.view.View.{View}
 use Rattle.bihash_table.specs.Answers.{entry_of, with_locks}
 use Rattle.bihash_table.specs.Promise.{IsAnswered}
+use Rattle.bihash_table.specs.Tries.{TookByTries}
 use Rattle.session_state.specs.declared.flow.FlowKey.{FlowKey}
 use Rattle.session_state.specs.declared.flow.FlowKey.TheVariants.{Four, Six}
 use Rattle.session_state.specs.declared.timeouts.Timeouts.{Timeouts}
@@ -44,7 +45,8 @@ continues_none v = record {
 }
 
 continues_same : (v u w : View) (cs : List Call) → w ≡ u → Continues v u cs → Continues v w (cs ++ [])
-continues_same v u w cs same old = subst (λ k. Continues v w k) (sym (append-nil cs)) (subst (λ x. Continues v x cs) (sym same) old)
+continues_same v u w cs same old =
+    subst (λ k. Continues v w k) (sym (append-nil cs)) (subst (λ x. Continues v x cs) (sym same) old)
 
 continues_push : (z : Sizes) (v u w : View) (cs : List Call) (e : Event) (a : IsAnswered z u w e) → Continues v u cs
     → Continues v w (cs ++ entry_of z (length a.history) e a.noted ∷ [])
@@ -52,7 +54,8 @@ continues_push z v u w cs e a old = record {
   calls = λ r one. let before = old.calls r one in (
     a.locks,
     a.records ∙ (ap (λ rs. push_call (entry_of z (length a.history) e a.noted) (with_locks a.locks rs)) before.1
-        ∙ ap (λ k. record r { calls = k; locks = a.locks } ∷ []) (append_assoc r.calls cs (entry_of z (length a.history) e a.noted ∷ []))),
+        ∙ ap (λ k. record r { calls = k; locks = a.locks } ∷ [])
+        (append_assoc r.calls cs (entry_of z (length a.history) e a.noted ∷ []))),
   );
   openings = ap (λ (k : Known). k.openings) a.known ∙ old.openings;
 }
@@ -60,7 +63,8 @@ continues_push z v u w cs e a old = record {
 -- ---- One packet's call
 
 -- the call of a packet with this update and event, and what it leaves of both callers
-record Left (l : Layout) (update : Option Update) (event : Option Event) (v w : Views) (c4 c6 : List Call) : Type 0 where
+record Left (l : Layout) (update : Option Update) (event : Option Event) (v w : Views)
+    (c4 c6 : List Call) : Type 0 where
   call : Option Call
   is : option_map event_of call ≡ event
   placed : IsCallAt l update call
@@ -68,15 +72,16 @@ record Left (l : Layout) (update : Option Update) (event : Option Event) (v w : 
   six : Continues v.six w.six (c6 ++ call_in V6 update call [])
 
 by_key : (l : Layout) (u : Update) (key : FlowKey) (e : Event) (v x w : Views) (c4 c6 : List Call)
-    → u.key ≡ key → e.key ≡ words_of key → IsEntered l key e x w → Continues v.four x.four c4 → Continues v.six x.six c6
-    → Left l (Some u) (Some e) v w c4 c6
+    → u.key ≡ key → e.key ≡ words_of key → IsEntered l TookByTries key e x w
+    → Continues v.four x.four c4 → Continues v.six x.six c6 → Left l (Some u) (Some e) v w c4 c6
 by_key l u (Four words) e v x w c4 c6 same asked entered four six =
     let c : Call = entry_of l.four (length entered.0.history) e entered.0.noted in
     record {
       call = Some c;
       is = refl;
       placed = subst (λ k. c.bucket ≡ (home_of l k).bucket) (sym same) (ap (λ k. (home_of l (Four k)).bucket) asked);
-      four = subst (λ k. Continues v.four w.four (c4 ++ (if same_family V4 (family_of k) then c ∷ [] else []))) (sym same)
+      four =
+          subst (λ k. Continues v.four w.four (c4 ++ (if same_family V4 (family_of k) then c ∷ [] else []))) (sym same)
           (continues_push l.four v.four x.four w.four c4 e entered.0 four);
       six = subst (λ k. Continues v.six w.six (c6 ++ (if same_family V6 (family_of k) then c ∷ [] else []))) (sym same)
           (continues_same v.six x.six w.six c6 entered.1 six);
@@ -87,18 +92,20 @@ by_key l u (Six words) e v x w c4 c6 same asked entered four six =
       call = Some c;
       is = refl;
       placed = subst (λ k. c.bucket ≡ (home_of l k).bucket) (sym same) (ap (λ k. (home_of l (Six k)).bucket) asked);
-      four = subst (λ k. Continues v.four w.four (c4 ++ (if same_family V4 (family_of k) then c ∷ [] else []))) (sym same)
+      four =
+          subst (λ k. Continues v.four w.four (c4 ++ (if same_family V4 (family_of k) then c ∷ [] else []))) (sym same)
           (continues_same v.four x.four w.four c4 entered.1 four);
       six = subst (λ k. Continues v.six w.six (c6 ++ (if same_family V6 (family_of k) then c ∷ [] else []))) (sym same)
           (continues_push l.six v.six x.six w.six c6 e entered.0 six);
     }
 
 event_key : (u : Update) (e : Event) → IsAskedBy (Some u) (Some e) → e.key ≡ words_of u.key
-event_key u e asked = let same : asked.0 ≡ e = let s = asked.1 in cc in ap (λ (x : Event). x.key) (sym same) ∙ asked.2.key
+event_key u e asked = let same : asked.0 ≡ e = let s = asked.1 in cc in
+    ap (λ (x : Event). x.key) (sym same) ∙ asked.2.key
 
 left_by : (l : Layout) (update : Option Update) (event : Option Event) (v x w : Views) (c4 c6 : List Call)
-    → IsAskedBy update event → IsEnteredBy l update event x w → Continues v.four x.four c4 → Continues v.six x.six c6
-    → Left l update event v w c4 c6
+    → IsAskedBy update event → IsEnteredBy l TookByTries update event x w
+    → Continues v.four x.four c4 → Continues v.six x.six c6 → Left l update event v w c4 c6
 left_by l None event v x w c4 c6 asked entered four six = record {
   call = None;
   is = sym asked;
@@ -112,7 +119,8 @@ left_by l (Some u) (Some e) v x w c4 c6 asked entered four six =
 
 -- ---- Lists of items
 
-call_in_append : (family : Family) (u : Option Update) (call : Option Call) (xs ys : List Call) → call_in family u call xs ++ ys ≡ call_in family u call (xs ++ ys)
+call_in_append : (family : Family) (u : Option Update) (call : Option Call) (xs ys : List Call)
+    → call_in family u call xs ++ ys ≡ call_in family u call (xs ++ ys)
 call_in_append family None call xs ys = refl
 call_in_append family (Some u) None xs ys = refl
 call_in_append family (Some u) (Some c) xs ys = go (same_family family (family_of u.key))
@@ -122,15 +130,20 @@ call_in_append family (Some u) (Some c) xs ys = go (same_family family (family_o
     go false = refl
 
 pub calls_push : (times : Timeouts) (family : Family) (is : List Item) (i : Item)
-    → calls_in times family (is ++ i ∷ []) ≡ calls_in times family is ++ call_in family (update_of times i.reading) i.call []
+    → calls_in times family (is ++ i ∷ [])
+    ≡ calls_in times family is ++ call_in family (update_of times i.reading) i.call []
 calls_push times family [] i = refl
-calls_push times family (x ∷ xs) i = ap (call_in family (update_of times x.reading) x.call) (calls_push times family xs i)
-    ∙ sym (call_in_append family (update_of times x.reading) x.call (calls_in times family xs) (call_in family (update_of times i.reading) i.call []))
+calls_push times family (x ∷ xs) i =
+    ap (call_in family (update_of times x.reading) x.call) (calls_push times family xs i)
+    ∙ sym (call_in_append family (update_of times x.reading) x.call (calls_in times family xs)
+    (call_in family (update_of times i.reading) i.call []))
 
 -- ---- Dealing
 
-pub numbers_cons : (d : Deal) (w at : ℕ) (view : frames.FrameFacts) (views : List frames.FrameFacts) → numbers_from d w at (view ∷ views)
-    ≡ cond (worker_of d at (flow_shown view) == w) (at ∷ numbers_from d w (at + 1) views) (numbers_from d w (at + 1) views)
+pub numbers_cons : (d : Deal) (w at : ℕ) (view : frames.FrameFacts) (views : List frames.FrameFacts)
+    → numbers_from d w at (view ∷ views)
+    ≡ cond (worker_of d at (flow_shown view) == w) (at ∷ numbers_from d w (at + 1) views)
+    (numbers_from d w (at + 1) views)
 unfolding numbers_from
 numbers_cons d w at view views = refl
 
@@ -139,16 +152,21 @@ unfolding numbers_from
 no_numbers d w at = refl
 
 -- the view at a place
-view_there : (own : Option Mac) (packets : List PacketFacts) (views : List frames.FrameFacts) (at : ℕ) (packet : PacketFacts) (this : frames.FrameFacts) → AreViews own packets views
+view_there : (own : Option Mac) (packets : List PacketFacts) (views : List frames.FrameFacts) (at : ℕ)
+    (packet : PacketFacts) (this : frames.FrameFacts) → AreViews own packets views
     → slice_get packets at ≡ Some packet → ((other : frames.FrameFacts) → IsFrame packet.frame own other → other ≡ this)
     → drop at views ≡ this ∷ drop (suc at) views
 view_there own [] [] at packet this all stands only = let f : ⊥ = cc in absurd f
 view_there own [] (view ∷ views) at packet this all stands only = absurd all
 view_there own (p ∷ ps) [] at packet this all stands only = absurd all
-view_there own (p ∷ ps) (view ∷ views) zero packet this all stands only = ap (λ x. x ∷ views) (only view (subst (λ (q : PacketFacts). IsFrame q.frame own view) (let e : p ≡ packet = cc in e) all.0))
-view_there own (p ∷ ps) (view ∷ views) (suc at) packet this all stands only = view_there own ps views at packet this all.1 stands only
+view_there own (p ∷ ps) (view ∷ views) zero packet this all stands only =
+    ap (λ x. x ∷ views) (only view
+    (subst (λ (q : PacketFacts). IsFrame q.frame own view) (let e : p ≡ packet = cc in e) all.0))
+view_there own (p ∷ ps) (view ∷ views) (suc at) packet this all stands only =
+    view_there own ps views at packet this all.1 stands only
 
-view_at : (own : Option Mac) (packets : List PacketFacts) (views : List frames.FrameFacts) (at : ℕ) (packet : PacketFacts) (this : frames.FrameFacts) → AreViews own packets views
+view_at : (own : Option Mac) (packets : List PacketFacts) (views : List frames.FrameFacts) (at : ℕ)
+    (packet : PacketFacts) (this : frames.FrameFacts) → AreViews own packets views
     → slice_get packets at ≡ Some packet → ((other : frames.FrameFacts) → IsFrame packet.frame own other → other ≡ this)
     → drop at views ≡ this ∷ drop (at + 1) views
 view_at own packets views at packet this all stands only = view_there own packets views at packet this all stands only
@@ -156,15 +174,16 @@ view_at own packets views at packet this all stands only = view_there own packet
 
 -- ---- A worker's packet, and another's
 
-flow_of_reading : (policy : PolicyFacts) (moment : ℕ) (view : frames.FrameFacts) (reading : Reading) → IsReadingOf policy moment view reading
-    → flow_in reading ≡ flow_shown view
+flow_of_reading : (policy : PolicyFacts) (moment : ℕ) (view : frames.FrameFacts) (reading : Reading)
+    → IsReadingOf policy moment view reading → flow_in reading ≡ flow_shown view
 flow_of_reading policy moment frames.NotIp reading is = ap flow_in is
 flow_of_reading policy moment frames.Malformed reading is = ap flow_in is
 flow_of_reading policy moment frames.Short reading is = ap flow_in is
 flow_of_reading policy moment (frames.Ip direction tuple) reading is = ap flow_in is.2
 
 -- a worker has looked at so many packets, and judged its own
-pub record IsWorkUntil (run : RunFacts) (worker at : ℕ) (v w : Views) (verdicts : List Verdict) (numbers : List ℕ) : Type 0 where
+pub record IsWorkUntil (run : RunFacts) (worker at : ℕ) (v w : Views) (verdicts : List Verdict)
+    (numbers : List ℕ) : Type 0 where
   pub trace : List Item
   pub items : All (IsItem run.deal.layout run.times) trace
   pub of : All (IsItemOf run.deal worker run.policy run.packets) trace
@@ -181,9 +200,10 @@ pub record IsAt (run : RunFacts) (at : ℕ) (packet : PacketFacts) (view : frame
   pub only : (other : frames.FrameFacts) → IsFrame packet.frame run.policy.own other → other ≡ view
 
 -- the flow that a packet's reading has is the one that its frame shows
-pub flow_at : (run : RunFacts) (at : ℕ) (packet : PacketFacts) (view : frames.FrameFacts) (reading : Reading) → IsAt run at packet view
-    → IsReading run.policy packet reading → flow_in reading ≡ flow_shown view
-flow_at run at packet view reading is read = flow_of_reading run.policy packet.moment read.0 reading read.2 ∙ ap flow_shown (is.only read.0 read.1)
+pub flow_at : (run : RunFacts) (at : ℕ) (packet : PacketFacts) (view : frames.FrameFacts) (reading : Reading)
+    → IsAt run at packet view → IsReading run.policy packet reading → flow_in reading ≡ flow_shown view
+flow_at run at packet view reading is read =
+    flow_of_reading run.policy packet.moment read.0 reading read.2 ∙ ap flow_shown (is.only read.0 read.1)
 
 pub work_none : (run : RunFacts) (w : ℕ) (v : Views) → IsWorkUntil run w 0 v v [] []
 work_none run w v = record {
@@ -197,47 +217,59 @@ work_none run w v = record {
 }
 
 -- the numbers from a packet on, where its view is known
-numbers_at : (run : RunFacts) (w at : ℕ) (packet : PacketFacts) (view : frames.FrameFacts) → IsAt run at packet view → (views : List frames.FrameFacts)
+numbers_at : (run : RunFacts) (w at : ℕ) (packet : PacketFacts) (view : frames.FrameFacts) → IsAt run at packet view
+    → (views : List frames.FrameFacts)
     → AreViews run.policy.own run.packets views → (t : Bool) → (worker_of run.deal at (flow_shown view) == w) ≡ t
     → numbers_from run.deal w at (drop at views)
-    ≡ cond t (at ∷ numbers_from run.deal w (at + 1) (drop (at + 1) views)) (numbers_from run.deal w (at + 1) (drop (at + 1) views))
+    ≡ cond t (at ∷ numbers_from run.deal w (at + 1) (drop (at + 1) views))
+    (numbers_from run.deal w (at + 1) (drop (at + 1) views))
 numbers_at run w at packet view is views all t test =
     ap (numbers_from run.deal w at) (view_at run.policy.own run.packets views at packet view all is.stands is.only)
     ∙ (numbers_cons run.deal w at view (drop (at + 1) views)
-    ∙ ap (λ b. cond b (at ∷ numbers_from run.deal w (at + 1) (drop (at + 1) views)) (numbers_from run.deal w (at + 1) (drop (at + 1) views))) test)
+    ∙ ap (λ b. cond b (at ∷ numbers_from run.deal w (at + 1) (drop (at + 1) views))
+    (numbers_from run.deal w (at + 1) (drop (at + 1) views))) test)
 
-pub work_passed : (run : RunFacts) (w at : ℕ) (v x : Views) (verdicts : List Verdict) (numbers : List ℕ) (packet : PacketFacts) (view : frames.FrameFacts)
+pub work_passed : (run : RunFacts) (w at : ℕ) (v x : Views) (verdicts : List Verdict) (numbers : List ℕ)
+    (packet : PacketFacts) (view : frames.FrameFacts)
     → IsAt run at packet view → worker_of run.deal at (flow_shown view) ≢ w
     → IsWorkUntil run w at v x verdicts numbers → IsWorkUntil run w (at + 1) v x verdicts numbers
 work_passed run w at v x verdicts numbers packet view is other old = record {
   trace = old.trace;
   items = old.items;
   of = old.of;
-  dealt = λ views all. ap (λ ns. numbers_of old.trace ++ ns) (sym (numbers_at run w at packet view is views all false (ne_eqb _ _ other)))
+  dealt = λ views all.
+      ap (λ ns. numbers_of old.trace ++ ns)
+      (sym (numbers_at run w at packet view is views all false (ne_eqb _ _ other)))
       ∙ old.dealt views all;
   four = old.four;
   six = old.six;
   said = old.said;
 }
 
-said_push : (run : RunFacts) (trace : List Item) (i : Item) (verdicts : List Verdict) (numbers more : List ℕ) (verdict : Verdict)
-    → AreSaid run trace verdicts numbers → verdict ≡ verdict_in run.times i
+said_push : (run : RunFacts) (trace : List Item) (i : Item) (verdicts : List Verdict) (numbers more : List ℕ)
+    (verdict : Verdict) → AreSaid run trace verdicts numbers → verdict ≡ verdict_in run.times i
     → (run.deal.workers ≢ 1 → more ≡ numbers ++ i.packet ∷ [])
     → AreSaid run (trace ++ i ∷ []) (verdicts ++ verdict ∷ []) more
 said_push run trace i verdicts numbers more verdict old is noted = record {
   said = ap (λ vs. vs ++ verdict ∷ []) old.said ∙ (ap (λ k. map (verdict_in run.times) trace ++ k ∷ []) is
       ∙ sym (map-append (verdict_in run.times) trace (i ∷ [])));
-  of = λ several. noted several ∙ (ap (λ ns. ns ++ i.packet ∷ []) (old.of several) ∙ sym (map-append (λ (k : Item). k.packet) trace (i ∷ [])));
+  of = λ several.
+      noted several ∙ (ap (λ ns. ns ++ i.packet ∷ []) (old.of several)
+      ∙ sym (map-append (λ (k : Item). k.packet) trace (i ∷ [])));
 }
 
-pub work_push : (run : RunFacts) (w at : ℕ) (v x y : Views) (verdicts : List Verdict) (numbers more : List ℕ) (packet : PacketFacts) (view : frames.FrameFacts)
+pub work_push : (run : RunFacts) (w at : ℕ) (v x y : Views) (verdicts : List Verdict) (numbers more : List ℕ)
+    (packet : PacketFacts) (view : frames.FrameFacts)
     (verdict : Verdict) → IsAt run at packet view → worker_of run.deal at (flow_shown view) ≡ w
-    → IsJudged run.deal.layout run.times run.policy packet x y verdict
+    → IsJudged run.deal.layout TookByTries run.times run.policy packet x y verdict
     → (run.deal.workers ≢ 1 → more ≡ numbers ++ at ∷ [])
     → IsWorkUntil run w at v x verdicts numbers → IsWorkUntil run w (at + 1) v y (verdicts ++ verdict ∷ []) more
 work_push run w at v x y verdicts numbers more packet view verdict is mine j noted old = record {
   trace = old.trace ++ item ∷ [];
-  items = All-push (IsItem run.deal.layout run.times) old.trace item old.items (record { asked = asked; placed = left.placed });
+  items = All-push (IsItem run.deal.layout run.times) old.trace item old.items (record {
+    asked = asked;
+    placed = left.placed;
+  });
   of = All-push (IsItemOf run.deal w run.policy run.packets) old.trace item old.of (record {
     packet = packet;
     there = is.stands;
@@ -245,18 +277,22 @@ work_push run w at v x y verdicts numbers more packet view verdict is mine j not
     dealt = ap (worker_of run.deal at) (flow_at run at packet view j.judged.reading is j.read) ∙ mine;
   });
   dealt = λ views all.
-      ap (λ ns. ns ++ numbers_from run.deal w (at + 1) (drop (at + 1) views)) (map-append (λ (i : Item). i.packet) old.trace (item ∷ []))
+      ap (λ ns. ns ++ numbers_from run.deal w (at + 1) (drop (at + 1) views))
+      (map-append (λ (i : Item). i.packet) old.trace (item ∷ []))
       ∙ (append_assoc (numbers_of old.trace) (at ∷ []) (numbers_from run.deal w (at + 1) (drop (at + 1) views))
-      ∙ (ap (λ ns. numbers_of old.trace ++ ns) (sym (numbers_at run w at packet view is views all true (eq-eqb _ _ mine)))
+      ∙ (ap (λ ns. numbers_of old.trace ++ ns)
+      (sym (numbers_at run w at packet view is views all true (eq-eqb _ _ mine)))
       ∙ old.dealt views all));
   four = subst (λ cs. Continues v.four y.four cs) (sym (calls_push run.times V4 old.trace item)) left.four;
   six = subst (λ cs. Continues v.six y.six cs) (sym (calls_push run.times V6 old.trace item)) left.six;
   said = said_push run old.trace item verdicts numbers more verdict old.said said noted;
 }
   where
-    left : Left run.deal.layout (update_of run.times j.judged.reading) j.judged.event v y (calls_in run.times V4 old.trace) (calls_in run.times V6 old.trace)
-    left = left_by run.deal.layout (update_of run.times j.judged.reading) j.judged.event v x y (calls_in run.times V4 old.trace)
-        (calls_in run.times V6 old.trace) j.asked j.entered old.four old.six
+    left : Left run.deal.layout (update_of run.times j.judged.reading) j.judged.event v y
+        (calls_in run.times V4 old.trace) (calls_in run.times V6 old.trace)
+    left =
+        left_by run.deal.layout (update_of run.times j.judged.reading) j.judged.event v x y
+        (calls_in run.times V4 old.trace) (calls_in run.times V6 old.trace) j.asked j.entered old.four old.six
 
     item : Item
     item = record { packet = at; reading = j.judged.reading; call = left.call }
@@ -300,24 +336,27 @@ nothing_left [] (suc at) none = refl
 nothing_left (x ∷ xs) at none = absurd (let f : ⊥ = cc in f)
 
 -- after all packets nothing is left to look at
-no_views : (own : Option Mac) (packets : List PacketFacts) (views : List frames.FrameFacts) (at : ℕ) → AreViews own packets views → drop at packets ≡ [] → drop at views ≡ []
+no_views : (own : Option Mac) (packets : List PacketFacts) (views : List frames.FrameFacts) (at : ℕ)
+    → AreViews own packets views → drop at packets ≡ [] → drop at views ≡ []
 no_views own [] [] at all none = nothing_left [] at refl
 no_views own [] (view ∷ views) at all none = absurd all
 no_views own (p ∷ ps) [] at all none = absurd all
 no_views own (p ∷ ps) (view ∷ views) zero all none = absurd (let f : ⊥ = cc in f)
 no_views own (p ∷ ps) (view ∷ views) (suc at) all none = no_views own ps views at all.1 none
 
-all_looked_at : (run : RunFacts) (w at : ℕ) (v u : Views) (verdicts : List Verdict) (numbers : List ℕ) → drop at run.packets ≡ []
-    → (work : IsWorkUntil run w at v u verdicts numbers) (views : List frames.FrameFacts) → AreViews run.policy.own run.packets views
-    → numbers_of work.trace ≡ numbers_from run.deal w 0 views
+all_looked_at : (run : RunFacts) (w at : ℕ) (v u : Views) (verdicts : List Verdict) (numbers : List ℕ)
+    → drop at run.packets ≡ []
+    → (work : IsWorkUntil run w at v u verdicts numbers) (views : List frames.FrameFacts)
+    → AreViews run.policy.own run.packets views → numbers_of work.trace ≡ numbers_from run.deal w 0 views
 all_looked_at run w at v u verdicts numbers none work views all =
-    sym (ap (λ vs. numbers_of work.trace ++ numbers_from run.deal w at vs) (no_views run.policy.own run.packets views at all none)
+    sym (ap (λ vs. numbers_of work.trace ++ numbers_from run.deal w at vs)
+    (no_views run.policy.own run.packets views at all none)
     ∙ (ap (λ ns. numbers_of work.trace ++ ns) (no_numbers run.deal w at) ∙ append-nil (numbers_of work.trace)))
     ∙ work.dealt views all
 
 -- who has looked at all packets judged its own, all of them
-pub whole_work : (run : RunFacts) (w at : ℕ) (v u : Views) (verdicts : List Verdict) (numbers : List ℕ) → drop at run.packets ≡ []
-    → IsWorkUntil run w at v u verdicts numbers → IsWork run w v u verdicts numbers
+pub whole_work : (run : RunFacts) (w at : ℕ) (v u : Views) (verdicts : List Verdict) (numbers : List ℕ)
+    → drop at run.packets ≡ [] → IsWorkUntil run w at v u verdicts numbers → IsWork run w v u verdicts numbers
 whole_work run w at v u verdicts numbers none work = record {
   trace = work.trace;
   is = record { items = work.items; of = work.of; dealt = all_looked_at run w at v u verdicts numbers none work };

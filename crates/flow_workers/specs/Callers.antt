@@ -31,6 +31,7 @@ pub record AreIdle {A B K L : Type 0} (ga : Ghosts A K) (gb : Ghosts B L) (table
   pub lawful : IsLawfulCaller (sizes_of ga) callers.four.seat.view × IsLawfulCaller (sizes_of gb) callers.six.seat.view
 
 -- the callers are those of before, but for what they know
-pub record AreSame {A B K L : Type 0} (ga : Ghosts A K) (gb : Ghosts B L) (old new : Callers A B K L ga gb) : Type 0 where
+pub record AreSame {A B K L : Type 0} (ga : Ghosts A K) (gb : Ghosts B L)
+    (old new : Callers A B K L ga gb) : Type 0 where
   pub four : new.four.seat ≡ with_view old.four.seat new.four.seat.view
   pub six : new.six.seat ≡ with_view old.six.seat new.six.seat.view

@@ -4,12 +4,14 @@ use Rattle.packet_view.specs.Captures.{packet_facts}
 use Rattle.packet_view.specs.declared.capture.Packet.{Packet}
 use Rattle.acl_policy.specs.Policies.{policy_facts}
 use Rattle.bihash_words.specs.declared.shape.Shape.{Ghosts}
+use Rattle.bihash_table.specs.Tries.{TookByTries}
 use Rattle.bihash_table.specs.declared.contended.Contended.{Contended}
 use Rattle.flow_filter.specs.declared.filter.Filter.{Filter}
 use Rattle.flow_filter.specs.declared.verdict.Verdict.{Verdict}
 use Rattle.flow_workers.specs.declared.tables.Callers.{Callers}
 use Rattle.flow_workers.specs.declared.tables.Tables.{Tables}
 use Rattle.flow_workers.specs.Callers.{AreIdle, AreSame, AreShapes}
+use Rattle.flow_workers.specs.Judging.{TookByOneTry}
 use Rattle.flow_workers.specs.Verdicts.{HasNoFlow, HasNoVerdict, HasVerdict, ShowsOutOfPages}
 
 -- callers that may ask these tables
@@ -18,21 +20,25 @@ pub record MayAsk {A B K L : Type 0} {ga : Ghosts A K} {gb : Ghosts B L} (tables
   pub shapes : AreShapes ga gb
   pub idle : AreIdle ga gb tables callers
 
--- the verdict on a packet, of callers that may ask again
+-- the verdict on a packet, of callers that may ask again, with the locks that the tries of its call took
 pub record TellsVerdict {A B K L : Type 0} {ga : Ghosts A K} {gb : Ghosts B L} (filter : Filter) (packet : Packet)
     (tables : Tables A B K L) (old new : Callers A B K L ga gb) (verdict : Verdict) : Type 0 where
   pub same : AreSame ga gb old new
   pub idle : AreIdle ga gb tables new
-  pub judged : HasVerdict ga gb filter.times (policy_facts filter.policy) (packet_facts packet) old new verdict
+  pub judged : HasVerdict ga gb TookByTries filter.times (policy_facts filter.policy) (packet_facts packet)
+      old new verdict
   pub no_pages : ShowsOutOfPages ga gb (policy_facts filter.policy) (packet_facts packet) new verdict
 
--- one try, which lone callers find answered, and all callers where the packet takes no part in sessions
+-- one try, which lone callers find answered, and all callers where the packet takes no part in sessions, with the
+-- locks that it took
 pub record TellsVerdictTry {A B K L : Type 0} {ga : Ghosts A K} {gb : Ghosts B L} (filter : Filter) (packet : Packet)
     (tables : Tables A B K L) (old new : Callers A B K L ga gb) (r : Result Verdict Contended) : Type 0 where
   pub same : AreSame ga gb old new
   pub idle : AreIdle ga gb tables new
-  pub judged : IfOk r (HasVerdict ga gb filter.times (policy_facts filter.policy) (packet_facts packet) old new)
+  pub judged : IfOk r
+      (HasVerdict ga gb TookByOneTry filter.times (policy_facts filter.policy) (packet_facts packet) old new)
   pub no_pages : IfOk r (ShowsOutOfPages ga gb (policy_facts filter.policy) (packet_facts packet) new)
-  pub refused : IfErr r (λ _. HasNoVerdict ga gb filter.times (policy_facts filter.policy) (packet_facts packet) old new)
+  pub refused : IfErr r (λ _.
+      HasNoVerdict ga gb filter.times (policy_facts filter.policy) (packet_facts packet) old new)
   pub lone : old.four.seat.view.lone ≡ true → old.six.seat.view.lone ≡ true → is_ok r ≡ true
   pub settled : HasNoFlow (policy_facts filter.policy).own (packet_facts packet) → is_ok r ≡ true

@@ -1,8 +1,11 @@
 -- What judging one packet leaves of the callers.
-use Rattle.std.specs.Prelude.{◌≡◌, Option, Some, None}
+use Rattle.std.specs.Prelude.{◌≡◌, Option, Some, None, Ok}
 use Rattle.bihash_words.specs.Maps.{Event}
 use Rattle.bihash_words.specs.Sizes.{bucket_of}
+use Rattle.bihash_words.specs.declared.patch.Reply.{Reply}
+use Rattle.bihash_steps.specs.declared.view.View.{View}
 use Rattle.bihash_table.specs.Promise.{IsAnswered, IsContended}
+use Rattle.bihash_table.specs.Tries.{TookAtMost, try_locks}
 use Rattle.packet_view.specs.Captures.{PacketFacts}
 use Rattle.acl_policy.specs.Policies.{PolicyFacts}
 use Rattle.session_state.specs.declared.flow.FlowKey.{FlowKey}
@@ -15,34 +18,45 @@ use Rattle.flow_filter.specs.Judged.{IsAsked, Judged, verdict_on}
 use Rattle.flow_filter.specs.OneThread.{Layout}
 use Rattle.flow_dealing.specs.Views.{Views}
 
--- the event was one call of the caller of its key's family; the other caller made none
-abbrev pub IsEntered : Layout → FlowKey → Event → Views → Views → Type 0
-IsEntered l (Four key) e v w = IsAnswered l.four v.four w.four e × (w.six ≡ v.six)
-IsEntered l (Six key) e v w = IsAnswered l.six v.six w.six e × (w.four ≡ v.four)
+-- a call that was tried once took as many locks of buckets as its reply allows: none where it is Kept, Worn or Full,
+-- and one at most elsewhere
+abbrev pub TookByOneTry : View → View → Reply → Type 0
+TookByOneTry v w reply = TookAtMost v w (try_locks (Ok reply))
+
+-- The event was one call of the caller of its key's family, which took locks of buckets as `took` says of its
+-- reply; the other caller made none.
+abbrev pub IsEntered : Layout → (View → View → Reply → Type 0) → FlowKey → Event → Views → Views → Type 0
+IsEntered l took (Four key) e v w =
+    IsAnswered l.four v.four w.four e × (w.six ≡ v.six) × took v.four w.four e.reply
+IsEntered l took (Six key) e v w =
+    IsAnswered l.six v.six w.six e × (w.four ≡ v.four) × took v.six w.six e.reply
 
 -- a packet without a flow made no call
-abbrev pub IsEnteredBy : Layout → Option Update → Option Event → Views → Views → Type 0
-IsEnteredBy l None event v w = w ≡ v
-IsEnteredBy l (Some u) None v w = ⊥
-IsEnteredBy l (Some u) (Some e) v w = IsEntered l u.key e v w
+abbrev pub IsEnteredBy : Layout → (View → View → Reply → Type 0) → Option Update → Option Event → Views → Views → Type 0
+IsEnteredBy l took None event v w = w ≡ v
+IsEnteredBy l took (Some u) None v w = ⊥
+IsEnteredBy l took (Some u) (Some e) v w = IsEntered l took u.key e v w
 
--- The packet was judged: it asked once where it has a flow, by one call that is in its family's record now, and
--- else not at all; and the verdict is that of what it found and was answered.
-pub record IsJudged (l : Layout) (times : Timeouts) (policy : PolicyFacts) (packet : PacketFacts) (v w : Views)
-    (verdict : Verdict) : Type 0 where
+-- The packet was judged: it asked once where it has a flow, by one call that is in its family's record now and
+-- took locks as `took` says, and else not at all; and the verdict is that of what it found and was answered.
+pub record IsJudged (l : Layout) (took : View → View → Reply → Type 0) (times : Timeouts) (policy : PolicyFacts)
+    (packet : PacketFacts) (v w : Views) (verdict : Verdict) : Type 0 where
   pub judged : Judged
   pub read : IsReading policy packet judged.reading
   pub asked : IsAsked times judged
-  pub entered : IsEnteredBy l (update_of times judged.reading) judged.event v w
+  pub entered : IsEnteredBy l took (update_of times judged.reading) judged.event v w
   pub said : verdict ≡ verdict_on times judged
 
--- the call met another caller (IsContended); the other family's caller made no call
+-- the call met another caller (IsContended) and took one lock at most; the other family's caller made no call
 abbrev pub IsAway : Layout → FlowKey → Views → Views → Type 0
-IsAway l (Four key) v w = IsContended l.four v.four w.four (bucket_of l.four key) × (w.six ≡ v.six)
-IsAway l (Six key) v w = IsContended l.six v.six w.six (bucket_of l.six key) × (w.four ≡ v.four)
+IsAway l (Four key) v w =
+    IsContended l.four v.four w.four (bucket_of l.four key) × (w.six ≡ v.six) × TookAtMost v.four w.four 1
+IsAway l (Six key) v w =
+    IsContended l.six v.six w.six (bucket_of l.six key) × (w.four ≡ v.four) × TookAtMost v.six w.six 1
 
 -- The packet met another caller's change or lock; only a packet with a flow can.
-pub record IsRefused (l : Layout) (times : Timeouts) (policy : PolicyFacts) (packet : PacketFacts) (v w : Views) : Type 0 where
+pub record IsRefused (l : Layout) (times : Timeouts) (policy : PolicyFacts) (packet : PacketFacts)
+    (v w : Views) : Type 0 where
   pub reading : Reading
   pub read : IsReading policy packet reading
   pub update : Update

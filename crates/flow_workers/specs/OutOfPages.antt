@@ -19,8 +19,10 @@ use Rattle.flow_dealing.specs.Views.{Views}
 
 -- the last call of the caller of this key's family found too few pages for a block of 2 ^ log2 of them
 abbrev pub IsFlowOutOfPages : {A B K L : Type 0} (ga : Ghosts A K) (gb : Ghosts B L) → FlowKey → Views → ℕ → ℕ → Type 0
-IsFlowOutOfPages ga gb (Four key) w log2 left = IsOutOfPages ga w.four (bucket_of (sizes_of ga) key) (ga.key_of key) log2 left
-IsFlowOutOfPages ga gb (Six key) w log2 left = IsOutOfPages gb w.six (bucket_of (sizes_of gb) key) (gb.key_of key) log2 left
+IsFlowOutOfPages ga gb (Four key) w log2 left =
+    IsOutOfPages ga w.four (bucket_of (sizes_of ga) key) (ga.key_of key) log2 left
+IsFlowOutOfPages ga gb (Six key) w log2 left =
+    IsOutOfPages gb w.six (bucket_of (sizes_of gb) key) (gb.key_of key) log2 left
 
 -- the entry of the caller's last call has this reply
 abbrev pub HasLastReply : View → Reply → Type 0
@@ -32,8 +34,8 @@ IsFlowReply (Four key) w reply = HasLastReply w.four reply
 IsFlowReply (Six key) w reply = HasLastReply w.six reply
 
 -- the packet's flow found too few pages in its family's table, as its entry says
-pub record IsPacketOutOfPages {A B K L : Type 0} (ga : Ghosts A K) (gb : Ghosts B L) (own : Option Mac) (packet : PacketFacts)
-    (w : Views) : Type 0 where
+pub record IsPacketOutOfPages {A B K L : Type 0} (ga : Ghosts A K) (gb : Ghosts B L) (own : Option Mac)
+    (packet : PacketFacts) (w : Views) : Type 0 where
   pub view : FrameFacts
   pub framed : IsFrame packet.frame own view
   pub flow : Flow

@@ -1,5 +1,6 @@
 //! The verdict on one packet, by one update at most.
 ghost use Rattle.packet_view.specs.Frames.{frame_facts};
+ghost use Rattle.bihash_table.specs.Tries.{TookByTries};
 ghost use Rattle.flow_filter.specs.Filters.{policy_in};
 ghost use Rattle.flow_filter.specs.Liveness.{IsForeseen};
 ghost use Rattle.flow_workers.specs.Calls.{MayAsk, TellsVerdict, TellsVerdictTry};
@@ -12,13 +13,13 @@ use crate::updates::{try_update, update};
 use crate::viewed_packet::{ViewedPacket, flow_in};
 use bihash_table::Contended;
 use bihash_words::Shape;
-use flow_filter::{Filter, HasRuling, ReadyFilter, Verdict};
+use flow_filter::{Filter, HasReading, ReadyFilter, Verdict};
 use packet_view::{Packet, view};
 use std::marker::Brand;
 use std::sync::Wait;
 
 // One try, under what the rules will say of the packet.
-fn try_judge_as<A: Shape, B: Shape, D: HasRuling>(
+fn try_judge_as<A: Shape, B: Shape, D: HasReading>(
     filter: &ReadyFilter<'_>,
     tables: &Tables<A, B>,
     callers: &mut Callers<A, B>,
@@ -39,7 +40,7 @@ fn try_judge_as<A: Shape, B: Shape, D: HasRuling>(
 }
 
 // The verdict, under what the rules will say of the packet.
-fn judge_as<A: Shape, B: Shape, D: HasRuling, R: Wait>(
+fn judge_as<A: Shape, B: Shape, D: HasReading, R: Wait>(
     rt: &R,
     filter: &ReadyFilter<'_>,
     tables: &Tables<A, B>,
@@ -49,7 +50,7 @@ fn judge_as<A: Shape, B: Shape, D: HasRuling, R: Wait>(
     requires asks { MayAsk tables.now callers.old }
     requires ruling { IsFrameRuling (policy_in filter.now) (frame_facts packet.now.frame.now) D.ruling }
     requires lives { IsForeseen filter.now.times packet.now.moment D.is_live }
-    ensures { TellsViewed filter.now packet.now tables.now callers.old callers.new result }
+    ensures { TellsViewed TookByTries filter.now packet.now tables.now callers.old callers.new result }
 {
     match Prepared::<D>::new(filter, packet) {
         Prepared::Settled(verdict) => verdict,
@@ -69,7 +70,7 @@ pub fn judge_viewed<A: Shape, B: Shape, R: Wait>(
     packet: &ViewedPacket<'_>,
 ) -> Verdict
     requires { MayAsk tables.now callers.old }
-    ensures { TellsViewed filter.now packet.now tables.now callers.old callers.new result }
+    ensures { TellsViewed TookByTries filter.now packet.now tables.now callers.old callers.new result }
 {
     judge_as::<A, B, Brand, R>(rt, filter, tables, callers, packet)
 }

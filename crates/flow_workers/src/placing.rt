@@ -48,8 +48,8 @@ pub fn in_order(
     packets: usize,
 ) -> Result<Vec<Verdict>, AllocError>
     requires { (run : RunFacts) × (traces : List (List Item)) × AreAllSaid run traces all.items packets }
-    ensures { IfOk result (λ verdicts. (run : RunFacts) (traces : List (List Item)) → AreAllSaid run traces all.items packets
-        → ArePlaced run.times run.packets traces verdicts.items) }
+    ensures { IfOk result (λ verdicts. (run : RunFacts) (traces : List (List Item))
+        → AreAllSaid run traces all.items packets → ArePlaced run.times run.packets traces verdicts.items) }
 {
     if all.len() > 1 {
         return place_all(alloc, &all, packets);

@@ -3,21 +3,21 @@ ghost use Rattle.std.specs.Prelude.{◌≡◌};
 
 use crate::viewed_packet::ViewedPacket;
 use flow_filter::{
-    HasRuling, LazyPatch, PacketFlow, ReadyFilter, Verdict, copied, verdict_of_rules,
+    HasReading, LazyPatch, PacketFlow, ReadyFilter, Verdict, copied, verdict_of_rules,
 };
 use packet_view::Frame;
 use session_state::FlowKey;
 
 /// What a packet comes to before it asks a table.
 #[derive(Drop)]
-pub enum Prepared<'a, D: HasRuling> {
+pub enum Prepared<'a, D: HasReading> {
     /// The packet takes no part in sessions.
     Settled(Verdict),
     /// The update that decides it.
     Asks(&'a FlowKey, LazyPatch<'a, D>),
 }
 
-impl<'a, D: HasRuling> Prepared<'a, D> {
+impl<'a, D: HasReading> Prepared<'a, D> {
     ghost use Rattle.packet_view.specs.Frames.{frame_facts};
     ghost use Rattle.flow_filter.specs.Filters.{policy_in};
     ghost use Rattle.flow_filter.specs.Liveness.{IsForeseen};
@@ -27,7 +27,7 @@ impl<'a, D: HasRuling> Prepared<'a, D> {
     pub fn new(filter: &'a ReadyFilter<'a>, packet: &ViewedPacket<'a>) -> Prepared<'a, D>
         requires ruling { IsFrameRuling (policy_in filter.now) (frame_facts packet.now.frame.now) D.ruling }
         requires lives { IsForeseen filter.now.times packet.now.moment D.is_live }
-        ensures { IsPrepared ⟦<D as HasRuling>⟧ filter.now.times
+        ensures { IsPrepared ⟦<D as HasReading>⟧ filter.now.times
             (reading_with packet.now.moment (frame_facts packet.now.frame.now) D.ruling) result }
     {
         let frame = packet.frame;

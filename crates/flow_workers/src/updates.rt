@@ -1,6 +1,7 @@
 //! One update of the table of a key's family: a try, and one that waits for its turn.
 ghost use Rattle.std.specs.Prelude.{◌≡◌, length};
 ghost use Rattle.bihash_steps.specs.CallerCalls.{IsIdle};
+ghost use Rattle.bihash_table.specs.Tries.{TookByTries};
 ghost use Rattle.flow_workers.specs.Calls.{MayAsk};
 ghost use Rattle.flow_workers.specs.inner.Updates.{TellsFlow, TellsFlowTry, TellsWords, TellsWordsTry};
 
@@ -68,7 +69,7 @@ pub fn update<A: Shape, B: Shape, P: Patch, R: Wait>(
     patch: &P,
 ) -> Reply
     requires { MayAsk tables.now callers.old }
-    ensures { TellsFlow tables.now callers.old callers.new key (P.decision patch.now) result }
+    ensures { TellsFlow TookByTries tables.now callers.old callers.new key (P.decision patch.now) result }
 {
     match key {
         FlowKey::Four(words) => {

@@ -36,7 +36,8 @@ fn dealt_to<A: Shape, B: Shape>(
 
 fn say(said: &mut Said, alone: bool, number: usize, verdict: Verdict) -> Result<(), AllocError>
     ensures verdicts { IfOk result (λ _. said.new.verdicts.items ≡ said.old.verdicts.items ++ verdict ∷ []) }
-    ensures numbers { IfOk result (λ _. alone ≡ false → said.new.numbers.items ≡ said.old.numbers.items ++ number ∷ []) }
+    ensures numbers { IfOk result (λ _. alone ≡ false
+        → said.new.numbers.items ≡ said.old.numbers.items ++ number ∷ []) }
 {
     said.verdicts.push(verdict)?;
     if !alone {

@@ -4,7 +4,7 @@ ghost use Rattle.flow_filter.specs.Filters.{policy_in};
 ghost use Rattle.flow_filter.specs.Liveness.{IsForeseen};
 ghost use Rattle.flow_filter.specs.PacketFlows.{IsRulingOn};
 
-use super::{HasRuling, LazyPatch};
+use super::{HasReading, LazyPatch};
 use crate::filter::ReadyFilter;
 use crate::packet_flow::PacketFlow;
 use crate::rule_search::RuleSearch;
@@ -58,7 +58,7 @@ struct Outcome {
     verdict: Verdict,
 }
 
-fn outcome_as<D: HasRuling>(
+fn outcome_as<D: HasReading>(
     filter: &ReadyFilter<'_>,
     packet: PacketFlow<'_>,
     reply: Reply,

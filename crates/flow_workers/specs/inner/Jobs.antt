@@ -18,7 +18,8 @@ run_facts ga gb run = record {
   packets = held run.packets;
 }
 
-pub record CanWork {A B R G K L : Type 0} (ga : Ghosts A K) (gb : Ghosts B L) (job : Job A B R G K L ga gb) : Type 0 where
+pub record CanWork {A B R G K L : Type 0} (ga : Ghosts A K) (gb : Ghosts B L)
+    (job : Job A B R G K L ga gb) : Type 0 where
   pub shapes : AreShapes ga gb
   pub few : job.worker < job.run.workers
   pub idle : AreIdle ga gb job.run.tables.now job.callers

@@ -53,7 +53,8 @@ pub record IsJoinedOne {A K : Type 0} (z : Sizes) (table : Sessions A K) (s othe
 -- the traces of all these callers are in this view, in their order
 abbrev pub HasTracesOf : {A K : Type 0} {g : Ghosts A K} → List (Caller A K g) → View → Type 0
 HasTracesOf callers v = (times : Timeouts) (family : Family) (traces : List (List Item))
-    → AllZip (λ trace c. HaveTraces times family (trace ∷ []) c.seat.view) traces callers → HaveTraces times family traces v
+    → AllZip (λ trace c. HaveTraces times family (trace ∷ []) c.seat.view) traces callers
+    → HaveTraces times family traces v
 
 -- the caller t has them
 pub record AreJoined {A K : Type 0} {g : Ghosts A K} (table : Sessions A K) (callers : List (Caller A K g))

@@ -14,7 +14,8 @@ pub record AreParts {A B K L : Type 0} (ga : Ghosts A K) (gb : Ghosts B L) (tabl
     (parts : Parts A B K L ga gb) : Type 0 where
   pub traces : List (List Item)
   pub traced : AreTraces run.deal run.times run.policy run.packets traces
-  pub own : All (λ c. c.seat.row ≡ tables.four.row) parts.four.items × All (λ c. c.seat.row ≡ tables.six.row) parts.six.items
+  pub own : All (λ c. c.seat.row ≡ tables.four.row) parts.four.items
+      × All (λ c. c.seat.row ≡ tables.six.row) parts.six.items
   pub free : All (λ c. c.seat.view.holds ≡ nothing_held) parts.four.items
       × All (λ c. c.seat.view.holds ≡ nothing_held) parts.six.items
   pub four : AllZip (λ trace c. HaveTraces run.times V4 (trace ∷ []) c.seat.view) traces parts.four.items

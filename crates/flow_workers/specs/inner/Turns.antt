@@ -21,21 +21,23 @@ abbrev pub CanTake : {A B R G K L : Type 0} (ga : Ghosts A K) (gb : Ghosts B L) 
 CanTake ga gb (Ahead job) = CanWork ga gb job
 CanTake ga gb (Over done) = Unit {0}
 
-abbrev pub Becomes : {A B R G K L : Type 0} (ga : Ghosts A K) (gb : Ghosts B L) → Turn A B R G K L ga gb → Turn A B R G K L ga gb → Type 0
+abbrev pub Becomes : {A B R G K L : Type 0} (ga : Ghosts A K) (gb : Ghosts B L) → Turn A B R G K L ga gb
+    → Turn A B R G K L ga gb → Type 0
 Becomes ga gb (Ahead job) (Ahead other) = ⊥
 Becomes ga gb (Ahead job) (Over done) = IfOk done (IsShareOf ga gb job)
 Becomes ga gb (Over done) other = Unit {0}
 
 -- the job of a worker of the run, whose callers of these tables made no call
-pub record IsJob {A B R G K L : Type 0} (ga : Ghosts A K) (gb : Ghosts B L) (tables : Tables A B K L) (run : RunFacts) (w : ℕ)
-    (job : Job A B R G K L ga gb) : Type 0 where
+pub record IsJob {A B R G K L : Type 0} (ga : Ghosts A K) (gb : Ghosts B L) (tables : Tables A B K L) (run : RunFacts)
+    (w : ℕ) (job : Job A B R G K L ga gb) : Type 0 where
   pub facts : run_facts ga gb job.run ≡ run
   pub own : job.run.tables.now ≡ tables
   pub worker : job.worker ≡ w
   pub can : CanWork ga gb job
   pub fresh : IsFresh job.callers.four.seat.view × IsFresh job.callers.six.seat.view
 
-abbrev pub IsAhead : {A B R G K L : Type 0} (ga : Ghosts A K) (gb : Ghosts B L) → Tables A B K L → RunFacts → ℕ → Turn A B R G K L ga gb → Type 0
+abbrev pub IsAhead : {A B R G K L : Type 0} (ga : Ghosts A K) (gb : Ghosts B L) → Tables A B K L → RunFacts → ℕ
+    → Turn A B R G K L ga gb → Type 0
 IsAhead ga gb tables run w (Ahead job) = IsJob ga gb tables run w job
 IsAhead ga gb tables run w (Over done) = ⊥
 
@@ -56,8 +58,8 @@ pub record AreAhead {A B R G K L : Type 0} {ga : Ghosts A K} {gb : Ghosts B L} (
       → IsAhead ga gb run.tables.now (run_facts ga gb run) i (slice_index_or turns i d)
 
 -- what a worker of the run did: a trace, which is in its callers' records, and its verdicts
-pub record IsDone {A B K L : Type 0} (ga : Ghosts A K) (gb : Ghosts B L) (tables : Tables A B K L) (run : RunFacts) (w : ℕ)
-    (share : Share A B K L ga gb) : Type 0 where
+pub record IsDone {A B K L : Type 0} (ga : Ghosts A K) (gb : Ghosts B L) (tables : Tables A B K L) (run : RunFacts)
+    (w : ℕ) (share : Share A B K L ga gb) : Type 0 where
   pub idle : AreIdle ga gb tables share.callers
   pub trace : List Item
   pub is : IsTrace run.deal run.times w run.policy run.packets trace
@@ -65,7 +67,8 @@ pub record IsDone {A B K L : Type 0} (ga : Ghosts A K) (gb : Ghosts B L) (tables
   pub six : HaveTraces run.times V6 (trace ∷ []) share.callers.six.seat.view
   pub said : AreSaid run trace share.said.verdicts.items share.said.numbers.items
 
-abbrev pub IsOver : {A B R G K L : Type 0} (ga : Ghosts A K) (gb : Ghosts B L) → Tables A B K L → RunFacts → ℕ → Turn A B R G K L ga gb → Type 0
+abbrev pub IsOver : {A B R G K L : Type 0} (ga : Ghosts A K) (gb : Ghosts B L) → Tables A B K L → RunFacts → ℕ
+    → Turn A B R G K L ga gb → Type 0
 IsOver ga gb tables run w (Ahead job) = ⊥
 IsOver ga gb tables run w (Over done) = IfOk done (IsDone ga gb tables run w)
 

@@ -8,9 +8,11 @@ use Rattle.bihash_words.specs.declared.patch.Reply.TheVariants.{NoPages}
 use Rattle.bihash_words.specs.declared.shape.Shape.{Ghosts}
 use Rattle.bihash_steps.specs.Callers.{IsLawfulCaller}
 use Rattle.bihash_steps.specs.Seats.{CallerState, with_view}
+use Rattle.bihash_steps.specs.declared.view.View.{View}
 use Rattle.bihash_table.specs.Answers.{update_of}
 use Rattle.bihash_table.specs.OutOfPages.{IsOutOfPages}
 use Rattle.bihash_table.specs.Promise.{IsAnswered, IsContended}
+use Rattle.bihash_table.specs.Tries.{TookAtMost, TookByTries}
 use Rattle.bihash_table.specs.declared.contended.Contended.{Contended}
 use Rattle.session_state.specs.declared.flow.FlowKey.{FlowKey}
 use Rattle.flow_filter.specs.OneThread.{layout_of}
@@ -18,7 +20,7 @@ use Rattle.flow_filter.specs.Updates.{words_of}
 use Rattle.flow_workers.specs.declared.tables.Callers.{Callers}
 use Rattle.flow_workers.specs.declared.tables.Tables.{Tables}
 use Rattle.flow_workers.specs.Callers.{AreIdle, AreSame, views_of}
-use Rattle.flow_workers.specs.Judging.{IsAway, IsEntered}
+use Rattle.flow_workers.specs.Judging.{IsAway, IsEntered, TookByOneTry}
 use Rattle.flow_workers.specs.OutOfPages.{IsFlowOutOfPages}
 
 -- an update of a key by this decision, on the value that its reply tells
@@ -26,10 +28,11 @@ abbrev pub told : List ℕ → (Option ℕ → Change) → Reply → Event
 told key decision reply = update_of key (found_by reply) decision reply
 
 -- an update of the key of these words that was answered so: s is the caller before it, t after it
-pub record TellsWords {A K : Type 0} (g : Ghosts A K) (s t : CallerState) (words : List ℕ) (decision : Option ℕ → Change)
-    (reply : Reply) : Type 0 where
+pub record TellsWords {A K : Type 0} (g : Ghosts A K) (s t : CallerState) (words : List ℕ)
+    (decision : Option ℕ → Change) (reply : Reply) : Type 0 where
   pub same : t ≡ with_view s t.view
   pub answered : IsAnswered (sizes_of g) s.view t.view (told words decision reply)
+  pub locks : TookByTries s.view t.view reply
   pub no_pages : (log2 left : ℕ) → reply ≡ NoPages log2 left
       → IsOutOfPages g t.view (bucket_of (sizes_of g) words) (g.key_of words) log2 left
   pub lawful : IsLawfulCaller (sizes_of g) t.view
@@ -41,16 +44,18 @@ pub record TellsWordsTry {A K : Type 0} (g : Ghosts A K) (s t : CallerState) (wo
   pub answered : IfOk r (λ reply. IsAnswered (sizes_of g) s.view t.view (told words decision reply))
   pub no_pages : IfOk r (λ reply. (log2 left : ℕ) → reply ≡ NoPages log2 left
       → IsOutOfPages g t.view (bucket_of (sizes_of g) words) (g.key_of words) log2 left)
+  pub locks : IfOk r (TookByOneTry s.view t.view) × IfErr r (λ _. TookAtMost s.view t.view 1)
   pub contended : IfErr r (λ _. IsContended (sizes_of g) s.view t.view (bucket_of (sizes_of g) words))
   pub lone : s.view.lone ≡ true → is_ok r ≡ true
   pub lawful : IsLawfulCaller (sizes_of g) t.view
 
--- an update of a flow's key that was answered so, in the table of its family
-pub record TellsFlow {A B K L : Type 0} {ga : Ghosts A K} {gb : Ghosts B L} (tables : Tables A B K L)
-    (old new : Callers A B K L ga gb) (key : FlowKey) (decision : Option ℕ → Change) (reply : Reply) : Type 0 where
+-- an update of a flow's key that was answered so, in the table of its family, and took locks as `took` says
+pub record TellsFlow {A B K L : Type 0} {ga : Ghosts A K} {gb : Ghosts B L} (took : View → View → Reply → Type 0)
+    (tables : Tables A B K L) (old new : Callers A B K L ga gb) (key : FlowKey) (decision : Option ℕ → Change)
+    (reply : Reply) : Type 0 where
   pub same : AreSame ga gb old new
   pub idle : AreIdle ga gb tables new
-  pub entered : IsEntered (layout_of ga gb) key (told (words_of key) decision reply) (views_of ga gb old)
+  pub entered : IsEntered (layout_of ga gb) took key (told (words_of key) decision reply) (views_of ga gb old)
       (views_of ga gb new)
   pub no_pages : (log2 left : ℕ) → reply ≡ NoPages log2 left → IsFlowOutOfPages ga gb key (views_of ga gb new) log2 left
 
@@ -60,7 +65,7 @@ pub record TellsFlowTry {A B K L : Type 0} {ga : Ghosts A K} {gb : Ghosts B L} (
     : Type 0 where
   pub same : AreSame ga gb old new
   pub idle : AreIdle ga gb tables new
-  pub entered : IfOk r (λ reply. IsEntered (layout_of ga gb) key (told (words_of key) decision reply)
+  pub entered : IfOk r (λ reply. IsEntered (layout_of ga gb) TookByOneTry key (told (words_of key) decision reply)
       (views_of ga gb old) (views_of ga gb new))
   pub no_pages : IfOk r (λ reply. (log2 left : ℕ) → reply ≡ NoPages log2 left
       → IsFlowOutOfPages ga gb key (views_of ga gb new) log2 left)

@@ -3,7 +3,9 @@ use Rattle.std.specs.Prelude.{◌≡◌, true, Option, None, Result, IfOk, IfErr
 use Rattle.packet_view.specs.Captures.{PacketFacts}
 use Rattle.packet_view.specs.Frames.{IsFrame, frame_facts}
 use Rattle.packet_view.specs.declared.tuple.Mac.{Mac}
+use Rattle.bihash_words.specs.declared.patch.Reply.{Reply}
 use Rattle.bihash_words.specs.declared.shape.Shape.{Ghosts}
+use Rattle.bihash_steps.specs.declared.view.View.{View}
 use Rattle.bihash_table.specs.declared.contended.Contended.{Contended}
 use Rattle.flow_filter.specs.Filters.{policy_in}
 use Rattle.flow_filter.specs.declared.filter.ReadyFilter.{ReadyFilter}
@@ -13,28 +15,33 @@ use Rattle.flow_workers.specs.declared.tables.Callers.{Callers}
 use Rattle.flow_workers.specs.declared.tables.Tables.{Tables}
 use Rattle.flow_workers.specs.declared.viewed_packet.ViewedPacket.{ViewedPacket}
 use Rattle.flow_workers.specs.Callers.{AreIdle, AreSame}
+use Rattle.flow_workers.specs.Judging.{TookByOneTry}
 use Rattle.flow_workers.specs.Verdicts.{HasNoVerdict, HasVerdict, ShowsOutOfPages}
 
 -- the packet is this at the interface with this address
 abbrev pub IsViewed : Option Mac → PacketFacts → ViewedPacket → Type 0
 IsViewed own packet v = (packet.moment ≡ v.moment) × IsFrame packet.frame own (frame_facts v.frame.now)
 
--- the verdict on each packet that was viewed so (`TellsVerdict` says it of one)
-pub record TellsViewed {A B K L : Type 0} {ga : Ghosts A K} {gb : Ghosts B L} (filter : ReadyFilter) (packet : ViewedPacket)
-    (tables : Tables A B K L) (old new : Callers A B K L ga gb) (verdict : Verdict) : Type 0 where
+-- the verdict on each packet that was viewed so (`TellsVerdict` says it of one), by a call that took locks as
+-- `took` says
+pub record TellsViewed {A B K L : Type 0} {ga : Ghosts A K} {gb : Ghosts B L} (took : View → View → Reply → Type 0)
+    (filter : ReadyFilter) (packet : ViewedPacket) (tables : Tables A B K L) (old new : Callers A B K L ga gb)
+    (verdict : Verdict) : Type 0 where
   pub same : AreSame ga gb old new
   pub idle : AreIdle ga gb tables new
   pub judged : (s : PacketFacts) → IsViewed filter.own s packet
-      → HasVerdict ga gb filter.times (policy_in filter) s old new verdict
-  pub no_pages : (s : PacketFacts) → IsViewed filter.own s packet → ShowsOutOfPages ga gb (policy_in filter) s new verdict
+      → HasVerdict ga gb took filter.times (policy_in filter) s old new verdict
+  pub no_pages : (s : PacketFacts) → IsViewed filter.own s packet
+      → ShowsOutOfPages ga gb (policy_in filter) s new verdict
 
 -- one try (`TellsVerdictTry` says it of one packet)
-pub record TellsViewedTry {A B K L : Type 0} {ga : Ghosts A K} {gb : Ghosts B L} (filter : ReadyFilter) (packet : ViewedPacket)
-    (tables : Tables A B K L) (old new : Callers A B K L ga gb) (r : Result Verdict Contended) : Type 0 where
+pub record TellsViewedTry {A B K L : Type 0} {ga : Ghosts A K} {gb : Ghosts B L} (filter : ReadyFilter)
+    (packet : ViewedPacket) (tables : Tables A B K L) (old new : Callers A B K L ga gb) (r : Result Verdict Contended)
+    : Type 0 where
   pub same : AreSame ga gb old new
   pub idle : AreIdle ga gb tables new
   pub judged : IfOk r (λ verdict. (s : PacketFacts) → IsViewed filter.own s packet
-      → HasVerdict ga gb filter.times (policy_in filter) s old new verdict)
+      → HasVerdict ga gb TookByOneTry filter.times (policy_in filter) s old new verdict)
   pub no_pages : IfOk r (λ verdict. (s : PacketFacts) → IsViewed filter.own s packet
       → ShowsOutOfPages ga gb (policy_in filter) s new verdict)
   pub refused : IfErr r (λ _. (s : PacketFacts) → IsViewed filter.own s packet

@@ -21,7 +21,8 @@ pub record RunFacts : Type 0 where
 
 -- the caller's one record has these calls more, and its buckets began as before
 pub record Continues (v w : View) (more : List Call) : Type 0 where
-  pub calls : (r : Record) → v.records ≡ r ∷ [] → (locks : ℕ) × (w.records ≡ record r { calls = r.calls ++ more; locks = locks } ∷ [])
+  pub calls : (r : Record) → v.records ≡ r ∷ []
+      → (locks : ℕ) × (w.records ≡ record r { calls = r.calls ++ more; locks = locks } ∷ [])
   pub openings : w.known.openings ≡ v.known.openings
 
 -- The verdicts are those of the items, in their order, and these numbers those of their packets. A worker that is
@@ -32,7 +33,8 @@ pub record AreSaid (run : RunFacts) (trace : List Item) (verdicts : List Verdict
 
 -- A worker judged its packets, all of them: their calls follow what its callers' records had, and these are
 -- its verdicts.
-pub record IsWork (run : RunFacts) (worker : ℕ) (v w : Views) (verdicts : List Verdict) (numbers : List ℕ) : Type 0 where
+pub record IsWork (run : RunFacts) (worker : ℕ) (v w : Views) (verdicts : List Verdict)
+    (numbers : List ℕ) : Type 0 where
   pub trace : List Item
   pub is : IsTrace run.deal run.times worker run.policy run.packets trace
   pub four : Continues v.four w.four (calls_in run.times V4 trace)

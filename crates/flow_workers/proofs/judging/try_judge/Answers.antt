@@ -5,30 +5,35 @@ use Rattle.packet_view.specs.Frames.{IsFrame, frame_facts}
 use Rattle.acl_policy.specs.Policies.{PolicyFacts}
 use Rattle.flow_filter.specs.Filters.{policy_in}
 use Rattle.flow_dealing.specs.Dealings.{flow_shown}
+use Rattle.flow_workers.specs.Judging.{TookByOneTry}
 use Rattle.flow_workers.specs.Verdicts.{HasNoVerdict, HasVerdict, ShowsOutOfPages}
 use Rattle.flow_workers.proofs.AnsweredUpdates.{if_err, if_ok}
 use Rattle.flow_workers.proofs.JudgedPackets.{is_ruling, of_filter}
 use Rattle.flow_workers.proofs.judging.try_judge.Goals as goal
 
 pub try_judge_as-requires-clause-ruling : goal.try_judge_as-requires-clause-ruling
-try_judge_as-requires-clause-ruling g c = is_ruling (policy_in c.ready-filter.result) (frame_facts c.new-packet.result.frame.now)
+try_judge_as-requires-clause-ruling g c =
+    is_ruling (policy_in c.ready-filter.result) (frame_facts c.new-packet.result.frame.now)
 
 pub returns : goal.returns
 returns g c =
     let tells = c.try_judge_as.ensures in
     let new = c.try_judge_as.new.callers in
     let seen = c.new-packet.ensures.seen _ c.view-frame.ensures.shown in
-    let packet = packet_facts c.args.packet.now in record {
+    let packet = packet_facts c.args.packet.now in
+    let old = c.args.callers.now in record {
       same = tells.same;
       idle = tells.idle;
       judged = if_ok _ _ c.try_judge_as.result
-          (λ verdict judged. of_filter (λ times policy. HasVerdict g.A.Shape g.B.Shape times policy packet c.args.callers.now new verdict)
+          (λ verdict judged. of_filter
+          (λ times policy. HasVerdict g.A.Shape g.B.Shape TookByOneTry times policy packet old new verdict)
           c.ready-filter.ensures.times c.ready-filter.ensures.policy (judged packet seen)) tells.judged;
       no_pages = if_ok _ _ c.try_judge_as.result
           (λ verdict short. of_filter (λ times policy. ShowsOutOfPages g.A.Shape g.B.Shape policy packet new verdict)
           c.ready-filter.ensures.times c.ready-filter.ensures.policy (short packet seen)) tells.no_pages;
       refused = if_err _ _ c.try_judge_as.result
-          (λ contended refused. of_filter (λ times policy. HasNoVerdict g.A.Shape g.B.Shape times policy packet c.args.callers.now new)
+          (λ contended refused. of_filter
+          (λ times policy. HasNoVerdict g.A.Shape g.B.Shape times policy packet old new)
           c.ready-filter.ensures.times c.ready-filter.ensures.policy (refused packet seen)) tells.refused;
       lone = tells.lone;
       settled = λ has.

@@ -9,7 +9,8 @@ use Rattle.flow_workers.proofs.numbers.join_all.Given as goal
 -- the traces of the callers that are left, and of those that are one
 abbrev pub invariant-loop-caller : goal.invariant-loop-caller
 invariant-loop-caller g l = record {
-  left : All (λ c. c.seat.row ≡ l.table.row) l.callers.items × All (λ c. c.seat.view.holds ≡ nothing_held) l.callers.items;
+  left : All (λ c. c.seat.row ≡ l.table.row) l.callers.items
+      × All (λ c. c.seat.view.holds ≡ nothing_held) l.callers.items;
   own : l.joined.seat.row ≡ l.table.row;
   free : l.joined.seat.view.holds ≡ nothing_held;
   traces : (times : Timeouts) (family : Family) (traces : List (List Item))

@@ -15,7 +15,8 @@ returns-then-len-gt1 c =
     let all = count_is run traces c.args.all.items c.args.packets are in
     let several : run.deal.workers ≢ 1 = λ one. absurd (omega arith) in
     all_placed run traces c.args.all.items c.args.packets are several verdicts.items count
-    (placed (all_agree run traces c.args.all.items c.args.packets are several))) c.place_all.ensures.count c.place_all.ensures.placed
+    (placed (all_agree run traces c.args.all.items c.args.packets are several))) c.place_all.ensures.count
+    c.place_all.ensures.placed
 
 pub unreachable-requires : goal.unreachable-requires
 unreachable-requires c =
@@ -26,7 +27,8 @@ unreachable-requires c =
 
 pub returns : goal.returns
 returns c run traces are =
-    let one : c.args.all.items ≡ c.in-Some.said ∷ [] = only_one c.args.all.items c.pop.new.self.items c.in-Some.said c.in-Some.ensures.items
+    let one : c.args.all.items ≡ c.in-Some.said ∷ [] =
+    only_one c.args.all.items c.pop.new.self.items c.in-Some.said c.in-Some.ensures.items
     (let few = c.if-len-gt1.false in omega arith) in
     let count = count_is run traces c.args.all.items c.args.packets are in
     let many = ap length one in

@@ -18,9 +18,12 @@ loop-said-preserved c =
       count = c.place.ensures.count ∙ c.loop-said.invariant.count;
       placed = λ agree i s below at n v is. elim (eqb_tells i index) [
         | inl (test, last) ↦
-            let same = some-injective s c.said-item.result (sym at ∙ (ap (get_elem? c.args.all.now.items) last ∙ here)) in
-            c.place.ensures.placed (agree index index c.said-item.result c.said-item.result here here) n v (subst (λ t. IsSaid t n v) same is)
-        | inr (test, earlier) ↦ c.place.ensures.kept n v (c.loop-said.invariant.placed agree i s (omega arith) at n v is)
+            let same =
+            some-injective s c.said-item.result (sym at ∙ (ap (get_elem? c.args.all.now.items) last ∙ here)) in
+            c.place.ensures.placed (agree index index c.said-item.result c.said-item.result here here) n v
+            (subst (λ t. IsSaid t n v) same is)
+        | inr (test, earlier) ↦ c.place.ensures.kept n v
+            (c.loop-said.invariant.placed agree i s (omega arith) at n v is)
             (λ w other. agree index i c.said-item.result s here at n w v other is)
       ];
     }

@@ -10,7 +10,9 @@ returns g c =
     let tells = c.update.ensures in record {
       same = tells.same;
       answered = as_told _ _ _ _ _ _ c.update.result key tells.answered tells.lawful;
+      locks = tells.locks;
       no_pages = λ log2 left is.
-          short_at g.S.Shape c.update.new.caller.seat.view c.key.result c.args.words.now log2 left c.key.ensures key (tells.no_pages log2 left is);
+          short_at g.S.Shape c.update.new.caller.seat.view c.key.result c.args.words.now log2 left c.key.ensures key
+          (tells.no_pages log2 left is);
       lawful = tells.lawful;
     }

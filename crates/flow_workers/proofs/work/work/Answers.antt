@@ -16,7 +16,8 @@ packets-init g c = record {
 
 pub overflow_add-taken : goal.overflow_add-taken
 overflow_add-taken g c =
-    let inside = taken_inside (held c.args.job.run.packets) _ c.packets.taken _ (c.packets.invariant.left ∙ c.in-Some.ensures) in
+    let inside =
+    taken_inside (held c.args.job.run.packets) _ c.packets.taken _ (c.packets.invariant.left ∙ c.in-Some.ensures) in
     let count = c.count.ensures in
     omega arith
 
@@ -27,8 +28,15 @@ packets-preserved-then-dealt_to-worker g c =
       idle = c.packets.invariant.idle;
       left = left_behind _ _ c.packets.taken _ taken;
       done = work_passed _ _ _ _ _ _ _ _ (frame_facts c.view-frame.result)
-          (record { stands = stands_at _ _ c.packets.taken _ taken; shown = c.view-frame.ensures.shown; only = c.view-frame.ensures.only })
-          (λ same. c.if-dealt_to-worker.true (c.dealt_to.ensures ∙ (ap (worker_of (run_facts g.A.Shape g.B.Shape c.args.job.run).deal c.packets.taken) c.flow_in-flow.ensures.shown ∙ same))) c.packets.invariant.done;
+          (record {
+            stands = stands_at _ _ c.packets.taken _ taken;
+            shown = c.view-frame.ensures.shown;
+            only = c.view-frame.ensures.only;
+          })
+          (λ same.
+          c.if-dealt_to-worker.true (c.dealt_to.ensures
+          ∙ (ap (worker_of (run_facts g.A.Shape g.B.Shape c.args.job.run).deal c.packets.taken)
+          c.flow_in-flow.ensures.shown ∙ same))) c.packets.invariant.done;
     }
 
 pub packets-preserved : goal.packets-preserved
@@ -39,8 +47,14 @@ packets-preserved g c =
       left = left_behind _ _ c.packets.taken _ taken;
       done = rw c.in_ok-say.ensures.verdicts
           (work_push _ _ _ _ _ _ _ _ _ _ (frame_facts c.view-frame.result) _
-          (record { stands = stands_at _ _ c.packets.taken _ taken; shown = c.view-frame.ensures.shown; only = c.view-frame.ensures.only })
-          (sym (c.dealt_to.ensures ∙ ap (worker_of (run_facts g.A.Shape g.B.Shape c.args.job.run).deal c.packets.taken) c.flow_in-flow.ensures.shown) ∙ c.if-dealt_to-worker.false) (c.judge_viewed-verdict.ensures.judged _ (c.new-viewed.ensures.seen _ c.view-frame.ensures.shown))
+          (record {
+            stands = stands_at _ _ c.packets.taken _ taken;
+            shown = c.view-frame.ensures.shown;
+            only = c.view-frame.ensures.only;
+          })
+          (sym (c.dealt_to.ensures ∙ ap (worker_of (run_facts g.A.Shape g.B.Shape c.args.job.run).deal c.packets.taken)
+          c.flow_in-flow.ensures.shown) ∙ c.if-dealt_to-worker.false)
+          (c.judge_viewed-verdict.ensures.judged _ (c.new-viewed.ensures.seen _ c.view-frame.ensures.shown))
           (λ several. c.in_ok-say.ensures.numbers (ne_eqb _ _ several)) c.packets.invariant.done);
     }
 

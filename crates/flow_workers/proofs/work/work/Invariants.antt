@@ -9,7 +9,8 @@ abbrev pub invariant-packets : goal.invariant-packets
 invariant-packets g l = record {
   idle : AreIdle g.A.Shape g.B.Shape l.run.tables.now l.callers;
   left : drop l.taken (held l.run.packets) ≡ held l.packets;
-  done : IsWorkUntil (run_facts g.A.Shape g.B.Shape l.run) l.worker l.taken (views_of g.A.Shape g.B.Shape l.fn.job.callers)
+  done : IsWorkUntil (run_facts g.A.Shape g.B.Shape l.run) l.worker l.taken
+      (views_of g.A.Shape g.B.Shape l.fn.job.callers)
       (views_of g.A.Shape g.B.Shape l.callers) l.said.verdicts.items l.said.numbers.items;
 }
 

@@ -39,14 +39,19 @@ in_order-requires g c = (
 pub returns-clause-judged : goal.returns-clause-judged
 returns-clause-judged g c =
     let p = c.in_ok-four.ensures in
-    let deal : Deal = record { layout = layout_of g.A.Shape g.B.Shape; dealing = c.args.dealing; workers = c.args.workers } in
+    let deal : Deal = record {
+      layout = layout_of g.A.Shape g.B.Shape;
+      dealing = c.args.dealing;
+      workers = c.args.workers;
+    } in
     let packets = held c.args.packets in
     let verdicts = c.in_ok-in_order.field-0.items in
     subst (λ t. AreJudged deal t (policy_facts c.args.filter.now.policy) packets verdicts) c.ready_with.ensures.times
     (subst (λ f. AreJudged deal c.ready_with.result.times f packets verdicts) c.ready_with.ensures.policy
     (run_judged g.A.Shape g.B.Shape _ _ _ p c.requires.some
     (record { four = c.join_whole.result.seat.view; six = c.join_whole-2.result.seat.view })
-    (c.join_whole.ensures.lawful, c.join_whole-2.ensures.lawful) (c.join_whole.ensures.whole, c.join_whole-2.ensures.whole)
+    (c.join_whole.ensures.lawful, c.join_whole-2.ensures.lawful)
+    (c.join_whole.ensures.whole, c.join_whole-2.ensures.whole)
     (c.join_whole.ensures.traces _ V4 p.traces p.four) (c.join_whole-2.ensures.traces _ V6 p.traces p.six) verdicts
     (c.in_ok-in_order.ensures _ p.traces (record {
       some_worker = c.requires.some;

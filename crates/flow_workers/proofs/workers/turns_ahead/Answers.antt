@@ -13,11 +13,18 @@ loop-worker-preserved g c =
     let counted = inv.count in
     let run = run_facts g.A.Shape g.B.Shape c.args.run in
     record {
-      idle = record { own = (four.own.1, six.own.1); free = (four.free.1, six.free.1); lawful = (four.lawful.1, six.lawful.1) };
+      idle = record {
+        own = (four.own.1, six.own.1);
+        free = (four.free.1, six.free.1);
+        lawful = (four.lawful.1, six.lawful.1);
+      };
       fresh = (four.fresh.1, six.fresh.1);
       count = push_count c.loop-worker.turns.items _ _ c.loop-worker.worker c.in_ok-push.ensures.items inv.count;
-      each = λ i d below. subst (λ xs. IsAhead g.A.Shape g.B.Shape c.args.run.tables.now run i (slice_index_or xs i d)) (sym c.in_ok-push.ensures.items)
-          (below_push (λ k turn. IsAhead g.A.Shape g.B.Shape c.args.run.tables.now run k turn) c.loop-worker.turns.items _ (λ k e b. inv.each k e (omega arith))
+      each = λ i d below.
+          subst (λ xs. IsAhead g.A.Shape g.B.Shape c.args.run.tables.now run i (slice_index_or xs i d))
+          (sym c.in_ok-push.ensures.items)
+          (below_push (λ k turn. IsAhead g.A.Shape g.B.Shape c.args.run.tables.now run k turn) c.loop-worker.turns.items
+          _ (λ k e b. inv.each k e (omega arith))
           (record {
             facts = ap (run_facts g.A.Shape g.B.Shape) c.again.ensures;
             own = ap (λ r. r.tables.now) c.again.ensures;
@@ -25,7 +32,11 @@ loop-worker-preserved g c =
             can = record {
               shapes = c.requires.shapes;
               few = rw c.again.ensures (let inside = c.loop-worker-test.true in omega arith);
-              idle = rw c.again.ensures record { own = (four.own.0, six.own.0); free = (four.free.0, six.free.0); lawful = (four.lawful.0, six.lawful.0) };
+              idle = rw c.again.ensures record {
+                own = (four.own.0, six.own.0);
+                free = (four.free.0, six.free.0);
+                lawful = (four.lawful.0, six.lawful.0);
+              };
             };
             fresh = (four.fresh.0, six.fresh.0);
           }) i d (omega arith));
@@ -40,11 +51,15 @@ returns g c =
     let at-end = c.loop-worker.auto.worker-end in
     let run = run_facts g.A.Shape g.B.Shape c.args.run in
     let many : length c.push-2.new.self.items ≡ c.args.run.workers
-    = push_count c.loop-worker.turns.items _ _ c.loop-worker.worker c.in_ok-push-2.ensures.items counted ∙ omega arith in
+    = push_count c.loop-worker.turns.items _ _ c.loop-worker.worker c.in_ok-push-2.ensures.items counted
+    ∙ omega arith in
     let each : (i : ℕ) (d : _) → i < c.args.run.workers
     → IsAhead g.A.Shape g.B.Shape c.args.run.tables.now run i (slice_index_or c.push-2.new.self.items i d)
-    = λ i d below. subst (λ xs. IsAhead g.A.Shape g.B.Shape c.args.run.tables.now run i (slice_index_or xs i d)) (sym c.in_ok-push-2.ensures.items)
-    (below_push (λ k turn. IsAhead g.A.Shape g.B.Shape c.args.run.tables.now run k turn) c.loop-worker.turns.items _ (λ k e b. inv.each k e (omega arith))
+    = λ i d below.
+    subst (λ xs. IsAhead g.A.Shape g.B.Shape c.args.run.tables.now run i (slice_index_or xs i d))
+    (sym c.in_ok-push-2.ensures.items)
+    (below_push (λ k turn. IsAhead g.A.Shape g.B.Shape c.args.run.tables.now run k turn) c.loop-worker.turns.items _
+    (λ k e b. inv.each k e (omega arith))
     (record {
       facts = refl;
       own = refl;

@@ -11,6 +11,7 @@ invariant-loop-worker g l = record {
   idle : AreIdle g.A.Shape g.B.Shape l.run.tables.now (record { four = l.four; six = l.six });
   fresh : IsFresh l.four.seat.view × IsFresh l.six.seat.view;
   count : length l.turns.items ≡ l.worker;
-  each : (i : ℕ) (d : _) → i < l.worker → IsAhead g.A.Shape g.B.Shape l.run.tables.now (run_facts g.A.Shape g.B.Shape l.fn.run)
+  each : (i : ℕ) (d : _) → i < l.worker
+      → IsAhead g.A.Shape g.B.Shape l.run.tables.now (run_facts g.A.Shape g.B.Shape l.fn.run)
       i (slice_index_or l.turns.items i d);
 }

@@ -10,7 +10,8 @@ parts_of-requires g c k d inside =
     let count = c.in_ok-ahead.ensures.count in
     let many = c.in_ok-over.ensures.count in
     over_past g.A.Shape g.B.Shape c.args.run.tables.now run k _
-    (turned g.A.Shape g.B.Shape c.args.run.tables.now run k (get_or c.in_ok-ahead.ahead.items k d) (get_or c.in_ok-over.over.items k d)
+    (turned g.A.Shape g.B.Shape c.args.run.tables.now run k (get_or c.in_ok-ahead.ahead.items k d)
+    (get_or c.in_ok-over.over.items k d)
     (c.in_ok-ahead.ensures.each k d (omega arith)) (c.in_ok-over.ensures.each k d d (omega arith)))
 
 pub returns : goal.returns
@@ -20,5 +21,7 @@ returns g c =
     let many = c.in_ok-over.ensures.count in
     if_ok _ _ c.parts_of.result
     (λ parts of. parts_are g.A.Shape g.B.Shape c.args.run.tables.now run c.in_ok-over.over.items (many ∙ count)
-    (λ i e inside. turned g.A.Shape g.B.Shape c.args.run.tables.now run i (get_or c.in_ok-ahead.ahead.items i e) (get_or c.in_ok-over.over.items i e)
-    (c.in_ok-ahead.ensures.each i e (omega arith)) (c.in_ok-over.ensures.each i e e (omega arith))) parts of) c.parts_of.ensures
+    (λ i e inside. turned g.A.Shape g.B.Shape c.args.run.tables.now run i (get_or c.in_ok-ahead.ahead.items i e)
+    (get_or c.in_ok-over.over.items i e)
+    (c.in_ok-ahead.ensures.each i e (omega arith)) (c.in_ok-over.ensures.each i e e (omega arith))) parts of)
+    c.parts_of.ensures
