@@ -243,7 +243,7 @@ module _ (z : Sizes) (s : State (Unit {0}) View) (r : WordRule z s) where
   }
     where
       runs : runs_now r.table.bucket r.table.store.store views ≡ runs_now r.table.bucket r.table.store.store s.views
-      runs = λ t. runs_of (λ b. run_of (r.table.bucket b).extent.page (r.table.bucket b).extent.log2)
+      runs = λ t. runs_of (λ b. run_of (r.table.bucket b).extent.page (r.table.bucket b).extent.size.log2)
           (λ log2. returned_in r.table.store.store log2) (λ j. m.blocks j t)
 
   -- one seat gets another view, and the caller count may have grown

@@ -136,13 +136,13 @@ module _ (pages used : ℕ) (x x' : ℕ → BucketState) (store store' : PageSto
 
   -- bucket b gets the block that the seat held, or none, and the seat gets the one that b had, or none
   pub passes : (b : ℕ) → ((c : ℕ) → c ≢ b → (x' c).extent ≡ (x c).extent) → ((log2 : ℕ) → returned_in store' log2 ≡ returned_in store log2)
-      → run_of (x' b).extent.page (x' b).extent.log2 ≡ run_in v.holds.block → run_in w.holds.block ≡ run_of (x b).extent.page (x b).extent.log2
+      → run_of (x' b).extent.page (x' b).extent.size.log2 ≡ run_in v.holds.block → run_in w.holds.block ≡ run_of (x b).extent.page (x b).extent.size.log2
       → IsPartition pages used has → IsPartition pages used has'
   passes b elsewhere lists given taken = exchange (of_bucket b) (held_by id) pages used has has' (λ h. cc) (λ h. cc)
       (given ∙ sym had) (gets ∙ taken) others
     where
       others : (o : Owner) → o ≢ of_bucket b → o ≢ held_by id → has' o ≡ has o
-      others (of_bucket c) n m = ap (λ (e : Extent). run_of e.page e.log2) (elsewhere c (λ h. n (ap of_bucket h)))
+      others (of_bucket c) n m = ap (λ (e : Extent). run_of e.page e.size.log2) (elsewhere c (λ h. n (ap of_bucket h)))
       others (returned_at log2 i) n m = ap (λ (ys : List ℕ). run_at log2 (get_elem? ys i)) (lists log2)
       others never_used n m = refl
       others (held_by j) n m = run_set_other views id j w (λ h. m (ap held_by h))
@@ -160,7 +160,7 @@ module _ (pages used : ℕ) (x x' : ℕ → BucketState) (store store' : PageSto
       others
     where
       others : (o : Owner) → o ≢ returned_at log2 (length (returned_in store' log2)) → o ≢ held_by id → has' o ≡ has o
-      others (of_bucket c) n m = ap (λ (e : Extent). run_of e.page e.log2) (extents c)
+      others (of_bucket c) n m = ap (λ (e : Extent). run_of e.page e.size.log2) (extents c)
       others (returned_at l i) n m = ap (run_at l) (sym (before (returned_in store') (returned_in store) log2 page last elsewhere l i n))
       others never_used n m = refl
       others (held_by j) n m = run_set_other views id j w (λ h. m (ap held_by h))
@@ -177,7 +177,7 @@ module _ (pages used : ℕ) (x x' : ℕ → BucketState) (store store' : PageSto
       (gets ∙ (given ∙ ap (run_at log2) (sym (beyond (returned_in store log2))))) others
     where
       others : (o : Owner) → o ≢ returned_at log2 (length (returned_in store log2)) → o ≢ held_by id → has' o ≡ has o
-      others (of_bucket c) n m = ap (λ (e : Extent). run_of e.page e.log2) (extents c)
+      others (of_bucket c) n m = ap (λ (e : Extent). run_of e.page e.size.log2) (extents c)
       others (returned_at l i) n m = ap (run_at l) (before (returned_in store) (returned_in store') log2 page last elsewhere l i n)
       others never_used n m = refl
       others (held_by j) n m = run_set_other views id j w (λ h. m (ap held_by h))
@@ -219,7 +219,7 @@ module _ (pages used : ℕ) (x x' : ℕ → BucketState) (store store' : PageSto
         go (no _) (no _) = refl
 
     as_before : (o : Owner) → o ≢ held_by id → has' o ≡ has o
-    as_before (of_bucket c) n = ap (λ (e : Extent). run_of e.page e.log2) (extents c)
+    as_before (of_bucket c) n = ap (λ (e : Extent). run_of e.page e.size.log2) (extents c)
     as_before (returned_at l i) n = ap (λ (ys : List ℕ). run_at l (get_elem? ys i)) (lists l)
     as_before never_used n = refl
     as_before (held_by j) n = run_set_other views id j w (λ h. n (ap held_by h))

@@ -229,7 +229,7 @@ module _ (z : Sizes) (s : State (Unit {0}) View) (r : WordRule z s) (b id : ℕ)
     size = ok.size;
     pairs = ok.pairs;
     at_rest = λ e. stands_beside z (runs_now r.table.bucket r.table.store.store s.views) s.words words' b id (of_bucket c) x.extent.page
-        x.extent.log2 x.block m.beside refl (λ h. ne (cc)) (λ h. cc) ok.size (ok.at_rest e);
+        x.extent.size.log2 x.block m.beside refl (λ h. ne (cc)) (λ h. cc) ok.size (ok.at_rest e);
     clean = ok.clean;
   }
 
@@ -261,7 +261,7 @@ module _ (z : Sizes) (s : State (Unit {0}) View) (r : WordRule z s) (b id : ℕ)
         subst (HoldsBucket z words' j (known_at known l.bucket) l) (sym (m.elsewhere l.bucket other))
         (held_still z s.words words' j (known_at known l.bucket) (known_at known l.bucket) l (r.table.bucket l.bucket) h.fresh
         (stands_beside z (runs_now r.table.bucket r.table.store.store s.views) s.words words' b id (of_bucket l.bucket) l.extent.page
-        l.extent.log2 l.now m.beside (ap (λ (e : Extent). run_of e.page e.log2) (sym h.extent)) (λ e. other (cc)) (λ e. cc) h.size h.stands) h)
+        l.extent.size.log2 l.now m.beside (ap (λ (e : Extent). run_of e.page e.size.log2) (sym h.extent)) (λ e. other (cc)) (λ e. cc) h.size h.stands) h)
 
     store_beside : (lock : Option LockedStore) → HoldsStoreIf z s.words r.table.store j lock → HoldsStoreIf z words' store' j lock
     store_beside None h = tt

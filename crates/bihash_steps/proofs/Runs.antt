@@ -73,14 +73,14 @@ module _ (z : Sizes) (used : ℕ) (has : Owner → Option PageRun) (parted : IsP
   near_end o run e = let h = (parted.inside o run e).1 in let few = parted.few in omega arith
 
   -- also where there may be none
-  pub extent_near_end : (o : Owner) (e : Extent) → has o ≡ run_of e.page e.log2 → (e.page ≡ 0 → e ≡ no_block)
-      → e.page + 2 ^ e.log2 ≤ z.pages + 1
+  pub extent_near_end : (o : Owner) (e : Extent) → has o ≡ run_of e.page e.size.log2 → (e.page ≡ 0 → e ≡ no_block)
+      → e.page + 2 ^ e.size.log2 ≤ z.pages + 1
   extent_near_end o e mine absent = go e.page refl
     where
-      go : (page : ℕ) → e.page ≡ page → e.page + 2 ^ e.log2 ≤ z.pages + 1
-      go zero is = subst (λ (x : Extent). x.page + 2 ^ x.log2 ≤ z.pages + 1) (sym (absent is)) (omega arith)
-      go (suc page) is = near_end o (record { page = e.page; log2 = e.log2 })
-          (mine ∙ (ap (λ (t : ℕ). run_of t e.log2) is ∙ (λ t. Some (record { page = sym is t; log2 = e.log2 }))))
+      go : (page : ℕ) → e.page ≡ page → e.page + 2 ^ e.size.log2 ≤ z.pages + 1
+      go zero is = subst (λ (x : Extent). x.page + 2 ^ x.size.log2 ≤ z.pages + 1) (sym (absent is)) (omega arith)
+      go (suc page) is = near_end o (record { page = e.page; log2 = e.size.log2 })
+          (mine ∙ (ap (λ (t : ℕ). run_of t e.size.log2) is ∙ (λ t. Some (record { page = sym is t; log2 = e.size.log2 }))))
 
   -- a store into the block of an owner whose words may change
   beside_run : (words : List ℕ) (b id i n : ℕ) (o : Owner) (run : PageRun) → has o ≡ Some run → i < 2 ^ run.log2 * page_words z
@@ -216,4 +216,4 @@ pub runs_still : (x x' : ℕ → BucketState) (store store' : PageStore) (views 
     → get_elem? views id ≡ some v → run_in w.holds.block ≡ run_in v.holds.block
     → runs_now x' store' (set views id w) ≡ runs_now x store views
 runs_still x x' store store' views id v w extents lists at block = runs_same _ _ _ _ _ _
-    (λ b. ap (λ (e : Extent). run_of e.page e.log2) (extents b)) lists (λ j. block_set views id v w j at block)
+    (λ b. ap (λ (e : Extent). run_of e.page e.size.log2) (extents b)) lists (λ j. block_set views id v w j at block)

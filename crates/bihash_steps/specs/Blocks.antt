@@ -12,7 +12,7 @@ use Rattle.bihash_steps.specs.declared.view.Extent.{Extent}
 
 -- a bucket without a block has this
 abbrev pub no_block : Extent
-no_block = record { page = 0; log2 = 0; linear = false }
+no_block = record { page = 0; size = record { log2 = 0; linear = false } }
 
 -- how many places the block of this log2 at a page has, where page 0 stands for no block
 abbrev pub places : ℕ → ℕ → ℕ
@@ -28,7 +28,7 @@ value_in z block i = slice_index block (i * place_words z + z.key_words)
 
 -- place i has a pair
 abbrev pub HasPair : Sizes → Extent → List ℕ → ℕ → Type 0
-HasPair z e block i = (i < places e.page e.log2) × (value_in z block i ≢ free)
+HasPair z e block i = (i < places e.page e.size.log2) × (value_in z block i ≢ free)
 
 -- place i has this pair
 pub record HoldsPair (z : Sizes) (e : Extent) (block key : List ℕ) (value i : ℕ) : Type 0 where
@@ -40,5 +40,5 @@ pub record HoldsPair (z : Sizes) (e : Extent) (block key : List ℕ) (value i : 
 pub record IsBlockOf (z : Sizes) (e : Extent) (block : List ℕ) (m : Pairs) : Type 0 where
   pub absent : e.page ≡ 0 → e ≡ no_block
   pub bare : m ≡ empty → e.page ≡ 0
-  pub rule : AreLawfulPlaces (word_paging z) e.log2 e.linear (HoldsPair z e block)
+  pub rule : AreLawfulPlaces (word_paging z) e.size.log2 e.size.linear (HoldsPair z e block)
   pub map : HoldsMap (λ key. key) (HoldsPair z e block) m

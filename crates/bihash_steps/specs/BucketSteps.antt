@@ -41,8 +41,8 @@ pub record IsFound (z : Sizes) (v : View) (b word : ℕ) (history : List Write) 
   pub writes : IsWriteList z b (opening_at v.known b) history
   pub fits : Fits (word_of extent false (length history))
   pub stood : word ≡ packed (word_of extent false (length history))
-  pub near : extent.page + 2 ^ extent.log2 ≤ z.pages + 1
-  pub size : length block ≡ block_words z extent.page extent.log2
+  pub near : extent.page + 2 ^ extent.size.log2 ≤ z.pages + 1
+  pub size : length block ≡ block_words z extent.page extent.size.log2
   pub pairs : IsBlockOf z extent block (after (opening_at v.known b) history (length history))
   pub listed : b < length v.known.writes
 
@@ -143,8 +143,8 @@ pub record IsLockedWord (z : Sizes) (v : View) (page k : ℕ) : Type 0 where
   pub lock : LockedBucket
   pub held : v.holds.bucket ≡ Some lock
   pub first : lock.extent.page ≡ page
-  pub near : page + 2 ^ lock.extent.log2 ≤ z.pages + 1
-  pub inside : k < block_words z page lock.extent.log2
+  pub near : page + 2 ^ lock.extent.size.log2 ≤ z.pages + 1
+  pub inside : k < block_words z page lock.extent.size.log2
 
 pub record TellsLockedWord (k : ℕ) (m : ViewOfSeat) (found : ℕ) (m' : ViewOfSeat) : Type 0 where
   pub same : m' ≡ m
@@ -275,8 +275,8 @@ pub record IsOpenWord (z : Sizes) (v : View) (page k : ℕ) : Type 0 where
   pub bucket : OpenBucket
   pub noted : v.notes.open_bucket ≡ Some bucket
   pub first : bucket.extent.page ≡ page
-  pub near : page + 2 ^ bucket.extent.log2 ≤ z.pages + 1
-  pub inside : k < block_words z page bucket.extent.log2
+  pub near : page + 2 ^ bucket.extent.size.log2 ≤ z.pages + 1
+  pub inside : k < block_words z page bucket.extent.size.log2
 
 -- the word is noted among those that were read
 abbrev pub TellsOpenWord : ℕ → ViewOfSeat → ℕ → ViewOfSeat → Type 0

@@ -32,8 +32,8 @@ pub record BucketState : Type 0 where
 abbrev pub word_of : Extent → Bool → ℕ → Bucket
 word_of e locked version = record {
   page = e.page;
-  log2 = e.log2;
-  linear = e.linear;
+  log2 = e.size.log2;
+  linear = e.size.linear;
   locked = locked;
   version = version;
 }
@@ -46,7 +46,7 @@ pub record IsBucket (z : Sizes) (words : List ℕ) (count b : ℕ) (opening : Pa
       (word_of x.extent (is_some x.lock) (length x.history))
   pub writes : IsWriteList z b opening x.history
   pub bearers : (n : ℕ) (w : Write) → get_elem? x.history n ≡ some w → (1 ≤ w.by) × (w.by ≤ count)
-  pub size : length x.block ≡ block_words z x.extent.page x.extent.log2
+  pub size : length x.block ≡ block_words z x.extent.page x.extent.size.log2
   pub pairs : IsBlockOf z x.extent x.block (after opening x.history (length x.history))
   pub at_rest : x.lock ≡ None → Stands words (page_at z x.extent.page) x.block
   pub clean : x.lock ≡ None → x.dirty ≡ false
@@ -63,7 +63,7 @@ pub record HoldsBucket (z : Sizes) (words : List ℕ) (j : ℕ) (known : List Wr
   pub version : l.version ≡ length x.history
   pub fresh : known ≡ x.history
   pub was : l.was ≡ x.block
-  pub size : length l.now ≡ block_words z l.extent.page l.extent.log2
+  pub size : length l.now ≡ block_words z l.extent.page l.extent.size.log2
   pub stands : Stands words (page_at z l.extent.page) l.now
   pub clean : l.stored ≡ false → l.now ≡ l.was
   pub dirty : x.dirty ≡ l.stored

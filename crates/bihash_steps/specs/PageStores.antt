@@ -98,7 +98,7 @@ run_held (some v) = run_in v.holds.block
 
 -- the pages that each bucket, list and seat has
 abbrev pub runs_now : (ℕ → BucketState) → PageStore → List View → Owner → Option PageRun
-runs_now x store views = runs_of (λ b. run_of (x b).extent.page (x b).extent.log2)
+runs_now x store views = runs_of (λ b. run_of (x b).extent.page (x b).extent.size.log2)
     (λ log2. returned_in store log2) (λ j. run_held (get_elem? views j))
 
 -- ---- Refusals for want of pages

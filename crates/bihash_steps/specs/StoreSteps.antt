@@ -211,14 +211,14 @@ words_in (Some h) = h.words
 -- the extent is that of the held block, or of none where none is held
 abbrev pub IsOf : Extent → Option HeldBlock → Type 0
 IsOf extent None = extent ≡ no_block
-IsOf extent (Some h) = (extent.page ≡ h.page) × (extent.log2 ≡ h.log2)
+IsOf extent (Some h) = (extent.page ≡ h.page) × (extent.size.log2 ≡ h.log2)
 
 -- the holder of both locks may make the write of the call with the block that it holds, or with none
 pub record MayReplace (z : Sizes) (v : View) (b word : ℕ) (extent : Extent) (c : Call) : Type 0 where
   pub write : MayWrite z v b word c
   pub locked : LockedStore
   pub store : v.holds.store ≡ Some locked
-  pub near : extent.page + 2 ^ extent.log2 ≤ z.pages + 1
+  pub near : extent.page + 2 ^ extent.size.log2 ≤ z.pages + 1
   pub block : IsOf extent v.holds.block
   pub pairs : IsBlockOf z extent (words_in v.holds.block) (next_map v b c)
 
@@ -229,7 +229,7 @@ old_block (suc page) log2 words = Some (record { page = suc page; log2 = log2; w
 -- the block that the bucket had
 abbrev pub freed : Option LockedBucket → Option HeldBlock
 freed None = None
-freed (Some l) = old_block l.extent.page l.extent.log2 l.now
+freed (Some l) = old_block l.extent.page l.extent.size.log2 l.now
 
 -- no block that was taken waits for its bucket
 abbrev pub settled_in : Option LockedStore → Option LockedStore

@@ -10,7 +10,7 @@ ghost use Rattle.bihash_steps.specs.Seats.{Becomes, IsAt, with_view};
 use crate::event::Event;
 use crate::row::{CallerSeat, Row};
 use crate::view::Extent;
-use bihash_words::{BlockSize, BucketWord, Shape};
+use bihash_words::{BucketWord, Shape};
 use std::marker::Brand;
 
 mod plays;
@@ -230,8 +230,7 @@ impl<S: Shape> Row<S> {
         ensures { Becomes (sizes_of S.Shape) caller.old (view_after_replace caller.old.view E.call) caller.new }
     {
         let shared = &self.table.shared;
-        let Extent { page, log2, linear } = extent;
-        let next = word.next(page, BlockSize { log2, linear });
+        let next = word.next(extent.page, extent.size);
         shared.store::<Replaces<S, E>>(&mut caller.seat, self.bucket_at(bucket), next.to_word());
         caller.stamp = Some((bucket as u64, word.version() + 1));
     }

@@ -1,5 +1,5 @@
 //! What a caller knows, as proofs and contracts see it. Of these types only extents are ever made.
-use bihash_words::{Change, Reply};
+use bihash_words::{BlockSize, Change, Reply};
 use std::collections::LinkedList;
 
 /// One write of a bucket's history: the caller number that made it, the words of its key, and what was
@@ -30,13 +30,11 @@ pub struct Record {
     pub locks: u64,
 }
 
-/// Where the block of a bucket lies: its first page (0: there is no block), the log2 of its pages, and
-/// whether it is linear.
+/// Where the block of a bucket lies: its first page (0: there is no block), and its size.
 #[derive(Clone, Copy, Debug, PartialEq, Eq)]
 pub struct Extent {
     pub page: u64,
-    pub log2: u64,
-    pub linear: bool,
+    pub size: BlockSize,
 }
 
 /// A bucket whose lock bit the caller set: its version and block, the words of the block when it was

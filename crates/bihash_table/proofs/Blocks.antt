@@ -32,7 +32,7 @@ module _ (z : Sizes) (e : Extent) (block now : List ℕ) (m : Pairs) (i : ℕ) (
   }
 
   -- the pair of the key is at place i, where its old one stood or none did
-  module _ (key : List ℕ) (value : ℕ) (inside : i < places e.page e.log2) (open_to : IsOpenTo z e key i)
+  module _ (key : List ℕ) (value : ℕ) (inside : i < places e.page e.size.log2) (open_to : IsOpenTo z e key i)
       (only : (v k : ℕ) → HoldsPair z e block key v k → k ≡ i)
       (own : (other : List ℕ) (v : ℕ) → HoldsPair z e block other v i → other ≡ key) (storable : value ≢ free)
       (key_is : key_in z now i ≡ key) (value_is : value_in z now i ≡ value) where

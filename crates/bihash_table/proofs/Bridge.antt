@@ -1,12 +1,13 @@
 -- A block as words and as places: the places of a lawful block hold its map, and a block that was laid out
 -- anew is lawful as words.
-use Rattle.std.proofs.Common.{◌≡◌, ◌≢◌, ◌∙◌, ◌⊎◌, ◌<◌, ◌≤◌, ◌*◌, ◌/◌, ◌^◌, ◌++◌, ◌∷◌, ℕ, zero, suc, Bool, List, [], Some, None, ap, arith, get_or, le-mul_of_pos_right, mul-div_cancel, inl, inr, length, refl, subst, sym}
+use Rattle.std.proofs.Common.{◌≡◌, ◌≢◌, ◌∙◌, ◌⊎◌, ◌<◌, ◌≤◌, ◌*◌, ◌/◌, ◌^◌, ◌++◌, ◌∷◌, ℕ, zero, suc, List, [], Some, None, ap, arith, get_or, le-mul_of_pos_right, mul-div_cancel, inl, inr, length, refl, subst, sym}
 use Rattle.std.specs.FinMap.{get, get-empty, insert}
 use Rattle.std.specs.List.{Contains}
 use Rattle.std.specs.Prelude.{slice_get}
 use Rattle.std.proofs.lemmas.List.Elements.{Contains-append_left, Contains-push, Contains-push_cases}
 use Rattle.std.proofs.lemmas.List.Sorted.{Contains-permutation, IsPermutation-sym}
 use Rattle.std.proofs.lemmas.Option.{slice_get-get_or}
+use Rattle.bihash_words.specs.declared.block_size.BlockSize.{BlockSize}
 use Rattle.bihash_words.specs.declared.shape.Shape.{Ghosts}
 use Rattle.bihash_words.specs.Blocks.{HoldsMap}
 use Rattle.bihash_words.specs.Maps.{Pairs}
@@ -54,7 +55,7 @@ sized zero log2 count is = inl is
 sized (suc page) log2 count is = inr is
 
 module _ {A K : Type 0} (g : Ghosts A K) (e : Extent) (words : List ℕ) (ps : List (K × ℕ))
-    (are : ArePlaces g ps words) (count : length ps ≡ places e.page e.log2) where
+    (are : ArePlaces g ps words) (count : length ps ≡ places e.page e.size.log2) where
   -- a pair at a place, as words
   as_words : (key : K) (v i : ℕ) → HasPairAt ps key v i → HoldsPair (sizes_of g) e words (g.words_of key) v i
   as_words key v i h =
@@ -85,14 +86,14 @@ pub record AreKeysOf {A K : Type 0} (g : Ghosts A K) (m : Pairs) : Type 0 where
 
 -- the places of a block hold its map
 module _ {A K : Type 0} (g : Ghosts A K) (keys : AreKeyWords g) (e : Extent) (words : List ℕ) (ps : List (K × ℕ)) (m : Pairs)
-    (size : length words ≡ block_words (sizes_of g) e.page e.log2) (block : IsBlockOf (sizes_of g) e words m)
+    (size : length words ≡ block_words (sizes_of g) e.page e.size.log2) (block : IsBlockOf (sizes_of g) e words m)
     (are : ArePlaces g ps words) where
-  count : length ps ≡ places e.page e.log2
-  count = count_places g e.page e.log2 words ps size are
+  count : length ps ≡ places e.page e.size.log2
+  count = count_places g e.page e.size.log2 words ps size are
 
-  pub lawful_places : IsLawfulBlock (paging_of g) e.log2 e.linear ps
+  pub lawful_places : IsLawfulBlock (paging_of g) e.size.log2 e.size.linear ps
   lawful_places = record {
-    sized = sized e.page e.log2 (length ps) count;
+    sized = sized e.page e.size.log2 (length ps) count;
     rule = lawful_as g.words_of block.rule block.rule.small (λ key v i h. (as_words g e words ps are count key v i h, refl));
   }
 
@@ -110,14 +111,14 @@ module _ {A K : Type 0} (g : Ghosts A K) (keys : AreKeyWords g) (e : Extent) (wo
   }
 
 -- a block of these pages
-abbrev pub extent_of : ℕ → ℕ → Bool → Extent
-extent_of page log2 linear = record { page = page; log2 = log2; linear = linear }
+abbrev pub extent_of : ℕ → BlockSize → Extent
+extent_of page size = record { page = page; size = size }
 
-module _ {A K : Type 0} (g : Ghosts A K) (keys : AreKeyWords g) (page log2 : ℕ) (linear : Bool) (old : List (K × ℕ)) (key : K)
+module _ {A K : Type 0} (g : Ghosts A K) (keys : AreKeyWords g) (page : ℕ) (size : BlockSize) (old : List (K × ℕ)) (key : K)
     (value : ℕ) (m : Pairs) (new : List (K × ℕ)) (hold : HoldsMap g.words_of (HasPairAt old) m) (of : AreKeysOf g m)
-    (absent : get m (g.words_of key) ≡ None) (rehash : IsRehash (paging_of g) log2 linear old key value new) where
+    (absent : get m (g.words_of key) ≡ None) (rehash : IsRehash (paging_of g) size.log2 size.linear old key value new) where
   abbrev e : Extent
-  e = extent_of page log2 linear
+  e = extent_of page size
 
   abbrev more : Pairs
   more = insert m (g.words_of key) value
@@ -161,7 +162,7 @@ module _ {A K : Type 0} (g : Ghosts A K) (keys : AreKeyWords g) (page log2 : ℕ
         (λ w v i h. let p = as_place g e words new are count key w v i h in
         let same : g.key_of w ≡ p.0 = ap g.key_of p.2 ∙ keys.law p.0 in (
           subst (λ (k : K). HasPairAt new k v i) (sym same) p.1,
-          ap (page_of (word_paging (sizes_of g)) log2) (ap g.words_of same ∙ sym p.2),
+          ap (page_of (word_paging (sizes_of g)) size.log2) (ap g.words_of same ∙ sym p.2),
         ));
     map = record {
       mapped = λ w v i h. let p = as_place g e words new are count key w v i h in ap (get more) p.2 ∙ laid.mapped p.0 v i p.1;
@@ -170,7 +171,7 @@ module _ {A K : Type 0} (g : Ghosts A K) (keys : AreKeyWords g) (page log2 : ℕ
     };
   }
     where
-      count : length new ≡ places page log2
-      count = block_sized new log2 (let at = laid.found key value (get_set m (g.words_of key) value) in
+      count : length new ≡ places page size.log2
+      count = block_sized new size.log2 (let at = laid.found key value (get_set m (g.words_of key) value) in
           let inside : at.0 < length new = pair_inside at.1 in omega arith) rehash.lawful.sized
-          ∙ sym (some_places page log2 some)
+          ∙ sym (some_places page size.log2 some)

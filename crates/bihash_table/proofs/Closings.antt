@@ -37,12 +37,12 @@ module _ {A K : Type 0} (g : Ghosts A K) where
     added_free is = read_then u v w (λ o noted seen here known b has lists.
         part_free g known b o.extent o.block n ps (here.1 ∙ is) (seen known b has lists)) before now
 
-    pub added_pair : (word : ℕ) (e : Extent) → NotesBlock (sizes_of g) u.view word e → n < places e.page e.log2 → pair.1 ≢ free
+    pub added_pair : (word : ℕ) (e : Extent) → NotesBlock (sizes_of g) u.view word e → n < places e.page e.size.log2 → pair.1 ≢ free
         → HasRead u w (λ e block. AddsPlaces g (n + 1) e block old (ps ++ pair ∷ []))
     added_pair word e h inside taken = read_then u v w (λ o noted seen here known b has lists.
         part_more g known b o.extent o.block has n pair ps (record {
           pair = (
-            subst (λ (x : Extent). n < places x.page x.log2) (sym (note_extent (sizes_of g) u.view word e o h noted)) inside,
+            subst (λ (x : Extent). n < places x.page x.size.log2) (sym (note_extent (sizes_of g) u.view word e o h noted)) inside,
             λ is. taken (sym here.1 ∙ is),
           );
           stands = here.0;
@@ -55,11 +55,11 @@ module _ {A K : Type 0} (g : Ghosts A K) where
     added_not Q P (Ok x) err = absurd err
     added_not Q P (Err fault) err = read_then u v w (λ o noted seen here. tt) before now
 
-  pub added_all : (u v : CallerState) (n word : ℕ) (old ps : List (K × ℕ)) (e : Extent) → NotesBlock (sizes_of g) u.view word e → n ≡ places e.page e.log2
+  pub added_all : (u v : CallerState) (n word : ℕ) (old ps : List (K × ℕ)) (e : Extent) → NotesBlock (sizes_of g) u.view word e → n ≡ places e.page e.size.log2
       → HasRead u v (λ e block. AddsPlaces g n e block old ps) → HasRead u v (λ e block. AddsBlock g e block old ps)
   added_all u v n word old ps e h all = read_as u v (λ o noted seen known b has lists.
-      let end : n ≡ places o.extent.page o.extent.log2 =
-      all ∙ ap (λ (x : Extent). places x.page x.log2) (sym (note_extent (sizes_of g) u.view word e o h noted)) in
+      let end : n ≡ places o.extent.page o.extent.size.log2 =
+      all ∙ ap (λ (x : Extent). places x.page x.size.log2) (sym (note_extent (sizes_of g) u.view word e o h noted)) in
       part_all g known b o.extent o.block has ps lists.home
       (subst (λ (m : ℕ). ListsPairs g ps (InPart (sizes_of g) known b o.extent o.block m)) end (seen known b has lists)))
 

@@ -38,7 +38,7 @@ some_pair m key value is = ⊎_elim
     (λ (some : len m ≡ 0 → ⊥). omega arith)
     (cases_eq (len m) 0)
 
-module _ (z : Sizes) (e : Extent) (block : List ℕ) (rule : AreLawfulPlaces (word_paging z) e.log2 e.linear (HoldsPair z e block)) where
+module _ (z : Sizes) (e : Extent) (block : List ℕ) (rule : AreLawfulPlaces (word_paging z) e.size.log2 e.size.linear (HoldsPair z e block)) where
   -- the pairs at the first n places are those of the map
   abbrev HasFirst : ℕ → Pairs → Type 0
   HasFirst n m = HoldsMap (λ key. key) (λ key v i. (i < n) × HoldsPair z e block key v i) m
@@ -76,7 +76,7 @@ module _ (z : Sizes) (e : Extent) (block : List ℕ) (rule : AreLawfulPlaces (wo
       let below = at.1.0 in
       (at.0, (omega arith, at.1.1)))
 
-  count_first : (n : ℕ) (m : Pairs) → n ≤ places e.page e.log2 → HasFirst n m → len m ≡ pairs_before z block n
+  count_first : (n : ℕ) (m : Pairs) → n ≤ places e.page e.size.log2 → HasFirst n m → len m ≡ pairs_before z block n
   count_first zero m room has = nothing_first m has
   count_first (suc n) m room has = ⊎_elim
       (λ (is : value_in z block n ≡ free).
@@ -97,8 +97,8 @@ module _ (z : Sizes) (e : Extent) (block : List ℕ) (rule : AreLawfulPlaces (wo
 
 -- a map has as many pairs as its block
 pub len-pairs_before : (z : Sizes) (e : Extent) (block : List ℕ) (m : Pairs) → IsBlockOf z e block m
-    → len m ≡ pairs_before z block (places e.page e.log2)
-len-pairs_before z e block m pairs = count_first z e block pairs.rule (places e.page e.log2) m (omega arith) (record {
+    → len m ≡ pairs_before z block (places e.page e.size.log2)
+len-pairs_before z e block m pairs = count_first z e block pairs.rule (places e.page e.size.log2) m (omega arith) (record {
   mapped = λ key v i h. pairs.map.mapped key v i h.1;
   found = λ key v there. let at = pairs.map.found key v there in (at.0, (at.1.pair.0, at.1));
 })
@@ -142,30 +142,30 @@ places-le (suc page) log2 most small = let more : 2 ^ log2 ≤ 2 ^ most = pow_mo
 
 -- a block with a free place has fewer pairs than the most that there may be
 pub few_pairs : (z : Sizes) (e : Extent) (block : List ℕ) (m : Pairs) (i : ℕ) → IsBlockOf z e block m
-    → i < places e.page e.log2 → value_in z block i ≡ free → len m < 4 * 2 ^ z.max_log2
+    → i < places e.page e.size.log2 → value_in z block i ≡ free → len m < 4 * 2 ^ z.max_log2
 few_pairs z e block m i pairs inside is =
     omega (
       arith,
       len-pairs_before z e block m pairs,
-      pairs_before-free z block i (places e.page e.log2) inside is,
-      places-le e.page e.log2 z.max_log2 pairs.rule.small,
+      pairs_before-free z block i (places e.page e.size.log2) inside is,
+      places-le e.page e.size.log2 z.max_log2 pairs.rule.small,
     )
 
 -- a block of places that all have pairs has as many pairs
 pub full_block : (z : Sizes) (e : Extent) (block : List ℕ) (m : Pairs) → IsBlockOf z e block m
-    → ((i : ℕ) → i < places e.page e.log2 → value_in z block i ≢ free) → len m ≡ places e.page e.log2
+    → ((i : ℕ) → i < places e.page e.size.log2 → value_in z block i ≢ free) → len m ≡ places e.page e.size.log2
 full_block z e block m pairs each =
-    len-pairs_before z e block m pairs ∙ pairs_before-all z block (places e.page e.log2) each
+    len-pairs_before z e block m pairs ∙ pairs_before-all z block (places e.page e.size.log2) each
 
 -- a block below the greatest size has fewer pairs than the most that there may be
 pub few_places : (z : Sizes) (e : Extent) (block : List ℕ) (m : Pairs) → IsBlockOf z e block m
-    → e.log2 < z.max_log2 → len m < 4 * 2 ^ z.max_log2
+    → e.size.log2 < z.max_log2 → len m < 4 * 2 ^ z.max_log2
 few_places z e block m pairs small =
-    let more : 2 ^ e.log2 < 2 ^ z.max_log2 = pow-lt small in
-    let p : ℕ = 2 ^ e.log2 in let q : ℕ = 2 ^ z.max_log2 in
+    let more : 2 ^ e.size.log2 < 2 ^ z.max_log2 = pow-lt small in
+    let p : ℕ = 2 ^ e.size.log2 in let q : ℕ = 2 ^ z.max_log2 in
     omega (
       arith,
       len-pairs_before z e block m pairs,
-      pairs_before-le z block (places e.page e.log2),
-      places-le e.page e.log2 e.log2 (omega arith),
+      pairs_before-le z block (places e.page e.size.log2),
+      places-le e.page e.size.log2 e.size.log2 (omega arith),
     )

@@ -78,9 +78,9 @@ module _ {A K : Type 0} (g : Ghosts A K) (keys : AreKeyWords g) (v : View) (b wo
     absent_there = sym (pair_value (sizes_of g) k.locked.lock.extent k.locked.lock.now (g.words_of key) (map_now u b) None told.0.0 has.pairs)
 
     module _ (size : BlockSize) (is : plan ≡ Grow size) where
-      named : IsPlan (paging_of g) k.locked.lock.extent.log2 k.locked.lock.extent.linear ps key (Grow size)
+      named : IsPlan (paging_of g) k.locked.lock.extent.size.log2 k.locked.lock.extent.size.linear ps key (Grow size)
       named = let z = sizes_of g in let e = k.locked.lock.extent in let tells = word_tells z u b word k.locked.lock has in
-          subst (λ (p : Plan). IsPlan (paging_of g) e.log2 e.linear ps key p) is
+          subst (λ (p : Plan). IsPlan (paging_of g) e.size.log2 e.size.linear ps key p) is
           (planned g keys e k.locked.lock.now (map_now u b) key has.size has.pairs told.0.1 absent_there ps told.1 was.log2 was.linear plan
           (log2_is z word e tells was.log2 log2_told) (linear_is z word e tells was.linear linear_told) told_plan)
 
@@ -91,10 +91,10 @@ module _ {A K : Type 0} (g : Ghosts A K) (keys : AreKeyWords g) (v : View) (b wo
       pub laid_there : (value : ℕ) (new : List (K × ℕ)) → value ≢ free_mark
           → (IsNamed (paging_of g) ps key size → value ≢ free_mark → IsRehash (paging_of g) size.log2 size.linear ps key value new)
           → (page : ℕ) (words : List ℕ) → 1 ≤ page → ArePlaces g new words
-          → IsBlockOf (sizes_of g) (extent_of page size.log2 size.linear) words (insert (map_now u b) (g.words_of key) value)
+          → IsBlockOf (sizes_of g) (extent_of page size) words (insert (map_now u b) (g.words_of key) value)
       laid_there value new storable lays page words some there =
           let e = k.locked.lock.extent in let block = k.locked.lock.now in let m = map_now u b in
-          block_of_rehash g keys page size.log2 size.linear ps key value m new
+          block_of_rehash g keys page size ps key value m new
           (hold g keys e block m key has.size has.pairs told.0.1 absent_there ps told.1)
           (of_keys g keys e block m key has.size has.pairs told.0.1 absent_there ps told.1)
           absent_there

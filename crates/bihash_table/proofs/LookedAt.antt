@@ -40,11 +40,11 @@ module _ (z : Sizes) (e : Extent) (block key : List ℕ) (i : ℕ) where
   free_value n here is h = h.pair.1 (sym here ∙ is)
 
   -- the words but the last, the last one and the value
-  pub found_value : (n k : ℕ) → k ≡ z.key_words - 1 → length block ≡ block_words z e.page e.log2 → i < places e.page e.log2 → length key ≡ z.key_words
+  pub found_value : (n k : ℕ) → k ≡ z.key_words - 1 → length block ≡ block_words z e.page e.size.log2 → i < places e.page e.size.log2 → length key ≡ z.key_words
       → SameTo z block i key k → n ≡ value_in z block i → n ≢ free → LastWordTells z key i true e block → IsValueAt z key i (Some n) e block
   found_value n k is size inside long same here pair last = record {
     pair = (inside, λ h. pair (here ∙ h));
-    stands = all_same z block key i e.page e.log2 size inside long (λ j low. elim (cases_lt j k) [
+    stands = all_same z block key i e.page e.size.log2 size inside long (λ j low. elim (cases_lt j k) [
       | inl before ↦ same j before
       | inr behind ↦ let at : j ≡ z.key_words - 1 = omega arith in
           subst (λ (j : ℕ). slice_index block (i * place_words z + j) ≡ slice_index key j) (sym at) last
@@ -199,7 +199,7 @@ module _ (z : Sizes) where
     first_free key word to e h open_to low high is = read_then u v w (λ o noted seen here.
         let there = open_there z key u word from to e o h noted open_to in
         let room = there.within in
-        let inside : at < places o.extent.page o.extent.log2 = omega arith in (
+        let inside : at < places o.extent.page o.extent.size.log2 = omega arith in (
           record { inside = inside; free = sym here ∙ is; reached = (there.exact at inside).0 (low, high) },
           λ k less h. seen k ((there.exact k h.inside).1 h.reached).0 less h.free,
         )) before now
@@ -230,18 +230,18 @@ module _ (z : Sizes) where
       | inr not ↦ let same : k ≡ at = omega arith in absurd (pair.1 (ap (value_in z o.block) same ∙ (sym here ∙ is)))
     ]) before now
 
-    pub other_there : (word : ℕ) (e : Extent) → NotesBlock z u.view word e → at < places e.page e.log2 → at ≢ i → n ≢ free
+    pub other_there : (word : ℕ) (e : Extent) → NotesBlock z u.view word e → at < places e.page e.size.log2 → at ≢ i → n ≢ free
         → HasRead u w (OtherPairTells z i true)
     other_there word e h inside differ taken = read_then u v w (λ o noted seen here. (
       at,
       differ,
-      (subst (λ (x : Extent). at < places x.page x.log2) (sym (note_extent z u.view word e o h noted)) inside, λ is. taken (here ∙ is)),
+      (subst (λ (x : Extent). at < places x.page x.size.log2) (sym (note_extent z u.view word e o h noted)) inside, λ is. taken (here ∙ is)),
     )) before now
 
-  pub no_other : (u v : CallerState) (i word to : ℕ) (e : Extent) → NotesBlock z u.view word e → places e.page e.log2 ≤ to → HasRead u v (NoOther i to)
+  pub no_other : (u v : CallerState) (i word to : ℕ) (e : Extent) → NotesBlock z u.view word e → places e.page e.size.log2 ≤ to → HasRead u v (NoOther i to)
       → HasRead u v (OtherPairTells z i false)
   no_other u v i word to e h all = read_as u v (λ o noted seen k pair. seen k
-      (let room : places o.extent.page o.extent.log2 ≤ to = subst (λ (x : Extent). places x.page x.log2 ≤ to) (sym (note_extent z u.view word e o h noted)) all in
+      (let room : places o.extent.page o.extent.size.log2 ≤ to = subst (λ (x : Extent). places x.page x.size.log2 ≤ to) (sym (note_extent z u.view word e o h noted)) all in
       let inside = pair.0 in omega arith) pair)
 
 -- what a look for a pair found tells the map of a lawful block

@@ -21,27 +21,27 @@ few_pages z log2 sound small = let few = sound.few_buckets in let low : log2 ≤
 
 module _ (z : Sizes) (e : Extent) (key : List ℕ) where
   pub none_open : e.page ≡ 0 → AreOpenTo z e key 0 0
-  none_open is = let none_there : places e.page e.log2 ≡ 0 = ap (λ (page : ℕ). places page e.log2) is in record {
+  none_open is = let none_there : places e.page e.size.log2 ≡ 0 = ap (λ (page : ℕ). places page e.size.log2) is in record {
     within = omega arith;
     exact = λ i l. absurd (omega arith);
   }
 
-  pub all_open : (count : ℕ) → e.page ≢ 0 → e.linear ≡ true → count ≡ 2 ^ e.log2 → AreOpenTo z e key 0 (4 * count)
-  all_open count some linear is = let n = some_places e.page e.log2 some in record {
+  pub all_open : (count : ℕ) → e.page ≢ 0 → e.size.linear ≡ true → count ≡ 2 ^ e.size.log2 → AreOpenTo z e key 0 (4 * count)
+  all_open count some linear is = let n = some_places e.page e.size.log2 some in record {
     within = omega arith;
-    exact = λ i l. (λ _. open_of_page e.linear _ i (λ plain. absurd (true≢false (sym linear ∙ plain))), λ _. (omega arith, omega arith));
+    exact = λ i l. (λ _. open_of_page e.size.linear _ i (λ plain. absurd (true≢false (sym linear ∙ plain))), λ _. (omega arith, omega arith));
   }
 
-  pub page_open : (page : ℕ) → e.page ≢ 0 → e.linear ≡ false → page ≡ page_of (word_paging z) e.log2 key → AreOpenTo z e key (4 * page) (4 * page + 4)
+  pub page_open : (page : ℕ) → e.page ≢ 0 → e.size.linear ≡ false → page ≡ page_of (word_paging z) e.size.log2 key → AreOpenTo z e key (4 * page) (4 * page + 4)
   page_open page some linear is =
-      let n = some_places e.page e.log2 some in
-      let low : page < 2 ^ e.log2 = rw is (page_of-lt (word_paging z) e.log2 key) in record {
+      let n = some_places e.page e.size.log2 some in
+      let low : page < 2 ^ e.size.log2 = rw is (page_of-lt (word_paging z) e.size.log2 key) in record {
         within = omega arith;
-        exact = λ i l. (λ among. open_of_page e.linear _ i (λ _. omega arith), λ reached. let at = in_page e.linear _ i linear reached in (omega arith, omega arith));
+        exact = λ i l. (λ among. open_of_page e.size.linear _ i (λ _. omega arith), λ reached. let at = in_page e.size.linear _ i linear reached in (omega arith, omega arith));
       }
 
   -- the same, where the page after it is named
-  pub one_page_open : (page log2 : ℕ) → e.page ≢ 0 → e.linear ≡ false → log2 ≡ e.log2
+  pub one_page_open : (page log2 : ℕ) → e.page ≢ 0 → e.size.linear ≡ false → log2 ≡ e.size.log2
       → page ≡ z.hash key / 2 ^ z.log2_buckets % 2 ^ log2 → AreOpenTo z e key (4 * page) (4 * (page + 1))
   one_page_open page log2 some linear same is = let up : 4 * page + 4 ≡ 4 * (page + 1) = omega arith in
       subst (AreOpenTo z e key (4 * page)) up

@@ -163,10 +163,10 @@ module _ {A K : Type 0} (g : Ghosts A K) where
 
       -- all places of the block give the bucket
       pub part_all : (ps : List (K × ℕ)) → ((c : ℕ) (key : List ℕ) (value : ℕ) → c < b → get (map_in known c) key ≡ Some value
-          → bucket_of sizes key ≡ c) → ListsPairs g ps (InPart sizes known b e block (places e.page e.log2))
+          → bucket_of sizes key ≡ c) → ListsPairs g ps (InPart sizes known b e block (places e.page e.size.log2))
           → ListsBuckets g known (b + 1) ps
       part_all ps homes so_far = record {
-        pairs = lists_same ps (InPart sizes known b e block (places e.page e.log2)) (InBucketsBelow sizes known (b + 1))
+        pairs = lists_same ps (InPart sizes known b e block (places e.page e.size.log2)) (InBucketsBelow sizes known (b + 1))
             (λ key value h. elim h [
               | inl low ↦ (let l = low.0 in omega arith, low.1)
               | inr here ↦ in_bucket key value (has.pairs.map.mapped key value here.place here.at)
@@ -189,7 +189,7 @@ module _ {A K : Type 0} (g : Ghosts A K) where
               (omega arith, subst (λ (c : ℕ). get (map_in known c) key ≡ Some value) (sym home) h)
 
           in_place : (key : List ℕ) (value : ℕ) → get (map_in known b) key ≡ Some value
-              → InPlacesBelow sizes e block (places e.page e.log2) key value
+              → InPlacesBelow sizes e block (places e.page e.size.log2) key value
           in_place key value h = let found = has.pairs.map.found key value h in
               record { place = found.0; below = found.1.pair.0; at = found.1 }
 

@@ -29,13 +29,13 @@ module _ (z : Sizes) where
       let w : ℕ = t * (4 * p) in omega arith
 
   pub locked_word : (v : View) (b word page i k : ℕ) (l : LockedBucket) → HasLock z v b word l → page ≡ l.extent.page
-      → i < places l.extent.page l.extent.log2 → k < place_words z → IsLockedWord z v page (i * place_words z + k)
+      → i < places l.extent.page l.extent.size.log2 → k < place_words z → IsLockedWord z v page (i * place_words z + k)
   locked_word v b word page i k l h is inside low = record {
     lock = l;
     held = ap (λ (x : Holdings). x.bucket) h.held;
     first = sym is;
     near = rw is h.near;
-    inside = rw is (place_inside l.extent.page l.extent.log2 i k inside low);
+    inside = rw is (place_inside l.extent.page l.extent.size.log2 i k inside low);
   }
 
   module _ (block key : List ℕ) (i : ℕ) where

@@ -62,13 +62,13 @@ grows paging log2 linear (p ∷ ps) key size true g =
     ]
 
 module _ {A K : Type 0} (g : Ghosts A K) (keys : AreKeyWords g) (e : Extent) (block : List ℕ) (m : Pairs) (key : K)
-    (size : length block ≡ block_words (sizes_of g) e.page e.log2) (held : IsBlockOf (sizes_of g) e block m)
+    (size : length block ≡ block_words (sizes_of g) e.page e.size.log2) (held : IsBlockOf (sizes_of g) e block m)
     (crowded : IsCrowdedFor (sizes_of g) e block (g.words_of key))
     (absent : get m (g.words_of key) ≡ None) (ps : List (K × ℕ)) (are : ArePlaces g ps block) where
-  count : length ps ≡ places e.page e.log2
-  count = count_places g e.page e.log2 block ps size are
+  count : length ps ≡ places e.page e.size.log2
+  count = count_places g e.page e.size.log2 block ps size are
 
-  pub lawful : IsLawfulBlock (paging_of g) e.log2 e.linear ps
+  pub lawful : IsLawfulBlock (paging_of g) e.size.log2 e.size.linear ps
   lawful = lawful_places g keys e block ps m size held are
 
   pub hold : HoldsMap g.words_of (HasPairAt ps) m
@@ -81,14 +81,14 @@ module _ {A K : Type 0} (g : Ghosts A K) (keys : AreKeyWords g) (e : Extent) (bl
   free_value : (i : ℕ) → IsFree ps i → value_in (sizes_of g) block i ≡ free
   free_value i vacant = are.value i (vacant.key, free) vacant.at
 
-  free_inside_block : (i : ℕ) → IsFree ps i → i < places e.page e.log2
+  free_inside_block : (i : ℕ) → IsFree ps i → i < places e.page e.size.log2
   free_inside_block i vacant = omega (arith, free_inside vacant, count)
 
   -- the key is new in the places, and no place that is open to it is free
   is_new : IsNew ps key
   is_new i had = let clash = sym absent ∙ hold.mapped key had.value i had.pair in let c : ⊥ = cc in c
 
-  is_crowded : IsCrowded e.linear (page_of (paging_of g) e.log2 key) ps
+  is_crowded : IsCrowded e.size.linear (page_of (paging_of g) e.size.log2 key) ps
   is_crowded i reached vacant = crowded i (record {
     inside = free_inside_block i vacant;
     free = free_value i vacant;
@@ -96,43 +96,43 @@ module _ {A K : Type 0} (g : Ghosts A K) (keys : AreKeyWords g) (e : Extent) (bl
   })
 
   -- the plan was made on the fields that the word tells
-  pub planned : (log2 : ℕ) (linear : Bool) (plan : Plan) → log2 ≡ e.log2 → linear ≡ e.linear
+  pub planned : (log2 : ℕ) (linear : Bool) (plan : Plan) → log2 ≡ e.size.log2 → linear ≡ e.size.linear
       → (IsLawfulBlock (paging_of g) log2 linear ps → IsNew ps key → IsCrowded linear (page_of (paging_of g) log2 key) ps
       → IsOnlyPlan (paging_of g) log2 linear ps key plan)
-      → IsPlan (paging_of g) e.log2 e.linear ps key plan
+      → IsPlan (paging_of g) e.size.log2 e.size.linear ps key plan
   planned log2 linear plan log2_at linear_at told =
       (subst (λ (x : ℕ × Bool). IsLawfulBlock (paging_of g) x.0 x.1 ps → IsNew ps key
       → IsCrowded x.1 (page_of (paging_of g) x.0 key) ps → IsOnlyPlan (paging_of g) x.0 x.1 ps key plan)
       (λ i. (log2_at i, linear_at i)) told lawful is_new is_crowded).exact
 
-  not_placed : (i : ℕ) → IsPlan (paging_of g) e.log2 e.linear ps key (InPlace i) → ⊥
+  not_placed : (i : ℕ) → IsPlan (paging_of g) e.size.log2 e.size.linear ps key (InPlace i) → ⊥
   not_placed i plan = ⊎_elim (λ (had : HasKey ps key i). is_new i had) (λ first. is_crowded i first.1.reached first.1.vacant) plan
 
-  none_free : IsPlan (paging_of g) e.log2 e.linear ps key Full → (i : ℕ) → IsFree ps i → ⊥
+  none_free : IsPlan (paging_of g) e.size.log2 e.size.linear ps key Full → (i : ℕ) → IsFree ps i → ⊥
   none_free plan i vacant =
-      let x = exhausted (paging_of g) e.log2 e.linear ps key plan.2 in
-      plan.1 i (open_of_page e.linear _ i (λ plain. absurd (x.1 (x.0, plain, (i, vacant))))) vacant
+      let x = exhausted (paging_of g) e.size.log2 e.size.linear ps key plan.2 in
+      plan.1 i (open_of_page e.size.linear _ i (λ plain. absurd (x.1 (x.0, plain, (i, vacant))))) vacant
 
-  full : IsPlan (paging_of g) e.log2 e.linear ps key Full
+  full : IsPlan (paging_of g) e.size.log2 e.size.linear ps key Full
       → most_pairs (bounds_of (sizes_of g)) ≤ len m
   full plan =
-      let x = exhausted (paging_of g) e.log2 e.linear ps key plan.2 in
+      let x = exhausted (paging_of g) e.size.log2 e.size.linear ps key plan.2 in
       let above = x.0 in
       let some = x.2 in
-      let all : len m ≡ places e.page e.log2 =
+      let all : len m ≡ places e.page e.size.log2 =
       full_block (sizes_of g) e block m held (λ i inside vacant.
       let d : K × ℕ = (key, 0) in
       let within : i < length ps = omega (arith, count) in
       none_free plan i (free_at ps i d within (sym (are.value i (get_or ps i d) (slice_get-get_or ps i d within)) ∙ vacant))) in
-      let greatest : e.log2 ≡ g.MAX_LOG2 = omega (arith, lawful.rule.small) in
-      let same : 2 ^ e.log2 ≡ 2 ^ g.MAX_LOG2 = ap (λ n. 2 ^ n) greatest in
+      let greatest : e.size.log2 ≡ g.MAX_LOG2 = omega (arith, lawful.rule.small) in
+      let same : 2 ^ e.size.log2 ≡ 2 ^ g.MAX_LOG2 = ap (λ n. 2 ^ n) greatest in
       ⊎_elim
       (λ (none : length ps ≡ 0). absurd (omega arith))
-      (λ (whole : length ps ≡ 4 * 2 ^ e.log2). omega (arith, all, count, whole, same))
+      (λ (whole : length ps ≡ 4 * 2 ^ e.size.log2). omega (arith, all, count, whole, same))
       lawful.sized
 
   -- a plan that isn't a larger block says that the bucket has as many pairs as it can
-  pub is_full : (plan : Plan) → IsPlan (paging_of g) e.log2 e.linear ps key plan
+  pub is_full : (plan : Plan) → IsPlan (paging_of g) e.size.log2 e.size.linear ps key plan
       → ((size : BlockSize) → plan ≡ Grow size → ⊥)
       → most_pairs (bounds_of (sizes_of g)) ≤ len m
   is_full (InPlace i) plan other = absurd (not_placed i plan)
@@ -141,33 +141,33 @@ module _ {A K : Type 0} (g : Ghosts A K) (keys : AreKeyWords g) (e : Extent) (bl
 
   -- a larger block says that there is room
   pub has_room : (size : BlockSize)
-      → IsPlan (paging_of g) e.log2 e.linear ps key (Grow size)
+      → IsPlan (paging_of g) e.size.log2 e.size.linear ps key (Grow size)
       → len m < most_pairs (bounds_of (sizes_of g))
   has_room size plan = ⊎_elim
       (λ (none : length ps ≡ 0).
-      let all : len m ≡ places e.page e.log2 =
+      let all : len m ≡ places e.page e.size.log2 =
       full_block (sizes_of g) e block m held (λ i inside. absurd (omega (arith, count))) in
       omega (arith, all, count, pow_pos g.MAX_LOG2))
-      (λ (more : (e.log2 < g.MAX_LOG2) ⊎ ((i : ℕ) × IsFree ps i)). ⊎_elim
-      (λ (below : e.log2 < g.MAX_LOG2). few_places (sizes_of g) e block m held below)
+      (λ (more : (e.size.log2 < g.MAX_LOG2) ⊎ ((i : ℕ) × IsFree ps i)). ⊎_elim
+      (λ (below : e.size.log2 < g.MAX_LOG2). few_places (sizes_of g) e block m held below)
       (λ (vacant : (i : ℕ) × IsFree ps i). few_pairs (sizes_of g) e block m vacant.0 held
       (free_inside_block vacant.0 vacant.1) (free_value vacant.0 vacant.1)) more)
-      (grows (paging_of g) e.log2 e.linear ps key size.log2 size.linear plan.2)
+      (grows (paging_of g) e.size.log2 e.size.linear ps key size.log2 size.linear plan.2)
 
   pub is_named : (size : BlockSize)
-      → IsPlan (paging_of g) e.log2 e.linear ps key (Grow size)
+      → IsPlan (paging_of g) e.size.log2 e.size.linear ps key (Grow size)
       → IsNamed (paging_of g) ps key size
   is_named size plan = record {
-    was = record { log2 = e.log2; linear = e.linear };
+    was = e.size;
     lawful = lawful;
     plan = plan;
   }
 
-  pub is_planned : (size : BlockSize) → IsPlan (paging_of g) e.log2 e.linear ps key (Grow size)
+  pub is_planned : (size : BlockSize) → IsPlan (paging_of g) e.size.log2 e.size.linear ps key (Grow size)
       → IsPlanned g m key size
   is_planned size plan = record {
     places = ps;
-    was = record { log2 = e.log2; linear = e.linear };
+    was = e.size;
     lawful = lawful;
     map = hold;
     plan = plan;

@@ -1,9 +1,10 @@
 -- A bucket that is given another block, or none, under both locks.
-use Rattle.std.proofs.Common.{◌≡◌, ◌≢◌, ◌∙◌, ◌<◌, ◌≤◌, ◌+◌, ◌^◌, ℕ, List, [], Bool, Option, Some, None, ap, arith, length, refl, subst, sym, ⊎_elim}
+use Rattle.std.proofs.Common.{◌≡◌, ◌≢◌, ◌∙◌, ◌<◌, ◌≤◌, ◌+◌, ◌^◌, ℕ, List, [], Option, Some, None, ap, arith, length, refl, subst, sym, ⊎_elim}
 use Rattle.std.specs.FinMap.{get, insert, len, remove}
 use Rattle.bihash_words.specs.Maps.{Pairs, most_pairs}
 use Rattle.bihash_words.specs.Patches.{free_mark}
 use Rattle.bihash_words.specs.Sizes.{Sizes, sizes_of}
+use Rattle.bihash_words.specs.declared.block_size.BlockSize.{BlockSize}
 use Rattle.bihash_words.specs.declared.shape.Shape.{Ghosts}
 use Rattle.bihash_words.specs.declared.patch.Change.{Change}
 use Rattle.bihash_words.specs.declared.patch.Change.TheVariants.{Set, Remove}
@@ -90,16 +91,16 @@ module _ {A K : Type 0} (g : Ghosts A K) (s t : CallerState) (same : t ≡ with_
 module _ (z : Sizes) (v : View) (b word : ℕ) (l : LockedBucket) (key : List ℕ) (lock : HasLock z v b word l)
     (home : IsKeyOf z b key) (unworn : length (known_at v.known b) < z.limit) where
   -- the larger block may be published
-  pub may_enter : (value : ℕ) (n : LockedStore) (page log2 : ℕ) (linear : Bool) (words : List ℕ)
+  pub may_enter : (value : ℕ) (n : LockedStore) (page : ℕ) (size : BlockSize) (words : List ℕ)
       → value ≢ free_mark → len (map_now v b) < most_pairs (bounds_of z) → get (map_now v b) key ≡ None
-      → page + 2 ^ log2 ≤ z.pages + 1 → IsBlockOf z (extent_of page log2 linear) words (insert (map_now v b) key value)
-      → (u : View) → u ≡ holding v (Some n) (Some (block_of page log2 words))
-      → MayReplace z u b word (extent_of page log2 linear) (call_of u b 1 (event key None (Set value) (Changed None)))
-  may_enter value n page log2 linear words storable room absent near pairs u is =
-      subst (λ (x : View). MayReplace z x b word (extent_of page log2 linear)
+      → page + 2 ^ size.log2 ≤ z.pages + 1 → IsBlockOf z (extent_of page size) words (insert (map_now v b) key value)
+      → (u : View) → u ≡ holding v (Some n) (Some (block_of page size.log2 words))
+      → MayReplace z u b word (extent_of page size) (call_of u b 1 (event key None (Set value) (Changed None)))
+  may_enter value n page size words storable room absent near pairs u is =
+      subst (λ (x : View). MayReplace z x b word (extent_of page size)
       (call_of x b 1 (event key None (Set value) (Changed None)))) (sym is)
       (record {
-        write = may_write z v b word l key lock home unworn (Some n) (Some (block_of page log2 words)) None (Set value)
+        write = may_write z v b word l key lock home unworn (Some n) (Some (block_of page size.log2 words)) None (Set value)
             (sym absent) (entering z v b word l key lock home unworn value storable room absent);
         locked = n;
         store = refl;

@@ -120,7 +120,7 @@ module _ {P : Extent → List ℕ → Type 0} where
 
 -- the caller may read on
 abbrev pub may_still : {z : Sizes} {row : _} {s t : CallerState} {word n m : ℕ} {P : Extent → List ℕ → Type 0} → HasRead s t P
-    → (h : MayRead z row s word n) → m ≤ places h.extent.page h.extent.log2 → MayRead z row t word m
+    → (h : MayRead z row s word n) → m ≤ places h.extent.page h.extent.size.log2 → MayRead z row t word m
 may_still {z} {row} {s} {t} {word} before h inside = record {
   own = own_through s t t.view before.same h.own;
   extent = h.extent;
@@ -129,7 +129,7 @@ may_still {z} {row} {s} {t} {word} before h inside = record {
 }
 
 -- a caller that may read may read so many places
-pub may_all : {z : Sizes} {row : _} {s : CallerState} {word n m : ℕ} (h : MayRead z row s word n) → m ≤ places h.extent.page h.extent.log2
+pub may_all : {z : Sizes} {row : _} {s : CallerState} {word n m : ℕ} (h : MayRead z row s word n) → m ≤ places h.extent.page h.extent.size.log2
     → MayRead z row s word m
 may_all h inside = record { own = h.own; extent = h.extent; block = h.block; inside = inside }
 
@@ -151,9 +151,9 @@ pub note_extent : (z : Sizes) (v : View) (word : ℕ) (e : Extent) (o : OpenBuck
 note_extent z v word e o h noted = ap (λ (y : OpenBucket). y.extent) (sym (one_note z v word e o h noted)) ∙ h.extent
 
 pub note_size : (z : Sizes) (v : View) (word : ℕ) (e : Extent) (o : OpenBucket) → NotesBlock z v word e → v.notes.open_bucket ≡ Some o
-    → length o.block ≡ block_words z o.extent.page o.extent.log2
-note_size z v word e o h noted = subst (λ (y : OpenBucket). length y.block ≡ block_words z y.extent.page y.extent.log2)
-    (one_note z v word e o h noted) (subst (λ (x : Extent). length h.open_bucket.block ≡ block_words z x.page x.log2) (sym h.extent) h.size)
+    → length o.block ≡ block_words z o.extent.page o.extent.size.log2
+note_size z v word e o h noted = subst (λ (y : OpenBucket). length y.block ≡ block_words z y.extent.page y.extent.size.log2)
+    (one_note z v word e o h noted) (subst (λ (x : Extent). length h.open_bucket.block ≡ block_words z x.page x.size.log2) (sym h.extent) h.size)
 
 pub word_notes : (z : Sizes) (v : View) (word : ℕ) (e : Extent) → NotesBlock z v word e → IsWordOf z word e
 word_notes z v word e h = record { version = h.open_bucket.version; fits = h.fits; stood = h.stood; small = h.small }
@@ -162,13 +162,13 @@ pub names_block : {z : Sizes} {row : _} {s : CallerState} {word n : ℕ} → IsS
 names_block {z} {row} {s} {word} sound h = record { sound = sound; extent = h.extent; names = word_notes z s.view word h.extent h.block }
 
 pub open_word_of_place : (z : Sizes) (v : View) (word page i k : ℕ) (e : Extent) → NotesBlock z v word e → page ≡ e.page
-    → i < places e.page e.log2 → k < place_words z → IsOpenWord z v page (i * place_words z + k)
+    → i < places e.page e.size.log2 → k < place_words z → IsOpenWord z v page (i * place_words z + k)
 open_word_of_place z v word page i k e h is inside low = record {
   bucket = h.open_bucket;
   noted = h.noted;
   first = ap (λ (x : Extent). x.page) h.extent ∙ sym is;
   near = rw (is, h.extent) h.near;
-  inside = rw (is, h.extent) (place_inside z e.page e.log2 i k inside low);
+  inside = rw (is, h.extent) (place_inside z e.page e.size.log2 i k inside low);
 }
 
 -- word k of a place, where a place has one word more than a key

@@ -45,10 +45,10 @@ module _ (z : Sizes) (word : ℕ) (e : Extent) (told : IsWordOf z word e) where
   pub page_is : (page : ℕ) → ((x : Bucket) → Fits x → word ≡ packed x → page ≡ x.page) → page ≡ e.page
   page_is page tells = tells (word_of e false told.version) told.fits told.stood
 
-  pub log2_is : (log2 : ℕ) → ((x : Bucket) → Fits x → word ≡ packed x → log2 ≡ x.log2) → log2 ≡ e.log2
+  pub log2_is : (log2 : ℕ) → ((x : Bucket) → Fits x → word ≡ packed x → log2 ≡ x.log2) → log2 ≡ e.size.log2
   log2_is log2 tells = tells (word_of e false told.version) told.fits told.stood
 
-  pub linear_is : (linear : Bool) → ((x : Bucket) → Fits x → word ≡ packed x → linear ≡ x.linear) → linear ≡ e.linear
+  pub linear_is : (linear : Bool) → ((x : Bucket) → Fits x → word ≡ packed x → linear ≡ x.linear) → linear ≡ e.size.linear
   linear_is linear tells = tells (word_of e false told.version) told.fits told.stood
 
 pub no_places : (page log2 : ℕ) → page ≡ 0 → 0 ≡ places page log2
@@ -72,11 +72,11 @@ old_none (suc page) log2 words none = absurd (omega arith)
 
 -- the block that the bucket had may be given back
 pub may_give_back : (z : Sizes) (v : View) (word log2 page : ℕ) (n : LockedStore) (e : Extent) (words : List ℕ)
-    → IsWordOf z word e → HoldsOld v n e words → page ≢ 0 → page ≡ e.page → log2 ≡ e.log2
-    → MayGiveBack v log2 page n (record { page = e.page; log2 = e.log2; words = words })
+    → IsWordOf z word e → HoldsOld v n e words → page ≢ 0 → page ≡ e.page → log2 ≡ e.size.log2
+    → MayGiveBack v log2 page n (record { page = e.page; log2 = e.size.log2; words = words })
 may_give_back z v word log2 page n e words told old some page_at log2_at = record {
   store = old.store;
-  block = old.block ∙ old_is e.page e.log2 words (λ none. some (page_at ∙ none));
+  block = old.block ∙ old_is e.page e.size.log2 words (λ none. some (page_at ∙ none));
   same_log2 = sym log2_at;
   same_page = sym page_at;
   settled = old.settled;
@@ -90,7 +90,7 @@ left_none s t n e words old none same = record {
     holds = record {
       bucket = s.view.holds.bucket;
       store = old.store i;
-      block = (old.block ∙ old_none e.page e.log2 words none) i;
+      block = (old.block ∙ old_none e.page e.size.log2 words none) i;
     };
     notes = (ap (λ (c : CallerState). c.view.notes) (sym same)) i;
   }));

@@ -37,11 +37,11 @@ locked_word z v word place i page h small tells =
       held = h.held;
       first = sym same;
       near = rw same h.near;
-      inside = rw same (place_inside z h.lock.extent.page h.lock.extent.log2 place i h.inside (omega arith));
+      inside = rw same (place_inside z h.lock.extent.page h.lock.extent.size.log2 place i h.inside (omega arith));
     }
 
 module _ (z : Sizes) (v : View) (b word : ℕ) (l : LockedBucket) (has : HasLock z v b word l) where
-  pub holds_place : (place : ℕ) → place < places l.extent.page l.extent.log2 → HoldsPlace z v word place
+  pub holds_place : (place : ℕ) → place < places l.extent.page l.extent.size.log2 → HoldsPlace z v word place
   holds_place place inside = record {
     lock = l;
     held = ap (λ h. h.bucket) has.held;
@@ -73,7 +73,7 @@ module _ (z : Sizes) (v : View) (b word : ℕ) (l : LockedBucket) (has : HasLock
     words = λ j below. sym (word_of_key z l.now key i j below) ∙ ap (λ (xs : List ℕ). slice_index xs j) stands;
   }
 
-  module _ (w : View) (i : ℕ) (inside : i < places l.extent.page l.extent.log2) (key : List ℕ) (k : ℕ)
+  module _ (w : View) (i : ℕ) (inside : i < places l.extent.page l.extent.size.log2) (key : List ℕ) (k : ℕ)
       (h : HasStored z v w l i key k) where
     abbrev lock_now : LockedBucket
     lock_now = record l { now = h.now; stored = h.stored }
@@ -114,7 +114,7 @@ module _ (z : Sizes) (v : View) (b word : ℕ) (l : LockedBucket) (has : HasLock
 
     within : (j : ℕ) → j ≤ z.key_words → i * place_words z + j < length h.now
     within j small = let at : ℕ = i * place_words z in
-        omega (arith, place_inside z l.extent.page l.extent.log2 i j inside (omega arith), has.size, h.placed.size)
+        omega (arith, place_inside z l.extent.page l.extent.size.log2 i j inside (omega arith), has.size, h.placed.size)
 
     module _ (w' : View) (n value : ℕ)
         (is : w' ≡ with_lock w (Some (stored_in lock_now (i * place_words z + n) value))) where
@@ -163,6 +163,6 @@ module _ (z : Sizes) (v : View) (b word : ℕ) (l : LockedBucket) (has : HasLock
       value_stored = stored_here w' z.key_words value is (omega arith)
 
       pub key_stored : key_in z (now' w' z.key_words value is) i ≡ key
-      key_stored = all_same z (now' w' z.key_words value is) key i l.extent.page l.extent.log2
+      key_stored = all_same z (now' w' z.key_words value is) key i l.extent.page l.extent.size.log2
           (length-set h.now (i * place_words z + z.key_words) value ∙ (h.placed.size ∙ has.size)) inside long
           (λ j below. stored_there w' z.key_words value is j (omega arith) (λ e. omega arith))

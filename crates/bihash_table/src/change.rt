@@ -144,7 +144,7 @@ fn vacate<S: Shape>(
 fn store_key<S: Shape>(row: &Row<S>, seat: &mut CallerSeat<S>, seen: &Seen<'_, S>, place: usize)
     requires own { seat.old.row ≡ row.now }
     requires lock { (l : LockedBucket) × HasLock (sizes_of S.Shape) seat.old.view seen.now.site.bucket seen.now.word l
-        × (place < places l.extent.page l.extent.log2) }
+        × (place < places l.extent.page l.extent.size.log2) }
     ensures same { seat.new ≡ with_view seat.old seat.new.view }
     ensures stored { (l : LockedBucket) → HasLock (sizes_of S.Shape) seat.old.view seen.now.site.bucket seen.now.word l
         → HasStored (sizes_of S.Shape) seat.old.view seat.new.view l place (S.words_of seen.now.site.key.now) S.WORDS }

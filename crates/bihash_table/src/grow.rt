@@ -85,15 +85,14 @@ fn enter<S: Shape>(
     let bucket = seen.site.bucket;
     let word = seen.word;
     let key = seen.site.key;
-    let BlockSize { log2, linear } = size;
     if !row.pool_lock(seat) {
         row.release(seat, bucket, word);
         return Err(Contended);
     }
-    match take_block(row, seat, log2) {
+    match take_block(row, seat, size.log2) {
         Ok(page) => {
             write_block(row, seat, page, block);
-            let extent = Extent { page, log2, linear };
+            let extent = Extent { page, size };
             let event = Event {
                 key,
                 found: None,
@@ -106,7 +105,10 @@ fn enter<S: Shape>(
         }
         Err(left) => {
             row.pool_unlock(seat);
-            let reply = Reply::NoPages { log2, left };
+            let reply = Reply::NoPages {
+                log2: size.log2,
+                left,
+            };
             let event = Event {
                 key,
                 found: None,
@@ -160,8 +162,10 @@ pub(crate) fn remove_last<S: Shape>(
     }
     let none = Extent {
         page: 0,
-        log2: 0,
-        linear: false,
+        size: BlockSize {
+            log2: 0,
+            linear: false,
+        },
     };
     let event = Event {
         key: seen.site.key,

@@ -33,13 +33,13 @@ use Rattle.bihash_steps.proofs.Informed.{known_learned, known_else, learned_info
 -- ---- What the word of a bucket says
 
 module _ (z : Sizes) (s : State (Unit {0}) View) (r : WordRule z s) (b : ℕ) (inside : b < buckets z) where
-  pub near_block : (r.table.bucket b).extent.page + 2 ^ (r.table.bucket b).extent.log2 ≤ z.pages + 1
+  pub near_block : (r.table.bucket b).extent.page + 2 ^ (r.table.bucket b).extent.size.log2 ≤ z.pages + 1
   near_block = extent_near_end z r.table.store.store.used (runs_now r.table.bucket r.table.store.store s.views) r.parted (of_bucket b)
       (r.table.bucket b).extent refl (r.each_bucket b inside).pairs.absent
 
   pub bucket_fits : (locked : Bool) → Fits (word_of (r.table.bucket b).extent locked (length (r.table.bucket b).history))
   bucket_fits locked = let sound = r.sound in let ok = r.each_bucket b inside in record {
-    page = let few = sound.few_pages in let near = near_block in let some_page = pow_pos (r.table.bucket b).extent.log2 in omega arith;
+    page = let few = sound.few_pages in let near = near_block in let some_page = pow_pos (r.table.bucket b).extent.size.log2 in omega arith;
     log2 = let few = sound.few_buckets in let small = ok.pairs.rule.small in omega arith;
     version = let few = sound.few_writes in let short = ok.writes.short in omega arith;
   }

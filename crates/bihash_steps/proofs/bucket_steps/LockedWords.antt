@@ -53,8 +53,8 @@ module _ (z : Sizes) where
         record {
           same = refl;
           value = λ l is. let one : may.lock ≡ l = cc (may.held, is) in
-              let inside : k < block_words z may.lock.extent.page may.lock.extent.log2
-              = subst (λ (p : ℕ). k < block_words z p may.lock.extent.log2) (sym may.first) may.inside in
+              let inside : k < block_words z may.lock.extent.page may.lock.extent.size.log2
+              = subst (λ (p : ℕ). k < block_words z p may.lock.extent.size.log2) (sym may.first) may.inside in
               ap (λ (p : ℕ). slice_index s.words (page_at z p + k)) (sym may.first)
               ∙ (h.stands k (subst (λ (n : ℕ). k < n) (sym h.size) inside) ∙ ap (λ (y : LockedBucket). slice_index y.now k) one);
         },
@@ -63,15 +63,15 @@ module _ (z : Sizes) where
   -- ---- A store
 
   module _ (s : State (Unit {0}) View) (r : WordRule z s) (id : ℕ) (v : View) (l : LockedBucket) (at : get_elem? s.views id ≡ some v)
-      (is : v.holds.bucket ≡ Some l) (k n : ℕ) (inside : k < block_words z l.extent.page l.extent.log2) where
+      (is : v.holds.bucket ≡ Some l) (k n : ℕ) (inside : k < block_words z l.extent.page l.extent.size.log2) where
     abbrev words' : List ℕ
     words' = set s.words (page_at z l.extent.page + k) n
 
     -- what others have stands, and what any seat's block holds
     beside_lock : (j : ℕ) → Beside z (runs_now r.table.bucket r.table.store.store s.views) s.words words' l.bucket j
     beside_lock j = beside_block z r.table.store.store.used (runs_now r.table.bucket r.table.store.store s.views) r.parted s.words l.bucket j
-        l.extent.page l.extent.log2 k n
-        (inl (ap (λ (e : Extent). run_of e.page e.log2) (sym (held_bucket z s r id v l at is).extent))) inside
+        l.extent.page l.extent.size.log2 k n
+        (inl (ap (λ (e : Extent). run_of e.page e.size.log2) (sym (held_bucket z s r id v l at is).extent))) inside
 
     own_block : (block : Option HeldBlock) → run_in v.holds.block ≡ run_in block → HoldsBlockIf z s.words block → HoldsBlockIf z words' block
     own_block None e h = tt
@@ -83,7 +83,7 @@ module _ (z : Sizes) where
           o.words (beside_lock (suc id)) (ap run_held at ∙ e) (λ e. cc) (λ e. let same : id ≡ suc id = cc in omega arith) h.size h.stands;
     }
 
-    stored_rule : l.extent.page + 2 ^ l.extent.log2 ≤ z.pages + 1
+    stored_rule : l.extent.page + 2 ^ l.extent.size.log2 ≤ z.pages + 1
         → WordRule z record { words = words'; homes = s.homes; views = set s.views id (with_lock v (Some (stored_in l k n))) }
     stored_rule near =
         let h = held_bucket z s r id v l at is in
@@ -91,7 +91,7 @@ module _ (z : Sizes) where
         let ok = r.each_view id v at in
         let i : ℕ = page_at z l.extent.page + k in
         let long : i < length s.words
-        = let a = word_of_block z l.extent.page l.extent.log2 k near inside in let wide = r.wide in omega arith in
+        = let a = word_of_block z l.extent.page l.extent.size.log2 k near inside in let wide = r.wide in omega arith in
         relocked_rule z s r l.bucket id v v.records v.known (Some (stored_in l k n)) words' (Some id) true record {
           at = at;
           acts = acts;
@@ -136,7 +136,7 @@ module _ (z : Sizes) where
         }
 
   stores_at : (slots id k n : ℕ) (m : ViewOfSeat) (l : LockedBucket) → m.0.holds.bucket ≡ Some l
-      → l.extent.page + 2 ^ l.extent.log2 ≤ z.pages + 1 → k < block_words z l.extent.page l.extent.log2
+      → l.extent.page + 2 ^ l.extent.size.log2 ≤ z.pages + 1 → k < block_words z l.extent.page l.extent.size.log2
       → Allows (WordRule z) slots id m (page_at z l.extent.page + k) (λ _. n) (λ _. TellsStored k n m)
   stores_at slots id k n m l is near inside s r deep at fits = (
     with_lock m.0 (Some (stored_in l k n)),
@@ -151,5 +151,5 @@ module _ (z : Sizes) where
   stores_locked_word slots id page k n m may =
       subst (λ (p : ℕ). Allows (WordRule z) slots id m (page_at z p + k) (λ _. n) (λ _. TellsStored k n m)) may.first
       (stores_at slots id k n m may.lock may.held
-      (subst (λ (p : ℕ). p + 2 ^ may.lock.extent.log2 ≤ z.pages + 1) (sym may.first) may.near)
-      (subst (λ (p : ℕ). k < block_words z p may.lock.extent.log2) (sym may.first) may.inside))
+      (subst (λ (p : ℕ). p + 2 ^ may.lock.extent.size.log2 ≤ z.pages + 1) (sym may.first) may.near)
+      (subst (λ (p : ℕ). k < block_words z p may.lock.extent.size.log2) (sym may.first) may.inside))

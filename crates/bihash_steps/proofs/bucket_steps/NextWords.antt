@@ -21,7 +21,7 @@ version_is page log2 version false p l = omega arith
 
 -- the word of an extent, by its fields
 pub next_is : (e : Extent) (page version next : ℕ) (size : BlockSize) → page ≡ e.page
-    → size ≡ record { log2 = e.log2; linear = e.linear }
+    → size ≡ e.size
     → next ≡ packed (record { page = page; log2 = size.log2; linear = size.linear; locked = false; version = version })
     → next ≡ packed (word_of e false version)
 next_is e page version next size p s is =
@@ -32,7 +32,7 @@ module _ (z : Sizes) (v : View) (b word : ℕ) (c : Call) (may : MayWrite z v b 
   pub version_rises : IsSound z → version_of word < 2 ^ 33 - 1
   version_rises sound =
       let e = may.lock.extent in
-      let is = ap version_of may.stood ∙ version_is e.page e.log2 may.lock.version e.linear may.fits.page may.fits.log2 in
+      let is = ap version_of may.stood ∙ version_is e.page e.size.log2 may.lock.version e.size.linear may.fits.page may.fits.log2 in
       let same = may.version in let unworn = may.unworn in let few = sound.few_writes in
       let n : ℕ = version_of word in let same_version : n ≡ may.lock.version = is in omega arith
 

@@ -55,7 +55,7 @@ module _ (z : Sizes) (s : State (Unit {0}) View) (r : WordRule z s) where
   -- ---- A word of the block
 
   -- what was noted, with one word more
-  reads_word : (o : OpenBucket) (k : ℕ) → k < block_words z o.extent.page o.extent.log2 → IsOpen z o (r.table.bucket o.bucket)
+  reads_word : (o : OpenBucket) (k : ℕ) → k < block_words z o.extent.page o.extent.size.log2 → IsOpen z o (r.table.bucket o.bucket)
       → IsOpen z (record o { reads = (k, slice_index s.words (page_at z o.extent.page + k)) ∷ o.reads }) (r.table.bucket o.bucket)
   reads_word o k inside h = record {
     inside = h.inside;
@@ -77,7 +77,7 @@ module _ (z : Sizes) (s : State (Unit {0}) View) (r : WordRule z s) where
           let e = h.extent same in
           let size = (r.each_bucket o.bucket h.inside).size in
           let low : k < length x.block = subst (λ (n : ℕ). k < n) (sym size)
-          (subst (λ (e : Extent). k < block_words z e.page e.log2) e inside) in
+          (subst (λ (e : Extent). k < block_words z e.page e.size.log2) e inside) in
           ap (λ (e : Extent). slice_index s.words (page_at z e.page + k)) e ∙ stands_clean o.bucket h.inside clean k low
 
       all : o.version ≡ length x.history → x.dirty ≡ false → AreReadIn ((k, word) ∷ o.reads) x.block
@@ -85,7 +85,7 @@ module _ (z : Sizes) (s : State (Unit {0}) View) (r : WordRule z s) where
       all same clean (suc i) p e = h.reads same clean i p e
 
   reading_view : (id k : ℕ) (v : View) (o : OpenBucket) → get_elem? s.views id ≡ some v → v.notes.open_bucket ≡ Some o
-      → k < block_words z o.extent.page o.extent.log2
+      → k < block_words z o.extent.page o.extent.size.log2
       → IsView z s.words (count_of s.words) r.table id (with_reading v ((k, slice_index s.words (page_at z o.extent.page + k)) ∷ []))
   reading_view id k v o at noted inside = let ok = r.each_view id v at in
       seen_view z s.words (count_of s.words) r.table id v v.seen v.lone (with_reading v ((k, word) ∷ [])).notes ok.numbers ok.seen ok.lone record {
@@ -126,7 +126,7 @@ module _ (z : Sizes) (s : State (Unit {0}) View) (r : WordRule z s) where
 
 module _ (z : Sizes) where
   loads_open : (slots id k : ℕ) (m : ViewOfSeat) (o : OpenBucket) → m.0.notes.open_bucket ≡ Some o
-      → k < block_words z o.extent.page o.extent.log2
+      → k < block_words z o.extent.page o.extent.size.log2
       → Allows (WordRule z) slots id m (page_at z o.extent.page + k) (λ n. n) (TellsOpenWord k m)
   loads_open slots id k m o noted inside s r deep at fits =
       let v = m.0 in
@@ -144,7 +144,7 @@ module _ (z : Sizes) where
   loads_open_word slots id page k m may =
       subst (λ (p : ℕ). Allows (WordRule z) slots id m (page_at z p + k) (λ n. n) (TellsOpenWord k m)) may.first
       (loads_open slots id k m may.bucket may.noted
-      (subst (λ (p : ℕ). k < block_words z p may.bucket.extent.log2) (sym may.first) may.inside))
+      (subst (λ (p : ℕ). k < block_words z p may.bucket.extent.size.log2) (sym may.first) may.inside))
 
   pub validates_call : (slots id b word : ℕ) (c : Call) (m : ViewOfSeat) → MayValidate z m.0 b word c → b < buckets z → 1 ≤ length m.0.records
       → Allows (WordRule z) slots id m (bucket_at z b) (λ n. n) (TellsValid z word c m)

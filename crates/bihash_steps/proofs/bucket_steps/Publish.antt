@@ -41,7 +41,7 @@ state_after x w e block = record { history = x.history ++ w ∷ []; extent = e; 
 
 -- the word of the next version
 pub next_word : (e : Extent) (version : ℕ) → packed (word_of e false (version + 1)) ≡ packed (word_of e false version) + 2 ^ 31
-next_word e version = let x : ℕ = 2 ^ 29 * bit e.linear in omega arith
+next_word e version = let x : ℕ = 2 ^ 29 * bit e.size.linear in omega arith
 
 -- no history gets shorter
 pub no_shorter : (x x' : ℕ → BucketState) (b : ℕ) (w : Write) (e : Extent) (block : List ℕ) → ((d : ℕ) → d ≢ b → x' d ≡ x d)
@@ -83,7 +83,7 @@ module _ (z : Sizes) where
     module _ (n : ℕ) (e : Extent) (now : List ℕ) (store : Option LockedStore) (block : Option HeldBlock) (x' : ℕ → BucketState)
         (store' : StoreState) (elsewhere : (d : ℕ) → d ≢ b → x' d ≡ r.table.bucket d)
         (here : x' b ≡ state_after (r.table.bucket b) (write_of (acting v.records) c) e now)
-        (is : n ≡ packed (word_of e false (length (known_at v.known b) + 1))) (size : length now ≡ block_words z e.page e.log2)
+        (is : n ≡ packed (word_of e false (length (known_at v.known b) + 1))) (size : length now ≡ block_words z e.page e.size.log2)
         (stands : Stands s.words (page_at z e.page) now) (pairs : IsBlockOf z e now (next_map v b c))
         (settles : Settles (set s.words (bucket_at z b) n) x' store' store block) where
       abbrev x : BucketState

@@ -58,15 +58,15 @@ freed_run (suc page) log2 words = refl
 module _ (z : Sizes) where
   -- the bucket's new block is what the seat held
   record Given (words : List ℕ) (e : Extent) (block : Option HeldBlock) : Type 0 where
-    pub size : length (words_in block) ≡ block_words z e.page e.log2
+    pub size : length (words_in block) ≡ block_words z e.page e.size.log2
     pub stands : Stands words (page_at z e.page) (words_in block)
-    pub run : run_of e.page e.log2 ≡ run_in block
+    pub run : run_of e.page e.size.log2 ≡ run_in block
 
   given : (words : List ℕ) (e : Extent) (block : Option HeldBlock) → HoldsBlockIf z words block → IsOf e block → Given words e block
   given words e None h is = record {
-    size = ap (λ (y : Extent). block_words z y.page y.log2) (sym is);
+    size = ap (λ (y : Extent). block_words z y.page y.size.log2) (sym is);
     stands = λ k l. absurd (omega arith);
-    run = ap (λ (y : Extent). run_of y.page y.log2) is;
+    run = ap (λ (y : Extent). run_of y.page y.size.log2) is;
   }
   given words e (Some k) h is = record {
     size = h.size ∙ (λ t. block_words z (sym is.0 t) (sym is.1 t));
@@ -181,10 +181,10 @@ module _ (z : Sizes) where
       base = store_keeps z s.words words' still (all_writes z r.table.bucket) (all_writes z x') q
           (more_writes r.table.bucket x' more (buckets z)) r.store
 
-      small : l.extent.log2 ≤ z.max_log2
-      small = subst (λ (y : Extent). y.log2 ≤ z.max_log2) (sym h.extent) (r.each_bucket b inside).pairs.rule.small
+      small : l.extent.size.log2 ≤ z.max_log2
+      small = subst (λ (y : Extent). y.size.log2 ≤ z.max_log2) (sym h.extent) (r.each_bucket b inside).pairs.rule.small
 
-      freed_is : freed v.holds.bucket ≡ old_block l.extent.page l.extent.log2 l.now
+      freed_is : freed v.holds.bucket ≡ old_block l.extent.page l.extent.size.log2 l.now
       freed_is = ap freed may.write.held
 
       settles : Settles z s r id v b word c at acts may.write words' x' q' (settled_in v.holds.store) (freed v.holds.bucket)
@@ -204,12 +204,12 @@ module _ (z : Sizes) where
         };
         holds = settled_lock words' q id v.holds.store (store_lock_beside z s.words words' still q id v.holds.store ok.store);
         notes = λ f. (record may.locked { store = settled may.locked.store }, ap settled_in may.store);
-        held = subst (HoldsBlockIf z words') (sym freed_is) (freed_held words' l.extent.page l.extent.log2 l.now small h.size
+        held = subst (HoldsBlockIf z words') (sym freed_is) (freed_held words' l.extent.page l.extent.size.log2 l.now small h.size
             (front_still z s.words (bucket_at z b) n l.extent.page l.now (let a = inside in omega arith) h.stands));
         parted = passes z.pages q.store.used r.table.bucket x' q.store q'.store s.views id v (view_after_replace v c) at b
             (λ d ne. ap (λ (y : BucketState). y.extent) (elsewhere d ne)) (λ _. refl)
-            (ap (λ (y : BucketState). run_of y.extent.page y.extent.log2) here ∙ new_block.run)
-            (ap run_in freed_is ∙ (freed_run l.extent.page l.extent.log2 l.now ∙ ap (λ (y : Extent). run_of y.page y.log2) h.extent)) r.parted;
+            (ap (λ (y : BucketState). run_of y.extent.page y.extent.size.log2) here ∙ new_block.run)
+            (ap run_in freed_is ∙ (freed_run l.extent.page l.extent.size.log2 l.now ∙ ap (λ (y : Extent). run_of y.page y.size.log2) h.extent)) r.parted;
       }
 
       rule : WordRule z record { words = words'; homes = s.homes; views = set s.views id (view_after_replace v c) }

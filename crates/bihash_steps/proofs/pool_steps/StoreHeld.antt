@@ -58,8 +58,8 @@ module _ (z : Sizes) (s : State (Unit {0}) View) (r : WordRule z s) (id : ℕ) (
     fresh = ok.fresh;
     was = ok.was;
     size = ok.size;
-    stands = stands_beside z has s.words words' (buckets z) id (of_bucket l.bucket) l.extent.page l.extent.log2 l.now beside
-        (ap (λ (e : Extent). run_of e.page e.log2) (sym ok.extent)) (λ e. let same : l.bucket ≡ buckets z = cc in omega arith) (λ e. cc) ok.size
+    stands = stands_beside z has s.words words' (buckets z) id (of_bucket l.bucket) l.extent.page l.extent.size.log2 l.now beside
+        (ap (λ (e : Extent). run_of e.page e.size.log2) (sym ok.extent)) (λ e. let same : l.bucket ≡ buckets z = cc in omega arith) (λ e. cc) ok.size
         ok.stands;
     clean = ok.clean;
     dirty = ok.dirty;

@@ -98,7 +98,7 @@ pub record MayGiveBack (v : View) (log2 page : ℕ) (n : LockedStore) (h : HeldB
 -- under the allocation lock the caller holds the block that a bucket had, or none where it had none
 pub record HoldsOld (v : View) (n : LockedStore) (e : Extent) (words : List ℕ) : Type 0 where
   pub store : v.holds.store ≡ Some n
-  pub block : v.holds.block ≡ old_block e.page e.log2 words
+  pub block : v.holds.block ≡ old_block e.page e.size.log2 words
   pub settled : n.store.unpublished ≡ false
 
 -- The caller of this row has the allocation lock, and may give back this block.

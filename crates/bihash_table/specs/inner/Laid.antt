@@ -24,6 +24,6 @@ pub record IsLaidFor {A K : Type 0} (g : Ghosts A K) (row : _) (s : CallerState)
   pub small : size.log2 ≤ g.MAX_LOG2
   pub sized : length block ≡ 4 * 2 ^ size.log2
   pub laid : (page : ℕ) (words : List ℕ) → 1 ≤ page → ArePlaces g block words
-      → IsBlockOf (sizes_of g) (record { page = page; log2 = size.log2; linear = size.linear }) words
+      → IsBlockOf (sizes_of g) (record { page = page; size = size }) words
       (insert (map_now s.view b) (g.words_of key) value)
   pub planned : IsPlanned g (map_now s.view b) key size

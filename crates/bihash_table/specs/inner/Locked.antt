@@ -29,8 +29,8 @@ pub record HasLock (z : Sizes) (v : View) (b word : ℕ) (l : LockedBucket) : Ty
   pub fits : Fits (word_of l.extent false l.version)
   pub stood : word ≡ packed (word_of l.extent false l.version)
   pub clean : l.stored ≡ false
-  pub near : l.extent.page + 2 ^ l.extent.log2 ≤ z.pages + 1
-  pub size : length l.now ≡ block_words z l.extent.page l.extent.log2
+  pub near : l.extent.page + 2 ^ l.extent.size.log2 ≤ z.pages + 1
+  pub size : length l.now ≡ block_words z l.extent.page l.extent.size.log2
   pub pairs : IsBlockOf z l.extent l.now (map_now v b)
   pub writes : IsWriteList z b (opening_at v.known b) (known_at v.known b)
 

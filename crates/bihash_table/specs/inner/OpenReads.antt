@@ -26,9 +26,9 @@ pub record NotesBlock (z : Sizes) (v : View) (word : ℕ) (e : Extent) : Type 0 
   pub extent : open_bucket.extent ≡ e
   pub fits : Fits (word_of e false open_bucket.version)
   pub stood : word ≡ packed (word_of e false open_bucket.version)
-  pub small : e.log2 ≤ z.max_log2
-  pub near : e.page + 2 ^ e.log2 ≤ z.pages + 1
-  pub size : length open_bucket.block ≡ block_words z e.page e.log2
+  pub small : e.size.log2 ≤ z.max_log2
+  pub near : e.page + 2 ^ e.size.log2 ≤ z.pages + 1
+  pub size : length open_bucket.block ≡ block_words z e.page e.size.log2
 
 -- The caller saw bucket b without its lock, knows the history that it had then, and holds nothing. The
 -- block that it noted holds the pairs which that history leaves.
@@ -71,7 +71,7 @@ pub record MayRead (z : Sizes) (row : _) (s : CallerState) (word count : ℕ) : 
   pub own : s.row ≡ row
   pub extent : Extent
   pub block : NotesBlock z s.view word extent
-  pub inside : count ≤ places extent.page extent.log2
+  pub inside : count ≤ places extent.page extent.size.log2
 
 -- word k of place i
 abbrev pub IsWordAt : Sizes → ℕ → ℕ → ℕ → Extent → List ℕ → Type 0

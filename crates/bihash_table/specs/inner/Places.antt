@@ -10,11 +10,11 @@ use Rattle.bihash_steps.specs.declared.view.Extent.{Extent}
 
 -- place i may hold pairs of the key: each place where the block is linear, and else those of the key's page
 abbrev pub IsOpenTo : Sizes → Extent → List ℕ → ℕ → Type 0
-IsOpenTo z e key i = IsOpen e.linear (page_of (word_paging z) e.log2 key) i
+IsOpenTo z e key i = IsOpen e.size.linear (page_of (word_paging z) e.size.log2 key) i
 
 -- place i is free, and open to the key
 pub record IsFreeFor (z : Sizes) (e : Extent) (block : List ℕ) (key : List ℕ) (i : ℕ) : Type 0 where
-  pub inside : i < places e.page e.log2
+  pub inside : i < places e.page e.size.log2
   pub free : value_in z block i ≡ free
   pub reached : IsOpenTo z e key i
 

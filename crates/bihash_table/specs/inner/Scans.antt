@@ -12,12 +12,12 @@ pub record IsWordOf (z : Sizes) (word : ℕ) (e : Extent) : Type 0 where
   pub version : ℕ
   pub fits : Fits (word_of e false version)
   pub stood : word ≡ packed (word_of e false version)
-  pub small : e.log2 ≤ z.max_log2
+  pub small : e.size.log2 ≤ z.max_log2
 
 -- the places from one to before another are those of the block that are open to the key
 pub record AreOpenTo (z : Sizes) (e : Extent) (key : List ℕ) (from to : ℕ) : Type 0 where
-  pub within : to ≤ places e.page e.log2
-  pub exact : (i : ℕ) → i < places e.page e.log2 → ((from ≤ i) × (i < to)) ↔ IsOpenTo z e key i
+  pub within : to ≤ places e.page e.size.log2
+  pub exact : (i : ℕ) → i < places e.page e.size.log2 → ((from ≤ i) × (i < to)) ↔ IsOpenTo z e key i
 
 -- such a word of some block
 pub record NamesBlock (z : Sizes) (word : ℕ) : Type 0 where
@@ -27,7 +27,7 @@ pub record NamesBlock (z : Sizes) (word : ℕ) : Type 0 where
 
 -- the block of the word has so many places
 pub record CountsPlaces (z : Sizes) (word n : ℕ) : Type 0 where
-  pub count : (e : Extent) → IsWordOf z word e → n ≡ places e.page e.log2
+  pub count : (e : Extent) → IsWordOf z word e → n ≡ places e.page e.size.log2
   pub few : n ≤ 4 * 2 ^ z.max_log2
 
 -- the pages from one to before another are those of the word's block that are open to the key

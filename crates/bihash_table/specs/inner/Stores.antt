@@ -15,9 +15,9 @@ pub record HoldsPlace (z : Sizes) (v : View) (word place : ℕ) : Type 0 where
   pub held : v.holds.bucket ≡ Some lock
   pub fits : Fits (word_of lock.extent false lock.version)
   pub stood : word ≡ packed (word_of lock.extent false lock.version)
-  pub near : lock.extent.page + 2 ^ lock.extent.log2 ≤ z.pages + 1
-  pub small : lock.extent.log2 ≤ z.max_log2
-  pub inside : place < places lock.extent.page lock.extent.log2
+  pub near : lock.extent.page + 2 ^ lock.extent.size.log2 ≤ z.pages + 1
+  pub small : lock.extent.size.log2 ≤ z.max_log2
+  pub inside : place < places lock.extent.page lock.extent.size.log2
 
 -- word i of that place, where the caller belongs to this row
 pub record HoldsWord (z : Sizes) (row : _) (s : CallerState) (word place i : ℕ) : Type 0 where

@@ -49,8 +49,8 @@ loop-i-preserved-then-held_word-part g c =
     let back = sym c.held_word.ensures.same in (
       subst (λ (s : CallerState). s ≡ with_view c.args.seat.now s.view) back c.loop-i.invariant.0,
       λ lock has.
-          let inside : i < places lock.extent.page lock.extent.log2 =
-          subst (λ (l : LockedBucket). i < places l.extent.page l.extent.log2)
+          let inside : i < places lock.extent.page lock.extent.size.log2 =
+          subst (λ (l : LockedBucket). i < places l.extent.page l.extent.size.log2)
           (same_lock z v b word c.requires.lock.0 lock c.requires.lock.1 has) c.requires.lock.2 in
           let h = c.loop-i.invariant.1 lock has in
           subst (λ (s : CallerState). HasStored z v s.view lock i key (c.loop-i.i + 1)) back
@@ -74,8 +74,8 @@ loop-i-preserved g c =
       same_through c.args.seat.now c.loop-i.seat c.store_word.new.seat _ c.loop-i.invariant.0
           (stores _ (held_now z v b word own.0 own.1 w i own.2 key c.loop-i.i mine)),
       λ lock has.
-          let inside : i < places lock.extent.page lock.extent.log2 =
-          subst (λ (l : LockedBucket). i < places l.extent.page l.extent.log2) (same_lock z v b word own.0 lock own.1 has) own.2 in
+          let inside : i < places lock.extent.page lock.extent.size.log2 =
+          subst (λ (l : LockedBucket). i < places l.extent.page l.extent.size.log2) (same_lock z v b word own.0 lock own.1 has) own.2 in
           let h = c.loop-i.invariant.1 lock has in
           let now : LockedBucket = record lock { now = h.now; stored = h.stored } in
           stored_more z v b word lock has w i inside key c.loop-i.i h c.store_word.new.seat.view small

@@ -94,7 +94,7 @@ publish_block-requires-clause-may g c =
     c.in-Ok.ensures.same c.in-Ok.ensures.taken c.args.block.now c.write_block.new.seat c.write_block.ensures in
     may_enter z c.args.seat.now.view c.args.seen.now.site.bucket c.args.seen.now.word c.requires.held.lock (g.S.Shape.words_of c.args.seen.now.site.key.now)
     c.requires.held.has (record { long = c.args.seen.now.site.counted; home = sym c.args.seen.now.site.home }) c.requires.held.unworn c.args.value
-    (locked_on ready.left) c.in-Ok.page c.args.size.log2 c.args.size.linear ready.words c.requires.held.storable c.requires.room
+    (locked_on ready.left) c.in-Ok.page c.args.size ready.words c.requires.held.storable c.requires.room
     (sym (pair_value (sizes_of g.S.Shape) c.requires.held.lock.extent c.requires.held.lock.now (g.S.Shape.words_of c.args.seen.now.site.key.now)
     (map_now c.args.seat.now.view c.args.seen.now.site.bucket) None c.requires.held.told c.requires.held.has.pairs)) ready.near (c.requires.laid c.in-Ok.page ready.words ready.some_page ready.places)
     c.write_block.new.seat.view (ap (λ (s : CallerState). s.view) ready.is)

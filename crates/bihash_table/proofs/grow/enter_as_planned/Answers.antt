@@ -37,7 +37,7 @@ larger-requires g c =
     record {
       pages = record { shape = c.is_sound.ensures; small = omega (arith, tells.small, log2_at) };
       sized = sized e.page c.block_size.result.log2 (length c.read_block.new.out) (c.read_block.ensures.sized
-          ∙ places_read e.page e.page e.log2 c.place_count.result _ c.args.old.now refl
+          ∙ places_read e.page e.page e.size.log2 c.place_count.result _ c.args.old.now refl
           (c.place_count.ensures.count e tells) c.place_count.ensures.few c.requires.room.0
           ∙ ap (places e.page) (sym log2_at));
     }

@@ -15,7 +15,7 @@ give_back-requires g c = let h = c.requires in
       sound = h.sound;
       small = let small = h.names.small in omega arith;
       store = h.store;
-      block = record { page = h.extent.page; log2 = h.extent.log2; words = h.words };
+      block = record { page = h.extent.page; log2 = h.extent.size.log2; words = h.words };
       may = may_give_back (sizes_of g.S.Shape) c.args.seat.now.view c.args.word c.log2.result c.page-page.result h.store h.extent h.words h.names
           h.holds c.if-page-eq0.false
           (page_is (sizes_of g.S.Shape) c.args.word h.extent h.names c.page-page.result c.page-page.ensures) log2;
@@ -24,7 +24,7 @@ give_back-requires g c = let h = c.requires in
 pub returns : goal.returns
 returns g c = let h = c.requires in
     left_some c.args.seat.now c.give_back.new.seat h.store h.extent h.words c.log2.result c.page-page.result h.holds
-    (c.give_back.ensures h.store (record { page = h.extent.page; log2 = h.extent.log2; words = h.words })
+    (c.give_back.ensures h.store (record { page = h.extent.page; log2 = h.extent.size.log2; words = h.words })
     (may_give_back (sizes_of g.S.Shape) c.args.seat.now.view c.args.word c.log2.result c.page-page.result h.store h.extent h.words h.names
     h.holds c.if-page-eq0.false
     (page_is (sizes_of g.S.Shape) c.args.word h.extent h.names c.page-page.result c.page-page.ensures)

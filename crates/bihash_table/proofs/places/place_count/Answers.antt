@@ -5,7 +5,7 @@ use Rattle.bihash_table.proofs.places.place_count.Goals as goal
 
 pub returns-then-page-eq0 : goal.returns-then-page-eq0
 returns-then-page-eq0 g c = record {
-  count = λ e told. no_places e.page e.log2
+  count = λ e told. no_places e.page e.size.log2
       (sym (page_is (sizes_of g.S.Shape) c.args.word e told c.page.result c.page.ensures) ∙ c.if-page-eq0.true);
   few = omega arith;
 }
@@ -19,7 +19,7 @@ places_of-requires g c =
 
 pub returns : goal.returns
 returns g c = record {
-  count = λ e told. some_places e.page e.log2 c.places_of.result
+  count = λ e told. some_places e.page e.size.log2 c.places_of.result
       (λ none. c.if-page-eq0.false (page_is (sizes_of g.S.Shape) c.args.word e told c.page.result c.page.ensures ∙ none))
       (c.places_of.ensures ∙ ap (λ n. 4 * 2 ^ n)
       (log2_is (sizes_of g.S.Shape) c.args.word e told c.log2.result c.log2.ensures));

@@ -41,7 +41,7 @@ returns g c =
     c.load_word-value.result c.loop-i.i
     (let most = c.loop-i.auto.i-end in let least = c.loop-i-test.false in let is = c.WORDS-i-end.ensures in omega arith)
     (note_size z _ _ _ o h noted)
-    (subst (λ (e : Extent). c.args.place < places e.page e.log2) (sym (note_extent z _ _ _ o h noted)) (omega arith))
+    (subst (λ (e : Extent). c.args.place < places e.page e.size.log2) (sym (note_extent z _ _ _ o h noted)) (omega arith))
     c.args.site.now.counted same
     (seen ∙ ap (λ (n : ℕ). slice_index o.block (c.args.place * (g.S.Shape.WORDS + 1) + n)) c.WORDS.ensures) c.if-value.false last)
     c.loop-i.invariant c.load_word-value.ensures

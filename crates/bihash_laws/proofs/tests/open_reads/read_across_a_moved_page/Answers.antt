@@ -43,18 +43,18 @@ module _ (z : Sizes) (v u : View) (b word : ℕ) (s : SeesOpen z v b word u) (fi
   map_is : map_now u b ≡ after (opening_at v.known b) s.history (length s.history)
   map_is = λ i. after (opening_is i) (known_is i) (length (known_is i))
 
-  first_place : 0 < places s.extent.page s.extent.log2
-  first_place = rw first_page (let some = pow_pos s.extent.log2 in omega arith)
+  first_place : 0 < places s.extent.page s.extent.size.log2
+  first_place = rw first_page (let some = pow_pos s.extent.size.log2 in omega arith)
 
   may_load : (w : View) (k : ℕ) (reads : List (ℕ × ℕ)) → Noted w reads → k < place_words z → IsOpenWord z w 1 k
   may_load w k reads noted low = record {
     bucket = record (open_on b (length s.history) s.extent s.block) { reads = reads };
     noted = noted;
     first = first_page;
-    near = subst (λ (page : ℕ). page + 2 ^ s.extent.log2 ≤ z.pages + 1) first_page s.found.near;
-    inside = subst (λ (page : ℕ). k < block_words z page s.extent.log2) first_page
+    near = subst (λ (page : ℕ). page + 2 ^ s.extent.size.log2 ≤ z.pages + 1) first_page s.found.near;
+    inside = subst (λ (page : ℕ). k < block_words z page s.extent.size.log2) first_page
         (let at : 0 * place_words z + k ≡ k = omega arith in
-        subst (λ (n : ℕ). n < block_words z s.extent.page s.extent.log2) at (place_inside z s.extent.page s.extent.log2 0 k first_place low));
+        subst (λ (n : ℕ). n < block_words z s.extent.page s.extent.size.log2) at (place_inside z s.extent.page s.extent.size.log2 0 k first_place low));
   }
 
   module _ (two : z.key_words ≡ 2) (low high value : ℕ) (low_is : low ≡ 0) (high_is : high ≡ 0) (taken : value ≢ free) where
@@ -75,7 +75,7 @@ module _ (z : Sizes) (v u : View) (b word : ℕ) (s : SeesOpen z v b word u) (fi
         let at : 0 * place_words z + z.key_words ≡ 2 = omega arith in
         let here : value ≡ slice_index s.block (0 * place_words z + z.key_words) = read 0 (2, value) refl
         ∙ ap (slice_index s.block) (sym at) in
-        let stands = all_same z s.block key 0 s.extent.page s.extent.log2 s.found.size first_place (sym two) (λ j below.
+        let stands = all_same z s.block key 0 s.extent.page s.extent.size.log2 s.found.size first_place (sym two) (λ j below.
         let from : 0 * place_words z + j ≡ j = omega arith in
         ap (slice_index s.block) from ∙ same_word read j (omega arith)) in
         sym (ok.map.mapped key value 0 (record { pair = (first_place, λ none. taken (here ∙ none)); stands = stands; has = sym here }))

@@ -10,7 +10,7 @@ use Rattle.bihash_steps.proofs.row.Row.publish_block_as.Goals as goal
 
 pub next-next-requires-clause-page : goal.next-next-requires-clause-page
 next-next-requires-clause-page g c =
-    let near = c.requires.may.near in let few = c.self.invariant.sound.few_pages in let some = pow_pos c.args.extent.log2 in omega arith
+    let near = c.requires.may.near in let few = c.self.invariant.sound.few_pages in let some = pow_pos c.args.extent.size.log2 in omega arith
 
 pub next-next-requires-clause-log2 : goal.next-next-requires-clause-log2
 next-next-requires-clause-log2 g c =
