@@ -1,8 +1,6 @@
 //! Whether pairs and a new key fit the pages of a block.
 
-ghost use Rattle.std.specs.Prelude.{◌≡◌, ◌≤◌, ◌<◌, ◌+◌, ◌^◌, ◌↔◌, [], ◌∷◌, ◌++◌, ℕ, List, IsTrue, length};
-ghost use Rattle.std.specs.Bool.{OnTrue, OnFalse};
-ghost use Rattle.bihash_words.specs.Sizes.{IsSound, sizes_of};
+ghost use Rattle.std.specs.Prelude.{◌≡◌, ◌<◌, ◌+◌, ◌^◌, ◌↔◌, ◌∷◌, IsTrue, length};
 ghost use Rattle.bihash_words.specs.Pages.{paging_of};
 ghost use Rattle.bihash_plan.specs.Searches.{MayHavePages, MayLookAt};
 ghost use Rattle.bihash_plan.specs.Plans.{Fits, keys_of};

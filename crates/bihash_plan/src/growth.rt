@@ -1,9 +1,8 @@
 //! The plan of a key: its place, a free place, or a larger block.
 
-ghost use Rattle.std.specs.Prelude.{◌≡◌, ◌≤◌, ◌<◌, ◌+◌, ◌*◌, ◌^◌, ◌↔◌, ◌∷◌, ℕ, false, IsTrue, length};
-ghost use Rattle.bihash_words.specs.Sizes.{IsSound, sizes_of};
+ghost use Rattle.std.specs.Prelude.{◌≡◌, ◌≤◌, ◌<◌, ◌+◌, ◌^◌, ◌↔◌, ◌∷◌, ℕ, false, IsTrue, length};
 ghost use Rattle.bihash_words.specs.Pages.{page_of, paging_of};
-ghost use Rattle.bihash_plan.specs.Blocks.{HasKey, IsCrowded, IsFree, IsLawfulBlock, IsNew, IsSized, NamesPage, pairs};
+ghost use Rattle.bihash_plan.specs.Blocks.{IsCrowded, IsFree, IsLawfulBlock, IsNew, NamesPage};
 ghost use Rattle.bihash_plan.specs.Searches.{IsOnlyPlan, IsPlace, IsRange, MayHavePages, MayHavePlaces, TellsOtherPage};
 ghost use Rattle.bihash_plan.specs.Plans.{HasRoom, IsSafe, keys_of};
 

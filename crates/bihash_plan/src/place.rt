@@ -1,9 +1,7 @@
 //! The pages and places of a block, and which places are open to a key.
 
-ghost use Rattle.std.specs.Prelude.{◌≡◌, ◌≤◌, ◌<◌, ◌+◌, ◌^◌, ◌↔◌, ℕ};
-ghost use Rattle.bihash_words.specs.Sizes.{IsSound, sizes_of};
+ghost use Rattle.std.specs.Prelude.{◌≡◌, ◌≤◌, ◌<◌, ◌+◌, ◌^◌};
 ghost use Rattle.bihash_words.specs.Pages.{page_of, paging_of};
-ghost use Rattle.bihash_plan.specs.Blocks.{IsSized};
 ghost use Rattle.bihash_plan.specs.Searches.{AreOpenPlaces, MayHavePages, MayHavePlaces};
 
 use bihash_words::{BlockSize, PAGE_PLACES, Shape};

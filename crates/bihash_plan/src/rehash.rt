@@ -1,10 +1,9 @@
 //! Laying the pairs of a bucket and a new one out in a larger block.
 
-ghost use Rattle.std.specs.Prelude.{◌≡◌, ◌≢◌, ◌≤◌, ◌<◌, ◌*◌, ◌^◌, ℕ, length, replicate, slice_set, IfSome, IfNone};
-ghost use Rattle.bihash_words.specs.Sizes.{IsSound, sizes_of};
+ghost use Rattle.std.specs.Prelude.{◌≡◌, ◌≢◌, ◌≤◌, ◌<◌, ◌*◌, ℕ, length, replicate, slice_set, IfSome};
 ghost use Rattle.bihash_words.specs.Patches.{free_mark};
 ghost use Rattle.bihash_words.specs.Pages.{page_of, paging_of};
-ghost use Rattle.bihash_plan.specs.Blocks.{IsCrowded, IsFirstFree, IsLawfulBlock};
+ghost use Rattle.bihash_plan.specs.Blocks.{IsCrowded, IsFirstFree};
 ghost use Rattle.bihash_plan.specs.Layouts.{HasPlacesTo, IsFirstFreeOrNone, IsNamed, IsRehash, IsTakenBefore};
 ghost use Rattle.bihash_plan.specs.Searches.{HasPlaces};
 

@@ -1,10 +1,10 @@
 //! Searches of a block for a key and for a free place.
 
-ghost use Rattle.std.specs.Prelude.{◌≡◌, ◌≤◌, ◌<◌, ◌^◌, ◌↔◌, ℕ, IsTrue, IfSome, IfNone, length};
+ghost use Rattle.std.specs.Prelude.{◌≤◌, ◌<◌, ◌↔◌, ℕ, IsTrue, IfSome, IfNone, length};
 ghost use Rattle.bihash_words.specs.Sizes.{IsSound, sizes_of};
 ghost use Rattle.bihash_words.specs.Blocks.{IsOpen};
 ghost use Rattle.bihash_words.specs.Pages.{page_of, paging_of};
-ghost use Rattle.bihash_plan.specs.Blocks.{HasKey, IsFree, IsLawfulBlock, IsNew, IsSized};
+ghost use Rattle.bihash_plan.specs.Blocks.{HasKey, IsFree, IsLawfulBlock};
 ghost use Rattle.bihash_plan.specs.Searches.{IsFirstFreeOf, IsPlace, IsPlaceOfKey, IsRange, MayHavePlaces};
 
 use crate::place::open_places;
