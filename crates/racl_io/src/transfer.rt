@@ -1,6 +1,6 @@
 //! The whole input from a source, and a whole report to a sink.
 ghost use Rattle.std.specs.Prelude.{◌≡◌, ◌≢◌, ◌+◌, ◌-◌, ◌<◌, ◌≤◌, ◌^◌, IfOk, IfErr, IfSome, IsErrOf, OnOk, OnErr, Err, length, vec_len};
-ghost use Rattle.std.specs.Io.KnownBytes.{Appends};
+ghost use Rattle.std.specs.Io.KnownBytes.{Appends, IsAtEnd};
 ghost use Rattle.racl_io.specs.Faults.{IsReadingFault};
 ghost use Rattle.racl_io.specs.Inputs.{most_bytes};
 ghost use Rattle.racl_io.specs.declared.fault.Fault.TheVariants.{Write};
@@ -20,6 +20,7 @@ pub fn read_input<R: Source>(alloc: Global, reader: &mut R) -> Result<Vec<u8>, F
     requires { R.failures reader.old < 2 ^ 64 - 1 }
     ensures whole { IfOk result (λ v. IfSome (R.bytes reader.old) (λ xs. v.items ≡ xs)) }
     ensures few { IfOk result (λ v. vec_len v ≤ most_bytes) }
+    ensures ended { OnOk result (IsAtEnd (R.bytes reader.new)) }
     ensures too_large { IsErrOf result Fault.TooLarge → IfSome (R.bytes reader.old) (λ xs. most_bytes < length xs) }
     ensures failed { IsErrOf result Fault.Read → R.failures reader.new ≡ R.failures reader.old + 1 }
     ensures not_failed { result ≢ Err Fault.Read → R.failures reader.new ≡ R.failures reader.old }
