@@ -17,6 +17,7 @@ pub fn find<S: Shape>(places: &[(S::Key, u64)], size: BlockSize, key: &S::Key) -
     requires { MayHavePlaces ⟦<S as Shape>⟧ size.log2 (length places.now) }
 
     ensures found { IfSome result (HasKey places.now key.now) }
+    ensures reached { IfSome result (IsOpen size.linear (page_of (paging_of ⟦<S as Shape>⟧) size.log2 key.now)) }
     ensures open_only { IfNone result ((i : ℕ) → IsOpen size.linear (page_of (paging_of ⟦<S as Shape>⟧) size.log2 key.now) i
         → HasKey places.now key.now i → ⊥) }
     // On a lawful block the answer is the key's place, and None exactly where no pair has the key.
@@ -37,6 +38,7 @@ pub(crate) fn place_of_key<S: Shape>(
     requires shape { IsSound (sizes_of ⟦<S as Shape>⟧) }
     requires range { IsRange places.now to }
     ensures found { IfSome result (HasKey places.now key.now) }
+    ensures among { IfSome result (λ i. (from ≤ i) × (i < to)) }
     ensures none { IfNone result ((i : ℕ) → from ≤ i → i < to → HasKey places.now key.now i → ⊥) }
 {
     for i in from..to {

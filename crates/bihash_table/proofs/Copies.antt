@@ -1,5 +1,5 @@
 -- Copies of a block's words, word by word and place by place.
-use Rattle.std.proofs.Common.{◌≡◌, ◌≢◌, ◌∙◌, ◌<◌, ◌≤◌, ◌+◌, ◌*◌, ◌⊎◌, ℕ, zero, suc, List, Some, ap, arith, length, mul-le-mul_right, refl, set, slice_index, subst, sym, ⊎_elim}
+use Rattle.std.proofs.Common.{◌≡◌, ◌≢◌, ◌∙◌, ◌<◌, ◌≤◌, ◌+◌, ◌*◌, ℕ, zero, suc, List, Some, ap, arith, length, mul-le-mul_right, refl, set, slice_index, subst, sym, ⊎_elim}
 use Rattle.std.specs.Prelude.{slice_get}
 use Rattle.std.proofs.Math.ListN.{drop}
 use Rattle.std.proofs.lemmas.Bool.{cases_eq}

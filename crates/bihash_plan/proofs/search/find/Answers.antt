@@ -14,6 +14,13 @@ open_only places key linear page from to None among none = λ i is_open h. let l
     (pair_inside h.pair) is_open in none i looked.0 looked.1 h
 open_only places key linear page from to (Some i) among none = none
 
+-- the place that was found is one of them
+reached : {K : Type 0} (places : List (K × ℕ)) (key : K) (linear : Bool) (page from to : ℕ) (r : Option ℕ)
+    → ((i : ℕ) → i < length places → (from ≤ i) × (i < to) → IsOpen linear page i)
+    → IfSome r (HasKey places key) → IfSome r (λ i. (from ≤ i) × (i < to)) → IfSome r (IsOpen linear page)
+reached places key linear page from to None is_open found among = among
+reached places key linear page from to (Some i) is_open found among = is_open i (pair_inside found.pair) among
+
 -- a lawful block has the key nowhere else
 found_is : {K : Type 0} (paging : Paging K) (log2 : ℕ) (linear : Bool) (places : List (K × ℕ)) (key : K)
     (r : Option ℕ)
@@ -30,6 +37,10 @@ none_is places key (Some i) found new = absurd (new i found)
 
 absent : (i : ℕ) (r : Option ℕ) → r ≡ None → r ≡ Some i → ⊥
 absent i r none found = cc
+
+pub returns-clause-reached : goal.returns-clause-reached
+returns-clause-reached g c = reached _ _ _ _ _ _ _ (λ i inside. (c.open_places-from.ensures.exact i inside).0)
+    c.place_of_key.ensures.found c.place_of_key.ensures.among
 
 pub returns-clause-open_only : goal.returns-clause-open_only
 returns-clause-open_only g c = open_only _ _ _ _ _ _ _
