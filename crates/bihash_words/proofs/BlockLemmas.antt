@@ -29,7 +29,8 @@ lawful_as {linear = linear} f lawful small same = record {
 }
 
 -- the pair of a key is put at a place that is open to it
-pub lawful_with : {K : Type 0} {paging : Paging K} {log2 : ℕ} {linear : Bool} {Was Now : K → ℕ → ℕ → Type 0} (key : K) (i : ℕ)
+pub lawful_with : {K : Type 0} {paging : Paging K} {log2 : ℕ} {linear : Bool} {Was Now : K → ℕ → ℕ → Type 0}
+    (key : K) (i : ℕ)
     → AreLawfulPlaces paging log2 linear Was → IsOpen linear (page_of paging log2 key) i
     → ((v j : ℕ) → Was key v j → j ≡ i)
     → ((k : K) (v j : ℕ) → Now k v j → ((j ≡ i) × (k ≡ key)) ⊎ Was k v j)
@@ -56,8 +57,10 @@ lawful_with {K = K} {paging = paging} {log2 = log2} {linear = linear} {Was = Was
     ]
 
 -- the pairs of a map with another value of a key
-pub holds_with : {K : Type 0} {words_of : K → List ℕ} {Now : K → ℕ → ℕ → Type 0} (m : Pairs) (words : List ℕ) (value : ℕ)
-    → ((k : K) (v i : ℕ) → Now k v i → ((words_of k ≡ words) × (value ≡ v)) ⊎ ((words_of k ≢ words) × (get m (words_of k) ≡ Some v)))
+pub holds_with : {K : Type 0} {words_of : K → List ℕ} {Now : K → ℕ → ℕ → Type 0} (m : Pairs) (words : List ℕ)
+    (value : ℕ)
+    → ((k : K) (v i : ℕ) → Now k v i
+      → ((words_of k ≡ words) × (value ≡ v)) ⊎ ((words_of k ≢ words) × (get m (words_of k) ≡ Some v)))
     → ((k : K) → words_of k ≡ words → (i : ℕ) × Now k value i)
     → ((k : K) (v : ℕ) → words_of k ≢ words → get m (words_of k) ≡ Some v → (i : ℕ) × Now k v i)
     → HoldsMap words_of Now (insert m words value)

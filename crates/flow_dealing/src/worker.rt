@@ -29,7 +29,7 @@ fn bucket<A: Shape, B: Shape>(key: FlowKey) -> u64
     }
 }
 
-// Dividing by a number that the compiler knows costs a tenth of the cycles, and workers are often so many.
+// By a power of two that the compiler knows this takes no division, and workers are often so many.
 fn remainder(bucket: u64, workers: u64) -> u64
     requires some { 0 < workers }
     ensures is { result ≡ bucket % workers }

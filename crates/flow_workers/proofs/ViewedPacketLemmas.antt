@@ -72,7 +72,7 @@ pub try_answered : {A B K L : Type 0} {ga : Ghosts A K} {gb : Ghosts B L} (table
 try_answered tables old new key decision reply told =
     record { same = told.same; idle = told.idle; entered = told.entered; no_pages = told.no_pages }
 
--- and so does a try of judging that gave a verdict
+-- what is told of a verdict is told by a try that gave it
 pub try_judged : {A B K L : Type 0} {ga : Ghosts A K} {gb : Ghosts B L} (filter : ReadyFilter)
     (packet : ViewedPacket) (tables : Tables A B K L) (old new : Callers A B K L ga gb) (verdict : Verdict)
     → TellsViewed TookByOneTry filter packet tables old new verdict

@@ -18,7 +18,7 @@ use Rattle.flow_filter.specs.Judged.{IsAsked, Judged, verdict_on}
 use Rattle.flow_filter.specs.OneThread.{Layout}
 use Rattle.flow_dealing.specs.Views.{Views}
 
--- a call that was tried once took as many locks of buckets as its reply allows: none where it is Kept, Worn or Full,
+-- a call that was tried once took no more locks of buckets than its reply allows: none where it is Kept, Worn or Full,
 -- and one at most elsewhere
 abbrev pub TookByOneTry : View → View → Reply → Type 0
 TookByOneTry v w reply = TookAtMost v w (try_locks (Ok reply))
