@@ -60,7 +60,7 @@ lawful_with {K = K} {paging = paging} {log2 = log2} {linear = linear} {Was = Was
 pub holds_with : {K : Type 0} {words_of : K → List ℕ} {Now : K → ℕ → ℕ → Type 0} (m : Pairs) (words : List ℕ)
     (value : ℕ)
     → ((k : K) (v i : ℕ) → Now k v i
-      → ((words_of k ≡ words) × (value ≡ v)) ⊎ ((words_of k ≢ words) × (get m (words_of k) ≡ Some v)))
+    → ((words_of k ≡ words) × (value ≡ v)) ⊎ ((words_of k ≢ words) × (get m (words_of k) ≡ Some v)))
     → ((k : K) → words_of k ≡ words → (i : ℕ) × Now k value i)
     → ((k : K) (v : ℕ) → words_of k ≢ words → get m (words_of k) ≡ Some v → (i : ℕ) × Now k v i)
     → HoldsMap words_of Now (insert m words value)

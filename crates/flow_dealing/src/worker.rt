@@ -61,6 +61,9 @@ pub fn worker_of<A: Shape, B: Shape>(
     match (dealing, flow) {
         (Dealing::Round, _) => number % workers,
         (Dealing::Bucket, None) => 0,
-        (Dealing::Bucket, Some(flow)) => remainder(bucket::<A, B>(flow.key), workers as u64) as usize,
+        (Dealing::Bucket, Some(flow)) => remainder(
+            bucket::<A, B>(flow.key),
+            workers as u64,
+        ) as usize,
     }
 }
