@@ -1,5 +1,5 @@
 -- Lemmas on the page that a key's hash names.
-use Rattle.std.proofs.Common.{◌≡◌, ◌≤◌, ◌<◌, ◌+◌, ◌-◌, ◌^◌, ◌/◌, ◌%◌, ℕ, arith, rules, sym, ap, ◌∙◌}
+use Rattle.std.proofs.Common.{◌≡◌, ◌≤◌, ◌<◌, ◌+◌, ◌-◌, ◌^◌, ◌/◌, ◌%◌, ℕ, arith, rules, ap, ◌∙◌}
 use Rattle.std.proofs.Math.Pow.{mod-mod-pow}
 use Rattle.bihash_words.specs.Pages.{Paging, page_of}
 
@@ -13,10 +13,3 @@ page_of-mod paging log2 size key larger =
     let h : ℕ = paging.hash key / 2 ^ paging.log2_buckets in
     let split : size ≡ (size - log2) + log2 = omega arith in
     ap (λ n. h % 2 ^ n % 2 ^ log2) split ∙ mod-mod-pow h (size - log2) log2
-
-pub page_of-same : {K : Type 0} (paging : Paging K) (log2 size : ℕ) (a b : K)
-    → log2 ≤ size → page_of paging size a ≡ page_of paging size b
-    → page_of paging log2 a ≡ page_of paging log2 b
-page_of-same paging log2 size a b larger same =
-    sym (page_of-mod paging log2 size a larger) ∙ ap (λ n. n % 2 ^ log2) same
-    ∙ page_of-mod paging log2 size b larger

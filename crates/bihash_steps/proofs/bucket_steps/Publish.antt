@@ -1,5 +1,5 @@
 -- The store of a bucket's next word, which opens its lock.
-use Rattle.std.proofs.Common.{◌≡◌, ◌≢◌, ℕ, zero, suc, ◌+◌, ◌*◌, ◌^◌, ◌<◌, ◌≤◌, false, List, [], ◌∷◌, ◌++◌, length, set, refl, sym, ap, ◌∙◌, subst, inl, arith, le_refl, length-set, length-append, get_or-set_same, Option, Some, None}
+use Rattle.std.proofs.Common.{◌≡◌, ◌≢◌, ℕ, zero, suc, ◌+◌, ◌<◌, ◌≤◌, false, List, [], ◌∷◌, ◌++◌, length, set, refl, sym, ap, ◌∙◌, subst, inl, arith, le_refl, length-set, length-append, get_or-set_same, Option, Some, None}
 use mathlib.Core.Logic.{dite}
 use mathlib.Core.Option.{some, some-ne-none, some-injective}
 use native.Mathlib.Decide.{ℕ_discrete}
@@ -7,7 +7,7 @@ use lib.ListN.{get_elem?}
 use Rattle.std.specs.Prelude.{slice_index}
 use Rattle.atomic_table.specs.Table.{State, keeps, Allows}
 use Rattle.bihash_words.specs.Sizes.{Sizes}
-use Rattle.bihash_words.specs.Words.{bit, packed}
+use Rattle.bihash_words.specs.Words.{packed}
 use Rattle.bihash_words.specs.declared.patch.Reply.TheVariants.{Changed, NoPages}
 use Rattle.bihash_steps.specs.Words.{count_of, front_words, buckets, bucket_at, page_at, block_words, Stands}
 use Rattle.bihash_steps.specs.Histories.{IsWrite, after, write_of}
@@ -38,10 +38,6 @@ use Rattle.bihash_steps.proofs.bucket_steps.Written.{after_last, list_more, bear
 -- the bucket after a write that gives it this block
 abbrev pub state_after : BucketState → Write → Extent → List ℕ → BucketState
 state_after x w e block = record { history = x.history ++ w ∷ []; extent = e; block = block; lock = None; dirty = false }
-
--- the word of the next version
-pub next_word : (e : Extent) (version : ℕ) → packed (word_of e false (version + 1)) ≡ packed (word_of e false version) + 2 ^ 31
-next_word e version = let x : ℕ = 2 ^ 29 * bit e.size.linear in omega arith
 
 -- no history gets shorter
 pub no_shorter : (x x' : ℕ → BucketState) (b : ℕ) (w : Write) (e : Extent) (block : List ℕ) → ((d : ℕ) → d ≢ b → x' d ≡ x d)
