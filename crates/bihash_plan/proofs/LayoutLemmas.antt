@@ -23,7 +23,7 @@ use Rattle.bihash_plan.proofs.PageLemmas.{page_of-lt}
 use Rattle.bihash_plan.proofs.Pairs.{count_by-filter, count_by-map, is_taken-pair, pairs-append, pairs_more, pairs_same}
 use Rattle.bihash_plan.proofs.Places.{block_sized, free_at, free_inside, has_key_read, pair_inside}
 use Rattle.bihash_plan.proofs.PlanLemmas.{all_taken, one_free}
-use Rattle.bihash_plan.proofs.Puts.{key_after_put, lawful_put, pairs_put}
+use Rattle.bihash_plan.proofs.Puts.{lawful_put, pair_after_put, pairs_put}
 use Rattle.bihash_plan.proofs.Room.{taken_key}
 
 -- the block has just these pairs, laid out in turn
@@ -261,7 +261,7 @@ laid_more {K} paging log2 linear old key i next result out after place so_far si
           ))
           (λ (had : HasPairAt out k h.value j).
           let was = so_far.from_old k j (record { value = h.value; pair = had }) in (was.0, omega (arith, was.1), was.2))
-          (key_after_put out there.0 place k h.value j (free_inside there.1.vacant)
+          (pair_after_put out there.0 place k h.value j (free_inside there.1.vacant)
           (subst (λ (places : List (K × ℕ)). HasPairAt places k h.value j) there.2 h.pair));
     }
 

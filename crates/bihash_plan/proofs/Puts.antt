@@ -12,10 +12,10 @@ use Rattle.bihash_plan.proofs.Pairs.{is_taken-free, is_taken-pair, pairs-append}
 use Rattle.bihash_plan.proofs.Places.{free_inside, free_value_at, get_after}
 
 -- the pair is at its place, and each other one where it stood
-pub key_after_put : {K : Type 0} (places : List (K × ℕ)) (i : ℕ) (pair : K × ℕ) (key : K) (value j : ℕ)
+pub pair_after_put : {K : Type 0} (places : List (K × ℕ)) (i : ℕ) (pair : K × ℕ) (key : K) (value j : ℕ)
     → i < length places → HasPairAt (set places i pair) key value j
     → ((j ≡ i) × (key ≡ pair.0)) ⊎ HasPairAt places key value j
-key_after_put places i pair key value j inside h = elim (get_after places i j pair (key, value) inside h.at) [
+pair_after_put places i pair key value j inside h = elim (get_after places i j pair (key, value) inside h.at) [
   | inl here ↦ inl (here.0, ap (λ p. p.0) (sym here.1))
   | inr there ↦ inr (record { at = there.1; taken = h.taken })
 ]
@@ -38,7 +38,7 @@ lawful_put paging log2 linear places i pair lawful inside reached new = record {
       ∙ none)) (λ (whole : length places ≡ 4 * 2 ^ log2). inr (length-set places i pair ∙ whole)) lawful.sized;
   rule = lawful_with pair.0 i lawful.rule reached
       (λ v j had. absurd (new j (record { value = v; pair = had })))
-      (λ key v j had. key_after_put places i pair key v j inside had);
+      (λ key v j had. pair_after_put places i pair key v j inside had);
 }
 
 -- the block has the pair besides those that it had
