@@ -178,12 +178,8 @@ pub is_shortage : {A K : Type 0} (g : Ghosts A K) (m : Pairs) (key : K) (w : Vie
     (store : PageStore) → IsPlanned g m key size → LacksPages (sizes_of g) store size.log2 left → Bears w b store
     → IsOutOfPages g w b key size.log2 left
 is_shortage g m key w b same size left store p wanting bears = record {
-  places = p.places;
-  was = p.was;
   linear = size.linear;
-  lawful = p.lawful;
-  map = subst (HoldsMap g.words_of (HasPairAt p.places)) (sym same) p.map;
-  plan = p.plan;
+  planned = subst (λ (x : Pairs). IsPlanned g x key size) (sym same) p;
   store = store;
   bears = bears;
   none = wanting.none;

@@ -32,12 +32,8 @@ Bears w b store = (c : Call) → last_call w.records ≡ Some c
 -- the entry's stamp says. In the page store that the entry bears, as it was loaded under the allocation lock,
 -- no block of this size was returned, and the `left` pages that were never used are fewer.
 pub record IsOutOfPages {A K : Type 0} (g : Ghosts A K) (w : View) (b : ℕ) (key : K) (log2 left : ℕ) : Type 0 where
-  pub places : List (K × ℕ)
-  pub was : BlockSize
   pub linear : Bool
-  pub lawful : IsLawfulBlock (paging_of g) was.log2 was.linear places
-  pub map : HoldsMap g.words_of (HasPairAt places) (map_now w b)
-  pub plan : IsPlan (paging_of g) was.log2 was.linear places key (Grow (record { log2 = log2; linear = linear }))
+  pub planned : IsPlanned g (map_now w b) key (record { log2 = log2; linear = linear })
   pub store : PageStore
   pub bears : Bears w b store
   pub none : returned_in store log2 ≡ []
