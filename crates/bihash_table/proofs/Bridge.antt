@@ -23,6 +23,7 @@ use Rattle.bihash_steps.specs.Words.{place_words, block_words}
 use Rattle.bihash_steps.specs.Blocks.{HoldsPair, IsBlockOf, places, value_in}
 use Rattle.bihash_steps.specs.declared.view.Extent.{Extent}
 use Rattle.bihash_table.specs.inner.Places.{ArePlaces}
+use Rattle.bihash_table.proofs.OpenPlaces.{some_places}
 use Rattle.bihash_table.proofs.PlacePairs.{contains_pair, stands_at}
 
 -- a key is the key of its words
@@ -45,10 +46,6 @@ count_places g (suc page) log2 words ps size are =
     let many : ℕ = 4 * 2 ^ log2 in
     let same : length ps * one ≡ many * one = sym are.count ∙ size ∙ omega arith in
     sym (mul-div_cancel (length ps) some) ∙ ap (λ n. n / one) same ∙ mul-div_cancel many some
-
-some_places : (page log2 : ℕ) → 1 ≤ page → places page log2 ≡ 4 * 2 ^ log2
-some_places zero log2 some = absurd (omega arith)
-some_places (suc page) log2 some = refl
 
 pub sized : (page log2 count : ℕ) → count ≡ places page log2 → IsSized log2 count
 sized zero log2 count is = inl is
@@ -174,4 +171,4 @@ module _ {A K : Type 0} (g : Ghosts A K) (keys : AreKeyWords g) (page : ℕ) (si
       count : length new ≡ places page size.log2
       count = block_sized new size.log2 (let at = laid.found key value (get_set m (g.words_of key) value) in
           let inside : at.0 < length new = pair_inside at.1 in omega arith) rehash.lawful.sized
-          ∙ sym (some_places page size.log2 some)
+          ∙ sym (some_places page size.log2 (λ none. absurd (omega arith)))

@@ -11,7 +11,8 @@ use Rattle.bihash_steps.specs.declared.view.View.{View}
 use Rattle.bihash_table.specs.inner.Locked.{HasLock}
 use Rattle.bihash_table.specs.inner.Scans.{IsWordOf, AreOpenTo}
 
-some_places : (page log2 : ℕ) → page ≢ 0 → places page log2 ≡ 4 * 2 ^ log2
+-- a block that is there has four places a page
+pub some_places : (page log2 : ℕ) → page ≢ 0 → places page log2 ≡ 4 * 2 ^ log2
 some_places zero log2 some = absurd (some refl)
 some_places (suc page) log2 some = refl
 

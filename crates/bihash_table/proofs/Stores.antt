@@ -55,10 +55,6 @@ pub no_places : (page log2 : ℕ) → page ≡ 0 → 0 ≡ places page log2
 no_places zero log2 none = refl
 no_places (suc page) log2 none = absurd (omega arith)
 
-pub some_places : (page log2 count : ℕ) → page ≢ 0 → count ≡ 4 * 2 ^ log2 → count ≡ places page log2
-some_places zero log2 count some is = absurd (some refl)
-some_places (suc page) log2 count some is = is
-
 -- ---- The block that a bucket had
 
 pub old_is : (page log2 : ℕ) (words : List ℕ) → page ≢ 0

@@ -15,11 +15,11 @@ use Rattle.bihash_table.proofs.Entering.{looked_at}
 use Rattle.bihash_table.proofs.Copies.{same_block}
 use Rattle.bihash_table.proofs.LookedAt.{pair_value}
 use Rattle.bihash_table.proofs.LockCounts.{locks_pushed}
-use Rattle.bihash_table.proofs.OpenPlaces.{word_tells}
+use Rattle.bihash_table.proofs.OpenPlaces.{some_places, word_tells}
 use Rattle.bihash_table.proofs.Planning.{is_shortage}
 use Rattle.bihash_table.proofs.Replacing.{block_held, block_of, is_ready, locked_on, looked, looked_same, may_enter, may_refuse, published, ready_same, same_through, seen_same, store_held, was_answered}
 use Rattle.bihash_table.proofs.SameCallers.{own_through}
-use Rattle.bihash_table.proofs.Stores.{bears_noted, holds_old, left_answered, left_written, some_places, still_lawful, contended}
+use Rattle.bihash_table.proofs.Stores.{bears_noted, holds_old, left_answered, left_written, still_lawful, contended}
 use Rattle.bihash_table.proofs.Tries.{finished, finished_away, finished_write}
 use Rattle.bihash_table.proofs.grow.enter.Goals as goal
 
@@ -74,8 +74,8 @@ write_block-requires-clause-whole g c = λ h has.
     (ap (λ (h : Holdings). h.block) c.requires.held.has.held) c.in-Ok.page c.args.size.log2 c.take_block.new.seat
     c.in-Ok.ensures.same c.in-Ok.ensures.taken in
     let some = held.1.some_page in
-    some_places c.in-Ok.page h.log2 _ (λ none. absurd (omega arith))
-    (c.requires.sized ∙ ap (λ n. 4 * 2 ^ n) (sym held.2 ∙ ap (λ (b : HeldBlock). b.log2) (same_block held.1 has)))
+    c.requires.sized ∙ ap (λ n. 4 * 2 ^ n) (sym held.2 ∙ ap (λ (b : HeldBlock). b.log2) (same_block held.1 has))
+    ∙ sym (some_places c.in-Ok.page h.log2 (λ none. absurd (omega arith)))
 
 pub publish_block-requires-clause-at : goal.publish_block-requires-clause-at
 publish_block-requires-clause-at g c =

@@ -1,6 +1,7 @@
 use Rattle.std.proofs.Common.{◌∙◌, ◌≤◌, ◌*◌, ◌^◌, ap, arith, pow_mono, sym}
 use Rattle.bihash_words.specs.Sizes.{sizes_of}
-use Rattle.bihash_table.proofs.Stores.{log2_is, no_places, page_is, some_places}
+use Rattle.bihash_table.proofs.OpenPlaces.{some_places}
+use Rattle.bihash_table.proofs.Stores.{log2_is, no_places, page_is}
 use Rattle.bihash_table.proofs.places.place_count.Goals as goal
 
 pub returns-then-page-eq0 : goal.returns-then-page-eq0
@@ -19,10 +20,10 @@ places_of-requires g c =
 
 pub returns : goal.returns
 returns g c = record {
-  count = λ e told. some_places e.page e.size.log2 c.places_of.result
-      (λ none. c.if-page-eq0.false (page_is (sizes_of g.S.Shape) c.args.word e told c.page.result c.page.ensures ∙ none))
-      (c.places_of.ensures ∙ ap (λ n. 4 * 2 ^ n)
-      (log2_is (sizes_of g.S.Shape) c.args.word e told c.log2.result c.log2.ensures));
+  count = λ e told. c.places_of.ensures
+      ∙ ap (λ n. 4 * 2 ^ n) (log2_is (sizes_of g.S.Shape) c.args.word e told c.log2.result c.log2.ensures)
+      ∙ sym (some_places e.page e.size.log2
+      (λ none. c.if-page-eq0.false (page_is (sizes_of g.S.Shape) c.args.word e told c.page.result c.page.ensures ∙ none)));
   few =
       let h = c.requires in
       let same = log2_is (sizes_of g.S.Shape) c.args.word h.extent h.names c.log2.result c.log2.ensures in
