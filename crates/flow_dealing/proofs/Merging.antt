@@ -9,7 +9,6 @@ use lib.ListN.{get_elem?}
 use mathlib.Core.Option.{some, some-ne-none, some-injective}
 use Rattle.packet_view.specs.Captures.{PacketFacts}
 use Rattle.packet_view.specs.Frames as frames
-use Rattle.packet_view.specs.Frames.{IsFrame}
 use Rattle.packet_view.specs.inner.FrameSteps.{view_of}
 use Rattle.packet_view.specs.declared.tuple.Family.{Family}
 use Rattle.packet_view.specs.declared.tuple.Mac.{Mac}
@@ -261,7 +260,7 @@ module _ (d : Deal) (times : Timeouts) (policy : PolicyFacts) (packets : List Pa
 -- ---- All workers
 
 -- each packet's frame turns out to be something
-all_views : (own : Option Mac) (ps : List PacketFacts) → (views : List frames.FrameFacts) × AreViews own ps views
+pub all_views : (own : Option Mac) (ps : List PacketFacts) → (views : List frames.FrameFacts) × AreViews own ps views
 all_views own [] = ([], tt)
 all_views own (p ∷ ps) = let vs = all_views own ps in (view_of p.frame own ∷ vs.0, (view_shown p.frame own, vs.1))
 

@@ -1,5 +1,5 @@
 -- What workers said, placed in the order of the packets.
-use Rattle.std.proofs.Common.{◌≡◌, ◌≢◌, ◌∙◌, ◌+◌, ◌<◌, ◌≤◌, ℕ, zero, suc, Bool, true, false, cond, List, [], ◌∷◌, ◌++◌, get_or, length, Option, Some, IfOk, Result, Ok, Err, ap, refl, sym, subst, arith, inl, inr, eq-eqb}
+use Rattle.std.proofs.Common.{◌≡◌, ◌≢◌, ◌∙◌, ◌+◌, ◌<◌, ◌≤◌, ℕ, zero, suc, Bool, true, false, cond, List, [], ◌∷◌, ◌++◌, get_or, length, Some, IfOk, Result, Ok, Err, ap, refl, sym, subst, arith, inl, inr, eq-eqb}
 use Rattle.std.specs.Prelude.{◌==◌, slice_get}
 use Rattle.std.specs.List.{All, AllZip}
 use Rattle.std.proofs.Math.ListN.{set}
@@ -10,16 +10,14 @@ use lib.ListN.{get_elem?}
 use mathlib.Core.Option.{some, some-ne-none, some-injective}
 use Rattle.packet_view.specs.Captures.{PacketFacts}
 use Rattle.packet_view.specs.Frames as frames
-use Rattle.packet_view.specs.Frames.{IsFrame}
 use Rattle.packet_view.specs.inner.FrameSteps.{view_of}
-use Rattle.packet_view.specs.declared.tuple.Mac.{Mac}
 use Rattle.packet_view.proofs.FrameLemmas.{view_only, view_shown}
 use Rattle.bihash_steps.proofs.Lists.{there, within}
 use Rattle.flow_filter.specs.declared.verdict.Verdict.{Verdict}
 use Rattle.flow_filter.specs.Readings.{IsReading}
 use Rattle.flow_dealing.specs.Dealings.{Deal, flow_in, flow_shown, worker_of}
-use Rattle.flow_dealing.specs.Traces.{ArePlaced, AreViews, IsItemOf, Item, numbers_from, verdict_in}
-use Rattle.flow_dealing.proofs.Merging.{worker_few}
+use Rattle.flow_dealing.specs.Traces.{ArePlaced, IsItemOf, Item, numbers_from, verdict_in}
+use Rattle.flow_dealing.proofs.Merging.{all_views, worker_few}
 use Rattle.flow_dealing.proofs.Places.{after_map, all_at, all_from, before_map, zip_count}
 use Rattle.flow_workers.specs.declared.share.Said.{Said}
 use Rattle.flow_workers.specs.inner.Work.{AreSaid, RunFacts}
@@ -167,10 +165,6 @@ alone_count : (d : Deal) (at : ℕ) (views : List frames.FrameFacts) → d.worke
 alone_count d at [] alone = ap length (no_numbers d 0 at)
 alone_count d at (view ∷ views) alone =
     ap length (alone_cons d at view views alone) ∙ ap suc (alone_count d (at + 1) views alone)
-
-all_views : (own : Option Mac) (ps : List PacketFacts) → (views : List frames.FrameFacts) × AreViews own ps views
-all_views own [] = ([], tt)
-all_views own (p ∷ ps) = let vs = all_views own ps in (view_of p.frame own ∷ vs.0, (view_shown p.frame own, vs.1))
 
 -- ---- What workers of one run said
 
