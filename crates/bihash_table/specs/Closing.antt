@@ -14,6 +14,7 @@ use Rattle.bihash_steps.specs.Steps.{HaveBearers, IsToldWhole, view_after_count}
 use Rattle.bihash_steps.specs.declared.view.Known.{Known}
 use Rattle.bihash_steps.specs.declared.view.View.{View}
 use Rattle.bihash_table.specs.Answers.{with_locks}
+use Rattle.bihash_table.specs.Tries.{TookAtMost}
 use Rattle.bihash_table.specs.declared.close_fault.CloseFault.{CloseFault}
 use Rattle.bihash_table.specs.declared.close_fault.CloseFault.TheVariants.{Strangers, Memory}
 
@@ -44,10 +45,10 @@ pub record WasWhole (z : Sizes) (v : View) : Type 0 where
   pub bearers : HaveBearers z (view_after_count v count)
 
 -- Why a table was not closed, and what the caller knows then: there are more callers than it has numbers,
--- or it has every number and memory was refused.
+-- or it has every number and memory was refused, after it took as many locks as there are buckets at most.
 abbrev pub IsCloseRefused : Sizes → View → CloseFault → View → Type 0
 IsCloseRefused z v Strangers w = (count : ℕ) × (v.seen ≤ count) × (length v.records < count)
     × (w ≡ view_after_count v count) × HaveBearers z w
 IsCloseRefused z v Memory w = (count locks : ℕ) × (v.seen ≤ count) × (count ≡ length v.records)
     × (w ≡ record (view_after_count v count) { records = with_locks locks v.records; notes = w.notes })
-    × IsToldWhole z w × HaveBearers z w
+    × TookAtMost v w (buckets z) × IsToldWhole z w × HaveBearers z w

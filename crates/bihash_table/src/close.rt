@@ -61,7 +61,7 @@ fn read_all<S: Shape>(
     alloc: Global,
 ) -> Result<Vec<(S::Key, u64)>, AllocError>
     requires { IsIdleAndLone (sizes_of S.Shape) row.now seat.old }
-    ensures after { IsAfterLocks (sizes_of S.Shape) seat.old seat.new }
+    ensures after { IsAfterLocks (sizes_of S.Shape) seat.old seat.new (buckets (sizes_of S.Shape)) }
     ensures pairs { IfOk result (λ ps. ListsBuckets ⟦<S as Shape>⟧ seat.old.view.known (buckets (sizes_of S.Shape)) ps.items) }
 {
     row.is_sound();
@@ -82,7 +82,7 @@ fn read_bucket<S: Shape>(
     requires lone { IsIdleAndLone (sizes_of S.Shape) row.now seat.old }
     requires inside { bucket < buckets (sizes_of S.Shape) }
     requires pairs { ListsBuckets ⟦<S as Shape>⟧ seat.old.view.known bucket pairs.old.items }
-    ensures after { IsAfterLocks (sizes_of S.Shape) seat.old seat.new }
+    ensures after { IsAfterLocks (sizes_of S.Shape) seat.old seat.new 1 }
     ensures pairs { IfOk result (λ _. ListsBuckets ⟦<S as Shape>⟧ seat.old.view.known (bucket + 1) pairs.new.items) }
 {
     let Some(word) = look(row, seat, bucket) else {

@@ -16,6 +16,7 @@ use Rattle.bihash_steps.specs.declared.view.Known.{Known}
 use Rattle.bihash_steps.specs.declared.view.View.{View}
 use Rattle.bihash_table.specs.Answers.{with_locks}
 use Rattle.bihash_table.specs.Closing.{keys_of, map_in}
+use Rattle.bihash_table.specs.Tries.{TookAtMost}
 
 -- The pairs of the list are those that `has` has, and each key stands once.
 pub record ListsPairs {A K : Type 0} (g : Ghosts A K) (ps : List (K × ℕ)) (has : List ℕ → ℕ → Type 0) : Type 0 where
@@ -71,8 +72,9 @@ pub record IsIdleAndLone (z : Sizes) (row : _) (s : CallerState) : Type 0 where
   pub lone : s.view.lone ≡ true
   pub lawful : IsLawfulCaller z s.view
 
--- the same caller, lawful, after locks that it took and opened
-pub record IsAfterLocks (z : Sizes) (s t : CallerState) : Type 0 where
+-- the same caller, lawful, after locks that it took and opened, so many at most
+pub record IsAfterLocks (z : Sizes) (s t : CallerState) (most : ℕ) : Type 0 where
   pub same : t ≡ with_view s t.view
   pub took : TookLocks s.view t.view
+  pub few : TookAtMost s.view t.view most
   pub lawful : IsLawfulCaller z t.view

@@ -1,5 +1,6 @@
 use Rattle.std.proofs.Common.{◌≡◌, ◌∙◌, ℕ, ◌^◌, ◌≤◌, pow_mono, arith, refl, sym, ap, subst}
 use Rattle.bihash_table.specs.inner.PairLists.{ListsBuckets}
+use Rattle.bihash_table.proofs.LockCounts.{took_no_lock}
 use Rattle.bihash_table.proofs.PairListLemmas.{buckets_none}
 use Rattle.bihash_table.proofs.TakenLocks.{took_none}
 use Rattle.bihash_table.proofs.close.read_all.Goals as goal
@@ -8,6 +9,7 @@ pub loop-bucket-init : goal.loop-bucket-init
 loop-bucket-init g c = record {
   same = refl;
   took = took_none c.args.seat.now.view;
+  few = took_no_lock c.args.seat.now.view c.args.seat.now.view refl 0;
   lawful = c.requires.lawful;
   pairs = subst (ListsBuckets g.S.Shape c.args.seat.now.view.known 0) (sym c.new-pairs.ensures.items)
       (buckets_none g.S.Shape c.args.seat.now.view.known);

@@ -7,8 +7,9 @@ use Rattle.bihash_steps.specs.Steps.{HaveBearers, IsToldWhole, view_after_count}
 use Rattle.bihash_steps.specs.declared.view.Known.{Known}
 use Rattle.bihash_steps.specs.declared.view.View.{View}
 use Rattle.bihash_steps.proofs.Numbers.{few_numbers}
-use Rattle.bihash_table.specs.Answers.{with_locks}
+use Rattle.bihash_table.specs.Answers.{locks_of, with_locks}
 use Rattle.bihash_table.specs.inner.PairLists.{ListsBuckets}
+use Rattle.bihash_table.proofs.LockCounts.{took_after}
 use Rattle.bihash_table.proofs.PairListLemmas.{sorted_pairs}
 use Rattle.bihash_table.proofs.TakenLocks.{took_bearers, took_told}
 use Rattle.bihash_table.proofs.sessions.Sessions.close.Goals as goal
@@ -45,6 +46,7 @@ returns-in-Err-clause-refused g c =
         c.load_count.ensures.rises,
         all,
         t.is ∙ ap (λ (u : View). record u { records = with_locks t.locks u.records; notes = w.notes }) is,
+        took_after v c.load_count.new.caller.view w (buckets z) (ap (λ (u : View). locks_of u.records) is) c.read_all.ensures.after.few,
         took_told z c.load_count.new.caller.view w t (c.load_count.ensures.whole lone),
         took_bearers z c.load_count.new.caller.view w t c.load_count.ensures.bearers,
       ),
