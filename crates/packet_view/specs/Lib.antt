@@ -7,6 +7,7 @@ pub mod Frames
 pub mod Ipv4
 pub mod Ipv6
 pub mod Packets
+pub mod PlainFrames
 pub mod RecordLists
 pub mod Transport
 pub mod Tuples

@@ -9,6 +9,7 @@ mod ipv6;
 mod laws;
 mod packet;
 mod packets;
+mod plain_packet;
 mod records;
 #[cfg(test)]
 mod tests;
@@ -25,5 +26,6 @@ pub use laws::{
     each_capture_has_one_reading, each_frame_has_one_view, own_address_decides_the_way_alone,
 };
 pub use packets::Packets;
+pub use plain_packet::{PlainPacket, plain};
 pub use records::Records;
 pub use tuple::{Direction, Family, Fields, Mac, Tuple};

@@ -1,0 +1,30 @@
+-- What a plain frame's packet says, by what the frame turns out to be (RFC 791, RFC 9293, RFC 768).
+use Rattle.std.specs.Prelude.{◌≡◌, ℕ, List, Option}
+use Rattle.packet_view.specs.declared.tuple.Direction.{Direction}
+use Rattle.packet_view.specs.declared.tuple.Family.TheVariants.{V4}
+use Rattle.packet_view.specs.declared.tuple.Fields.{Fields}
+use Rattle.packet_view.specs.declared.tuple.Fields.TheVariants.{Absent, Ports, Tcp, Icmp}
+use Rattle.packet_view.specs.declared.tuple.Mac.{Mac}
+use Rattle.packet_view.specs.declared.plain_packet.PlainPacket.{PlainPacket}
+use Rattle.packet_view.specs.Frames.{IsFrame, Ip}
+use Rattle.packet_view.specs.Tuples.{TupleFacts}
+
+-- fields with the packet's ports, of its protocol
+abbrev pub ArePortsOf : PlainPacket → Fields → Type 0
+ArePortsOf packet Absent = ⊥
+ArePortsOf packet (Ports from to) = (packet.proto ≡ 17) × (from ≡ packet.from) × (to ≡ packet.to)
+ArePortsOf packet (Tcp from to flags) = (packet.proto ≡ 6) × (from ≡ packet.from) × (to ≡ packet.to)
+ArePortsOf packet (Icmp kind code) = ⊥
+
+-- a five-tuple of IPv4 that says what the packet says
+pub record IsTupleOf (packet : PlainPacket) (tuple : TupleFacts) : Type 0 where
+  pub family : tuple.family ≡ V4
+  pub source : tuple.source ≡ packet.source
+  pub dest : tuple.dest ≡ packet.dest
+  pub proto : tuple.proto ≡ packet.proto
+  pub ports : ArePortsOf packet tuple.fields
+
+-- at every interface the frame is a packet of such a five-tuple
+abbrev pub IsPlain : List ℕ → PlainPacket → Type 0
+IsPlain frame packet =
+    (own : Option Mac) → (way : Direction) × (tuple : TupleFacts) × IsFrame frame own (Ip way tuple) × IsTupleOf packet tuple

@@ -1,0 +1,45 @@
+//! Plain frames: untagged, of IPv4 without options, of TCP or UDP. Nearly all frames are, and a straight path reads them.
+ghost use Rattle.std.specs.Prelude.{IfSome};
+ghost use Rattle.packet_view.specs.PlainFrames.{IsPlain};
+
+use crate::packet::extent;
+use byteorder::{BigEndian, ByteOrder};
+
+/// Both ends of a plain frame's packet and its protocol, 6 for TCP or 17 for UDP, as numbers in host order.
+#[derive(Clone, Copy, Debug, PartialEq, Eq)]
+pub struct PlainPacket {
+    pub source: u32,
+    pub dest: u32,
+    pub from: u16,
+    pub to: u16,
+    pub proto: u8,
+}
+
+/// What a plain frame has: untagged, of IPv4 (RFC 791, section 3.1) with a header of 20 bytes, no later fragment, of
+/// TCP (RFC 9293) or UDP (RFC 768) with their fields.
+///
+/// `None` says nothing of the frame: `view` tells what it is.
+#[inline(always)]
+pub fn plain(frame: &[u8]) -> Option<PlainPacket>
+    ensures { IfSome result (IsPlain frame.now) }
+{
+    if frame.len() < 38 || BigEndian::read_u16(&frame[12..]) != 0x0800 || frame[14] != 0x45 {
+        return None;
+    }
+    let least = match frame[23] {
+        6 => 34,
+        17 => 24,
+        _ => return None,
+    };
+    let end = extent(BigEndian::read_u16(&frame[16..]), frame.len() - 14);
+    if end < least || BigEndian::read_u16(&frame[20..]) % 8192 != 0 {
+        return None;
+    }
+    Some(PlainPacket {
+        source: BigEndian::read_u32(&frame[26..]),
+        dest: BigEndian::read_u32(&frame[30..]),
+        from: BigEndian::read_u16(&frame[34..]),
+        to: BigEndian::read_u16(&frame[36..]),
+        proto: frame[23],
+    })
+}
