@@ -56,7 +56,7 @@ payload_only bytes payload h =
     let size : length payload ≡ extent (total_length bytes) (length bytes) - header_length bytes = omega (arith, h.header_end, h.packet_end) in
     ap (take (extent (total_length bytes) (length bytes) - header_length bytes)) behind ∙ take_at payload h.trailer (extent (total_length bytes) (length bytes) - header_length bytes) size
 
-payload_shown : (bytes : List ℕ) → HasHeader bytes → HasPayload bytes (slice_range bytes (header_length bytes) (extent (total_length bytes) (length bytes)))
+pub payload_shown : (bytes : List ℕ) → HasHeader bytes → HasPayload bytes (slice_range bytes (header_length bytes) (extent (total_length bytes) (length bytes)))
 payload_shown bytes h =
     let order = extent_holds (header_length bytes) (total_length bytes) (length bytes) h.whole h.holds_header in
     let within = extent_within (total_length bytes) (length bytes) in

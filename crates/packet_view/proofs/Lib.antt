@@ -6,6 +6,7 @@ pub mod Ipv4Lemmas
 pub mod Ipv6Lemmas
 pub mod LawLemmas
 pub mod PacketLemmas
+pub mod PlainLemmas
 pub mod ReadingLemmas
 pub mod RecordLemmas
 pub mod RecordListLemmas

@@ -1,7 +1,7 @@
 //! Frames and captures byte by byte, with the views that the standards give them.
 use crate::{
     Capture, CaptureFault, Direction, Family, Fields, Frame, Mac, Order, Packet, Packets, Piece,
-    Tuple, capture_header, check_capture, next_record, read_capture, view,
+    PlainPacket, Tuple, capture_header, check_capture, next_record, plain, read_capture, view,
 };
 use std::test::Fail;
 
@@ -108,6 +108,29 @@ fn reads_tcp_and_icmp(rt: HostRuntime) {
 }
 
 #[test]
+fn reads_plain_frames(rt: HostRuntime) {
+    let udp = PlainPacket {
+        source: 0x0a00_0001,
+        dest: 0x0a00_0002,
+        from: 1000,
+        to: 53,
+        proto: 17,
+    };
+    let tcp = PlainPacket {
+        source: 0x0a00_0001,
+        dest: 0x0a00_0002,
+        from: 1000,
+        to: 80,
+        proto: 6,
+    };
+    assert_eq!(rt; plain(&UDP), Some(udp));
+    assert_eq!(rt; plain(&UDP[..38]), Some(udp), "4 bytes of UDP");
+    assert_eq!(rt; plain(&TCP), Some(tcp));
+    assert_eq!(rt; plain(&TCP[..48]), Some(tcp), "14 bytes of TCP");
+    assert_eq!(rt; plain(&TCP[..47]), None, "13 bytes of TCP");
+}
+
+#[test]
 fn skips_two_tags(rt: HostRuntime) {
     let tagged = [
         0x02, 0, 0, 0, 0, 0x02, 0x02, 0, 0, 0, 0, 0x01, // addresses
@@ -128,6 +151,7 @@ fn skips_two_tags(rt: HostRuntime) {
         view(&tagged, OWN),
         Frame::Ip(Direction::Outbound, UDP_TUPLE)
     );
+    assert_eq!(rt; plain(&tagged), None);
     assert_eq!(rt; view(&third_tag, OWN), Frame::NotIp);
     assert_eq!(rt; view(&cut, OWN), Frame::Malformed);
 }
@@ -168,6 +192,7 @@ fn reads_ipv4_lengths_and_options(rt: HostRuntime) {
         view(&options, OWN),
         Frame::Ip(Direction::Outbound, UDP_TUPLE)
     );
+    assert_eq!(rt; plain(&options), None);
 
     let mut later = UDP;
     later[21] = 1;
@@ -183,6 +208,7 @@ fn reads_ipv4_lengths_and_options(rt: HostRuntime) {
         Frame::Ip(Direction::Outbound, fragment),
         "offset 1"
     );
+    assert_eq!(rt; plain(&later), None);
 }
 
 /// From 2001:db8::1 to 2001:db8::2.

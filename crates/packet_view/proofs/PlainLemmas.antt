@@ -1,0 +1,199 @@
+-- A frame that passes the tests for a plain one is a packet of TCP or UDP whose numbers stand at fixed places.
+use Rattle.std.proofs.Common.{◌≡◌, ◌⊎◌, ◌∙◌, ◌≤◌, ◌+◌, ◌*◌, ◌-◌, ◌/◌, ◌%◌, ℕ, List, ◌++◌, length, take, drop, Option, Some, refl, sym, ap, ap₂, subst, inl, inr, arith}
+use Rattle.std.specs.List.{slice_index, slice_range}
+use Rattle.std.proofs.lemmas.Bool.{cond-false, le-ltb}
+use Rattle.std.proofs.lemmas.Bool.Decides.{nat_tests}
+use Rattle.std.proofs.lemmas.List.{drop-drop, drop_at, get_or-drop, length-drop, take_rest}
+use Rattle.std.specs.Option.{option_and_then}
+use Rattle.byteorder.specs.Endian.{big_number}
+use Rattle.packet_view.specs.declared.tuple.Direction.{Direction}
+use Rattle.packet_view.specs.declared.tuple.Family.TheVariants.{V4}
+use Rattle.packet_view.specs.declared.tuple.Fields.{Fields}
+use Rattle.packet_view.specs.declared.tuple.Fields.TheVariants.{Ports, Tcp}
+use Rattle.packet_view.specs.declared.tuple.Mac.{Mac}
+use Rattle.packet_view.specs.declared.plain_packet.PlainPacket.{PlainPacket}
+use Rattle.packet_view.specs.Bytes.{number_from}
+use Rattle.packet_view.specs.Frames.{FrameFacts, Ip, IsFrame}
+use Rattle.packet_view.specs.Ipv4.{Carries, HasHeader, HasPayload, header_length, protocol, total_length}
+use Rattle.packet_view.specs.Ipv4 as header
+use Rattle.packet_view.specs.Packets.{Payload, extent}
+use Rattle.packet_view.specs.PlainFrames.{ArePortsOf, IsPlain, IsTupleOf}
+use Rattle.packet_view.specs.Transport.{HasFields}
+use Rattle.packet_view.specs.Tuples.{TupleFacts}
+use Rattle.packet_view.specs.inner.FrameSteps.{after_tag, content_of, direction_of, view_of_content, view_of_packet, with_fields}
+use Rattle.packet_view.proofs.FrameLemmas.{read, view_only, view_shown}
+use Rattle.packet_view.proofs.Ipv4Lemmas.{carries_only, payload_shown, total_cases}
+use Rattle.packet_view.proofs.PacketLemmas.{number_from-append}
+use Rattle.packet_view.proofs.TransportLemmas.{fields_only}
+
+-- the number that is read from this place of a frame on
+abbrev number_at : ℕ → ℕ → List ℕ → ℕ
+number_at place width frame = big_number width (take (length frame - place) (drop place frame))
+
+-- how much of the frame's packet belongs to it
+abbrev pub end_of : List ℕ → ℕ
+end_of frame = extent (number_at 16 2 frame) (length frame - 14)
+
+-- the tests of a plain frame, and the numbers that are read of it
+pub record IsRead (frame : List ℕ) (packet : PlainPacket) : Type 0 where
+  pub long : 38 ≤ length frame
+  pub kind : number_at 12 2 frame ≡ 0x0800
+  pub first : slice_index frame 14 ≡ 0x45
+  pub offset : number_at 20 2 frame % 8192 ≡ 0
+  pub fields : ((packet.proto ≡ 6) × (34 ≤ end_of frame)) ⊎ ((packet.proto ≡ 17) × (24 ≤ end_of frame))
+  pub source : packet.source ≡ number_at 26 4 frame
+  pub dest : packet.dest ≡ number_at 30 4 frame
+  pub from : packet.from ≡ number_at 34 2 frame
+  pub to : packet.to ≡ number_at 36 2 frame
+  pub proto : packet.proto ≡ slice_index frame 23
+
+in_frame : (frame : List ℕ) (place width : ℕ) → number_at place width frame ≡ number_from place width frame
+in_frame frame place width = ap (big_number width) (take_rest frame place)
+
+-- a number of the packet stands in the frame behind its header
+in_packet : (frame : List ℕ) (place width : ℕ) → number_at (14 + place) width frame ≡ number_from place width (drop 14 frame)
+in_packet frame place width = in_frame frame (14 + place) width ∙ ap (big_number width) (sym (drop-drop place 14 frame))
+
+-- a number of the payload stands in the packet behind its header
+in_payload : (bytes payload : List ℕ) → HasPayload bytes payload → (place width : ℕ) → place + width ≤ length payload
+    → number_from place width payload ≡ number_from (header_length bytes + place) width bytes
+in_payload bytes payload h place width fits =
+    let behind : drop (header_length bytes) bytes ≡ payload ++ h.trailer =
+    ap (drop (header_length bytes)) h.spelt ∙ drop_at h.header (payload ++ h.trailer) (header_length bytes) h.header_end in
+    sym (number_from-append place width payload h.trailer fits)
+    ∙ ap (number_from place width) (sym behind) ∙ ap (big_number width) (drop-drop place (header_length bytes) bytes)
+
+-- the content of an untagged frame
+untagged : (frame : List ℕ) → 14 ≤ length frame → number_from 12 2 frame ≡ 0x0800 → content_of frame ≡ Some (0x0800, drop 14 frame)
+untagged frame long kind =
+    cond-false _ _ _ (le-ltb (length frame) 14 long)
+    ∙ ap (λ n. option_and_then (λ (c : ℕ × List ℕ). after_tag c.0 c.1) (after_tag n (drop 14 frame))) kind
+
+-- the five-tuple of an IPv4 packet
+abbrev tuple_of : List ℕ → ℕ → Fields → TupleFacts
+tuple_of bytes proto fields = record { family = V4; source = header.source bytes; dest = header.dest bytes; proto = proto; fields = fields }
+
+-- an untagged frame of IPv4 is its packet
+carried : (frame : List ℕ) (own : Option Mac) (proto : ℕ) (payload : List ℕ) (fields : Fields)
+    → content_of frame ≡ Some (0x0800, drop 14 frame) → Carries (drop 14 frame) (Payload proto payload) → HasFields V4 proto payload fields
+    → IsFrame frame own (Ip (direction_of frame own) (tuple_of (drop 14 frame) proto fields))
+carried frame own proto payload fields content carries has =
+    let way = direction_of frame own in
+    subst (λ (view : FrameFacts). IsFrame frame own view)
+    (ap (view_of_content frame own) content ∙ ap (view_of_packet way) (carries_only (drop 14 frame) (Payload proto payload) carries)
+    ∙ ap (with_fields way (read V4 (drop 14 frame) (Payload proto payload)) proto) (fields_only V4 proto payload fields has))
+    (view_shown frame own)
+
+-- a total length up to which the header is there
+holds_header : (total there : ℕ) → 20 ≤ extent total there → (total ≡ 0) ⊎ (20 ≤ total)
+holds_header total there enough = elim (total_cases total 20) [
+  | inl (some, less) ↦ absurd (grind (arith, nat_tests))
+  | inr holds ↦ holds
+]
+
+-- the packet of an untagged frame, and its payload
+abbrev bytes_of : List ℕ → List ℕ
+bytes_of frame = drop 14 frame
+
+abbrev payload_of : List ℕ → List ℕ
+payload_of bytes = slice_range bytes (header_length bytes) (extent (total_length bytes) (length bytes))
+
+module _ (frame : List ℕ) (packet : PlainPacket) (h : IsRead frame packet) where
+  first_byte : slice_index (bytes_of frame) 0 ≡ 0x45
+  first_byte = get_or-drop 14 frame 0 0 ∙ h.first
+
+  header_is : header_length (bytes_of frame) ≡ 20
+  header_is = ap (λ (b : ℕ). b % 16 * 4) first_byte
+
+  size_is : length (bytes_of frame) ≡ length frame - 14
+  size_is = length-drop 14 frame
+
+  total_is : total_length (bytes_of frame) ≡ number_at 16 2 frame
+  total_is = sym (in_packet frame 2 2)
+
+  end_is : extent (total_length (bytes_of frame)) (length (bytes_of frame)) ≡ end_of frame
+  end_is = ap₂ extent total_is size_is
+
+  enough : 24 ≤ end_of frame
+  enough = elim h.fields [
+    | inl (tcp, long) ↦ omega arith
+    | inr (udp, long) ↦ long
+  ]
+
+  right : HasHeader (bytes_of frame)
+  right =
+      let size = size_is in
+      let twenty = header_is in
+      let long = h.long in
+      let holds : 20 ≤ extent (total_length (bytes_of frame)) (length (bytes_of frame)) = let e = end_is in let more = enough in omega arith in
+      record {
+        least = omega arith;
+        four = ap (λ (b : ℕ). b / 16) first_byte;
+        five_words = omega arith;
+        whole = omega arith;
+        holds_header = subst (λ n. (total_length (bytes_of frame) ≡ 0) ⊎ (n ≤ total_length (bytes_of frame))) (sym header_is)
+            (holds_header (total_length (bytes_of frame)) (length (bytes_of frame)) holds);
+      }
+
+  shown : HasPayload (bytes_of frame) (payload_of (bytes_of frame))
+  shown = payload_shown (bytes_of frame) right
+
+  payload_size : 20 + length (payload_of (bytes_of frame)) ≡ end_of frame
+  payload_size = omega (arith, shown.header_end, shown.packet_end, header_is, end_is)
+
+  carries : Carries (bytes_of frame) (Payload (protocol (bytes_of frame)) (payload_of (bytes_of frame)))
+  carries = (right, ap (λ (n : ℕ). n % 8192) (sym (in_packet frame 6 2)) ∙ h.offset, refl, shown)
+
+  proto_is : packet.proto ≡ protocol (bytes_of frame)
+  proto_is = h.proto ∙ sym (get_or-drop 14 frame 9 0)
+
+  from_is : packet.from ≡ number_from 0 2 (payload_of (bytes_of frame))
+  from_is =
+      let fits : 0 + 2 ≤ length (payload_of (bytes_of frame)) = omega (arith, payload_size, enough) in
+      h.from ∙ in_packet frame 20 2
+      ∙ sym (in_payload (bytes_of frame) _ shown 0 2 fits ∙ ap (λ (n : ℕ). number_from (n + 0) 2 (bytes_of frame)) header_is)
+
+  to_is : packet.to ≡ number_from 2 2 (payload_of (bytes_of frame))
+  to_is =
+      let fits : 2 + 2 ≤ length (payload_of (bytes_of frame)) = omega (arith, payload_size, enough) in
+      h.to ∙ in_packet frame 22 2
+      ∙ sym (in_payload (bytes_of frame) _ shown 2 2 fits ∙ ap (λ (n : ℕ). number_from (n + 2) 2 (bytes_of frame)) header_is)
+
+  of_fields : (own : Option Mac) (fields : Fields) → HasFields V4 (protocol (bytes_of frame)) (payload_of (bytes_of frame)) fields
+      → ArePortsOf packet fields → (way : Direction) × (tuple : TupleFacts) × IsFrame frame own (Ip way tuple) × IsTupleOf packet tuple
+  of_fields own fields has ports =
+      let content = untagged frame (omega (arith, h.long)) (sym (in_frame frame 12 2) ∙ h.kind) in (
+        direction_of frame own,
+        tuple_of (bytes_of frame) (protocol (bytes_of frame)) fields,
+        carried frame own (protocol (bytes_of frame)) (payload_of (bytes_of frame)) fields content carries has,
+        record {
+          family = refl;
+          source = sym (h.source ∙ in_packet frame 12 4);
+          dest = sym (h.dest ∙ in_packet frame 16 4);
+          proto = sym proto_is;
+          ports = ports;
+        },
+      )
+
+  pub is_plain : IsPlain frame packet
+  is_plain = λ own. elim h.fields [
+    | inl (tcp, long) ↦
+        let enough_of_tcp : 14 ≤ length (payload_of (bytes_of frame)) = omega (arith, payload_size, long) in
+        of_fields own (Tcp packet.from packet.to (slice_index (payload_of (bytes_of frame)) 13))
+        (sym proto_is ∙ tcp, enough_of_tcp, from_is, to_is, refl) (tcp, refl, refl)
+    | inr (udp, long) ↦
+        let enough_of_udp : 4 ≤ length (payload_of (bytes_of frame)) = omega (arith, payload_size, long) in
+        of_fields own (Ports packet.from packet.to) (sym proto_is ∙ udp, enough_of_udp, from_is, to_is) (udp, refl, refl)
+  ]
+
+same_tuple : (way other : Direction) (tuple found : TupleFacts) → ◌≡◌ {A = FrameFacts} (Ip way tuple) (Ip other found) → found ≡ tuple
+same_tuple way other tuple found e = cc
+
+-- whatever a plain frame turns out to be, it is what the plain packet says
+pub plain_tuple : (frame : List ℕ) (packet : PlainPacket) → IsPlain frame packet → (own : Option Mac) (way : Direction) (tuple : TupleFacts)
+    → IsFrame frame own (Ip way tuple) → IsTupleOf packet tuple
+plain_tuple frame packet plain own way tuple h =
+    let found = plain own in
+    let same : found.1 ≡ tuple =
+    same_tuple way found.0 tuple found.1 (view_only frame own (Ip way tuple) h ∙ sym (view_only frame own (Ip found.0 found.1) found.2)) in
+    subst (λ (t : TupleFacts). IsTupleOf packet t) same found.3
