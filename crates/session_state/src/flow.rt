@@ -2,13 +2,14 @@
 ghost use Rattle.std.specs.Prelude.{◌≡◌, ◌<◌, ◌+◌, ◌*◌, ◌^◌, Bool, IfSome, Some};
 ghost use Rattle.packet_view.specs.declared.tuple.Family.TheVariants.{V4};
 ghost use Rattle.packet_view.specs.Addresses.{address_limit};
-ghost use Rattle.packet_view.specs.Tuples.{tuple_facts};
+ghost use Rattle.packet_view.specs.PlainFrames.{IsTupleOf};
+ghost use Rattle.packet_view.specs.Tuples.{TupleFacts, tuple_facts};
 ghost use Rattle.session_state.specs.declared.flow.Flow.{Flow};
 ghost use Rattle.session_state.specs.Flows;
 ghost use Rattle.session_state.specs.Flows.{IsFlow, echo_flow, end_of_number, flow_by_order, flow_of, key_of};
 
 use crate::end::{End, is_first, receiver, sender};
-use packet_view::{Family, Fields, Tuple};
+use packet_view::{Family, Fields, PlainPacket, Tuple};
 
 /// What names a flow in its family's table: addresses, ports and protocol of both ends.
 #[derive(Clone, Copy, Debug, PartialEq, Eq)]
@@ -167,4 +168,21 @@ pub fn orient(tuple: &Tuple) -> Option<Flow>
         Fields::Ports { .. } | Fields::Tcp { .. } => Some(by_order(tuple)),
         Fields::Icmp { kind, .. } => echo(tuple, kind),
     }
+}
+
+/// The flow of a plain packet: what `orient` answers of each five-tuple that says the same.
+#[inline(always)]
+pub fn plain_flow(packet: PlainPacket) -> Flow
+    ensures value { (tuple : TupleFacts) → IsTupleOf packet tuple → flow_of tuple ≡ Some result }
+    ensures side { result.side < 2 }
+{
+    let from = End {
+        address: u128::from(packet.source),
+        port: packet.from,
+    };
+    let to = End {
+        address: u128::from(packet.dest),
+        port: packet.to,
+    };
+    flow_by_number(number(from), number(to), packet.proto)
 }

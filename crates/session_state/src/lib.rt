@@ -9,7 +9,7 @@ mod packet_patch;
 mod session;
 mod timeouts;
 
-pub use flow::{Flow, FlowKey, orient};
+pub use flow::{Flow, FlowKey, orient, plain_flow};
 pub use laws::{
     both_directions_share_a_key, keys_tell_flows, last_never_falls, last_second_counts,
     replies_start_nothing, sides_tell_senders, tests_tell_live_sessions, tuples_are_in_range,
