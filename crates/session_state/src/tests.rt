@@ -3,9 +3,9 @@
 //! In comments `.n` stands for the address 10.0.0.n.
 ghost use Rattle.std.specs.Prelude.{◌<◌};
 
-use crate::{Flow, FlowKey, PacketPatch, Session, Timeouts, orient};
+use crate::{Flow, FlowKey, PacketPatch, Session, Timeouts, orient, plain_flow};
 use bihash_words::{Change, Patch};
-use packet_view::{Family, Fields, Tuple};
+use packet_view::{Family, Fields, PlainPacket, Tuple};
 
 const NET: u32 = 0x0a00_0000;
 
@@ -101,6 +101,33 @@ fn keys_of_udp_and_tcp(rt: HostRuntime) {
     assert_eq!(rt;
         same_host,
         four(0x0a00_0001_0a00_0001, 0x03e8_07d0_1100_0000, 1, true)
+    );
+}
+
+#[test]
+fn flows_of_plain_packets(rt: HostRuntime) {
+    let key = 0x0a00_0001_0a00_0002;
+    let asked = PlainPacket {
+        source: NET + 1,
+        dest: NET + 2,
+        from: 1000,
+        to: 53,
+        proto: 17,
+    };
+    assert_eq!(rt;
+        Some(plain_flow(asked)),
+        four(key, 0x03e8_0035_1100_0000, 0, true)
+    );
+    let sent = PlainPacket {
+        source: NET + 2,
+        dest: NET + 1,
+        from: 80,
+        to: 1000,
+        proto: 6,
+    };
+    assert_eq!(rt;
+        Some(plain_flow(sent)),
+        four(key, 0x03e8_0050_0600_0000, 1, true)
     );
 }
 
