@@ -51,7 +51,8 @@ in_frame : (frame : List ℕ) (place width : ℕ) → number_at place width fram
 in_frame frame place width = ap (big_number width) (take_rest frame place)
 
 -- a number of the packet stands in the frame behind its header
-in_packet : (frame : List ℕ) (place width : ℕ) → number_at (14 + place) width frame ≡ number_from place width (drop 14 frame)
+in_packet : (frame : List ℕ) (place width : ℕ)
+    → number_at (14 + place) width frame ≡ number_from place width (drop 14 frame)
 in_packet frame place width = in_frame frame (14 + place) width ∙ ap (big_number width) (sym (drop-drop place 14 frame))
 
 -- a number of the payload stands in the packet behind its header
@@ -59,29 +60,34 @@ in_payload : (bytes payload : List ℕ) → HasPayload bytes payload → (place 
     → number_from place width payload ≡ number_from (header_length bytes + place) width bytes
 in_payload bytes payload h place width fits =
     let behind : drop (header_length bytes) bytes ≡ payload ++ h.trailer =
-    ap (drop (header_length bytes)) h.spelt ∙ drop_at h.header (payload ++ h.trailer) (header_length bytes) h.header_end in
+    ap (drop (header_length bytes)) h.spelt
+    ∙ drop_at h.header (payload ++ h.trailer) (header_length bytes) h.header_end in
     sym (number_from-append place width payload h.trailer fits)
     ∙ ap (number_from place width) (sym behind) ∙ ap (big_number width) (drop-drop place (header_length bytes) bytes)
 
 -- the content of an untagged frame
-untagged : (frame : List ℕ) → 14 ≤ length frame → number_from 12 2 frame ≡ 0x0800 → content_of frame ≡ Some (0x0800, drop 14 frame)
+untagged : (frame : List ℕ) → 14 ≤ length frame → number_from 12 2 frame ≡ 0x0800
+    → content_of frame ≡ Some (0x0800, drop 14 frame)
 untagged frame long kind =
     cond-false _ _ _ (le-ltb (length frame) 14 long)
     ∙ ap (λ n. option_and_then (λ (c : ℕ × List ℕ). after_tag c.0 c.1) (after_tag n (drop 14 frame))) kind
 
 -- the five-tuple of an IPv4 packet
 abbrev tuple_of : List ℕ → ℕ → Fields → TupleFacts
-tuple_of bytes proto fields = record { family = V4; source = header.source bytes; dest = header.dest bytes; proto = proto; fields = fields }
+tuple_of bytes proto fields =
+    record { family = V4; source = header.source bytes; dest = header.dest bytes; proto = proto; fields = fields }
 
 -- an untagged frame of IPv4 is its packet
 carried : (frame : List ℕ) (own : Option Mac) (proto : ℕ) (payload : List ℕ) (fields : Fields)
-    → content_of frame ≡ Some (0x0800, drop 14 frame) → Carries (drop 14 frame) (Payload proto payload) → HasFields V4 proto payload fields
+    → content_of frame ≡ Some (0x0800, drop 14 frame) → Carries (drop 14 frame) (Payload proto payload)
+    → HasFields V4 proto payload fields
     → IsFrame frame own (Ip (direction_of frame own) (tuple_of (drop 14 frame) proto fields))
 carried frame own proto payload fields content carries has =
     let way = direction_of frame own in
+    let upper = Payload proto payload in
     subst (λ (view : FrameFacts). IsFrame frame own view)
-    (ap (view_of_content frame own) content ∙ ap (view_of_packet way) (carries_only (drop 14 frame) (Payload proto payload) carries)
-    ∙ ap (with_fields way (read V4 (drop 14 frame) (Payload proto payload)) proto) (fields_only V4 proto payload fields has))
+    (ap (view_of_content frame own) content ∙ ap (view_of_packet way) (carries_only (drop 14 frame) upper carries)
+    ∙ ap (with_fields way (read V4 (drop 14 frame) upper) proto) (fields_only V4 proto payload fields has))
     (view_shown frame own)
 
 -- a total length up to which the header is there
@@ -125,14 +131,15 @@ module _ (frame : List ℕ) (packet : PlainPacket) (h : IsRead frame packet) whe
       let size = size_is in
       let twenty = header_is in
       let long = h.long in
-      let holds : 20 ≤ extent (total_length (bytes_of frame)) (length (bytes_of frame)) = let e = end_is in let more = enough in omega arith in
+      let total = total_length (bytes_of frame) in
+      let holds : 20 ≤ extent total (length (bytes_of frame)) = omega (arith, end_is, enough) in
       record {
         least = omega arith;
         four = ap (λ (b : ℕ). b / 16) first_byte;
         five_words = omega arith;
         whole = omega arith;
-        holds_header = subst (λ n. (total_length (bytes_of frame) ≡ 0) ⊎ (n ≤ total_length (bytes_of frame))) (sym header_is)
-            (holds_header (total_length (bytes_of frame)) (length (bytes_of frame)) holds);
+        holds_header = subst (λ (n : ℕ). (total ≡ 0) ⊎ (n ≤ total)) (sym header_is)
+            (holds_header total (length (bytes_of frame)) holds);
       }
 
   shown : HasPayload (bytes_of frame) (payload_of (bytes_of frame))
@@ -151,16 +158,19 @@ module _ (frame : List ℕ) (packet : PlainPacket) (h : IsRead frame packet) whe
   from_is =
       let fits : 0 + 2 ≤ length (payload_of (bytes_of frame)) = omega (arith, payload_size, enough) in
       h.from ∙ in_packet frame 20 2
-      ∙ sym (in_payload (bytes_of frame) _ shown 0 2 fits ∙ ap (λ (n : ℕ). number_from (n + 0) 2 (bytes_of frame)) header_is)
+      ∙ sym (in_payload (bytes_of frame) _ shown 0 2 fits
+      ∙ ap (λ (n : ℕ). number_from (n + 0) 2 (bytes_of frame)) header_is)
 
   to_is : packet.to ≡ number_from 2 2 (payload_of (bytes_of frame))
   to_is =
       let fits : 2 + 2 ≤ length (payload_of (bytes_of frame)) = omega (arith, payload_size, enough) in
       h.to ∙ in_packet frame 22 2
-      ∙ sym (in_payload (bytes_of frame) _ shown 2 2 fits ∙ ap (λ (n : ℕ). number_from (n + 2) 2 (bytes_of frame)) header_is)
+      ∙ sym (in_payload (bytes_of frame) _ shown 2 2 fits
+      ∙ ap (λ (n : ℕ). number_from (n + 2) 2 (bytes_of frame)) header_is)
 
-  of_fields : (own : Option Mac) (fields : Fields) → HasFields V4 (protocol (bytes_of frame)) (payload_of (bytes_of frame)) fields
-      → ArePortsOf packet fields → (way : Direction) × (tuple : TupleFacts) × IsFrame frame own (Ip way tuple) × IsTupleOf packet tuple
+  of_fields : (own : Option Mac) (fields : Fields)
+      → HasFields V4 (protocol (bytes_of frame)) (payload_of (bytes_of frame)) fields → ArePortsOf packet fields
+      → (way : Direction) × (tuple : TupleFacts) × IsFrame frame own (Ip way tuple) × IsTupleOf packet tuple
   of_fields own fields has ports =
       let content = untagged frame (omega (arith, h.long)) (sym (in_frame frame 12 2) ∙ h.kind) in (
         direction_of frame own,
@@ -183,17 +193,20 @@ module _ (frame : List ℕ) (packet : PlainPacket) (h : IsRead frame packet) whe
         (sym proto_is ∙ tcp, enough_of_tcp, from_is, to_is, refl) (tcp, refl, refl)
     | inr (udp, long) ↦
         let enough_of_udp : 4 ≤ length (payload_of (bytes_of frame)) = omega (arith, payload_size, long) in
-        of_fields own (Ports packet.from packet.to) (sym proto_is ∙ udp, enough_of_udp, from_is, to_is) (udp, refl, refl)
+        of_fields own (Ports packet.from packet.to)
+        (sym proto_is ∙ udp, enough_of_udp, from_is, to_is) (udp, refl, refl)
   ]
 
-same_tuple : (way other : Direction) (tuple found : TupleFacts) → ◌≡◌ {A = FrameFacts} (Ip way tuple) (Ip other found) → found ≡ tuple
+same_tuple : (way other : Direction) (tuple found : TupleFacts)
+    → ◌≡◌ {A = FrameFacts} (Ip way tuple) (Ip other found) → found ≡ tuple
 same_tuple way other tuple found e = cc
 
 -- whatever a plain frame turns out to be, it is what the plain packet says
-pub plain_tuple : (frame : List ℕ) (packet : PlainPacket) → IsPlain frame packet → (own : Option Mac) (way : Direction) (tuple : TupleFacts)
-    → IsFrame frame own (Ip way tuple) → IsTupleOf packet tuple
+pub plain_tuple : (frame : List ℕ) (packet : PlainPacket) → IsPlain frame packet
+    → (own : Option Mac) (way : Direction) (tuple : TupleFacts) → IsFrame frame own (Ip way tuple) → IsTupleOf packet tuple
 plain_tuple frame packet plain own way tuple h =
     let found = plain own in
     let same : found.1 ≡ tuple =
-    same_tuple way found.0 tuple found.1 (view_only frame own (Ip way tuple) h ∙ sym (view_only frame own (Ip found.0 found.1) found.2)) in
+    same_tuple way found.0 tuple found.1
+    (view_only frame own (Ip way tuple) h ∙ sym (view_only frame own (Ip found.0 found.1) found.2)) in
     subst (λ (t : TupleFacts). IsTupleOf packet t) same found.3

@@ -27,4 +27,5 @@ pub record IsTupleOf (packet : PlainPacket) (tuple : TupleFacts) : Type 0 where
 -- at every interface the frame is a packet of such a five-tuple
 abbrev pub IsPlain : List ℕ → PlainPacket → Type 0
 IsPlain frame packet =
-    (own : Option Mac) → (way : Direction) × (tuple : TupleFacts) × IsFrame frame own (Ip way tuple) × IsTupleOf packet tuple
+    (own : Option Mac)
+    → (way : Direction) × (tuple : TupleFacts) × IsFrame frame own (Ip way tuple) × IsTupleOf packet tuple

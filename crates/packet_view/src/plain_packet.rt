@@ -1,4 +1,4 @@
-//! Plain frames: untagged, of IPv4 without options, of TCP or UDP. Nearly all frames are, and a straight path reads them.
+//! Plain frames: untagged, of IPv4 without options, of TCP or UDP. Nearly all are, and a straight path reads them.
 ghost use Rattle.std.specs.Prelude.{IfSome};
 ghost use Rattle.packet_view.specs.PlainFrames.{IsPlain};
 

@@ -10,7 +10,8 @@ returns c =
     let frame = c.args.frame.now in
     let there : c.match-frame.least ≤ end_of frame =
     subst (λ (n : ℕ). c.match-frame.least ≤ n)
-    (c.extent-end.ensures.exact ∙ ap (λ (n : ℕ). extent n (length frame - 14)) c.read_u16-2.ensures) c.if-end-least.false in
+    (c.extent-end.ensures.exact ∙ ap (λ (n : ℕ). extent n (length frame - 14)) c.read_u16-2.ensures)
+    c.if-end-least.false in
     is_plain frame _ (record {
       long = c.if-frame-lt38.false;
       kind = sym c.read_u16.ensures ∙ c.if-read_u16-ne2048.false;
