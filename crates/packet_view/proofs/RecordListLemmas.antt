@@ -1,10 +1,10 @@
 -- Records that are known to be whole, one after the other.
-use Rattle.std.proofs.Common.{◌≡◌, ◌≢◌, ◌≤◌, ◌+◌, ◌-◌, ◌∙◌, ℕ, zero, suc, List, [], ◌∷◌, drop, length, ap, ap₂, refl, sym, arith}
-use Rattle.std.proofs.lemmas.List.{length-drop}
+use Rattle.std.proofs.Common.{◌≡◌, ◌≢◌, ◌≤◌, ◌+◌, ◌++◌, ◌-◌, ◌∙◌, ℕ, zero, suc, List, [], ◌∷◌, drop, length, ap, ap₂, refl, sym, arith}
+use Rattle.std.proofs.lemmas.List.{length-append, length-drop}
 use Rattle.packet_view.specs.declared.capture.Order.{Order}
-use Rattle.packet_view.specs.Captures.{AreRecords, PacketFacts}
+use Rattle.packet_view.specs.Captures.{AreRecords, IsPiece, PacketFacts, Record}
 use Rattle.packet_view.specs.RecordLists.{bytes_of, front_packet, packets_in, record_length}
-use Rattle.packet_view.proofs.RecordLemmas.{part_front}
+use Rattle.packet_view.proofs.RecordLemmas.{AreRecords-push, part_front}
 
 pub packets_count : (order : Order) (n : ℕ) (bytes : List ℕ) → n ≡ length (packets_in order n bytes)
 packets_count order zero bytes = refl
@@ -55,3 +55,17 @@ records_within order bytes packets rest all =
     let few = records_few order (length packets) bytes in
     let size = listed.1 in
     omega arith
+
+-- so many records stand before the rest
+abbrev pub AreBefore : Order → List ℕ → List ℕ → ℕ → Type 0
+AreBefore order bytes rest count =
+    (packets : List PacketFacts) × AreRecords order bytes packets rest × (length packets ≡ count)
+
+pub before_more : (order : Order) (packet : PacketFacts) (others bytes rest : List ℕ) (count : ℕ)
+    → AreBefore order bytes rest count → IsPiece order rest (Record packet others) → AreBefore order bytes others (count + 1)
+before_more order packet others bytes rest count (packets, all, length-is) one =
+    let pushed = length-append packets (packet ∷ []) in
+    (packets ++ packet ∷ [], AreRecords-push order packet others bytes packets rest all one, omega arith)
+
+pub before_few : (order : Order) (bytes rest : List ℕ) (count : ℕ) → AreBefore order bytes rest count → count ≤ length bytes
+before_few order bytes rest count (packets, all, length-is) = let few = records_within order bytes packets rest all in omega arith

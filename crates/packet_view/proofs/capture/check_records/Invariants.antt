@@ -1,10 +1,11 @@
-use Rattle.std.proofs.Common.{◌≡◌, List, length}
-use Rattle.packet_view.specs.Captures.{AreRecords, PacketFacts}
+use Rattle.std.proofs.Common.{◌≤◌, length}
+use Rattle.packet_view.specs.Captures.{kept_limit}
+use Rattle.packet_view.proofs.RecordListLemmas.{AreBefore}
 use Rattle.packet_view.proofs.capture.check_records.Given as goal
 
--- so many records stand before what is left
+-- so many records stand before what is left, and a record may keep the likely length
 abbrev pub invariant-records : goal.invariant-records
-invariant-records l = (packets : List PacketFacts) × AreRecords l.order l.bytes packets l.rest × (length packets ≡ l.count)
+invariant-records l = AreBefore l.order l.bytes l.rest l.count × (l.likely ≤ kept_limit)
 
 abbrev pub decreases-records : goal.decreases-records
 decreases-records l = length l.rest
