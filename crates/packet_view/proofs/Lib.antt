@@ -1,3 +1,4 @@
+pub mod AheadLemmas
 pub mod CaptureLemmas
 pub mod CutLemmas
 pub mod EthernetLemmas

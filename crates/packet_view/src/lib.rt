@@ -1,6 +1,7 @@
 //! Captures of the classic pcap format, and Ethernet frames as IP packets with their five-tuples.
 #![tactic(auto)]
 
+mod ahead;
 mod capture;
 mod ethernet;
 mod frame;
@@ -16,6 +17,7 @@ mod tests;
 mod transport;
 mod tuple;
 
+pub use ahead::PacketsAhead;
 pub use capture::{
     Capture, CaptureFault, CheckedCapture, Order, Packet, Piece, capture_header, check_capture,
     next_record, read_capture,

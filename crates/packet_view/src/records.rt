@@ -1,18 +1,27 @@
 //! The records of a capture, taken one by one where they stand.
 ghost use Rattle.std.specs.Prelude.{◌≡◌, ◌≤◌, length, drop};
-ghost use Rattle.packet_view.specs.Captures.{packet_facts};
+ghost use Rattle.packet_view.specs.Captures.{kept_length, packet_facts};
 ghost use Rattle.packet_view.specs.RecordLists.{bytes_of, front_packet, record_length};
 
 use crate::capture::{Order, Packet, u32_in};
 
-// The packet of the record at the front, which is whole, and the bytes after it.
-#[inline]
-fn front_of<'a>(bytes: &'a [u8], order: Order) -> (Packet<'a>, &'a [u8])
+// How many bytes of its frame the record at the front keeps.
+#[inline(always)]
+fn kept_in(bytes: &[u8], order: Order) -> usize
     requires { record_length order bytes.now ≤ length bytes.now }
+    ensures { result ≡ kept_length order bytes.now }
+{
+    u32_in(order, &bytes[8..]) as usize
+}
+
+// The packet of the record at the front, which is whole and keeps so many bytes, and the bytes after it.
+#[inline(always)]
+fn front_of<'a>(bytes: &'a [u8], order: Order, kept: usize) -> (Packet<'a>, &'a [u8])
+    requires whole { record_length order bytes.now ≤ length bytes.now }
+    requires kept { kept ≡ kept_length order bytes.now }
     ensures packet { packet_facts result.0 ≡ front_packet order bytes.now }
     ensures behind { result.1.now ≡ drop (record_length order bytes.now) bytes.now }
 {
-    let kept = u32_in(order, &bytes[8..]) as usize;
     let packet = Packet {
         moment: u32_in(order, bytes),
         frame: &bytes[16..16 + kept],
@@ -31,8 +40,8 @@ pub struct Records<'a> {
 }
 
 impl<'a> Records<'a> {
-    ghost use Rattle.std.specs.Prelude.{◌≡◌, length};
-    ghost use Rattle.packet_view.specs.Captures.{Takes};
+    ghost use Rattle.std.specs.Prelude.{◌≡◌, ◌≢◌, ◌∷◌, IfSome, IfNone, length};
+    ghost use Rattle.packet_view.specs.Captures.{Takes, kept_length, packet_facts};
     ghost use Rattle.packet_view.specs.CheckedCaptures.{packets_of};
 
     /// How many packets are left.
@@ -48,20 +57,44 @@ impl<'a> Records<'a> {
     pub fn next(&mut self) -> Option<Packet<'a>>
         ensures { Takes (packets_of self.old) result (packets_of self.new) }
     {
+        if self.count == 0 {
+            return None;
+        }
+        let kept = kept_in(self.bytes, self.order);
+        Some(self.take(kept))
+    }
+
+    /// Takes the packet of the first record that is left, where that keeps so many bytes of its frame. A caller that
+    /// guesses the number has the bytes after the record before the record's own number was read.
+    #[inline(always)]
+    pub fn next_alike(&mut self, likely: usize) -> Option<Packet<'a>>
+        ensures taken { IfSome result (λ packet. packets_of self.old ≡ packet_facts packet ∷ packets_of self.new) }
+        ensures none { IfNone result (self.new ≡ self.old) }
+    {
+        if self.count == 0 || kept_in(self.bytes, self.order) != likely {
+            return None;
+        }
+        Some(self.take(likely))
+    }
+
+    // Takes the packet of the first record, which keeps so many bytes.
+    #[inline(always)]
+    fn take(&mut self, kept: usize) -> Packet<'a>
+        requires some { self.old.count ≢ 0 }
+        requires kept { kept ≡ kept_length self.old.order self.old.bytes.now }
+        ensures { packets_of self.old ≡ packet_facts result ∷ packets_of self.new }
+    {
         let Records {
             bytes,
             order,
             count,
         } = *self;
-        if count == 0 {
-            return None;
-        }
-        let (packet, behind) = front_of(bytes, order);
+        let (packet, behind) = front_of(bytes, order, kept);
         *self = Records {
             bytes: behind,
             order,
             count: count - 1,
         };
-        Some(packet)
+        packet
     }
 }

@@ -1,7 +1,8 @@
 //! Frames and captures byte by byte, with the views that the standards give them.
 use crate::{
-    Capture, CaptureFault, Direction, Family, Fields, Frame, Mac, Order, Packet, Packets, Piece,
-    PlainPacket, Tuple, capture_header, check_capture, next_record, plain, read_capture, view,
+    Capture, CaptureFault, Direction, Family, Fields, Frame, Mac, Order, Packet, Packets,
+    PacketsAhead, Piece, PlainPacket, Tuple, capture_header, check_capture, next_record, plain,
+    read_capture, view,
 };
 use std::test::Fail;
 
@@ -481,6 +482,52 @@ fn takes_listed_packets(rt: HostRuntime) {
     ];
     assert_eq!(rt; front_of_list(&listed), (2, Some(100), 1));
     assert_eq!(rt; front_of_list(&listed[2..]), (0, None, 0));
+}
+
+// How many bytes the frame of this number has: every tenth is longer than the others.
+fn frame_length(number: u8) -> u8 {
+    if number % 10 == 9 { 9 } else { 4 }
+}
+
+// Whether these are the packets of the frames 0 to 149, each at the second of its number, with bytes of its number.
+fn are_numbered(mut packets: PacketsAhead<'_>) -> bool {
+    for number in 0..150u8 {
+        let Some(packet) = packets.next() else {
+            return false;
+        };
+        let kept = usize::from(frame_length(number));
+        if packet.moment != u32::from(number) || packet.frame.len() != kept {
+            return false;
+        }
+        if !packet.frame.iter().all(|byte| *byte == number) {
+            return false;
+        }
+    }
+    packets.next().is_none() && packets.next().is_none()
+}
+
+fn are_listed_by_number<'a>(packets: &'a [Packet<'a>]) -> bool {
+    are_numbered(PacketsAhead::new(Packets::Listed(packets)))
+}
+
+#[test]
+fn takes_packets_that_are_found_ahead(rt: HostRuntime) -> Result<(), Fail> {
+    let mut bytes = Vec::new(rt.alloc());
+    bytes.extend_from_slice(&LITTLE[..24])?;
+    for number in 0..150u8 {
+        let kept = frame_length(number);
+        bytes.extend_from_slice(&[number, 0, 0, 0, 0, 0, 0, 0, kept, 0, 0, 0, kept, 0, 0, 0])?;
+        for _ in 0..kept {
+            bytes.push(number)?;
+        }
+    }
+    let checked = check_capture(&bytes)?;
+    assert_eq!(rt; checked.records.count(), 150);
+    assert!(rt; !checked.truncated);
+    assert!(rt; are_numbered(PacketsAhead::new(Packets::Standing(checked.records))));
+    let capture = read_capture(rt.alloc(), &bytes)?;
+    assert!(rt; are_listed_by_number(&capture.packets));
+    Ok(())
 }
 
 #[test]
