@@ -1,7 +1,6 @@
 -- Packets that are put into places one after another, and taken from there.
 use Rattle.std.proofs.Common.{◌≡◌, ◌∙◌, ◌<◌, ◌≤◌, ◌+◌, ◌-◌, ◌++◌, ℕ, List, [], ◌∷◌, append_assoc, ap, ap₂, arith, drop, length, map, slice_index_or, slice_set, sym, take}
-use Rattle.std.proofs.lemmas.List.{drop_more, get_or-take, length-take-le, map-append, nil_from_length, take-append-drop, take_at, take_more_set, take_rest}
-use Rattle.std.proofs.lemmas.Grind.{common_steps}
+use Rattle.std.proofs.lemmas.List.{drop_more, get_or-take, length-take-le, map-append, take-append-drop, take_at, take_more_set, take_rest}
 use Rattle.packet_view.specs.declared.capture.Packet.{Packet}
 use Rattle.packet_view.specs.Captures.{PacketFacts, packet_facts}
 
@@ -40,10 +39,3 @@ found_at found at end unused left more fits =
     let size = length-take-le end found fits in
     ap (λ (ps : List Packet). map packet_facts ps ++ left) (drop_more (take end found) at unused (omega arith))
     ∙ ap (λ (p : Packet). packet_facts p ∷ (map packet_facts (drop (at + 1) (take end found)) ++ left)) (get_or-take end found at unused more)
-
--- where all that were found are taken, none of them is left
-pub found_taken : (found : List Packet) (at end : ℕ) (left : List PacketFacts) → at ≡ end
-    → map packet_facts (drop at (take end found)) ++ left ≡ left
-found_taken found at end left all =
-    let none : length (drop at (take end found)) ≡ 0 = grind (arith, common_steps) in
-    ap (λ (ps : List Packet). map packet_facts ps ++ left) (nil_from_length (drop at (take end found)) none)

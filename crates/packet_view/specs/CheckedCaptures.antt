@@ -1,5 +1,5 @@
 -- Packets that are taken one by one: from the records of a capture that was checked, or from a list.
-use Rattle.std.specs.Prelude.{List, map}
+use Rattle.std.specs.Prelude.{ℕ, List, map}
 use Rattle.packet_view.specs.Captures.{PacketFacts, packet_facts}
 use Rattle.packet_view.specs.RecordLists.{packets_in}
 use Rattle.packet_view.specs.declared.packets.Packets.{Packets}
@@ -14,3 +14,8 @@ packets_of records = packets_in records.order records.count records.bytes.now
 abbrev pub held : Packets → List PacketFacts
 held (Listed packets) = map packet_facts packets.now
 held (Standing records) = packets_of records
+
+-- packets of which some may be found already: those that are left, and how many of them are found
+pub record AheadFacts : Type 0 where
+  pub left : List PacketFacts
+  pub ready : ℕ

@@ -1,10 +1,10 @@
 //! Packets that are taken one by one.
-ghost use Rattle.std.specs.Prelude.{◌≡◌, length};
-ghost use Rattle.packet_view.specs.Captures.{Takes};
+ghost use Rattle.std.specs.Prelude.{◌≡◌, ◌≤◌, ◌++◌, [], length, map, take};
+ghost use Rattle.packet_view.specs.Captures.{Takes, packet_facts};
 ghost use Rattle.packet_view.specs.CheckedCaptures.{held};
 
 use crate::capture::Packet;
-use crate::records::Records;
+use crate::records::{AHEAD, Records};
 
 /// Packets that are taken one by one, in their order. A copy has a front of its own.
 #[derive(Clone, Copy, Debug)]
@@ -43,6 +43,28 @@ impl<'a> Packets<'a> {
                 let packet = records.next();
                 *self = Packets::Standing(records);
                 packet
+            }
+        }
+    }
+
+    // Takes the first packets that are left, and puts them into these places from the first on. It answers how many
+    // they are: as many as there are places, or all that are left.
+    pub(crate) fn take_into(&mut self, places: &mut [Packet<'a>; AHEAD]) -> usize
+        ensures fits { (result ≤ 64) × (length places.new ≡ 64) }
+        ensures taken { map packet_facts (take result places.new) ++ held self.new ≡ held self.old }
+        ensures none { result ≡ 0 → held self.old ≡ [] }
+    {
+        match *self {
+            Packets::Listed(packets) => {
+                let count = packets.len().min(AHEAD);
+                places[..count].copy_from_slice(&packets[..count]);
+                *self = Packets::Listed(&packets[count..]);
+                count
+            }
+            Packets::Standing(mut records) => {
+                let count = records.take_into(places);
+                *self = Packets::Standing(records);
+                count
             }
         }
     }

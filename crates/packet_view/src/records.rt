@@ -29,6 +29,9 @@ fn front_of<'a>(bytes: &'a [u8], order: Order, kept: usize) -> (Packet<'a>, &'a 
     (packet, &bytes[16 + kept..])
 }
 
+/// How many packets are taken at once.
+pub(crate) const AHEAD: usize = 64;
+
 /// Records that are known to be whole, and the bytes after them.
 #[derive(Clone, Copy, Debug)]
 pub struct Records<'a> {
@@ -40,7 +43,7 @@ pub struct Records<'a> {
 }
 
 impl<'a> Records<'a> {
-    ghost use Rattle.std.specs.Prelude.{◌≡◌, ◌≢◌, ◌∷◌, IfSome, IfNone, length};
+    ghost use Rattle.std.specs.Prelude.{◌≡◌, ◌≢◌, ◌≤◌, ◌++◌, ◌∷◌, [], IfSome, IfNone, length, map, take};
     ghost use Rattle.packet_view.specs.Captures.{Takes, kept_length, packet_facts};
     ghost use Rattle.packet_view.specs.CheckedCaptures.{packets_of};
 
@@ -77,6 +80,34 @@ impl<'a> Records<'a> {
         Some(self.take(likely))
     }
 
+    /// Takes the packets of the first records that are left, and puts them into these places from the first on. It
+    /// answers how many they are: as many as there are places, or all that are left.
+    pub(crate) fn take_into(&mut self, places: &mut [Packet<'a>; AHEAD]) -> usize
+        ensures fits { (result ≤ 64) × (length places.new ≡ 64) }
+        ensures taken { map packet_facts (take result places.new) ++ packets_of self.new ≡ packets_of self.old }
+        ensures none { result ≡ 0 → packets_of self.old ≡ [] }
+    {
+        let mut left = *self;
+        let mut count = 0;
+        // Most records keep as many bytes as the one before. Nothing but speed depends on this guess.
+        let mut likely = places[AHEAD - 1].frame.len();
+        'taken: while count < AHEAD {
+            if let Some(packet) = left.next_alike(likely) {
+                places[count] = packet;
+                count += 1;
+                continue;
+            }
+            let Some(packet) = left.next() else {
+                break;
+            };
+            likely = packet.frame.len();
+            places[count] = packet;
+            count += 1;
+        }
+        *self = left;
+        count
+    }
+
     // Takes the packet of the first record, which keeps so many bytes.
     #[inline(always)]
     fn take(&mut self, kept: usize) -> Packet<'a>
@@ -84,17 +115,9 @@ impl<'a> Records<'a> {
         requires kept { kept ≡ kept_length self.old.order self.old.bytes.now }
         ensures { packets_of self.old ≡ packet_facts result ∷ packets_of self.new }
     {
-        let Records {
-            bytes,
-            order,
-            count,
-        } = *self;
-        let (packet, behind) = front_of(bytes, order, kept);
-        *self = Records {
-            bytes: behind,
-            order,
-            count: count - 1,
-        };
+        let (packet, behind) = front_of(self.bytes, self.order, kept);
+        self.bytes = behind;
+        self.count -= 1;
         packet
     }
 }
