@@ -1,5 +1,6 @@
 -- Records that are known to be whole, one after the other.
-use Rattle.std.proofs.Common.{◌≡◌, ◌≢◌, ◌≤◌, ◌+◌, ◌++◌, ◌-◌, ◌∙◌, ℕ, zero, suc, List, [], ◌∷◌, drop, length, ap, ap₂, refl, sym, arith}
+use Rattle.std.proofs.Common.{◌≡◌, ◌≢◌, ◌≤◌, ◌+◌, ◌++◌, ◌-◌, ◌∙◌, ℕ, zero, suc, List, [], ◌∷◌, drop, length}
+use Rattle.std.proofs.Common.{ap, ap₂, refl, sym, arith}
 use Rattle.std.proofs.lemmas.List.{length-append, length-drop}
 use Rattle.packet_view.specs.declared.capture.Order.{Order}
 use Rattle.packet_view.specs.Captures.{AreRecords, IsPiece, PacketFacts, Record}
@@ -62,10 +63,13 @@ AreBefore order bytes rest count =
     (packets : List PacketFacts) × AreRecords order bytes packets rest × (length packets ≡ count)
 
 pub before_more : (order : Order) (packet : PacketFacts) (others bytes rest : List ℕ) (count : ℕ)
-    → AreBefore order bytes rest count → IsPiece order rest (Record packet others) → AreBefore order bytes others (count + 1)
+    → AreBefore order bytes rest count → IsPiece order rest (Record packet others)
+    → AreBefore order bytes others (count + 1)
 before_more order packet others bytes rest count (packets, all, length-is) one =
     let pushed = length-append packets (packet ∷ []) in
     (packets ++ packet ∷ [], AreRecords-push order packet others bytes packets rest all one, omega arith)
 
-pub before_few : (order : Order) (bytes rest : List ℕ) (count : ℕ) → AreBefore order bytes rest count → count ≤ length bytes
-before_few order bytes rest count (packets, all, length-is) = let few = records_within order bytes packets rest all in omega arith
+pub before_few : (order : Order) (bytes rest : List ℕ) (count : ℕ) → AreBefore order bytes rest count
+    → count ≤ length bytes
+before_few order bytes rest count (packets, all, length-is) =
+    let few = records_within order bytes packets rest all in omega arith

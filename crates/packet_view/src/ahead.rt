@@ -9,8 +9,7 @@ use crate::records::AHEAD;
 use std::marker::Model;
 
 /// Packets that are taken one by one, in their order. The next ones are found before they are asked for, in a loop of
-/// its own: there the processor needn't have read a record to be at the next one, and a caller's work doesn't come
-/// between them.
+/// their own: in it, where records keep as many bytes as the one before, the next is reached before this one was read.
 #[derive(Drop)]
 pub struct PacketsAhead<'a> {
     rest: Packets<'a>,
@@ -24,7 +23,10 @@ pub struct PacketsAhead<'a> {
 impl<'a> Model for PacketsAhead<'a> {
     ghost Value = { AheadFacts };
 
-    ghost view = { λ a. record { left = map packet_facts (drop a.at (take a.end a.found)) ++ held a.rest; ready = a.end - a.at } };
+    ghost view = { λ a. record {
+      left = map packet_facts (drop a.at (take a.end a.found)) ++ held a.rest;
+      ready = a.end - a.at;
+    } };
 
     ghost invariant = { λ a. (a.at ≤ a.end) × (a.end ≤ 64) × (length a.found ≡ 64) };
 }

@@ -47,8 +47,8 @@ impl<'a> Packets<'a> {
         }
     }
 
-    // Takes the first packets that are left, and puts them into these places from the first on. It answers how many
-    // they are: as many as there are places, or all that are left.
+    /// Takes the first packets that are left, and puts them into these places from the first on. It answers how many
+    /// they are: none only where none is left.
     pub(crate) fn take_into(&mut self, places: &mut [Packet<'a>; AHEAD]) -> usize
         ensures fits { (result ≤ 64) × (length places.new ≡ 64) }
         ensures taken { map packet_facts (take result places.new) ++ held self.new ≡ held self.old }

@@ -67,10 +67,10 @@ impl<'a> Records<'a> {
         Some(self.take(kept))
     }
 
-    /// Takes the packet of the first record that is left, where that keeps so many bytes of its frame. A caller that
-    /// guesses the number has the bytes after the record before the record's own number was read.
+    // Takes the packet of the first record that is left, where that keeps so many bytes of its frame. They are found
+    // from that number and not from the one that was read: so a walk goes on before the read is done.
     #[inline(always)]
-    pub fn next_alike(&mut self, likely: usize) -> Option<Packet<'a>>
+    fn next_alike(&mut self, likely: usize) -> Option<Packet<'a>>
         ensures taken { IfSome result (λ packet. packets_of self.old ≡ packet_facts packet ∷ packets_of self.new) }
         ensures none { IfNone result (self.new ≡ self.old) }
     {
@@ -81,7 +81,7 @@ impl<'a> Records<'a> {
     }
 
     /// Takes the packets of the first records that are left, and puts them into these places from the first on. It
-    /// answers how many they are: as many as there are places, or all that are left.
+    /// answers how many they are: none only where none is left.
     pub(crate) fn take_into(&mut self, places: &mut [Packet<'a>; AHEAD]) -> usize
         ensures fits { (result ≤ 64) × (length places.new ≡ 64) }
         ensures taken { map packet_facts (take result places.new) ++ packets_of self.new ≡ packets_of self.old }

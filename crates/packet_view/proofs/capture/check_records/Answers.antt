@@ -15,11 +15,13 @@ overflow_add-count c =
     omega arith
 
 pub records-preserved-in-Some : goal.records-preserved-in-Some
-records-preserved-in-Some c = (
-  before_more c.args.order (front_packet c.args.order c.records.rest.now) c.in-Some.behind.now c.args.bytes.now c.records.rest.now c.records.count
-      c.records.invariant.0 (subst (IsPiece c.args.order c.records.rest.now) c.in-Some.ensures (part_shown c.args.order c.records.rest.now)),
-  c.records.invariant.1,
-)
+records-preserved-in-Some c =
+    let rest = c.records.rest.now in
+    let front = subst (IsPiece c.args.order rest) c.in-Some.ensures (part_shown c.args.order rest) in (
+      before_more c.args.order (front_packet c.args.order rest) c.in-Some.behind.now c.args.bytes.now rest
+          c.records.count c.records.invariant.0 front,
+      c.records.invariant.1,
+    )
 
 pub overflow_add-count-in-Whole : goal.overflow_add-count-in-Whole
 overflow_add-count-in-Whole c =
@@ -27,11 +29,12 @@ overflow_add-count-in-Whole c =
     omega arith
 
 pub records-preserved : goal.records-preserved
-records-preserved c = (
-  before_more c.args.order (record { moment = c.in-Whole.moment; frame = c.in-Whole.frame.now }) c.in-Whole.behind.now c.args.bytes.now c.records.rest.now
-      c.records.count c.records.invariant.0 c.in-Whole.ensures.shown,
-  c.in-Whole.ensures.shown.2.limit,
-)
+records-preserved c =
+    let packet : PacketFacts = record { moment = c.in-Whole.moment; frame = c.in-Whole.frame.now } in (
+      before_more c.args.order packet c.in-Whole.behind.now c.args.bytes.now c.records.rest.now c.records.count
+          c.records.invariant.0 c.in-Whole.ensures.shown,
+      c.in-Whole.ensures.shown.2.limit,
+    )
 
 pub overflow_add-result : goal.overflow_add-result
 overflow_add-result c =

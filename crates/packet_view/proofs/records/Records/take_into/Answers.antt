@@ -39,7 +39,8 @@ returns-in_default-next-clause-fits c = (c.taken.invariant.1, c.taken.invariant.
 pub returns-in_default-next-clause-taken : goal.returns-in_default-next-clause-taken
 returns-in_default-next-clause-taken c =
     let none = ap packets_of (sym c.in_default.ensures.none) ∙ c.in_default-next.ensures.0 in
-    ap (λ ps. map packet_facts (take c.taken.count c.taken.places) ++ ps) (c.in_default-next.ensures.1 ∙ sym none) ∙ c.taken.invariant.0
+    ap (λ ps. map packet_facts (take c.taken.count c.taken.places) ++ ps) (c.in_default-next.ensures.1 ∙ sym none)
+    ∙ c.taken.invariant.0
 
 pub returns-in_default-next-clause-none : goal.returns-in_default-next-clause-none
 returns-in_default-next-clause-none c = λ zero.
