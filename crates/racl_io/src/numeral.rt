@@ -47,7 +47,7 @@ impl Numeral {
 
     #[inline(always)]
     pub fn push(&self, piece: &mut Piece)
-        requires { length piece.old + 24 ≤ 65536 }
+        requires { length piece.old + 24 ≤ 262144 }
         ensures text { piece.new ≡ piece.old ++ decimal self.now }
         ensures short { length piece.new ≤ length piece.old + 24 }
     {
@@ -97,7 +97,7 @@ impl Counter {
     #[inline(always)]
     pub fn push(&self, piece: &mut Piece)
         requires fits { self.now < 2 ^ 64 }
-        requires room { length piece.old + 25 ≤ 65536 }
+        requires room { length piece.old + 25 ≤ 262144 }
         ensures text { piece.new ≡ piece.old ++ decimal self.now }
         ensures short { length piece.new ≤ length piece.old + 25 }
     {

@@ -5,9 +5,9 @@ use std::alloc::{AllocError, Global};
 use std::marker::Model;
 
 /// The most bytes of a piece.
-const ROOM: usize = 65_536;
+const ROOM: usize = 262_144;
 
-/// Bytes in room for 64 KiB, all of which is filled from the start: so a push stores bytes and counts them.
+/// Bytes in room for 256 KiB, all of which is filled from the start: so a push stores bytes and counts them.
 #[derive(Drop)]
 pub struct Piece {
     room: Vec<u8>,
@@ -19,7 +19,7 @@ impl Model for Piece {
 
     ghost view = { λ p. take p.len p.room.items };
 
-    ghost invariant = { λ p. (length p.room.items ≡ 65536) × (p.len ≤ 65536) };
+    ghost invariant = { λ p. (length p.room.items ≡ 262144) × (p.len ≤ 262144) };
 }
 
 impl Piece {
@@ -32,7 +32,7 @@ impl Piece {
 
     #[inline(always)]
     pub fn push(&mut self, bytes: &[u8])
-        requires { length self.old + length bytes.now ≤ 65536 }
+        requires { length self.old + length bytes.now ≤ 262144 }
         ensures { self.new ≡ self.old ++ bytes.now }
     {
         self.push_first(bytes, bytes.len());
@@ -41,7 +41,7 @@ impl Piece {
     /// Pushes the first bytes of these. All of them are copied, so that a length that is fixed makes it cheap.
     #[inline(always)]
     pub fn push_first(&mut self, bytes: &[u8], count: usize)
-        requires room { length self.old + length bytes.now ≤ 65536 }
+        requires room { length self.old + length bytes.now ≤ 262144 }
         requires within { count ≤ length bytes.now }
         ensures { self.new ≡ self.old ++ take count bytes.now }
     {

@@ -14,7 +14,7 @@ use flow_filter::Verdict;
 use std::alloc::Global;
 
 /// How many packets have their lines in one piece. A line has at most 72 bytes.
-const LINES: usize = 900;
+const LINES: usize = 3600;
 
 /// How many packets were judged, and what became of them.
 #[derive(Clone, Copy, Debug, PartialEq, Eq)]
@@ -29,7 +29,7 @@ pub struct Totals {
 /// A rule has few digits, which are pushed one by one.
 #[tactic(auto, using(std::proofs::lemmas::Fmt::decimal_digit, std::proofs::lemmas::Fmt::decimal_step, crate::proofs::NumeralLemmas::length_digit, crate::proofs::NumeralLemmas::length_step))]
 fn push_number(piece: &mut Piece, n: u64)
-    requires { length piece.old + length (decimal n) ≤ 65536 }
+    requires { length piece.old + length (decimal n) ≤ 262144 }
     ensures { piece.new ≡ piece.old ++ decimal n }
 {
     if n < 10 {
@@ -42,7 +42,7 @@ fn push_number(piece: &mut Piece, n: u64)
 
 #[inline(always)]
 fn push_rule(piece: &mut Piece, effect: &[u8], n: u16, rest: &[u8])
-    requires { length piece.old + length effect.now + length rest.now + 20 ≤ 65536 }
+    requires { length piece.old + length effect.now + length rest.now + 20 ≤ 262144 }
     ensures text { piece.new ≡ piece.old ++ (effect.now ++ (decimal n ++ rest.now)) }
     ensures short { length piece.new ≤ length piece.old + length effect.now + length rest.now + 20 }
 {
@@ -54,7 +54,7 @@ fn push_rule(piece: &mut Piece, effect: &[u8], n: u16, rest: &[u8])
 /// What follows a line's number. A constant piece costs no call, and the fewer they are the better.
 #[inline(always)]
 fn push_verdict(piece: &mut Piece, verdict: Verdict)
-    requires { length piece.old + 40 ≤ 65536 }
+    requires { length piece.old + 40 ≤ 262144 }
     ensures text { piece.new ≡ piece.old ++ (codes " " ++ (text_of verdict ++ codes "\n")) }
     ensures short { length piece.new ≤ length piece.old + 40 }
 {
@@ -75,7 +75,7 @@ fn push_verdict(piece: &mut Piece, verdict: Verdict)
 
 fn push_line(piece: &mut Piece, number: &Counter, verdict: Verdict)
     requires fits { number.now < 2 ^ 64 }
-    requires room { length piece.old + 72 ≤ 65536 }
+    requires room { length piece.old + 72 ≤ 262144 }
     ensures text { piece.new ≡ piece.old ++ line_of number.now verdict }
     ensures short { length piece.new ≤ length piece.old + 72 }
 {
@@ -86,7 +86,7 @@ fn push_line(piece: &mut Piece, number: &Counter, verdict: Verdict)
 /// The lines of the packets after the counted ones, and how many of them pass.
 fn push_lines(piece: &mut Piece, number: &mut Counter, verdicts: &[Verdict]) -> u64
     requires empty { piece.old ≡ [] }
-    requires few { length verdicts.now ≤ 900 }
+    requires few { length verdicts.now ≤ 3600 }
     requires fits { number.old + length verdicts.now < 2 ^ 64 }
     ensures text { piece.new ≡ lines_from (number.old + 1) verdicts.now }
     ensures number { number.new ≡ number.old + length verdicts.now }
