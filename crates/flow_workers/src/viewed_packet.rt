@@ -20,6 +20,7 @@ pub struct ViewedPacket<'a> {
 }
 
 /// The flow of a packet with this frame. `None`: it takes no part in sessions.
+#[inline(always)]
 pub fn flow_in(frame: &Frame) -> Option<Flow>
     ensures shown { result ≡ flow_shown (frame_facts frame.now) }
     ensures side { ForSome result (λ f. f.side < 2) }

@@ -21,7 +21,7 @@ use Rattle.packet_view.specs.PlainFrames.{ArePortsOf, IsPlain, IsTupleOf}
 use Rattle.packet_view.specs.Transport.{HasFields}
 use Rattle.packet_view.specs.Tuples.{TupleFacts}
 use Rattle.packet_view.specs.inner.FrameSteps.{after_tag, content_of, direction_of, view_of_content, view_of_packet, with_fields}
-use Rattle.packet_view.proofs.FrameLemmas.{read, view_only, view_shown}
+use Rattle.packet_view.proofs.FrameLemmas.{read, view_shown}
 use Rattle.packet_view.proofs.Ipv4Lemmas.{carries_only, payload_shown, total_cases}
 use Rattle.packet_view.proofs.PacketLemmas.{number_from-append}
 use Rattle.packet_view.proofs.TransportLemmas.{fields_only}
@@ -196,17 +196,3 @@ module _ (frame : List ℕ) (packet : PlainPacket) (h : IsRead frame packet) whe
         of_fields own (Ports packet.from packet.to)
         (sym proto_is ∙ udp, enough_of_udp, from_is, to_is) (udp, refl, refl)
   ]
-
-same_tuple : (way other : Direction) (tuple found : TupleFacts)
-    → ◌≡◌ {A = FrameFacts} (Ip way tuple) (Ip other found) → found ≡ tuple
-same_tuple way other tuple found e = cc
-
--- whatever a plain frame turns out to be, it is what the plain packet says
-pub plain_tuple : (frame : List ℕ) (packet : PlainPacket) → IsPlain frame packet
-    → (own : Option Mac) (way : Direction) (tuple : TupleFacts) → IsFrame frame own (Ip way tuple) → IsTupleOf packet tuple
-plain_tuple frame packet plain own way tuple h =
-    let found = plain own in
-    let same : found.1 ≡ tuple =
-    same_tuple way found.0 tuple found.1
-    (view_only frame own (Ip way tuple) h ∙ sym (view_only frame own (Ip found.0 found.1) found.2)) in
-    subst (λ (t : TupleFacts). IsTupleOf packet t) same found.3

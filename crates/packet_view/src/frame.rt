@@ -79,7 +79,7 @@ fn frame_of(direction: Direction, packet: Option<IpPacket<'_>>) -> Frame
 }
 
 /// The layers, one above the other.
-#[inline]
+#[inline(always)]
 fn read(frame: &[u8], own: Option<Mac>) -> Frame
     ensures { frame_facts result ≡ view_of frame.now own }
 {
@@ -98,7 +98,7 @@ fn read(frame: &[u8], own: Option<Mac>) -> Frame
 ///
 /// Up to two VLAN tags are skipped, and up to eight IPv6 extension headers. A packet ends where its total or payload
 /// length says, or with the frame. A length of 0, as captures show of offloaded packets, says nothing.
-#[inline]
+#[inline(always)]
 pub fn view(frame: &[u8], own: Option<Mac>) -> Frame
     ensures shown { IsFrame frame.now own (frame_facts result) }
     ensures only { (other : FrameFacts) → IsFrame frame.now own other → other ≡ frame_facts result }

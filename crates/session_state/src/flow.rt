@@ -157,6 +157,7 @@ fn echo(tuple: &Tuple, kind: u8) -> Option<Flow>
 ///
 /// TCP and UDP packets take part, and echo requests and replies of their own family's ICMP
 /// (RFC 792, RFC 4443).
+#[inline(always)]
 pub fn orient(tuple: &Tuple) -> Option<Flow>
     ensures value { result ≡ flow_of (tuple_facts tuple.now) }
     ensures found { IfSome result (IsFlow (tuple_facts tuple.now)) }

@@ -1,9 +1,11 @@
 -- What a worker is given, and what it gives back.
-use Rattle.std.specs.Prelude.{◌<◌}
+use Rattle.std.specs.Prelude.{◌≡◌, ◌<◌, ℕ, List}
 use Rattle.packet_view.specs.CheckedCaptures.{held}
+use Rattle.packet_view.specs.Frames.{FrameFacts, IsFrame}
 use Rattle.bihash_words.specs.declared.shape.Shape.{Ghosts}
 use Rattle.flow_filter.specs.Filters.{policy_in}
 use Rattle.flow_filter.specs.OneThread.{layout_of}
+use Rattle.flow_dealing.specs.Dealings.{flow_shown, worker_of}
 use Rattle.flow_workers.specs.declared.share.Job.{Job}
 use Rattle.flow_workers.specs.declared.share.Run.{Run}
 use Rattle.flow_workers.specs.declared.share.Share.{Share}
@@ -17,6 +19,12 @@ run_facts ga gb run = record {
   policy = policy_in run.filter;
   packets = held run.packets;
 }
+
+-- the worker that judges the packet with this number and this frame
+abbrev pub IsDealtTo : {A B R G K L : Type 0} (ga : Ghosts A K) (gb : Ghosts B L) → Run A B R G K L
+    → ℕ → List ℕ → ℕ → Type 0
+IsDealtTo ga gb run number frame worker = (seen : FrameFacts) → IsFrame frame run.filter.own seen
+    → worker ≡ worker_of (run_facts ga gb run).deal number (flow_shown seen)
 
 pub record CanWork {A B R G K L : Type 0} (ga : Ghosts A K) (gb : Ghosts B L)
     (job : Job A B R G K L ga gb) : Type 0 where
