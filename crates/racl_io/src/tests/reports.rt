@@ -80,10 +80,10 @@ impl Sink for Counted {
 #[test]
 fn pieces(rt: HostRuntime) -> Result<(), Fail> {
     let alloc = rt.alloc();
-    let verdicts = vec![in alloc; Verdict::Deny(4096); 2000]?;
-    // 9 numbers of one digit, 90 of two, 900 of three and 1001 of four, and 16 bytes after each.
-    let lines = 9 + 180 + 2700 + 4004 + 2000 * 16;
-    let end = "packets 2000 pass 0 drop 2000\n".len();
+    let verdicts = vec![in alloc; Verdict::Deny(4096); 8000]?;
+    // 9 numbers of one digit, 90 of two, 900 of three and 7001 of four, and 16 bytes after each.
+    let lines = 9 + 180 + 2700 + 28_004 + 8000 * 16;
+    let end = "packets 8000 pass 0 drop 8000\n".len();
     for writes in 0..4 {
         let mut writer = Counted {
             writes,
@@ -100,7 +100,7 @@ fn pieces(rt: HostRuntime) -> Result<(), Fail> {
         failures: 0,
     };
     let totals = write_report(alloc, &mut writer, &verdicts, false)?;
-    assert_eq!(rt; (totals.packets, totals.dropped), (2000, 2000));
+    assert_eq!(rt; (totals.packets, totals.dropped), (8000, 8000));
     assert_eq!(rt; writer.taken, lines + end);
     Ok(())
 }
