@@ -14,6 +14,7 @@ use std::sync::Wait;
 impl<S: Shape> Sessions<S> {
     /// Decides once on the value of the key, and makes the change that was decided. It tries again until
     /// no other caller holds a lock or changes the bucket meanwhile.
+    #[inline(always)]
     pub fn update<P: Patch, R: Wait>(
         &self,
         rt: &R,

@@ -162,7 +162,7 @@ impl<'a, D: HasReading> LazyPatch<'a, D> {
     }
 
     /// The verdict on the packet, by the reply to its update.
-    #[inline]
+    #[inline(always)]
     pub fn verdict(&self, reply: Reply) -> Verdict
         ensures { result ≡ verdict_of (facts_of ⟦<D as HasReading>⟧ self.now) D.ruling (found_by reply) reply }
     {

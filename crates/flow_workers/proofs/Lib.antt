@@ -1,4 +1,5 @@
 pub mod AnsweredUpdates
+pub mod DealtLemmas
 pub mod JudgedPackets
 pub mod NumberLemmas
 pub mod PartLemmas

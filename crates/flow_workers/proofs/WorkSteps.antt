@@ -1,7 +1,6 @@
 -- One packet more of a worker.
 use Rattle.std.proofs.Common.{◌≡◌, ◌≢◌, ◌∙◌, ◌+◌, ◌<◌, ℕ, zero, suc, Bool, true, false, cond, List, [], ◌∷◌, ◌++◌, length, drop, map, Option, Some, None, ap, refl, sym, subst, arith, append_assoc, append-nil, add-one, eq-eqb}
 use Rattle.std.specs.Prelude.{if◌then◌else◌, ◌==◌, option_map, slice_get}
-use Rattle.std.specs.List.{All}
 use Rattle.std.proofs.lemmas.Bool.{ne_eqb}
 use Rattle.std.proofs.lemmas.List.Elements.{All-nil, All-push}
 use Rattle.std.proofs.lemmas.List.{map-append}
@@ -22,6 +21,7 @@ use Rattle.bihash_steps.specs.declared.view.View.{View}
 use Rattle.bihash_table.specs.Answers.{entry_of, with_locks}
 use Rattle.bihash_table.specs.Promise.{IsAnswered}
 use Rattle.bihash_table.specs.Tries.{TookByTries}
+use Rattle.session_state.specs.declared.flow.Flow.{Flow}
 use Rattle.session_state.specs.declared.flow.FlowKey.{FlowKey}
 use Rattle.session_state.specs.declared.flow.FlowKey.TheVariants.{Four, Six}
 use Rattle.session_state.specs.declared.timeouts.Timeouts.{Timeouts}
@@ -32,9 +32,10 @@ use Rattle.flow_filter.specs.Judged.{IsAskedBy, verdict_on}
 use Rattle.flow_filter.specs.OneThread.{Layout, family_of, home_of, same_family}
 use Rattle.flow_dealing.specs.Views.{Views}
 use Rattle.flow_dealing.specs.Dealings.{Deal, flow_in, flow_shown, worker_of}
+use Rattle.flow_dealing.proofs.Merging.{worker_few}
 use Rattle.flow_dealing.specs.Traces.{AreViews, IsCallAt, IsItem, IsItemOf, Item, call_in, calls_in, numbers_from, numbers_of, verdict_in}
 use Rattle.flow_workers.specs.Judging.{IsEntered, IsEnteredBy, IsJudged}
-use Rattle.flow_workers.specs.inner.Work.{AreSaid, Continues, IsWork, RunFacts}
+use Rattle.flow_workers.specs.inner.Work.{AreSaid, Continues, IsWork, IsWorkUntil, RunFacts}
 
 -- ---- Records that go on
 
@@ -181,18 +182,6 @@ flow_of_reading policy moment frames.Malformed reading is = ap flow_in is
 flow_of_reading policy moment frames.Short reading is = ap flow_in is
 flow_of_reading policy moment (frames.Ip direction tuple) reading is = ap flow_in is.2
 
--- a worker has looked at so many packets, and judged its own
-pub record IsWorkUntil (run : RunFacts) (worker at : ℕ) (v w : Views) (verdicts : List Verdict)
-    (numbers : List ℕ) : Type 0 where
-  pub trace : List Item
-  pub items : All (IsItem run.deal.layout run.times) trace
-  pub of : All (IsItemOf run.deal worker run.policy run.packets) trace
-  pub dealt : (views : List frames.FrameFacts) → AreViews run.policy.own run.packets views
-      → numbers_of trace ++ numbers_from run.deal worker at (drop at views) ≡ numbers_from run.deal worker 0 views
-  pub four : Continues v.four w.four (calls_in run.times V4 trace)
-  pub six : Continues v.six w.six (calls_in run.times V6 trace)
-  pub said : AreSaid run trace verdicts numbers
-
 -- what is known of the packet at a place, and of its frame
 pub record IsAt (run : RunFacts) (at : ℕ) (packet : PacketFacts) (view : frames.FrameFacts) : Type 0 where
   pub stands : slice_get run.packets at ≡ Some packet
@@ -305,6 +294,12 @@ work_push run w at v x y verdicts numbers more packet view verdict is mine j not
       where
         verdict_of_event : Option Event → Verdict
         verdict_of_event e = verdict_on run.times (record { reading = j.judged.reading; event = e })
+
+-- ---- A worker that is alone
+
+pub alone_worker : (d : Deal) (number : ℕ) (flow : Option Flow) (w : ℕ) → d.workers ≡ 1 → w < d.workers
+    → w ≡ worker_of d number flow
+alone_worker d number flow w alone few = let other = worker_few d number flow (omega arith) in omega arith
 
 -- ---- Packets that are taken one by one
 

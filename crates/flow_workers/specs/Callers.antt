@@ -1,14 +1,15 @@
 -- What callers of both families' tables know, and what is always said of them together.
 use Rattle.std.specs.Prelude.{◌≡◌}
-use Rattle.bihash_words.specs.Sizes.{IsSound, sizes_of}
+use Rattle.bihash_words.specs.Sizes.{sizes_of}
 use Rattle.bihash_words.specs.declared.shape.Shape.{Ghosts}
 use Rattle.bihash_steps.specs.Callers.{IsLawfulCaller}
 use Rattle.bihash_steps.specs.Seats.{with_view}
 use Rattle.bihash_steps.specs.Views.{first_view, nothing_held}
-use Rattle.flow_filter.specs.OneThread.{IsFlowLayout, Layout, layout_of}
+use Rattle.flow_filter.specs.OneThread.{Layout}
 use Rattle.flow_workers.specs.declared.tables.Tables.{Tables}
 use Rattle.flow_workers.specs.declared.tables.Callers.{Callers}
 use Rattle.flow_dealing.specs.Views.{Views}
+pub use Rattle.packet_dealing.specs.Dealt.{AreShapes}
 
 abbrev pub views_of : {A B K L : Type 0} (ga : Ghosts A K) (gb : Ghosts B L) → Callers A B K L ga gb → Views
 views_of ga gb callers = record { four = callers.four.seat.view; six = callers.six.seat.view }
@@ -16,12 +17,6 @@ views_of ga gb callers = record { four = callers.four.seat.view; six = callers.s
 -- what the first callers of new tables know
 abbrev pub first_views : Layout → Views
 first_views l = record { four = first_view l.four; six = first_view l.six }
-
--- the shapes are sound, and their keys are those of flows
-pub record AreShapes {A B K L : Type 0} (ga : Ghosts A K) (gb : Ghosts B L) : Type 0 where
-  pub four : IsSound (sizes_of ga)
-  pub six : IsSound (sizes_of gb)
-  pub keys : IsFlowLayout (layout_of ga gb)
 
 -- the callers are lawful, belong to these tables, and hold no lock and no block
 pub record AreIdle {A B K L : Type 0} (ga : Ghosts A K) (gb : Ghosts B L) (tables : Tables A B K L)

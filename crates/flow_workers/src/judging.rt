@@ -10,10 +10,11 @@ ghost use Rattle.flow_workers.specs.inner.ViewedPackets.{TellsViewed, TellsViewe
 use crate::prepared::Prepared;
 use crate::tables::{Callers, Tables};
 use crate::updates::{try_update, update};
-use crate::viewed_packet::{ViewedPacket, flow_in};
+use crate::viewed_packet::ViewedPacket;
 use bihash_table::Contended;
 use bihash_words::Shape;
 use flow_filter::{Filter, HasReading, ReadyFilter, Verdict};
+use packet_dealing::flow_in;
 use packet_view::{Packet, view};
 use std::marker::Brand;
 use std::sync::Wait;
@@ -40,6 +41,7 @@ fn try_judge_as<A: Shape, B: Shape, D: HasReading>(
 }
 
 // The verdict, under what the rules will say of the packet.
+#[inline(always)]
 fn judge_as<A: Shape, B: Shape, D: HasReading, R: Wait>(
     rt: &R,
     filter: &ReadyFilter<'_>,
@@ -62,6 +64,7 @@ fn judge_as<A: Shape, B: Shape, D: HasReading, R: Wait>(
 }
 
 /// The verdict on a packet that was viewed. It tries again where another caller's change or lock was met.
+#[inline(always)]
 pub fn judge_viewed<A: Shape, B: Shape, R: Wait>(
     rt: &R,
     filter: &ReadyFilter<'_>,

@@ -10,7 +10,6 @@ mod prepared;
 mod run_fault;
 mod share;
 mod tables;
-mod task;
 mod turn;
 mod updates;
 mod viewed_packet;

@@ -24,6 +24,7 @@ impl<'a, D: HasReading> Prepared<'a, D> {
     ghost use Rattle.flow_workers.specs.inner.Preparing.{IsPrepared, IsFrameRuling, reading_with};
 
     /// The rules are asked here only where the packet takes no part in sessions.
+    #[inline(always)]
     pub fn new(filter: &'a ReadyFilter<'a>, packet: &ViewedPacket<'a>) -> Prepared<'a, D>
         requires ruling { IsFrameRuling (policy_in filter.now) (frame_facts packet.now.frame.now) D.ruling }
         requires lives { IsForeseen filter.now.times packet.now.moment D.is_live }

@@ -5,11 +5,12 @@ use bihash_table::Caller;
 use bihash_words::Shape;
 use flow_dealing::Dealing;
 use flow_filter::{ReadyFilter, Verdict};
+use packet_dealing::DealtPacket;
 use packet_view::Packets;
 use std::alloc::Global;
 use std::sync::Wait;
 
-/// What all workers of a run share. Each worker takes the packets from a copy of its own.
+/// What all workers of a run share. A worker that is alone takes the packets from a copy of its own.
 #[derive(Drop)]
 pub struct Run<'t, 'a, A: Shape, B: Shape, R: Wait, G: Gate> {
     pub rt: &'t R,
@@ -19,10 +20,19 @@ pub struct Run<'t, 'a, A: Shape, B: Shape, R: Wait, G: Gate> {
     pub packets: Packets<'a>,
     pub dealing: Dealing,
     pub workers: usize,
+    /// The packets with their workers, where there are several.
+    pub dealt: &'t Vec<Vec<DealtPacket<'a>>>,
 }
 
 impl<'t, 'a, A: Shape, B: Shape, R: Wait, G: Gate> Run<'t, 'a, A, B, R, G> {
-    ghost use Rattle.std.specs.Prelude.{◌≡◌};
+    ghost use Rattle.std.specs.Prelude.{◌≡◌, ◌==◌};
+
+    /// Whether one worker has all packets.
+    pub fn is_alone(&self) -> bool
+        ensures { result ≡ (self.now.workers == 1) }
+    {
+        self.workers == 1
+    }
 
     /// The run once more, for another worker.
     pub fn again(&self) -> Run<'t, 'a, A, B, R, G>
@@ -36,6 +46,7 @@ impl<'t, 'a, A: Shape, B: Shape, R: Wait, G: Gate> Run<'t, 'a, A, B, R, G> {
             packets: self.packets,
             dealing: self.dealing,
             workers: self.workers,
+            dealt: self.dealt,
         }
     }
 }

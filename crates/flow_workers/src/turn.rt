@@ -1,9 +1,9 @@
 //! A worker before its turn and after it.
 use crate::gate::Gate;
 use crate::share::{Job, Share};
-use crate::task::Task;
 use crate::work::work;
 use bihash_words::Shape;
+use packet_dealing::Task;
 use std::alloc::AllocError;
 use std::sync::Wait;
 

@@ -26,6 +26,7 @@ fn try_update_in<S: Shape, P: Patch>(
 }
 
 // An update of the key of these words.
+#[inline(always)]
 fn update_in<S: Shape, P: Patch, R: Wait>(
     rt: &R,
     table: &Sessions<S>,
@@ -61,6 +62,7 @@ pub fn try_update<A: Shape, B: Shape, P: Patch>(
 }
 
 /// An update of the key.
+#[inline(always)]
 pub fn update<A: Shape, B: Shape, P: Patch, R: Wait>(
     rt: &R,
     tables: &Tables<A, B>,

@@ -5,7 +5,7 @@ ghost use Rattle.packet_view.specs.Frames.{frame_facts};
 ghost use Rattle.flow_dealing.specs.Dealings.{flow_shown};
 
 use packet_view::{Frame, Packet};
-use session_state::{Flow, orient};
+use session_state::Flow;
 
 /// A packet whose frame was viewed. Its frame and flow stay where they were made.
 #[derive(Clone, Copy)]
@@ -17,18 +17,6 @@ pub struct ViewedPacket<'a> {
     pub flow: &'a Option<Flow>,
     pub ghost shown: { flow.now ≡ flow_shown (frame_facts frame.now) },
     pub ghost of_two: { ForSome flow.now (λ f. f.side < 2) },
-}
-
-/// The flow of a packet with this frame. `None`: it takes no part in sessions.
-#[inline(always)]
-pub fn flow_in(frame: &Frame) -> Option<Flow>
-    ensures shown { result ≡ flow_shown (frame_facts frame.now) }
-    ensures side { ForSome result (λ f. f.side < 2) }
-{
-    match frame {
-        Frame::Ip(_, tuple) => orient(tuple),
-        Frame::NotIp | Frame::Malformed | Frame::Short => None,
-    }
 }
 
 impl<'a> ViewedPacket<'a> {

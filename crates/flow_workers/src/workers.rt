@@ -18,11 +18,11 @@ use crate::placing::in_order;
 use crate::run_fault::RunFault;
 use crate::share::{Job, Parts, Run};
 use crate::tables::{Callers, create_tables};
-use crate::task::run_all;
 use crate::turn::Turn;
 use bihash_words::Shape;
 use flow_dealing::Dealing;
 use flow_filter::{Filter, Verdict};
+use packet_dealing::{Dealer, deal_packets, run_all};
 use packet_view::Packets;
 use std::alloc::{AllocError, Global};
 use std::sync::Wait;
@@ -129,14 +129,22 @@ where
 {
     let (tables, callers) = create_tables::<A, B>(alloc)?;
     let prepared = filter.prepare(alloc, packets.count())?;
+    let ready = filter.ready_with(&prepared);
+    let dealer = Dealer {
+        own: ready.own,
+        dealing,
+        workers,
+    };
+    let dealt = deal_packets::<A, B, R>(rt, alloc, dealer, packets)?;
     let run = Run {
         rt,
         gate,
-        filter: filter.ready_with(&prepared),
+        filter: ready,
         tables: &tables,
         packets,
         dealing,
         workers,
+        dealt: &dealt,
     };
     let Parts { four, six, said } = work_all(alloc, run, callers)?;
     join_whole(rt, &tables.four, four);

@@ -1,5 +1,5 @@
 -- What becomes of workers.
-use Rattle.std.specs.Prelude.{◌≡◌, ◌<◌, ◌≤◌, ℕ, List, [], ◌∷◌, All, map, length, slice_index_or, IfOk, Ok}
+use Rattle.std.specs.Prelude.{◌≡◌, ◌≢◌, ◌<◌, ◌≤◌, ℕ, List, [], ◌∷◌, All, map, length, slice_index_or, IfOk, Ok}
 use Rattle.packet_view.specs.declared.tuple.Family.TheVariants.{V4, V6}
 use Rattle.bihash_words.specs.declared.shape.Shape.{Ghosts}
 use Rattle.flow_dealing.specs.Traces.{HaveTraces, IsTrace, Item}
@@ -15,7 +15,7 @@ use Rattle.flow_workers.specs.declared.turn.Turn.TheVariants.{Ahead, Over}
 use Rattle.flow_workers.specs.Callers.{AreIdle, AreShapes}
 use Rattle.flow_workers.specs.inner.Fresh.{IsFresh}
 use Rattle.flow_workers.specs.inner.Work.{AreSaid, RunFacts}
-use Rattle.flow_workers.specs.inner.Jobs.{CanWork, IsShareOf, run_facts}
+use Rattle.flow_workers.specs.inner.Jobs.{AreDealtFrom, CanWork, IsShareOf, run_facts}
 
 abbrev pub CanTake : {A B R G K L : Type 0} (ga : Ghosts A K) (gb : Ghosts B L) → Turn A B R G K L ga gb → Type 0
 CanTake ga gb (Ahead job) = CanWork ga gb job
@@ -48,6 +48,7 @@ pub record MayRun {A B R G K L : Type 0} {ga : Ghosts A K} {gb : Ghosts B L} (ru
   pub shapes : AreShapes ga gb
   pub idle : AreIdle ga gb run.tables.now callers
   pub fresh : IsFresh callers.four.seat.view × IsFresh callers.six.seat.view
+  pub dealt : run.workers ≢ 1 → AreDealtFrom ga gb run 0 run.dealt.now.items
 
 -- the turns of all workers of the run
 pub record AreAhead {A B R G K L : Type 0} {ga : Ghosts A K} {gb : Ghosts B L} (run : Run A B R G K L)

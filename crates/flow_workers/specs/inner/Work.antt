@@ -1,6 +1,7 @@
 -- What a worker does to its callers, and what it says.
-use Rattle.std.specs.Prelude.{◌≡◌, ◌≢◌, ℕ, ◌++◌, List, [], ◌∷◌, map}
+use Rattle.std.specs.Prelude.{◌≡◌, ◌≢◌, ℕ, ◌++◌, List, [], ◌∷◌, drop, map, All}
 use Rattle.packet_view.specs.Captures.{PacketFacts}
+use Rattle.packet_view.specs.Frames as frames
 use Rattle.packet_view.specs.declared.tuple.Family.TheVariants.{V4, V6}
 use Rattle.acl_policy.specs.Policies.{PolicyFacts}
 use Rattle.bihash_steps.specs.declared.view.Call.{Call}
@@ -10,7 +11,7 @@ use Rattle.session_state.specs.declared.timeouts.Timeouts.{Timeouts}
 use Rattle.flow_filter.specs.declared.verdict.Verdict.{Verdict}
 use Rattle.flow_dealing.specs.Views.{Views}
 use Rattle.flow_dealing.specs.Dealings.{Deal}
-use Rattle.flow_dealing.specs.Traces.{IsTrace, Item, calls_in, numbers_of, verdict_in}
+use Rattle.flow_dealing.specs.Traces.{AreViews, IsItem, IsItemOf, IsTrace, Item, calls_in, numbers_from, numbers_of, verdict_in}
 
 -- what the verdicts of a run rest on
 pub record RunFacts : Type 0 where
@@ -30,6 +31,18 @@ pub record Continues (v w : View) (more : List Call) : Type 0 where
 pub record AreSaid (run : RunFacts) (trace : List Item) (verdicts : List Verdict) (numbers : List ℕ) : Type 0 where
   pub said : verdicts ≡ map (verdict_in run.times) trace
   pub of : run.deal.workers ≢ 1 → numbers ≡ numbers_of trace
+
+-- a worker has looked at so many packets, and judged its own
+pub record IsWorkUntil (run : RunFacts) (worker at : ℕ) (v w : Views) (verdicts : List Verdict)
+    (numbers : List ℕ) : Type 0 where
+  pub trace : List Item
+  pub items : All (IsItem run.deal.layout run.times) trace
+  pub of : All (IsItemOf run.deal worker run.policy run.packets) trace
+  pub dealt : (views : List frames.FrameFacts) → AreViews run.policy.own run.packets views
+      → numbers_of trace ++ numbers_from run.deal worker at (drop at views) ≡ numbers_from run.deal worker 0 views
+  pub four : Continues v.four w.four (calls_in run.times V4 trace)
+  pub six : Continues v.six w.six (calls_in run.times V6 trace)
+  pub said : AreSaid run trace verdicts numbers
 
 -- A worker judged its packets, all of them: their calls follow what its callers' records had, and these are
 -- its verdicts.

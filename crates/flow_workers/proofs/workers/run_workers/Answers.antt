@@ -46,8 +46,8 @@ returns-clause-judged g c =
     } in
     let packets = held c.args.packets in
     let verdicts = c.in_ok-in_order.field-0.items in
-    subst (λ t. AreJudged deal t (policy_facts c.args.filter.now.policy) packets verdicts) c.ready_with.ensures.times
-    (subst (λ f. AreJudged deal c.ready_with.result.times f packets verdicts) c.ready_with.ensures.policy
+    subst (λ t. AreJudged deal t (policy_facts c.args.filter.now.policy) packets verdicts) c.ready_with-ready.ensures.times
+    (subst (λ f. AreJudged deal c.ready_with-ready.result.times f packets verdicts) c.ready_with-ready.ensures.policy
     (run_judged g.A.Shape g.B.Shape _ _ _ p c.requires.some
     (record { four = c.join_whole.result.seat.view; six = c.join_whole-2.result.seat.view })
     (c.join_whole.ensures.lawful, c.join_whole-2.ensures.lawful)

@@ -37,6 +37,7 @@ loop-worker-preserved g c =
                 free = (four.free.0, six.free.0);
                 lawful = (four.lawful.0, six.lawful.0);
               };
+              dealt = rw c.again.ensures c.requires.dealt;
             };
             fresh = (four.fresh.0, six.fresh.0);
           }) i d (omega arith));
@@ -64,7 +65,12 @@ returns g c =
       facts = refl;
       own = refl;
       worker = omega arith;
-      can = record { shapes = c.requires.shapes; few = omega arith; idle = inv.idle };
+      can = record {
+        shapes = c.requires.shapes;
+        few = omega arith;
+        idle = inv.idle;
+        dealt = c.requires.dealt;
+      };
       fresh = inv.fresh;
     }) i d (omega arith)) in
     record {

@@ -1,0 +1,2 @@
+pub mod DealtLists
+pub mod PartLemmas

@@ -1,0 +1,97 @@
+-- Parts of the packets, ahead and over.
+use Rattle.std.proofs.Common.{◌≡◌, ◌∙◌, ◌+◌, ◌*◌, ◌/◌, ◌<◌, ℕ, suc, List, [], ◌∷◌, length, drop, map, get_or, Ok, Err, ap, eq-eqb, refl, sym, subst, arith}
+use Rattle.std.specs.Prelude.{if◌then◌else◌}
+use Rattle.std.proofs.lemmas.Bool.{ne_eqb}
+use Rattle.std.proofs.lemmas.List.{length-map}
+use Rattle.std.proofs.Math.Nat.{zero-mul}
+use Rattle.std.proofs.Math.Seq.{drop-length}
+use Rattle.std.specs.Global.{Vec}
+use Rattle.packet_view.specs.CheckedCaptures.{held}
+use Rattle.packet_view.specs.declared.packets.Packets.{Packets}
+use Rattle.bihash_words.specs.declared.shape.Shape.{Ghosts}
+use Rattle.packet_dealing.specs.Dealt.{AreDealt}
+use Rattle.packet_dealing.specs.declared.dealer.Dealer.{Dealer}
+use Rattle.packet_dealing.specs.declared.deals.DealtPacket.{DealtPacket}
+use Rattle.packet_dealing.specs.declared.part.Job.{Job}
+use Rattle.packet_dealing.specs.declared.part.Part.{Part}
+use Rattle.packet_dealing.specs.declared.part.Part.TheVariants.{Ahead, Over}
+use Rattle.packet_dealing.specs.inner.Parts.{AreBetween, Becomes, IsAhead, IsJob, IsOver, IsPartOf, IsPast, begin_of}
+
+-- ---- Where parts begin
+
+pub begin_first : (packets workers : ℕ) → 0 < workers → begin_of packets workers 0 ≡ 0
+begin_first packets workers some_worker =
+    ap (λ t. if t then packets else 0 * (packets / workers)) (ne_eqb 0 workers (λ e. omega arith))
+    ∙ zero-mul (packets / workers)
+
+pub begin_last : (packets workers : ℕ) → begin_of packets workers workers ≡ packets
+begin_last packets workers =
+    ap (λ t. if t then packets else workers * (packets / workers)) (eq-eqb workers workers refl)
+
+-- ---- What becomes of parts
+
+module _ {A B K L : Type 0} (ga : Ghosts A K) (gb : Ghosts B L) (dealer : Dealer) (packets : Packets) where
+  pub over_past : (first next : ℕ) (part : Part A B) → IsOver ga gb dealer packets first next part → IsPast part
+  over_past first next (Ahead job) is = absurd is
+  over_past first next (Over done) is = tt
+
+  -- what the job of a part asked for
+  as_asked : (first next : ℕ) (job : Job A B) (dealt : Vec DealtPacket) → IsJob ga gb dealer packets first next job
+      → IsPartOf ga gb job dealt → AreBetween ga gb dealer (held packets) first next dealt.items
+  as_asked first next job dealt is of =
+      subst (λ d. AreBetween ga gb d (held packets) first next dealt.items) is.by
+      (subst (λ ps. AreBetween ga gb job.dealer (held ps) first next dealt.items) is.of
+      (subst (λ n. AreBetween ga gb job.dealer (held job.packets) first n dealt.items) is.ends
+      (subst (λ n. AreBetween ga gb job.dealer (held job.packets) n job.next dealt.items) is.begins of)))
+
+  pub turned : (first next : ℕ) (part other : Part A B) → IsAhead ga gb dealer packets first next part
+      → Becomes ga gb part other → IsOver ga gb dealer packets first next other
+  turned first next (Ahead job) (Ahead other) is did = absurd did
+  turned first next (Ahead job) (Over (Ok dealt)) is did = as_asked first next job dealt is did
+  turned first next (Ahead job) (Over (Err e)) is did = tt
+  turned first next (Over done) other is did = absurd is
+
+  -- Parts that begin where the ones before them end, up to the last packet, have all packets.
+  pub all_dealt : (begin : ℕ → ℕ) (workers : ℕ) → begin workers ≡ length (held packets)
+      → (k : ℕ) (parts : List (Vec DealtPacket)) → k + length parts ≡ workers
+      → ((i : ℕ) (d : Part A B) → i < length parts → IsOver ga gb dealer packets (begin (k + i)) (begin (k + i + 1))
+      (get_or (map (λ part. Over (Ok part)) parts) i d))
+      → AreDealt ga gb dealer (begin k) parts (drop (begin k) (held packets))
+  all_dealt begin workers ends k [] count each =
+      let last : begin k ≡ length (held packets) = ap begin (let e : k ≡ workers = omega arith in e) ∙ ends in
+      ap (λ n. drop n (held packets)) last ∙ drop-length (held packets)
+  all_dealt begin workers ends k (part ∷ parts) count each = (
+    drop (begin (k + 1)) (held packets),
+    one.dealt,
+    subst (λ n. AreDealt ga gb dealer n parts (drop (begin (k + 1)) (held packets))) (sym one.count)
+        (all_dealt begin workers ends (k + 1) parts (omega arith)
+        (λ i d inside. subst (λ n. IsOver ga gb dealer packets (begin n) (begin (n + 1))
+        (get_or (map (λ p. Over (Ok p)) parts) i d)) (let e : k + suc i ≡ k + 1 + i = omega arith in e)
+        (each (suc i) d (omega arith)))),
+  )
+    where
+      one : AreBetween ga gb dealer (held packets) (begin k) (begin (k + 1)) part.items
+      one = subst (λ n. AreBetween ga gb dealer (held packets) (begin n) (begin (n + 1)) part.items)
+          (let e : k + 0 ≡ k = omega arith in e) (each 0 (Over (Ok part)) (omega arith))
+
+  -- the parts of all workers have all packets
+  pub all_parts : (parts : List (Vec DealtPacket)) (others : List (Part A B)) → 0 < dealer.workers
+      → others ≡ map (λ part. Over (Ok part)) parts → length others ≡ dealer.workers
+      → ((i : ℕ) (d : Part A B) → i < dealer.workers → IsOver ga gb dealer packets
+      (begin_of (length (held packets)) dealer.workers i)
+      (begin_of (length (held packets)) dealer.workers (i + 1)) (get_or others i d))
+      → AreDealt ga gb dealer 0 parts (held packets)
+  all_parts parts others some_worker are count each =
+      subst (λ n. AreDealt ga gb dealer n parts (drop n (held packets)))
+      (begin_first (length (held packets)) dealer.workers some_worker)
+      (all_dealt begin dealer.workers (begin_last (length (held packets)) dealer.workers) 0 parts counted
+      (λ i d inside. subst (λ n. IsOver ga gb dealer packets (begin n) (begin (n + 1))
+      (get_or (map (λ part. Over (Ok part)) parts) i d)) (let e : i ≡ 0 + i = omega arith in e)
+      (subst (λ os. IsOver ga gb dealer packets (begin i) (begin (i + 1)) (get_or os i d)) are
+      (each i d (let c = counted in omega arith)))))
+    where
+      begin : ℕ → ℕ
+      begin = begin_of (length (held packets)) dealer.workers
+
+      counted : 0 + length parts ≡ dealer.workers
+      counted = let e = sym (length-map parts (λ p. Over (Ok p))) ∙ (sym (ap length are) ∙ count) in omega arith

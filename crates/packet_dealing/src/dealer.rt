@@ -1,0 +1,61 @@
+//! Who judges a packet, by its frame.
+ghost use Rattle.std.specs.Prelude.{◌≡◌, ◌<◌};
+ghost use Rattle.std.specs.Option.{ForSome};
+ghost use Rattle.packet_view.specs.Frames.{frame_facts};
+ghost use Rattle.flow_dealing.specs.Dealings.{flow_shown};
+ghost use Rattle.packet_dealing.specs.Dealt.{AreShapes, IsDealtTo};
+
+use bihash_words::Shape;
+use flow_dealing::{Dealing, worker_of};
+use packet_view::{Frame, Mac, plain, view};
+use session_state::{Flow, orient, plain_flow};
+
+/// What packets are dealt by.
+#[derive(Clone, Copy, Debug)]
+pub struct Dealer {
+    /// The own address of the interface.
+    pub own: Option<Mac>,
+    pub dealing: Dealing,
+    pub workers: usize,
+}
+
+/// The flow of a packet with this frame. `None`: it takes no part in sessions.
+#[inline(always)]
+pub fn flow_in(frame: &Frame) -> Option<Flow>
+    ensures shown { result ≡ flow_shown (frame_facts frame.now) }
+    ensures side { ForSome result (λ f. f.side < 2) }
+{
+    match frame {
+        Frame::Ip(_, tuple) => orient(tuple),
+        Frame::NotIp | Frame::Malformed | Frame::Short => None,
+    }
+}
+
+// Who judges the packet with this number, by the view of its frame. Few frames aren't plain, and the path of the
+// others is shorter without this.
+#[inline(never)]
+fn dealt_by_view<A: Shape, B: Shape>(dealer: &Dealer, number: usize, frame: &[u8]) -> usize
+    requires shapes { AreShapes ⟦<A as Shape>⟧ ⟦<B as Shape>⟧ }
+    requires some { 0 < dealer.now.workers }
+    ensures dealt { IsDealtTo ⟦<A as Shape>⟧ ⟦<B as Shape>⟧ dealer.now number frame.now result }
+    ensures one { result < dealer.now.workers }
+{
+    let flow = flow_in(&view(frame, dealer.own));
+    worker_of::<A, B>(dealer.dealing, dealer.workers, number, flow)
+}
+
+/// Who judges the packet with this number, from 0, and this frame. A plain frame isn't viewed for it.
+pub fn dealt_to<A: Shape, B: Shape>(dealer: &Dealer, number: usize, frame: &[u8]) -> usize
+    requires shapes { AreShapes ⟦<A as Shape>⟧ ⟦<B as Shape>⟧ }
+    requires some { 0 < dealer.now.workers }
+    ensures dealt { IsDealtTo ⟦<A as Shape>⟧ ⟦<B as Shape>⟧ dealer.now number frame.now result }
+    ensures one { result < dealer.now.workers }
+{
+    match plain(frame) {
+        Some(packet) => {
+            let flow = Some(plain_flow(packet));
+            worker_of::<A, B>(dealer.dealing, dealer.workers, number, flow)
+        }
+        None => dealt_by_view::<A, B>(dealer, number, frame),
+    }
+}

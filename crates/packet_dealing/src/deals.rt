@@ -1,0 +1,65 @@
+//! Packets with the workers that judge them, which several threads find at once.
+ghost use Rattle.std.specs.Prelude.{◌≡◌, ◌≢◌, ◌≤◌, IfOk};
+ghost use Rattle.packet_view.specs.CheckedCaptures.{held};
+ghost use Rattle.packet_dealing.specs.Dealt.{AreDealt, AreShapes};
+
+use crate::dealer::Dealer;
+use crate::parts::{parts_ahead, parts_over};
+use crate::task::run_all;
+use bihash_words::Shape;
+use packet_view::Packets;
+use std::alloc::{AllocError, Global};
+use std::thread::Threads;
+
+/// A packet, and the worker that judges it. Its fields stand beside each other: so it takes 24 bytes.
+#[derive(Clone, Copy, Debug)]
+pub struct DealtPacket<'a> {
+    pub frame: &'a [u8],
+    /// When the packet came, in seconds.
+    pub moment: u32,
+    pub worker: u32,
+}
+
+// The packets with the workers that judge them, in as many parts as there are workers.
+fn deal_all<'a, A: Shape + Send, B: Shape + Send, R: Threads + Sync>(
+    rt: &R,
+    alloc: Global,
+    dealer: Dealer,
+    packets: Packets<'a>,
+) -> Result<Vec<Vec<DealtPacket<'a>>>, AllocError>
+where
+    A::Key: Send,
+    B::Key: Send,
+    requires shapes { AreShapes ⟦<A as Shape>⟧ ⟦<B as Shape>⟧ }
+    requires some { 1 ≤ dealer.workers }
+    requires few { dealer.workers ≤ 16 }
+    ensures { IfOk result (λ parts. AreDealt ⟦<A as Shape>⟧ ⟦<B as Shape>⟧ dealer 0 parts.items (held packets.entry)) }
+{
+    let ahead = parts_ahead::<A, B>(alloc, dealer, packets)?;
+    let over = run_all(rt, ahead)?;
+    parts_over(alloc, over)
+}
+
+/// The packets with the workers that judge them, in their order, in as many parts as there are workers. Each part is
+/// found by a thread of its own, or by this one where no thread can be made. A worker that is alone has all packets, and none
+/// is dealt.
+pub fn deal_packets<'a, A: Shape + Send, B: Shape + Send, R: Threads + Sync>(
+    rt: &R,
+    alloc: Global,
+    dealer: Dealer,
+    packets: Packets<'a>,
+) -> Result<Vec<Vec<DealtPacket<'a>>>, AllocError>
+where
+    A::Key: Send,
+    B::Key: Send,
+    requires shapes { AreShapes ⟦<A as Shape>⟧ ⟦<B as Shape>⟧ }
+    requires some { 1 ≤ dealer.workers }
+    requires few { dealer.workers ≤ 16 }
+    ensures { IfOk result (λ parts. dealer.workers ≢ 1
+        → AreDealt ⟦<A as Shape>⟧ ⟦<B as Shape>⟧ dealer 0 parts.items (held packets.entry)) }
+{
+    if dealer.workers == 1 {
+        return Ok(Vec::new(alloc));
+    }
+    deal_all::<A, B, R>(rt, alloc, dealer, packets)
+}

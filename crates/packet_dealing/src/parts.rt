@@ -1,0 +1,68 @@
+//! All parts of the packets.
+ghost use Rattle.std.specs.Prelude.{◌≡◌, ◌≤◌, ◌<◌, All, IfOk, map, Ok};
+ghost use Rattle.packet_dealing.specs.declared.part.Part.TheVariants.{Over};
+ghost use Rattle.packet_dealing.specs.inner.Parts.{AreAhead, IsPast, MayDeal, begin_of};
+
+use crate::dealer::Dealer;
+use crate::deals::DealtPacket;
+use crate::part::{Job, Part};
+use bihash_words::Shape;
+use packet_view::Packets;
+use std::alloc::{AllocError, Global};
+use std::marker::PhantomData;
+
+// The number of a part's first packet. There is one part for each worker, and the packets end where one more began.
+fn begin(packets: usize, workers: usize, part: usize) -> usize
+    requires some { 0 < workers }
+    requires one { part ≤ workers }
+    ensures is { result ≡ begin_of packets workers part }
+    ensures inside { result ≤ packets }
+{
+    if part == workers {
+        packets
+    } else {
+        part * (packets / workers)
+    }
+}
+
+/// The parts of the packets, which are ahead, one for each worker.
+pub fn parts_ahead<'a, A: Shape, B: Shape>(
+    alloc: Global,
+    dealer: Dealer,
+    packets: Packets<'a>,
+) -> Result<Vec<Part<'a, A, B>>, AllocError>
+    requires { MayDeal ⟦<A as Shape>⟧ ⟦<B as Shape>⟧ dealer }
+    ensures { IfOk result (λ v. AreAhead ⟦<A as Shape>⟧ ⟦<B as Shape>⟧ dealer packets.entry v.items) }
+{
+    let count = packets.count();
+    let mut parts = Vec::with_capacity(alloc, dealer.workers)?;
+    for part in 0..dealer.workers {
+        parts.push(Part::Ahead(Job {
+            alloc,
+            dealer,
+            packets,
+            first: begin(count, dealer.workers, part),
+            next: begin(count, dealer.workers, part + 1),
+            shapes: PhantomData,
+        }))?;
+    }
+    Ok(parts)
+}
+
+/// The packets of all parts, where none of them was refused memory.
+pub fn parts_over<'a, A: Shape, B: Shape>(
+    alloc: Global,
+    parts: Vec<Part<'a, A, B>>,
+) -> Result<Vec<Vec<DealtPacket<'a>>>, AllocError>
+    requires { All IsPast parts.items }
+    ensures { IfOk result (λ v. parts.entry.items ≡ map (λ part. Over (Ok part)) v.items) }
+{
+    let mut all = Vec::with_capacity(alloc, parts.len())?;
+    for part in parts {
+        let Part::Over(done) = part else {
+            unreachable!()
+        };
+        all.push(done?)?;
+    }
+    Ok(all)
+}
