@@ -310,15 +310,6 @@ stands_at [] ys (suc at) x e = absurd (let f : ⊥ = cc in f)
 stands_at (y ∷ xs) ys zero x e = let same : y ≡ x = cc in ap Some same
 stands_at (y ∷ xs) ys (suc at) x e = stands_at xs ys at x e
 
-left_behind_next : {X : Type 0} (xs ys : List X) (at : ℕ) (x : X) → drop at xs ≡ x ∷ ys → drop (suc at) xs ≡ ys
-left_behind_next [] ys zero x e = absurd (let f : ⊥ = cc in f)
-left_behind_next [] ys (suc at) x e = absurd (let f : ⊥ = cc in f)
-left_behind_next (y ∷ xs) ys zero x e = cc
-left_behind_next (y ∷ xs) ys (suc at) x e = left_behind_next xs ys at x e
-
-pub left_behind : {X : Type 0} (xs ys : List X) (at : ℕ) (x : X) → drop at xs ≡ x ∷ ys → drop (at + 1) xs ≡ ys
-left_behind xs ys at x e = ap (λ k. drop k xs) (add-one at) ∙ left_behind_next xs ys at x e
-
 pub taken_inside : {X : Type 0} (xs ys : List X) (at : ℕ) (x : X) → drop at xs ≡ x ∷ ys → at < length xs
 taken_inside [] ys zero x e = absurd (let f : ⊥ = cc in f)
 taken_inside [] ys (suc at) x e = absurd (let f : ⊥ = cc in f)

@@ -20,29 +20,9 @@ pub struct DealtPacket<'a> {
     pub worker: u32,
 }
 
-// The packets with the workers that judge them, in as many parts as there are workers.
-fn deal_all<'a, A: Shape + Send, B: Shape + Send, R: Threads + Sync>(
-    rt: &R,
-    alloc: Global,
-    dealer: Dealer,
-    packets: Packets<'a>,
-) -> Result<Vec<Vec<DealtPacket<'a>>>, AllocError>
-where
-    A::Key: Send,
-    B::Key: Send,
-    requires shapes { AreShapes ⟦<A as Shape>⟧ ⟦<B as Shape>⟧ }
-    requires some { 1 ≤ dealer.workers }
-    requires few { dealer.workers ≤ 16 }
-    ensures { IfOk result (λ parts. AreDealt ⟦<A as Shape>⟧ ⟦<B as Shape>⟧ dealer 0 parts.items (held packets.entry)) }
-{
-    let ahead = parts_ahead::<A, B>(alloc, dealer, packets)?;
-    let over = run_all(rt, ahead)?;
-    parts_over(alloc, over)
-}
-
 /// The packets with the workers that judge them, in their order, in as many parts as there are workers. Each part is
-/// found by a thread of its own, or by this one where no thread can be made. A worker that is alone has all packets, and none
-/// is dealt.
+/// found by a thread of its own, or by this one where no thread can be made. A worker that is alone has all packets,
+/// and none is dealt.
 pub fn deal_packets<'a, A: Shape + Send, B: Shape + Send, R: Threads + Sync>(
     rt: &R,
     alloc: Global,
@@ -61,5 +41,7 @@ where
     if dealer.workers == 1 {
         return Ok(Vec::new(alloc));
     }
-    deal_all::<A, B, R>(rt, alloc, dealer, packets)
+    let ahead = parts_ahead::<A, B>(alloc, dealer, packets)?;
+    let over = run_all(rt, ahead)?;
+    parts_over(alloc, over)
 }

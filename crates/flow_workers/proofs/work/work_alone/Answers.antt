@@ -1,6 +1,7 @@
 use Rattle.std.proofs.Common.{◌∙◌, sym, arith}
 use Rattle.packet_view.specs.CheckedCaptures.{held}
-use Rattle.flow_workers.proofs.WorkSteps.{alone_worker, left_behind, stands_at, taken_inside, whole_work, work_none}
+use Rattle.packet_dealing.proofs.DealtLists.{left_behind}
+use Rattle.flow_workers.proofs.WorkSteps.{alone_worker, stands_at, taken_inside, whole_work, work_none}
 use Rattle.flow_workers.proofs.work.work_alone.Goals as goal
 
 pub packets-init : goal.packets-init

@@ -1,7 +1,7 @@
 use Rattle.std.proofs.Common.{◌∙◌, arith, get_or}
 use Rattle.std.proofs.lemmas.Result.{IfOk-weaker}
 use Rattle.packet_dealing.proofs.PartLemmas.{all_parts, over_past, turned}
-use Rattle.packet_dealing.proofs.deals.deal_all.Goals as goal
+use Rattle.packet_dealing.proofs.deals.deal_packets.Goals as goal
 
 pub parts_over-requires : goal.parts_over-requires
 parts_over-requires g c k d inside =
@@ -18,7 +18,7 @@ returns g c =
     let many = c.in_ok-over.ensures.count in
     let some_worker = c.requires.some in
     IfOk-weaker c.parts_over.result _ _
-    (λ parts are. all_parts g.A.Shape g.B.Shape c.args.dealer c.args.packets parts.items c.in_ok-over.over.items
+    (λ parts are several. all_parts g.A.Shape g.B.Shape c.args.dealer c.args.packets parts.items c.in_ok-over.over.items
     (omega arith) are (many ∙ count)
     (λ i d inside. turned g.A.Shape g.B.Shape c.args.dealer c.args.packets _ _ (get_or c.in_ok-ahead.ahead.items i d)
     (get_or c.in_ok-over.over.items i d)
