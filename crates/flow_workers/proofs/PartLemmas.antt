@@ -1,5 +1,6 @@
 -- Parts of the workers' shares.
 use Rattle.std.proofs.Common.{◌≡◌, ◌∙◌, ◌+◌, ◌<◌, ℕ, zero, suc, List, [], ◌∷◌, ◌++◌, get_or, length, map, Ok, ap, arith, refl, sym, subst}
+use Rattle.std.specs.Global.{Vec}
 use Rattle.std.specs.List.{All, AllZip}
 use Rattle.std.proofs.lemmas.List.{length-map, map-append}
 use Rattle.std.proofs.lemmas.List.Elements.{All-cons, All-map, All-nil, All-weaker}
@@ -20,7 +21,6 @@ use Rattle.flow_dealing.specs.Views.{Views, view_in}
 use Rattle.flow_dealing.proofs.Merging.{judge_each_packet}
 use Rattle.flow_dealing.proofs.Places.{after_map, zip_count}
 use Rattle.flow_workers.specs.declared.share.Parts.{Parts}
-use Rattle.flow_workers.specs.declared.share.Said.{Said}
 use Rattle.flow_workers.specs.declared.share.Share.{Share}
 use Rattle.flow_workers.specs.declared.tables.Tables.{Tables}
 use Rattle.flow_workers.specs.declared.turn.Turn.{Turn}
@@ -36,7 +36,7 @@ module _ {A B R G K L : Type 0} (ga : Ghosts A K) (gb : Ghosts B L) where
 
   pub parts_push : (turns : List (Turn A B R G K L ga gb)) (turn : Turn A B R G K L ga gb)
       (fours fours' : List (Caller A K ga))
-      (sixes sixes' : List (Caller B L gb)) (saids saids' : List Said) (share : Share A B K L ga gb)
+      (sixes sixes' : List (Caller B L gb)) (saids saids' : List (Vec Verdict)) (share : Share A B K L ga gb)
       → turn ≡ Over (Ok share)
       → fours' ≡ fours ++ share.callers.four ∷ [] → sixes' ≡ sixes ++ share.callers.six ∷ []
       → saids' ≡ saids ++ share.said ∷ []
@@ -74,7 +74,7 @@ module _ {A B K L : Type 0} (ga : Ghosts A K) (gb : Ghosts B L) (tables : Tables
     idle : All (λ s. AreIdle ga gb tables s.callers) shares
     four : AllZip (λ t s. HaveTraces run.times V4 (t ∷ []) s.callers.four.seat.view) traces shares
     six : AllZip (λ t s. HaveTraces run.times V6 (t ∷ []) s.callers.six.seat.view) traces shares
-    said : AllZip (λ t s. AreSaid run t s.said.verdicts.items s.said.numbers.items) traces shares
+    said : AllZip (λ t s. AreSaid run t s.said.items) traces shares
 
   all_done : (w : ℕ) (shares : List (Share A B K L ga gb))
       → ((k : ℕ) (s : Share A B K L ga gb) → get_elem? shares k ≡ some s → IsDone ga gb tables run (w + k) s)
@@ -184,7 +184,7 @@ module _ {A B R G K L : Type 0} (ga : Ghosts A K) (gb : Ghosts B L) (tables : Ta
         subst (AllZip (λ t c. HaveTraces run.times V6 (t ∷ []) c.seat.view) all.traces) (sym of.six)
         (zip_map _ _ all.traces of.shares all.six);
     said =
-        subst (AllZip (λ t s. AreSaid run t s.verdicts.items s.numbers.items) all.traces) (sym of.said)
+        subst (AllZip (λ t s. AreSaid run t s.items) all.traces) (sym of.said)
         (zip_map _ _ all.traces of.shares all.said);
   }
     where

@@ -1,42 +1,51 @@
 -- What workers said, placed in the order of the packets.
-use Rattle.std.proofs.Common.{◌≡◌, ◌≢◌, ◌∙◌, ◌+◌, ◌<◌, ◌≤◌, ℕ, zero, suc, Bool, true, false, cond, List, [], ◌∷◌, ◌++◌, get_or, length, Some, IfOk, Result, Ok, Err, ap, refl, sym, subst, arith, inl, inr, eq-eqb}
-use Rattle.std.specs.Prelude.{◌==◌, slice_get}
-use Rattle.std.specs.List.{All, AllZip}
-use Rattle.std.proofs.Math.ListN.{set}
+use Rattle.std.proofs.Common.{◌≡◌, ◌≢◌, ◌∙◌, ◌+◌, ◌<◌, ◌≤◌, ℕ, zero, suc, true, cond, List, [], ◌∷◌, ◌++◌, drop, drop-drop, get_or, length, replicate, set, IfOk, Result, Ok, Err, ap, refl, sym, subst, arith, inl, inr, eq-eqb, get_or-set_same, get_or-set_other}
+use Rattle.std.specs.Prelude.{◌==◌, slice_get, slice_index}
+use Rattle.std.specs.Global.{Vec}
+use Rattle.std.specs.List.{AllZip}
 use Rattle.std.proofs.lemmas.Bool.Decides.{eqb_tells}
-use Rattle.std.proofs.lemmas.List.{length-append, length-map, length-set}
-use Rattle.std.proofs.lemmas.Option.{slice_get_within}
+use Rattle.std.proofs.lemmas.List.{drop_all, drop_more, length-append, length-drop, length-map, length-set}
+use Rattle.std.proofs.lemmas.Option.{slice_get-get_or, slice_get_past}
 use lib.ListN.{get_elem?}
 use mathlib.Core.Option.{some, some-ne-none, some-injective}
 use Rattle.packet_view.specs.Captures.{PacketFacts}
 use Rattle.packet_view.specs.Frames as frames
 use Rattle.packet_view.specs.inner.FrameSteps.{view_of}
 use Rattle.packet_view.proofs.FrameLemmas.{view_only, view_shown}
-use Rattle.bihash_steps.proofs.Lists.{there, within}
+use Rattle.bihash_words.specs.declared.shape.Shape.{Ghosts}
+use Rattle.bihash_steps.proofs.Lists.{at_after, there, within}
+use Rattle.packet_dealing.proofs.DealtLists.{left_behind}
+use Rattle.packet_dealing.specs.Dealt.{AreDealt}
+use Rattle.packet_dealing.specs.declared.dealer.Dealer.{Dealer}
+use Rattle.packet_dealing.specs.declared.deals.DealtPart.{DealtPart}
 use Rattle.flow_filter.specs.declared.verdict.Verdict.{Verdict}
-use Rattle.flow_filter.specs.Readings.{IsReading}
-use Rattle.flow_dealing.specs.Dealings.{Deal, flow_in, flow_shown, worker_of}
-use Rattle.flow_dealing.specs.Traces.{ArePlaced, IsItemOf, Item, numbers_from, verdict_in}
+use Rattle.flow_filter.specs.OneThread.{layout_of}
+use Rattle.flow_dealing.specs.Dealings.{Deal, flow_shown, worker_by, worker_of}
+use Rattle.flow_dealing.specs.Traces.{AreViews, ArePlaced, Item, numbers_from, numbers_of, verdict_in}
 use Rattle.flow_dealing.proofs.Merging.{all_views, worker_few}
-use Rattle.flow_dealing.proofs.Places.{after_map, all_at, all_from, before_map, zip_count}
-use Rattle.flow_workers.specs.declared.share.Said.{Said}
+use Rattle.flow_dealing.proofs.Places.{after_map, at_front, before_map, zip_count}
+use Rattle.flow_workers.specs.declared.placing.Placed.{Placed}
 use Rattle.flow_workers.specs.inner.Work.{AreSaid, RunFacts}
-use Rattle.flow_workers.specs.inner.Placing.{AgreesWith, AreAllSaid, ArePaired, IsSaid}
-use Rattle.flow_workers.proofs.WorkSteps.{IsAt, flow_at, no_numbers, numbers_cons}
+use Rattle.flow_workers.specs.inner.Placing.{AreAllJudges, AreJudges, ArePlacedBefore, AreTold, MayPlace}
+use Rattle.flow_workers.proofs.WorkSteps.{IsAt, no_numbers, numbers_at, numbers_cons}
 
--- ---- One verdict more
+-- ---- Lists
 
-at_set : {X : Type 0} (xs : List X) (i : ℕ) (x : X) → i < length xs → get_elem? (set xs i x) i ≡ some x
-at_set [] i x inside = absurd (omega arith)
-at_set (y ∷ ys) zero x inside = refl
-at_set (y ∷ ys) (suc i) x inside = at_set ys i x (omega arith)
+first_left : {X : Type 0} (xs ys : List X) (k : ℕ) (x : X) → drop k xs ≡ x ∷ ys → get_elem? xs k ≡ some x
+first_left [] ys zero x e = absurd (let f : ⊥ = cc in f)
+first_left [] ys (suc k) x e = absurd (let f : ⊥ = cc in f)
+first_left (y ∷ xs) ys zero x e = let same : y ≡ x = cc in ap some same
+first_left (y ∷ xs) ys (suc k) x e = first_left xs ys k x e
 
-at_other : {X : Type 0} (xs : List X) (i j : ℕ) (x : X) → j ≢ i → get_elem? (set xs i x) j ≡ get_elem? xs j
-at_other [] i j x other = refl
-at_other (y ∷ ys) zero zero x other = absurd (other refl)
-at_other (y ∷ ys) zero (suc j) x other = refl
-at_other (y ∷ ys) (suc i) zero x other = refl
-at_other (y ∷ ys) (suc i) (suc j) x other = at_other ys i j x (λ same. other (ap suc same))
+none_left : {X : Type 0} (xs : List X) (k : ℕ) → drop k xs ≡ [] → length xs ≤ k
+none_left [] k e = omega arith
+none_left (x ∷ xs) zero e = absurd (let f : ⊥ = cc in f)
+none_left (x ∷ xs) (suc k) e = let less = none_left xs k e in omega arith
+
+no_zeros : (n i : ℕ) → slice_index (replicate n 0) i ≡ 0
+no_zeros zero i = refl
+no_zeros (suc n) zero = refl
+no_zeros (suc n) (suc i) = no_zeros n i
 
 pub at_or : {X : Type 0} (xs : List X) (i : ℕ) (d : X) → i < length xs → get_elem? xs i ≡ some (get_or xs i d)
 at_or [] i d inside = absurd (omega arith)
@@ -47,97 +56,7 @@ pub only_one : {X : Type 0} (xs ys : List X) (x : X) → xs ≡ ys ++ x ∷ [] �
 only_one xs [] x is few = is
 only_one xs (y ∷ ys) x is few = let count = ap length is in let more = length-append ys (x ∷ []) in absurd (omega arith)
 
--- what is written where the same is right
-set_right : (xs : List Verdict) (m n : ℕ) (x w : Verdict) → m < length xs → (n ≡ m → x ≡ w)
-    → (n ≢ m → get_elem? xs n ≡ some w) → get_elem? (set xs m x) n ≡ some w
-set_right xs m n x w inside here there = elim (eqb_tells n m) [
-  | inl (test, same) ↦ ap (get_elem? (set xs m x)) same ∙ (at_set xs m x inside ∙ ap some (here same))
-  | inr (test, other) ↦ at_other xs m n x other ∙ there other
-]
-
--- the verdicts after the first k that were said are placed
-pub record IsPlaced (said : Said) (old : List Verdict) (k : ℕ) (verdicts : List Verdict) : Type 0 where
-  pub count : length verdicts ≡ length old
-  pub kept : (n : ℕ) (w : Verdict) → get_elem? old n ≡ some w → ((v : Verdict) → IsSaid said n v → v ≡ w)
-      → get_elem? verdicts n ≡ some w
-  pub placed : AgreesWith said said → (n : ℕ) (v : Verdict) (is : IsSaid said n v) → is.place < k
-      → get_elem? verdicts n ≡ some v
-
-pub placed_none : (said : Said) (old : List Verdict) → IsPlaced said old 0 old
-placed_none said old = record {
-  count = refl;
-  kept = λ n w at same. at;
-  placed = λ agree n v is below. absurd (omega arith);
-}
-
-pub placed_next : (said : Said) (old xs : List Verdict) (k m : ℕ) (x : Verdict) → m < length old
-    → get_elem? said.numbers.items k ≡ some m → get_elem? said.verdicts.items k ≡ some x
-    → IsPlaced said old k xs → IsPlaced said old (k + 1) (set xs m x)
-placed_next said old xs k m x inside number verdict done = record {
-  count = length-set xs m x ∙ done.count;
-  kept = λ n w at same.
-      set_right xs m n x w within_xs (λ is. same x (subst (λ j. IsSaid said j x) (sym is) here))
-      (λ other. done.kept n w at same);
-  placed = λ agree n v is below. elim (eqb_tells is.place k) [
-    | inl (test, last) ↦
-        let number_is : n ≡ m = some-injective n m (sym is.of ∙ (ap (get_elem? said.numbers.items) last ∙ number)) in
-        let verdict_is : v ≡ x = some-injective v x (sym is.is ∙ (ap (get_elem? said.verdicts.items) last ∙ verdict)) in
-        set_right xs m n x v within_xs (λ same. sym verdict_is) (λ other. absurd (other number_is))
-    | inr (test, earlier) ↦ set_right xs m n x v within_xs
-        (λ same. agree m x v here (subst (λ j. IsSaid said j v) same is))
-        (λ other. done.placed agree n v is (omega arith))
-  ];
-}
-  where
-    within_xs : m < length xs
-    within_xs = let c = done.count in omega arith
-
-    here : IsSaid said m x
-    here = record { place = k; of = number; is = verdict }
-
--- ---- Numbers of a worker's packets
-
--- they rise from the first
-rises : (d : Deal) (w at : ℕ) (views : List frames.FrameFacts) (k n : ℕ)
-    → get_elem? (numbers_from d w at views) k ≡ some n → at ≤ n
-rises d w at [] k n stands =
-    absurd (some-ne-none n (sym (sym (ap (λ ns. get_elem? ns k) (no_numbers d w at)) ∙ stands)))
-rises d w at (view ∷ views) k n stands =
-    go (worker_of d at (flow_shown view) == w) k
-    (sym (ap (λ ns. get_elem? ns k) (numbers_cons d w at view views)) ∙ stands)
-    (λ j h. let e = rises d w (at + 1) views j n h in omega arith)
-  where
-    go : (b : Bool) (k : ℕ)
-        → get_elem? (cond b (at ∷ numbers_from d w (at + 1) views) (numbers_from d w (at + 1) views)) k ≡ some n
-        → ((j : ℕ) → get_elem? (numbers_from d w (at + 1) views) j ≡ some n → at < n) → at ≤ n
-    go true zero h later = let e = some-injective at n h in omega arith
-    go true (suc k) h later = let e = later k h in omega arith
-    go false k h later = let e = later k h in omega arith
-
--- and each comes once
-once : (d : Deal) (w at : ℕ) (views : List frames.FrameFacts) (k l n : ℕ)
-    → get_elem? (numbers_from d w at views) k ≡ some n → get_elem? (numbers_from d w at views) l ≡ some n → k ≡ l
-once d w at [] k l n one other =
-    absurd (some-ne-none n (sym (sym (ap (λ ns. get_elem? ns k) (no_numbers d w at)) ∙ one)))
-once d w at (view ∷ views) k l n one other = go (worker_of d at (flow_shown view) == w) k l
-    (sym (ap (λ ns. get_elem? ns k) (numbers_cons d w at view views)) ∙ one)
-    (sym (ap (λ ns. get_elem? ns l) (numbers_cons d w at view views)) ∙ other)
-    (λ i j h g. once d w (at + 1) views i j n h g)
-  where
-    more : List ℕ
-    more = numbers_from d w (at + 1) views
-
-    past : (j : ℕ) → at ≡ n → get_elem? more j ≡ some n → ⊥
-    past j same h = let e = rises d w (at + 1) views j n h in omega arith
-
-    go : (b : Bool) (k l : ℕ) → get_elem? (cond b (at ∷ more) more) k ≡ some n
-        → get_elem? (cond b (at ∷ more) more) l ≡ some n
-        → ((i j : ℕ) → get_elem? more i ≡ some n → get_elem? more j ≡ some n → i ≡ j) → k ≡ l
-    go true zero zero h g same = refl
-    go true zero (suc l) h g same = absurd (past l (some-injective at n h) g)
-    go true (suc k) zero h g same = absurd (past k (some-injective at n g) h)
-    go true (suc k) (suc l) h g same = ap suc (same k l h g)
-    go false k l h g same = same k l h g
+-- ---- A worker that is alone
 
 alone_cons : (d : Deal) (at : ℕ) (view : frames.FrameFacts) (views : List frames.FrameFacts) → d.workers ≡ 1
     → numbers_from d 0 at (view ∷ views) ≡ at ∷ numbers_from d 0 (at + 1) views
@@ -189,140 +108,206 @@ zip_back R (w ∷ ws) [] i x all at = absurd all
 zip_back R (w ∷ ws) (z ∷ zs) zero x all at = (z, refl, subst (λ k. R k z) (some-injective w x at) all.0)
 zip_back R (w ∷ ws) (z ∷ zs) (suc i) x all at = zip_back R ws zs i x all.1 at
 
-module _ (run : RunFacts) (traces : List (List Item)) (all : List Said) (packets : ℕ)
-    (are : AreAllSaid run traces all packets) where
-  -- the item of which something was said
-  record Source (i : ℕ) (n : ℕ) (v : Verdict) : Type 0 where
-    trace : List Item
-    stands : get_elem? traces i ≡ some trace
-    place : ℕ
-    item : Item
-    at : get_elem? trace place ≡ some item
-    number : item.packet ≡ n
-    verdict : verdict_in run.times item ≡ v
+module _ (run : RunFacts) (traces : List (List Item)) (all : List (Vec Verdict)) (are : AreTold run traces all) where
+  pub count_is : length all ≡ run.deal.workers
+  count_is = sym (zip_count _ traces all are.said) ∙ are.traced.count
 
-  source : run.deal.workers ≢ 1 → (i : ℕ) (s : Said) → get_elem? all i ≡ some s → (n : ℕ) (v : Verdict) → IsSaid s n v
-      → Source i n v
-  source several i s at n v is =
-      let t =
-      zip_there (λ trace (k : Said). AreSaid run trace k.verdicts.items k.numbers.items) traces all i s are.said
-      at in
-      let number =
-      before_map (λ (k : Item). k.packet) t.0 is.place n
-      (sym (ap (λ ns. get_elem? ns is.place) (t.2.of several)) ∙ is.of) in
-      let verdict =
-      before_map (verdict_in run.times) t.0 is.place v (sym (ap (λ vs. get_elem? vs is.place) t.2.said) ∙ is.is) in
-      let same : number.0 ≡ verdict.0 = some-injective number.0 verdict.0 (sym number.1 ∙ verdict.1) in
-      record {
-        trace = t.0;
-        stands = t.1;
-        place = is.place;
-        item = number.0;
-        at = number.1;
-        number = number.2;
-        verdict = ap (verdict_in run.times) same ∙ verdict.2;
-      }
+  pub several : 1 < length all → run.deal.workers ≢ 1
+  several many one = let count = count_is in absurd (omega arith)
 
-  of_item : (w : ℕ) (trace : List Item) (k : ℕ) (i : Item) → get_elem? traces w ≡ some trace
-      → get_elem? trace k ≡ some i → IsItemOf run.deal w run.policy run.packets i
-  of_item w trace k i stands at =
-      all_at (IsItemOf run.deal w run.policy run.packets) trace k i (are.traced.each w trace stands).of at
+  -- ---- The verdict that is placed next
 
-  -- two items of one packet are of one worker
-  one_worker : (w u : ℕ) (i j : Item) → IsItemOf run.deal w run.policy run.packets i
-      → IsItemOf run.deal u run.policy run.packets j → i.packet ≡ j.packet → w ≡ u
-  one_worker w u i j a b same =
-      let packet : a.packet ≡ b.packet = some_same (sym a.there ∙ (ap (slice_get run.packets) same ∙ b.there)) in
-      let at : IsAt run i.packet a.packet (view_of a.packet.frame run.policy.own) =
-      record {
-        stands = a.there;
-        shown = view_shown a.packet.frame run.policy.own;
-        only = λ other h. view_only a.packet.frame run.policy.own other h;
-      } in
-      let one = flow_at run i.packet a.packet (view_of a.packet.frame run.policy.own) i.reading at a.read in
-      let other = flow_at run i.packet a.packet (view_of a.packet.frame run.policy.own) j.reading at
-      (subst (λ p. IsReading run.policy p j.reading) (sym packet) b.read) in
-      sym a.dealt ∙ (ap (worker_of run.deal i.packet) (one ∙ sym other)
-      ∙ (ap (λ n. worker_of run.deal n (flow_in j.reading)) same ∙ b.dealt))
+  -- what comes behind the packets whose verdicts are placed, for any worker, where the next one is this worker's
+  abbrev Behind : ℕ → ℕ → ℕ → List frames.FrameFacts → List ℕ
+  Behind w v at views = cond (w == v) (at ∷ numbers_from run.deal v (at + 1) (drop (at + 1) views))
+      (numbers_from run.deal v (at + 1) (drop (at + 1) views))
+
+  -- the next packet is this worker's, which said this of it
+  pub record IsNext (placed : Placed) (w : ℕ) : Type 0 where
+    pub trace : List Item
+    pub traced : get_elem? traces w ≡ some trace
+    pub said : Vec Verdict
+    pub here : get_elem? all w ≡ some said
+    pub few : w < 16
+    pub item : Item
+    pub at : get_elem? trace (slice_index placed.next w) ≡ some item
+    pub verdict : get_elem? said.items (slice_index placed.next w) ≡ some (verdict_in run.times item)
+    pub number : item.packet ≡ length placed.verdicts.items
+    pub behind : (v : ℕ) (views : List frames.FrameFacts) → AreViews run.policy.own run.packets views
+        → numbers_from run.deal v (length placed.verdicts.items) (drop (length placed.verdicts.items) views)
+        ≡ Behind w v (length placed.verdicts.items) views
+
+  pub next_is : (placed : Placed) → ArePlacedBefore run traces placed → (w : ℕ) (packet : PacketFacts)
+      (view : frames.FrameFacts) → IsAt run (length placed.verdicts.items) packet view
+      → w ≡ worker_of run.deal (length placed.verdicts.items) (flow_shown view) → IsNext placed w
+  next_is placed before w packet view is mine = record {
+    trace = t.0;
+    traced = t.1;
+    said = s.0;
+    here = s.1;
+    few = let few = are.few in let less = few_w in omega arith;
+    item = item.0;
+    at = item.1;
+    verdict = ap (λ vs. get_elem? vs n) s.2 ∙ after_map (verdict_in run.times) t.0 n item.0 item.1;
+    number = item.2;
+    behind = behind;
+  }
     where
-      some_same : {p q : PacketFacts} → Some p ≡ Some q → p ≡ q
-      some_same e = cc
+      at : ℕ
+      at = length placed.verdicts.items
 
-  one_place : (w : ℕ) (trace : List Item) (k l : ℕ) (i j : Item) → get_elem? traces w ≡ some trace
-      → get_elem? trace k ≡ some i → get_elem? trace l ≡ some j → i.packet ≡ j.packet → i ≡ j
-  one_place w trace k l i j stands one other same =
-      let vs = all_views run.policy.own run.packets in
-      let numbers = (are.traced.each w trace stands).dealt vs.0 vs.1 in
-      let first = sym (ap (λ ns. get_elem? ns k) numbers) ∙ after_map (λ (x : Item). x.packet) trace k i one in
-      let second = sym (ap (λ ns. get_elem? ns l) numbers)
-      ∙ (after_map (λ (x : Item). x.packet) trace l j other ∙ ap some (sym same)) in
-      let place : k ≡ l = once run.deal w 0 vs.0 k l i.packet first second in
-      some-injective i j (sym one ∙ (ap (get_elem? trace) place ∙ other))
+      n : ℕ
+      n = slice_index placed.next w
 
-  pub all_agree : run.deal.workers ≢ 1 → (i j : ℕ) (s t : Said) → get_elem? all i ≡ some s → get_elem? all j ≡ some t
-      → AgreesWith s t
-  all_agree several i j s t s_at t_at n v w one other =
-      let a = source several i s s_at n v one in
-      let b = source several j t t_at n w other in
-      let same = a.number ∙ sym b.number in
-      let worker : i ≡ j =
-      one_worker i j a.item b.item (of_item i a.trace a.place a.item a.stands a.at)
-      (of_item j b.trace b.place b.item b.stands b.at) same in
-      let trace : a.trace ≡ b.trace =
-      some-injective a.trace b.trace (sym a.stands ∙ (ap (get_elem? traces) worker ∙ b.stands)) in
-      let item =
-      one_place i a.trace a.place b.place a.item b.item a.stands a.at
-      (ap (λ t. get_elem? t b.place) trace ∙ b.at) same in
-      sym a.verdict ∙ (ap (verdict_in run.times) item ∙ b.verdict)
+      few_w : w < run.deal.workers
+      few_w = subst (λ k. k < run.deal.workers) (sym mine) (worker_few run.deal at (flow_shown view) are.some_worker)
 
-  pub all_paired : run.deal.workers ≢ 1 → All (ArePaired packets) all
-  all_paired several = all_from (ArePaired packets) all (λ i s at.
-      let t =
-      zip_there (λ trace (k : Said). AreSaid run trace k.verdicts.items k.numbers.items) traces all i s are.said
-      at in
-      record {
-        count = ap length (t.2.of several)
-            ∙ (length-map t.0 (λ (k : Item). k.packet)
-            ∙ sym (ap length t.2.said ∙ length-map t.0 (verdict_in run.times)));
-        inside = all_from (λ n. n < packets) s.numbers.items (λ k n stands.
-            let item =
-            before_map (λ (x : Item). x.packet) t.0 k n
-            (sym (ap (λ ns. get_elem? ns k) (t.2.of several)) ∙ stands) in
-            let of = of_item i t.0 k item.0 t.1 item.1 in
-            subst (λ j. j < packets) item.2
-            (subst (λ m. item.0.packet < m) are.count
-            (slice_get_within run.packets item.0.packet of.packet of.there)));
-      })
+      t : (trace : List Item) × (get_elem? traces w ≡ some trace)
+      t = there traces w (let count = are.traced.count in let less = few_w in omega arith)
 
-  pub all_placed : run.deal.workers ≢ 1 → (verdicts : List Verdict) → length verdicts ≡ packets
-      → ((i : ℕ) (s : Said) → get_elem? all i ≡ some s → (n : ℕ) (v : Verdict) → IsSaid s n v
-      → get_elem? verdicts n ≡ some v)
-      → ArePlaced run.times run.packets traces verdicts
-  all_placed several verdicts count each = record {
-    count = count ∙ sym are.count;
-    each = λ w trace stands k i at.
-        let s =
-        zip_back (λ t (x : Said). AreSaid run t x.verdicts.items x.numbers.items) traces all w trace are.said
-        stands in
-        each w s.0 s.1 i.packet (verdict_in run.times i) (record {
-          place = k;
-          of = ap (λ ns. get_elem? ns k) (s.2.of several) ∙ after_map (λ (x : Item). x.packet) trace k i at;
-          is = ap (λ vs. get_elem? vs k) s.2.said ∙ after_map (verdict_in run.times) trace k i at;
-        });
+      s : (said : Vec Verdict) × (get_elem? all w ≡ some said) × AreSaid run t.0 said.items
+      s = zip_back (λ trace (said : Vec Verdict). AreSaid run trace said.items) traces all w t.0 are.said t.1
+
+      behind : (v : ℕ) (views : List frames.FrameFacts) → AreViews run.policy.own run.packets views
+          → numbers_from run.deal v at (drop at views) ≡ Behind w v at views
+      behind v views these = numbers_at run v at packet view is views these (w == v)
+          (ap (λ k. k == v) (sym mine))
+
+      vs : (views : List frames.FrameFacts) × AreViews run.policy.own run.packets views
+      vs = all_views run.policy.own run.packets
+
+      left : drop n (numbers_of t.0) ≡ at ∷ numbers_from run.deal w (at + 1) (drop (at + 1) vs.0)
+      left = before.left w t.0 t.1 vs.0 vs.1 ∙ (behind w vs.0 vs.1
+          ∙ ap (λ b. cond b (at ∷ numbers_from run.deal w (at + 1) (drop (at + 1) vs.0))
+          (numbers_from run.deal w (at + 1) (drop (at + 1) vs.0))) (eq-eqb w w refl))
+
+      item : (i : Item) × (get_elem? t.0 n ≡ some i) × (i.packet ≡ at)
+      item = before_map (λ (i : Item). i.packet) t.0 n at (first_left _ _ n at left)
+
+  -- what the next packet's worker said stands at its place
+  pub said_is : (placed : Placed) (w : ℕ) (is : IsNext placed w) (said : Vec Verdict) → said ≡ get_or all w said
+      → is.said ≡ said
+  said_is placed w is said at = some-injective is.said said
+      (sym is.here ∙ (at_or all w said (within all w is.said is.here) ∙ ap some (sym at)))
+
+  pub told_next : (placed : Placed) (w : ℕ) (is : IsNext placed w) (said : Vec Verdict) (x : Verdict)
+      → said ≡ get_or all w said → x ≡ get_or said.items (slice_index placed.next w) x
+      → get_elem? is.said.items (slice_index placed.next w) ≡ some x
+  told_next placed w is said x at told =
+      let n = slice_index placed.next w in
+      let same = said_is placed w is said at in
+      let inside = within said.items n _ (subst (λ s. get_elem? s.items n ≡ some (verdict_in run.times is.item)) same is.verdict) in
+      ap (λ s. get_elem? s.items n) same ∙ (at_or said.items n x inside ∙ ap some (sym told))
+
+  pub placed_more : (placed new : Placed) (w : ℕ) (x : Verdict) → ArePlacedBefore run traces placed
+      → (is : IsNext placed w) → get_elem? is.said.items (slice_index placed.next w) ≡ some x
+      → new.verdicts.items ≡ placed.verdicts.items ++ x ∷ []
+      → new.next ≡ set placed.next w (slice_index placed.next w + 1) → ArePlacedBefore run traces new
+  placed_more placed new w x before is said verdicts next = record {
+    room = ap length next ∙ (length-set placed.next w (n + 1) ∙ before.room);
+    left = λ v trace traced views these. elim (eqb_tells w v) [
+      | inl (test, same) ↦
+          let old : drop n (numbers_of trace) ≡ at ∷ numbers_from run.deal v (at + 1) (drop (at + 1) views) =
+          ap (λ k. drop (slice_index placed.next k) (numbers_of trace)) same
+          ∙ (before.left v trace traced views these ∙ (is.behind v views these
+          ∙ ap (λ b. cond b (at ∷ numbers_from run.deal v (at + 1) (drop (at + 1) views))
+          (numbers_from run.deal v (at + 1) (drop (at + 1) views))) test)) in
+          ap (λ k. drop k (numbers_of trace)) (ap (slice_index new.next) (sym same) ∙ one_more)
+          ∙ (left_behind _ _ n at old ∙ sym (ap (λ k. numbers_from run.deal v k (drop k views)) longer))
+      | inr (test, other) ↦ ap (λ k. drop k (numbers_of trace)) (the_same v other)
+          ∙ (before.left v trace traced views these ∙ (is.behind v views these
+          ∙ (ap (λ b. cond b (at ∷ numbers_from run.deal v (at + 1) (drop (at + 1) views))
+          (numbers_from run.deal v (at + 1) (drop (at + 1) views))) test
+          ∙ sym (ap (λ k. numbers_from run.deal v k (drop k views)) longer))))
+    ];
+    each = λ v trace traced k i stands below. elim (eqb_tells w v) [
+      | inl (test, same) ↦ elim (eqb_tells k n) [
+        | inl (first, last) ↦
+            let one : trace ≡ is.trace =
+            some-injective trace is.trace (sym traced ∙ (ap (get_elem? traces) (sym same) ∙ is.traced)) in
+            let this : i ≡ is.item =
+            some-injective i is.item
+            (sym stands ∙ (ap (λ k'. get_elem? trace k') last ∙ (ap (λ t. get_elem? t n) one ∙ is.at))) in
+            let right : x ≡ verdict_in run.times i =
+            some-injective x (verdict_in run.times i)
+            (sym said ∙ (is.verdict ∙ ap (λ (j : Item). some (verdict_in run.times j)) (sym this))) in
+            let place : i.packet ≡ at + 0 = let p = ap (λ (j : Item). j.packet) this ∙ is.number in omega arith in
+            ap (get_elem? new.verdicts.items) place ∙ (ap (λ vs. get_elem? vs (at + 0)) verdicts
+            ∙ (at_after placed.verdicts.items (x ∷ []) 0 x refl ∙ ap some right))
+        | inr (first, earlier) ↦
+            let less : k < n = let grown = ap (slice_index new.next) (sym same) ∙ one_more in omega arith in
+            kept i (before.each v trace traced k i stands (subst (λ u. k < slice_index placed.next u) same less))
+      ]
+      | inr (test, other) ↦
+          kept i (before.each v trace traced k i stands (subst (λ m. k < m) (the_same v other) below))
+    ];
+  }
+    where
+      at : ℕ
+      at = length placed.verdicts.items
+
+      n : ℕ
+      n = slice_index placed.next w
+
+      one_more : slice_index new.next w ≡ n + 1
+      one_more = ap (λ ns. slice_index ns w) next
+          ∙ get_or-set_same placed.next w (n + 1) 0 (let few = is.few in let room = before.room in omega arith)
+
+      the_same : (v : ℕ) → w ≢ v → slice_index new.next v ≡ slice_index placed.next v
+      the_same v other = ap (λ ns. slice_index ns v) next
+          ∙ get_or-set_other placed.next w v (n + 1) 0 (λ same. other (sym same))
+
+      longer : length new.verdicts.items ≡ at + 1
+      longer = ap length verdicts ∙ (let e = length-append placed.verdicts.items (x ∷ []) in omega arith)
+
+      kept : (i : Item) → get_elem? placed.verdicts.items i.packet ≡ some (verdict_in run.times i)
+          → get_elem? new.verdicts.items i.packet ≡ some (verdict_in run.times i)
+      kept i old = ap (λ vs. get_elem? vs i.packet) verdicts
+          ∙ at_front placed.verdicts.items (x ∷ []) i.packet (verdict_in run.times i) old
+
+  -- ---- All verdicts
+
+  pub none_placed : (placed : Placed) → placed.verdicts.items ≡ [] → placed.next ≡ replicate 16 0
+      → ArePlacedBefore run traces placed
+  none_placed placed none zeros = record {
+    room = ap length zeros;
+    left = λ w trace traced views these.
+        ap (λ k. drop k (numbers_of trace)) (ap (λ ns. slice_index ns w) zeros ∙ no_zeros 16 w)
+        ∙ ((are.traced.each w trace traced).dealt views these
+        ∙ sym (ap (λ vs. numbers_from run.deal w (length vs) (drop (length vs) views)) none));
+    each = λ w trace traced k i stands below.
+        let zero_next = ap (λ ns. slice_index ns w) zeros ∙ no_zeros 16 w in absurd (omega arith);
+  }
+
+  pub all_placed : (placed : Placed) → ArePlacedBefore run traces placed
+      → length placed.verdicts.items ≡ length run.packets
+      → ArePlaced run.times run.packets traces placed.verdicts.items
+  all_placed placed before count = record {
+    count = count;
+    each = λ w trace traced k i stands.
+        let vs = all_views run.policy.own run.packets in
+        let views = zip_count _ run.packets vs.0 vs.1 in
+        let at = length placed.verdicts.items in
+        let none : drop (slice_index placed.next w) (numbers_of trace) ≡ [] =
+        before.left w trace traced vs.0 vs.1
+        ∙ (ap (numbers_from run.deal w at) (drop_all at vs.0 (omega arith)) ∙ no_numbers run.deal w at) in
+        let many = none_left (numbers_of trace) (slice_index placed.next w) none in
+        let mapped = length-map trace (λ (j : Item). j.packet) in
+        let inside = within trace k i stands in before.each w trace traced k i stands (omega arith);
   }
 
   -- what a worker that is alone said is in order already
-  pub alone_placed : (said : Said) → all ≡ said ∷ [] → run.deal.workers ≡ 1
-      → ArePlaced run.times run.packets traces said.verdicts.items
+  pub alone_placed : (said : Vec Verdict) → all ≡ said ∷ [] → run.deal.workers ≡ 1
+      → ArePlaced run.times run.packets traces said.items
   alone_placed said one alone =
       let t =
-      zip_there (λ trace (k : Said). AreSaid run trace k.verdicts.items k.numbers.items) traces all 0 said are.said
+      zip_there (λ trace (k : Vec Verdict). AreSaid run trace k.items) traces all 0 said are.said
       (ap (λ ss. get_elem? ss 0) one) in
       let vs = all_views run.policy.own run.packets in
       let numbers = (are.traced.each 0 t.0 t.1).dealt vs.0 vs.1 in
       record {
         count =
-            ap length t.2.said ∙ (length-map t.0 (verdict_in run.times) ∙ (sym (length-map t.0 (λ (k : Item). k.packet))
+            ap length t.2 ∙ (length-map t.0 (verdict_in run.times) ∙ (sym (length-map t.0 (λ (k : Item). k.packet))
             ∙ (ap length numbers ∙ (alone_count run.deal 0 vs.0 alone ∙ sym (zip_count _ run.packets vs.0 vs.1)))));
         each = λ w trace stands k i at.
             let first : w ≡ 0 = let inside = within traces w trace stands in let count = are.traced.count in
@@ -331,9 +316,72 @@ module _ (run : RunFacts) (traces : List (List Item)) (all : List Said) (packets
             let here = ap (λ (x : List Item). get_elem? x k) (sym same) ∙ at in
             let place : i.packet ≡ 0 + k = alone_at run.deal 0 vs.0 k i.packet alone
             (sym (ap (λ ns. get_elem? ns k) numbers) ∙ after_map (λ (x : Item). x.packet) t.0 k i here) in
-            ap (get_elem? said.verdicts.items) (place ∙ (let e : 0 + k ≡ k = omega arith in e))
-            ∙ (ap (λ vs. get_elem? vs k) t.2.said ∙ after_map (verdict_in run.times) t.0 k i here);
+            ap (get_elem? said.items) (place ∙ (let e : 0 + k ≡ k = omega arith in e))
+            ∙ (ap (λ vs. get_elem? vs k) t.2 ∙ after_map (verdict_in run.times) t.0 k i here);
       }
 
-  pub count_is : length all ≡ run.deal.workers
-  count_is = sym (zip_count _ traces all are.said) ∙ are.traced.count
+-- the next packet of a part
+pub part_next : (run : RunFacts) (traces : List (List Item)) (all : List (Vec Verdict)) (workers : List ℕ)
+    (old placed : Placed) (k w : ℕ) (may : MayPlace run traces all workers old)
+    → length placed.verdicts.items ≡ length old.verdicts.items + k → k < length workers → w ≡ slice_index workers k
+    → ArePlacedBefore run traces placed → IsNext run traces all may.told placed w
+part_next run traces all workers old placed k w may count below this before =
+    let at = length old.verdicts.items + k in
+    let inside : at < length run.packets = let i = may.judges.inside in omega arith in
+    let packet = get_or run.packets at (record { moment = 0; frame = [] }) in
+    let stands = slice_get-get_or run.packets at (record { moment = 0; frame = [] }) inside in
+    let own = run.policy.own in
+    next_is run traces all may.told placed before w packet (view_of packet.frame own)
+    (record {
+      stands = ap (slice_get run.packets) count ∙ stands;
+      shown = view_shown packet.frame own;
+      only = view_only packet.frame own;
+    })
+    (this ∙ (may.judges.each k packet (view_of packet.frame own) below stands (view_shown packet.frame own)
+    ∙ ap (λ n. worker_of run.deal n (flow_shown (view_of packet.frame own))) (sym count)))
+
+-- ---- The workers of all packets
+
+there_behind : {X : Type 0} (xs : List X) (n k : ℕ) → slice_get (drop n xs) k ≡ slice_get xs (n + k)
+there_behind xs zero k = ap (slice_get xs) (let e : k ≡ zero + k = omega arith in e)
+there_behind [] (suc n) k = sym (slice_get_past [] (suc n + k) (omega arith))
+there_behind (x ∷ xs) (suc n) k =
+    there_behind xs n k ∙ ap (slice_get (x ∷ xs)) (let e : suc (n + k) ≡ suc n + k = omega arith in e)
+
+-- what the packets of a run are dealt by
+abbrev dealer_by : RunFacts → Dealer
+dealer_by run = record { own = run.policy.own; dealing = run.deal.dealing; workers = run.deal.workers }
+
+module _ (run : RunFacts) (first i : ℕ) (parts : List DealtPart) where
+  pub judges_first : (part : DealtPart) → i < length parts → part ≡ get_or parts i part
+      → AreAllJudges run first (drop i parts) → AreJudges run first part.workers.items
+  judges_first part inside is all = subst (λ p. AreJudges run first p.workers.items) (sym is)
+      (subst (AreAllJudges run first) (drop_more parts i part inside) all).0
+
+  pub judges_behind : (part : DealtPart) → i < length parts → part ≡ get_or parts i part
+      → AreAllJudges run first (drop i parts)
+      → AreAllJudges run (first + length part.workers.items) (drop (i + 1) parts)
+  judges_behind part inside is all =
+      subst (λ p. AreAllJudges run (first + length p.workers.items) (drop (i + 1) parts)) (sym is)
+      (subst (AreAllJudges run first) (drop_more parts i part inside) all).1
+
+  pub all_judged : length parts ≤ i → AreAllJudges run first (drop i parts) → first ≡ length run.packets
+  all_judged past all = subst (AreAllJudges run first) (drop_all i parts past) all
+
+pub all_judges : {A B K L : Type 0} (ga : Ghosts A K) (gb : Ghosts B L) (run : RunFacts)
+    → run.deal.layout ≡ layout_of ga gb → (first : ℕ) (parts : List DealtPart) → first ≤ length run.packets
+    → AreDealt ga gb (dealer_by run) first parts (drop first run.packets) → AreAllJudges run first parts
+all_judges ga gb run layout first [] inside dealt =
+    let none = none_left run.packets first dealt in omega arith
+all_judges ga gb run layout first (part ∷ parts) inside dealt = (
+  record {
+    inside = let few = dealt.0.workers.inside in let left = length-drop first run.packets in omega arith;
+    each = λ k packet view below at shown. dealt.0.workers.each k packet below
+        (there_behind run.packets first k ∙ at) view shown
+        ∙ ap (λ l. worker_by run.deal.dealing l run.deal.workers (first + k) (flow_shown view)) (sym layout);
+  },
+  all_judges ga gb run layout (first + length part.workers.items) parts
+      (let few = dealt.0.workers.inside in let left = length-drop first run.packets in omega arith)
+      (subst (λ ps. AreDealt ga gb (dealer_by run) (first + length part.workers.items) parts ps)
+      (drop-drop (length part.workers.items) first run.packets) dealt.1),
+)

@@ -76,10 +76,10 @@ module _ {A B R G K L : Type 0} (ga : Ghosts A K) (gb : Ghosts B L) (tables : Ta
       u : Views
       u = views_of ga gb share.callers
 
-      work : IsWork run w v u share.said.verdicts.items share.said.numbers.items
+      work : IsWork run w v u share.said.items
       work =
-          subst (λ (f : RunFacts). IsWork f w v u share.said.verdicts.items share.said.numbers.items) is.facts
-          (subst (λ k. IsWork (run_facts ga gb job.run) k v u share.said.verdicts.items share.said.numbers.items)
+          subst (λ (f : RunFacts). IsWork f w v u share.said.items) is.facts
+          (subst (λ k. IsWork (run_facts ga gb job.run) k v u share.said.items)
           is.worker did.done)
 
   pub turned : (t u : Turn A B R G K L ga gb) → IsAhead ga gb tables run w t → Becomes ga gb t u

@@ -194,7 +194,7 @@ pub flow_at : (run : RunFacts) (at : ℕ) (packet : PacketFacts) (view : frames.
 flow_at run at packet view reading is read =
     flow_of_reading run.policy packet.moment read.0 reading read.2 ∙ ap flow_shown (is.only read.0 read.1)
 
-pub work_none : (run : RunFacts) (w : ℕ) (v : Views) → IsWorkUntil run w 0 v v [] []
+pub work_none : (run : RunFacts) (w : ℕ) (v : Views) → IsWorkUntil run w 0 v v []
 work_none run w v = record {
   trace = [];
   items = All-nil (IsItem run.deal.layout run.times);
@@ -202,11 +202,11 @@ work_none run w v = record {
   dealt = λ views all. refl;
   four = continues_none v.four;
   six = continues_none v.six;
-  said = record { said = refl; of = λ several. refl };
+  said = refl;
 }
 
 -- the numbers from a packet on, where its view is known
-numbers_at : (run : RunFacts) (w at : ℕ) (packet : PacketFacts) (view : frames.FrameFacts) → IsAt run at packet view
+pub numbers_at : (run : RunFacts) (w at : ℕ) (packet : PacketFacts) (view : frames.FrameFacts) → IsAt run at packet view
     → (views : List frames.FrameFacts)
     → AreViews run.policy.own run.packets views → (t : Bool) → (worker_of run.deal at (flow_shown view) == w) ≡ t
     → numbers_from run.deal w at (drop at views)
@@ -218,11 +218,11 @@ numbers_at run w at packet view is views all t test =
     ∙ ap (λ b. cond b (at ∷ numbers_from run.deal w (at + 1) (drop (at + 1) views))
     (numbers_from run.deal w (at + 1) (drop (at + 1) views))) test)
 
-pub work_passed : (run : RunFacts) (w at : ℕ) (v x : Views) (verdicts : List Verdict) (numbers : List ℕ)
+pub work_passed : (run : RunFacts) (w at : ℕ) (v x : Views) (verdicts : List Verdict)
     (packet : PacketFacts) (view : frames.FrameFacts)
     → IsAt run at packet view → worker_of run.deal at (flow_shown view) ≢ w
-    → IsWorkUntil run w at v x verdicts numbers → IsWorkUntil run w (at + 1) v x verdicts numbers
-work_passed run w at v x verdicts numbers packet view is other old = record {
+    → IsWorkUntil run w at v x verdicts → IsWorkUntil run w (at + 1) v x verdicts
+work_passed run w at v x verdicts packet view is other old = record {
   trace = old.trace;
   items = old.items;
   of = old.of;
@@ -235,25 +235,18 @@ work_passed run w at v x verdicts numbers packet view is other old = record {
   said = old.said;
 }
 
-said_push : (run : RunFacts) (trace : List Item) (i : Item) (verdicts : List Verdict) (numbers more : List ℕ)
-    (verdict : Verdict) → AreSaid run trace verdicts numbers → verdict ≡ verdict_in run.times i
-    → (run.deal.workers ≢ 1 → more ≡ numbers ++ i.packet ∷ [])
-    → AreSaid run (trace ++ i ∷ []) (verdicts ++ verdict ∷ []) more
-said_push run trace i verdicts numbers more verdict old is noted = record {
-  said = ap (λ vs. vs ++ verdict ∷ []) old.said ∙ (ap (λ k. map (verdict_in run.times) trace ++ k ∷ []) is
-      ∙ sym (map-append (verdict_in run.times) trace (i ∷ [])));
-  of = λ several.
-      noted several ∙ (ap (λ ns. ns ++ i.packet ∷ []) (old.of several)
-      ∙ sym (map-append (λ (k : Item). k.packet) trace (i ∷ [])));
-}
+said_push : (run : RunFacts) (trace : List Item) (i : Item) (verdicts : List Verdict) (verdict : Verdict)
+    → AreSaid run trace verdicts → verdict ≡ verdict_in run.times i
+    → AreSaid run (trace ++ i ∷ []) (verdicts ++ verdict ∷ [])
+said_push run trace i verdicts verdict old is =
+    ap (λ vs. vs ++ verdict ∷ []) old ∙ (ap (λ k. map (verdict_in run.times) trace ++ k ∷ []) is
+    ∙ sym (map-append (verdict_in run.times) trace (i ∷ [])))
 
-pub work_push : (run : RunFacts) (w at : ℕ) (v x y : Views) (verdicts : List Verdict) (numbers more : List ℕ)
-    (packet : PacketFacts) (view : frames.FrameFacts)
+pub work_push : (run : RunFacts) (w at : ℕ) (v x y : Views) (verdicts : List Verdict) (packet : PacketFacts) (view : frames.FrameFacts)
     (verdict : Verdict) → IsAt run at packet view → worker_of run.deal at (flow_shown view) ≡ w
     → IsJudged run.deal.layout TookByTries run.times run.policy packet x y verdict
-    → (run.deal.workers ≢ 1 → more ≡ numbers ++ at ∷ [])
-    → IsWorkUntil run w at v x verdicts numbers → IsWorkUntil run w (at + 1) v y (verdicts ++ verdict ∷ []) more
-work_push run w at v x y verdicts numbers more packet view verdict is mine j noted old = record {
+    → IsWorkUntil run w at v x verdicts → IsWorkUntil run w (at + 1) v y (verdicts ++ verdict ∷ [])
+work_push run w at v x y verdicts packet view verdict is mine j old = record {
   trace = old.trace ++ item ∷ [];
   items = All-push (IsItem run.deal.layout run.times) old.trace item old.items (record {
     asked = asked;
@@ -274,7 +267,7 @@ work_push run w at v x y verdicts numbers more packet view verdict is mine j not
       ∙ old.dealt views all));
   four = subst (λ cs. Continues v.four y.four cs) (sym (calls_push run.times V4 old.trace item)) left.four;
   six = subst (λ cs. Continues v.six y.six cs) (sym (calls_push run.times V6 old.trace item)) left.six;
-  said = said_push run old.trace item verdicts numbers more verdict old.said said noted;
+  said = said_push run old.trace item verdicts verdict old.said said;
 }
   where
     left : Left run.deal.layout (update_of run.times j.judged.reading) j.judged.event v y
@@ -304,12 +297,6 @@ alone_worker d number flow w alone few = let other = worker_few d number flow (o
 -- ---- Packets that are taken one by one
 
 -- the packet that is taken next is at the number of those that were taken
-pub stands_at : {X : Type 0} (xs ys : List X) (at : ℕ) (x : X) → drop at xs ≡ x ∷ ys → slice_get xs at ≡ Some x
-stands_at [] ys zero x e = absurd (let f : ⊥ = cc in f)
-stands_at [] ys (suc at) x e = absurd (let f : ⊥ = cc in f)
-stands_at (y ∷ xs) ys zero x e = let same : y ≡ x = cc in ap Some same
-stands_at (y ∷ xs) ys (suc at) x e = stands_at xs ys at x e
-
 pub taken_inside : {X : Type 0} (xs ys : List X) (at : ℕ) (x : X) → drop at xs ≡ x ∷ ys → at < length xs
 taken_inside [] ys zero x e = absurd (let f : ⊥ = cc in f)
 taken_inside [] ys (suc at) x e = absurd (let f : ⊥ = cc in f)
@@ -330,22 +317,22 @@ no_views own (p ∷ ps) [] at all none = absurd all
 no_views own (p ∷ ps) (view ∷ views) zero all none = absurd (let f : ⊥ = cc in f)
 no_views own (p ∷ ps) (view ∷ views) (suc at) all none = no_views own ps views at all.1 none
 
-all_looked_at : (run : RunFacts) (w at : ℕ) (v u : Views) (verdicts : List Verdict) (numbers : List ℕ)
+all_looked_at : (run : RunFacts) (w at : ℕ) (v u : Views) (verdicts : List Verdict)
     → drop at run.packets ≡ []
-    → (work : IsWorkUntil run w at v u verdicts numbers) (views : List frames.FrameFacts)
+    → (work : IsWorkUntil run w at v u verdicts) (views : List frames.FrameFacts)
     → AreViews run.policy.own run.packets views → numbers_of work.trace ≡ numbers_from run.deal w 0 views
-all_looked_at run w at v u verdicts numbers none work views all =
+all_looked_at run w at v u verdicts none work views all =
     sym (ap (λ vs. numbers_of work.trace ++ numbers_from run.deal w at vs)
     (no_views run.policy.own run.packets views at all none)
     ∙ (ap (λ ns. numbers_of work.trace ++ ns) (no_numbers run.deal w at) ∙ append-nil (numbers_of work.trace)))
     ∙ work.dealt views all
 
 -- who has looked at all packets judged its own, all of them
-pub whole_work : (run : RunFacts) (w at : ℕ) (v u : Views) (verdicts : List Verdict) (numbers : List ℕ)
-    → drop at run.packets ≡ [] → IsWorkUntil run w at v u verdicts numbers → IsWork run w v u verdicts numbers
-whole_work run w at v u verdicts numbers none work = record {
+pub whole_work : (run : RunFacts) (w at : ℕ) (v u : Views) (verdicts : List Verdict)
+    → drop at run.packets ≡ [] → IsWorkUntil run w at v u verdicts → IsWork run w v u verdicts
+whole_work run w at v u verdicts none work = record {
   trace = work.trace;
-  is = record { items = work.items; of = work.of; dealt = all_looked_at run w at v u verdicts numbers none work };
+  is = record { items = work.items; of = work.of; dealt = all_looked_at run w at v u verdicts none work };
   four = work.four;
   six = work.six;
   said = work.said;

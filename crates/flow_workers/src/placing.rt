@@ -1,61 +1,63 @@
 //! The verdicts of all workers, in the order of the file.
-ghost use Rattle.std.specs.Prelude.{◌≡◌, ◌<◌, ℕ, All, IfOk, List, length};
-ghost use lib.ListN.{get_elem?};
-ghost use mathlib.Core.Option.{some};
-ghost use Rattle.flow_filter.specs.declared.verdict.Verdict.{Verdict};
-ghost use Rattle.flow_dealing.specs.Traces.{ArePlaced, Item};
-ghost use Rattle.flow_workers.specs.inner.Work.{RunFacts};
-ghost use Rattle.flow_workers.specs.inner.Placing.{AgreesWith, AreAllSaid, ArePaired, IsSaid};
+ghost use Rattle.std.specs.Prelude.{IfOk};
+ghost use Rattle.flow_workers.specs.inner.Placing.{AreInOrder, CanOrder};
 
-use crate::share::Said;
 use flow_filter::Verdict;
+use packet_dealing::DealtPart;
 use std::alloc::{AllocError, Global};
 
-/// Each verdict at the number of its packet.
-fn place(verdicts: &mut Vec<Verdict>, said: &Said)
-    requires paired { ArePaired (length verdicts.old.items) said.now }
-    ensures count { length verdicts.new.items ≡ length verdicts.old.items }
-    ensures kept { (n : ℕ) (w : Verdict) → get_elem? verdicts.old.items n ≡ some w
-        → ((v : Verdict) → IsSaid said.now n v → v ≡ w) → get_elem? verdicts.new.items n ≡ some w }
-    ensures placed { AgreesWith said.now said.now → (n : ℕ) (v : Verdict) → IsSaid said.now n v
-        → get_elem? verdicts.new.items n ≡ some v }
-{
-    for (k, number) in said.numbers.as_slice().iter().enumerate() {
-        verdicts[*number] = said.verdicts[k];
-    }
+/// The most workers.
+const MOST_WORKERS: usize = 16;
+
+/// The verdicts on the first packets, and how many of each worker's are among them.
+#[derive(Drop)]
+pub struct Placed {
+    pub verdicts: Vec<Verdict>,
+    pub next: [usize; MOST_WORKERS],
 }
 
-/// The verdicts of many workers.
-fn place_all(alloc: Global, all: &Vec<Said>, packets: usize) -> Result<Vec<Verdict>, AllocError>
-    requires paired { All (ArePaired packets) all.now.items }
-    ensures count { IfOk result (λ verdicts. length verdicts.items ≡ packets) }
-    ensures placed { IfOk result (λ verdicts.
-        ((i j : ℕ) (s t : _) → get_elem? all.now.items i ≡ some s → get_elem? all.now.items j ≡ some t → AgreesWith s t)
-        → (i : ℕ) (s : _) → get_elem? all.now.items i ≡ some s → (n : ℕ) (v : Verdict) → IsSaid s n v
-        → get_elem? verdicts.items n ≡ some v) }
-{
-    let mut verdicts = Vec::from_elem(alloc, Verdict::NotIp, packets)?;
-    for said in all.as_slice() {
-        place(&mut verdicts, said);
+impl Placed {
+    ghost use Rattle.std.specs.Prelude.{IfOk};
+    ghost use Rattle.flow_workers.specs.inner.Placing.{CanPlace, HasPlaced};
+
+    /// Places the verdicts on the packets of a part: that on a packet is the next one of its worker.
+    fn place(&mut self, part: &DealtPart<'_>, all: &[Vec<Verdict>]) -> Result<(), AllocError>
+        requires { CanPlace all.now part.now.workers.items self.old }
+        ensures { IfOk result (λ _. HasPlaced all.now part.now.workers.items self.old self.new) }
+    {
+        'part: for judge in part.workers.as_slice() {
+            let worker = *judge as usize;
+            let at = self.next[worker];
+            let said = &all[worker];
+            self.verdicts.push(said[at])?;
+            self.next[worker] = at + 1;
+        }
+        Ok(())
     }
-    Ok(verdicts)
 }
 
 /// The verdicts on so many packets. What a worker that is alone said is in their order already.
 pub fn in_order(
     alloc: Global,
-    mut all: Vec<Said>,
+    mut all: Vec<Vec<Verdict>>,
+    dealt: &[DealtPart<'_>],
     packets: usize,
 ) -> Result<Vec<Verdict>, AllocError>
-    requires { (run : RunFacts) × (traces : List (List Item)) × AreAllSaid run traces all.items packets }
-    ensures { IfOk result (λ verdicts. (run : RunFacts) (traces : List (List Item))
-        → AreAllSaid run traces all.items packets → ArePlaced run.times run.packets traces verdicts.items) }
+    requires { CanOrder all.items dealt.now }
+    ensures { IfOk result (λ verdicts. AreInOrder all.items dealt.now verdicts.items) }
 {
     if all.len() > 1 {
-        return place_all(alloc, &all, packets);
+        let mut placed = Placed {
+            verdicts: Vec::with_capacity(alloc, packets)?,
+            next: [0; MOST_WORKERS],
+        };
+        for part in dealt {
+            placed.place(part, all.as_slice())?;
+        }
+        return Ok(placed.verdicts);
     }
     let Some(said) = all.pop() else {
         unreachable!()
     };
-    Ok(said.verdicts)
+    Ok(said)
 }

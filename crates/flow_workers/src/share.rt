@@ -5,7 +5,7 @@ use bihash_table::Caller;
 use bihash_words::Shape;
 use flow_dealing::Dealing;
 use flow_filter::{ReadyFilter, Verdict};
-use packet_dealing::DealtPacket;
+use packet_dealing::DealtPart;
 use packet_view::Packets;
 use std::alloc::Global;
 use std::sync::Wait;
@@ -21,7 +21,7 @@ pub struct Run<'t, 'a, A: Shape, B: Shape, R: Wait, G: Gate> {
     pub dealing: Dealing,
     pub workers: usize,
     /// The packets with their workers, where there are several.
-    pub dealt: &'t Vec<Vec<DealtPacket<'a>>>,
+    pub dealt: &'t Vec<DealtPart<'a>>,
 }
 
 impl<'t, 'a, A: Shape, B: Shape, R: Wait, G: Gate> Run<'t, 'a, A, B, R, G> {
@@ -60,19 +60,12 @@ pub struct Job<'t, 'a, A: Shape, B: Shape, R: Wait, G: Gate> {
     pub callers: Callers<A, B>,
 }
 
-/// What a worker said of its packets, in their order.
-#[derive(Drop)]
-pub struct Said {
-    pub verdicts: Vec<Verdict>,
-    /// The numbers of its packets. A worker that is alone has all packets, and notes none.
-    pub numbers: Vec<usize>,
-}
-
 /// What a worker gives back.
 #[derive(Drop)]
 pub struct Share<A: Shape, B: Shape> {
     pub callers: Callers<A, B>,
-    pub said: Said,
+    /// What it said of its packets, in their order.
+    pub said: Vec<Verdict>,
 }
 
 /// What all workers give back, each list in the workers' order.
@@ -80,5 +73,5 @@ pub struct Share<A: Shape, B: Shape> {
 pub struct Parts<A: Shape, B: Shape> {
     pub four: Vec<Caller<A>>,
     pub six: Vec<Caller<B>>,
-    pub said: Vec<Said>,
+    pub said: Vec<Vec<Verdict>>,
 }

@@ -1,43 +1,17 @@
 //! One worker: each packet that is dealt to it is judged, in the order of the file.
 ghost use Rattle.std.specs.Prelude.{◌≡◌, ◌≢◌, ◌+◌, ◌<◌, ◌++◌, ◌∷◌, [], false, IfOk, length};
 ghost use Rattle.packet_view.specs.Captures.{packet_facts};
-ghost use Rattle.flow_workers.specs.inner.Jobs.{CanWork, HasWorkedOn, IsShareOf, MayJudge, MayJudgePart};
+ghost use Rattle.flow_workers.specs.inner.Jobs.{CanWork, HasWorkedOn, HasWorkedOnPart, IsShareOf, MayJudge, MayJudgePart};
 
 use crate::gate::Gate;
 use crate::judging::judge_viewed;
-use crate::share::{Job, Run, Said, Share};
+use crate::share::{Job, Run, Share};
 use crate::viewed_packet::ViewedPacket;
 use bihash_words::Shape;
-use flow_filter::Verdict;
-use packet_dealing::{DealtPacket, flow_in};
+use packet_dealing::{DealtPart, flow_in};
 use packet_view::{Packet, PacketsAhead, view};
-use std::alloc::{AllocError, Global};
+use std::alloc::AllocError;
 use std::sync::Wait;
-
-fn say(said: &mut Said, alone: bool, number: usize, verdict: Verdict) -> Result<(), AllocError>
-    ensures verdicts { IfOk result (λ _. said.new.verdicts.items ≡ said.old.verdicts.items ++ verdict ∷ []) }
-    ensures numbers { IfOk result (λ _. alone ≡ false
-        → said.new.numbers.items ≡ said.old.numbers.items ++ number ∷ []) }
-{
-    said.verdicts.push(verdict)?;
-    if !alone {
-        said.numbers.push(number)?;
-    }
-    Ok(())
-}
-
-// Room for a worker's part of the packets.
-fn nothing_said(alloc: Global, workers: usize, packets: usize) -> Result<Said, AllocError>
-    requires some { 0 < workers }
-    ensures { IfOk result (λ said. (said.verdicts.items ≡ []) × (said.numbers.items ≡ [])) }
-{
-    let part = packets / workers;
-    let numbers = if workers == 1 { 0 } else { part };
-    Ok(Said {
-        verdicts: Vec::with_capacity(alloc, part)?,
-        numbers: Vec::with_capacity(alloc, numbers)?,
-    })
-}
 
 // Judges a packet of the worker, and says its verdict. All that it does is within the loops of its two callers: as a
 // call it took a fifth more instructions.
@@ -58,7 +32,7 @@ fn judge_own<A: Shape, B: Shape, R: Wait, G: Gate>(
     run.gate.before(worker, number);
     let verdict = judge_viewed(run.rt, &run.filter, run.tables, &mut share.callers, &viewed);
     run.gate.after(worker, number);
-    say(&mut share.said, run.is_alone(), number, verdict)?;
+    share.said.push(verdict)?;
     Ok(())
 }
 
@@ -76,7 +50,7 @@ fn work_alone<'t, 'a, A: Shape, B: Shape, R: Wait, G: Gate>(
         worker,
         callers,
     } = job;
-    let said = nothing_said(alloc, run.workers, run.packets.count())?;
+    let said = Vec::with_capacity(alloc, run.packets.count() / run.workers)?;
     let mut share = Share { callers, said };
     let mut packets = PacketsAhead::new(run.packets);
     let mut taken = 0;
@@ -92,21 +66,20 @@ fn judge_part<'a, A: Shape, B: Shape, R: Wait, G: Gate>(
     run: &Run<'_, 'a, A, B, R, G>,
     worker: usize,
     first: usize,
-    part: &[DealtPacket<'a>],
+    part: &DealtPart<'a>,
     share: &mut Share<A, B>,
 ) -> Result<(), AllocError>
     requires { MayJudgePart ⟦<A as Shape>⟧ ⟦<B as Shape>⟧ run.now first part.now share.old }
-    ensures { IfOk result (λ _. HasWorkedOn ⟦<A as Shape>⟧ ⟦<B as Shape>⟧ run.now worker first
-        (first + length part.now) share.old share.new) }
+    ensures { IfOk result (λ _. HasWorkedOnPart ⟦<A as Shape>⟧ ⟦<B as Shape>⟧ run.now worker first part.now share.old share.new) }
 {
-    'part: for (k, dealt) in part.iter().enumerate() {
-        if dealt.worker as usize != worker {
+    let mut packets = PacketsAhead::new(part.packets);
+    'part: for (k, judge) in part.workers.as_slice().iter().enumerate() {
+        let Some(packet) = packets.next() else {
+            unreachable!()
+        };
+        if *judge as usize != worker {
             continue;
         }
-        let packet = Packet {
-            moment: dealt.moment,
-            frame: dealt.frame,
-        };
         judge_own(run, worker, first + k, &packet, share)?;
     }
     Ok(())
@@ -126,13 +99,12 @@ fn work_among<'t, 'a, A: Shape, B: Shape, R: Wait, G: Gate>(
         worker,
         callers,
     } = job;
-    let said = nothing_said(alloc, run.workers, run.packets.count())?;
+    let said = Vec::with_capacity(alloc, run.packets.count() / run.workers)?;
     let mut share = Share { callers, said };
     let mut first = 0;
     for part in run.dealt.as_slice() {
-        let part = part.as_slice();
         judge_part(&run, worker, first, part, &mut share)?;
-        first += part.len();
+        first += part.workers.len();
     }
     Ok(share)
 }

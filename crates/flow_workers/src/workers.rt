@@ -82,8 +82,7 @@ where
     A::Key: Send + Sync,
     B::Key: Send + Sync,
     requires { MayRun run callers }
-    ensures { IfOk result (λ parts. AreParts ⟦<A as Shape>⟧ ⟦<B as Shape>⟧ run.entry.tables.now
-        (run_facts ⟦<A as Shape>⟧ ⟦<B as Shape>⟧ run.entry) parts) }
+    ensures { IfOk result (λ parts. AreParts ⟦<A as Shape>⟧ ⟦<B as Shape>⟧ run.entry.tables.now (run_facts ⟦<A as Shape>⟧ ⟦<B as Shape>⟧ run.entry) parts) }
 {
     let rt = run.rt;
     let ahead = turns_ahead(alloc, run, callers)?;
@@ -149,5 +148,5 @@ where
     let Parts { four, six, said } = work_all(alloc, run, callers)?;
     join_whole(rt, &tables.four, four);
     join_whole(rt, &tables.six, six);
-    Ok(in_order(alloc, said, packets.count())?)
+    Ok(in_order(alloc, said, dealt.as_slice(), packets.count())?)
 }

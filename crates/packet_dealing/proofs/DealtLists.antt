@@ -1,14 +1,13 @@
 -- Packets that are dealt one by one.
-use Rattle.std.proofs.Common.{◌≡◌, ◌∙◌, ◌+◌, ◌<◌, ℕ, zero, suc, List, [], ◌∷◌, ◌++◌, length, drop, map, Option, Some, None, ap, refl, sym, subst, arith, append_assoc, add-one, length-append}
-use lib.ListN.{get_elem?}
-use mathlib.Core.Option.{some, some-ne-none, some-injective}
-use Rattle.std.proofs.lemmas.List.{map-append}
+use Rattle.std.proofs.Common.{◌≡◌, ◌∙◌, ◌+◌, ◌<◌, ℕ, zero, suc, List, [], ◌∷◌, ◌++◌, length, drop, Option, Some, None, ap, refl, sym, subst, inl, inr, arith, add-one, drop-drop, slice_get}
+use Rattle.std.proofs.lemmas.Bool.Decides.{eqb_tells}
+use Rattle.std.proofs.lemmas.List.{get_or_append_left, get_or_push, length_push}
+use Rattle.std.proofs.lemmas.Option.{slice_get_within}
 use Rattle.packet_view.specs.Captures.{PacketFacts, Takes, packet_facts}
 use Rattle.packet_view.specs.declared.capture.Packet.{Packet}
 use Rattle.bihash_words.specs.declared.shape.Shape.{Ghosts}
-use Rattle.packet_dealing.specs.Dealt.{IsDealtPart, IsDealtTo, packet_of}
+use Rattle.packet_dealing.specs.Dealt.{AreWorkers, IsDealtTo}
 use Rattle.packet_dealing.specs.declared.dealer.Dealer.{Dealer}
-use Rattle.packet_dealing.specs.declared.deals.DealtPacket.{DealtPacket}
 
 -- ---- What is left behind packets that were taken
 
@@ -41,38 +40,39 @@ some_left [] at inside none = omega arith
 some_left (x ∷ xs) zero inside none = cc
 some_left (x ∷ xs) (suc at) inside none = some_left xs at (omega arith) none
 
--- ---- Lists of dealt packets
+pub stands_at : {X : Type 0} (xs ys : List X) (k : ℕ) (x : X) → drop k xs ≡ x ∷ ys → slice_get xs k ≡ Some x
+stands_at [] ys zero x e = absurd (let f : ⊥ = cc in f)
+stands_at [] ys (suc k) x e = absurd (let f : ⊥ = cc in f)
+stands_at (y ∷ xs) ys zero x e = cc
+stands_at (y ∷ xs) ys (suc k) x e = stands_at xs ys k x e
 
-pub length_push : {X : Type 0} (xs ys : List X) (x : X) → ys ≡ xs ++ x ∷ [] → length ys ≡ length xs + 1
-length_push xs ys x is = ap length is ∙ (let e = length-append xs (x ∷ []) in omega arith)
+-- the first one that is left behind some others is the next after them
+pub next_there : {X : Type 0} (xs ys : List X) (first k : ℕ) (x : X) → drop (first + k) xs ≡ x ∷ ys
+    → slice_get (drop first xs) k ≡ Some x
+next_there xs ys first k x left = stands_at (drop first xs) ys k x (drop-drop k first xs ∙ left)
 
-module _ {A B K L : Type 0} (ga : Ghosts A K) (gb : Ghosts B L) (dealer : Dealer) where
-  each_push : (first : ℕ) (part : List DealtPacket) (last : DealtPacket)
-      → ((k : ℕ) (dealt : DealtPacket) → get_elem? part k ≡ some dealt
-      → IsDealtTo ga gb dealer (first + k) dealt.frame.now dealt.worker)
-      → IsDealtTo ga gb dealer (first + length part) last.frame.now last.worker
-      → (k : ℕ) (dealt : DealtPacket) → get_elem? (part ++ last ∷ []) k ≡ some dealt
-      → IsDealtTo ga gb dealer (first + k) dealt.frame.now dealt.worker
-  each_push first [] last each one zero dealt at =
-      subst (λ (d : DealtPacket). IsDealtTo ga gb dealer (first + 0) d.frame.now d.worker)
-      (some-injective last dealt at) one
-  each_push first [] last each one (suc k) dealt at = absurd (some-ne-none dealt (sym at))
-  each_push first (p ∷ ps) last each one zero dealt at = each zero dealt at
-  each_push first (p ∷ ps) last each one (suc k) dealt at =
-      subst (λ n. IsDealtTo ga gb dealer n dealt.frame.now dealt.worker)
-      (let e : suc first + k ≡ first + suc k = omega arith in e)
-      (each_push (suc first) ps last
-      (λ j d there. subst (λ n. IsDealtTo ga gb dealer n d.frame.now d.worker)
-      (let e : first + suc j ≡ suc first + j = omega arith in e) (each (suc j) d there))
-      (subst (λ n. IsDealtTo ga gb dealer n last.frame.now last.worker)
-      (let e : first + suc (length ps) ≡ suc first + length ps = omega arith in e) one) k dealt at)
+-- ---- Workers of packets
 
-  pub dealt_push : (first : ℕ) (part : List DealtPacket) (last : DealtPacket) (packets behind : List PacketFacts)
-      → IsDealtPart ga gb dealer first part packets (packet_of last ∷ behind)
-      → IsDealtTo ga gb dealer (first + length part) last.frame.now last.worker
-      → IsDealtPart ga gb dealer first (part ++ last ∷ []) packets behind
-  dealt_push first part last packets behind old one = record {
-    packets = old.packets ∙ sym (ap (λ ps. ps ++ behind) (map-append packet_of part (last ∷ []))
-        ∙ append_assoc (map packet_of part) (packet_of last ∷ []) behind);
-    each = each_push first part last old.each one;
+module _ {A B K L : Type 0} (ga : Ghosts A K) (gb : Ghosts B L) (dealer : Dealer) (first : ℕ)
+    (packets : List PacketFacts) where
+  pub workers_push : (workers : List ℕ) (w : ℕ) (packet : PacketFacts) → AreWorkers ga gb dealer first workers packets
+      → slice_get packets (length workers) ≡ Some packet
+      → IsDealtTo ga gb dealer (first + length workers) packet.frame w
+      → AreWorkers ga gb dealer first (workers ++ w ∷ []) packets
+  workers_push workers w packet old there one = record {
+    inside = let l = length_push workers w in let i = slice_get_within packets (length workers) packet there in
+        omega arith;
+    each = λ k other below at. elim (eqb_tells k (length workers)) [
+      | inl (test, last) ↦
+          let same : packet ≡ other =
+          let t = sym there ∙ (ap (slice_get packets) (sym last) ∙ at) in cc in
+          subst (λ n. IsDealtTo ga gb dealer (first + k) other.frame n)
+          (sym (get_or_push workers w 0 k (sym last)))
+          (subst (λ (p : PacketFacts). IsDealtTo ga gb dealer (first + k) p.frame w) same
+          (subst (λ n. IsDealtTo ga gb dealer (first + n) packet.frame w) (sym last) one))
+      | inr (test, earlier) ↦
+          let before : k < length workers = let l = length_push workers w in omega arith in
+          subst (λ n. IsDealtTo ga gb dealer (first + k) other.frame n)
+          (sym (get_or_append_left workers (w ∷ []) 0 k before)) (old.each k other before at)
+    ];
   }

@@ -1,17 +1,16 @@
 -- Parts of the packets, ahead and over.
-use Rattle.std.proofs.Common.{◌≡◌, ◌∙◌, ◌+◌, ◌*◌, ◌/◌, ◌<◌, ℕ, suc, List, [], ◌∷◌, length, drop, map, get_or, Ok, Err, ap, eq-eqb, refl, sym, subst, arith}
+use Rattle.std.proofs.Common.{◌≡◌, ◌∙◌, ◌+◌, ◌*◌, ◌/◌, ◌<◌, ℕ, suc, List, [], ◌∷◌, length, drop, drop-drop, map, get_or, Ok, Err, ap, eq-eqb, refl, sym, subst, arith}
 use Rattle.std.specs.Prelude.{if◌then◌else◌}
 use Rattle.std.proofs.lemmas.Bool.{ne_eqb}
 use Rattle.std.proofs.lemmas.List.{length-map}
 use Rattle.std.proofs.Math.Nat.{zero-mul}
 use Rattle.std.proofs.Math.Seq.{drop-length}
-use Rattle.std.specs.Global.{Vec}
 use Rattle.packet_view.specs.CheckedCaptures.{held}
 use Rattle.packet_view.specs.declared.packets.Packets.{Packets}
 use Rattle.bihash_words.specs.declared.shape.Shape.{Ghosts}
 use Rattle.packet_dealing.specs.Dealt.{AreDealt}
 use Rattle.packet_dealing.specs.declared.dealer.Dealer.{Dealer}
-use Rattle.packet_dealing.specs.declared.deals.DealtPacket.{DealtPacket}
+use Rattle.packet_dealing.specs.declared.deals.DealtPart.{DealtPart}
 use Rattle.packet_dealing.specs.declared.part.Job.{Job}
 use Rattle.packet_dealing.specs.declared.part.Part.{Part}
 use Rattle.packet_dealing.specs.declared.part.Part.TheVariants.{Ahead, Over}
@@ -36,13 +35,13 @@ module _ {A B K L : Type 0} (ga : Ghosts A K) (gb : Ghosts B L) (dealer : Dealer
   over_past first next (Over done) is = tt
 
   -- what the job of a part asked for
-  as_asked : (first next : ℕ) (job : Job A B) (dealt : Vec DealtPacket) → IsJob ga gb dealer packets first next job
-      → IsPartOf ga gb job dealt → AreBetween ga gb dealer (held packets) first next dealt.items
+  as_asked : (first next : ℕ) (job : Job A B) (dealt : DealtPart) → IsJob ga gb dealer packets first next job
+      → IsPartOf ga gb job dealt → AreBetween ga gb dealer (held packets) first next dealt
   as_asked first next job dealt is of =
-      subst (λ d. AreBetween ga gb d (held packets) first next dealt.items) is.by
-      (subst (λ ps. AreBetween ga gb job.dealer (held ps) first next dealt.items) is.of
-      (subst (λ n. AreBetween ga gb job.dealer (held job.packets) first n dealt.items) is.ends
-      (subst (λ n. AreBetween ga gb job.dealer (held job.packets) n job.next dealt.items) is.begins of)))
+      subst (λ d. AreBetween ga gb d (held packets) first next dealt) is.by
+      (subst (λ ps. AreBetween ga gb job.dealer (held ps) first next dealt) is.of
+      (subst (λ n. AreBetween ga gb job.dealer (held job.packets) first n dealt) is.ends
+      (subst (λ n. AreBetween ga gb job.dealer (held job.packets) n job.next dealt) is.begins of)))
 
   pub turned : (first next : ℕ) (part other : Part A B) → IsAhead ga gb dealer packets first next part
       → Becomes ga gb part other → IsOver ga gb dealer packets first next other
@@ -53,7 +52,7 @@ module _ {A B K L : Type 0} (ga : Ghosts A K) (gb : Ghosts B L) (dealer : Dealer
 
   -- Parts that begin where the ones before them end, up to the last packet, have all packets.
   pub all_dealt : (begin : ℕ → ℕ) (workers : ℕ) → begin workers ≡ length (held packets)
-      → (k : ℕ) (parts : List (Vec DealtPacket)) → k + length parts ≡ workers
+      → (k : ℕ) (parts : List DealtPart) → k + length parts ≡ workers
       → ((i : ℕ) (d : Part A B) → i < length parts → IsOver ga gb dealer packets (begin (k + i)) (begin (k + i + 1))
       (get_or (map (λ part. Over (Ok part)) parts) i d))
       → AreDealt ga gb dealer (begin k) parts (drop (begin k) (held packets))
@@ -61,21 +60,22 @@ module _ {A B K L : Type 0} (ga : Ghosts A K) (gb : Ghosts B L) (dealer : Dealer
       let last : begin k ≡ length (held packets) = ap begin (let e : k ≡ workers = omega arith in e) ∙ ends in
       ap (λ n. drop n (held packets)) last ∙ drop-length (held packets)
   all_dealt begin workers ends k (part ∷ parts) count each = (
-    drop (begin (k + 1)) (held packets),
     one.dealt,
-    subst (λ n. AreDealt ga gb dealer n parts (drop (begin (k + 1)) (held packets))) (sym one.count)
+    subst (λ ps. AreDealt ga gb dealer (begin k + length part.workers.items) parts ps)
+        (sym (drop-drop (length part.workers.items) (begin k) (held packets)))
+        (subst (λ n. AreDealt ga gb dealer n parts (drop n (held packets))) (sym one.count)
         (all_dealt begin workers ends (k + 1) parts (omega arith)
         (λ i d inside. subst (λ n. IsOver ga gb dealer packets (begin n) (begin (n + 1))
         (get_or (map (λ p. Over (Ok p)) parts) i d)) (let e : k + suc i ≡ k + 1 + i = omega arith in e)
-        (each (suc i) d (omega arith)))),
+        (each (suc i) d (omega arith))))),
   )
     where
-      one : AreBetween ga gb dealer (held packets) (begin k) (begin (k + 1)) part.items
-      one = subst (λ n. AreBetween ga gb dealer (held packets) (begin n) (begin (n + 1)) part.items)
+      one : AreBetween ga gb dealer (held packets) (begin k) (begin (k + 1)) part
+      one = subst (λ n. AreBetween ga gb dealer (held packets) (begin n) (begin (n + 1)) part)
           (let e : k + 0 ≡ k = omega arith in e) (each 0 (Over (Ok part)) (omega arith))
 
   -- the parts of all workers have all packets
-  pub all_parts : (parts : List (Vec DealtPacket)) (others : List (Part A B)) → 0 < dealer.workers
+  pub all_parts : (parts : List DealtPart) (others : List (Part A B)) → 0 < dealer.workers
       → others ≡ map (λ part. Over (Ok part)) parts → length others ≡ dealer.workers
       → ((i : ℕ) (d : Part A B) → i < dealer.workers → IsOver ga gb dealer packets
       (begin_of (length (held packets)) dealer.workers i)

@@ -11,13 +11,13 @@ use packet_view::Packets;
 use std::alloc::{AllocError, Global};
 use std::thread::Threads;
 
-/// A packet, and the worker that judges it. Its fields stand beside each other: so it takes 24 bytes.
-#[derive(Clone, Copy, Debug)]
-pub struct DealtPacket<'a> {
-    pub frame: &'a [u8],
-    /// When the packet came, in seconds.
-    pub moment: u32,
-    pub worker: u32,
+/// Packets that follow each other, and who judges them. It takes a byte for each packet.
+#[derive(Drop)]
+pub struct DealtPart<'a> {
+    /// The packets from the first of these on. Others may follow the last of these.
+    pub packets: Packets<'a>,
+    /// The worker that judges each of these, in their order.
+    pub workers: Vec<u8>,
 }
 
 /// The packets with the workers that judge them, in their order, in as many parts as there are workers. Each part is
@@ -28,7 +28,7 @@ pub fn deal_packets<'a, A: Shape + Send, B: Shape + Send, R: Threads + Sync>(
     alloc: Global,
     dealer: Dealer,
     packets: Packets<'a>,
-) -> Result<Vec<Vec<DealtPacket<'a>>>, AllocError>
+) -> Result<Vec<DealtPart<'a>>, AllocError>
 where
     A::Key: Send,
     B::Key: Send,

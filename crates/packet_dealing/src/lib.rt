@@ -9,7 +9,7 @@ mod parts;
 mod task;
 
 pub use dealer::{Dealer, flow_in};
-pub use deals::{DealtPacket, deal_packets};
+pub use deals::{DealtPart, deal_packets};
 pub use task::{Task, run_all};
 
 #[cfg(test)]

@@ -4,7 +4,7 @@ ghost use Rattle.packet_view.specs.CheckedCaptures.{held};
 ghost use Rattle.packet_dealing.specs.inner.Parts.{CanDeal, IsPartOf};
 
 use crate::dealer::dealt_to;
-use crate::deals::DealtPacket;
+use crate::deals::DealtPart;
 use crate::part::Job;
 use bihash_words::Shape;
 use packet_view::{Packets, PacketsAhead};
@@ -22,24 +22,21 @@ fn skip<'a>(packets: Packets<'a>, count: usize) -> Packets<'a>
 }
 
 /// Deals the packets of a part.
-pub fn deal_part<'a, A: Shape, B: Shape>(
-    job: Job<'a, A, B>,
-) -> Result<Vec<DealtPacket<'a>>, AllocError>
+pub fn deal_part<'a, A: Shape, B: Shape>(job: Job<'a, A, B>) -> Result<DealtPart<'a>, AllocError>
     requires { CanDeal ⟦<A as Shape>⟧ ⟦<B as Shape>⟧ job }
     ensures { IfOk result (IsPartOf ⟦<A as Shape>⟧ ⟦<B as Shape>⟧ job.entry) }
 {
-    let mut dealt = Vec::with_capacity(job.alloc, job.next - job.first)?;
-    let mut packets = PacketsAhead::new(skip(job.packets, job.first));
+    let front = skip(job.packets, job.first);
+    let mut workers = Vec::with_capacity(job.alloc, job.next - job.first)?;
+    let mut packets = PacketsAhead::new(front);
     for number in job.first..job.next {
         let Some(packet) = packets.next() else {
             unreachable!()
         };
-        let worker = dealt_to::<A, B>(&job.dealer, number, packet.frame);
-        dealt.push(DealtPacket {
-            frame: packet.frame,
-            moment: packet.moment,
-            worker: worker as u32,
-        })?;
+        workers.push(dealt_to::<A, B>(&job.dealer, number, packet.frame) as u8)?;
     }
-    Ok(dealt)
+    Ok(DealtPart {
+        packets: front,
+        workers,
+    })
 }

@@ -1,6 +1,6 @@
 //! A part of the packets before it is dealt and after it.
 use crate::dealer::Dealer;
-use crate::deals::DealtPacket;
+use crate::deals::DealtPart;
 use crate::one_part::deal_part;
 use crate::task::Task;
 use bihash_words::Shape;
@@ -27,7 +27,7 @@ pub struct Job<'a, A, B> {
 #[derive(Drop)]
 pub enum Part<'a, A, B> {
     Ahead(Job<'a, A, B>),
-    Over(Result<Vec<DealtPacket<'a>>, AllocError>),
+    Over(Result<DealtPart<'a>, AllocError>),
 }
 
 impl<'a, A: Shape, B: Shape> Task for Part<'a, A, B> {

@@ -4,7 +4,7 @@ ghost use Rattle.packet_dealing.specs.declared.part.Part.TheVariants.{Over};
 ghost use Rattle.packet_dealing.specs.inner.Parts.{AreAhead, IsPast, MayDeal, begin_of};
 
 use crate::dealer::Dealer;
-use crate::deals::DealtPacket;
+use crate::deals::DealtPart;
 use crate::part::{Job, Part};
 use bihash_words::Shape;
 use packet_view::Packets;
@@ -53,7 +53,7 @@ pub fn parts_ahead<'a, A: Shape, B: Shape>(
 pub fn parts_over<'a, A: Shape, B: Shape>(
     alloc: Global,
     parts: Vec<Part<'a, A, B>>,
-) -> Result<Vec<Vec<DealtPacket<'a>>>, AllocError>
+) -> Result<Vec<DealtPart<'a>>, AllocError>
     requires { All IsPast parts.items }
     ensures { IfOk result (λ v. parts.entry.items ≡ map (λ part. Over (Ok part)) v.items) }
 {

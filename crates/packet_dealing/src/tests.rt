@@ -1,7 +1,7 @@
 //! Packets whose workers were worked out by hand.
 ghost use Rattle.std.specs.Prelude.{◌≤◌};
 
-use crate::{Dealer, DealtPacket, deal_packets};
+use crate::{Dealer, DealtPart, deal_packets};
 use bihash_words::{ShapeV4, ShapeV6, flow_shapes_are_sound};
 use flow_dealing::Dealing;
 use packet_view::{Packet, Packets};
@@ -43,7 +43,7 @@ fn deal<'a, R: Threads + Sync>(
     dealing: Dealing,
     workers: usize,
     packets: &'a [Packet<'a>],
-) -> Result<Vec<Vec<DealtPacket<'a>>>, AllocError>
+) -> Result<Vec<DealtPart<'a>>, AllocError>
     requires some { 1 ≤ workers }
     requires few { workers ≤ 16 }
 {
@@ -59,17 +59,19 @@ fn deal<'a, R: Threads + Sync>(
 // These are the packets, in their order, each with its worker.
 fn expect_packets<'a, R: Abort>(
     rt: &R,
-    parts: Vec<Vec<DealtPacket<'a>>>,
+    parts: Vec<DealtPart<'a>>,
     packets: &'a [Packet<'a>],
-    workers: [u32; 7],
+    workers: [u8; 7],
 ) {
     let mut at = 0;
     for part in parts {
-        for dealt in part {
+        let mut front = part.packets;
+        for worker in part.workers {
             assert!(rt; at < packets.len() && at < 7);
-            assert_eq!(rt; dealt.frame, packets[at].frame, "packet {at}");
-            assert_eq!(rt; dealt.moment, packets[at].moment, "packet {at}");
-            assert_eq!(rt; dealt.worker, workers[at], "packet {at}");
+            let packet = front.next().expect(rt, "a packet");
+            assert_eq!(rt; packet.frame, packets[at].frame, "packet {at}");
+            assert_eq!(rt; packet.moment, packets[at].moment, "packet {at}");
+            assert_eq!(rt; worker, workers[at], "packet {at}");
             at += 1;
         }
     }

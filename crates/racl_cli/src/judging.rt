@@ -16,7 +16,7 @@ use std::sync::Wait;
 use std::thread::Threads;
 
 /// How many packets pay for more than one worker.
-const MANY_PACKETS: usize = 4096;
+const MANY_PACKETS: usize = 65_536;
 
 /// Nothing waits before or after a packet is judged.
 struct OpenGate;

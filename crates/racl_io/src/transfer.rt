@@ -1,5 +1,5 @@
 //! The whole input from a source, and a whole report to a sink.
-ghost use Rattle.std.specs.Prelude.{◌≡◌, ◌≢◌, ◌+◌, ◌-◌, ◌<◌, ◌≤◌, ◌^◌, IfOk, IfErr, IfSome, IsErrOf, OnOk, OnErr, Err, length, vec_len};
+ghost use Rattle.std.specs.Prelude.{◌≡◌, ◌≢◌, ◌+◌, ◌-◌, ◌<◌, ◌≤◌, ◌^◌, ◌++◌, IfOk, IfErr, IfSome, IsErrOf, OnOk, OnErr, Err, length, vec_len};
 ghost use Rattle.std.specs.Io.KnownBytes.{Appends, IsAtEnd};
 ghost use Rattle.racl_io.specs.Faults.{IsReadingFault};
 ghost use Rattle.racl_io.specs.Inputs.{most_bytes};
@@ -7,13 +7,28 @@ ghost use Rattle.racl_io.specs.declared.fault.Fault.TheVariants.{Write};
 
 use crate::device::{Sink, Source};
 use crate::fault::Fault;
-use std::alloc::Global;
+use std::alloc::{AllocError, Global};
 
 /// The most bytes of an input.
 pub const MOST_BYTES: usize = 67_108_864;
 
 /// How many bytes are asked for at once.
 const PART_BYTES: usize = 65_536;
+
+/// Up to how many bytes the room of what is read grows by doubling. More bytes get room for the most at once: so none of
+/// them are moved, and pages are touched only where bytes come.
+const SMALL_BYTES: usize = 1_048_576;
+
+fn keep(all: &mut Vec<u8>, bytes: &[u8]) -> Result<(), AllocError>
+    requires { vec_len all.old ≤ most_bytes }
+    ensures { OnOk result (all.new.items ≡ all.old.items ++ bytes.now) }
+{
+    if all.len() >= SMALL_BYTES {
+        all.reserve_exact(MOST_BYTES + PART_BYTES - all.len())?;
+    }
+    all.extend_from_slice(bytes)?;
+    Ok(())
+}
 
 /// Reads until a read gives no byte.
 pub fn read_input<R: Source>(alloc: Global, reader: &mut R) -> Result<Vec<u8>, Fault>
@@ -35,7 +50,7 @@ pub fn read_input<R: Source>(alloc: Global, reader: &mut R) -> Result<Vec<u8>, F
         if n == 0 {
             return Ok(all);
         }
-        all.extend_from_slice(&part[..n])?;
+        keep(&mut all, &part[..n])?;
     }
     Err(Fault::TooLarge)
 }

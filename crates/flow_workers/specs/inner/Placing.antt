@@ -1,31 +1,78 @@
 -- What workers said of packets, and where it is placed.
-use Rattle.std.specs.Prelude.{◌≡◌, ◌<◌, ℕ, List, length, All}
+use Rattle.std.specs.Prelude.{◌≡◌, ◌≢◌, ◌<◌, ◌≤◌, ◌+◌, ℕ, List, [], ◌∷◌, Some, drop, length, slice_get, slice_index}
+use Rattle.std.specs.Global.{Vec}
 use Rattle.std.specs.List.{AllZip}
 use lib.ListN.{get_elem?}
 use mathlib.Core.Option.{some}
+use Rattle.packet_view.specs.Captures.{PacketFacts}
+use Rattle.packet_view.specs.Frames as frames
+use Rattle.packet_view.specs.Frames.{IsFrame}
+use Rattle.packet_dealing.specs.declared.deals.DealtPart.{DealtPart}
 use Rattle.flow_filter.specs.declared.verdict.Verdict.{Verdict}
-use Rattle.flow_dealing.specs.Traces.{AreTraces, Item}
-use Rattle.flow_workers.specs.declared.share.Said.{Said}
+use Rattle.flow_dealing.specs.Dealings.{flow_shown, worker_of}
+use Rattle.flow_dealing.specs.Traces.{ArePlaced, AreTraces, AreViews, Item, numbers_from, numbers_of, verdict_in}
+use Rattle.flow_workers.specs.declared.placing.Placed.{Placed}
 use Rattle.flow_workers.specs.inner.Work.{AreSaid, RunFacts}
 
--- this is what was said of the packet with this number
-pub record IsSaid (said : Said) (number : ℕ) (verdict : Verdict) : Type 0 where
-  pub place : ℕ
-  pub of : get_elem? said.numbers.items place ≡ some number
-  pub is : get_elem? said.verdicts.items place ≡ some verdict
+-- these are the workers of the run's packets from this number on
+pub record AreJudges (run : RunFacts) (first : ℕ) (workers : List ℕ) : Type 0 where
+  pub inside : first + length workers ≤ length run.packets
+  pub each : (k : ℕ) (packet : PacketFacts) (view : frames.FrameFacts) → k < length workers
+      → slice_get run.packets (first + k) ≡ Some packet → IsFrame packet.frame run.policy.own view
+      → slice_index workers k ≡ worker_of run.deal (first + k) (flow_shown view)
 
--- there is a number for each verdict, that of one of so many packets
-pub record ArePaired (packets : ℕ) (said : Said) : Type 0 where
-  pub count : length said.numbers.items ≡ length said.verdicts.items
-  pub inside : All (λ n. n < packets) said.numbers.items
+-- these parts have the workers of all packets from this number on
+abbrev pub AreAllJudges : RunFacts → ℕ → List DealtPart → Type 0
+AreAllJudges run first [] = first ≡ length run.packets
+AreAllJudges run first (part ∷ parts) = AreJudges run first part.workers.items
+    × AreAllJudges run (first + length part.workers.items) parts
 
--- whatever both said of one packet is the same
-abbrev pub AgreesWith : Said → Said → Type 0
-AgreesWith s t = (n : ℕ) (v w : Verdict) → IsSaid s n v → IsSaid t n w → v ≡ w
-
--- the workers of a run on so many packets did these traces, and said this
-pub record AreAllSaid (run : RunFacts) (traces : List (List Item)) (all : List Said) (packets : ℕ) : Type 0 where
+-- the workers of a run did these traces, and said this
+pub record AreTold (run : RunFacts) (traces : List (List Item)) (all : List (Vec Verdict)) : Type 0 where
   pub some_worker : 0 < run.deal.workers
+  pub few : run.deal.workers ≤ 16
   pub traced : AreTraces run.deal run.times run.policy run.packets traces
-  pub said : AllZip (λ trace s. AreSaid run trace s.verdicts.items s.numbers.items) traces all
-  pub count : length run.packets ≡ packets
+  pub said : AllZip (λ trace said. AreSaid run trace said.items) traces all
+
+-- The workers of a run did these traces and said this, and these parts have the worker of each packet, where there are
+-- several.
+pub record AreAllSaid (run : RunFacts) (traces : List (List Item)) (all : List (Vec Verdict))
+    (dealt : List DealtPart) : Type 0 where
+  pub told : AreTold run traces all
+  pub judges : run.deal.workers ≢ 1 → AreAllJudges run 0 dealt
+
+-- this was said by all workers of a run
+abbrev pub CanOrder : List (Vec Verdict) → List DealtPart → Type 0
+CanOrder all dealt = (run : RunFacts) × (traces : List (List Item)) × AreAllSaid run traces all dealt
+
+-- these verdicts are what was said, in the order of the packets, whatever the run and its traces were
+abbrev pub AreInOrder : List (Vec Verdict) → List DealtPart → List Verdict → Type 0
+AreInOrder all dealt verdicts = (run : RunFacts) (traces : List (List Item)) → AreAllSaid run traces all dealt
+    → ArePlaced run.times run.packets traces verdicts
+
+-- the verdicts on the first packets are at their places, and none of the others
+pub record ArePlacedBefore (run : RunFacts) (traces : List (List Item)) (placed : Placed) : Type 0 where
+  pub room : length placed.next ≡ 16
+  pub left : (w : ℕ) (trace : List Item) → get_elem? traces w ≡ some trace
+      → (views : List frames.FrameFacts) → AreViews run.policy.own run.packets views
+      → drop (slice_index placed.next w) (numbers_of trace)
+      ≡ numbers_from run.deal w (length placed.verdicts.items) (drop (length placed.verdicts.items) views)
+  pub each : (w : ℕ) (trace : List Item) → get_elem? traces w ≡ some trace → (k : ℕ) (i : Item)
+      → get_elem? trace k ≡ some i → k < slice_index placed.next w
+      → get_elem? placed.verdicts.items i.packet ≡ some (verdict_in run.times i)
+
+-- the verdicts on the packets before these workers' are placed
+pub record MayPlace (run : RunFacts) (traces : List (List Item)) (all : List (Vec Verdict)) (workers : List ℕ)
+    (placed : Placed) : Type 0 where
+  pub told : AreTold run traces all
+  pub judges : AreJudges run (length placed.verdicts.items) workers
+  pub before : ArePlacedBefore run traces placed
+
+abbrev pub CanPlace : List (Vec Verdict) → List ℕ → Placed → Type 0
+CanPlace all workers placed = (run : RunFacts) × (traces : List (List Item)) × MayPlace run traces all workers placed
+
+-- the verdicts on the packets of these workers were placed after those that were
+pub record HasPlaced (all : List (Vec Verdict)) (workers : List ℕ) (old new : Placed) : Type 0 where
+  pub count : length new.verdicts.items ≡ length old.verdicts.items + length workers
+  pub placed : (run : RunFacts) (traces : List (List Item)) → MayPlace run traces all workers old
+      → ArePlacedBefore run traces new

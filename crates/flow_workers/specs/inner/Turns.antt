@@ -1,12 +1,13 @@
 -- What becomes of workers.
 use Rattle.std.specs.Prelude.{◌≡◌, ◌≢◌, ◌<◌, ◌≤◌, ℕ, List, [], ◌∷◌, All, map, length, slice_index_or, IfOk, Ok}
+use Rattle.std.specs.Global.{Vec}
+use Rattle.flow_filter.specs.declared.verdict.Verdict.{Verdict}
 use Rattle.packet_view.specs.declared.tuple.Family.TheVariants.{V4, V6}
 use Rattle.bihash_words.specs.declared.shape.Shape.{Ghosts}
 use Rattle.flow_dealing.specs.Traces.{HaveTraces, IsTrace, Item}
 use Rattle.bihash_steps.specs.declared.row.Caller.{Caller}
 use Rattle.flow_workers.specs.declared.share.Job.{Job}
 use Rattle.flow_workers.specs.declared.share.Run.{Run}
-use Rattle.flow_workers.specs.declared.share.Said.{Said}
 use Rattle.flow_workers.specs.declared.share.Share.{Share}
 use Rattle.flow_workers.specs.declared.tables.Callers.{Callers}
 use Rattle.flow_workers.specs.declared.tables.Tables.{Tables}
@@ -66,7 +67,7 @@ pub record IsDone {A B K L : Type 0} (ga : Ghosts A K) (gb : Ghosts B L) (tables
   pub is : IsTrace run.deal run.times w run.policy run.packets trace
   pub four : HaveTraces run.times V4 (trace ∷ []) share.callers.four.seat.view
   pub six : HaveTraces run.times V6 (trace ∷ []) share.callers.six.seat.view
-  pub said : AreSaid run trace share.said.verdicts.items share.said.numbers.items
+  pub said : AreSaid run trace share.said.items
 
 abbrev pub IsOver : {A B R G K L : Type 0} (ga : Ghosts A K) (gb : Ghosts B L) → Tables A B K L → RunFacts → ℕ
     → Turn A B R G K L ga gb → Type 0
@@ -79,7 +80,7 @@ IsPast ga gb (Over done) = Unit {0}
 
 -- each of these turns ended with a share, and these are the parts of the shares
 pub record ArePartsOf {A B R G K L : Type 0} (ga : Ghosts A K) (gb : Ghosts B L) (turns : List (Turn A B R G K L ga gb))
-    (fours : List (Caller A K ga)) (sixes : List (Caller B L gb)) (saids : List Said) : Type 0 where
+    (fours : List (Caller A K ga)) (sixes : List (Caller B L gb)) (saids : List (Vec Verdict)) : Type 0 where
   pub shares : List (Share A B K L ga gb)
   pub past : turns ≡ map (λ s. Over (Ok s)) shares
   pub four : fours ≡ map (λ (s : Share A B K L ga gb). s.callers.four) shares

@@ -1,5 +1,5 @@
 -- What a worker does to its callers, and what it says.
-use Rattle.std.specs.Prelude.{◌≡◌, ◌≢◌, ℕ, ◌++◌, List, [], ◌∷◌, drop, map, All}
+use Rattle.std.specs.Prelude.{◌≡◌, ℕ, ◌++◌, List, [], ◌∷◌, drop, map, All}
 use Rattle.packet_view.specs.Captures.{PacketFacts}
 use Rattle.packet_view.specs.Frames as frames
 use Rattle.packet_view.specs.declared.tuple.Family.TheVariants.{V4, V6}
@@ -26,15 +26,13 @@ pub record Continues (v w : View) (more : List Call) : Type 0 where
       → (locks : ℕ) × (w.records ≡ record r { calls = r.calls ++ more; locks = locks } ∷ [])
   pub openings : w.known.openings ≡ v.known.openings
 
--- The verdicts are those of the items, in their order, and these numbers those of their packets. A worker that is
--- alone needn't have the numbers.
-pub record AreSaid (run : RunFacts) (trace : List Item) (verdicts : List Verdict) (numbers : List ℕ) : Type 0 where
-  pub said : verdicts ≡ map (verdict_in run.times) trace
-  pub of : run.deal.workers ≢ 1 → numbers ≡ numbers_of trace
+-- the verdicts are those of the items, in their order
+abbrev pub AreSaid : RunFacts → List Item → List Verdict → Type 0
+AreSaid run trace verdicts = verdicts ≡ map (verdict_in run.times) trace
 
 -- a worker has looked at so many packets, and judged its own
-pub record IsWorkUntil (run : RunFacts) (worker at : ℕ) (v w : Views) (verdicts : List Verdict)
-    (numbers : List ℕ) : Type 0 where
+pub record IsWorkUntil (run : RunFacts) (worker at : ℕ) (v w : Views)
+    (verdicts : List Verdict) : Type 0 where
   pub trace : List Item
   pub items : All (IsItem run.deal.layout run.times) trace
   pub of : All (IsItemOf run.deal worker run.policy run.packets) trace
@@ -42,14 +40,14 @@ pub record IsWorkUntil (run : RunFacts) (worker at : ℕ) (v w : Views) (verdict
       → numbers_of trace ++ numbers_from run.deal worker at (drop at views) ≡ numbers_from run.deal worker 0 views
   pub four : Continues v.four w.four (calls_in run.times V4 trace)
   pub six : Continues v.six w.six (calls_in run.times V6 trace)
-  pub said : AreSaid run trace verdicts numbers
+  pub said : AreSaid run trace verdicts
 
 -- A worker judged its packets, all of them: their calls follow what its callers' records had, and these are
 -- its verdicts.
-pub record IsWork (run : RunFacts) (worker : ℕ) (v w : Views) (verdicts : List Verdict)
-    (numbers : List ℕ) : Type 0 where
+pub record IsWork (run : RunFacts) (worker : ℕ) (v w : Views)
+    (verdicts : List Verdict) : Type 0 where
   pub trace : List Item
   pub is : IsTrace run.deal run.times worker run.policy run.packets trace
   pub four : Continues v.four w.four (calls_in run.times V4 trace)
   pub six : Continues v.six w.six (calls_in run.times V6 trace)
-  pub said : AreSaid run trace verdicts numbers
+  pub said : AreSaid run trace verdicts

@@ -1,13 +1,12 @@
 -- Parts of the packets, which threads deal.
 use Rattle.std.specs.Prelude.{◌≡◌, ◌≤◌, ◌<◌, ℕ, ◌+◌, ◌*◌, ◌/◌, ◌==◌, if◌then◌else◌, List, length, drop, All, slice_index_or, IfOk}
-use Rattle.std.specs.Global.{Vec}
 use Rattle.packet_view.specs.Captures.{PacketFacts}
 use Rattle.packet_view.specs.CheckedCaptures.{held}
 use Rattle.packet_view.specs.declared.packets.Packets.{Packets}
 use Rattle.bihash_words.specs.declared.shape.Shape.{Ghosts}
 use Rattle.packet_dealing.specs.Dealt.{AreShapes, IsDealtPart}
 use Rattle.packet_dealing.specs.declared.dealer.Dealer.{Dealer}
-use Rattle.packet_dealing.specs.declared.deals.DealtPacket.{DealtPacket}
+use Rattle.packet_dealing.specs.declared.deals.DealtPart.{DealtPart}
 use Rattle.packet_dealing.specs.declared.part.Job.{Job}
 use Rattle.packet_dealing.specs.declared.part.Part.{Part}
 use Rattle.packet_dealing.specs.declared.part.Part.TheVariants.{Ahead, Over}
@@ -30,12 +29,12 @@ pub record CanDeal {A B K L : Type 0} (ga : Ghosts A K) (gb : Ghosts B L) (job :
 
 -- these are the packets from this number on, up to that number, each with its worker
 pub record AreBetween {A B K L : Type 0} (ga : Ghosts A K) (gb : Ghosts B L) (dealer : Dealer)
-    (packets : List PacketFacts) (first next : ℕ) (part : List DealtPacket) : Type 0 where
-  pub count : first + length part ≡ next
-  pub dealt : IsDealtPart ga gb dealer first part (drop first packets) (drop next packets)
+    (packets : List PacketFacts) (first next : ℕ) (part : DealtPart) : Type 0 where
+  pub count : first + length part.workers.items ≡ next
+  pub dealt : IsDealtPart ga gb dealer first part (drop first packets)
 
-abbrev pub IsPartOf : {A B K L : Type 0} (ga : Ghosts A K) (gb : Ghosts B L) → Job A B → Vec DealtPacket → Type 0
-IsPartOf ga gb job part = AreBetween ga gb job.dealer (held job.packets) job.first job.next part.items
+abbrev pub IsPartOf : {A B K L : Type 0} (ga : Ghosts A K) (gb : Ghosts B L) → Job A B → DealtPart → Type 0
+IsPartOf ga gb job = AreBetween ga gb job.dealer (held job.packets) job.first job.next
 
 abbrev pub CanTake : {A B K L : Type 0} (ga : Ghosts A K) (gb : Ghosts B L) → Part A B → Type 0
 CanTake ga gb (Ahead job) = CanDeal ga gb job
@@ -77,4 +76,4 @@ abbrev pub IsOver : {A B K L : Type 0} (ga : Ghosts A K) (gb : Ghosts B L) → D
     → Type 0
 IsOver ga gb dealer packets first next (Ahead job) = ⊥
 IsOver ga gb dealer packets first next (Over done) =
-    IfOk done (λ part. AreBetween ga gb dealer (held packets) first next part.items)
+    IfOk done (AreBetween ga gb dealer (held packets) first next)

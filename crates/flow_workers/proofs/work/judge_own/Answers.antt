@@ -1,5 +1,4 @@
-use Rattle.std.proofs.Common.{◌∙◌, sym}
-use Rattle.std.proofs.lemmas.Bool.{ne_eqb}
+use Rattle.std.proofs.Common.{sym}
 use Rattle.packet_view.specs.Frames.{frame_facts}
 use Rattle.flow_workers.proofs.WorkSteps.{work_push}
 use Rattle.flow_workers.proofs.work.judge_own.Goals as goal
@@ -8,8 +7,8 @@ pub returns : goal.returns
 returns g c = record {
   idle = c.judge_viewed-verdict.ensures.idle;
   work = λ v old.
-      rw c.in_ok-say.ensures.verdicts
-      (work_push _ _ _ _ _ _ _ _ _ _ (frame_facts c.view-frame.result) _
+      rw c.in_ok-push.ensures.items
+      (work_push _ _ _ _ _ _ _ _ (frame_facts c.view-frame.result) _
       (record {
         stands = c.requires.there;
         shown = c.view-frame.ensures.shown;
@@ -17,5 +16,5 @@ returns g c = record {
       })
       (sym (c.requires.mine _ c.view-frame.ensures.shown))
       (c.judge_viewed-verdict.ensures.judged _ (c.new-viewed.ensures.seen _ c.view-frame.ensures.shown))
-      (λ several. c.in_ok-say.ensures.numbers (c.is_alone.ensures ∙ ne_eqb _ _ several)) old);
+      old);
 }

@@ -1,14 +1,14 @@
 use Rattle.std.proofs.Common.{◌∙◌, sym, arith}
 use Rattle.packet_view.specs.CheckedCaptures.{held}
-use Rattle.packet_dealing.proofs.DealtLists.{left_behind}
-use Rattle.flow_workers.proofs.WorkSteps.{alone_worker, stands_at, taken_inside, whole_work, work_none}
+use Rattle.packet_dealing.proofs.DealtLists.{left_behind, stands_at}
+use Rattle.flow_workers.proofs.WorkSteps.{alone_worker, taken_inside, whole_work, work_none}
 use Rattle.flow_workers.proofs.work.work_alone.Goals as goal
 
 pub packets-init : goal.packets-init
 packets-init g c = record {
   idle = c.requires.can.idle;
   left = sym c.new-packets.ensures;
-  done = rw c.in_ok-said.ensures.0 (rw c.in_ok-said.ensures.1 (work_none _ _ _));
+  done = rw c.in_ok-said.ensures.items (work_none _ _ _);
 }
 
 pub judge_own-requires : goal.judge_own-requires
@@ -40,5 +40,5 @@ packets-preserved g c =
 pub returns : goal.returns
 returns g c = record {
   idle = c.packets.invariant.idle;
-  done = whole_work _ _ _ _ _ _ _ (c.packets.invariant.left ∙ c.in_default.ensures.0) c.packets.invariant.done;
+  done = whole_work _ _ _ _ _ _ (c.packets.invariant.left ∙ c.in_default.ensures.0) c.packets.invariant.done;
 }

@@ -1,4 +1,4 @@
-use Rattle.std.proofs.Common.{arith, subst, sym}
+use Rattle.std.proofs.Common.{arith, refl, subst, sym}
 use Rattle.packet_view.specs.CheckedCaptures.{held}
 use Rattle.packet_view.specs.declared.tuple.Family.TheVariants.{V4, V6}
 use Rattle.acl_policy.specs.Policies.{policy_facts}
@@ -7,7 +7,9 @@ use Rattle.flow_dealing.specs.Dealings.{Deal}
 use Rattle.flow_dealing.specs.Runs.{AreJudged}
 use Rattle.flow_dealing.proofs.FewPackets.{pages_for_few}
 use Rattle.flow_dealing.proofs.OneReport.{one_report}
+use Rattle.flow_workers.specs.inner.Placing.{AreAllJudges}
 use Rattle.flow_workers.proofs.PartLemmas.{parts_count, run_judged}
+use Rattle.flow_workers.proofs.PlacingLemmas.{all_judges}
 use Rattle.flow_workers.proofs.workers.run_workers.Goals as goal
 
 pub join_whole-requires : goal.join_whole-requires
@@ -29,10 +31,14 @@ in_order-requires g c = (
   _,
   c.in_ok-four.ensures.traces,
   record {
-    some_worker = c.requires.some;
-    traced = c.in_ok-four.ensures.traced;
-    said = c.in_ok-four.ensures.said;
-    count = sym c.count-2.ensures;
+    told = record {
+      some_worker = c.requires.some;
+      few = c.requires.few;
+      traced = c.in_ok-four.ensures.traced;
+      said = c.in_ok-four.ensures.said;
+    };
+    judges = λ several. subst (AreAllJudges _ 0) (sym c.as_slice.ensures.value)
+        (all_judges g.A.Shape g.B.Shape _ refl 0 c.in_ok-dealt.dealt.items (omega arith) (c.in_ok-dealt.ensures several));
   },
 )
 
@@ -54,10 +60,14 @@ returns-clause-judged g c =
     (c.join_whole.ensures.whole, c.join_whole-2.ensures.whole)
     (c.join_whole.ensures.traces _ V4 p.traces p.four) (c.join_whole-2.ensures.traces _ V6 p.traces p.six) verdicts
     (c.in_ok-in_order.ensures _ p.traces (record {
-      some_worker = c.requires.some;
-      traced = p.traced;
-      said = p.said;
-      count = sym c.count-2.ensures;
+      told = record {
+        some_worker = c.requires.some;
+        few = c.requires.few;
+        traced = c.in_ok-four.ensures.traced;
+        said = c.in_ok-four.ensures.said;
+      };
+      judges = λ several. subst (AreAllJudges _ 0) (sym c.as_slice.ensures.value)
+          (all_judges g.A.Shape g.B.Shape _ refl 0 c.in_ok-dealt.dealt.items (omega arith) (c.in_ok-dealt.ensures several));
     }))))
 
 pub returns-clause-one_report : goal.returns-clause-one_report

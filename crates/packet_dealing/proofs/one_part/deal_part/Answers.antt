@@ -1,7 +1,8 @@
-use Rattle.std.proofs.Common.{◌∙◌, sym, subst, arith, drop}
+use Rattle.std.proofs.Common.{◌∙◌, ap, sym, subst, arith, drop, length}
+use Rattle.packet_view.specs.Captures.{packet_facts}
 use Rattle.packet_view.specs.CheckedCaptures.{held}
-use Rattle.packet_dealing.specs.Dealt.{IsDealtPart, IsDealtTo}
-use Rattle.packet_dealing.proofs.DealtLists.{dealt_push, left_behind, length_push, some_left}
+use Rattle.packet_dealing.specs.Dealt.{IsDealtTo}
+use Rattle.packet_dealing.proofs.DealtLists.{left_behind, next_there, some_left, workers_push}
 use Rattle.packet_dealing.proofs.one_part.deal_part.Goals as goal
 
 pub unreachable-requires : goal.unreachable-requires
@@ -14,17 +15,18 @@ unreachable-requires g c =
 pub loop-number-preserved : goal.loop-number-preserved
 loop-number-preserved g c =
     let inv = c.loop-number.invariant in
-    let taken = inv.left ∙ c.in-Some.ensures in
     let job = c.args.job in
+    let workers = c.loop-number.workers.items in
+    let taken = inv.left ∙ c.in-Some.ensures in
     let counted = inv.count in
-    let one_more = length_push _ c.push.new.self.items _ c.in_ok-push.ensures.items in
     record {
-      count = omega arith;
+      count = let longer = c.in_ok-push.ensures.len in omega arith;
       left = left_behind _ _ c.loop-number.number _ taken;
       dealt = rw c.in_ok-push.ensures.items
-          (dealt_push g.A.Shape g.B.Shape job.dealer job.first c.loop-number.dealt.items _ _ _
-          (subst (λ ps. IsDealtPart g.A.Shape g.B.Shape job.dealer job.first c.loop-number.dealt.items
-          (drop job.first (held job.packets)) ps) c.in-Some.ensures inv.dealt)
-          (subst (λ n. IsDealtTo g.A.Shape g.B.Shape job.dealer n c.in-Some.packet.frame.now c.dealt_to-worker.result)
-          (sym counted) c.dealt_to-worker.ensures.dealt));
+          (workers_push g.A.Shape g.B.Shape job.dealer job.first (drop job.first (held job.packets)) workers
+          c.dealt_to.result (packet_facts c.in-Some.packet) inv.dealt
+          (next_there (held job.packets) _ job.first (length workers) _
+          (ap (λ n. drop n (held job.packets)) counted ∙ taken))
+          (subst (λ n. IsDealtTo g.A.Shape g.B.Shape job.dealer n c.in-Some.packet.frame.now c.dealt_to.result)
+          (sym counted) c.dealt_to.ensures.dealt));
     }
