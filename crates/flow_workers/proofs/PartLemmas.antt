@@ -1,5 +1,5 @@
 -- Parts of the workers' shares.
-use Rattle.std.proofs.Common.{◌≡◌, ◌∙◌, ◌+◌, ◌<◌, ℕ, zero, suc, List, [], ◌∷◌, ◌++◌, get_or, length, map, Ok, ap, arith, refl, sym, subst}
+use Rattle.std.proofs.Common.{◌≡◌, ◌≤◌, ◌≢◌, ◌∙◌, ◌+◌, ◌<◌, ℕ, zero, suc, List, [], ◌∷◌, ◌++◌, get_or, length, map, Ok, ap, arith, refl, sym, subst}
 use Rattle.std.specs.Global.{Vec}
 use Rattle.std.specs.List.{All, AllZip}
 use Rattle.std.proofs.lemmas.List.{length-map, map-append}
@@ -20,6 +20,11 @@ use Rattle.flow_dealing.specs.Traces.{AreGathered, ArePlaced, HaveTraces, IsTrac
 use Rattle.flow_dealing.specs.Views.{Views, view_in}
 use Rattle.flow_dealing.proofs.Merging.{judge_each_packet}
 use Rattle.flow_dealing.proofs.Places.{after_map, zip_count}
+use Rattle.packet_dealing.specs.Dealt.{AreDealt}
+use Rattle.packet_dealing.specs.declared.deals.DealtPart.{DealtPart}
+use Rattle.flow_filter.specs.OneThread.{layout_of}
+use Rattle.flow_workers.specs.inner.Placing.{AreAllSaid}
+use Rattle.flow_workers.proofs.PlacingLemmas.{all_judges, dealer_by}
 use Rattle.flow_workers.specs.declared.share.Parts.{Parts}
 use Rattle.flow_workers.specs.declared.share.Share.{Share}
 use Rattle.flow_workers.specs.declared.tables.Tables.{Tables}
@@ -121,6 +126,16 @@ module _ {A B K L : Type 0} (ga : Ghosts A K) (gb : Ghosts B L) (tables : Tables
     sym (zip_count _ are.traces parts.four.items are.four) ∙ are.traced.count,
     sym (zip_count _ are.traces parts.six.items are.six) ∙ are.traced.count,
   )
+
+  -- what all workers said, with the worker of each packet
+  pub all_said : (dealt : List DealtPart) (parts : Parts A B K L ga gb) (p : AreParts ga gb tables run parts)
+      → 0 < run.deal.workers → run.deal.workers ≤ 16 → run.deal.layout ≡ layout_of ga gb
+      → (run.deal.workers ≢ 1 → AreDealt ga gb (dealer_by run) 0 dealt run.packets)
+      → AreAllSaid run p.traces parts.said.items dealt
+  all_said dealt parts p some_worker few layout are = record {
+    told = record { some_worker = some_worker; few = few; traced = p.traced; said = p.said };
+    judges = λ several. all_judges ga gb run layout 0 dealt (omega arith) (are several);
+  }
 
   -- the callers of a family's table, joined
   gathered : (traces : List (List Item)) (v : Views)

@@ -26,7 +26,7 @@ use Rattle.flow_dealing.proofs.Merging.{all_views, worker_few}
 use Rattle.flow_dealing.proofs.Places.{after_map, at_front, before_map, zip_count}
 use Rattle.flow_workers.specs.declared.placing.Placed.{Placed}
 use Rattle.flow_workers.specs.inner.Work.{AreSaid, RunFacts}
-use Rattle.flow_workers.specs.inner.Placing.{AreAllJudges, AreJudges, ArePlacedBefore, AreTold, MayPlace}
+use Rattle.flow_workers.specs.inner.Placing.{AreAllJudges, AreJudges, ArePlacedBefore, AreTold, IsNext, MayPlace, numbers_behind}
 use Rattle.flow_workers.proofs.WorkSteps.{IsAt, no_numbers, numbers_at, numbers_cons}
 
 -- ---- Lists
@@ -108,89 +108,14 @@ zip_back R (w ∷ ws) [] i x all at = absurd all
 zip_back R (w ∷ ws) (z ∷ zs) zero x all at = (z, refl, subst (λ k. R k z) (some-injective w x at) all.0)
 zip_back R (w ∷ ws) (z ∷ zs) (suc i) x all at = zip_back R ws zs i x all.1 at
 
-module _ (run : RunFacts) (traces : List (List Item)) (all : List (Vec Verdict)) (are : AreTold run traces all) where
-  pub count_is : length all ≡ run.deal.workers
-  count_is = sym (zip_count _ traces all are.said) ∙ are.traced.count
-
-  pub several : 1 < length all → run.deal.workers ≢ 1
-  several many one = let count = count_is in absurd (omega arith)
-
-  -- ---- The verdict that is placed next
-
-  -- what comes behind the packets whose verdicts are placed, for any worker, where the next one is this worker's
-  abbrev Behind : ℕ → ℕ → ℕ → List frames.FrameFacts → List ℕ
-  Behind w v at views = cond (w == v) (at ∷ numbers_from run.deal v (at + 1) (drop (at + 1) views))
-      (numbers_from run.deal v (at + 1) (drop (at + 1) views))
-
-  -- the next packet is this worker's, which said this of it
-  pub record IsNext (placed : Placed) (w : ℕ) : Type 0 where
-    pub trace : List Item
-    pub traced : get_elem? traces w ≡ some trace
-    pub said : Vec Verdict
-    pub here : get_elem? all w ≡ some said
-    pub few : w < 16
-    pub item : Item
-    pub at : get_elem? trace (slice_index placed.next w) ≡ some item
-    pub verdict : get_elem? said.items (slice_index placed.next w) ≡ some (verdict_in run.times item)
-    pub number : item.packet ≡ length placed.verdicts.items
-    pub behind : (v : ℕ) (views : List frames.FrameFacts) → AreViews run.policy.own run.packets views
-        → numbers_from run.deal v (length placed.verdicts.items) (drop (length placed.verdicts.items) views)
-        ≡ Behind w v (length placed.verdicts.items) views
-
-  pub next_is : (placed : Placed) → ArePlacedBefore run traces placed → (w : ℕ) (packet : PacketFacts)
-      (view : frames.FrameFacts) → IsAt run (length placed.verdicts.items) packet view
-      → w ≡ worker_of run.deal (length placed.verdicts.items) (flow_shown view) → IsNext placed w
-  next_is placed before w packet view is mine = record {
-    trace = t.0;
-    traced = t.1;
-    said = s.0;
-    here = s.1;
-    few = let few = are.few in let less = few_w in omega arith;
-    item = item.0;
-    at = item.1;
-    verdict = ap (λ vs. get_elem? vs n) s.2 ∙ after_map (verdict_in run.times) t.0 n item.0 item.1;
-    number = item.2;
-    behind = behind;
-  }
-    where
-      at : ℕ
-      at = length placed.verdicts.items
-
-      n : ℕ
-      n = slice_index placed.next w
-
-      few_w : w < run.deal.workers
-      few_w = subst (λ k. k < run.deal.workers) (sym mine) (worker_few run.deal at (flow_shown view) are.some_worker)
-
-      t : (trace : List Item) × (get_elem? traces w ≡ some trace)
-      t = there traces w (let count = are.traced.count in let less = few_w in omega arith)
-
-      s : (said : Vec Verdict) × (get_elem? all w ≡ some said) × AreSaid run t.0 said.items
-      s = zip_back (λ trace (said : Vec Verdict). AreSaid run trace said.items) traces all w t.0 are.said t.1
-
-      behind : (v : ℕ) (views : List frames.FrameFacts) → AreViews run.policy.own run.packets views
-          → numbers_from run.deal v at (drop at views) ≡ Behind w v at views
-      behind v views these = numbers_at run v at packet view is views these (w == v)
-          (ap (λ k. k == v) (sym mine))
-
-      vs : (views : List frames.FrameFacts) × AreViews run.policy.own run.packets views
-      vs = all_views run.policy.own run.packets
-
-      left : drop n (numbers_of t.0) ≡ at ∷ numbers_from run.deal w (at + 1) (drop (at + 1) vs.0)
-      left = before.left w t.0 t.1 vs.0 vs.1 ∙ (behind w vs.0 vs.1
-          ∙ ap (λ b. cond b (at ∷ numbers_from run.deal w (at + 1) (drop (at + 1) vs.0))
-          (numbers_from run.deal w (at + 1) (drop (at + 1) vs.0))) (eq-eqb w w refl))
-
-      item : (i : Item) × (get_elem? t.0 n ≡ some i) × (i.packet ≡ at)
-      item = before_map (λ (i : Item). i.packet) t.0 n at (first_left _ _ n at left)
-
+module _ (run : RunFacts) (traces : List (List Item)) (all : List (Vec Verdict)) where
   -- what the next packet's worker said stands at its place
-  pub said_is : (placed : Placed) (w : ℕ) (is : IsNext placed w) (said : Vec Verdict) → said ≡ get_or all w said
+  pub said_is : (placed : Placed) (w : ℕ) (is : IsNext run traces all placed w) (said : Vec Verdict) → said ≡ get_or all w said
       → is.said ≡ said
   said_is placed w is said at = some-injective is.said said
       (sym is.here ∙ (at_or all w said (within all w is.said is.here) ∙ ap some (sym at)))
 
-  pub told_next : (placed : Placed) (w : ℕ) (is : IsNext placed w) (said : Vec Verdict) (x : Verdict)
+  pub told_next : (placed : Placed) (w : ℕ) (is : IsNext run traces all placed w) (said : Vec Verdict) (x : Verdict)
       → said ≡ get_or all w said → x ≡ get_or said.items (slice_index placed.next w) x
       → get_elem? is.said.items (slice_index placed.next w) ≡ some x
   told_next placed w is said x at told =
@@ -200,7 +125,7 @@ module _ (run : RunFacts) (traces : List (List Item)) (all : List (Vec Verdict))
       ap (λ s. get_elem? s.items n) same ∙ (at_or said.items n x inside ∙ ap some (sym told))
 
   pub placed_more : (placed new : Placed) (w : ℕ) (x : Verdict) → ArePlacedBefore run traces placed
-      → (is : IsNext placed w) → get_elem? is.said.items (slice_index placed.next w) ≡ some x
+      → (is : IsNext run traces all placed w) → get_elem? is.said.items (slice_index placed.next w) ≡ some x
       → new.verdicts.items ≡ placed.verdicts.items ++ x ∷ []
       → new.next ≡ set placed.next w (slice_index placed.next w + 1) → ArePlacedBefore run traces new
   placed_more placed new w x before is said verdicts next = record {
@@ -265,6 +190,62 @@ module _ (run : RunFacts) (traces : List (List Item)) (all : List (Vec Verdict))
       kept i old = ap (λ vs. get_elem? vs i.packet) verdicts
           ∙ at_front placed.verdicts.items (x ∷ []) i.packet (verdict_in run.times i) old
 
+module _ (run : RunFacts) (traces : List (List Item)) (all : List (Vec Verdict)) (are : AreTold run traces all) where
+  pub count_is : length all ≡ run.deal.workers
+  count_is = sym (zip_count _ traces all are.said) ∙ are.traced.count
+
+  pub several : 1 < length all → run.deal.workers ≢ 1
+  several many one = let count = count_is in absurd (omega arith)
+
+  -- ---- The verdict that is placed next
+
+  pub next_is : (placed : Placed) → ArePlacedBefore run traces placed → (w : ℕ) (packet : PacketFacts)
+      (view : frames.FrameFacts) → IsAt run (length placed.verdicts.items) packet view
+      → w ≡ worker_of run.deal (length placed.verdicts.items) (flow_shown view) → IsNext run traces all placed w
+  next_is placed before w packet view is mine = record {
+    trace = t.0;
+    traced = t.1;
+    said = s.0;
+    here = s.1;
+    few = let few = are.few in let less = few_w in omega arith;
+    item = item.0;
+    at = item.1;
+    verdict = ap (λ vs. get_elem? vs n) s.2 ∙ after_map (verdict_in run.times) t.0 n item.0 item.1;
+    number = item.2;
+    behind = behind;
+  }
+    where
+      at : ℕ
+      at = length placed.verdicts.items
+
+      n : ℕ
+      n = slice_index placed.next w
+
+      few_w : w < run.deal.workers
+      few_w = subst (λ k. k < run.deal.workers) (sym mine) (worker_few run.deal at (flow_shown view) are.some_worker)
+
+      t : (trace : List Item) × (get_elem? traces w ≡ some trace)
+      t = there traces w (let count = are.traced.count in let less = few_w in omega arith)
+
+      s : (said : Vec Verdict) × (get_elem? all w ≡ some said) × AreSaid run t.0 said.items
+      s = zip_back (λ trace (said : Vec Verdict). AreSaid run trace said.items) traces all w t.0 are.said t.1
+
+      behind : (v : ℕ) (views : List frames.FrameFacts) → AreViews run.policy.own run.packets views
+          → numbers_from run.deal v at (drop at views) ≡ numbers_behind run w v at views
+      behind v views these = numbers_at run v at packet view is views these (w == v)
+          (ap (λ k. k == v) (sym mine))
+
+      vs : (views : List frames.FrameFacts) × AreViews run.policy.own run.packets views
+      vs = all_views run.policy.own run.packets
+
+      left : drop n (numbers_of t.0) ≡ at ∷ numbers_from run.deal w (at + 1) (drop (at + 1) vs.0)
+      left = before.left w t.0 t.1 vs.0 vs.1 ∙ (behind w vs.0 vs.1
+          ∙ ap (λ b. cond b (at ∷ numbers_from run.deal w (at + 1) (drop (at + 1) vs.0))
+          (numbers_from run.deal w (at + 1) (drop (at + 1) vs.0))) (eq-eqb w w refl))
+
+      item : (i : Item) × (get_elem? t.0 n ≡ some i) × (i.packet ≡ at)
+      item = before_map (λ (i : Item). i.packet) t.0 n at (first_left _ _ n at left)
+
   -- ---- All verdicts
 
   pub none_placed : (placed : Placed) → placed.verdicts.items ≡ [] → placed.next ≡ replicate 16 0
@@ -324,7 +305,7 @@ module _ (run : RunFacts) (traces : List (List Item)) (all : List (Vec Verdict))
 pub part_next : (run : RunFacts) (traces : List (List Item)) (all : List (Vec Verdict)) (workers : List ℕ)
     (old placed : Placed) (k w : ℕ) (may : MayPlace run traces all workers old)
     → length placed.verdicts.items ≡ length old.verdicts.items + k → k < length workers → w ≡ slice_index workers k
-    → ArePlacedBefore run traces placed → IsNext run traces all may.told placed w
+    → ArePlacedBefore run traces placed → IsNext run traces all placed w
 part_next run traces all workers old placed k w may count below this before =
     let at = length old.verdicts.items + k in
     let inside : at < length run.packets = let i = may.judges.inside in omega arith in
@@ -349,7 +330,7 @@ there_behind (x ∷ xs) (suc n) k =
     there_behind xs n k ∙ ap (slice_get (x ∷ xs)) (let e : suc (n + k) ≡ suc n + k = omega arith in e)
 
 -- what the packets of a run are dealt by
-abbrev dealer_by : RunFacts → Dealer
+abbrev pub dealer_by : RunFacts → Dealer
 dealer_by run = record { own = run.policy.own; dealing = run.deal.dealing; workers = run.deal.workers }
 
 module _ (run : RunFacts) (first i : ℕ) (parts : List DealtPart) where

@@ -18,19 +18,27 @@ pub struct Placed {
 
 impl Placed {
     ghost use Rattle.std.specs.Prelude.{IfOk};
-    ghost use Rattle.flow_workers.specs.inner.Placing.{CanPlace, HasPlaced};
+    ghost use Rattle.flow_workers.specs.inner.Placing.{CanPlace, CanPlaceNext, HasPlaced, HasPlacedNext};
 
-    /// Places the verdicts on the packets of a part: that on a packet is the next one of its worker.
+    /// Places the verdict on the next packet: the next one of its worker.
+    fn place_next(&mut self, all: &[Vec<Verdict>], worker: usize) -> Result<(), AllocError>
+        requires { CanPlaceNext all.now self.old worker }
+        ensures { IfOk result (λ _. HasPlacedNext all.now self.old worker self.new) }
+    {
+        let at = self.next[worker];
+        let said = &all[worker];
+        self.verdicts.push(said[at])?;
+        self.next[worker] = at + 1;
+        Ok(())
+    }
+
+    /// Places the verdicts on the packets of a part.
     fn place(&mut self, part: &DealtPart<'_>, all: &[Vec<Verdict>]) -> Result<(), AllocError>
         requires { CanPlace all.now part.now.workers.items self.old }
         ensures { IfOk result (λ _. HasPlaced all.now part.now.workers.items self.old self.new) }
     {
         'part: for judge in part.workers.as_slice() {
-            let worker = *judge as usize;
-            let at = self.next[worker];
-            let said = &all[worker];
-            self.verdicts.push(said[at])?;
-            self.next[worker] = at + 1;
+            self.place_next(all, *judge as usize)?;
         }
         Ok(())
     }

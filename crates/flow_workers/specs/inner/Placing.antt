@@ -1,5 +1,5 @@
 -- What workers said of packets, and where it is placed.
-use Rattle.std.specs.Prelude.{◌≡◌, ◌≢◌, ◌<◌, ◌≤◌, ◌+◌, ℕ, List, [], ◌∷◌, Some, drop, length, slice_get, slice_index}
+use Rattle.std.specs.Prelude.{◌≡◌, ◌≢◌, ◌<◌, ◌≤◌, ◌+◌, ◌==◌, if◌then◌else◌, ℕ, List, [], ◌∷◌, Some, drop, length, slice_get, slice_index}
 use Rattle.std.specs.Global.{Vec}
 use Rattle.std.specs.List.{AllZip}
 use lib.ListN.{get_elem?}
@@ -75,4 +75,40 @@ CanPlace all workers placed = (run : RunFacts) × (traces : List (List Item)) ×
 pub record HasPlaced (all : List (Vec Verdict)) (workers : List ℕ) (old new : Placed) : Type 0 where
   pub count : length new.verdicts.items ≡ length old.verdicts.items + length workers
   pub placed : (run : RunFacts) (traces : List (List Item)) → MayPlace run traces all workers old
+      → ArePlacedBefore run traces new
+
+-- what comes behind the first packets for any worker, where the next packet is this worker's
+abbrev pub numbers_behind : RunFacts → ℕ → ℕ → ℕ → List frames.FrameFacts → List ℕ
+numbers_behind run w v at views = if w == v then at ∷ numbers_from run.deal v (at + 1) (drop (at + 1) views)
+    else numbers_from run.deal v (at + 1) (drop (at + 1) views)
+
+-- the next packet is this worker's, which said this of it
+pub record IsNext (run : RunFacts) (traces : List (List Item)) (all : List (Vec Verdict)) (placed : Placed)
+    (w : ℕ) : Type 0 where
+  pub trace : List Item
+  pub traced : get_elem? traces w ≡ some trace
+  pub said : Vec Verdict
+  pub here : get_elem? all w ≡ some said
+  pub few : w < 16
+  pub item : Item
+  pub at : get_elem? trace (slice_index placed.next w) ≡ some item
+  pub verdict : get_elem? said.items (slice_index placed.next w) ≡ some (verdict_in run.times item)
+  pub number : item.packet ≡ length placed.verdicts.items
+  pub behind : (v : ℕ) (views : List frames.FrameFacts) → AreViews run.policy.own run.packets views
+      → numbers_from run.deal v (length placed.verdicts.items) (drop (length placed.verdicts.items) views)
+      ≡ numbers_behind run w v (length placed.verdicts.items) views
+
+-- this worker's next verdict is that on the next packet
+pub record MayPlaceNext (run : RunFacts) (traces : List (List Item)) (all : List (Vec Verdict)) (placed : Placed)
+    (w : ℕ) : Type 0 where
+  pub before : ArePlacedBefore run traces placed
+  pub next : IsNext run traces all placed w
+
+abbrev pub CanPlaceNext : List (Vec Verdict) → Placed → ℕ → Type 0
+CanPlaceNext all placed w = (run : RunFacts) × (traces : List (List Item)) × MayPlaceNext run traces all placed w
+
+-- this worker's next verdict was placed
+pub record HasPlacedNext (all : List (Vec Verdict)) (old : Placed) (w : ℕ) (new : Placed) : Type 0 where
+  pub count : length new.verdicts.items ≡ length old.verdicts.items + 1
+  pub placed : (run : RunFacts) (traces : List (List Item)) → MayPlaceNext run traces all old w
       → ArePlacedBefore run traces new

@@ -7,9 +7,8 @@ use Rattle.flow_dealing.specs.Dealings.{Deal}
 use Rattle.flow_dealing.specs.Runs.{AreJudged}
 use Rattle.flow_dealing.proofs.FewPackets.{pages_for_few}
 use Rattle.flow_dealing.proofs.OneReport.{one_report}
-use Rattle.flow_workers.specs.inner.Placing.{AreAllJudges}
-use Rattle.flow_workers.proofs.PartLemmas.{parts_count, run_judged}
-use Rattle.flow_workers.proofs.PlacingLemmas.{all_judges}
+use Rattle.flow_workers.specs.inner.Placing.{AreAllSaid}
+use Rattle.flow_workers.proofs.PartLemmas.{all_said, parts_count, run_judged}
 use Rattle.flow_workers.proofs.workers.run_workers.Goals as goal
 
 pub join_whole-requires : goal.join_whole-requires
@@ -27,20 +26,14 @@ join_whole-requires-2 g c =
     record { some = omega arith; own = p.own.1; free = p.free.1 }
 
 pub in_order-requires : goal.in_order-requires
-in_order-requires g c = (
-  _,
-  c.in_ok-four.ensures.traces,
-  record {
-    told = record {
-      some_worker = c.requires.some;
-      few = c.requires.few;
-      traced = c.in_ok-four.ensures.traced;
-      said = c.in_ok-four.ensures.said;
-    };
-    judges = λ several. subst (AreAllJudges _ 0) (sym c.as_slice.ensures.value)
-        (all_judges g.A.Shape g.B.Shape _ refl 0 c.in_ok-dealt.dealt.items (omega arith) (c.in_ok-dealt.ensures several));
-  },
-)
+in_order-requires g c =
+    let p = c.in_ok-four.ensures in (
+      _,
+      p.traces,
+      subst (AreAllSaid _ _ _) (sym c.as_slice.ensures.value)
+          (all_said g.A.Shape g.B.Shape _ _ c.in_ok-dealt.dealt.items _ p c.requires.some c.requires.few refl
+          c.in_ok-dealt.ensures),
+    )
 
 pub returns-clause-judged : goal.returns-clause-judged
 returns-clause-judged g c =
@@ -59,16 +52,9 @@ returns-clause-judged g c =
     (c.join_whole.ensures.lawful, c.join_whole-2.ensures.lawful)
     (c.join_whole.ensures.whole, c.join_whole-2.ensures.whole)
     (c.join_whole.ensures.traces _ V4 p.traces p.four) (c.join_whole-2.ensures.traces _ V6 p.traces p.six) verdicts
-    (c.in_ok-in_order.ensures _ p.traces (record {
-      told = record {
-        some_worker = c.requires.some;
-        few = c.requires.few;
-        traced = c.in_ok-four.ensures.traced;
-        said = c.in_ok-four.ensures.said;
-      };
-      judges = λ several. subst (AreAllJudges _ 0) (sym c.as_slice.ensures.value)
-          (all_judges g.A.Shape g.B.Shape _ refl 0 c.in_ok-dealt.dealt.items (omega arith) (c.in_ok-dealt.ensures several));
-    }))))
+    (c.in_ok-in_order.ensures _ p.traces (subst (AreAllSaid _ _ _) (sym c.as_slice.ensures.value)
+    (all_said g.A.Shape g.B.Shape _ _ c.in_ok-dealt.dealt.items _ p c.requires.some c.requires.few refl
+    c.in_ok-dealt.ensures)))))
 
 pub returns-clause-one_report : goal.returns-clause-one_report
 returns-clause-one_report g c = one_report _ _ _ _ _ (returns-clause-judged g c)
