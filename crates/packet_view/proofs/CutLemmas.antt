@@ -1,7 +1,7 @@
 -- A capture has one reading, and cut anywhere after its header it is a capture of the front of its packets.
-use Rattle.std.proofs.Common.{◌≡◌, ◌∙◌, ◌≤◌, ◌<◌, ◌+◌, ◌-◌, ◌%◌, ◌^◌, ℕ, List, [], ◌∷◌, ◌++◌, length, take, drop, refl, sym, ap, subst, inl, inr, arith, append_assoc}
+use Rattle.std.proofs.Common.{◌≡◌, ◌∙◌, ◌≤◌, ◌<◌, ◌+◌, ◌-◌, ℕ, List, [], ◌∷◌, ◌++◌, length, take, drop, refl, sym, ap, subst, inl, inr, arith, append_assoc}
 use Rattle.std.proofs.lemmas.Bool.{cases_lt, cases_eq}
-use Rattle.std.proofs.lemmas.List.{drop-take, length-append, length-take-le, nil_from_length, take_all}
+use Rattle.std.proofs.lemmas.List.{drop-take, length-append, length-take-le, nil_from_length, take-append-drop, take_all}
 use Rattle.std.proofs.Math.Seq.{take-append-add, take-length}
 use Rattle.std.proofs.Math.Numerals.{add-one}
 use Rattle.packet_view.specs.declared.capture.CaptureFault.{CaptureFault}
@@ -9,9 +9,10 @@ use Rattle.packet_view.specs.declared.capture.CaptureFault.TheVariants as fault
 use Rattle.packet_view.specs.declared.capture.Order.{Order}
 use Rattle.packet_view.specs.declared.capture.Order.TheVariants.{Little, Big}
 use Rattle.packet_view.specs.Bytes.{AreBytes}
-use Rattle.packet_view.specs.Captures.{AreRecords, End, HasHeader, HasMagic, IsCapture, IsCaptureFault, IsEnd, IsHeaderFault, IsRecord, IsTooLong, PacketFacts, Truncated, Whole, kept_length, kept_limit, link_type, number_from, version}
-use Rattle.packet_view.proofs.CaptureLemmas.{IsHeaderOf, end_stops, not_both, long_stops, same_end}
-use Rattle.packet_view.proofs.RecordLemmas.{number_from-append, number_from-take, records_once}
+use Rattle.packet_view.specs.Captures.{AreRecords, End, HasHeader, HasMagic, IsCapture, IsCaptureFault, IsEnd, IsHeaderFault, IsRecord, PacketFacts, Truncated, Whole, kept_length, kept_limit, link_type, version}
+use Rattle.packet_view.proofs.CaptureLemmas.{IsHeaderOf, ended_accepts, ended_is_right}
+use Rattle.packet_view.proofs.FrontLemmas.{HaveOneHead, head_appended, header_too}
+use Rattle.packet_view.proofs.RecordLemmas.{number_from-append, number_from-take}
 
 -- no four bytes are a magic number in both orders
 magic_apart : (bytes : List ℕ) → AreBytes bytes → HasMagic Little bytes → HasMagic Big bytes → ⊥
@@ -36,7 +37,7 @@ no_fault bytes fits order header fault.LinkType (long, other, magic, two, foreig
 no_fault bytes fits order header (fault.LongRecord number) h = h
 no_fault bytes fits order header fault.Memory h = h
 
-header_of : (bytes : List ℕ) → AreBytes bytes → (order : Order) → HasHeader order bytes → IsHeaderOf order bytes
+pub header_of : (bytes : List ℕ) → AreBytes bytes → (order : Order) → HasHeader order bytes → IsHeaderOf order bytes
 header_of bytes fits order header = record {
   right = header;
   one = λ other h. one_order bytes fits other order h.magic header.magic;
@@ -45,30 +46,13 @@ header_of bytes fits order header = record {
 
 pub one_reading : (bytes : List ℕ) (packets others : List PacketFacts) (end other : End) → AreBytes bytes → IsCapture bytes packets end → IsCapture bytes others other
     → (packets ≡ others) × (end ≡ other)
-one_reading bytes packets others end other fits (order, rest, header, all, stop) (second, left, right, same, last) =
-    let e = one_order bytes fits order second header.magic right.magic in
-    let all_too : AreRecords order (drop 24 bytes) others left = rw e same in
-    let last_too : IsEnd order left other = rw e last in
-    let once = records_once order (drop 24 bytes) packets others rest left all (end_stops order rest end stop) all_too (end_stops order left other last_too) in
-    (once.0, same_end order left end other (rw (← once.1) stop) last_too)
-
-no_long_record : (bytes : List ℕ) (packets : List PacketFacts) (end : End) (number : ℕ) → AreBytes bytes → IsCapture bytes packets end
-    → IsCaptureFault bytes (fault.LongRecord number) → ⊥
-no_long_record bytes packets end number fits (order, rest, header, all, stop) (second, others, left, right, same, long, count) =
-    let e = one_order bytes fits order second header.magic right.magic in
-    let all_too : AreRecords order (drop 24 bytes) others left = rw e same in
-    let long_too : IsTooLong order left = rw e long in
-    let once = records_once order (drop 24 bytes) packets others rest left all (end_stops order rest end stop) all_too (long_stops order left long_too) in
-    not_both order left end (rw (← once.1) stop) long_too
+one_reading bytes packets others end other fits (order, rest, header, all, stop) is =
+    ended_accepts order bytes (header_of bytes fits order header) packets rest end all stop others other is
 
 pub no_fault_too : (bytes : List ℕ) (packets : List PacketFacts) (end : End) (found : CaptureFault) → AreBytes bytes → IsCapture bytes packets end
     → IsCaptureFault bytes found → ⊥
-no_fault_too bytes packets end (fault.LongRecord number) fits h g = no_long_record bytes packets end number fits h g
-no_fault_too bytes packets end fault.Short fits h g = no_fault bytes fits h.0 h.2 fault.Short g
-no_fault_too bytes packets end fault.Magic fits h g = no_fault bytes fits h.0 h.2 fault.Magic g
-no_fault_too bytes packets end fault.Version fits h g = no_fault bytes fits h.0 h.2 fault.Version g
-no_fault_too bytes packets end fault.LinkType fits h g = no_fault bytes fits h.0 h.2 fault.LinkType g
-no_fault_too bytes packets end fault.Memory fits h g = g
+no_fault_too bytes packets end found fits (order, rest, header, all, stop) is =
+    ended_is_right order bytes (header_of bytes fits order header) packets rest end all stop found is
 
 -- the front of a record is a cut one, or nothing
 short_front : (order : Order) (bytes : List ℕ) (kept : ℕ) → kept ≤ length bytes
@@ -139,15 +123,9 @@ cut_records order (packet ∷ packets) bytes rest end kept (others, (header, spe
 -- a cut leaves the header
 header_stays : (order : Order) (bytes : List ℕ) (kept : ℕ) → HasHeader order bytes → 24 ≤ kept → kept ≤ length bytes → HasHeader order (take kept bytes)
 header_stays order bytes kept header long within =
-    let magic : number_from order 0 4 bytes ≡ number_from order 0 4 (take kept bytes) = number_from-take order 0 4 kept bytes (omega arith) within in
-    let major : version order bytes ≡ version order (take kept bytes) = number_from-take order 4 2 kept bytes (omega arith) within in
-    let link : number_from order 20 4 bytes ≡ number_from order 20 4 (take kept bytes) = number_from-take order 20 4 kept bytes (omega arith) within in
-    record {
-      whole = rw (length-take-le kept bytes within) long;
-      magic = elim header.magic [ inl micro ↦ inl (sym magic ∙ micro) | inr nano ↦ inr (sym magic ∙ nano) ];
-      two = sym major ∙ header.two;
-      ethernet = ap (λ (n : ℕ). n % 2 ^ 16) (sym link) ∙ header.ethernet;
-    }
+    let front : 24 ≤ length (take kept bytes) = let size = length-take-le kept bytes within in omega arith in
+    header_too bytes (take kept bytes)
+    (subst (λ (b : List ℕ). HaveOneHead b (take kept bytes)) (take-append-drop kept bytes) (head_appended (take kept bytes) (drop kept bytes) front)) order header
 
 within_bytes : (bytes : List ℕ) (packets : List PacketFacts) (end : End) (kept : ℕ) → IsCapture bytes packets end → 24 ≤ kept → kept ≤ length bytes
     → (count : ℕ) × (last : End) × IsCapture (take kept bytes) (take count packets) last

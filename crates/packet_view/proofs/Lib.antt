@@ -3,6 +3,7 @@ pub mod CaptureLemmas
 pub mod CutLemmas
 pub mod EthernetLemmas
 pub mod FrameLemmas
+pub mod FrontLemmas
 pub mod Ipv4Lemmas
 pub mod Ipv6Lemmas
 pub mod LawLemmas

@@ -9,9 +9,9 @@ use Rattle.packet_view.specs.declared.capture.Order.TheVariants.{Little, Big}
 use Rattle.packet_view.specs.Bytes.{AreBytes}
 use Rattle.packet_view.specs.Captures.{AreRecords, Cut, End, HasHeader, HasMagic, IsCapture, IsCaptureFault, IsEnd, IsHeaderFault, IsPiece, IsTooLong, Nothing, PieceFacts, Record, PacketFacts, TooLong, Truncated, Whole, link_type, number_from, version}
 use Rattle.packet_view.specs.inner.RecordSteps.{part_of}
-use Rattle.packet_view.proofs.CaptureLemmas.{fault_of_header, long_stops}
-use Rattle.packet_view.proofs.CutLemmas.{no_fault, one_order}
-use Rattle.packet_view.proofs.RecordLemmas.{part_shown, records_once}
+use Rattle.packet_view.proofs.CaptureLemmas.{fault_of_header, long_refuses}
+use Rattle.packet_view.proofs.CutLemmas.{header_of, no_fault, one_order}
+use Rattle.packet_view.proofs.RecordLemmas.{part_shown}
 
 -- the bytes begin with a header, or have the fault of one
 abbrev HasHeaderOrFault : List ℕ → Type 0
@@ -151,22 +151,10 @@ header_fault_only bytes fits found fault.Version h g = one_header_fault bytes fi
 header_fault_only bytes fits found fault.LinkType h g = one_header_fault bytes fits found fault.LinkType h g
 header_fault_only bytes fits found fault.Memory h g = absurd g
 
-one_long_record : (bytes : List ℕ) → AreBytes bytes → (n m : ℕ) → IsCaptureFault bytes (fault.LongRecord n) → IsCaptureFault bytes (fault.LongRecord m) → n ≡ m
-one_long_record bytes fits n m (order, packets, rest, header, all, long, count) (second, others, left, right, same, long_other, count_other) =
-    let e = one_order bytes fits order second header.magic right.magic in
-    let all_too : AreRecords order (drop 24 bytes) others left = rw e same in
-    let long_too : IsTooLong order left = rw e long_other in
-    let once = records_once order (drop 24 bytes) packets others rest left all (long_stops order rest long) all_too (long_stops order left long_too) in
-    count ∙ ap (λ (ps : List PacketFacts). length ps + 1) once.0 ∙ sym count_other
-
 long_record_only : (bytes : List ℕ) → AreBytes bytes → (number : ℕ) (other : CaptureFault) → IsCaptureFault bytes (fault.LongRecord number) → IsCaptureFault bytes other
     → fault.LongRecord number ≡ other
-long_record_only bytes fits number (fault.LongRecord m) h g = ap fault.LongRecord (one_long_record bytes fits number m h g)
-long_record_only bytes fits number fault.Short h g = absurd (no_fault bytes fits h.0 h.3 fault.Short g)
-long_record_only bytes fits number fault.Magic h g = absurd (no_fault bytes fits h.0 h.3 fault.Magic g)
-long_record_only bytes fits number fault.Version h g = absurd (no_fault bytes fits h.0 h.3 fault.Version g)
-long_record_only bytes fits number fault.LinkType h g = absurd (no_fault bytes fits h.0 h.3 fault.LinkType g)
-long_record_only bytes fits number fault.Memory h g = absurd g
+long_record_only bytes fits number other (order, packets, rest, header, all, long, count) h =
+    ap fault.LongRecord count ∙ sym (long_refuses order bytes (header_of bytes fits order header) packets rest all long other h)
 
 pub one_fault : (bytes : List ℕ) → AreBytes bytes → (found other : CaptureFault) → IsCaptureFault bytes found → IsCaptureFault bytes other → found ≡ other
 one_fault bytes fits (fault.LongRecord number) other h g = long_record_only bytes fits number other h g

@@ -122,13 +122,6 @@ part_shown order bytes =
     (λ h. inr (ltb-false _ _ long, ltb-false _ _ limit, grind (arith, nat_tests)))
     (λ fits. record_shown order bytes (ltb-false _ _ long) (ltb-false _ _ limit) (grind (arith, nat_tests))))))
 
--- one more whole record after whole records
-pub AreRecords-push : (order : Order) (packet : PacketFacts) (others bytes : List ℕ) (packets : List PacketFacts) (rest : List ℕ) → AreRecords order bytes packets rest
-    → IsPiece order rest (Record packet others) → AreRecords order bytes (packets ++ packet ∷ []) others
-AreRecords-push order packet others bytes [] rest all more = (others, subst (λ (b : List ℕ). IsPiece order b (Record packet others)) (sym all) more, refl)
-AreRecords-push order packet others bytes (first ∷ packets) rest (behind, one, all) more =
-    (behind, one, AreRecords-push order packet others behind packets rest all more)
-
 -- no record is at the front
 abbrev pub IsStop : PieceFacts → Type 0
 IsStop (Record packet rest) = ⊥
@@ -136,15 +129,15 @@ IsStop Nothing = Unit {0}
 IsStop Cut = Unit {0}
 IsStop TooLong = Unit {0}
 
-pub record Stops (order : Order) (rest : List ℕ) : Type 0 where
+pub record HasNoRecord (order : Order) (rest : List ℕ) : Type 0 where
   pub stops : IsStop (part_of order rest)
 
-stops_none : (order : Order) (bytes others : List ℕ) (packet : PacketFacts) → IsPiece order bytes (Record packet others) → Stops order bytes → ⊥
+stops_none : (order : Order) (bytes others : List ℕ) (packet : PacketFacts) → IsPiece order bytes (Record packet others) → HasNoRecord order bytes → ⊥
 stops_none order bytes others packet h stop = subst IsStop (sym (part_only order bytes (Record packet others) h)) stop.stops
 
 -- bytes are records in one way up to where no further one stands
-pub records_once : (order : Order) (bytes : List ℕ) (packets others : List PacketFacts) (rest left : List ℕ) → AreRecords order bytes packets rest → Stops order rest
-    → AreRecords order bytes others left → Stops order left → (packets ≡ others) × (rest ≡ left)
+pub records_once : (order : Order) (bytes : List ℕ) (packets others : List PacketFacts) (rest left : List ℕ) → AreRecords order bytes packets rest → HasNoRecord order rest
+    → AreRecords order bytes others left → HasNoRecord order left → (packets ≡ others) × (rest ≡ left)
 records_once order bytes [] [] rest left all stop same end = (refl, sym all ∙ same)
 records_once order bytes [] (other ∷ others) rest left all stop (behind, one, same) end =
     absurd (stops_none order bytes behind other one (rw all stop))

@@ -1,11 +1,12 @@
 -- Records that are known to be whole, one after the other.
 use Rattle.std.proofs.Common.{◌≡◌, ◌≢◌, ◌≤◌, ◌+◌, ◌++◌, ◌-◌, ◌∙◌, ℕ, zero, suc, List, [], ◌∷◌, drop, length}
-use Rattle.std.proofs.Common.{ap, ap₂, refl, sym, arith}
-use Rattle.std.proofs.lemmas.List.{length-append, length-drop}
+use Rattle.std.proofs.Common.{ap, ap₂, refl, subst, sym, arith}
+use Rattle.std.proofs.lemmas.List.{drop-drop, length-append, length-drop}
 use Rattle.packet_view.specs.declared.capture.Order.{Order}
 use Rattle.packet_view.specs.Captures.{AreRecords, IsPiece, PacketFacts, Record}
 use Rattle.packet_view.specs.RecordLists.{bytes_of, front_packet, packets_in, record_length}
-use Rattle.packet_view.proofs.RecordLemmas.{AreRecords-push, part_front}
+use Rattle.packet_view.proofs.FrontLemmas.{records_joined}
+use Rattle.packet_view.proofs.RecordLemmas.{part_front}
 
 pub packets_count : (order : Order) (n : ℕ) (bytes : List ℕ) → n ≡ length (packets_in order n bytes)
 packets_count order zero bytes = refl
@@ -44,6 +45,17 @@ records_listed order bytes (packet ∷ packets) rest (others, one, all) =
       omega arith,
     )
 
+-- and behind these bytes is the rest
+pub records_behind : (order : Order) (bytes : List ℕ) (packets : List PacketFacts) (rest : List ℕ) → AreRecords order bytes packets rest
+    → rest ≡ drop (bytes_of order (length packets) bytes) bytes
+records_behind order bytes [] rest all = sym all
+records_behind order bytes (packet ∷ packets) rest (others, one, all) =
+    let front = part_front order bytes packet others one in
+    let size : ℕ = record_length order bytes in
+    records_behind order others packets rest all
+    ∙ ap (λ (b : List ℕ). drop (bytes_of order (length packets) b) b) front.rest-is
+    ∙ drop-drop (bytes_of order (length packets) (drop size bytes)) size bytes
+
 -- there are no more records than bytes
 pub records_few : (order : Order) (n : ℕ) (bytes : List ℕ) → n ≤ bytes_of order n bytes
 records_few order zero bytes = omega arith
@@ -67,9 +79,24 @@ pub before_more : (order : Order) (packet : PacketFacts) (others bytes rest : Li
     → AreBefore order bytes others (count + 1)
 before_more order packet others bytes rest count (packets, all, length-is) one =
     let pushed = length-append packets (packet ∷ []) in
-    (packets ++ packet ∷ [], AreRecords-push order packet others bytes packets rest all one, omega arith)
+    (packets ++ packet ∷ [], records_joined order bytes packets (packet ∷ []) rest others all (others, one, refl), omega arith)
 
 pub before_few : (order : Order) (bytes rest : List ℕ) (count : ℕ) → AreBefore order bytes rest count
     → count ≤ length bytes
 before_few order bytes rest count (packets, all, length-is) =
     let few = records_within order bytes packets rest all in omega arith
+
+-- so many records are at the front, and behind their bytes is the rest
+pub record AreListed (order : Order) (bytes rest : List ℕ) (count : ℕ) : Type 0 where
+  pub records : AreRecords order bytes (packets_in order count bytes) rest
+  pub size : bytes_of order count bytes + length rest ≡ length bytes
+  pub after : rest ≡ drop (bytes_of order count bytes) bytes
+
+pub before_listed : (order : Order) (bytes rest : List ℕ) (count : ℕ) → AreBefore order bytes rest count → AreListed order bytes rest count
+before_listed order bytes rest count (packets, all, length-is) =
+    let listed = records_listed order bytes packets rest all in
+    subst (AreListed order bytes rest) length-is record {
+      records = subst (λ (ps : List PacketFacts). AreRecords order bytes ps rest) listed.0 all;
+      size = listed.1;
+      after = records_behind order bytes packets rest all;
+    }

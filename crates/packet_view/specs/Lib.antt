@@ -4,6 +4,7 @@ pub mod Captures
 pub mod CheckedCaptures
 pub mod Ethernet
 pub mod Frames
+pub mod Fronts
 pub mod Ipv4
 pub mod Ipv6
 pub mod Packets

@@ -1,5 +1,5 @@
 //! Captures of the classic pcap format: a header, and records one after another.
-ghost use Rattle.std.specs.Prelude.{◌≡◌, ◌≤◌, ◌+◌, ◌⊎◌, ◌≢◌, length, List, Ok, Err, IsTrue, ◌↔◌, IfOk, IfErr, IfSome, MatchResult, map};
+ghost use Rattle.std.specs.Prelude.{◌≡◌, ◌≤◌, ◌+◌, ◌⊎◌, ◌≢◌, length, List, Ok, Err, IsTrue, ◌↔◌, IfOk, IfErr, MatchResult, map};
 ghost use Rattle.packet_view.specs.Captures.{
   End,
   HasHeader,
@@ -11,19 +11,18 @@ ghost use Rattle.packet_view.specs.Captures.{
   IsPiece,
   PieceFacts,
   PacketFacts,
-  Record,
   end_of,
   number_from,
   piece_facts,
   packet_facts,
 };
 ghost use Rattle.packet_view.specs.CheckedCaptures.{packets_of};
-ghost use Rattle.packet_view.specs.RecordLists.{front_packet};
 ghost use Rattle.packet_view.specs.inner.RecordSteps.{Checks, part_of};
 ghost use Rattle.packet_view.specs.declared.capture.CaptureFault.{CaptureFault};
 ghost use Rattle.packet_view.specs.declared.capture.CaptureFault.TheVariants.{Memory};
 ghost use Rattle.packet_view.specs.declared.capture.Order.{Order};
 
+use crate::front::{Front, Stop, front_records};
 use crate::records::Records;
 use byteorder::{BigEndian, ByteOrder, LittleEndian};
 use std::alloc::{AllocError, AllocFailed, Global};
@@ -205,58 +204,17 @@ pub fn next_record(rest: &[u8], order: Order) -> Piece<'_>
     front_piece(rest, order)
 }
 
-// Where the record at the front is whole and keeps so many bytes, the bytes after it. They are found from that
-// number and not from the one that was read: so the walk goes on before the read is done.
-#[inline(always)]
-fn behind_alike(rest: &[u8], order: Order, likely: usize) -> Option<&[u8]>
-    requires { likely ≤ 262144 }
-    ensures { IfSome result (λ behind. part_of order rest.now ≡ Record (front_packet order rest.now) behind.now) }
-{
-    if rest.len() < 16 || rest.len() - 16 < likely {
-        return None;
-    }
-    if u32_in(order, &rest[8..]) as usize != likely {
-        return None;
-    }
-    Some(&rest[16 + likely..])
-}
-
 /// The records after a header.
 fn check_records(bytes: &[u8], order: Order) -> Result<CheckedCapture<'_>, CaptureFault>
     ensures { Checks order bytes.now result }
 {
-    let mut rest = bytes;
-    let mut count = 0;
-    // Most records keep as many bytes as the one before. Nothing but speed depends on this guess.
-    let mut likely = 0;
-    'records: loop {
-        if let Some(behind) = behind_alike(rest, order, likely) {
-            rest = behind;
-            count += 1;
-            continue;
-        }
-        let truncated = match next_record(rest, order) {
-            Piece::Whole {
-                frame,
-                rest: behind,
-                ..
-            } => {
-                likely = frame.len();
-                rest = behind;
-                count += 1;
-                continue;
-            }
-            Piece::End => false,
-            Piece::Truncated => true,
-            Piece::TooLong => return Err(CaptureFault::LongRecord(count as u64 + 1)),
-        };
-        let records = Records {
-            bytes,
-            order,
-            count,
-        };
-        return Ok(CheckedCapture { records, truncated });
-    }
+    let Front { records, stop, .. } = front_records(bytes, order);
+    let truncated = match stop {
+        Stop::End => false,
+        Stop::Truncated => true,
+        Stop::TooLong => return Err(CaptureFault::LongRecord(records.count as u64 + 1)),
+    };
+    Ok(CheckedCapture { records, truncated })
 }
 
 /// The records of a capture, each of which was looked at. No memory is asked for.

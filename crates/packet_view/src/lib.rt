@@ -5,6 +5,7 @@ mod ahead;
 mod capture;
 mod ethernet;
 mod frame;
+mod front;
 mod ipv4;
 mod ipv6;
 mod laws;
@@ -23,6 +24,7 @@ pub use capture::{
     next_record, read_capture,
 };
 pub use frame::{Frame, view};
+pub use front::{Front, Stop, front_records};
 pub use laws::{
     a_cut_capture_keeps_its_front, bytes_after_the_packet_are_not_seen,
     each_capture_has_one_reading, each_frame_has_one_view, own_address_decides_the_way_alone,

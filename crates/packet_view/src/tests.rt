@@ -1,8 +1,8 @@
 //! Frames and captures byte by byte, with the views that the standards give them.
 use crate::{
     Capture, CaptureFault, Direction, Family, Fields, Frame, Mac, Order, Packet, Packets,
-    PacketsAhead, Piece, PlainPacket, Tuple, capture_header, check_capture, next_record, plain,
-    read_capture, view,
+    PacketsAhead, Piece, PlainPacket, Stop, Tuple, capture_header, check_capture, front_records,
+    next_record, plain, read_capture, view,
 };
 use std::test::Fail;
 
@@ -396,6 +396,19 @@ fn finds_the_next_record(rt: HostRuntime) {
         matches!(next_record(&LITTLE[24..], Order::Big), Piece::TooLong),
         "the other order"
     );
+}
+
+/// The third record begins at 140.
+#[test]
+fn finds_the_whole_records_at_the_front(rt: HostRuntime) {
+    let front = front_records(&LITTLE[24..145], Order::Little);
+    let mut records = front.records;
+    assert_eq!(rt; records.count(), 2);
+    for moment in [100u32, 105] {
+        assert_eq!(rt; records.next().map(|packet| packet.moment), Some(moment));
+    }
+    assert_eq!(rt; front.rest, &LITTLE[140..145]);
+    assert_eq!(rt; front.stop, Stop::Truncated);
 }
 
 /// Each cut of the three records: they end at 82, 140 and 198.
