@@ -2,3 +2,4 @@ pub mod Devices
 pub mod Faults
 pub mod Inputs
 pub mod Reports
+pub mod Transfers

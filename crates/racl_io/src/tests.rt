@@ -3,3 +3,4 @@
 mod faults;
 mod inputs;
 mod reports;
+mod transfers;

@@ -1,9 +1,10 @@
-//! The whole input from a source, and a whole report to a sink.
-ghost use Rattle.std.specs.Prelude.{◌≡◌, ◌≢◌, ◌+◌, ◌-◌, ◌<◌, ◌≤◌, ◌^◌, ◌++◌, IfOk, IfErr, IfSome, IsErrOf, OnOk, OnErr, Err, length, vec_len};
+//! Input from a source, whole or up to so many bytes, and a whole report to a sink.
+ghost use Rattle.std.specs.Prelude.{◌≡◌, ◌≢◌, ◌+◌, ◌-◌, ◌<◌, ◌≤◌, ◌^◌, ◌⊎◌, ◌++◌, IfOk, IfErr, IfSome, IsErrOf, OnOk, OnErr, Err, length, vec_capacity, vec_len};
 ghost use Rattle.std.specs.Io.KnownBytes.{Appends, IsAtEnd};
 ghost use Rattle.racl_io.specs.Faults.{IsReadingFault};
 ghost use Rattle.racl_io.specs.Inputs.{most_bytes};
-ghost use Rattle.racl_io.specs.declared.fault.Fault.TheVariants.{Write};
+ghost use Rattle.racl_io.specs.Transfers.{HasDrained, HasRead, failures_after_reads};
+ghost use Rattle.racl_io.specs.declared.fault.Fault.TheVariants.{Memory, Read, Write};
 
 use crate::device::{Sink, Source};
 use crate::fault::Fault;
@@ -15,19 +16,45 @@ pub const MOST_BYTES: usize = 67_108_864;
 /// How many bytes are asked for at once.
 const PART_BYTES: usize = 65_536;
 
-/// Up to how many bytes the room of what is read grows by doubling. More bytes get room for the most at once: so none of
-/// them are moved, and pages are touched only where bytes come.
+/// Up to how many bytes the room of what is read grows by doubling. More bytes, where there is no room for them, get room
+/// for the most at once: so none of them are moved again, and pages are touched only where bytes come.
 const SMALL_BYTES: usize = 1_048_576;
 
 fn keep(all: &mut Vec<u8>, bytes: &[u8]) -> Result<(), AllocError>
     requires { vec_len all.old ≤ most_bytes }
-    ensures { OnOk result (all.new.items ≡ all.old.items ++ bytes.now) }
+    ensures items { OnOk result (all.new.items ≡ all.old.items ++ bytes.now) }
+    ensures room { vec_capacity all.old ≤ vec_capacity all.new }
+    ensures memory { OnErr result (vec_capacity all.old < vec_len all.old + length bytes.now) }
 {
-    if all.len() >= SMALL_BYTES {
+    if all.len() >= SMALL_BYTES && all.capacity() - all.len() < bytes.len() {
         all.reserve_exact(MOST_BYTES + PART_BYTES - all.len())?;
     }
     all.extend_from_slice(bytes)?;
     Ok(())
+}
+
+/// Reads into the buffer until it has at least so many bytes, and answers `true` where a read gives no byte before that.
+/// Where there is no memory, bytes that were read are lost.
+pub fn read_until<R: Source>(reader: &mut R, all: &mut Vec<u8>, least: usize) -> Result<bool, Fault>
+    requires sound { R.failures reader.old < 2 ^ 64 - 1 }
+    requires few { least ≤ most_bytes + 1 }
+    ensures read { IfOk result (HasRead (R.bytes reader.old) (R.bytes reader.new) all.old.items all.new.items least) }
+    ensures failures { R.failures reader.new ≡ failures_after_reads (R.failures reader.old) result }
+    ensures faults { IfErr result (λ e. (e ≡ Memory) ⊎ (e ≡ Read)) }
+    ensures memory { IsErrOf result Fault.Memory → vec_capacity all.old < least + 65535 }
+    ensures room { vec_capacity all.old ≤ vec_capacity all.new }
+{
+    let mut part = [0u8; PART_BYTES];
+    'reading: while all.len() < least {
+        let Ok(n) = reader.read(&mut part) else {
+            return Err(Fault::Read);
+        };
+        if n == 0 {
+            return Ok(true);
+        }
+        keep(all, &part[..n])?;
+    }
+    Ok(false)
 }
 
 /// Reads until a read gives no byte.
@@ -42,15 +69,27 @@ pub fn read_input<R: Source>(alloc: Global, reader: &mut R) -> Result<Vec<u8>, F
     ensures faults { IfErr result IsReadingFault }
 {
     let mut all = Vec::new(alloc);
+    if read_until(reader, &mut all, MOST_BYTES + 1)? {
+        return Ok(all);
+    }
+    Err(Fault::TooLarge)
+}
+
+/// Reads on after so many bytes, until a read gives no byte, and keeps nothing.
+pub fn drain<R: Source>(reader: &mut R, read: usize) -> Result<(), Fault>
+    requires sound { R.failures reader.old < 2 ^ 64 - 1 }
+    requires few { read ≤ most_bytes }
+    ensures read { HasDrained (R.bytes reader.old) (R.bytes reader.new) read result }
+    ensures failures { R.failures reader.new ≡ failures_after_reads (R.failures reader.old) result }
+{
     let mut part = [0u8; PART_BYTES];
-    'reading: while all.len() <= MOST_BYTES {
-        let Ok(n) = reader.read(&mut part) else {
-            return Err(Fault::Read);
-        };
-        if n == 0 {
-            return Ok(all);
+    let mut total = read;
+    'reading: while total <= MOST_BYTES {
+        match reader.read(&mut part) {
+            Ok(0) => return Ok(()),
+            Ok(n) => total += n,
+            Err(_) => return Err(Fault::Read),
         }
-        keep(&mut all, &part[..n])?;
     }
     Err(Fault::TooLarge)
 }

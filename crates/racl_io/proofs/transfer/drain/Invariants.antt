@@ -1,13 +1,13 @@
-use Rattle.std.proofs.Common.{◌≡◌, ◌+◌, ◌-◌, vec_len}
+use Rattle.std.proofs.Common.{◌≡◌, ◌+◌, ◌-◌, List, ℕ, length}
 use Rattle.std.specs.Io.KnownBytes.{Consumes}
-use Rattle.racl_io.proofs.transfer.read_input.Given as goal
+use Rattle.racl_io.proofs.transfer.drain.Given as goal
 
 -- what was read is what the reader lost, and it didn't fail
 abbrev pub invariant-reading : goal.invariant-reading
 invariant-reading g l = record {
-  read : Consumes (g.R.Source.bytes l.fn.reader) (g.R.Source.bytes l.reader) l.all.items;
+  read : (gone : List ℕ) × Consumes (g.R.Source.bytes l.fn.reader) (g.R.Source.bytes l.reader) gone × (l.total ≡ l.read + length gone);
   sound : g.R.Source.failures l.reader ≡ g.R.Source.failures l.fn.reader;
 }
 
 abbrev pub decreases-reading : goal.decreases-reading
-decreases-reading g l = 67108864 + 1 - vec_len l.all
+decreases-reading g l = 67108864 + 1 - l.total
