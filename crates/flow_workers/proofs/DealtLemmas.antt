@@ -1,29 +1,44 @@
 -- A worker at packets that were dealt.
-use Rattle.std.proofs.Common.{◌≡◌, ◌≢◌, ◌∙◌, ◌+◌, ◌<◌, ◌≤◌, ◌^◌, ℕ, List, [], ◌∷◌, drop, drop-drop, length, get_or, subst, arith}
+use Rattle.std.proofs.Common.{◌≡◌, ◌≢◌, ◌∙◌, ◌+◌, ◌<◌, ◌≤◌, ℕ, zero, suc, List, [], ◌∷◌, ◌++◌, Some, ap, drop, drop-drop, length, get_or, slice_get, refl, subst, sym, arith}
 use Rattle.std.specs.Prelude.{slice_index}
 use Rattle.std.proofs.lemmas.List.{drop_all, drop_more, length-drop}
+use Rattle.std.proofs.lemmas.Option.{slice_get_within}
 use Rattle.packet_view.specs.Captures.{PacketFacts}
 use Rattle.packet_view.specs.CheckedCaptures.{held}
 use Rattle.packet_view.specs.inner.FrameSteps.{view_of}
 use Rattle.packet_view.proofs.FrameLemmas.{view_only, view_shown}
 use Rattle.bihash_words.specs.declared.shape.Shape.{Ghosts}
-use Rattle.packet_dealing.proofs.DealtLists.{next_there, some_left, stands_at}
+use Rattle.packet_dealing.proofs.DealtLists.{next_there, some_left, stands_at, there_behind}
 use Rattle.packet_dealing.specs.Dealt.{AreDealt, IsDealtTo}
 use Rattle.packet_dealing.specs.declared.deals.DealtPart.{DealtPart}
 use Rattle.flow_workers.specs.declared.share.Run.{Run}
 use Rattle.flow_workers.specs.declared.share.Share.{Share}
 use Rattle.flow_workers.specs.Callers.{AreIdle}
-use Rattle.flow_workers.specs.inner.Jobs.{AreDealtFrom, HasDone, HasWorkedOn, IsPartOf, dealer_of}
-use Rattle.flow_workers.proofs.WorkSteps.{work_passed}
+use Rattle.flow_workers.specs.inner.Jobs.{AreDealtFrom, HasWorkedOn, IsPartOf, StandAmong, dealer_of}
+use Rattle.flow_workers.proofs.WorkSteps.{one_more, work_passed}
+
+pub front_only : {X : Type 0} (xs ys : List X) (k : ℕ) → k < length xs → slice_get (xs ++ ys) k ≡ slice_get xs k
+front_only [] ys k inside = absurd (omega arith)
+front_only (x ∷ xs) ys zero inside = refl
+front_only (x ∷ xs) ys (suc k) inside = front_only xs ys k (omega arith)
+
+front_there : {X : Type 0} (xs ys : List X) (k : ℕ) (x : X) → slice_get xs k ≡ Some x → slice_get (xs ++ ys) k ≡ Some x
+front_there xs ys k x at = front_only xs ys k (slice_get_within xs k x at) ∙ at
 
 module _ {A B R G K L : Type 0} (ga : Ghosts A K) (gb : Ghosts B L) (run : Run A B R G K L) where
   -- ---- One part
 
-  -- so many packets have numbers that fit
-  pub part_few : (first : ℕ) (part : DealtPart) → IsPartOf ga gb run first part → first < 2 ^ 64
-      → length (held run.packets) < 2 ^ 64 → first + length part.workers.items < 2 ^ 64
-  part_few first part is fits few =
-      let inside = is.workers.inside in let left = length-drop first (held run.packets) in omega arith
+  -- a packet of the run stands among all packets
+  pub stands_among : (all : List PacketFacts) → StandAmong run all → (at : ℕ) (packet : PacketFacts)
+      → slice_get (held run.packets) at ≡ Some packet → slice_get all (run.first + at) ≡ Some packet
+  stands_among all among at packet there = sym (there_behind all run.first at)
+      ∙ (ap (λ xs. slice_get xs at) among.stand ∙ front_there (held run.packets) among.behind at packet there)
+
+  -- the part ends within the run
+  pub part_few : (first : ℕ) (part : DealtPart) → IsPartOf ga gb run first part → first ≤ length (held run.packets)
+      → first + length part.workers.items ≤ length (held run.packets)
+  part_few first part is inside =
+      let few = is.workers.inside in let left = length-drop first (held run.packets) in omega arith
 
   -- behind fewer packets than a part has is one of its own
   pub part_left : (first k : ℕ) (part : DealtPart) → IsPartOf ga gb run first part → k < length part.workers.items
@@ -35,47 +50,50 @@ module _ {A B R G K L : Type 0} (ga : Ghosts A K) (gb : Ghosts B L) (run : Run A
   pub part_mine : (first k : ℕ) (part : DealtPart) (packet : PacketFacts) (behind : List PacketFacts)
       → IsPartOf ga gb run first part → k < length part.workers.items
       → drop (first + k) (held run.packets) ≡ packet ∷ behind
-      → IsDealtTo ga gb (dealer_of run) (first + k) packet.frame (slice_index part.workers.items k)
+      → IsDealtTo ga gb (dealer_of run.setup) (run.first + (first + k)) packet.frame
+      (slice_index part.workers.items k)
   part_mine first k part packet behind is below here =
-      is.workers.each k packet below (next_there (held run.packets) behind first k packet here)
+      subst (λ n. IsDealtTo ga gb (dealer_of run.setup) n packet.frame (slice_index part.workers.items k))
+      (let e : run.first + first + k ≡ run.first + (first + k) = omega arith in e)
+      (is.workers.each k packet below (next_there (held run.packets) behind first k packet here))
 
-  pub worked_none : (w first : ℕ) (share : Share A B K L ga gb) → AreIdle ga gb run.tables.now share.callers
-      → HasWorkedOn ga gb run w first (first + 0) share share
-  worked_none w first share idle = record {
-    idle = idle;
-    work = λ v done.
-        subst (λ n. HasDone ga gb run w n v share) (let e : first ≡ first + 0 = omega arith in e) done;
+  pub worked_none : (w at : ℕ) (share : Share A B K L ga gb) → AreIdle ga gb run.setup.tables.now share.callers
+      → HasWorkedOn ga gb run w at at share share
+  worked_none w at share idle = record { idle = idle; work = λ all among v done. done }
+
+  pub worked_on : (w first mid last : ℕ) (old between new : Share A B K L ga gb)
+      → HasWorkedOn ga gb run w first mid old between → HasWorkedOn ga gb run w mid last between new
+      → HasWorkedOn ga gb run w first last old new
+  worked_on w first mid last old between new before behind = record {
+    idle = behind.idle;
+    work = λ all among v done. behind.work all among v (before.work all among v done);
   }
 
-  -- the worker judges one packet more
-  pub worked_more : (w first k : ℕ) (old mid new : Share A B K L ga gb) → HasWorkedOn ga gb run w first (first + k) old mid
-      → HasWorkedOn ga gb run w (first + k) (first + k + 1) mid new
-      → HasWorkedOn ga gb run w first (first + (k + 1)) old new
-  worked_more w first k old mid new before one = record {
-    idle = one.idle;
-    work = λ v done.
-        subst (λ n. HasDone ga gb run w n v new) (let e : first + k + 1 ≡ first + (k + 1) = omega arith in e)
-        (one.work v (before.work v done));
-  }
+  pub worked_to : (w first last other : ℕ) (old new : Share A B K L ga gb) → last ≡ other
+      → HasWorkedOn ga gb run w first last old new → HasWorkedOn ga gb run w first other old new
+  worked_to w first last other old new same = subst (λ n. HasWorkedOn ga gb run w first n old new) same
 
   -- the worker passes by a packet of another
   pub worked_past : (w first k : ℕ) (part : DealtPart) (packet : PacketFacts) (behind : List PacketFacts)
-      (old mid : Share A B K L ga gb) → IsPartOf ga gb run first part → k < length part.workers.items
+      (share : Share A B K L ga gb) → IsPartOf ga gb run first part → k < length part.workers.items
       → drop (first + k) (held run.packets) ≡ packet ∷ behind → slice_index part.workers.items k ≢ w
-      → HasWorkedOn ga gb run w first (first + k) old mid → HasWorkedOn ga gb run w first (first + (k + 1)) old mid
-  worked_past w first k part packet behind old mid is below here other before =
-      let own = run.filter.own in
-      worked_more w first k old mid mid before (record {
-        idle = before.idle;
-        work = λ v done. work_passed _ _ _ _ _ _ packet (view_of packet.frame own)
+      → AreIdle ga gb run.setup.tables.now share.callers
+      → HasWorkedOn ga gb run w (first + k) (first + k + 1) share share
+  worked_past w first k part packet behind share is below here other idle =
+      let own = run.setup.filter.own in
+      record {
+        idle = idle;
+        work = λ all among v done. one_more _ w run.first (first + k) v _ _
+            (work_passed _ _ _ _ _ _ packet (view_of packet.frame own)
             (record {
-              stands = stands_at (held run.packets) behind (first + k) packet here;
+              stands = stands_among all among (first + k) packet
+                  (stands_at (held run.packets) behind (first + k) packet here);
               shown = view_shown packet.frame own;
               only = view_only packet.frame own;
             })
             (λ same. other (part_mine first k part packet behind is below here _ (view_shown packet.frame own) ∙ same))
-            done;
-      })
+            done);
+      }
 
   -- ---- All parts
 
@@ -89,9 +107,11 @@ module _ {A B R G K L : Type 0} (ga : Ghosts A K) (gb : Ghosts B L) (run : Run A
       → AreDealtFrom ga gb run (first + length (get_or parts i d).workers.items) (drop (i + 1) parts)
   parts_behind first i parts d inside dealt =
       let n = length (get_or parts i d).workers.items in
-      subst (λ ps. AreDealt ga gb (dealer_of run) (first + n) (drop (i + 1) parts) ps)
+      subst (λ m. AreDealt ga gb (dealer_of run.setup) m (drop (i + 1) parts) (drop (first + n) (held run.packets)))
+      (let e : run.first + first + n ≡ run.first + (first + n) = omega arith in e)
+      (subst (λ ps. AreDealt ga gb (dealer_of run.setup) (run.first + first + n) (drop (i + 1) parts) ps)
       (drop-drop n first (held run.packets))
-      (subst (λ ps. AreDealtFrom ga gb run first ps) (drop_more parts i d inside) dealt).1
+      (subst (λ ps. AreDealtFrom ga gb run first ps) (drop_more parts i d inside) dealt).1)
 
   pub all_taken : (first i : ℕ) (parts : List DealtPart) → length parts ≤ i
       → AreDealtFrom ga gb run first (drop i parts) → drop first (held run.packets) ≡ []

@@ -1,11 +1,13 @@
 -- Parts of the workers' shares.
-use Rattle.std.proofs.Common.{◌≡◌, ◌≤◌, ◌≢◌, ◌∙◌, ◌+◌, ◌<◌, ℕ, zero, suc, List, [], ◌∷◌, ◌++◌, get_or, length, map, Ok, ap, arith, refl, sym, subst}
+use Rattle.std.proofs.Common.{◌≡◌, ◌≤◌, ◌≢◌, ◌∙◌, ◌+◌, ◌<◌, ℕ, zero, suc, List, [], ◌∷◌, ◌++◌, append-nil, get_or, length, map, ap, arith, refl, sym, subst}
 use Rattle.std.specs.Global.{Vec}
 use Rattle.std.specs.List.{All, AllZip}
-use Rattle.std.proofs.lemmas.List.{length-map, map-append}
+use Rattle.std.proofs.lemmas.List.{map-append}
+use Rattle.std.proofs.Math.Seq.{drop-length}
 use Rattle.std.proofs.lemmas.List.Elements.{All-cons, All-map, All-nil, All-weaker}
 use lib.ListN.{get_elem?}
 use mathlib.Core.Option.{some, some-ne-none, some-injective}
+use Rattle.packet_view.specs.Captures.{PacketFacts}
 use Rattle.packet_view.specs.declared.tuple.Family.{Family}
 use Rattle.packet_view.specs.declared.tuple.Family.TheVariants.{V4, V6}
 use Rattle.bihash_words.specs.declared.shape.Shape.{Ghosts}
@@ -19,40 +21,36 @@ use Rattle.flow_dealing.specs.Runs.{AreJudged}
 use Rattle.flow_dealing.specs.Traces.{AreGathered, ArePlaced, HaveTraces, IsTrace, Item}
 use Rattle.flow_dealing.specs.Views.{Views, view_in}
 use Rattle.flow_dealing.proofs.Merging.{judge_each_packet}
-use Rattle.flow_dealing.proofs.Places.{after_map, zip_count}
-use Rattle.packet_dealing.specs.Dealt.{AreDealt}
-use Rattle.packet_dealing.specs.declared.deals.DealtPart.{DealtPart}
+use Rattle.flow_dealing.proofs.Places.{zip_count}
+use Rattle.packet_dealing.specs.Dealt.{AreWorkers}
 use Rattle.flow_filter.specs.OneThread.{layout_of}
 use Rattle.flow_workers.specs.inner.Placing.{AreAllSaid}
 use Rattle.flow_workers.proofs.PlacingLemmas.{all_judges, dealer_by}
 use Rattle.flow_workers.specs.declared.share.Parts.{Parts}
 use Rattle.flow_workers.specs.declared.share.Share.{Share}
 use Rattle.flow_workers.specs.declared.tables.Tables.{Tables}
-use Rattle.flow_workers.specs.declared.turn.Turn.{Turn}
-use Rattle.flow_workers.specs.declared.turn.Turn.TheVariants.{Ahead, Over}
-use Rattle.flow_workers.specs.Callers.{AreIdle}
-use Rattle.flow_workers.specs.inner.Parts.{AreParts}
-use Rattle.flow_workers.specs.inner.Turns.{ArePartsOf, IsDone, IsOver, IsPast}
-use Rattle.flow_workers.specs.inner.Work.{AreSaid, RunFacts}
+use Rattle.flow_workers.specs.declared.setup.Setup.{Setup}
+use Rattle.flow_workers.specs.Callers.{AreIdle, views_of}
+use Rattle.flow_workers.specs.Progress.{IsAtRest}
+use Rattle.flow_workers.specs.inner.Jobs.{run_facts}
+use Rattle.flow_workers.specs.inner.Parts.{AreParts, ArePartsOf}
+use Rattle.flow_workers.specs.inner.Work.{AreSaid, IsWork, IsWorkUntil, RunFacts}
+use Rattle.flow_workers.proofs.TurnLemmas.{fresh_trace}
+use Rattle.flow_workers.proofs.WorkSteps.{whole_work}
 
-module _ {A B R G K L : Type 0} (ga : Ghosts A K) (gb : Ghosts B L) where
-  pub no_parts : ArePartsOf {R = R} {G = G} ga gb [] [] [] []
-  no_parts = record { shares = []; past = refl; four = refl; six = refl; said = refl }
+module _ {A B K L : Type 0} (ga : Ghosts A K) (gb : Ghosts B L) where
+  pub no_parts : ArePartsOf ga gb [] [] [] []
+  no_parts = record { four = refl; six = refl; said = refl }
 
-  pub parts_push : (turns : List (Turn A B R G K L ga gb)) (turn : Turn A B R G K L ga gb)
-      (fours fours' : List (Caller A K ga))
-      (sixes sixes' : List (Caller B L gb)) (saids saids' : List (Vec Verdict)) (share : Share A B K L ga gb)
-      → turn ≡ Over (Ok share)
+  pub parts_push : (shares : List (Share A B K L ga gb)) (share : Share A B K L ga gb) (fours fours' : List (Caller A K ga))
+      (sixes sixes' : List (Caller B L gb)) (saids saids' : List (Vec Verdict))
       → fours' ≡ fours ++ share.callers.four ∷ [] → sixes' ≡ sixes ++ share.callers.six ∷ []
       → saids' ≡ saids ++ share.said ∷ []
-      → ArePartsOf ga gb turns fours sixes saids → ArePartsOf ga gb (turns ++ turn ∷ []) fours' sixes' saids'
-  parts_push turns turn fours fours' sixes sixes' saids saids' share ended four six said old = record {
-    shares = old.shares ++ share ∷ [];
-    past = ap (λ t. turns ++ t ∷ []) ended
-        ∙ (ap (λ ts. ts ++ Over (Ok share) ∷ []) old.past ∙ sym (map-append _ old.shares (share ∷ [])));
-    four = four ∙ (ap (λ cs. cs ++ share.callers.four ∷ []) old.four ∙ sym (map-append _ old.shares (share ∷ [])));
-    six = six ∙ (ap (λ cs. cs ++ share.callers.six ∷ []) old.six ∙ sym (map-append _ old.shares (share ∷ [])));
-    said = said ∙ (ap (λ ss. ss ++ share.said ∷ []) old.said ∙ sym (map-append _ old.shares (share ∷ [])));
+      → ArePartsOf ga gb shares fours sixes saids → ArePartsOf ga gb (shares ++ share ∷ []) fours' sixes' saids'
+  parts_push shares share fours fours' sixes sixes' saids saids' four six said old = record {
+    four = four ∙ (ap (λ cs. cs ++ share.callers.four ∷ []) old.four ∙ sym (map-append _ shares (share ∷ [])));
+    six = six ∙ (ap (λ cs. cs ++ share.callers.six ∷ []) old.six ∙ sym (map-append _ shares (share ∷ [])));
+    said = said ∙ (ap (λ ss. ss ++ share.said ∷ []) old.said ∙ sym (map-append _ shares (share ∷ [])));
   }
 
 -- ---- What all workers did
@@ -68,6 +66,16 @@ zip_map R f [] [] all = tt
 zip_map R f [] (y ∷ ys) all = absurd all
 zip_map R f (x ∷ xs) [] all = absurd all
 zip_map R f (x ∷ xs) (y ∷ ys) all = (all.0, zip_map R f xs ys all.1)
+
+-- what a worker did: a trace, which is in its callers' records, and its verdicts
+pub record IsDone {A B K L : Type 0} (ga : Ghosts A K) (gb : Ghosts B L) (tables : Tables A B K L) (run : RunFacts)
+    (w : ℕ) (share : Share A B K L ga gb) : Type 0 where
+  pub idle : AreIdle ga gb tables share.callers
+  pub trace : List Item
+  pub is : IsTrace run.deal run.times w run.policy run.packets trace
+  pub four : HaveTraces run.times V4 (trace ∷ []) share.callers.four.seat.view
+  pub six : HaveTraces run.times V6 (trace ∷ []) share.callers.six.seat.view
+  pub said : AreSaid run trace share.said.items
 
 module _ {A B K L : Type 0} (ga : Ghosts A K) (gb : Ghosts B L) (tables : Tables A B K L) (run : RunFacts) where
   -- the shares of the workers from one on
@@ -128,13 +136,14 @@ module _ {A B K L : Type 0} (ga : Ghosts A K) (gb : Ghosts B L) (tables : Tables
   )
 
   -- what all workers said, with the worker of each packet
-  pub all_said : (dealt : List DealtPart) (parts : Parts A B K L ga gb) (p : AreParts ga gb tables run parts)
+  pub all_said : (judges : List ℕ) (parts : Parts A B K L ga gb) (p : AreParts ga gb tables run parts)
       → 0 < run.deal.workers → run.deal.workers ≤ 16 → run.deal.layout ≡ layout_of ga gb
-      → (run.deal.workers ≢ 1 → AreDealt ga gb (dealer_by run) 0 dealt run.packets)
-      → AreAllSaid run p.traces parts.said.items dealt
-  all_said dealt parts p some_worker few layout are = record {
+      → (run.deal.workers ≢ 1 → (length judges ≡ length run.packets)
+      × AreWorkers ga gb (dealer_by run) 0 judges run.packets)
+      → AreAllSaid run p.traces parts.said.items judges
+  all_said judges parts p some_worker few layout are = record {
     told = record { some_worker = some_worker; few = few; traced = p.traced; said = p.said };
-    judges = λ several. all_judges ga gb run layout 0 dealt (omega arith) (are several);
+    judges = λ several. all_judges ga gb run layout judges (are several).0 (are several).1;
   }
 
   -- the callers of a family's table, joined
@@ -156,62 +165,87 @@ module _ {A B K L : Type 0} (ga : Ghosts A K) (gb : Ghosts B L) (tables : Tables
       judge_each_packet run.deal run.times run.policy run.packets p.traces v verdicts some_worker p.traced
       (gathered p.traces v lawful told four six) placed
 
-module _ {A B R G K L : Type 0} (ga : Ghosts A K) (gb : Ghosts B L) (tables : Tables A B K L) (run : RunFacts) where
-  pub over_past : (w : ℕ) (t : Turn A B R G K L ga gb) → IsOver ga gb tables run w t → IsPast ga gb t
-  over_past w (Ahead job) over = absurd over
-  over_past w (Over done) over = tt
+-- a worker after all packets
+rest_done : {A B R G K L : Type 0} (ga : Ghosts A K) (gb : Ghosts B L) (setup : Setup A B R G K L)
+    (packets : List PacketFacts) (w : ℕ) (share : Share A B K L ga gb) → IsAtRest ga gb setup packets w share
+    → IsDone ga gb setup.tables.now (run_facts ga gb setup packets) w share
+rest_done ga gb setup packets w share rest = record {
+  idle = rest.idle;
+  trace = work.trace;
+  is = work.is;
+  four = fresh_trace run.times V4 rest.began.four u.four work.trace rest.fresh.0 work.four;
+  six = fresh_trace run.times V6 rest.began.six u.six work.trace rest.fresh.1 work.six;
+  said = work.said;
+}
+  where
+    run : RunFacts
+    run = run_facts ga gb setup packets
 
-  pub parts_are : (over : List (Turn A B R G K L ga gb)) → length over ≡ run.deal.workers
-      → ((i : ℕ) (e : Turn A B R G K L ga gb) → i < length over → IsOver ga gb tables run i (get_or over i e))
-      → (parts : Parts A B K L ga gb) → ArePartsOf ga gb over parts.four.items parts.six.items parts.said.items
-      → AreParts ga gb tables run parts
-  parts_are over count each parts of = record {
+    u : Views
+    u = views_of ga gb share.callers
+
+    work : IsWork run w rest.began u share.said.items
+    work = whole_work run w (length packets) rest.began u share.said.items (drop-length packets)
+        (subst (λ xs. IsWorkUntil (run_facts ga gb setup xs) w (length packets) rest.began u share.said.items)
+        (append-nil packets) (rest.work []))
+
+module _ {A B R G K L : Type 0} (ga : Ghosts A K) (gb : Ghosts B L) (setup : Setup A B R G K L)
+    (packets : List PacketFacts) where
+  pub parts_are : (shares : List (Share A B K L ga gb)) → length shares ≡ setup.workers
+      → ((i : ℕ) (d : Share A B K L ga gb) → i < setup.workers → IsAtRest ga gb setup packets i (get_or shares i d))
+      → (parts : Parts A B K L ga gb) → ArePartsOf ga gb shares parts.four.items parts.six.items parts.said.items
+      → AreParts ga gb setup.tables.now (run_facts ga gb setup packets) parts
+  parts_are shares count each parts of = record {
     traces = all.traces;
     traced = record {
-      count = all.count ∙ (sym (ap length of.past ∙ length-map of.shares (λ s. Over (Ok s))) ∙ count);
+      count = all.count ∙ count;
       each = λ w t at. let e : 0 + w ≡ w = omega arith in
           subst (λ n. IsTrace run.deal run.times n run.policy run.packets t) e (all.each w t at);
     };
     own = (
       subst (All (λ c. c.seat.row ≡ tables.four.row)) (sym of.four)
-          (All-map (λ c. c.seat.row ≡ tables.four.row) (λ (s : Share A B K L ga gb). s.callers.four) of.shares
-          (All-weaker _ _ (λ (s : Share A B K L ga gb) (idle : AreIdle ga gb tables s.callers). idle.own.0) of.shares
+          (All-map (λ c. c.seat.row ≡ tables.four.row) (λ (s : Share A B K L ga gb). s.callers.four) shares
+          (All-weaker _ _ (λ (s : Share A B K L ga gb) (idle : AreIdle ga gb tables s.callers). idle.own.0) shares
           all.idle)),
       subst (All (λ c. c.seat.row ≡ tables.six.row)) (sym of.six)
-          (All-map (λ c. c.seat.row ≡ tables.six.row) (λ (s : Share A B K L ga gb). s.callers.six) of.shares
-          (All-weaker _ _ (λ (s : Share A B K L ga gb) (idle : AreIdle ga gb tables s.callers). idle.own.1) of.shares
+          (All-map (λ c. c.seat.row ≡ tables.six.row) (λ (s : Share A B K L ga gb). s.callers.six) shares
+          (All-weaker _ _ (λ (s : Share A B K L ga gb) (idle : AreIdle ga gb tables s.callers). idle.own.1) shares
           all.idle)),
     );
     free = (
       subst (All (λ c. c.seat.view.holds ≡ nothing_held)) (sym of.four)
-          (All-map (λ c. c.seat.view.holds ≡ nothing_held) (λ (s : Share A B K L ga gb). s.callers.four) of.shares
-          (All-weaker _ _ (λ (s : Share A B K L ga gb) (idle : AreIdle ga gb tables s.callers). idle.free.0) of.shares
+          (All-map (λ c. c.seat.view.holds ≡ nothing_held) (λ (s : Share A B K L ga gb). s.callers.four) shares
+          (All-weaker _ _ (λ (s : Share A B K L ga gb) (idle : AreIdle ga gb tables s.callers). idle.free.0) shares
           all.idle)),
       subst (All (λ c. c.seat.view.holds ≡ nothing_held)) (sym of.six)
-          (All-map (λ c. c.seat.view.holds ≡ nothing_held) (λ (s : Share A B K L ga gb). s.callers.six) of.shares
-          (All-weaker _ _ (λ (s : Share A B K L ga gb) (idle : AreIdle ga gb tables s.callers). idle.free.1) of.shares
+          (All-map (λ c. c.seat.view.holds ≡ nothing_held) (λ (s : Share A B K L ga gb). s.callers.six) shares
+          (All-weaker _ _ (λ (s : Share A B K L ga gb) (idle : AreIdle ga gb tables s.callers). idle.free.1) shares
           all.idle)),
     );
     four =
         subst (AllZip (λ t c. HaveTraces run.times V4 (t ∷ []) c.seat.view) all.traces) (sym of.four)
-        (zip_map _ _ all.traces of.shares all.four);
+        (zip_map _ _ all.traces shares all.four);
     six =
         subst (AllZip (λ t c. HaveTraces run.times V6 (t ∷ []) c.seat.view) all.traces) (sym of.six)
-        (zip_map _ _ all.traces of.shares all.six);
+        (zip_map _ _ all.traces shares all.six);
     said =
         subst (AllZip (λ t s. AreSaid run t s.items) all.traces) (sym of.said)
-        (zip_map _ _ all.traces of.shares all.said);
+        (zip_map _ _ all.traces shares all.said);
   }
     where
-      done : (k : ℕ) (s : Share A B K L ga gb) → get_elem? of.shares k ≡ some s → IsDone ga gb tables run (0 + k) s
+      run : RunFacts
+      run = run_facts ga gb setup packets
+
+      tables : Tables A B K L
+      tables = setup.tables.now
+
+      done : (k : ℕ) (s : Share A B K L ga gb) → get_elem? shares k ≡ some s → IsDone ga gb tables run (0 + k) s
       done k s at =
-          let ended : Turn A B R G K L ga gb = Over (Ok s) in
-          let there : get_elem? over k ≡ some ended =
-          ap (λ ts. get_elem? ts k) of.past ∙ after_map (λ x. Over (Ok x)) of.shares k s at in
           let e : k ≡ 0 + k = omega arith in
           subst (λ n. IsDone ga gb tables run n s) e
-          (subst (IsOver ga gb tables run k) (get_or_at over k ended ended there)
-          (each k ended (within over k ended there)))
+          (subst (IsDone ga gb tables run k) (get_or_at shares k s s at)
+          (rest_done ga gb setup packets k (get_or shares k s)
+          (each k s (let inside = within shares k s at in omega arith))))
 
-      all : AllDone ga gb tables run 0 of.shares
-      all = all_done ga gb tables run 0 of.shares done
+      all : AllDone ga gb tables run 0 shares
+      all = all_done ga gb tables run 0 shares done

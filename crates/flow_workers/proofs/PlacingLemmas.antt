@@ -1,11 +1,11 @@
 -- What workers said, placed in the order of the packets.
-use Rattle.std.proofs.Common.{◌≡◌, ◌≢◌, ◌∙◌, ◌+◌, ◌<◌, ◌≤◌, ℕ, zero, suc, true, cond, List, [], ◌∷◌, ◌++◌, drop, drop-drop, get_or, length, replicate, set, IfOk, Result, Ok, Err, ap, refl, sym, subst, arith, inl, inr, eq-eqb, get_or-set_same, get_or-set_other}
+use Rattle.std.proofs.Common.{◌≡◌, ◌≢◌, ◌∙◌, ◌+◌, ◌<◌, ◌≤◌, ℕ, zero, suc, true, cond, List, [], ◌∷◌, ◌++◌, drop, get_or, length, replicate, set, IfOk, Result, Ok, Err, ap, refl, sym, subst, arith, inl, inr, eq-eqb, get_or-set_same, get_or-set_other}
 use Rattle.std.specs.Prelude.{◌==◌, slice_get, slice_index}
 use Rattle.std.specs.Global.{Vec}
 use Rattle.std.specs.List.{AllZip}
 use Rattle.std.proofs.lemmas.Bool.Decides.{eqb_tells}
-use Rattle.std.proofs.lemmas.List.{drop_all, drop_more, length-append, length-drop, length-map, length-set}
-use Rattle.std.proofs.lemmas.Option.{slice_get-get_or, slice_get_past}
+use Rattle.std.proofs.lemmas.List.{drop_all, length-append, length-map, length-set}
+use Rattle.std.proofs.lemmas.Option.{slice_get-get_or}
 use lib.ListN.{get_elem?}
 use mathlib.Core.Option.{some, some-ne-none, some-injective}
 use Rattle.packet_view.specs.Captures.{PacketFacts}
@@ -14,10 +14,9 @@ use Rattle.packet_view.specs.inner.FrameSteps.{view_of}
 use Rattle.packet_view.proofs.FrameLemmas.{view_only, view_shown}
 use Rattle.bihash_words.specs.declared.shape.Shape.{Ghosts}
 use Rattle.bihash_steps.proofs.Lists.{at_after, there, within}
-use Rattle.packet_dealing.proofs.DealtLists.{left_behind}
-use Rattle.packet_dealing.specs.Dealt.{AreDealt}
+use Rattle.packet_dealing.proofs.DealtLists.{left_behind, none_left}
+use Rattle.packet_dealing.specs.Dealt.{AreWorkers}
 use Rattle.packet_dealing.specs.declared.dealer.Dealer.{Dealer}
-use Rattle.packet_dealing.specs.declared.deals.DealtPart.{DealtPart}
 use Rattle.flow_filter.specs.declared.verdict.Verdict.{Verdict}
 use Rattle.flow_filter.specs.OneThread.{layout_of}
 use Rattle.flow_dealing.specs.Dealings.{Deal, flow_shown, worker_by, worker_of}
@@ -26,7 +25,7 @@ use Rattle.flow_dealing.proofs.Merging.{all_views, worker_few}
 use Rattle.flow_dealing.proofs.Places.{after_map, at_front, before_map, zip_count}
 use Rattle.flow_workers.specs.declared.placing.Placed.{Placed}
 use Rattle.flow_workers.specs.inner.Work.{AreSaid, RunFacts}
-use Rattle.flow_workers.specs.inner.Placing.{AreAllJudges, AreJudges, ArePlacedBefore, AreTold, IsNext, MayPlace, numbers_behind}
+use Rattle.flow_workers.specs.inner.Placing.{AreAllJudges, ArePlacedBefore, AreTold, IsNext, MayPlace, numbers_behind}
 use Rattle.flow_workers.proofs.WorkSteps.{IsAt, no_numbers, numbers_at, numbers_cons}
 
 -- ---- Lists
@@ -36,11 +35,6 @@ first_left [] ys zero x e = absurd (let f : ⊥ = cc in f)
 first_left [] ys (suc k) x e = absurd (let f : ⊥ = cc in f)
 first_left (y ∷ xs) ys zero x e = let same : y ≡ x = cc in ap some same
 first_left (y ∷ xs) ys (suc k) x e = first_left xs ys k x e
-
-none_left : {X : Type 0} (xs : List X) (k : ℕ) → drop k xs ≡ [] → length xs ≤ k
-none_left [] k e = omega arith
-none_left (x ∷ xs) zero e = absurd (let f : ⊥ = cc in f)
-none_left (x ∷ xs) (suc k) e = let less = none_left xs k e in omega arith
 
 no_zeros : (n i : ℕ) → slice_index (replicate n 0) i ≡ 0
 no_zeros zero i = refl
@@ -323,46 +317,19 @@ part_next run traces all workers old placed k w may count below this before =
 
 -- ---- The workers of all packets
 
-there_behind : {X : Type 0} (xs : List X) (n k : ℕ) → slice_get (drop n xs) k ≡ slice_get xs (n + k)
-there_behind xs zero k = ap (slice_get xs) (let e : k ≡ zero + k = omega arith in e)
-there_behind [] (suc n) k = sym (slice_get_past [] (suc n + k) (omega arith))
-there_behind (x ∷ xs) (suc n) k =
-    there_behind xs n k ∙ ap (slice_get (x ∷ xs)) (let e : suc (n + k) ≡ suc n + k = omega arith in e)
-
 -- what the packets of a run are dealt by
 abbrev pub dealer_by : RunFacts → Dealer
 dealer_by run = record { own = run.policy.own; dealing = run.deal.dealing; workers = run.deal.workers }
 
-module _ (run : RunFacts) (first i : ℕ) (parts : List DealtPart) where
-  pub judges_first : (part : DealtPart) → i < length parts → part ≡ get_or parts i part
-      → AreAllJudges run first (drop i parts) → AreJudges run first part.workers.items
-  judges_first part inside is all = subst (λ p. AreJudges run first p.workers.items) (sym is)
-      (subst (AreAllJudges run first) (drop_more parts i part inside) all).0
-
-  pub judges_behind : (part : DealtPart) → i < length parts → part ≡ get_or parts i part
-      → AreAllJudges run first (drop i parts)
-      → AreAllJudges run (first + length part.workers.items) (drop (i + 1) parts)
-  judges_behind part inside is all =
-      subst (λ p. AreAllJudges run (first + length p.workers.items) (drop (i + 1) parts)) (sym is)
-      (subst (AreAllJudges run first) (drop_more parts i part inside) all).1
-
-  pub all_judged : length parts ≤ i → AreAllJudges run first (drop i parts) → first ≡ length run.packets
-  all_judged past all = subst (AreAllJudges run first) (drop_all i parts past) all
-
 pub all_judges : {A B K L : Type 0} (ga : Ghosts A K) (gb : Ghosts B L) (run : RunFacts)
-    → run.deal.layout ≡ layout_of ga gb → (first : ℕ) (parts : List DealtPart) → first ≤ length run.packets
-    → AreDealt ga gb (dealer_by run) first parts (drop first run.packets) → AreAllJudges run first parts
-all_judges ga gb run layout first [] inside dealt =
-    let none = none_left run.packets first dealt in omega arith
-all_judges ga gb run layout first (part ∷ parts) inside dealt = (
-  record {
-    inside = let few = dealt.0.workers.inside in let left = length-drop first run.packets in omega arith;
-    each = λ k packet view below at shown. dealt.0.workers.each k packet below
-        (there_behind run.packets first k ∙ at) view shown
-        ∙ ap (λ l. worker_by run.deal.dealing l run.deal.workers (first + k) (flow_shown view)) (sym layout);
-  },
-  all_judges ga gb run layout (first + length part.workers.items) parts
-      (let few = dealt.0.workers.inside in let left = length-drop first run.packets in omega arith)
-      (subst (λ ps. AreDealt ga gb (dealer_by run) (first + length part.workers.items) parts ps)
-      (drop-drop (length part.workers.items) first run.packets) dealt.1),
-)
+    → run.deal.layout ≡ layout_of ga gb → (workers : List ℕ) → length workers ≡ length run.packets
+    → AreWorkers ga gb (dealer_by run) 0 workers run.packets → AreAllJudges run workers
+all_judges ga gb run layout workers count are = record {
+  are = record {
+    inside = omega arith;
+    each = λ k packet view below at shown. are.each k packet below
+        (ap (slice_get run.packets) (let e : k ≡ 0 + k = omega arith in e) ∙ at) view shown
+        ∙ ap (λ l. worker_by run.deal.dealing l run.deal.workers (0 + k) (flow_shown view)) (sym layout);
+  };
+  all = count;
+}

@@ -1,25 +1,25 @@
 -- Turns of a run, ahead and over.
-use Rattle.std.proofs.Common.{◌≡◌, ◌∙◌, ◌+◌, ◌<◌, ℕ, zero, suc, List, [], ◌∷◌, ◌++◌, length, get_or, IfOk, Result, Ok, Err, ap, refl, sym, subst, arith, length-append}
+use Rattle.std.proofs.Common.{◌≡◌, ◌∙◌, ◌+◌, ◌<◌, ℕ, zero, suc, List, [], ◌∷◌, ◌++◌, length, get_or, map, IfOk, Result, Ok, Err, ap, refl, sym, subst, arith, length-append}
 use Rattle.std.specs.List.{All, AllZip}
+use Rattle.std.proofs.lemmas.List.{get_or-map, get_or_append_left, length-map}
 use Rattle.std.proofs.lemmas.List.Elements.{All-from_get_or}
+use Rattle.std.proofs.Math.Seq.{get_or-append_seam}
 use Rattle.packet_view.specs.declared.tuple.Family.{Family}
-use Rattle.packet_view.specs.declared.tuple.Family.TheVariants.{V4, V6}
 use Rattle.bihash_words.specs.declared.shape.Shape.{Ghosts}
 use Rattle.bihash_steps.specs.Views.{empty_record}
 use Rattle.bihash_steps.specs.declared.view.View.{View}
+use Rattle.bihash_steps.proofs.Lists.{there}
 use Rattle.session_state.specs.declared.timeouts.Timeouts.{Timeouts}
-use Rattle.flow_dealing.specs.Views.{Views}
 use Rattle.flow_dealing.specs.Traces.{HasCalls, HaveTraces, Item, calls_in}
 use Rattle.flow_workers.specs.declared.share.Job.{Job}
+use Rattle.flow_workers.specs.declared.share.Run.{Run}
 use Rattle.flow_workers.specs.declared.share.Share.{Share}
-use Rattle.flow_workers.specs.declared.tables.Tables.{Tables}
 use Rattle.flow_workers.specs.declared.turn.Turn.{Turn}
 use Rattle.flow_workers.specs.declared.turn.Turn.TheVariants.{Ahead, Over}
-use Rattle.flow_workers.specs.Callers.{AreIdle, views_of}
 use Rattle.flow_workers.specs.inner.Fresh.{IsFresh}
-use Rattle.flow_workers.specs.inner.Work.{Continues, IsWork, RunFacts}
-use Rattle.flow_workers.specs.inner.Jobs.{IsShareOf, run_facts}
-use Rattle.flow_workers.specs.inner.Turns.{Becomes, CanTake, IsAhead, IsDone, IsJob, IsOver}
+use Rattle.flow_workers.specs.inner.Work.{Continues}
+use Rattle.flow_workers.specs.inner.Jobs.{CanWork}
+use Rattle.flow_workers.specs.inner.Turns.{AreAhead, AreTurns, Becomes, CanTake, HaveWorked, IsPast, MayRun}
 
 -- a fact of each element, when one more comes
 pub below_push : {X : Type 0} (P : ℕ → X → Type 0) (xs : List X) (x : X)
@@ -39,52 +39,108 @@ pub all_each : {X : Type 0} (P : X → Type 0) (xs : List X) → ((i : ℕ) (d :
 all_each P [] each = λ k d inside. absurd (omega arith)
 all_each P (x ∷ xs) each = All-from_get_or P (x ∷ xs) x (λ i inside. each i x inside)
 
-pub may_turn : {A B R G K L : Type 0} (ga : Ghosts A K) (gb : Ghosts B L) (tables : Tables A B K L) (run : RunFacts)
-    (w : ℕ) (t : Turn A B R G K L ga gb) → IsAhead ga gb tables run w t → CanTake ga gb t
-may_turn ga gb tables run w (Ahead job) is = is.can
-may_turn ga gb tables run w (Over result) is = tt
-
 -- ---- What a worker leaves
 
 pub if_ok : {X E : Type 0} (P Q : X → Type 0) (r : Result X E) → ((x : X) → P x → Q x) → IfOk r P → IfOk r Q
 if_ok P Q (Ok x) f h = f x h
 if_ok P Q (Err e) f h = tt
 
-fresh_trace : (times : Timeouts) (family : Family) (v w : View) (t : List Item) → IsFresh v
+pub fresh_trace : (times : Timeouts) (family : Family) (v w : View) (t : List Item) → IsFresh v
     → Continues v w (calls_in times family t) → HaveTraces times family (t ∷ []) w
 fresh_trace times family v w t fresh goes = let r = goes.calls (empty_record fresh.number) fresh.records in record {
   records = subst (AllZip (HasCalls times family) (t ∷ [])) (sym r.1) (refl, tt);
   openings = goes.openings ∙ fresh.openings;
 }
 
-module _ {A B R G K L : Type 0} (ga : Ghosts A K) (gb : Ghosts B L) (tables : Tables A B K L) (run : RunFacts)
-    (w : ℕ) where
-  done : (job : Job A B R G K L ga gb) (share : Share A B K L ga gb) → IsJob ga gb tables run w job
-      → IsShareOf ga gb job share → IsDone ga gb tables run w share
-  done job share is did = record {
-    idle = subst (λ (t : Tables A B K L). AreIdle ga gb t share.callers) is.own did.idle;
-    trace = work.trace;
-    is = work.is;
-    four = fresh_trace run.times V4 v.four u.four work.trace is.fresh.0 work.four;
-    six = fresh_trace run.times V6 v.six u.six work.trace is.fresh.1 work.six;
-    said = work.said;
+-- ---- Turns, ahead and over
+
+module _ {A B R G K L : Type 0} (ga : Ghosts A K) (gb : Ghosts B L) (run : Run A B R G K L) where
+  -- what this worker does
+  abbrev job_of : ℕ → Share A B K L ga gb → Job A B R G K L ga gb
+  job_of i share = record { run = run; worker = i; share = share }
+
+  abbrev turn_of : ℕ → Share A B K L ga gb → Turn A B R G K L ga gb
+  turn_of i share = Ahead (job_of i share)
+
+  pub no_turns : AreTurns {ga = ga} {gb = gb} run [] []
+  no_turns = record { count = refl; each = λ i d e inside. absurd (omega arith) }
+
+  pub turns_push : (shares : List (Share A B K L ga gb)) (share : Share A B K L ga gb)
+      (turns longer : List (Turn A B R G K L ga gb)) (again : Run A B R G K L) (worker : ℕ) → AreTurns run shares turns
+      → longer ≡ turns ++ Ahead (record { run = again; worker = worker; share = share }) ∷ [] → again ≡ run
+      → worker ≡ length shares → AreTurns run (shares ++ share ∷ []) longer
+  turns_push shares share turns longer again worker old is same last = record {
+    count = let counted = old.count in let n = ap length is ∙ length-append turns (t ∷ []) in
+        let m = length-append shares (share ∷ []) in omega arith;
+    each = λ i d e below. subst (λ ts. get_or ts i d ≡ turn_of i (get_or (shares ++ share ∷ []) i e)) (sym is)
+        (below_push (λ k u. u ≡ turn_of k (get_or (shares ++ share ∷ []) k e)) turns t
+        (λ k f inside. let few = subst (λ n. k < n) old.count inside in
+        old.each k f e few ∙ ap (turn_of k) (sym (get_or_append_left shares (share ∷ []) e k few)))
+        (here e) i d (let counted = old.count in let m = length-append shares (share ∷ []) in omega arith));
   }
     where
-      v : Views
-      v = views_of ga gb job.callers
+      t : Turn A B R G K L ga gb
+      t = Ahead (record { run = again; worker = worker; share = share })
 
-      u : Views
-      u = views_of ga gb share.callers
+      here : (e : Share A B K L ga gb) → t ≡ turn_of (length turns) (get_or (shares ++ share ∷ []) (length turns) e)
+      here e =
+          ap (λ r. Ahead (record { run = r; worker = worker; share = share })) same
+          ∙ (ap (λ n. turn_of n share) (last ∙ sym old.count)
+          ∙ ap (turn_of (length turns)) (sym (ap (λ n. get_or (shares ++ share ∷ []) n e) old.count
+          ∙ get_or-append_seam shares share [] e)))
 
-      work : IsWork run w v u share.said.items
-      work =
-          subst (λ (f : RunFacts). IsWork f w v u share.said.items) is.facts
-          (subst (λ k. IsWork (run_facts ga gb job.run) k v u share.said.items)
-          is.worker did.done)
+module _ {A B R G K L : Type 0} (ga : Ghosts A K) (gb : Ghosts B L) (run : Run A B R G K L)
+    (shares : List (Share A B K L ga gb)) (may : MayRun run shares) where
+  can_work : (i : ℕ) (d : Share A B K L ga gb) → i < length shares → CanWork ga gb (job_of ga gb run i (get_or shares i d))
+  can_work i d inside = record {
+    shapes = may.shapes;
+    few = subst (λ n. i < n) may.count inside;
+    fits = may.fits;
+    idle = may.idle i d inside;
+    dealt = may.dealt;
+  }
 
-  pub turned : (t u : Turn A B R G K L ga gb) → IsAhead ga gb tables run w t → Becomes ga gb t u
-      → IsOver ga gb tables run w u
-  turned (Ahead job) (Ahead other) is did = absurd did
-  turned (Ahead job) (Over result) is did =
-      if_ok (IsShareOf ga gb job) (IsDone ga gb tables run w) result (λ share s. done job share is s) did
-  turned (Over result) u is did = absurd is
+  pub all_ahead : (turns : List (Turn A B R G K L ga gb)) → AreTurns run shares turns → AreAhead run shares turns
+  all_ahead turns are = record {
+    ready = all_each (CanTake ga gb) turns (λ i d inside.
+        let few = subst (λ n. i < n) are.count inside in
+        let s = there shares i few in
+        subst (CanTake ga gb) (sym (are.each i d s.0 few)) (can_work i s.0 few));
+    are = are;
+  }
+
+  past : (t u : Turn A B R G K L ga gb) (job : Job A B R G K L ga gb) → t ≡ Ahead job → Becomes ga gb t u → IsPast ga gb u
+  past t u job is did = past_of u (subst (λ x. Becomes ga gb x u) is did)
+    where
+      past_of : (v : Turn A B R G K L ga gb) → Becomes ga gb (Ahead job) v → IsPast ga gb v
+      past_of (Ahead other) became = became
+      past_of (Over done) became = tt
+
+  pub all_past : (turns over : List (Turn A B R G K L ga gb)) → AreTurns run shares turns → length over ≡ length turns
+      → ((i : ℕ) (d e : Turn A B R G K L ga gb) → i < length turns → Becomes ga gb (get_or turns i e) (get_or over i d))
+      → All (IsPast ga gb) over
+  all_past turns over ahead count did = all_each (IsPast ga gb) over (λ i d inside.
+      let some = subst (λ n. i < n) count inside in
+      let few = subst (λ n. i < n) ahead.count some in
+      let s = there shares i few in
+      past (get_or turns i d) (get_or over i d) (job_of ga gb run i (get_or shares i s.0)) (ahead.each i d s.0 few)
+      (did i d d some))
+
+  pub have_worked : (turns over : List (Turn A B R G K L ga gb)) (news : List (Share A B K L ga gb))
+      → AreTurns run shares turns → length over ≡ length turns
+      → ((i : ℕ) (d e : Turn A B R G K L ga gb) → i < length turns → Becomes ga gb (get_or turns i e) (get_or over i d))
+      → over ≡ map (λ share. Over (Ok share)) news → HaveWorked run shares news
+  have_worked turns over news ahead count did are = record {
+    count = many;
+    each = λ i d e inside.
+        let ended : Turn A B R G K L ga gb = Over (Ok e) in
+        let some = subst (λ n. i < n) (sym ahead.count) inside in
+        let few = subst (λ n. i < n) (sym many) inside in
+        let last : get_or over i ended ≡ Over (Ok (get_or news i e)) =
+        ap (λ ts. get_or ts i ended) are ∙ get_or-map (λ share. Over (Ok share)) news i e ended few in
+        subst (Becomes ga gb (turn_of ga gb run i (get_or shares i d))) last
+        (subst (λ t. Becomes ga gb t (get_or over i ended)) (ahead.each i ended d inside) (did i ended ended some));
+  }
+    where
+      many : length news ≡ length shares
+      many = sym (ap length are ∙ length-map news (λ share. Over (Ok share))) ∙ (count ∙ ahead.count)

@@ -288,6 +288,12 @@ work_push run w at v x y verdicts packet view verdict is mine j old = record {
         verdict_of_event : Option Event → Verdict
         verdict_of_event e = verdict_on run.times (record { reading = j.judged.reading; event = e })
 
+-- the same, where the first packets are counted apart
+pub one_more : (run : RunFacts) (w first at : ℕ) (v u : Views) (verdicts : List Verdict)
+    → IsWorkUntil run w (first + at + 1) v u verdicts → IsWorkUntil run w (first + (at + 1)) v u verdicts
+one_more run w first at v u verdicts =
+    subst (λ n. IsWorkUntil run w n v u verdicts) (let e : first + at + 1 ≡ first + (at + 1) = omega arith in e)
+
 -- ---- A worker that is alone
 
 pub alone_worker : (d : Deal) (number : ℕ) (flow : Option Flow) (w : ℕ) → d.workers ≡ 1 → w < d.workers

@@ -5,6 +5,7 @@ pub mod Numbers
 pub mod Parts
 pub mod Placing
 pub mod Preparing
+pub mod Shares
 pub mod Turns
 pub mod Updates
 pub mod ViewedPackets

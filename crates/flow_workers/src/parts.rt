@@ -1,32 +1,25 @@
-//! What all workers gave back.
-ghost use Rattle.std.specs.Prelude.{All, IfOk};
-ghost use Rattle.flow_workers.specs.inner.Turns.{ArePartsOf, IsPast};
+//! The shares of all workers, taken apart.
+ghost use Rattle.std.specs.Prelude.{IfOk};
+ghost use Rattle.flow_workers.specs.inner.Parts.{ArePartsOf};
 
-use crate::gate::Gate;
 use crate::share::{Parts, Share};
 use crate::tables::Callers;
-use crate::turn::Turn;
 use bihash_words::Shape;
 use std::alloc::{AllocError, Global};
-use std::sync::Wait;
 
-/// The workers' parts, where none of them was refused memory.
-pub fn parts_of<'t, 'a, A: Shape, B: Shape, R: Wait, G: Gate>(
+/// The parts of the workers' shares.
+pub fn parts_of<A: Shape, B: Shape>(
     alloc: Global,
-    turns: Vec<Turn<'t, 'a, A, B, R, G>>,
+    shares: Vec<Share<A, B>>,
 ) -> Result<Parts<A, B>, AllocError>
-    requires { All (IsPast ⟦<A as Shape>⟧ ⟦<B as Shape>⟧) turns.items }
-    ensures { IfOk result (λ parts. ArePartsOf ⟦<A as Shape>⟧ ⟦<B as Shape>⟧ turns.entry.items
+    ensures { IfOk result (λ parts. ArePartsOf ⟦<A as Shape>⟧ ⟦<B as Shape>⟧ shares.items
         parts.four.items parts.six.items parts.said.items) }
 {
-    let mut four = Vec::with_capacity(alloc, turns.len())?;
-    let mut six = Vec::with_capacity(alloc, turns.len())?;
-    let mut all_said = Vec::with_capacity(alloc, turns.len())?;
-    for turn in turns {
-        let Turn::Over(done) = turn else {
-            unreachable!()
-        };
-        let Share { callers, said } = done?;
+    let mut four = Vec::with_capacity(alloc, shares.len())?;
+    let mut six = Vec::with_capacity(alloc, shares.len())?;
+    let mut all_said = Vec::with_capacity(alloc, shares.len())?;
+    for share in shares {
+        let Share { callers, said } = share;
         let Callers {
             four: own_four,
             six: own_six,

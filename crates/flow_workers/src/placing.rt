@@ -3,7 +3,6 @@ ghost use Rattle.std.specs.Prelude.{IfOk};
 ghost use Rattle.flow_workers.specs.inner.Placing.{AreInOrder, CanOrder};
 
 use flow_filter::Verdict;
-use packet_dealing::DealtPart;
 use std::alloc::{AllocError, Global};
 
 /// The most workers.
@@ -32,36 +31,34 @@ impl Placed {
         Ok(())
     }
 
-    /// Places the verdicts on the packets of a part.
-    fn place(&mut self, part: &DealtPart<'_>, all: &[Vec<Verdict>]) -> Result<(), AllocError>
-        requires { CanPlace all.now part.now.workers.items self.old }
-        ensures { IfOk result (λ _. HasPlaced all.now part.now.workers.items self.old self.new) }
+    /// Places the verdicts on the packets of these workers.
+    fn place(&mut self, judges: &[u8], all: &[Vec<Verdict>]) -> Result<(), AllocError>
+        requires { CanPlace all.now judges.now self.old }
+        ensures { IfOk result (λ _. HasPlaced all.now judges.now self.old self.new) }
     {
-        'part: for judge in part.workers.as_slice() {
+        'packets: for judge in judges {
             self.place_next(all, *judge as usize)?;
         }
         Ok(())
     }
 }
 
-/// The verdicts on so many packets. What a worker that is alone said is in their order already.
+/// The verdicts on so many packets, of which each has its worker among these. What a worker that is alone said is in their order already.
 pub fn in_order(
     alloc: Global,
     mut all: Vec<Vec<Verdict>>,
-    dealt: &[DealtPart<'_>],
+    judges: &[u8],
     packets: usize,
 ) -> Result<Vec<Verdict>, AllocError>
-    requires { CanOrder all.items dealt.now }
-    ensures { IfOk result (λ verdicts. AreInOrder all.items dealt.now verdicts.items) }
+    requires { CanOrder all.items judges.now }
+    ensures { IfOk result (λ verdicts. AreInOrder all.items judges.now verdicts.items) }
 {
     if all.len() > 1 {
         let mut placed = Placed {
             verdicts: Vec::with_capacity(alloc, packets)?,
             next: [0; MOST_WORKERS],
         };
-        for part in dealt {
-            placed.place(part, all.as_slice())?;
-        }
+        placed.place(judges, all.as_slice())?;
         return Ok(placed.verdicts);
     }
     let Some(said) = all.pop() else {

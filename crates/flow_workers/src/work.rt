@@ -13,25 +13,33 @@ use packet_view::{Packet, PacketsAhead, view};
 use std::alloc::AllocError;
 use std::sync::Wait;
 
-// Judges a packet of the worker, and says its verdict. All that it does is within the loops of its two callers: as a
+// Judges a packet of the worker, which stands at this place among those of the run, and says its verdict. All that it does is within the loops of its two callers: as a
 // call it took a fifth more instructions.
 #[inline(always)]
 fn judge_own<A: Shape, B: Shape, R: Wait, G: Gate>(
     run: &Run<'_, '_, A, B, R, G>,
     worker: usize,
-    number: usize,
+    at: usize,
     packet: &Packet<'_>,
     share: &mut Share<A, B>,
 ) -> Result<(), AllocError>
-    requires { MayJudge ⟦<A as Shape>⟧ ⟦<B as Shape>⟧ run.now worker number (packet_facts packet.now) share.old }
-    ensures { IfOk result (λ _. HasWorkedOn ⟦<A as Shape>⟧ ⟦<B as Shape>⟧ run.now worker number (number + 1) share.old share.new) }
+    requires { MayJudge ⟦<A as Shape>⟧ ⟦<B as Shape>⟧ run.now worker at (packet_facts packet.now) share.old }
+    ensures { IfOk result (λ _. HasWorkedOn ⟦<A as Shape>⟧ ⟦<B as Shape>⟧ run.now worker at (at + 1) share.old share.new) }
 {
-    let frame = view(packet.frame, run.filter.own);
+    let setup = &run.setup;
+    let number = run.first + at;
+    let frame = view(packet.frame, setup.filter.own);
     let flow = flow_in(&frame);
     let viewed = ViewedPacket::new(packet, &frame, &flow);
-    run.gate.before(worker, number);
-    let verdict = judge_viewed(run.rt, &run.filter, run.tables, &mut share.callers, &viewed);
-    run.gate.after(worker, number);
+    setup.gate.before(worker, number);
+    let verdict = judge_viewed(
+        setup.rt,
+        &setup.filter,
+        setup.tables,
+        &mut share.callers,
+        &viewed,
+    );
+    setup.gate.after(worker, number);
     share.said.push(verdict)?;
     Ok(())
 }
@@ -41,17 +49,15 @@ fn work_alone<'t, 'a, A: Shape, B: Shape, R: Wait, G: Gate>(
     job: Job<'t, 'a, A, B, R, G>,
 ) -> Result<Share<A, B>, AllocError>
     requires can { CanWork ⟦<A as Shape>⟧ ⟦<B as Shape>⟧ job }
-    requires alone { job.run.workers ≡ 1 }
+    requires alone { job.run.setup.workers ≡ 1 }
     ensures { IfOk result (λ share. IsShareOf ⟦<A as Shape>⟧ ⟦<B as Shape>⟧ job.entry share) }
 {
     let Job {
         run,
-        alloc,
         worker,
-        callers,
+        mut share,
     } = job;
-    let said = Vec::with_capacity(alloc, run.packets.count() / run.workers)?;
-    let mut share = Share { callers, said };
+    share.said.reserve(run.packets.count() / run.setup.workers)?;
     let mut packets = PacketsAhead::new(run.packets);
     let mut taken = 0;
     'packets: while let Some(packet) = packets.next() {
@@ -61,7 +67,7 @@ fn work_alone<'t, 'a, A: Shape, B: Shape, R: Wait, G: Gate>(
     Ok(share)
 }
 
-// Judges the worker's packets of a part, whose packets' numbers begin with this one.
+// Judges the worker's packets of a dealt part, which begins at this place among those of the run.
 fn judge_part<'a, A: Shape, B: Shape, R: Wait, G: Gate>(
     run: &Run<'_, 'a, A, B, R, G>,
     worker: usize,
@@ -90,17 +96,15 @@ fn work_among<'t, 'a, A: Shape, B: Shape, R: Wait, G: Gate>(
     job: Job<'t, 'a, A, B, R, G>,
 ) -> Result<Share<A, B>, AllocError>
     requires can { CanWork ⟦<A as Shape>⟧ ⟦<B as Shape>⟧ job }
-    requires several { job.run.workers ≢ 1 }
+    requires several { job.run.setup.workers ≢ 1 }
     ensures { IfOk result (λ share. IsShareOf ⟦<A as Shape>⟧ ⟦<B as Shape>⟧ job.entry share) }
 {
     let Job {
         run,
-        alloc,
         worker,
-        callers,
+        mut share,
     } = job;
-    let said = Vec::with_capacity(alloc, run.packets.count() / run.workers)?;
-    let mut share = Share { callers, said };
+    share.said.reserve(run.packets.count() / run.setup.workers)?;
     let mut first = 0;
     for part in run.dealt.as_slice() {
         judge_part(&run, worker, first, part, &mut share)?;
@@ -116,7 +120,7 @@ pub fn work<'t, 'a, A: Shape, B: Shape, R: Wait, G: Gate>(
     requires { CanWork ⟦<A as Shape>⟧ ⟦<B as Shape>⟧ job }
     ensures { IfOk result (λ share. IsShareOf ⟦<A as Shape>⟧ ⟦<B as Shape>⟧ job.entry share) }
 {
-    if job.run.is_alone() {
+    if job.run.setup.is_alone() {
         work_alone(job)
     } else {
         work_among(job)

@@ -1,152 +1,167 @@
-//! Many workers at once.
-ghost use Rattle.std.specs.Prelude.{◌≡◌, ◌⊎◌, ◌≤◌, All, IfOk};
-ghost use Rattle.packet_view.specs.CheckedCaptures.{held};
-ghost use Rattle.packet_view.specs.declared.tuple.Family.{Family};
-ghost use Rattle.acl_policy.specs.Policies.{policy_facts};
-ghost use Rattle.flow_filter.specs.OneThread.{AreVerdicts, layout_of};
-ghost use Rattle.flow_dealing.specs.declared.dealing.Dealing.TheVariants.{Bucket};
-ghost use Rattle.flow_dealing.specs.Runs.{AreFew, AreJudged, HasPagesIn, HavePages};
-ghost use Rattle.flow_workers.specs.Callers.{AreShapes};
-ghost use Rattle.flow_workers.specs.inner.Jobs.{run_facts};
-ghost use Rattle.flow_workers.specs.inner.Parts.{AreParts};
-ghost use Rattle.flow_workers.specs.inner.Turns.{AreAhead, MayRun};
+//! Workers that judge packets in parts.
+ghost use Rattle.std.specs.Prelude.{◌≡◌, ◌++◌, IfOk};
+ghost use Rattle.packet_dealing.specs.declared.deals.DealtPart.{DealtPart};
+ghost use Rattle.flow_workers.specs.inner.Shares.{AreSplit, MaySplit, workers_in};
 
 use crate::gate::Gate;
 use crate::numbers::{join_whole, split_one};
 use crate::parts::parts_of;
 use crate::placing::in_order;
 use crate::run_fault::RunFault;
-use crate::share::{Job, Parts, Run};
-use crate::tables::{Callers, create_tables};
-use crate::turn::Turn;
+use crate::setup::Setup;
+use crate::share::{Parts, Run, Share};
+use crate::tables::{Callers, Tables};
+use crate::turns::run_shares;
 use bihash_words::Shape;
-use flow_dealing::Dealing;
-use flow_filter::{Filter, Verdict};
-use packet_dealing::{Dealer, deal_packets, run_all};
+use flow_filter::Verdict;
+use packet_dealing::{DealtPart, deal_packets};
 use packet_view::Packets;
 use std::alloc::{AllocError, Global};
 use std::sync::Wait;
 use std::thread::Threads;
 
-// The workers' turns, which are ahead, each with callers of its own. A worker keeps the callers that were split, and
-// the new ones are split on: so the workers' numbers are in the order of their turns.
-fn turns_ahead<'t, 'a, A: Shape, B: Shape, R: Wait, G: Gate>(
+// The shares of so many workers that judged nothing, each with callers of its own. A worker keeps the callers that were
+// split, and the new ones are split on: so the workers' numbers are in the order of their turns.
+fn split_shares<A: Shape, B: Shape, R: Wait>(
+    rt: &R,
     alloc: Global,
-    run: Run<'t, 'a, A, B, R, G>,
+    tables: &Tables<A, B>,
     callers: Callers<A, B>,
-) -> Result<Vec<Turn<'t, 'a, A, B, R, G>>, AllocError>
-    requires { MayRun run callers }
-    ensures { IfOk result (λ v. AreAhead run.entry v.items) }
+    workers: usize,
+) -> Result<Vec<Share<A, B>>, AllocError>
+    requires { MaySplit tables.now callers workers }
+    ensures { IfOk result (λ v. AreSplit tables.now workers v.items) }
 {
     let Callers { mut four, mut six } = callers;
-    let last = run.workers - 1;
-    let mut turns = Vec::with_capacity(alloc, run.workers)?;
-    for worker in 0..last {
-        let (own_four, next_four) = split_one(run.rt, alloc, &run.tables.four, four)?;
-        let (own_six, next_six) = split_one(run.rt, alloc, &run.tables.six, six)?;
+    let mut shares = Vec::with_capacity(alloc, workers)?;
+    for _ in 1..workers {
+        let (own_four, next_four) = split_one(rt, alloc, &tables.four, four)?;
+        let (own_six, next_six) = split_one(rt, alloc, &tables.six, six)?;
         four = next_four;
         six = next_six;
-        turns.push(Turn::Ahead(Job {
-            run: run.again(),
-            alloc,
-            worker,
+        shares.push(Share {
             callers: Callers {
                 four: own_four,
                 six: own_six,
             },
-        }))?;
+            said: Vec::new(alloc),
+        })?;
     }
-    turns.push(Turn::Ahead(Job {
-        run,
-        alloc,
-        worker: last,
+    shares.push(Share {
         callers: Callers { four, six },
-    }))?;
-    Ok(turns)
+        said: Vec::new(alloc),
+    })?;
+    Ok(shares)
 }
 
-// What all workers of a run give back, where none of them is refused memory.
-fn work_all<
+// The workers of the packets of these parts come after those that are there.
+fn note_workers(judges: &mut Vec<u8>, dealt: &[DealtPart<'_>]) -> Result<(), AllocError>
+    ensures { IfOk result (λ _. judges.new.items ≡ judges.old.items ++ workers_in dealt.now) }
+{
+    for part in dealt {
+        judges.extend_from_slice(part.workers.as_slice())?;
+    }
+    Ok(())
+}
+
+/// Workers, and what they have after the packets that they judged so far.
+#[derive(Drop)]
+pub struct Workers<'t, A: Shape, B: Shape, R: Wait, G: Gate> {
+    pub setup: Setup<'t, A, B, R, G>,
+    /// What each worker has, in their order.
+    pub shares: Vec<Share<A, B>>,
+    /// The worker of each packet, where there are several.
+    pub judges: Vec<u8>,
+    /// How many packets they judged.
+    pub count: usize,
+}
+
+impl<'t, A: Shape, B: Shape, R: Wait, G: Gate> Workers<'t, A, B, R, G> {
+    ghost use Rattle.std.specs.Prelude.{IfOk};
+    ghost use Rattle.flow_workers.specs.Progress.{AreBegun, CanEnd, HaveSaid, MayBegin};
+
+    /// Workers that judged no packet. The callers are of the setup's tables, and made no call. `Memory`: memory was
+    /// refused.
+    pub fn new(
+        alloc: Global,
+        setup: Setup<'t, A, B, R, G>,
+        callers: Callers<A, B>,
+    ) -> Result<Workers<'t, A, B, R, G>, RunFault>
+        requires { MayBegin setup callers }
+        ensures { IfOk result (AreBegun setup.entry) }
+    {
+        let shares = split_shares(setup.rt, alloc, setup.tables, callers, setup.workers)?;
+        Ok(Workers {
+            setup,
+            shares,
+            judges: Vec::new(alloc),
+            count: 0,
+        })
+    }
+
+    /// The verdicts on all packets, in their order. `Memory`: memory was refused.
+    pub fn end(self, alloc: Global) -> Result<Vec<Verdict>, RunFault>
+        requires { CanEnd self }
+        ensures { IfOk result (λ v. HaveSaid self.entry v.items) }
+    {
+        let Workers {
+            setup,
+            shares,
+            judges,
+            count,
+        } = self;
+        let Parts { four, six, said } = parts_of(alloc, shares)?;
+        join_whole(setup.rt, &setup.tables.four, four);
+        join_whole(setup.rt, &setup.tables.six, six);
+        Ok(in_order(alloc, said, judges.as_slice(), count)?)
+    }
+}
+
+impl<
     't,
-    'a,
     A: Shape + Send + Sync,
     B: Shape + Send + Sync,
     R: Threads + Wait + Sync,
     G: Gate + Sync,
->(
-    alloc: Global,
-    run: Run<'t, 'a, A, B, R, G>,
-    callers: Callers<A, B>,
-) -> Result<Parts<A, B>, AllocError>
+> Workers<'t, A, B, R, G>
 where
     A::Key: Send + Sync,
     B::Key: Send + Sync,
-    requires { MayRun run callers }
-    ensures { IfOk result (λ parts. AreParts ⟦<A as Shape>⟧ ⟦<B as Shape>⟧ run.entry.tables.now (run_facts ⟦<A as Shape>⟧ ⟦<B as Shape>⟧ run.entry) parts) }
 {
-    let rt = run.rt;
-    let ahead = turns_ahead(alloc, run, callers)?;
-    let over = run_all(rt, ahead)?;
-    parts_of(alloc, over)
-}
+    ghost use Rattle.std.specs.Prelude.{IfOk};
+    ghost use Rattle.flow_workers.specs.Progress.{CanJudge, HaveJudged};
 
-/// The verdicts on the packets, in their order, by so many workers at once over new tables. A worker whose thread
-/// can't be made is run by the calling thread. `Memory`: memory was refused.
-pub fn run_workers<
-    't,
-    'a,
-    A: Shape + Send + Sync,
-    B: Shape + Send + Sync,
-    R: Threads + Wait + Sync,
-    G: Gate + Sync,
->(
-    rt: &'t R,
-    alloc: Global,
-    filter: &'t Filter,
-    packets: Packets<'a>,
-    workers: usize,
-    gate: &'t G,
-    dealing: Dealing,
-) -> Result<Vec<Verdict>, RunFault>
-where
-    A::Key: Send + Sync,
-    B::Key: Send + Sync,
-    requires shapes { AreShapes ⟦<A as Shape>⟧ ⟦<B as Shape>⟧ }
-    requires some { 1 ≤ workers }
-    requires few { workers ≤ 16 }
-    ensures judged { IfOk result (λ v. AreJudged
-        (record { layout = layout_of ⟦<A as Shape>⟧ ⟦<B as Shape>⟧; dealing = dealing; workers = workers })
-        filter.now.times (policy_facts filter.now.policy) (held packets.entry) v.items) }
-    ensures one_report { IfOk result (λ v. (dealing ≡ Bucket) ⊎ (workers ≡ 1) → HavePages v.items
-        → AreVerdicts (layout_of ⟦<A as Shape>⟧ ⟦<B as Shape>⟧) filter.now.times (policy_facts filter.now.policy)
-        (held packets.entry) v.items) }
-    ensures pages { IfOk result (λ v. (are : AreJudged
-        (record { layout = layout_of ⟦<A as Shape>⟧ ⟦<B as Shape>⟧; dealing = dealing; workers = workers })
-        filter.now.times (policy_facts filter.now.policy) (held packets.entry) v.items) (family : Family)
-        → AreFew (layout_of ⟦<A as Shape>⟧ ⟦<B as Shape>⟧) filter.now.times family are.judged
-        → All (HasPagesIn filter.now.times family) are.judged) }
-{
-    let (tables, callers) = create_tables::<A, B>(alloc)?;
-    let prepared = filter.prepare(alloc, packets.count())?;
-    let ready = filter.ready_with(&prepared);
-    let dealer = Dealer {
-        own: ready.own,
-        dealing,
-        workers,
-    };
-    let dealt = deal_packets::<A, B, R>(rt, alloc, dealer, packets)?;
-    let run = Run {
-        rt,
-        gate,
-        filter: ready,
-        tables: &tables,
-        packets,
-        dealing,
-        workers,
-        dealt: &dealt,
-    };
-    let Parts { four, six, said } = work_all(alloc, run, callers)?;
-    join_whole(rt, &tables.four, four);
-    join_whole(rt, &tables.six, six);
-    Ok(in_order(alloc, said, dealt.as_slice(), packets.count())?)
+    /// The workers after they judged these packets too, which follow those so far. A worker whose thread can't be made
+    /// is run by the calling thread. `Memory`: memory was refused.
+    pub fn judge(
+        self,
+        alloc: Global,
+        packets: Packets<'_>,
+    ) -> Result<Workers<'t, A, B, R, G>, RunFault>
+        requires { CanJudge self packets }
+        ensures { IfOk result (HaveJudged self.entry packets.entry) }
+    {
+        let Workers {
+            setup,
+            shares,
+            mut judges,
+            count,
+        } = self;
+        let next = count + packets.count();
+        let dealt = deal_packets::<A, B, R>(setup.rt, alloc, setup.dealer(), count, packets)?;
+        let run = Run {
+            setup: setup.again(),
+            first: count,
+            packets,
+            dealt: &dealt,
+        };
+        let shares = run_shares(alloc, run, shares)?;
+        note_workers(&mut judges, dealt.as_slice())?;
+        Ok(Workers {
+            setup,
+            shares,
+            judges,
+            count: next,
+        })
+    }
 }

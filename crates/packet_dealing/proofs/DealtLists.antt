@@ -1,8 +1,8 @@
 -- Packets that are dealt one by one.
-use Rattle.std.proofs.Common.{◌≡◌, ◌∙◌, ◌+◌, ◌<◌, ℕ, zero, suc, List, [], ◌∷◌, ◌++◌, length, drop, Option, Some, None, ap, refl, sym, subst, inl, inr, arith, add-one, drop-drop, slice_get}
+use Rattle.std.proofs.Common.{◌≡◌, ◌∙◌, ◌+◌, ◌<◌, ◌≤◌, ℕ, zero, suc, List, [], ◌∷◌, ◌++◌, length, drop, Option, Some, None, ap, refl, sym, subst, inl, inr, arith, add-one, drop-drop, slice_get}
 use Rattle.std.proofs.lemmas.Bool.Decides.{eqb_tells}
 use Rattle.std.proofs.lemmas.List.{get_or_append_left, get_or_push, length_push}
-use Rattle.std.proofs.lemmas.Option.{slice_get_within}
+use Rattle.std.proofs.lemmas.Option.{slice_get_past, slice_get_within}
 use Rattle.packet_view.specs.Captures.{PacketFacts, Takes, packet_facts}
 use Rattle.packet_view.specs.declared.capture.Packet.{Packet}
 use Rattle.bihash_words.specs.declared.shape.Shape.{Ghosts}
@@ -40,6 +40,11 @@ some_left [] at inside none = omega arith
 some_left (x ∷ xs) zero inside none = cc
 some_left (x ∷ xs) (suc at) inside none = some_left xs at (omega arith) none
 
+pub none_left : {X : Type 0} (xs : List X) (at : ℕ) → drop at xs ≡ [] → length xs ≤ at
+none_left [] at none = omega arith
+none_left (x ∷ xs) zero none = absurd (let f : ⊥ = cc in f)
+none_left (x ∷ xs) (suc at) none = let less = none_left xs at none in omega arith
+
 pub stands_at : {X : Type 0} (xs ys : List X) (k : ℕ) (x : X) → drop k xs ≡ x ∷ ys → slice_get xs k ≡ Some x
 stands_at [] ys zero x e = absurd (let f : ⊥ = cc in f)
 stands_at [] ys (suc k) x e = absurd (let f : ⊥ = cc in f)
@@ -50,6 +55,12 @@ stands_at (y ∷ xs) ys (suc k) x e = stands_at xs ys k x e
 pub next_there : {X : Type 0} (xs ys : List X) (first k : ℕ) (x : X) → drop (first + k) xs ≡ x ∷ ys
     → slice_get (drop first xs) k ≡ Some x
 next_there xs ys first k x left = stands_at (drop first xs) ys k x (drop-drop k first xs ∙ left)
+
+pub there_behind : {X : Type 0} (xs : List X) (n k : ℕ) → slice_get (drop n xs) k ≡ slice_get xs (n + k)
+there_behind xs zero k = ap (slice_get xs) (let e : k ≡ zero + k = omega arith in e)
+there_behind [] (suc n) k = sym (slice_get_past [] (suc n + k) (omega arith))
+there_behind (x ∷ xs) (suc n) k =
+    there_behind xs n k ∙ ap (slice_get (x ∷ xs)) (let e : suc (n + k) ≡ suc n + k = omega arith in e)
 
 -- ---- Workers of packets
 

@@ -29,22 +29,24 @@ begin_last packets workers =
 
 -- ---- What becomes of parts
 
-module _ {A B K L : Type 0} (ga : Ghosts A K) (gb : Ghosts B L) (dealer : Dealer) (packets : Packets) where
-  pub over_past : (first next : ℕ) (part : Part A B) → IsOver ga gb dealer packets first next part → IsPast part
+module _ {A B K L : Type 0} (ga : Ghosts A K) (gb : Ghosts B L) (dealer : Dealer) (number : ℕ)
+    (packets : Packets) where
+  pub over_past : (first next : ℕ) (part : Part A B) → IsOver ga gb dealer number packets first next part → IsPast part
   over_past first next (Ahead job) is = absurd is
   over_past first next (Over done) is = tt
 
   -- what the job of a part asked for
-  as_asked : (first next : ℕ) (job : Job A B) (dealt : DealtPart) → IsJob ga gb dealer packets first next job
-      → IsPartOf ga gb job dealt → AreBetween ga gb dealer (held packets) first next dealt
+  as_asked : (first next : ℕ) (job : Job A B) (dealt : DealtPart) → IsJob ga gb dealer number packets first next job
+      → IsPartOf ga gb job dealt → AreBetween ga gb dealer number (held packets) first next dealt
   as_asked first next job dealt is of =
-      subst (λ d. AreBetween ga gb d (held packets) first next dealt) is.by
-      (subst (λ ps. AreBetween ga gb job.dealer (held ps) first next dealt) is.of
-      (subst (λ n. AreBetween ga gb job.dealer (held job.packets) first n dealt) is.ends
-      (subst (λ n. AreBetween ga gb job.dealer (held job.packets) n job.next dealt) is.begins of)))
+      subst (λ d. AreBetween ga gb d number (held packets) first next dealt) is.by
+      (subst (λ n. AreBetween ga gb job.dealer n (held packets) first next dealt) is.counts
+      (subst (λ ps. AreBetween ga gb job.dealer job.number (held ps) first next dealt) is.of
+      (subst (λ n. AreBetween ga gb job.dealer job.number (held job.packets) first n dealt) is.ends
+      (subst (λ n. AreBetween ga gb job.dealer job.number (held job.packets) n job.next dealt) is.begins of))))
 
-  pub turned : (first next : ℕ) (part other : Part A B) → IsAhead ga gb dealer packets first next part
-      → Becomes ga gb part other → IsOver ga gb dealer packets first next other
+  pub turned : (first next : ℕ) (part other : Part A B) → IsAhead ga gb dealer number packets first next part
+      → Becomes ga gb part other → IsOver ga gb dealer number packets first next other
   turned first next (Ahead job) (Ahead other) is did = absurd did
   turned first next (Ahead job) (Over (Ok dealt)) is did = as_asked first next job dealt is did
   turned first next (Ahead job) (Over (Err e)) is did = tt
@@ -53,42 +55,46 @@ module _ {A B K L : Type 0} (ga : Ghosts A K) (gb : Ghosts B L) (dealer : Dealer
   -- Parts that begin where the ones before them end, up to the last packet, have all packets.
   pub all_dealt : (begin : ℕ → ℕ) (workers : ℕ) → begin workers ≡ length (held packets)
       → (k : ℕ) (parts : List DealtPart) → k + length parts ≡ workers
-      → ((i : ℕ) (d : Part A B) → i < length parts → IsOver ga gb dealer packets (begin (k + i)) (begin (k + i + 1))
+      → ((i : ℕ) (d : Part A B) → i < length parts → IsOver ga gb dealer number packets (begin (k + i)) (begin (k + i + 1))
       (get_or (map (λ part. Over (Ok part)) parts) i d))
-      → AreDealt ga gb dealer (begin k) parts (drop (begin k) (held packets))
+      → AreDealt ga gb dealer (number + begin k) parts (drop (begin k) (held packets))
   all_dealt begin workers ends k [] count each =
       let last : begin k ≡ length (held packets) = ap begin (let e : k ≡ workers = omega arith in e) ∙ ends in
       ap (λ n. drop n (held packets)) last ∙ drop-length (held packets)
   all_dealt begin workers ends k (part ∷ parts) count each = (
     one.dealt,
-    subst (λ ps. AreDealt ga gb dealer (begin k + length part.workers.items) parts ps)
+    subst (λ ps. AreDealt ga gb dealer (number + begin k + length part.workers.items) parts ps)
         (sym (drop-drop (length part.workers.items) (begin k) (held packets)))
-        (subst (λ n. AreDealt ga gb dealer n parts (drop n (held packets))) (sym one.count)
+        (subst (λ n. AreDealt ga gb dealer n parts (drop (begin k + length part.workers.items) (held packets)))
+        (let e : number + (begin k + length part.workers.items) ≡ number + begin k + length part.workers.items =
+        omega arith in e)
+        (subst (λ n. AreDealt ga gb dealer (number + n) parts (drop n (held packets))) (sym one.count)
         (all_dealt begin workers ends (k + 1) parts (omega arith)
-        (λ i d inside. subst (λ n. IsOver ga gb dealer packets (begin n) (begin (n + 1))
+        (λ i d inside. subst (λ n. IsOver ga gb dealer number packets (begin n) (begin (n + 1))
         (get_or (map (λ p. Over (Ok p)) parts) i d)) (let e : k + suc i ≡ k + 1 + i = omega arith in e)
-        (each (suc i) d (omega arith))))),
+        (each (suc i) d (omega arith)))))),
   )
     where
-      one : AreBetween ga gb dealer (held packets) (begin k) (begin (k + 1)) part
-      one = subst (λ n. AreBetween ga gb dealer (held packets) (begin n) (begin (n + 1)) part)
+      one : AreBetween ga gb dealer number (held packets) (begin k) (begin (k + 1)) part
+      one = subst (λ n. AreBetween ga gb dealer number (held packets) (begin n) (begin (n + 1)) part)
           (let e : k + 0 ≡ k = omega arith in e) (each 0 (Over (Ok part)) (omega arith))
 
   -- the parts of all workers have all packets
   pub all_parts : (parts : List DealtPart) (others : List (Part A B)) → 0 < dealer.workers
       → others ≡ map (λ part. Over (Ok part)) parts → length others ≡ dealer.workers
-      → ((i : ℕ) (d : Part A B) → i < dealer.workers → IsOver ga gb dealer packets
+      → ((i : ℕ) (d : Part A B) → i < dealer.workers → IsOver ga gb dealer number packets
       (begin_of (length (held packets)) dealer.workers i)
       (begin_of (length (held packets)) dealer.workers (i + 1)) (get_or others i d))
-      → AreDealt ga gb dealer 0 parts (held packets)
+      → AreDealt ga gb dealer number parts (held packets)
   all_parts parts others some_worker are count each =
-      subst (λ n. AreDealt ga gb dealer n parts (drop n (held packets)))
+      subst (λ n. AreDealt ga gb dealer n parts (held packets)) (let e : number + 0 ≡ number = omega arith in e)
+      (subst (λ n. AreDealt ga gb dealer (number + n) parts (drop n (held packets)))
       (begin_first (length (held packets)) dealer.workers some_worker)
       (all_dealt begin dealer.workers (begin_last (length (held packets)) dealer.workers) 0 parts counted
-      (λ i d inside. subst (λ n. IsOver ga gb dealer packets (begin n) (begin (n + 1))
+      (λ i d inside. subst (λ n. IsOver ga gb dealer number packets (begin n) (begin (n + 1))
       (get_or (map (λ part. Over (Ok part)) parts) i d)) (let e : i ≡ 0 + i = omega arith in e)
-      (subst (λ os. IsOver ga gb dealer packets (begin i) (begin (i + 1)) (get_or os i d)) are
-      (each i d (let c = counted in omega arith)))))
+      (subst (λ os. IsOver ga gb dealer number packets (begin i) (begin (i + 1)) (get_or os i d)) are
+      (each i d (let c = counted in omega arith))))))
     where
       begin : ℕ → ℕ
       begin = begin_of (length (held packets)) dealer.workers

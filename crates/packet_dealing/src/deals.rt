@@ -1,5 +1,5 @@
 //! Packets with the workers that judge them, which several threads find at once.
-ghost use Rattle.std.specs.Prelude.{◌≡◌, ◌≢◌, ◌≤◌, IfOk};
+ghost use Rattle.std.specs.Prelude.{◌≡◌, ◌≢◌, ◌≤◌, ◌<◌, ◌+◌, ◌^◌, IfOk, length};
 ghost use Rattle.packet_view.specs.CheckedCaptures.{held};
 ghost use Rattle.packet_dealing.specs.Dealt.{AreDealt, AreShapes};
 
@@ -20,13 +20,14 @@ pub struct DealtPart<'a> {
     pub workers: Vec<u8>,
 }
 
-/// The packets with the workers that judge them, in their order, in as many parts as there are workers. Each part is
-/// found by a thread of its own, or by this one where no thread can be made. A worker that is alone has all packets,
-/// and none is dealt.
+/// The packets, whose numbers begin with this one, with the workers that judge them, in their order, in as many parts as
+/// there are workers. Each part is found by a thread of its own, or by this one where no thread can be made. A worker
+/// that is alone has all packets, and none is dealt.
 pub fn deal_packets<'a, A: Shape + Send, B: Shape + Send, R: Threads + Sync>(
     rt: &R,
     alloc: Global,
     dealer: Dealer,
+    number: usize,
     packets: Packets<'a>,
 ) -> Result<Vec<DealtPart<'a>>, AllocError>
 where
@@ -35,13 +36,14 @@ where
     requires shapes { AreShapes ⟦<A as Shape>⟧ ⟦<B as Shape>⟧ }
     requires some { 1 ≤ dealer.workers }
     requires few { dealer.workers ≤ 16 }
+    requires fits { number + length (held packets) < 2 ^ 64 }
     ensures { IfOk result (λ parts. dealer.workers ≢ 1
-        → AreDealt ⟦<A as Shape>⟧ ⟦<B as Shape>⟧ dealer 0 parts.items (held packets.entry)) }
+        → AreDealt ⟦<A as Shape>⟧ ⟦<B as Shape>⟧ dealer number parts.items (held packets.entry)) }
 {
     if dealer.workers == 1 {
         return Ok(Vec::new(alloc));
     }
-    let ahead = parts_ahead::<A, B>(alloc, dealer, packets)?;
+    let ahead = parts_ahead::<A, B>(alloc, dealer, number, packets)?;
     let over = run_all(rt, ahead)?;
     parts_over(alloc, over)
 }

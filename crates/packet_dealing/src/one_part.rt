@@ -29,11 +29,11 @@ pub fn deal_part<'a, A: Shape, B: Shape>(job: Job<'a, A, B>) -> Result<DealtPart
     let front = skip(job.packets, job.first);
     let mut workers = Vec::with_capacity(job.alloc, job.next - job.first)?;
     let mut packets = PacketsAhead::new(front);
-    for number in job.first..job.next {
+    for at in job.first..job.next {
         let Some(packet) = packets.next() else {
             unreachable!()
         };
-        workers.push(dealt_to::<A, B>(&job.dealer, number, packet.frame) as u8)?;
+        workers.push(dealt_to::<A, B>(&job.dealer, job.number + at, packet.frame) as u8)?;
     }
     Ok(DealtPart {
         packets: front,

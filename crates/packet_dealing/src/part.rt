@@ -8,16 +8,18 @@ use packet_view::Packets;
 use std::alloc::{AllocError, Global};
 use std::marker::PhantomData;
 
-/// Which of the packets are to be dealt: those from one number on, up to another.
+/// Which of the packets are to be dealt: those from one place on, up to another.
 #[derive(Drop)]
 pub struct Job<'a, A, B> {
     pub alloc: Global,
     pub dealer: Dealer,
     /// All packets.
     pub packets: Packets<'a>,
-    /// The number of the first one, from 0.
+    /// The number of the first of all packets.
+    pub number: usize,
+    /// The place of the first one among all, from 0.
     pub first: usize,
-    /// The number of the first one behind them.
+    /// The place of the first one behind them.
     pub next: usize,
     /// What their buckets go by.
     pub shapes: PhantomData<(A, B)>,

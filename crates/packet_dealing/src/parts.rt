@@ -1,5 +1,6 @@
 //! All parts of the packets.
-ghost use Rattle.std.specs.Prelude.{◌≡◌, ◌≤◌, ◌<◌, All, IfOk, map, Ok};
+ghost use Rattle.std.specs.Prelude.{◌≡◌, ◌≤◌, ◌<◌, ◌+◌, ◌^◌, All, IfOk, length, map, Ok};
+ghost use Rattle.packet_view.specs.CheckedCaptures.{held};
 ghost use Rattle.packet_dealing.specs.declared.part.Part.TheVariants.{Over};
 ghost use Rattle.packet_dealing.specs.inner.Parts.{AreAhead, IsPast, MayDeal, begin_of};
 
@@ -11,7 +12,7 @@ use packet_view::Packets;
 use std::alloc::{AllocError, Global};
 use std::marker::PhantomData;
 
-// The number of a part's first packet. There is one part for each worker, and the packets end where one more began.
+// The place of a part's first packet. There is one part for each worker, and the packets end where one more began.
 fn begin(packets: usize, workers: usize, part: usize) -> usize
     requires some { 0 < workers }
     requires one { part ≤ workers }
@@ -25,14 +26,16 @@ fn begin(packets: usize, workers: usize, part: usize) -> usize
     }
 }
 
-/// The parts of the packets, which are ahead, one for each worker.
+/// The parts of the packets, which are ahead, one for each worker. The packets' numbers begin with this one.
 pub fn parts_ahead<'a, A: Shape, B: Shape>(
     alloc: Global,
     dealer: Dealer,
+    number: usize,
     packets: Packets<'a>,
 ) -> Result<Vec<Part<'a, A, B>>, AllocError>
-    requires { MayDeal ⟦<A as Shape>⟧ ⟦<B as Shape>⟧ dealer }
-    ensures { IfOk result (λ v. AreAhead ⟦<A as Shape>⟧ ⟦<B as Shape>⟧ dealer packets.entry v.items) }
+    requires may { MayDeal ⟦<A as Shape>⟧ ⟦<B as Shape>⟧ dealer }
+    requires fits { number + length (held packets) < 2 ^ 64 }
+    ensures { IfOk result (λ v. AreAhead ⟦<A as Shape>⟧ ⟦<B as Shape>⟧ dealer number packets.entry v.items) }
 {
     let count = packets.count();
     let mut parts = Vec::with_capacity(alloc, dealer.workers)?;
@@ -41,6 +44,7 @@ pub fn parts_ahead<'a, A: Shape, B: Shape>(
             alloc,
             dealer,
             packets,
+            number,
             first: begin(count, dealer.workers, part),
             next: begin(count, dealer.workers, part + 1),
             shapes: PhantomData,

@@ -1,5 +1,5 @@
 //! Packets whose workers were worked out by hand.
-ghost use Rattle.std.specs.Prelude.{◌≤◌};
+ghost use Rattle.std.specs.Prelude.{◌≤◌, ◌<◌, ◌+◌, ◌^◌, length};
 
 use crate::{Dealer, DealtPart, deal_packets};
 use bihash_words::{ShapeV4, ShapeV6, flow_shapes_are_sound};
@@ -42,10 +42,12 @@ fn deal<'a, R: Threads + Sync>(
     alloc: Global,
     dealing: Dealing,
     workers: usize,
+    number: usize,
     packets: &'a [Packet<'a>],
 ) -> Result<Vec<DealtPart<'a>>, AllocError>
     requires some { 1 ≤ workers }
     requires few { workers ≤ 16 }
+    requires fits { number + length packets.now < 2 ^ 64 }
 {
     flow_shapes_are_sound();
     let dealer = Dealer {
@@ -53,7 +55,7 @@ fn deal<'a, R: Threads + Sync>(
         dealing,
         workers,
     };
-    deal_packets::<ShapeV4, ShapeV6, R>(rt, alloc, dealer, Packets::Listed(packets))
+    deal_packets::<ShapeV4, ShapeV6, R>(rt, alloc, dealer, number, Packets::Listed(packets))
 }
 
 // These are the packets, in their order, each with its worker.
@@ -97,11 +99,11 @@ fn deals_packets_of_several_flows(rt: HostRuntime) -> Result<(), Fail> {
         seen(107, &frames[3]),
         seen(120, &frames[4]),
     ];
-    let parts = deal(&rt, rt.alloc(), Dealing::Bucket, 3, &packets)?;
+    let parts = deal(&rt, rt.alloc(), Dealing::Bucket, 3, 0, &packets)?;
     assert_eq!(rt; parts.len(), 3);
     expect_packets(&rt, parts, &packets, [1, 2, 1, 0, 2, 2, 0]);
-    let parts = deal(&rt, rt.alloc(), Dealing::Round, 2, &packets)?;
+    let parts = deal(&rt, rt.alloc(), Dealing::Round, 2, 5, &packets)?;
     assert_eq!(rt; parts.len(), 2);
-    expect_packets(&rt, parts, &packets, [0, 1, 0, 1, 0, 1, 0]);
+    expect_packets(&rt, parts, &packets, [1, 0, 1, 0, 1, 0, 1]);
     Ok(())
 }

@@ -1,11 +1,15 @@
 -- What all workers of a run give back.
-use Rattle.std.specs.Prelude.{◌≡◌, List, [], ◌∷◌, All}
+use Rattle.std.specs.Prelude.{◌≡◌, List, [], ◌∷◌, All, map}
+use Rattle.std.specs.Global.{Vec}
 use Rattle.std.specs.List.{AllZip}
 use Rattle.packet_view.specs.declared.tuple.Family.TheVariants.{V4, V6}
 use Rattle.bihash_words.specs.declared.shape.Shape.{Ghosts}
 use Rattle.bihash_steps.specs.Views.{nothing_held}
+use Rattle.bihash_steps.specs.declared.row.Caller.{Caller}
+use Rattle.flow_filter.specs.declared.verdict.Verdict.{Verdict}
 use Rattle.flow_dealing.specs.Traces.{AreTraces, HaveTraces, Item}
 use Rattle.flow_workers.specs.declared.share.Parts.{Parts}
+use Rattle.flow_workers.specs.declared.share.Share.{Share}
 use Rattle.flow_workers.specs.declared.tables.Tables.{Tables}
 use Rattle.flow_workers.specs.inner.Work.{AreSaid, RunFacts}
 
@@ -21,3 +25,10 @@ pub record AreParts {A B K L : Type 0} (ga : Ghosts A K) (gb : Ghosts B L) (tabl
   pub four : AllZip (λ trace c. HaveTraces run.times V4 (trace ∷ []) c.seat.view) traces parts.four.items
   pub six : AllZip (λ trace c. HaveTraces run.times V6 (trace ∷ []) c.seat.view) traces parts.six.items
   pub said : AllZip (λ trace s. AreSaid run trace s.items) traces parts.said.items
+
+-- these are the parts of the shares
+pub record ArePartsOf {A B K L : Type 0} (ga : Ghosts A K) (gb : Ghosts B L) (shares : List (Share A B K L ga gb))
+    (fours : List (Caller A K ga)) (sixes : List (Caller B L gb)) (saids : List (Vec Verdict)) : Type 0 where
+  pub four : fours ≡ map (λ (s : Share A B K L ga gb). s.callers.four) shares
+  pub six : sixes ≡ map (λ (s : Share A B K L ga gb). s.callers.six) shares
+  pub said : saids ≡ map (λ (s : Share A B K L ga gb). s.said) shares

@@ -1,5 +1,5 @@
 -- What workers said of packets, and where it is placed.
-use Rattle.std.specs.Prelude.{◌≡◌, ◌≢◌, ◌<◌, ◌≤◌, ◌+◌, ◌==◌, if◌then◌else◌, ℕ, List, [], ◌∷◌, Some, drop, length, slice_get, slice_index}
+use Rattle.std.specs.Prelude.{◌≡◌, ◌≢◌, ◌<◌, ◌≤◌, ◌+◌, ◌==◌, if◌then◌else◌, ℕ, List, ◌∷◌, Some, drop, length, slice_get, slice_index}
 use Rattle.std.specs.Global.{Vec}
 use Rattle.std.specs.List.{AllZip}
 use lib.ListN.{get_elem?}
@@ -7,7 +7,6 @@ use mathlib.Core.Option.{some}
 use Rattle.packet_view.specs.Captures.{PacketFacts}
 use Rattle.packet_view.specs.Frames as frames
 use Rattle.packet_view.specs.Frames.{IsFrame}
-use Rattle.packet_dealing.specs.declared.deals.DealtPart.{DealtPart}
 use Rattle.flow_filter.specs.declared.verdict.Verdict.{Verdict}
 use Rattle.flow_dealing.specs.Dealings.{flow_shown, worker_of}
 use Rattle.flow_dealing.specs.Traces.{ArePlaced, AreTraces, AreViews, Item, numbers_from, numbers_of, verdict_in}
@@ -21,11 +20,10 @@ pub record AreJudges (run : RunFacts) (first : ℕ) (workers : List ℕ) : Type 
       → slice_get run.packets (first + k) ≡ Some packet → IsFrame packet.frame run.policy.own view
       → slice_index workers k ≡ worker_of run.deal (first + k) (flow_shown view)
 
--- these parts have the workers of all packets from this number on
-abbrev pub AreAllJudges : RunFacts → ℕ → List DealtPart → Type 0
-AreAllJudges run first [] = first ≡ length run.packets
-AreAllJudges run first (part ∷ parts) = AreJudges run first part.workers.items
-    × AreAllJudges run (first + length part.workers.items) parts
+-- these are the workers of all packets
+pub record AreAllJudges (run : RunFacts) (workers : List ℕ) : Type 0 where
+  pub are : AreJudges run 0 workers
+  pub all : length workers ≡ length run.packets
 
 -- the workers of a run did these traces, and said this
 pub record AreTold (run : RunFacts) (traces : List (List Item)) (all : List (Vec Verdict)) : Type 0 where
@@ -34,20 +32,19 @@ pub record AreTold (run : RunFacts) (traces : List (List Item)) (all : List (Vec
   pub traced : AreTraces run.deal run.times run.policy run.packets traces
   pub said : AllZip (λ trace said. AreSaid run trace said.items) traces all
 
--- The workers of a run did these traces and said this, and these parts have the worker of each packet, where there are
--- several.
+-- the workers of a run did these traces and said this, and these are the workers of the packets, where there are several
 pub record AreAllSaid (run : RunFacts) (traces : List (List Item)) (all : List (Vec Verdict))
-    (dealt : List DealtPart) : Type 0 where
+    (workers : List ℕ) : Type 0 where
   pub told : AreTold run traces all
-  pub judges : run.deal.workers ≢ 1 → AreAllJudges run 0 dealt
+  pub judges : run.deal.workers ≢ 1 → AreAllJudges run workers
 
 -- this was said by all workers of a run
-abbrev pub CanOrder : List (Vec Verdict) → List DealtPart → Type 0
-CanOrder all dealt = (run : RunFacts) × (traces : List (List Item)) × AreAllSaid run traces all dealt
+abbrev pub CanOrder : List (Vec Verdict) → List ℕ → Type 0
+CanOrder all workers = (run : RunFacts) × (traces : List (List Item)) × AreAllSaid run traces all workers
 
 -- these verdicts are what was said, in the order of the packets, whatever the run and its traces were
-abbrev pub AreInOrder : List (Vec Verdict) → List DealtPart → List Verdict → Type 0
-AreInOrder all dealt verdicts = (run : RunFacts) (traces : List (List Item)) → AreAllSaid run traces all dealt
+abbrev pub AreInOrder : List (Vec Verdict) → List ℕ → List Verdict → Type 0
+AreInOrder all workers verdicts = (run : RunFacts) (traces : List (List Item)) → AreAllSaid run traces all workers
     → ArePlaced run.times run.packets traces verdicts
 
 -- the verdicts on the first packets are at their places, and none of the others

@@ -1,50 +1,42 @@
 use Rattle.std.proofs.Common.{◌≡◌, [], ◌∷◌, ap, arith, length, refl, subst, sym}
 use Rattle.flow_workers.specs.inner.Placing.{AreTold}
-use Rattle.flow_workers.proofs.PlacingLemmas.{all_judged, all_placed, alone_placed, count_is, judges_behind, judges_first, none_placed, only_one, several}
+use Rattle.flow_workers.proofs.PlacingLemmas.{all_placed, alone_placed, count_is, none_placed, only_one, several}
 use Rattle.flow_workers.proofs.placing.in_order.Goals as goal
-
-pub loop-part-init : goal.loop-part-init
-loop-part-init c run traces is =
-    let many = c.if-len-gt1.true in (
-      none_placed run traces c.args.all.items is.told _ c.in_ok-with_capacity.ensures.items refl,
-      rw c.in_ok-with_capacity.ensures.items (is.judges (several run traces c.args.all.items is.told (omega arith))),
-    )
 
 pub place-requires : goal.place-requires
 place-requires c =
-    let inside = c.loop-part-test.true in
-    let old = c.loop-part.invariant c.requires.0 c.requires.1 c.requires.2 in (
-      c.requires.0,
-      c.requires.1,
+    let run = c.requires.0 in
+    let traces = c.requires.1 in
+    let is = c.requires.2 in
+    let many = c.if-len-gt1.true in
+    let counted = c.len.ensures in (
+      run,
+      traces,
       record {
-        told = subst (AreTold c.requires.0 c.requires.1) (sym c.as_slice.ensures.value) c.requires.2.told;
-        judges = judges_first c.requires.0 _ c.loop-part.part-index c.args.dealt.now c.part-item.result (omega arith)
-            c.part-item.is old.1;
-        before = old.0;
-      },
-    )
-
-pub loop-part-preserved : goal.loop-part-preserved
-loop-part-preserved c run traces is =
-    let inside = c.loop-part-test.true in
-    let old = c.loop-part.invariant run traces is in (
-      c.in_ok-place.ensures.placed run traces (record {
         told = subst (AreTold run traces) (sym c.as_slice.ensures.value) is.told;
-        judges = judges_first run _ c.loop-part.part-index c.args.dealt.now c.part-item.result (omega arith)
-            c.part-item.is old.1;
-        before = old.0;
-      }),
-      rw c.in_ok-place.ensures.count
-          (judges_behind run _ c.loop-part.part-index c.args.dealt.now c.part-item.result (omega arith) c.part-item.is
-          old.1),
+        judges = rw c.in_ok-with_capacity.ensures.items
+            ((is.judges (several run traces c.args.all.items is.told (omega arith))).are);
+        before = none_placed run traces c.as_slice.result.now
+            (subst (AreTold run traces) (sym c.as_slice.ensures.value) is.told) _ c.in_ok-with_capacity.ensures.items refl;
+      },
     )
 
 pub returns-then-len-gt1 : goal.returns-then-len-gt1
 returns-then-len-gt1 c run traces is =
-    let all = c.loop-part-test.false in
-    let old = c.loop-part.invariant run traces is in
-    all_placed run traces c.args.all.items is.told c.loop-part.placed old.0
-    (all_judged run _ c.loop-part.part-index c.args.dealt.now (omega arith) old.1)
+    let many = c.if-len-gt1.true in
+    let counted = c.len.ensures in
+    let judges = is.judges (several run traces c.args.all.items is.told (omega arith)) in
+    let told = subst (AreTold run traces) (sym c.as_slice.ensures.value) is.told in
+    let none = ap length c.in_ok-with_capacity.ensures.items in
+    let long = c.in_ok-place.ensures.count in
+    let all = judges.all in
+    all_placed run traces c.as_slice.result.now told c.place.new.self
+    (c.in_ok-place.ensures.placed run traces (record {
+      told = told;
+      judges = rw c.in_ok-with_capacity.ensures.items judges.are;
+      before = none_placed run traces c.as_slice.result.now told _ c.in_ok-with_capacity.ensures.items refl;
+    }))
+    (omega arith)
 
 pub unreachable-requires : goal.unreachable-requires
 unreachable-requires c =

@@ -1,20 +1,30 @@
-use Rattle.std.proofs.Common.{sym}
+use Rattle.std.proofs.Common.{arith, sym}
+use Rattle.std.proofs.lemmas.Option.{slice_get_within}
+use Rattle.packet_view.specs.CheckedCaptures.{held}
 use Rattle.packet_view.specs.Frames.{frame_facts}
-use Rattle.flow_workers.proofs.WorkSteps.{work_push}
+use Rattle.flow_workers.proofs.DealtLemmas.{stands_among}
+use Rattle.flow_workers.proofs.WorkSteps.{one_more, work_push}
 use Rattle.flow_workers.proofs.work.judge_own.Goals as goal
+
+pub overflow_add-number : goal.overflow_add-number
+overflow_add-number g c =
+    let inside = slice_get_within (held c.args.run.now.packets) c.args.at _ c.requires.there in
+    let fits = c.requires.fits in
+    omega arith
 
 pub returns : goal.returns
 returns g c = record {
   idle = c.judge_viewed-verdict.ensures.idle;
-  work = λ v old.
+  work = λ all among v old.
       rw c.in_ok-push.ensures.items
+      (one_more _ _ _ _ _ _ _
       (work_push _ _ _ _ _ _ _ _ (frame_facts c.view-frame.result) _
       (record {
-        stands = c.requires.there;
+        stands = stands_among g.A.Shape g.B.Shape c.args.run.now all among c.args.at _ c.requires.there;
         shown = c.view-frame.ensures.shown;
         only = c.view-frame.ensures.only;
       })
       (sym (c.requires.mine _ c.view-frame.ensures.shown))
       (c.judge_viewed-verdict.ensures.judged _ (c.new-viewed.ensures.seen _ c.view-frame.ensures.shown))
-      old);
+      old));
 }

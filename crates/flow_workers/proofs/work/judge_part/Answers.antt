@@ -2,7 +2,7 @@ use Rattle.std.proofs.Common.{◌≡◌, ◌≢◌, ◌∙◌, ◌+◌, ap, arit
 use Rattle.packet_view.specs.Captures.{packet_facts}
 use Rattle.packet_view.specs.CheckedCaptures.{held}
 use Rattle.packet_dealing.proofs.DealtLists.{left_behind, stands_at}
-use Rattle.flow_workers.proofs.DealtLemmas.{part_left, part_mine, worked_more, worked_past}
+use Rattle.flow_workers.proofs.DealtLemmas.{part_left, part_mine, worked_on, worked_past, worked_to}
 use Rattle.flow_workers.proofs.work.judge_part.Goals as goal
 
 pub unreachable-requires : goal.unreachable-requires
@@ -23,9 +23,14 @@ part-preserved-then-judge-worker g c =
       left = ap (λ n. drop n (held c.args.run.now.packets))
           (let e : c.args.first + (c.part.k + 1) ≡ c.args.first + c.part.k + 1 = omega arith in e)
           ∙ left_behind _ _ (c.args.first + c.part.k) _ taken;
-      worked = worked_past g.A.Shape g.B.Shape c.args.run.now c.args.worker c.args.first c.part.k c.args.part.now
-          (packet_facts c.in-Some.packet) _ _ _ c.requires.of (omega arith) taken
-          (subst (λ ws. get_or ws c.part.k 0 ≢ c.args.worker) same c.if-judge-worker.true) c.part.invariant.worked;
+      worked = worked_to g.A.Shape g.B.Shape c.args.run.now c.args.worker c.args.first (c.args.first + c.part.k + 1) _ _ _
+          (omega arith)
+          (worked_on g.A.Shape g.B.Shape c.args.run.now c.args.worker c.args.first (c.args.first + c.part.k) _ _ _ _
+          c.part.invariant.worked
+          (worked_past g.A.Shape g.B.Shape c.args.run.now c.args.worker c.args.first c.part.k c.args.part.now
+          (packet_facts c.in-Some.packet) _ _ c.requires.of (omega arith) taken
+          (subst (λ ws. get_or ws c.part.k 0 ≢ c.args.worker) same c.if-judge-worker.true)
+          c.part.invariant.worked.idle));
     }
 
 pub judge_own-requires : goal.judge_own-requires
@@ -37,6 +42,7 @@ judge_own-requires g c =
     record {
       shapes = c.requires.shapes;
       idle = c.part.invariant.worked.idle;
+      fits = c.requires.fits;
       there = stands_at _ _ (c.args.first + c.part.k) _ taken;
       mine = λ seen shown. sym (ap (λ ws. get_or ws c.part.k 0) (sym same) ∙ c.if-judge-worker.false)
           ∙ part_mine g.A.Shape g.B.Shape c.args.run.now c.args.first c.part.k c.args.part.now
@@ -50,6 +56,8 @@ part-preserved g c =
       left = ap (λ n. drop n (held c.args.run.now.packets))
           (let e : c.args.first + (c.part.k + 1) ≡ c.args.first + c.part.k + 1 = omega arith in e)
           ∙ left_behind _ _ (c.args.first + c.part.k) _ taken;
-      worked = worked_more g.A.Shape g.B.Shape c.args.run.now c.args.worker c.args.first c.part.k _ _ _
-          c.part.invariant.worked c.in_ok-judge_own.ensures;
+      worked = worked_to g.A.Shape g.B.Shape c.args.run.now c.args.worker c.args.first (c.args.first + c.part.k + 1) _ _ _
+          (omega arith)
+          (worked_on g.A.Shape g.B.Shape c.args.run.now c.args.worker c.args.first (c.args.first + c.part.k) _ _ _ _
+          c.part.invariant.worked c.in_ok-judge_own.ensures);
     }

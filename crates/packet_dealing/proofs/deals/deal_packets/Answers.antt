@@ -7,8 +7,8 @@ pub parts_over-requires : goal.parts_over-requires
 parts_over-requires g c k d inside =
     let count = c.in_ok-ahead.ensures.count in
     let many = c.in_ok-over.ensures.count in
-    over_past g.A.Shape g.B.Shape c.args.dealer c.args.packets _ _ _
-    (turned g.A.Shape g.B.Shape c.args.dealer c.args.packets _ _ (get_or c.in_ok-ahead.ahead.items k d)
+    over_past g.A.Shape g.B.Shape c.args.dealer c.args.number c.args.packets _ _ _
+    (turned g.A.Shape g.B.Shape c.args.dealer c.args.number c.args.packets _ _ (get_or c.in_ok-ahead.ahead.items k d)
     (get_or c.in_ok-over.over.items k d)
     (c.in_ok-ahead.ensures.each k d (omega arith)) (c.in_ok-over.ensures.each k d d (omega arith)))
 
@@ -18,9 +18,9 @@ returns g c =
     let many = c.in_ok-over.ensures.count in
     let some_worker = c.requires.some in
     IfOk-weaker c.parts_over.result _ _
-    (λ parts are several. all_parts g.A.Shape g.B.Shape c.args.dealer c.args.packets parts.items c.in_ok-over.over.items
-    (omega arith) are (many ∙ count)
-    (λ i d inside. turned g.A.Shape g.B.Shape c.args.dealer c.args.packets _ _ (get_or c.in_ok-ahead.ahead.items i d)
+    (λ parts are several. all_parts g.A.Shape g.B.Shape c.args.dealer c.args.number c.args.packets parts.items
+    c.in_ok-over.over.items (omega arith) are (many ∙ count)
+    (λ i d inside. turned g.A.Shape g.B.Shape c.args.dealer c.args.number c.args.packets _ _ (get_or c.in_ok-ahead.ahead.items i d)
     (get_or c.in_ok-over.over.items i d)
     (c.in_ok-ahead.ensures.each i d (omega arith)) (c.in_ok-over.ensures.each i d d (omega arith))))
     c.parts_over.ensures

@@ -4,9 +4,9 @@ use Rattle.flow_workers.specs.inner.Work.{RunFacts}
 use Rattle.flow_workers.specs.inner.Placing.{ArePlacedBefore, MayPlace}
 use Rattle.flow_workers.proofs.placing.Placed.place.Given as goal
 
-abbrev pub invariant-part : goal.invariant-part
-invariant-part l = record {
+abbrev pub invariant-packets : goal.invariant-packets
+invariant-packets l = record {
   count : length l.self.verdicts.items ≡ length l.fn.self.verdicts.items + l.judge-index;
   placed : (run : RunFacts) (traces : List (List Item))
-      → MayPlace run traces l.all l.part.workers.items l.fn.self → ArePlacedBefore run traces l.self;
+      → MayPlace run traces l.all l.judges l.fn.self → ArePlacedBefore run traces l.self;
 }

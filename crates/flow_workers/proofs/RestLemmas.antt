@@ -1,0 +1,211 @@
+-- Workers between parts of the packets.
+use Rattle.std.proofs.Common.{◌≡◌, ◌≢◌, ◌⊎◌, ◌∙◌, ◌+◌, ◌-◌, ◌<◌, ◌≤◌, ◌^◌, ℕ, zero, suc, List, [], ◌∷◌, ◌++◌, ap, append_assoc, drop, length, get_or, slice_get, refl, subst, sym, arith, inl, inr}
+use Rattle.std.specs.Global.{Vec}
+use Rattle.std.specs.Prelude.{slice_index}
+use Rattle.std.proofs.lemmas.List.{get_or_append_left, get_or-append_right, length-append, length-drop}
+use Rattle.std.proofs.Math.Seq.{drop-append_seam}
+use Rattle.packet_view.specs.Captures.{PacketFacts}
+use Rattle.packet_view.specs.CheckedCaptures.{held}
+use Rattle.bihash_words.specs.declared.shape.Shape.{Ghosts}
+use Rattle.acl_policy.specs.Policies.{PolicyFacts}
+use Rattle.session_state.specs.declared.timeouts.Timeouts.{Timeouts}
+use Rattle.flow_filter.specs.Filters.{policy_in}
+use Rattle.flow_filter.specs.OneThread.{layout_of}
+use Rattle.flow_filter.specs.declared.verdict.Verdict.{Verdict}
+use Rattle.flow_dealing.specs.Dealings.{Deal}
+use Rattle.flow_dealing.specs.Runs.{AreJudged}
+use Rattle.packet_dealing.proofs.DealtLists.{there_behind}
+use Rattle.packet_dealing.specs.Dealt.{AreDealt, AreWorkers, IsDealtTo}
+use Rattle.packet_dealing.specs.declared.dealer.Dealer.{Dealer}
+use Rattle.packet_dealing.specs.declared.deals.DealtPart.{DealtPart}
+use Rattle.flow_workers.specs.declared.setup.Setup.{Setup}
+use Rattle.flow_workers.specs.declared.share.Run.{Run}
+use Rattle.flow_workers.specs.declared.share.Share.{Share}
+use Rattle.flow_workers.specs.Callers.{AreIdle, views_of}
+use Rattle.flow_workers.specs.declared.workers.Workers.{Workers}
+use Rattle.flow_workers.specs.Progress.{AreAtRest, HaveSaid, IsAtRest}
+use Rattle.flow_workers.specs.inner.Jobs.{HasDone, HasWorked, StandAmong, dealer_of, run_facts}
+use Rattle.flow_workers.specs.inner.Shares.{IsUnused, workers_in}
+use Rattle.flow_workers.specs.inner.Turns.{HaveWorked, MayRun}
+use Rattle.flow_workers.specs.inner.Work.{IsWorkUntil}
+use Rattle.flow_workers.proofs.DealtLemmas.{front_only}
+use Rattle.flow_workers.proofs.WorkSteps.{work_none}
+
+-- ---- The workers of packets
+
+split : (k n : ℕ) → (k < n) ⊎ (n ≤ k)
+split k zero = inr (omega arith)
+split zero (suc n) = inl (omega arith)
+split (suc k) (suc n) = elim (split k n) [
+  | inl less ↦ inl (omega arith)
+  | inr more ↦ inr (omega arith)
+]
+
+module _ {A B K L : Type 0} (ga : Ghosts A K) (gb : Ghosts B L) (dealer : Dealer) where
+  -- the workers of packets that follow each other
+  workers_joined : (first : ℕ) (workers more : List ℕ) (packets : List PacketFacts)
+      → AreWorkers ga gb dealer first workers packets
+      → AreWorkers ga gb dealer (first + length workers) more (drop (length workers) packets)
+      → AreWorkers ga gb dealer first (workers ++ more) packets
+  workers_joined first workers more packets front behind = record {
+    inside =
+        let i = front.inside in let j = behind.inside in let n = length-append workers more in
+        let m = length-drop (length workers) packets in omega arith;
+    each = λ k packet below there. elim (split k (length workers)) [
+      | inl before ↦ subst (IsDealtTo ga gb dealer (first + k) packet.frame)
+          (sym (get_or_append_left workers more 0 k before)) (front.each k packet before there)
+      | inr after ↦
+          let n = length-append workers more in
+          let other = k - length workers in
+          let same : length workers + other ≡ k = omega arith in
+          subst (λ m. IsDealtTo ga gb dealer m packet.frame (slice_index (workers ++ more) k))
+          (let e : first + length workers + other ≡ first + k = omega arith in e)
+          (subst (IsDealtTo ga gb dealer (first + length workers + other) packet.frame)
+          (sym (get_or-append_right workers more (length workers) k 0 refl after))
+          (behind.each other packet (omega arith)
+          (there_behind packets (length workers) other ∙ (ap (slice_get packets) same ∙ there))))
+    ];
+  }
+
+  pub workers_dealt : (first : ℕ) (parts : List DealtPart) (packets : List PacketFacts)
+      → AreDealt ga gb dealer first parts packets
+      → AreWorkers ga gb dealer first (workers_in parts) packets × (length (workers_in parts) ≡ length packets)
+  workers_dealt first [] packets none = (
+    record { inside = omega arith; each = λ k packet below there. absurd (omega arith) },
+    sym (ap length none),
+  )
+  workers_dealt first (part ∷ parts) packets (one, more) =
+      let rest = workers_dealt (first + length part.workers.items) parts (drop (length part.workers.items) packets) more
+      in (
+        workers_joined first part.workers.items (workers_in parts) packets one.workers rest.0,
+        let n = length-append part.workers.items (workers_in parts) in
+            let m = length-drop (length part.workers.items) packets in let i = one.workers.inside in let e = rest.1 in
+            omega arith,
+      )
+
+  -- the workers of the first packets, before others
+  workers_before : (workers : List ℕ) (packets more : List PacketFacts) → length workers ≡ length packets
+      → AreWorkers ga gb dealer 0 workers packets → AreWorkers ga gb dealer 0 workers (packets ++ more)
+  workers_before workers packets more count are = record {
+    inside = let n = length-append packets more in omega arith;
+    each = λ k packet below there. are.each k packet below (sym (front_only packets more k (omega arith)) ∙ there);
+  }
+
+  pub workers_noted : (judges new : List ℕ) (parts : List DealtPart) (packets more : List PacketFacts)
+      → length judges ≡ length packets → AreWorkers ga gb dealer 0 judges packets
+      → AreDealt ga gb dealer (length packets) parts more → new ≡ judges ++ workers_in parts
+      → (length new ≡ length (packets ++ more)) × AreWorkers ga gb dealer 0 new (packets ++ more)
+  workers_noted judges new parts packets more count are dealt is =
+      let d = workers_dealt (length packets) parts more dealt in (
+        let e = ap length is ∙ length-append judges (workers_in parts) in let f = length-append packets more in
+            let g = d.1 in omega arith,
+        subst (λ ws. AreWorkers ga gb dealer 0 ws (packets ++ more)) (sym is)
+            (workers_joined 0 judges (workers_in parts) (packets ++ more) (workers_before judges packets more count are)
+            (subst (λ n. AreWorkers ga gb dealer n (workers_in parts) (drop (length judges) (packets ++ more)))
+            (let e : length packets ≡ 0 + length judges = omega arith in e)
+            (subst (λ n. AreWorkers ga gb dealer (length packets) (workers_in parts) (drop n (packets ++ more)))
+            (sym count)
+            (subst (AreWorkers ga gb dealer (length packets) (workers_in parts))
+            (sym (drop-append_seam packets more)) d.0)))),
+      )
+
+-- ---- One worker
+
+module _ {A B R G K L : Type 0} (ga : Ghosts A K) (gb : Ghosts B L) (setup : Setup A B R G K L) where
+  pub rest_begun : (w : ℕ) (share : Share A B K L ga gb) → IsUnused setup.tables.now share
+      → IsAtRest ga gb setup [] w share
+  rest_begun w share unused = record {
+    idle = unused.callers.idle;
+    began = views_of ga gb share.callers;
+    fresh = unused.callers.fresh;
+    work = λ more. subst (IsWorkUntil (run_facts ga gb setup more) w 0 (views_of ga gb share.callers)
+        (views_of ga gb share.callers)) (sym unused.silent)
+        (work_none (run_facts ga gb setup more) w (views_of ga gb share.callers));
+  }
+
+  pub rest_judged : (packets : List PacketFacts) (run : Run A B R G K L) (w : ℕ) (old new : Share A B K L ga gb)
+      → run.setup ≡ setup → run.first ≡ length packets → IsAtRest ga gb setup packets w old
+      → HasWorked ga gb run w old new → IsAtRest ga gb setup (packets ++ held run.packets) w new
+  rest_judged packets run w old new same first rest worked = record {
+    idle = subst (λ s. AreIdle ga gb s.tables.now new.callers) same worked.idle;
+    began = rest.began;
+    fresh = rest.fresh;
+    work = λ more.
+        let all = packets ++ (held run.packets ++ more) in
+        let among : StandAmong run all = record {
+          behind = more;
+          stand = ap (λ n. drop n all) first ∙ drop-append_seam packets (held run.packets ++ more);
+        } in
+        let before : HasDone ga gb run.setup all w (run.first + 0) rest.began old =
+        subst (λ s. HasDone ga gb s all w (run.first + 0) rest.began old) (sym same)
+        (subst (λ n. HasDone ga gb setup all w n rest.began old)
+        (let e : length packets ≡ run.first + 0 = omega arith in e) (rest.work (held run.packets ++ more))) in
+        subst (λ xs. HasDone ga gb setup xs w (length (packets ++ held run.packets)) rest.began new)
+        (sym (append_assoc packets (held run.packets) more))
+        (subst (λ n. HasDone ga gb setup all w n rest.began new)
+        (let e = length-append packets (held run.packets) in
+        let f : run.first + length (held run.packets) ≡ length (packets ++ held run.packets) = omega arith in f)
+        (subst (λ s. HasDone ga gb s all w (run.first + length (held run.packets)) rest.began new) same
+        (worked.work all among rest.began before)));
+  }
+
+-- ---- All workers
+
+module _ {A B R G K L : Type 0} (ga : Ghosts A K) (gb : Ghosts B L) (old : Workers A B R G K L ga gb)
+    (packets : List PacketFacts) (rest : AreAtRest packets old) (run : Run A B R G K L) (same : run.setup ≡ old.setup)
+    (first : run.first ≡ old.count) where
+  pub may_run : length packets + length (held run.packets) < 2 ^ 64
+      → (old.setup.workers ≢ 1
+      → AreDealt ga gb (dealer_of old.setup) old.count run.dealt.now.items (held run.packets))
+      → MayRun run old.shares.items
+  may_run fits dealt = record {
+    shapes = rest.sound.shapes;
+    count = rest.shares ∙ sym (ap (λ (s : Setup A B R G K L). s.workers) same);
+    fits = let counted = rest.count in omega arith;
+    idle = λ i d inside. subst (λ (s : Setup A B R G K L). AreIdle ga gb s.tables.now
+        (get_or old.shares.items i d).callers) (sym same)
+        (rest.each i d (subst (λ n. i < n) rest.shares inside)).idle;
+    dealt = λ several.
+        subst (λ n. AreDealt ga gb (dealer_of run.setup) n run.dealt.now.items (held run.packets))
+        (let e : old.count ≡ run.first + 0 = omega arith in e)
+        (subst (λ (s : Setup A B R G K L). AreDealt ga gb (dealer_of s) old.count run.dealt.now.items
+        (held run.packets)) (sym same)
+        (dealt (λ one. several (ap (λ (s : Setup A B R G K L). s.workers) same ∙ one))));
+  }
+
+  pub rest_more : (shares : Vec (Share A B K L ga gb)) (judges : Vec ℕ) (count : ℕ) (parts : List DealtPart)
+      → HaveWorked run old.shares.items shares.items → count ≡ old.count + length (held run.packets)
+      → (old.setup.workers ≢ 1 → AreDealt ga gb (dealer_of old.setup) old.count parts (held run.packets))
+      → judges.items ≡ old.judges.items ++ workers_in parts
+      → AreAtRest (packets ++ held run.packets)
+      (record { setup = old.setup; shares = shares; judges = judges; count = count })
+  rest_more shares judges count parts worked counted dealt noted = record {
+    sound = rest.sound;
+    count = let e = rest.count in let n = length-append packets (held run.packets) in omega arith;
+    shares = worked.count ∙ rest.shares;
+    each = λ i d inside. rest_judged ga gb old.setup packets run i (get_or old.shares.items i d)
+        (get_or shares.items i d) same (first ∙ rest.count) (rest.each i d inside)
+        (worked.each i d d (subst (λ n. i < n) (sym rest.shares) inside));
+    noted = λ several.
+        let before = rest.noted several in
+        let are =
+        workers_noted ga gb (dealer_of old.setup) old.judges.items judges.items parts packets (held run.packets)
+        before.count before.workers
+        (subst (λ n. AreDealt ga gb (dealer_of old.setup) n parts (held run.packets)) rest.count (dealt several)) noted in
+        record { count = are.0; workers = are.1 };
+  }
+
+abbrev deal_of : {A B R G K L : Type 0} (ga : Ghosts A K) (gb : Ghosts B L) → Setup A B R G K L → Deal
+deal_of ga gb setup = record { layout = layout_of ga gb; dealing = setup.dealing; workers = setup.workers }
+
+-- what workers of a setup said, by the times and the policy of its filter
+pub said_by : {A B R G K L : Type 0} (ga : Ghosts A K) (gb : Ghosts B L) (all : Workers A B R G K L ga gb)
+    (setup : Setup A B R G K L) (packets : List PacketFacts) (verdicts : List Verdict) (times : Timeouts)
+    (policy : PolicyFacts) → all.setup ≡ setup → setup.filter.times ≡ times → policy_in setup.filter ≡ policy
+    → AreAtRest packets all → HaveSaid all verdicts
+    → AreJudged (deal_of ga gb setup) times policy packets verdicts
+said_by ga gb all setup packets verdicts times policy by timed ruled rest said =
+    subst (λ p. AreJudged (deal_of ga gb setup) times p packets verdicts) ruled
+    (subst (λ t. AreJudged (deal_of ga gb setup) t (policy_in setup.filter) packets verdicts) timed
+    (subst (λ s. AreJudged (deal_of ga gb s) s.filter.times (policy_in s.filter) packets verdicts) by
+    (said packets rest)))

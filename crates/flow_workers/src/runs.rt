@@ -1,0 +1,73 @@
+//! All packets at once.
+ghost use Rattle.std.specs.Prelude.{◌≡◌, ◌⊎◌, ◌≤◌, All, IfOk};
+ghost use Rattle.packet_view.specs.CheckedCaptures.{held};
+ghost use Rattle.packet_view.specs.declared.tuple.Family.{Family};
+ghost use Rattle.acl_policy.specs.Policies.{policy_facts};
+ghost use Rattle.flow_filter.specs.OneThread.{AreVerdicts, layout_of};
+ghost use Rattle.flow_dealing.specs.declared.dealing.Dealing.TheVariants.{Bucket};
+ghost use Rattle.flow_dealing.specs.Runs.{AreFew, AreJudged, HasPagesIn, HavePages};
+ghost use Rattle.flow_workers.specs.Callers.{AreShapes};
+
+use crate::gate::Gate;
+use crate::run_fault::RunFault;
+use crate::setup::Setup;
+use crate::tables::create_tables;
+use crate::workers::Workers;
+use bihash_words::Shape;
+use flow_dealing::Dealing;
+use flow_filter::{Filter, Verdict};
+use packet_view::Packets;
+use std::alloc::Global;
+use std::sync::Wait;
+use std::thread::Threads;
+
+/// The verdicts on the packets, in their order, by so many workers at once over new tables. A worker whose thread
+/// can't be made is run by the calling thread. `Memory`: memory was refused.
+pub fn run_workers<
+    't,
+    'a,
+    A: Shape + Send + Sync,
+    B: Shape + Send + Sync,
+    R: Threads + Wait + Sync,
+    G: Gate + Sync,
+>(
+    rt: &'t R,
+    alloc: Global,
+    filter: &'t Filter,
+    packets: Packets<'a>,
+    workers: usize,
+    gate: &'t G,
+    dealing: Dealing,
+) -> Result<Vec<Verdict>, RunFault>
+where
+    A::Key: Send + Sync,
+    B::Key: Send + Sync,
+    requires shapes { AreShapes ⟦<A as Shape>⟧ ⟦<B as Shape>⟧ }
+    requires some { 1 ≤ workers }
+    requires few { workers ≤ 16 }
+    ensures judged { IfOk result (λ v. AreJudged
+        (record { layout = layout_of ⟦<A as Shape>⟧ ⟦<B as Shape>⟧; dealing = dealing; workers = workers })
+        filter.now.times (policy_facts filter.now.policy) (held packets.entry) v.items) }
+    ensures one_report { IfOk result (λ v. (dealing ≡ Bucket) ⊎ (workers ≡ 1) → HavePages v.items
+        → AreVerdicts (layout_of ⟦<A as Shape>⟧ ⟦<B as Shape>⟧) filter.now.times (policy_facts filter.now.policy)
+        (held packets.entry) v.items) }
+    ensures pages { IfOk result (λ v. (are : AreJudged
+        (record { layout = layout_of ⟦<A as Shape>⟧ ⟦<B as Shape>⟧; dealing = dealing; workers = workers })
+        filter.now.times (policy_facts filter.now.policy) (held packets.entry) v.items) (family : Family)
+        → AreFew (layout_of ⟦<A as Shape>⟧ ⟦<B as Shape>⟧) filter.now.times family are.judged
+        → All (HasPagesIn filter.now.times family) are.judged) }
+{
+    let (tables, callers) = create_tables::<A, B>(alloc)?;
+    let prepared = filter.prepare(alloc, packets.count())?;
+    let setup = Setup {
+        rt,
+        gate,
+        filter: filter.ready_with(&prepared),
+        tables: &tables,
+        dealing,
+        workers,
+    };
+    Workers::new(alloc, setup, callers)?
+        .judge(alloc, packets)?
+        .end(alloc)
+}

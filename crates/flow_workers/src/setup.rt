@@ -1,0 +1,57 @@
+//! What workers share.
+use crate::gate::Gate;
+use crate::tables::Tables;
+use bihash_words::Shape;
+use flow_dealing::Dealing;
+use flow_filter::ReadyFilter;
+use packet_dealing::Dealer;
+use std::sync::Wait;
+
+/// What workers share, whatever packets they judge.
+#[derive(Drop)]
+pub struct Setup<'t, A: Shape, B: Shape, R: Wait, G: Gate> {
+    pub rt: &'t R,
+    pub gate: &'t G,
+    pub filter: ReadyFilter<'t>,
+    pub tables: &'t Tables<A, B>,
+    pub dealing: Dealing,
+    /// How many workers there are.
+    pub workers: usize,
+}
+
+impl<'t, A: Shape, B: Shape, R: Wait, G: Gate> Setup<'t, A, B, R, G> {
+    ghost use Rattle.std.specs.Prelude.{◌≡◌, ◌==◌};
+    ghost use Rattle.flow_workers.specs.inner.Jobs.{dealer_of};
+
+    /// Whether one worker has all packets.
+    pub fn is_alone(&self) -> bool
+        ensures { result ≡ (self.now.workers == 1) }
+    {
+        self.workers == 1
+    }
+
+    /// What packets are dealt by.
+    pub fn dealer(&self) -> Dealer
+        ensures { result ≡ dealer_of self.now }
+    {
+        Dealer {
+            own: self.filter.own,
+            dealing: self.dealing,
+            workers: self.workers,
+        }
+    }
+
+    /// The same once more, for another worker.
+    pub fn again(&self) -> Setup<'t, A, B, R, G>
+        ensures { result ≡ self.now }
+    {
+        Setup {
+            rt: self.rt,
+            gate: self.gate,
+            filter: self.filter,
+            tables: self.tables,
+            dealing: self.dealing,
+            workers: self.workers,
+        }
+    }
+}

@@ -1,0 +1,89 @@
+//! The turns of all workers at packets.
+ghost use Rattle.std.specs.Prelude.{◌≡◌, ◌≤◌, All, IfOk, map, Ok};
+ghost use Rattle.flow_workers.specs.declared.turn.Turn.TheVariants.{Over};
+ghost use Rattle.flow_workers.specs.inner.Turns.{AreAhead, AreTurns, HaveWorked, IsPast, MayRun};
+
+use crate::gate::Gate;
+use crate::share::{Job, Run, Share};
+use crate::turn::Turn;
+use bihash_words::Shape;
+use packet_dealing::run_all;
+use std::alloc::{AllocError, Global};
+use std::sync::Wait;
+use std::thread::Threads;
+
+// The turns of workers that have these shares, in their order.
+fn turns_of<'t, 'a, A: Shape, B: Shape, R: Wait, G: Gate>(
+    alloc: Global,
+    run: Run<'t, 'a, A, B, R, G>,
+    shares: Vec<Share<A, B>>,
+) -> Result<Vec<Turn<'t, 'a, A, B, R, G>>, AllocError>
+    ensures { IfOk result (λ v. AreTurns run.entry shares.items v.items) }
+{
+    let mut turns = Vec::with_capacity(alloc, shares.len())?;
+    let mut worker = 0;
+    for share in shares {
+        turns.push(Turn::Ahead(Job {
+            run: run.again(),
+            worker,
+            share,
+        }))?;
+        worker += 1;
+    }
+    Ok(turns)
+}
+
+// They are ready where each worker may judge the packets of the run.
+fn turns_ahead<'t, 'a, A: Shape, B: Shape, R: Wait, G: Gate>(
+    alloc: Global,
+    run: Run<'t, 'a, A, B, R, G>,
+    shares: Vec<Share<A, B>>,
+) -> Result<Vec<Turn<'t, 'a, A, B, R, G>>, AllocError>
+    requires { MayRun run shares.items }
+    ensures { IfOk result (λ v. AreAhead run.entry shares.items v.items) }
+{
+    turns_of(alloc, run, shares)
+}
+
+// The shares after all turns, where none of them was refused memory.
+fn shares_over<'t, 'a, A: Shape, B: Shape, R: Wait, G: Gate>(
+    alloc: Global,
+    turns: Vec<Turn<'t, 'a, A, B, R, G>>,
+) -> Result<Vec<Share<A, B>>, AllocError>
+    requires { All (IsPast ⟦<A as Shape>⟧ ⟦<B as Shape>⟧) turns.items }
+    ensures { IfOk result (λ v. turns.entry.items ≡ map (λ share. Over (Ok share)) v.items) }
+{
+    let mut shares = Vec::with_capacity(alloc, turns.len())?;
+    for turn in turns {
+        let Turn::Over(done) = turn else {
+            unreachable!()
+        };
+        shares.push(done?)?;
+    }
+    Ok(shares)
+}
+
+/// The shares of all workers after they judged the packets of a run.
+pub fn run_shares<
+    't,
+    'a,
+    A: Shape + Send + Sync,
+    B: Shape + Send + Sync,
+    R: Threads + Wait + Sync,
+    G: Gate + Sync,
+>(
+    alloc: Global,
+    run: Run<'t, 'a, A, B, R, G>,
+    shares: Vec<Share<A, B>>,
+) -> Result<Vec<Share<A, B>>, AllocError>
+where
+    A::Key: Send + Sync,
+    B::Key: Send + Sync,
+    requires { MayRun run shares.items }
+    ensures { IfOk result (λ v. HaveWorked run.entry shares.items v.items) }
+{
+    let rt = run.setup.rt;
+    let ahead = turns_ahead(alloc, run, shares)?;
+    let over = run_all(rt, ahead)?;
+    shares_over(alloc, over)
+}
