@@ -1,0 +1,255 @@
+-- A walk over a capture: it stays amid the capture, and its end and its faults are those of the capture.
+use Rattle.std.proofs.Common.{◌≡◌, ◌≢◌, ◌∙◌, ◌≤◌, ◌<◌, ◌+◌, ◌-◌, ℕ, List, [], ◌++◌, Option, Vec, Global, add-zero, ap, append-nil, append_assoc, arith, drop, inl, inr, length, refl, subst, sym, take, true, false}
+use Rattle.std.proofs.lemmas.List.{drop-append-le, length-append, length-drop, take_all}
+use Rattle.std.proofs.KnownBytes.{Consumes-nil, Consumes-trans}
+use Rattle.packet_view.specs.Captures.{AreRecords, IsEnd, IsTooLong, PacketFacts, end_of, kept_length, kept_limit}
+use Rattle.packet_view.specs.Fronts.{Stops}
+use Rattle.packet_view.specs.CheckedCaptures.{packets_of}
+use Rattle.packet_view.specs.declared.capture.Order.{Order}
+use Rattle.packet_view.specs.declared.front.Stop.{Stop}
+use Rattle.packet_view.specs.declared.front.Stop.TheVariants.{End, TooLong, Truncated}
+use Rattle.packet_view.specs.declared.packets.Packets.TheVariants.{Standing}
+use Rattle.packet_view.specs.declared.records.Records.{Records}
+use Rattle.packet_view.proofs.FrontLemmas.{records_appended, records_joined}
+use Rattle.packet_view.proofs.RecordLemmas.{number_from-append}
+use Rattle.packet_view.proofs.RecordListLemmas.{packets_count, records_within}
+use Rattle.racl_io.specs.declared.fault.Fault.{Fault}
+use Rattle.racl_io.specs.declared.fault.Fault.TheVariants as fault
+use Rattle.racl_io.specs.Transfers.{HasRead}
+use Rattle.racl_io.specs.Inputs.{most_bytes}
+use Rattle.capture_stream.specs.Judging.{CanFollow, HaveFollowed}
+use Rattle.capture_stream.specs.Streams.{AreAllRead, HasLongRecord, HasStreamed, IsStreamFault, MayStream, records_in}
+use Rattle.capture_stream.specs.declared.stream.Opening.{Opening}
+use Rattle.capture_stream.specs.declared.stream.Streamed.{Streamed}
+use Rattle.capture_stream.specs.declared.stream.Walk.{Walk}
+use Rattle.capture_stream.specs.inner.Walks.{HasAdvanced, HasEnded, HasLongAhead, IsAmid, IsDrained, IsLastFault, IsWindowFault, MayAdvance, ahead_of}
+
+-- less than one record is left where none is too long
+pub rest_short : (order : Order) (rest : List ℕ) (stop : Stop) → Stops order rest stop → stop ≢ TooLong → length rest < 262160
+rest_short order rest End none other = let e : length rest ≡ 0 = ap length none in omega arith
+rest_short order rest Truncated (inl h) other = omega arith
+rest_short order rest Truncated (inr h) other = omega arith
+rest_short order rest TooLong long other = absurd (other refl)
+
+-- the bytes that are not judged, as a part of the window
+pub records_ahead : {J : Type 0} (walk : Walk J) (bytes : List ℕ) (packets : List PacketFacts) (rest : List ℕ) → bytes ≡ walk.window.items
+    → AreRecords walk.order (take (length bytes - walk.from) (drop walk.from bytes)) packets rest → AreRecords walk.order (ahead_of walk) packets rest
+records_ahead walk bytes packets rest same =
+    let size = length-drop walk.from bytes in
+    let whole = take_all (length bytes - walk.from) (drop walk.from bytes) (omega arith) in
+    subst (λ (b : List ℕ). AreRecords walk.order b packets rest) (whole ∙ ap (drop walk.from) same)
+
+-- so many packets are at most as many as bytes were read
+pub front_few : {J : Type 0} (Became : J → List PacketFacts → J → Type 0) (walk : Walk J) (records : Records) (rest : List ℕ)
+    → MayAdvance Became walk → AreRecords walk.order (ahead_of walk) (packets_of records) rest → walk.packets + records.count ≤ most_bytes
+front_few Became walk records rest may all =
+    let within = records_within walk.order (ahead_of walk) (packets_of records) rest all in
+    let count = packets_count records.order records.count records.bytes.now in
+    let few = may.few in
+    let bound = may.bound in
+    omega arith
+
+pub front_follow : {J : Type 0} (Became : J → List PacketFacts → J → Type 0) (walk : Walk J) (records : Records) (rest : List ℕ)
+    → MayAdvance Became walk → AreRecords walk.order (ahead_of walk) (packets_of records) rest → CanFollow Became walk.judges (Standing records)
+front_follow Became walk records rest may all =
+    let count = packets_count records.order records.count records.bytes.now in
+    let few = front_few Became walk records rest may all in
+    let before = may.count in
+    record { begun = may.begun; packets = may.packets; stand = may.stand; fits = omega arith }
+
+pub front_long : {J : Type 0} (walk : Walk J) (records : Records) (rest : List ℕ)
+    → AreRecords walk.order (ahead_of walk) (packets_of records) rest → IsTooLong walk.order rest → HasLongAhead walk (walk.packets + records.count + 1)
+front_long walk records rest all long =
+    let count = packets_count records.order records.count records.bytes.now in
+    record { more = packets_of records; rest = rest; records = all; long = long; counted = omega arith }
+
+-- the next window is what is left of this one, and what was read behind it
+pub front_advanced : {J : Type 0} (Became : J → List PacketFacts → J → Type 0) (old : Walk J) (before after : Option (List ℕ)) (records : Records)
+    (rest cleared front : List ℕ) (new : Walk J) → AreRecords old.order (ahead_of old) (packets_of records) rest
+    → HaveFollowed Became old.judges (packets_of records) new.judges
+    → (least : ℕ) → length rest < least → HasRead before after front new.window.items least new.ended → cleared ≡ [] → front ≡ cleared ++ rest
+    → new.packets ≡ old.packets + records.count → new.read ≡ old.read + (length new.window.items - length rest) → new.read ≤ most_bytes
+    → new.order ≡ old.order → new.from ≡ 0 → HasAdvanced Became old before after new
+front_advanced Became old before after records rest cleared front new all judged least more has_read empty filled packets size bound order begins =
+    let count = packets_count records.order records.count records.bytes.now in
+    let same : front ≡ rest = filled ∙ ap (λ (b : List ℕ). b ++ rest) empty in
+    let appended : new.window.items ≡ rest ++ has_read.read = has_read.appended ∙ ap (λ (b : List ℕ). b ++ has_read.read) same in
+    let longer : length new.window.items ≡ length rest + length has_read.read = ap length appended ∙ length-append rest has_read.read in
+    let fronts : length front ≡ length rest = ap length same in
+    record {
+      more = packets_of records;
+      rest = rest;
+      read = has_read.read;
+      records = all;
+      judged = judged;
+      count = omega arith;
+      consumed = has_read.consumed;
+      ahead = ap (λ n. drop n new.window.items) begins ∙ appended;
+      size = omega arith;
+      bound = bound;
+      order = order;
+      within = omega arith;
+      ended = λ e. (has_read.ended e).0;
+      goes_on = λ e. let enough = (has_read.enough e).0 in omega arith;
+    }
+
+-- a record that is too long is so with more bytes behind it
+pub long_appended : (order : Order) (bytes more : List ℕ) → IsTooLong order bytes → IsTooLong order (bytes ++ more)
+long_appended order bytes more long =
+    let size = length-append bytes more in
+    let same : kept_length order (bytes ++ more) ≡ kept_length order bytes = number_from-append order 8 4 bytes more (omega (arith, long.0)) in
+    (omega (arith, long.0), subst (λ (n : ℕ). kept_limit < n) (sym same) long.1)
+
+-- what is read behind the bytes is behind those from the first record on
+more_in : (opening : Opening) (gone read : List ℕ) → opening.from ≤ length opening.bytes.items
+    → records_in opening (gone ++ read) ≡ records_in opening gone ++ read
+more_in opening gone read within =
+    let size = length-append opening.bytes.items gone in
+    ap (drop opening.from) (sym (append_assoc opening.bytes.items gone read))
+    ∙ drop-append-le opening.from (opening.bytes.items ++ gone) read (omega arith)
+
+module _ {J : Type 0} (Became : J → List PacketFacts → J → Type 0) (first : J) (opening : Opening) (before : Option (List ℕ))
+    (begun : opening.from ≤ length opening.bytes.items) where
+  pub amid_may : (now : Option (List ℕ)) (walk : Walk J) → IsAmid Became first opening before now walk → MayAdvance Became walk
+  amid_may now walk amid =
+      let few = records_within opening.order (records_in opening amid.gone) amid.packets (ahead_of walk) amid.records in
+      let size = length-drop opening.from (opening.bytes.items ++ amid.gone) in
+      let all = length-append opening.bytes.items amid.gone in
+      record {
+        packets = amid.packets;
+        begun = first;
+        stand = amid.stand;
+        count = amid.count;
+        within = amid.within;
+        few = let e = amid.size in let f = amid.count in omega arith;
+        bound = amid.bound;
+      }
+
+  -- the records in all that was read: those before, and those of the front of what was ahead, with more read behind
+  joined : (now : Option (List ℕ)) (walk : Walk J) (amid : IsAmid Became first opening before now walk) (more : List PacketFacts) (rest read : List ℕ)
+      → AreRecords walk.order (ahead_of walk) more rest
+      → AreRecords opening.order (records_in opening (amid.gone ++ read)) (amid.packets ++ more) (rest ++ read)
+  joined now walk amid more rest read records =
+      let order = opening.order in
+      let old = records_appended order (records_in opening amid.gone) read amid.packets (ahead_of walk) amid.records in
+      let here : AreRecords order (ahead_of walk) more rest = subst (λ (o : Order). AreRecords o (ahead_of walk) more rest) amid.order records in
+      let new = records_appended order (ahead_of walk) read more rest here in
+      subst (λ (b : List ℕ). AreRecords order b (amid.packets ++ more) (rest ++ read)) (sym (more_in opening amid.gone read begun))
+      (records_joined order (records_in opening amid.gone ++ read) amid.packets more (ahead_of walk ++ read) (rest ++ read) old new)
+
+  joined_last : (now : Option (List ℕ)) (walk : Walk J) (amid : IsAmid Became first opening before now walk) (more : List PacketFacts) (rest : List ℕ)
+      → AreRecords walk.order (ahead_of walk) more rest → AreRecords opening.order (records_in opening amid.gone) (amid.packets ++ more) rest
+  joined_last now walk amid more rest records =
+      records_joined opening.order (records_in opening amid.gone) amid.packets more (ahead_of walk) rest amid.records
+      (subst (λ (o : Order). AreRecords o (ahead_of walk) more rest) amid.order records)
+
+  whole_read : (now : Option (List ℕ)) (walk : Walk J) (amid : IsAmid Became first opening before now walk) → walk.ended ≡ true
+      → AreAllRead before now opening amid.gone
+  whole_read now walk amid ended = record {
+    consumed = amid.consumed;
+    ended = amid.ended ended;
+    few = let e = amid.size in let f = amid.bound in omega arith;
+  }
+
+  pub amid_advanced : (now after : Option (List ℕ)) (old new : Walk J) → IsAmid Became first opening before now old
+      → HasAdvanced Became old now after new → IsAmid Became first opening before after new
+  amid_advanced now after old new amid step =
+      let packets = length-append amid.packets step.more in
+      let read = length-append amid.gone step.read in
+      record {
+        gone = amid.gone ++ step.read;
+        consumed = Consumes-trans before now after amid.gone step.read amid.consumed step.consumed;
+        packets = amid.packets ++ step.more;
+        records = subst (AreRecords opening.order (records_in opening (amid.gone ++ step.read)) (amid.packets ++ step.more)) (sym step.ahead)
+            (joined now old amid step.more step.rest step.read step.records);
+        stand = step.judged first amid.packets amid.stand;
+        count = let e = amid.count in let f = step.count in omega arith;
+        size = let e = amid.size in let f = step.size in omega arith;
+        bound = step.bound;
+        order = step.order ∙ amid.order;
+        within = step.within;
+        ended = step.ended;
+      }
+
+  pub amid_ended : (now : Option (List ℕ)) (walk : Walk J) (streamed : Streamed J) → IsAmid Became first opening before now walk
+      → walk.ended ≡ true → HasEnded Became walk streamed → HasStreamed Became first opening before now streamed
+  amid_ended now walk streamed amid ended end =
+      let order = opening.order in
+      let packets = length-append amid.packets end.more in
+      record {
+        read = amid.gone;
+        whole = whole_read now walk amid ended;
+        packets = amid.packets ++ end.more;
+        rest = end.rest;
+        records = joined_last now walk amid end.more end.rest end.records;
+        end = subst (λ (o : Order). IsEnd o end.rest (end_of streamed.truncated)) amid.order end.end;
+        judged = end.judged first amid.packets amid.stand;
+      }
+
+  pub amid_last_fault : (now : Option (List ℕ)) (walk : Walk J) (found : Fault) → IsAmid Became first opening before now walk
+      → walk.ended ≡ true → IsLastFault walk found → IsStreamFault opening before now found
+  amid_last_fault now walk fault.Memory amid ended h = tt
+  amid_last_fault now walk (fault.LongRecord number) amid ended long =
+      record {
+        read = amid.gone;
+        whole = whole_read now walk amid ended;
+        packets = amid.packets ++ long.more;
+        rest = long.rest;
+        records = joined_last now walk amid long.more long.rest long.records;
+        long = subst (λ (o : Order). IsTooLong o long.rest) amid.order long.long;
+        counted = let size = length-append amid.packets long.more in let e = amid.count in let f = long.counted in omega arith;
+      }
+  amid_last_fault now walk found amid ended h = absurd h
+
+  long_in : (now after : Option (List ℕ)) (walk : Walk J) (number : ℕ) → IsAmid Became first opening before now walk
+      → HasLongAhead walk number → IsDrained walk now after → HasLongRecord opening before after number
+  long_in now after walk number amid long (gone, consumed, ended, few) =
+      let packets = length-append amid.packets long.more in
+      let read = length-append amid.gone gone in
+      let here : IsTooLong opening.order long.rest = subst (λ (o : Order). IsTooLong o long.rest) amid.order long.long in
+      record {
+        read = amid.gone ++ gone;
+        whole = record {
+          consumed = Consumes-trans before now after amid.gone gone amid.consumed consumed;
+          ended = ended;
+          few = let e = amid.size in omega arith;
+        };
+        packets = amid.packets ++ long.more;
+        rest = long.rest ++ gone;
+        records = joined now walk amid long.more long.rest gone long.records;
+        long = long_appended opening.order long.rest gone here;
+        counted = let e = amid.count in let f = long.counted in omega arith;
+      }
+
+  pub amid_fault : (now after : Option (List ℕ)) (walk : Walk J) (found : Fault) → IsAmid Became first opening before now walk
+      → IsWindowFault walk now after found → IsStreamFault opening before after found
+  amid_fault now after walk fault.Memory amid h = tt
+  amid_fault now after walk fault.Read amid h = tt
+  amid_fault now after walk fault.TooLarge amid (gone, consumed, many) =
+      let read = length-append amid.gone gone in
+      (amid.gone ++ gone, Consumes-trans before now after amid.gone gone amid.consumed consumed, let e = amid.size in omega arith)
+  amid_fault now after walk (fault.LongRecord number) amid h = long_in now after walk number amid h.0 h.1
+  amid_fault now after walk found amid h = absurd h
+
+-- a walk begins amid the capture
+pub amid_begun : {J : Type 0} (Became : J → List PacketFacts → J → Type 0) (opening : Opening) (before : Option (List ℕ)) (walk : Walk J)
+    → MayStream Became walk.judges opening → walk.order ≡ opening.order → walk.window ≡ opening.bytes → walk.from ≡ opening.from
+    → walk.packets ≡ 0 → walk.read ≡ length opening.bytes.items → walk.ended ≡ false → IsAmid Became walk.judges opening before before walk
+amid_begun Became opening before walk may order window begins none read on =
+    let bytes = opening.bytes.items in
+    let same : walk.window.items ≡ bytes = ap (λ (v : Vec ℕ Global). v.items) window in
+    let ahead : records_in opening [] ≡ ahead_of walk =
+    ap (drop opening.from) (append-nil bytes) ∙ ap (λ n. drop n bytes) (sym begins) ∙ ap (drop walk.from) (sym same) in
+    record {
+      gone = [];
+      consumed = Consumes-nil before;
+      packets = [];
+      records = ahead;
+      stand = may.begun;
+      count = none;
+      size = read ∙ sym (add-zero (length bytes));
+      bound = let few = may.few in omega arith;
+      order = order;
+      within = let within = may.within in let size = ap length same in omega arith;
+      ended = λ e. cc;
+    }

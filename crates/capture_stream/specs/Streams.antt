@@ -1,0 +1,54 @@
+-- A capture that is judged while it is read: what was read, which packets were judged, and which faults there are.
+use Rattle.std.specs.Prelude.{◌≡◌, ◌+◌, ◌<◌, ◌≤◌, ◌++◌, ℕ, List, [], Option, drop, length, ⊤}
+use Rattle.std.specs.Io.KnownBytes.{Consumes, IsAtEnd}
+use Rattle.packet_view.specs.Captures.{AreRecords, IsEnd, IsTooLong, PacketFacts, end_of}
+use Rattle.racl_io.specs.declared.fault.Fault.{Fault}
+use Rattle.racl_io.specs.declared.fault.Fault.TheVariants.{LongRecord, Memory, Read, TooLarge}
+use Rattle.racl_io.specs.Inputs.{most_bytes}
+use Rattle.capture_stream.specs.declared.stream.Opening.{Opening}
+use Rattle.capture_stream.specs.declared.stream.Streamed.{Streamed}
+
+-- the bytes from the first record on, where these were read after the opening
+abbrev pub records_in : Opening → List ℕ → List ℕ
+records_in opening read = drop opening.from (opening.bytes.items ++ read)
+
+-- these are the bytes that the source had after the opening, and all of them together aren't too many
+pub record AreAllRead (before after : Option (List ℕ)) (opening : Opening) (read : List ℕ) : Type 0 where
+  pub consumed : Consumes before after read
+  pub ended : IsAtEnd after
+  pub few : length opening.bytes.items + length read ≤ most_bytes
+
+-- the source gave all its bytes, and the packets of all records were judged
+pub record HasStreamed {J : Type 0} (Became : J → List PacketFacts → J → Type 0) (judges : J) (opening : Opening) (before after : Option (List ℕ))
+    (streamed : Streamed J) : Type 0 where
+  pub read : List ℕ
+  pub whole : AreAllRead before after opening read
+  pub packets : List PacketFacts
+  pub rest : List ℕ
+  pub records : AreRecords opening.order (records_in opening read) packets rest
+  pub end : IsEnd opening.order rest (end_of streamed.truncated)
+  pub judged : Became judges packets streamed.judges
+
+-- the source gave all its bytes, and the record of this number, counted from 1, is the first that is too long
+pub record HasLongRecord (opening : Opening) (before after : Option (List ℕ)) (number : ℕ) : Type 0 where
+  pub read : List ℕ
+  pub whole : AreAllRead before after opening read
+  pub packets : List PacketFacts
+  pub rest : List ℕ
+  pub records : AreRecords opening.order (records_in opening read) packets rest
+  pub long : IsTooLong opening.order rest
+  pub counted : number ≡ length packets + 1
+
+-- why not all packets were judged
+abbrev pub IsStreamFault : Opening → Option (List ℕ) → Option (List ℕ) → Fault → Type 0
+IsStreamFault opening before after Memory = ⊤
+IsStreamFault opening before after Read = ⊤
+IsStreamFault opening before after TooLarge = (gone : List ℕ) × Consumes before after gone × (most_bytes < length opening.bytes.items + length gone)
+IsStreamFault opening before after (LongRecord number) = HasLongRecord opening before after number
+IsStreamFault opening before after fault = ⊥
+
+-- where a capture may be judged from: its records begin within what was read, which isn't too much
+pub record MayStream {J : Type 0} (Became : J → List PacketFacts → J → Type 0) (judges : J) (opening : Opening) : Type 0 where
+  pub begun : Became judges [] judges
+  pub within : opening.from ≤ length opening.bytes.items
+  pub few : length opening.bytes.items ≤ most_bytes

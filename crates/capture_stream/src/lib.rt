@@ -1,0 +1,11 @@
+//! A capture that is judged while it is read: the packets of one window, and beside it the next window is read.
+#![tactic(auto)]
+
+mod judges;
+mod stream;
+#[cfg(test)]
+mod tests;
+mod window;
+
+pub use judges::Judges;
+pub use stream::{Opening, Streamed, judge_stream};

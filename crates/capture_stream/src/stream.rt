@@ -1,0 +1,158 @@
+//! A capture from what was read of it to its end.
+ghost use Rattle.std.specs.Prelude.{◌≡◌, ◌-◌, ◌<◌, ◌^◌, MatchResult};
+ghost use Rattle.racl_io.specs.Transfers.{failures_after_reads};
+ghost use Rattle.capture_stream.specs.Streams.{HasStreamed, IsStreamFault, MayStream};
+ghost use Rattle.capture_stream.specs.inner.Walks.{HasAdvanced, HasEnded, IsLastFault, IsWindowFault, MayAdvance};
+
+use crate::judges::Judges;
+use crate::window::{bytes_beside, judge_and_read};
+use packet_view::{Front, Order, Packets, Stop, front_records};
+use racl_io::{Fault, MOST_BYTES, Source, drain};
+use std::alloc::Global;
+use std::thread::Threads;
+
+/// What was read of an input so far.
+#[derive(Drop)]
+pub struct Opening {
+    pub bytes: Vec<u8>,
+    /// Where the capture's records begin.
+    pub from: usize,
+    /// The order of their numbers.
+    pub order: Order,
+}
+
+/// What came of a capture.
+#[derive(Drop)]
+pub struct Streamed<J> {
+    /// Those who judged all packets.
+    pub judges: J,
+    /// Whether the capture ends within a record.
+    pub truncated: bool,
+}
+
+/// A capture of which some windows were judged.
+#[derive(Drop)]
+struct Walk<J> {
+    judges: J,
+    order: Order,
+    /// The bytes that were read and not judged, from place `from` on.
+    window: Vec<u8>,
+    from: usize,
+    /// Room for the next window.
+    spare: Vec<u8>,
+    /// How many packets were judged.
+    packets: usize,
+    /// How many bytes of the input were read.
+    read: usize,
+    /// Whether the input ends with this window.
+    ended: bool,
+}
+
+// A window is judged, while the next one is read.
+fn next_window<J: Judges + Drop, T: Threads, R: Source + Send>(
+    rt: &T,
+    reader: &mut R,
+    walk: Walk<J>,
+) -> Result<Walk<J>, Fault>
+    requires may { MayAdvance J.became walk }
+    requires sound { R.failures reader.old < 2 ^ 64 - 1 }
+    ensures walk { let old = R.bytes reader.old in let new = R.bytes reader.new in MatchResult result (HasAdvanced J.became walk old new) (IsWindowFault walk old new) }
+    ensures failures { R.failures reader.new ≡ failures_after_reads (R.failures reader.old) result }
+{
+    let Walk {
+        judges,
+        order,
+        window,
+        from,
+        mut spare,
+        packets,
+        read,
+        ..
+    } = walk;
+    let Front {
+        records,
+        rest,
+        stop,
+    } = front_records(&window[from..], order);
+    if matches!(stop, Stop::TooLong) {
+        drain(reader, read)?;
+        return Err(Fault::LongRecord((packets + records.count) as u64 + 1));
+    }
+    spare.clear();
+    spare.extend_from_slice(rest)?;
+    let behind = rest.len();
+    let count = records.count;
+    let least = behind + bytes_beside(window.len());
+    let (judged, ended) = judge_and_read(rt, judges, records, reader, &mut spare, least);
+    let ended = ended?;
+    let judges = judged?;
+    let read = read + (spare.len() - behind);
+    if read > MOST_BYTES {
+        return Err(Fault::TooLarge);
+    }
+    Ok(Walk {
+        judges,
+        order,
+        window: spare,
+        from: 0,
+        spare: window,
+        packets: packets + count,
+        read,
+        ended,
+    })
+}
+
+// The last window is judged.
+fn last_window<J: Judges + Drop>(walk: Walk<J>) -> Result<Streamed<J>, Fault>
+    requires may { MayAdvance J.became walk }
+    ensures { MatchResult result (HasEnded J.became walk) (IsLastFault walk) }
+{
+    let Walk {
+        judges,
+        order,
+        window,
+        from,
+        packets,
+        ..
+    } = walk;
+    let Front { records, stop, .. } = front_records(&window[from..], order);
+    let truncated = match stop {
+        Stop::End => false,
+        Stop::Truncated => true,
+        Stop::TooLong => return Err(Fault::LongRecord((packets + records.count) as u64 + 1)),
+    };
+    let judges = judges.judge(Packets::Standing(records))?;
+    Ok(Streamed { judges, truncated })
+}
+
+/// Those who judge packets judge all of a capture, a window at a time, while the next one is read to the end of the
+/// source. A fault of the capture is answered when all was read.
+pub fn judge_stream<J: Judges + Drop, T: Threads, R: Source + Send>(
+    rt: &T,
+    alloc: Global,
+    reader: &mut R,
+    judges: J,
+    opening: Opening,
+) -> Result<Streamed<J>, Fault>
+    requires may { MayStream J.became judges opening }
+    requires sound { R.failures reader.old < 2 ^ 64 - 1 }
+    ensures streamed { let old = R.bytes reader.old in let new = R.bytes reader.new in MatchResult result (HasStreamed J.became judges opening old new) (IsStreamFault opening old new) }
+    ensures failures { R.failures reader.new ≡ failures_after_reads (R.failures reader.old) result }
+{
+    let Opening { bytes, from, order } = opening;
+    let read = bytes.len();
+    let mut walk = Walk {
+        judges,
+        order,
+        window: bytes,
+        from,
+        spare: Vec::new(alloc),
+        packets: 0,
+        read,
+        ended: false,
+    };
+    'windows: while !walk.ended {
+        walk = next_window(rt, reader, walk)?;
+    }
+    last_window(walk)
+}
