@@ -1,3 +1,4 @@
 pub mod InputLaws
 pub mod OutcomeLemmas
+pub mod ReadLemmas
 pub mod RunLemmas

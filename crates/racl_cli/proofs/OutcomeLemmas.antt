@@ -3,7 +3,6 @@ use Rattle.std.specs.Io.KnownBytes.{Appends}
 use Rattle.std.proofs.Common.{◌≡◌, ◌≢◌, ◌∙◌, ◌≤◌, ◌⊎◌, All, ℕ, Bool, true, false, List, length, Option, Some, None, Result, Ok, Err, IfOk, IfErr, OnOk, MatchResult, IfSome, refl, sym, ap, ap₂, subst, inl, inr}
 use Rattle.packet_view.specs.Captures.{End, IsCapture, IsCaptureFault, PacketFacts, end_of}
 use Rattle.packet_view.specs.declared.capture.CaptureFault.{CaptureFault}
-use Rattle.packet_view.specs.declared.capture.CaptureFault.TheVariants as packet
 use Rattle.packet_view.specs.declared.tuple.Family.{Family}
 use Rattle.acl_policy.specs.Policies.{IsPolicyFault, IsPolicyText, PolicyFacts}
 use Rattle.acl_policy.specs.declared.policy.PolicyFault.{PolicyFault}
@@ -14,11 +13,10 @@ use Rattle.flow_dealing.specs.Runs.{AreFew, AreJudged, HasPagesIn, HavePages}
 use Rattle.racl_words.specs.declared.settings.Options.{Options}
 use Rattle.racl_io.specs.declared.fault.Fault.{Fault}
 use Rattle.racl_io.specs.declared.input.Form.{Form}
-use Rattle.racl_io.specs.declared.input.Form.TheVariants.{Hexadecimal}
 use Rattle.racl_io.specs.declared.report.Totals.{Totals}
 use Rattle.racl_io.specs.Faults.{IsSystemFault, capture_fault, policy_fault}
 use Rattle.racl_io.specs.Reports.{report_of, totals_of}
-use Rattle.racl_io.specs.declared.fault.Fault.TheVariants.{Hex, Memory, NoCapture, Write}
+use Rattle.racl_io.specs.declared.fault.Fault.TheVariants.{Memory, NoCapture, Write}
 use Rattle.racl_io.specs.Inputs.{IsContent, IsInput, InputFacts, most_bytes}
 use Rattle.racl_io.proofs.InputLemmas.{one_input}
 use Rattle.racl_cli.specs.Runs.{Agrees, AnswersCapture, AnswersContent, AnswersInput, ByOneThread, ByWorkers, FiltersCapture, FiltersContent, FiltersInput, HasOutcome, HasReported, HasRun, IsAnswer, IsReached, Judging, Outcome, dealt_to, flow_layout}

@@ -1,3 +1,5 @@
+pub mod Crews
 pub mod Endings
+pub mod Reads
 pub mod Runs
 pub mod Statuses

@@ -1,25 +1,33 @@
 //! One run of the filter, from the bytes of an input to the report.
-ghost use Rattle.std.specs.Prelude.{◌≡◌, ◌≢◌, ◌+◌, ◌-◌, ◌<◌, ◌≤◌, ◌^◌, ◌⊎◌, ◌↔◌, Err, IfOk, IfErr, IfSome, MatchResult};
+ghost use Rattle.std.specs.Prelude.{[], ◌≡◌, ◌≢◌, ◌+◌, ◌-◌, ◌<◌, ◌≤◌, ◌^◌, ◌⊎◌, ◌↔◌, Err, IfOk, IfErr, IfSome, MatchResult};
 ghost use Rattle.acl_policy.specs.Policies.{policy_facts};
 ghost use Rattle.racl_io.specs.declared.fault.Fault.{Fault};
 ghost use Rattle.racl_io.specs.declared.fault.Fault.TheVariants.{Memory};
 ghost use Rattle.racl_io.specs.Faults.{IsInputFault, IsSystemFault, RefusesRead};
+ghost use Rattle.racl_io.specs.Transfers.{failures_after_reads};
+ghost use Rattle.racl_cli.specs.Reads.{AnswersRead};
 ghost use Rattle.racl_cli.specs.Runs.{AnswersCapture, AnswersContent, AnswersInput, ByOneThread, HasOutcome, HasReported, HasRun, Outcome};
 
+use crate::host::Host;
 use crate::judging::verdicts_on;
 use crate::outcome::Judged;
+use crate::streaming::{judge_opened, open_input};
 use acl_policy::read_policy;
 use flow_workers::Filter;
 use packet_view::check_capture;
-use racl_io::{Fault, Form, Sink, Source, Totals, decoded, parts, read_input, write_report};
+use racl_io::{
+    Fault, Form, MOST_BYTES, Sink, Source, Totals, decoded, parts, read_until, write_report,
+};
 use racl_words::Options;
 use std::alloc::Global;
 use std::sync::Wait;
 use std::thread::Threads;
 
+/// How many bytes of an input are read before any is judged, at least.
+const FRONT_BYTES: usize = 8_388_608;
+
 fn judge_capture<T: Threads + Wait + Sync>(
-    rt: &T,
-    alloc: Global,
+    host: &Host<'_, T>,
     options: &Options,
     filter: &Filter,
     capture: &[u8],
@@ -28,7 +36,7 @@ fn judge_capture<T: Threads + Wait + Sync>(
     ensures { AnswersCapture options.now (policy_facts filter.now.policy) capture.now result }
 {
     let checked = check_capture(capture)?;
-    let verdicts = verdicts_on(rt, alloc, options, filter, checked.records)?;
+    let verdicts = verdicts_on(host, options, filter, checked.records)?;
     Ok(Judged {
         verdicts,
         truncated: checked.truncated,
@@ -36,8 +44,7 @@ fn judge_capture<T: Threads + Wait + Sync>(
 }
 
 fn judge_content<T: Threads + Wait + Sync>(
-    rt: &T,
-    alloc: Global,
+    host: &Host<'_, T>,
     options: &Options,
     filter: &Filter,
     form: Form,
@@ -47,17 +54,16 @@ fn judge_content<T: Threads + Wait + Sync>(
     ensures { AnswersContent options.now (policy_facts filter.now.policy) form content.now result }
 {
     match form {
-        Form::Binary => judge_capture(rt, alloc, options, filter, content),
+        Form::Binary => judge_capture(host, options, filter, content),
         Form::Hexadecimal => {
-            let capture = decoded(alloc, content)?;
-            judge_capture(rt, alloc, options, filter, &capture)
+            let capture = decoded(host.alloc, content)?;
+            judge_capture(host, options, filter, &capture)
         }
     }
 }
 
 fn judge_input<T: Threads + Wait + Sync>(
-    rt: &T,
-    alloc: Global,
+    host: &Host<'_, T>,
     options: &Options,
     bytes: &[u8],
 ) -> Result<Judged, Fault>
@@ -66,18 +72,58 @@ fn judge_input<T: Threads + Wait + Sync>(
     let Some(input) = parts(bytes) else {
         return Err(Fault::NoCapture);
     };
-    let policy = read_policy(alloc, input.policy)?;
+    let policy = read_policy(host.alloc, input.policy)?;
     let filter = Filter {
         policy,
         times: options.times,
     };
-    judge_content(rt, alloc, options, &filter, input.form, input.content)
+    judge_content(host, options, &filter, input.form, input.content)
+}
+
+// What the packets of an input met whose front was read, after the rest is read too.
+fn judge_whole<R: Source + Send, T: Threads + Wait + Sync>(
+    host: &Host<'_, T>,
+    options: &Options,
+    reader: &mut R,
+    front: Vec<u8>,
+) -> Result<Judged, Fault>
+    requires { R.failures reader.old < 2 ^ 64 - 1 }
+    ensures answers { AnswersRead options.now front.items (R.bytes reader.old) result }
+    ensures failures { R.failures reader.new ≡ failures_after_reads (R.failures reader.old) result }
+{
+    let mut bytes = front;
+    if !read_until(reader, &mut bytes, MOST_BYTES + 1)? {
+        return Err(Fault::TooLarge);
+    }
+    judge_input(host, options, &bytes)
+}
+
+// What the packets of an input met that is read.
+fn judge_source<R: Source + Send, T: Threads + Wait + Sync>(
+    host: &Host<'_, T>,
+    options: &Options,
+    reader: &mut R,
+) -> Result<Judged, Fault>
+    requires { R.failures reader.old < 2 ^ 64 - 1 }
+    ensures answers { AnswersRead options.now [] (R.bytes reader.old) result }
+    ensures failures { R.failures reader.new ≡ failures_after_reads (R.failures reader.old) result }
+{
+    let mut front = Vec::new(host.alloc);
+    if read_until(reader, &mut front, FRONT_BYTES)? {
+        return judge_input(host, options, &front);
+    }
+    if options.workers > 1 {
+        if let Some(opened) = open_input(host.alloc, options, &front) {
+            return judge_opened(host, options, reader, front, opened);
+        }
+    }
+    judge_whole(host, options, reader, front)
 }
 
 /// Reads an input, filters its capture by its policy, and writes the report.
 ///
 /// Nothing is written before the whole input was judged.
-pub fn run<R: Source, W: Sink, T: Threads + Wait + Sync>(
+pub fn run<R: Source + Send, W: Sink, T: Threads + Wait + Sync>(
     rt: &T,
     alloc: Global,
     options: &Options,
@@ -106,7 +152,6 @@ pub fn run<R: Source, W: Sink, T: Threads + Wait + Sync>(
     ensures steady { result ≢ Err Fault.Write → W.failures writer.new ≡ W.failures writer.old }
     ensures unwritten { IfErr result (λ fault. fault ≢ Fault.Write → writer.new ≡ writer.old) }
 {
-    let bytes = read_input(alloc, reader)?;
-    let judged = judge_input(rt, alloc, options, &bytes)?;
+    let judged = judge_source(&Host { rt, alloc }, options, reader)?;
     write_report(alloc, writer, &judged.verdicts, judged.truncated)
 }

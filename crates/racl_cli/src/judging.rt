@@ -6,20 +6,20 @@ ghost use Rattle.flow_dealing.specs.Runs.{HavePages};
 ghost use Rattle.racl_io.specs.declared.fault.Fault.TheVariants.{Memory};
 ghost use Rattle.racl_cli.specs.Runs.{ByOneThread, ByWorkers};
 
+use crate::host::Host;
 use bihash_words::{ShapeV4, ShapeV6, flow_shapes_are_sound};
 use flow_workers::{Dealing, Filter, Gate, Verdict, run_workers};
 use packet_view::{Packets, Records};
 use racl_io::Fault;
 use racl_words::Options;
-use std::alloc::Global;
 use std::sync::Wait;
 use std::thread::Threads;
 
 /// How many packets pay for more than one worker.
-const MANY_PACKETS: usize = 65_536;
+pub const MANY_PACKETS: usize = 262_144;
 
 /// Nothing waits before or after a packet is judged.
-struct OpenGate;
+pub struct OpenGate;
 
 impl Gate for OpenGate {
     fn before(&self, _worker: usize, _packet: usize) {}
@@ -41,8 +41,7 @@ fn workers_for(options: &Options, packets: usize) -> usize
 
 /// The verdicts on packets in their order.
 pub fn verdicts_on<'a, T: Threads + Wait + Sync>(
-    rt: &T,
-    alloc: Global,
+    host: &Host<'_, T>,
     options: &Options,
     filter: &'a Filter,
     packets: Records<'a>,
@@ -56,8 +55,8 @@ pub fn verdicts_on<'a, T: Threads + Wait + Sync>(
     flow_shapes_are_sound();
     let workers = workers_for(options, packets.count());
     match run_workers::<ShapeV4, ShapeV6, T, OpenGate>(
-        rt,
-        alloc,
+        host.rt,
+        host.alloc,
         filter,
         Packets::Standing(packets),
         workers,

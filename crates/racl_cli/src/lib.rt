@@ -2,12 +2,15 @@
 //! capture in, a verdict on each packet out. The program around it is the crate `racl`.
 #![tactic(auto)]
 
+mod crew;
 mod end_to_end;
 mod exits;
+mod host;
 mod judging;
 mod laws;
 mod message;
 mod outcome;
+mod streaming;
 
 pub use end_to_end::run;
 pub use exits::{ending, failure_ending, status, words_ending};

@@ -11,13 +11,6 @@ use Rattle.racl_io.specs.declared.fault.Fault.TheVariants.{Memory, Read, TooLarg
 use Rattle.racl_io.specs.Inputs.{IsContent, IsInput, InputFacts, most_bytes}
 use Rattle.racl_io.specs.declared.input.Form.{Form}
 
--- what reading the input may answer
-abbrev pub IsReadingFault : Fault → Type 0
-IsReadingFault Memory = Unit {0}
-IsReadingFault Read = Unit {0}
-IsReadingFault TooLarge = Unit {0}
-IsReadingFault _ = ⊥
-
 -- the program's fault for one of the policy
 abbrev pub policy_fault : PolicyFault → Fault
 policy_fault policy.Memory = Memory

@@ -16,7 +16,7 @@ pub use device::{Device, DeviceFault, Sink, Source};
 pub use fault::Fault;
 pub use input::{Form, Input, parts};
 pub use report::{Totals, write_report};
-pub use transfer::{MOST_BYTES, drain, read_input, read_until, write_all};
+pub use transfer::{MOST_BYTES, drain, read_until, write_all};
 
 #[cfg(test)]
 mod tests;

@@ -1,14 +1,13 @@
-//! Input from a source, whole or up to so many bytes, and a whole report to a sink.
-ghost use Rattle.std.specs.Prelude.{◌≡◌, ◌≢◌, ◌+◌, ◌-◌, ◌<◌, ◌≤◌, ◌^◌, ◌⊎◌, ◌++◌, IfOk, IfErr, IfSome, IsErrOf, OnOk, OnErr, Err, length, vec_capacity, vec_len};
-ghost use Rattle.std.specs.Io.KnownBytes.{Appends, IsAtEnd};
-ghost use Rattle.racl_io.specs.Faults.{IsReadingFault};
+//! Input from a source, up to so many bytes or to its end, and a whole report to a sink.
+ghost use Rattle.std.specs.Prelude.{◌≡◌, ◌+◌, ◌-◌, ◌<◌, ◌≤◌, ◌^◌, ◌⊎◌, ◌++◌, IfOk, IfErr, IsErrOf, OnOk, OnErr, length, vec_capacity, vec_len};
+ghost use Rattle.std.specs.Io.KnownBytes.{Appends};
 ghost use Rattle.racl_io.specs.Inputs.{most_bytes};
 ghost use Rattle.racl_io.specs.Transfers.{HasDrained, HasRead, failures_after_reads};
 ghost use Rattle.racl_io.specs.declared.fault.Fault.TheVariants.{Memory, Read, Write};
 
 use crate::device::{Sink, Source};
 use crate::fault::Fault;
-use std::alloc::{AllocError, Global};
+use std::alloc::AllocError;
 
 /// The most bytes of an input.
 pub const MOST_BYTES: usize = 67_108_864;
@@ -55,24 +54,6 @@ pub fn read_until<R: Source>(reader: &mut R, all: &mut Vec<u8>, least: usize) ->
         keep(all, &part[..n])?;
     }
     Ok(false)
-}
-
-/// Reads until a read gives no byte.
-pub fn read_input<R: Source>(alloc: Global, reader: &mut R) -> Result<Vec<u8>, Fault>
-    requires { R.failures reader.old < 2 ^ 64 - 1 }
-    ensures whole { IfOk result (λ v. IfSome (R.bytes reader.old) (λ xs. v.items ≡ xs)) }
-    ensures few { IfOk result (λ v. vec_len v ≤ most_bytes) }
-    ensures ended { OnOk result (IsAtEnd (R.bytes reader.new)) }
-    ensures too_large { IsErrOf result Fault.TooLarge → IfSome (R.bytes reader.old) (λ xs. most_bytes < length xs) }
-    ensures failed { IsErrOf result Fault.Read → R.failures reader.new ≡ R.failures reader.old + 1 }
-    ensures not_failed { result ≢ Err Fault.Read → R.failures reader.new ≡ R.failures reader.old }
-    ensures faults { IfErr result IsReadingFault }
-{
-    let mut all = Vec::new(alloc);
-    if read_until(reader, &mut all, MOST_BYTES + 1)? {
-        return Ok(all);
-    }
-    Err(Fault::TooLarge)
 }
 
 /// Reads on after so many bytes, until a read gives no byte, and keeps nothing.

@@ -1,5 +1,4 @@
 use Rattle.std.proofs.Common.{refl, sym, subst}
-use Rattle.racl_io.specs.declared.input.Form.TheVariants.{Hexadecimal}
 use Rattle.racl_io.specs.Inputs.{IsContent}
 use Rattle.racl_cli.proofs.OutcomeLemmas.{content_answers}
 use Rattle.racl_cli.proofs.end_to_end.judge_content.Goals as goal

@@ -1,0 +1,42 @@
+use Rattle.std.proofs.Common.{◌∙◌, Err, ap, arith, inl, refl, subst}
+use Rattle.std.proofs.lemmas.Result.{err_from_is_err_and}
+use Rattle.acl_policy.specs.Policies.{policy_facts}
+use Rattle.flow_dealing.specs.Runs.{AreJudged, HavePages}
+use Rattle.flow_dealing.proofs.FewPackets.{pages_for_few}
+use Rattle.flow_dealing.proofs.OneReport.{one_report}
+use Rattle.flow_workers.proofs.RestLemmas.{said_by}
+use Rattle.racl_cli.specs.Runs.{ByOneThread, dealt_to}
+use Rattle.racl_cli.proofs.OutcomeLemmas.{given_by_workers}
+use Rattle.racl_cli.proofs.ReadLemmas.{failures_of_err}
+use Rattle.racl_cli.proofs.streaming.judge_records.Goals as goal
+
+pub returns-in_err-judges-clause-failures : goal.returns-in_err-judges-clause-failures
+returns-in_err-judges-clause-failures g c =
+    let p = err_from_is_err_and c.from_residual-in_err-judges.result c.from_residual-in_err-judges.ensures.1 in
+    failures_of_err _ _ c.judge_stream.result c.from_residual-in_err-judges.result c.in_err-judges.field-0.0 c.in_err-judges.was (p.1 ∙ ap Err p.2)
+    c.judge_stream.ensures.failures
+
+pub returns-clause-ok : goal.returns-clause-ok
+returns-clause-ok g c =
+    let s = c.in_ok-judges.ensures.streamed in
+    let options = c.args.options.now in
+    let filter = c.args.filter.now in
+    let policy = policy_facts filter.policy in
+    let verdicts = c.in-Ok-end.verdicts.items in
+    let judged : AreJudged (dealt_to options.workers) filter.times policy s.packets verdicts =
+    said_by _ _ _ _ s.packets verdicts _ _ (s.judged.1.setup ∙ c.in-Ok-new.ensures.by) c.ready_with.ensures.times c.ready_with.ensures.policy
+    s.judged.1.rest c.in-Ok-end.ensures in
+    record {
+      read = s.read;
+      whole = s.whole;
+      packets = s.packets;
+      rest = s.rest;
+      records = s.records;
+      end = s.end;
+      by_workers =
+          given_by_workers options filter.times policy s.packets verdicts options.workers c.requires.may.times options.few.0 (omega arith) judged
+          (pages_for_few _ _ _ _ _);
+      by_one_thread =
+          subst (λ times. HavePages verdicts → ByOneThread times policy s.packets verdicts) c.requires.may.times
+          (one_report _ _ _ _ _ judged (inl refl));
+    }

@@ -1,0 +1,31 @@
+//! Workers as those who judge the packets of a capture.
+use crate::judging::OpenGate;
+use bihash_words::{ShapeV4, ShapeV6};
+use capture_stream::Judges;
+use flow_workers::Workers;
+use packet_view::Packets;
+use std::alloc::{AllocError, Global};
+use std::sync::Wait;
+use std::thread::Threads;
+
+/// Workers, and where they get memory.
+#[derive(Drop)]
+pub struct Crew<'t, T: Wait> {
+    pub alloc: Global,
+    pub workers: Workers<'t, ShapeV4, ShapeV6, T, OpenGate>,
+}
+
+impl<'t, T: Threads + Wait + Sync> Judges for Crew<'t, T> {
+    ghost use Rattle.std.specs.Thread.{IsSync};
+    ghost use Rattle.racl_cli.specs.Crews.{Became};
+
+    ghost became = { λ begun packets crew. IsSync T.row × Became begun packets crew };
+
+    fn judge(self, packets: Packets<'_>) -> Result<Crew<'t, T>, AllocError> {
+        let Crew { alloc, workers } = self;
+        match workers.judge(alloc, packets) {
+            Ok(workers) => Ok(Crew { alloc, workers }),
+            Err(_) => Err(AllocError),
+        }
+    }
+}
