@@ -1,6 +1,6 @@
 -- A walk over a capture: it stays amid the capture, and its end and its faults are those of the capture.
 use Rattle.std.proofs.Common.{◌≡◌, ◌≢◌, ◌∙◌, ◌≤◌, ◌<◌, ◌+◌, ◌-◌, ℕ, List, [], ◌++◌, Option, Vec, Global, add-zero, ap, append-nil, append_assoc, arith, drop, inl, inr, length, refl, subst, sym, take, true, false}
-use Rattle.std.proofs.lemmas.List.{drop-append-le, length-append, length-drop, take_all}
+use Rattle.std.proofs.lemmas.List.{drop-append-le, drop-drop, length-append, length-drop, take_all}
 use Rattle.std.proofs.KnownBytes.{Consumes-nil, Consumes-trans}
 use Rattle.packet_view.specs.Captures.{AreRecords, IsEnd, IsTooLong, PacketFacts, end_of, kept_length, kept_limit}
 use Rattle.packet_view.specs.Fronts.{Stops}
@@ -19,10 +19,11 @@ use Rattle.racl_io.specs.Transfers.{HasRead}
 use Rattle.racl_io.specs.Inputs.{most_bytes}
 use Rattle.capture_stream.specs.Judging.{CanFollow, HaveFollowed}
 use Rattle.capture_stream.specs.Streams.{AreAllRead, HasLongRecord, HasStreamed, IsStreamFault, MayStream, records_in}
+use Rattle.capture_stream.specs.inner.Found.{HaveFound}
 use Rattle.capture_stream.specs.declared.stream.Opening.{Opening}
 use Rattle.capture_stream.specs.declared.stream.Streamed.{Streamed}
 use Rattle.capture_stream.specs.declared.stream.Walk.{Walk}
-use Rattle.capture_stream.specs.inner.Walks.{HasAdvanced, HasEnded, HasLongAhead, IsAmid, IsDrained, IsLastFault, IsWindowFault, MayAdvance, ahead_of}
+use Rattle.capture_stream.specs.inner.Walks.{HasAdvanced, HasEnded, HasLongAhead, IsAmid, IsDrained, IsLastFault, IsWindowFault, MayAdvance, ahead_of, packets_ahead, rest_of}
 
 -- less than one record is left where none is too long
 pub rest_short : (order : Order) (rest : List ℕ) (stop : Stop) → Stops order rest stop → stop ≢ TooLong → length rest < 262160
@@ -31,64 +32,94 @@ rest_short order rest Truncated (inl h) other = omega arith
 rest_short order rest Truncated (inr h) other = omega arith
 rest_short order rest TooLong long other = absurd (other refl)
 
--- the bytes that are not judged, as a part of the window
-pub records_ahead : {J : Type 0} (walk : Walk J) (bytes : List ℕ) (packets : List PacketFacts) (rest : List ℕ) → bytes ≡ walk.window.items
-    → AreRecords walk.order (take (length bytes - walk.from) (drop walk.from bytes)) packets rest → AreRecords walk.order (ahead_of walk) packets rest
-records_ahead walk bytes packets rest same =
-    let size = length-drop walk.from bytes in
-    let whole = take_all (length bytes - walk.from) (drop walk.from bytes) (omega arith) in
-    subst (λ (b : List ℕ). AreRecords walk.order b packets rest) (whole ∙ ap (drop walk.from) same)
+-- the bytes of a list from a place on, as a part of it
+pub part_from : (bytes items : List ℕ) (from : ℕ) → bytes ≡ items → take (length bytes - from) (drop from bytes) ≡ drop from items
+part_from bytes items from same =
+    let size = length-drop from bytes in
+    take_all (length bytes - from) (drop from bytes) (omega arith) ∙ ap (drop from) same
+
+-- the bytes behind the records, as a part of the window
+pub behind_taken : {J : Type 0} (walk : Walk J) (bytes : List ℕ) (place : ℕ) → bytes ≡ walk.window.items → walk.from ≤ length walk.window.items
+    → HaveFound walk.order (ahead_of walk) walk.found → place ≡ length bytes - walk.found.behind
+    → take (length bytes - place) (drop place bytes) ≡ rest_of walk
+behind_taken walk bytes place same within found is =
+    let items = walk.window.items in
+    let long = ap length same in
+    let ahead = length-drop walk.from items in
+    let size = found.size in
+    let from : walk.from + (length (ahead_of walk) - walk.found.behind) ≡ place = omega arith in
+    part_from bytes items place same ∙ ap (λ n. drop n items) (sym from)
+    ∙ sym (drop-drop (length (ahead_of walk) - walk.found.behind) walk.from items)
+
+pub rest_length : {J : Type 0} (walk : Walk J) → HaveFound walk.order (ahead_of walk) walk.found → length (rest_of walk) ≡ walk.found.behind
+rest_length walk found =
+    let size = found.size in
+    let tail = length-drop (length (ahead_of walk) - walk.found.behind) (ahead_of walk) in
+    omega arith
 
 -- so many packets are at most as many as bytes were read
-pub front_few : {J : Type 0} (Became : J → List PacketFacts → J → Type 0) (walk : Walk J) (records : Records) (rest : List ℕ)
-    → MayAdvance Became walk → AreRecords walk.order (ahead_of walk) (packets_of records) rest → walk.packets + records.count ≤ most_bytes
-front_few Became walk records rest may all =
-    let within = records_within walk.order (ahead_of walk) (packets_of records) rest all in
-    let count = packets_count records.order records.count records.bytes.now in
+pub front_few : {J : Type 0} (Became : J → List PacketFacts → J → Type 0) (walk : Walk J) → MayAdvance Became walk
+    → walk.packets + walk.found.count ≤ most_bytes
+front_few Became walk may =
+    let within = records_within walk.order (ahead_of walk) (packets_ahead walk) (rest_of walk) may.found.records in
+    let count = packets_count walk.order walk.found.count (ahead_of walk) in
     let few = may.few in
     let bound = may.bound in
     omega arith
 
-pub front_follow : {J : Type 0} (Became : J → List PacketFacts → J → Type 0) (walk : Walk J) (records : Records) (rest : List ℕ)
-    → MayAdvance Became walk → AreRecords walk.order (ahead_of walk) (packets_of records) rest → CanFollow Became walk.judges (Standing records)
-front_follow Became walk records rest may all =
-    let count = packets_count records.order records.count records.bytes.now in
-    let few = front_few Became walk records rest may all in
+pub front_follow : {J : Type 0} (Became : J → List PacketFacts → J → Type 0) (walk : Walk J) (records : Records) → MayAdvance Became walk
+    → packets_of records ≡ packets_ahead walk → CanFollow Became walk.judges (Standing records)
+front_follow Became walk records may same =
+    let count = packets_count walk.order walk.found.count (ahead_of walk) in
+    let size = ap length same in
+    let few = front_few Became walk may in
     let before = may.count in
     record { begun = may.begun; packets = may.packets; stand = may.stand; fits = omega arith }
 
-pub front_long : {J : Type 0} (walk : Walk J) (records : Records) (rest : List ℕ)
-    → AreRecords walk.order (ahead_of walk) (packets_of records) rest → IsTooLong walk.order rest → HasLongAhead walk (walk.packets + records.count + 1)
-front_long walk records rest all long =
-    let count = packets_count records.order records.count records.bytes.now in
-    record { more = packets_of records; rest = rest; records = all; long = long; counted = omega arith }
+pub front_long : {J : Type 0} (walk : Walk J) → HaveFound walk.order (ahead_of walk) walk.found → walk.found.stop ≡ TooLong
+    → HasLongAhead walk (walk.packets + walk.found.count + 1)
+front_long walk found stop =
+    let count = packets_count walk.order walk.found.count (ahead_of walk) in
+    record {
+      more = packets_ahead walk;
+      rest = rest_of walk;
+      records = found.records;
+      long = subst (Stops walk.order (rest_of walk)) stop found.stop;
+      counted = omega arith;
+    }
 
 -- the next window is what is left of this one, and what was read behind it
-pub front_advanced : {J : Type 0} (Became : J → List PacketFacts → J → Type 0) (old : Walk J) (before after : Option (List ℕ)) (records : Records)
-    (rest cleared front : List ℕ) (new : Walk J) → AreRecords old.order (ahead_of old) (packets_of records) rest
-    → HaveFollowed Became old.judges (packets_of records) new.judges
-    → (least : ℕ) → length rest < least → HasRead before after front new.window.items least new.ended → cleared ≡ [] → front ≡ cleared ++ rest
-    → new.packets ≡ old.packets + records.count → new.read ≡ old.read + (length new.window.items - length rest) → new.read ≤ most_bytes
+pub front_advanced : {J : Type 0} (Became : J → List PacketFacts → J → Type 0) (old : Walk J) (before after : Option (List ℕ))
+    (cleared front : List ℕ) (new : Walk J) → HaveFound old.order (ahead_of old) old.found
+    → HaveFollowed Became old.judges (packets_ahead old) new.judges
+    → (least : ℕ) → old.found.behind < least → HasRead before after front new.window.items least new.ended → cleared ≡ [] → front ≡ cleared ++ rest_of old
+    → HaveFound old.order new.window.items new.found
+    → new.packets ≡ old.packets + old.found.count → new.read ≡ old.read + (length new.window.items - old.found.behind) → new.read ≤ most_bytes
     → new.order ≡ old.order → new.from ≡ 0 → HasAdvanced Became old before after new
-front_advanced Became old before after records rest cleared front new all judged least more has_read empty filled packets size bound order begins =
-    let count = packets_count records.order records.count records.bytes.now in
+front_advanced Became old before after cleared front new all judged least more has_read empty filled found packets size bound order begins =
+    let rest = rest_of old in
+    let behind = rest_length old all in
+    let count = packets_count old.order old.found.count (ahead_of old) in
     let same : front ≡ rest = filled ∙ ap (λ (b : List ℕ). b ++ rest) empty in
     let appended : new.window.items ≡ rest ++ has_read.read = has_read.appended ∙ ap (λ (b : List ℕ). b ++ has_read.read) same in
     let longer : length new.window.items ≡ length rest + length has_read.read = ap length appended ∙ length-append rest has_read.read in
     let fronts : length front ≡ length rest = ap length same in
+    let whole : ahead_of new ≡ new.window.items = ap (λ n. drop n new.window.items) begins in
     record {
-      more = packets_of records;
+      more = packets_ahead old;
       rest = rest;
       read = has_read.read;
-      records = all;
+      records = all.records;
       judged = judged;
       count = omega arith;
       consumed = has_read.consumed;
-      ahead = ap (λ n. drop n new.window.items) begins ∙ appended;
+      ahead = whole ∙ appended;
       size = omega arith;
       bound = bound;
       order = order;
       within = omega arith;
+      found = subst (λ (o : Order). HaveFound o (ahead_of new) new.found) (sym order)
+          (subst (λ (b : List ℕ). HaveFound old.order b new.found) (sym whole) found);
       ended = λ e. (has_read.ended e).0;
       goes_on = λ e. let enough = (has_read.enough e).0 in omega arith;
     }
@@ -121,6 +152,7 @@ module _ {J : Type 0} (Became : J → List PacketFacts → J → Type 0) (first 
         stand = amid.stand;
         count = amid.count;
         within = amid.within;
+        found = amid.found;
         few = let e = amid.size in let f = amid.count in omega arith;
         bound = amid.bound;
       }
@@ -168,6 +200,7 @@ module _ {J : Type 0} (Became : J → List PacketFacts → J → Type 0) (first 
         bound = step.bound;
         order = step.order ∙ amid.order;
         within = step.within;
+        found = step.found;
         ended = step.ended;
       }
 
@@ -233,9 +266,9 @@ module _ {J : Type 0} (Became : J → List PacketFacts → J → Type 0) (first 
 
 -- a walk begins amid the capture
 pub amid_begun : {J : Type 0} (Became : J → List PacketFacts → J → Type 0) (opening : Opening) (before : Option (List ℕ)) (walk : Walk J)
-    → MayStream Became walk.judges opening → walk.order ≡ opening.order → walk.window ≡ opening.bytes → walk.from ≡ opening.from
+    → MayStream Became walk.judges opening → HaveFound walk.order (ahead_of walk) walk.found → walk.order ≡ opening.order → walk.window ≡ opening.bytes → walk.from ≡ opening.from
     → walk.packets ≡ 0 → walk.read ≡ length opening.bytes.items → walk.ended ≡ false → IsAmid Became walk.judges opening before before walk
-amid_begun Became opening before walk may order window begins none read on =
+amid_begun Became opening before walk may found order window begins none read on =
     let bytes = opening.bytes.items in
     let same : walk.window.items ≡ bytes = ap (λ (v : Vec ℕ Global). v.items) window in
     let ahead : records_in opening [] ≡ ahead_of walk =
@@ -251,5 +284,6 @@ amid_begun Became opening before walk may order window begins none read on =
       bound = let few = may.few in omega arith;
       order = order;
       within = let within = may.within in let size = ap length same in omega arith;
+      found = found;
       ended = λ e. cc;
     }

@@ -5,8 +5,8 @@ ghost use Rattle.capture_stream.specs.Streams.{HasStreamed, IsStreamFault, MaySt
 ghost use Rattle.capture_stream.specs.inner.Walks.{HasAdvanced, HasEnded, IsLastFault, IsWindowFault, MayAdvance};
 
 use crate::judges::Judges;
-use crate::window::{bytes_beside, judge_and_read};
-use packet_view::{Front, Order, Packets, Stop, front_records};
+use crate::window::{Found, NextWindow, bytes_beside, find_records, judge_and_read};
+use packet_view::{Order, Packets, Records, Stop};
 use racl_io::{Fault, MOST_BYTES, Source, drain};
 use std::alloc::Global;
 use std::thread::Threads;
@@ -38,6 +38,8 @@ struct Walk<J> {
     /// The bytes that were read and not judged, from place `from` on.
     window: Vec<u8>,
     from: usize,
+    /// The records among them.
+    found: Found,
     /// Room for the next window.
     spare: Vec<u8>,
     /// How many packets were judged.
@@ -64,27 +66,31 @@ fn next_window<J: Judges + Drop, T: Threads, R: Source + Send>(
         order,
         window,
         from,
+        found,
         mut spare,
         packets,
         read,
         ..
     } = walk;
-    let Front {
-        records,
-        rest,
+    let Found {
+        count,
+        behind,
         stop,
-    } = front_records(&window[from..], order);
+    } = found;
     if matches!(stop, Stop::TooLong) {
         drain(reader, read)?;
-        return Err(Fault::LongRecord((packets + records.count) as u64 + 1));
+        return Err(Fault::LongRecord((packets + count) as u64 + 1));
     }
     spare.clear();
-    spare.extend_from_slice(rest)?;
-    let behind = rest.len();
-    let count = records.count;
-    let least = behind + bytes_beside(window.len());
-    let (judged, ended) = judge_and_read(rt, judges, records, reader, &mut spare, least);
-    let ended = ended?;
+    spare.extend_from_slice(&window[window.len() - behind..])?;
+    let records = Records {
+        bytes: &window[from..],
+        order,
+        count,
+    };
+    let least = behind + bytes_beside(read);
+    let (judged, next) = judge_and_read(rt, judges, records, reader, &mut spare, least);
+    let NextWindow { found, ended } = next?;
     let judges = judged?;
     let read = read + (spare.len() - behind);
     if read > MOST_BYTES {
@@ -95,6 +101,7 @@ fn next_window<J: Judges + Drop, T: Threads, R: Source + Send>(
         order,
         window: spare,
         from: 0,
+        found,
         spare: window,
         packets: packets + count,
         read,
@@ -112,14 +119,19 @@ fn last_window<J: Judges + Drop>(walk: Walk<J>) -> Result<Streamed<J>, Fault>
         order,
         window,
         from,
+        found,
         packets,
         ..
     } = walk;
-    let Front { records, stop, .. } = front_records(&window[from..], order);
-    let truncated = match stop {
+    let truncated = match found.stop {
         Stop::End => false,
         Stop::Truncated => true,
-        Stop::TooLong => return Err(Fault::LongRecord((packets + records.count) as u64 + 1)),
+        Stop::TooLong => return Err(Fault::LongRecord((packets + found.count) as u64 + 1)),
+    };
+    let records = Records {
+        bytes: &window[from..],
+        order,
+        count: found.count,
     };
     let judges = judges.judge(Packets::Standing(records))?;
     Ok(Streamed { judges, truncated })
@@ -141,11 +153,13 @@ pub fn judge_stream<J: Judges + Drop, T: Threads, R: Source + Send>(
 {
     let Opening { bytes, from, order } = opening;
     let read = bytes.len();
+    let found = find_records(&bytes[from..], order);
     let mut walk = Walk {
         judges,
         order,
         window: bytes,
         from,
+        found,
         spare: Vec::new(alloc),
         packets: 0,
         read,

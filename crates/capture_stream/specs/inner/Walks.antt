@@ -2,11 +2,13 @@
 use Rattle.std.specs.Prelude.{◌≡◌, ◌+◌, ◌<◌, ◌≤◌, ◌++◌, ℕ, true, false, List, Option, drop, length, ⊤}
 use Rattle.std.specs.Io.KnownBytes.{Consumes, IsAtEnd}
 use Rattle.packet_view.specs.Captures.{AreRecords, IsEnd, IsTooLong, PacketFacts, end_of}
+use Rattle.packet_view.specs.RecordLists.{packets_in}
 use Rattle.racl_io.specs.declared.fault.Fault.{Fault}
 use Rattle.racl_io.specs.declared.fault.Fault.TheVariants.{LongRecord, Memory, Read, TooLarge}
 use Rattle.racl_io.specs.Inputs.{most_bytes}
 use Rattle.capture_stream.specs.Judging.{HaveFollowed}
 use Rattle.capture_stream.specs.Streams.{records_in}
+use Rattle.capture_stream.specs.inner.Found.{HaveFound, behind_of}
 use Rattle.capture_stream.specs.declared.stream.Opening.{Opening}
 use Rattle.capture_stream.specs.declared.stream.Streamed.{Streamed}
 use Rattle.capture_stream.specs.declared.stream.Walk.{Walk}
@@ -15,13 +17,21 @@ use Rattle.capture_stream.specs.declared.stream.Walk.{Walk}
 abbrev pub ahead_of : {J : Type 0} → Walk J → List ℕ
 ahead_of walk = drop walk.from walk.window.items
 
--- where a walk may go on from: no more packets were judged than bytes were read before those ahead
+-- the packets of the whole records there, and the bytes behind them
+abbrev pub packets_ahead : {J : Type 0} → Walk J → List PacketFacts
+packets_ahead walk = packets_in walk.order walk.found.count (ahead_of walk)
+
+abbrev pub rest_of : {J : Type 0} → Walk J → List ℕ
+rest_of walk = behind_of (ahead_of walk) walk.found
+
+-- where a walk may go on from: the records ahead are found, and no more packets were judged than bytes were read before those ahead
 pub record MayAdvance {J : Type 0} (Became : J → List PacketFacts → J → Type 0) (walk : Walk J) : Type 0 where
   pub begun : J
   pub packets : List PacketFacts
   pub stand : Became begun packets walk.judges
   pub count : walk.packets ≡ length packets
   pub within : walk.from ≤ length walk.window.items
+  pub found : HaveFound walk.order (ahead_of walk) walk.found
   pub few : walk.packets + length (ahead_of walk) ≤ walk.read
   pub bound : walk.read ≤ most_bytes
 
@@ -40,6 +50,7 @@ pub record HasAdvanced {J : Type 0} (Became : J → List PacketFacts → J → T
   pub bound : new.read ≤ most_bytes
   pub order : new.order ≡ old.order
   pub within : new.from ≤ length new.window.items
+  pub found : HaveFound new.order (ahead_of new) new.found
   pub ended : new.ended ≡ true → IsAtEnd after
   pub goes_on : new.ended ≡ false → old.read < new.read
 
@@ -90,4 +101,5 @@ pub record IsAmid {J : Type 0} (Became : J → List PacketFacts → J → Type 0
   pub bound : walk.read ≤ most_bytes
   pub order : walk.order ≡ opening.order
   pub within : walk.from ≤ length walk.window.items
+  pub found : HaveFound walk.order (ahead_of walk) walk.found
   pub ended : walk.ended ≡ true → IsAtEnd now

@@ -1,12 +1,16 @@
-use Rattle.std.proofs.Common.{◌≡◌, ◌∙◌, length, refl}
+use Rattle.std.proofs.Common.{◌≡◌, ◌∙◌, length, refl, subst}
 use Rattle.std.proofs.lemmas.Result.{MatchResult-weaker, err_from_is_err_and}
-use Rattle.capture_stream.proofs.WalkLemmas.{amid_advanced, amid_begun, amid_ended, amid_fault, amid_last_fault, amid_may}
+use Rattle.capture_stream.specs.inner.Found.{HaveFound}
+use Rattle.capture_stream.proofs.WalkLemmas.{amid_advanced, amid_begun, amid_ended, amid_fault, amid_last_fault, amid_may, part_from}
 use Rattle.capture_stream.proofs.stream.judge_stream.Goals as goal
 
 pub windows-init : goal.windows-init
 windows-init g c =
     let len : c.len-read.result ≡ length c.args.opening.bytes.items = c.len-read.ensures ∙ c.args.opening.bytes.ok.0 in
-    record { amid = amid_begun _ c.args.opening _ _ c.requires.may refl refl refl refl len refl; sound = refl }
+    let opening = c.args.opening in
+    let ahead = part_from c.deref.result.now opening.bytes.items opening.from c.deref.ensures.value in
+    let found = subst (λ b. HaveFound opening.order b c.find_records-found.result) ahead c.find_records-found.ensures in
+    record { amid = amid_begun _ opening _ _ c.requires.may found refl refl refl refl len refl; sound = refl }
 
 pub next_window-requires-clause-may : goal.next_window-requires-clause-may
 next_window-requires-clause-may g c κs within = amid_may _ c.args.judges c.args.opening _ c.requires.may.within _ c.windows.walk c.windows.invariant.amid
