@@ -3,3 +3,4 @@ pub mod Faults
 pub mod Inputs
 pub mod Reports
 pub mod Transfers
+pub mod inner

@@ -2,6 +2,7 @@
 //! faults.
 #![tactic(auto)]
 
+mod beside;
 mod content;
 mod device;
 mod fault;

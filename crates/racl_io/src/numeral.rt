@@ -72,12 +72,12 @@ impl Model for Counter {
 }
 
 impl Counter {
-    pub fn new() -> Counter
-        ensures { result ≡ 0 }
+    pub fn at(number: u64) -> Counter
+        ensures { result ≡ number }
     {
         Counter {
-            tens: Numeral::of(0),
-            last: 0,
+            tens: Numeral::of(number / 10),
+            last: (number % 10) as u8,
         }
     }
 

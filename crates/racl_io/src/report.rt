@@ -1,10 +1,12 @@
 //! The report on a capture, written in pieces.
-ghost use Rattle.std.specs.Prelude.{◌≡◌, ◌≢◌, ◌+◌, ◌-◌, ◌<◌, ◌≤◌, ◌^◌, ◌++◌, ◌⊎◌, ◌↔◌, [], IfOk, IfErr, OnOk, OnErr, Err, codes, length, decimal};
+ghost use Rattle.std.specs.Prelude.{◌≡◌, ◌≢◌, ◌+◌, ◌-◌, ◌*◌, ◌<◌, ◌≤◌, ◌^◌, ◌++◌, ◌⊎◌, ◌↔◌, [], IfOk, IfErr, OnOk, OnErr, Err, codes, length, decimal};
 ghost use Rattle.std.specs.Io.KnownBytes.{Appends};
 ghost use Rattle.racl_io.specs.Reports;
 ghost use Rattle.racl_io.specs.Reports.{text_of, line_of, lines_from, report_of, totals_of, totals_line, truncation_line};
+ghost use Rattle.racl_io.specs.inner.Lines.{HasWritten};
 ghost use Rattle.racl_io.specs.declared.fault.Fault.TheVariants.{Memory, Write};
 
+use crate::beside::{Lines, MOST_LINES, write_beside};
 use crate::device::Sink;
 use crate::fault::Fault;
 use crate::numeral::{Counter, Numeral};
@@ -12,9 +14,13 @@ use crate::piece::Piece;
 use crate::transfer::write_all;
 use flow_filter::Verdict;
 use std::alloc::Global;
+use std::thread::Threads;
 
 /// How many packets have their lines in one piece. A line has at most 72 bytes.
-const LINES: usize = 3600;
+pub const LINES: usize = 3600;
+
+/// From how many packets on it pays to make lines in several threads.
+const FEW_LINES: usize = 262_144;
 
 /// How many packets were judged, and what became of them.
 #[derive(Clone, Copy, Debug, PartialEq, Eq)]
@@ -84,13 +90,14 @@ fn push_line(piece: &mut Piece, number: &Counter, verdict: Verdict)
 }
 
 /// The lines of the packets after the counted ones, and how many of them pass.
-fn push_lines(piece: &mut Piece, number: &mut Counter, verdicts: &[Verdict]) -> u64
+pub fn push_lines(piece: &mut Piece, number: &mut Counter, verdicts: &[Verdict]) -> u64
     requires empty { piece.old ≡ [] }
     requires few { length verdicts.now ≤ 3600 }
     requires fits { number.old + length verdicts.now < 2 ^ 64 }
     ensures text { piece.new ≡ lines_from (number.old + 1) verdicts.now }
     ensures number { number.new ≡ number.old + length verdicts.now }
     ensures passed { result ≡ Reports.passed verdicts.now }
+    ensures short { length piece.new ≤ length verdicts.now * 72 }
 {
     let mut passed = 0;
     for verdict in verdicts {
@@ -104,19 +111,15 @@ fn push_lines(piece: &mut Piece, number: &mut Counter, verdicts: &[Verdict]) -> 
 }
 
 /// Writes the lines of all packets, and answers how many of them pass.
-fn write_lines<W: Sink>(
+pub fn write_lines<W: Sink>(
     writer: &mut W,
     piece: &mut Piece,
     verdicts: &[Verdict],
 ) -> Result<u64, Fault>
     requires { W.failures writer.old < 2 ^ 64 - 1 }
-    ensures whole { OnOk result (Appends (W.bytes writer.old) (W.bytes writer.new) (lines_from 1 verdicts.now)) }
-    ensures passed { IfOk result (λ n. n ≡ Reports.passed verdicts.now) }
-    ensures ok { OnOk result (W.failures writer.new ≡ W.failures writer.old) }
-    ensures failed { OnErr result (W.failures writer.new ≡ W.failures writer.old + 1) }
-    ensures fault { IfErr result (λ e. e ≡ Write) }
+    ensures { HasWritten W.bytes W.failures writer.old writer.new verdicts.now result }
 {
-    let mut number = Counter::new();
+    let mut number = Counter::at(0);
     let mut passed = 0;
     let mut rest = verdicts;
     while !rest.is_empty() {
@@ -127,6 +130,30 @@ fn write_lines<W: Sink>(
         rest = others;
     }
     Ok(passed)
+}
+
+// Writes the lines of all packets. Where they are many and threads can be made, few of them are made in this one:
+// writing takes it nearly as long as making them all would.
+fn write_packets<W: Sink, T: Threads>(
+    beside: Option<&T>,
+    alloc: Global,
+    writer: &mut W,
+    piece: &mut Piece,
+    verdicts: &[Verdict],
+) -> Result<u64, Fault>
+    requires { W.failures writer.old < 2 ^ 64 - 1 }
+    ensures { HasWritten W.bytes W.failures writer.old writer.new verdicts.now result }
+{
+    let Some(rt) = beside else {
+        return write_lines(writer, piece, verdicts);
+    };
+    if verdicts.len() < FEW_LINES || verdicts.len() > MOST_LINES {
+        return write_lines(writer, piece, verdicts);
+    }
+    let Ok(mut parts) = Lines::parts(alloc, verdicts.len()) else {
+        return write_lines(writer, piece, verdicts);
+    };
+    write_beside(rt, writer, piece, &mut parts, verdicts)
 }
 
 fn push_end(piece: &mut Piece, totals: &Totals)
@@ -149,8 +176,10 @@ fn push_end(piece: &mut Piece, totals: &Totals)
 }
 
 /// Writes the report of the verdicts in the order of their packets, in pieces whose room is asked for before the first
-/// of them is written.
-pub fn write_report<W: Sink>(
+/// of them is written. Where they are many and threads can be made `beside` this one, the last lines are made in three
+/// of these while the first are written.
+pub fn write_report<W: Sink, T: Threads>(
+    beside: Option<&T>,
     alloc: Global,
     writer: &mut W,
     verdicts: &[Verdict],
@@ -166,7 +195,7 @@ pub fn write_report<W: Sink>(
 {
     let mut piece = Piece::new(alloc)?;
     let packets = verdicts.len() as u64;
-    let passed = write_lines(writer, &mut piece, verdicts)?;
+    let passed = write_packets(beside, alloc, writer, &mut piece, verdicts)?;
     let totals = Totals {
         packets,
         passed,

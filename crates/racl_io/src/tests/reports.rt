@@ -38,7 +38,7 @@ truncated after 11
 packets 11 pass 4 drop 7
 ";
     let mut writer = Device::new(Vec::new(rt.alloc()));
-    let totals = write_report(rt.alloc(), &mut writer, &verdicts, true)?;
+    let totals = write_report(Some(&rt), rt.alloc(), &mut writer, &verdicts, true)?;
     assert_eq!(rt; writer.inner.as_slice(), lines.as_bytes());
     assert_eq!(rt; (totals.packets, totals.passed, totals.dropped), (11, 4, 7));
     assert!(rt; totals.truncated);
@@ -90,7 +90,7 @@ fn pieces(rt: HostRuntime) -> Result<(), Fail> {
             taken: 0,
             failures: 0,
         };
-        let outcome = write_report(alloc, &mut writer, &verdicts, false);
+        let outcome = write_report(Some(&rt), alloc, &mut writer, &verdicts, false);
         assert_eq!(rt; outcome.err(), Some(Fault::Write), "after {writes} writes");
         assert!(rt; writer.taken < lines + end);
     }
@@ -99,8 +99,29 @@ fn pieces(rt: HostRuntime) -> Result<(), Fail> {
         taken: 0,
         failures: 0,
     };
-    let totals = write_report(alloc, &mut writer, &verdicts, false)?;
+    let totals = write_report(Some(&rt), alloc, &mut writer, &verdicts, false)?;
     assert_eq!(rt; (totals.packets, totals.dropped), (8000, 8000));
     assert_eq!(rt; writer.taken, lines + end);
+    Ok(())
+}
+
+#[test]
+fn lines_beside_others(rt: HostRuntime) -> Result<(), Fail> {
+    let alloc = rt.alloc();
+    let mut verdicts = Vec::new(alloc);
+    let mut lines = String::new(alloc);
+    for number in 1..135_001u32 {
+        let rule = (number % 4096) as u16;
+        verdicts.push(Verdict::Permit(rule))?;
+        verdicts.push(Verdict::Short)?;
+        let (first, second) = (2 * number - 1, 2 * number);
+        let both = format!(in alloc; "{first} pass rule {rule}\n{second} drop short\n")?;
+        lines.push_str(both.as_str())?;
+    }
+    lines.push_str("packets 270000 pass 135000 drop 135000\n")?;
+    let mut writer = Device::new(Vec::new(alloc));
+    let totals = write_report(Some(&rt), alloc, &mut writer, &verdicts, false)?;
+    assert_eq!(rt; (totals.packets, totals.passed), (270_000, 135_000));
+    assert_eq!(rt; writer.inner.as_slice(), lines.as_bytes());
     Ok(())
 }
