@@ -74,26 +74,35 @@ module _ {A B R G K L : Type 0} (ga : Ghosts A K) (gb : Ghosts B L) (run : Run A
   worked_to w first last other old new same = subst (λ n. HasWorkedOn ga gb run w first n old new) same
 
   -- the worker passes by a packet of another
+  pub passed_by : (w at other : ℕ) (packet : PacketFacts) (share : Share A B K L ga gb)
+      → slice_get (held run.packets) at ≡ Some packet
+      → IsDealtTo ga gb (dealer_of run.setup) (run.first + at) packet.frame other → other ≢ w
+      → AreIdle ga gb run.setup.tables.now share.callers → HasWorkedOn ga gb run w at (at + 1) share share
+  passed_by w at other packet share there dealt differ idle =
+      let own = run.setup.filter.own in
+      record {
+        idle = idle;
+        work = λ all among v done. one_more _ w run.first at v _ _
+            (work_passed _ _ _ _ _ _ packet (view_of packet.frame own)
+            (record {
+              stands = stands_among all among at packet there;
+              shown = view_shown packet.frame own;
+              only = view_only packet.frame own;
+            })
+            (λ same. differ (dealt _ (view_shown packet.frame own) ∙ same))
+            done);
+      }
+
+  -- the same in a part
   pub worked_past : (w first k : ℕ) (part : DealtPart) (packet : PacketFacts) (behind : List PacketFacts)
       (share : Share A B K L ga gb) → IsPartOf ga gb run first part → k < length part.workers.items
       → drop (first + k) (held run.packets) ≡ packet ∷ behind → slice_index part.workers.items k ≢ w
       → AreIdle ga gb run.setup.tables.now share.callers
       → HasWorkedOn ga gb run w (first + k) (first + k + 1) share share
   worked_past w first k part packet behind share is below here other idle =
-      let own = run.setup.filter.own in
-      record {
-        idle = idle;
-        work = λ all among v done. one_more _ w run.first (first + k) v _ _
-            (work_passed _ _ _ _ _ _ packet (view_of packet.frame own)
-            (record {
-              stands = stands_among all among (first + k) packet
-                  (stands_at (held run.packets) behind (first + k) packet here);
-              shown = view_shown packet.frame own;
-              only = view_only packet.frame own;
-            })
-            (λ same. other (part_mine first k part packet behind is below here _ (view_shown packet.frame own) ∙ same))
-            done);
-      }
+      passed_by w (first + k) (slice_index part.workers.items k) packet share
+      (stands_at (held run.packets) behind (first + k) packet here)
+      (part_mine first k part packet behind is below here) other idle
 
   -- ---- All parts
 

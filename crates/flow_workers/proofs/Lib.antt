@@ -6,6 +6,7 @@ pub mod PartLemmas
 pub mod PlacingLemmas
 pub mod RestLemmas
 pub mod ShortPackets
+pub mod TogetherLemmas
 pub mod TurnLemmas
 pub mod ViewedPacketLemmas
 pub mod WorkSteps

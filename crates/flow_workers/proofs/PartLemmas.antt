@@ -1,5 +1,5 @@
 -- Parts of the workers' shares.
-use Rattle.std.proofs.Common.{◌≡◌, ◌≤◌, ◌≢◌, ◌∙◌, ◌+◌, ◌<◌, ℕ, zero, suc, List, [], ◌∷◌, ◌++◌, append-nil, get_or, length, map, ap, arith, refl, sym, subst}
+use Rattle.std.proofs.Common.{◌≡◌, ◌≤◌, ◌∙◌, ◌+◌, ◌<◌, ℕ, zero, suc, List, [], ◌∷◌, ◌++◌, append-nil, get_or, length, map, ap, arith, refl, sym, subst}
 use Rattle.std.specs.Global.{Vec}
 use Rattle.std.specs.List.{All, AllZip}
 use Rattle.std.proofs.lemmas.List.{map-append}
@@ -138,12 +138,11 @@ module _ {A B K L : Type 0} (ga : Ghosts A K) (gb : Ghosts B L) (tables : Tables
   -- what all workers said, with the worker of each packet
   pub all_said : (judges : List ℕ) (parts : Parts A B K L ga gb) (p : AreParts ga gb tables run parts)
       → 0 < run.deal.workers → run.deal.workers ≤ 16 → run.deal.layout ≡ layout_of ga gb
-      → (run.deal.workers ≢ 1 → (length judges ≡ length run.packets)
-      × AreWorkers ga gb (dealer_by run) 0 judges run.packets)
+      → (length judges ≡ length run.packets) × AreWorkers ga gb (dealer_by run) 0 judges run.packets
       → AreAllSaid run p.traces parts.said.items judges
   all_said judges parts p some_worker few layout are = record {
     told = record { some_worker = some_worker; few = few; traced = p.traced; said = p.said };
-    judges = λ several. all_judges ga gb run layout judges (are several).0 (are several).1;
+    judges = all_judges ga gb run layout judges are.0 are.1;
   }
 
   -- the callers of a family's table, joined

@@ -1,5 +1,5 @@
 -- Workers between parts of the packets.
-use Rattle.std.proofs.Common.{◌≡◌, ◌≢◌, ◌⊎◌, ◌∙◌, ◌+◌, ◌-◌, ◌<◌, ◌≤◌, ◌^◌, ℕ, zero, suc, List, [], ◌∷◌, ◌++◌, ap, append_assoc, drop, length, get_or, slice_get, refl, subst, sym, arith, inl, inr}
+use Rattle.std.proofs.Common.{◌≡◌, ◌⊎◌, ◌∙◌, ◌+◌, ◌-◌, ◌<◌, ◌≤◌, ◌^◌, ℕ, zero, suc, List, [], ◌∷◌, ◌++◌, ap, append_assoc, drop, length, get_or, slice_get, refl, subst, sym, arith, inl, inr}
 use Rattle.std.specs.Global.{Vec}
 use Rattle.std.specs.Prelude.{slice_index}
 use Rattle.std.proofs.lemmas.List.{get_or_append_left, get_or-append_right, length-append, length-drop}
@@ -26,7 +26,8 @@ use Rattle.flow_workers.specs.declared.workers.Workers.{Workers}
 use Rattle.flow_workers.specs.Progress.{AreAtRest, HaveSaid, IsAtRest}
 use Rattle.flow_workers.specs.inner.Jobs.{HasDone, HasWorked, StandAmong, dealer_of, run_facts}
 use Rattle.flow_workers.specs.inner.Shares.{IsUnused, workers_in}
-use Rattle.flow_workers.specs.inner.Turns.{HaveWorked, MayRun}
+use Rattle.flow_workers.specs.inner.Together.{HaveNoted, HaveRun}
+use Rattle.flow_workers.specs.inner.Turns.{MayRun}
 use Rattle.flow_workers.specs.inner.Work.{IsWorkUntil}
 use Rattle.flow_workers.proofs.DealtLemmas.{front_only}
 use Rattle.flow_workers.proofs.WorkSteps.{work_none}
@@ -91,23 +92,33 @@ module _ {A B K L : Type 0} (ga : Ghosts A K) (gb : Ghosts B L) (dealer : Dealer
     each = λ k packet below there. are.each k packet below (sym (front_only packets more k (omega arith)) ∙ there);
   }
 
-  pub workers_noted : (judges new : List ℕ) (parts : List DealtPart) (packets more : List PacketFacts)
+  -- packets that were dealt are noted with their workers
+  pub dealt_noted : (first : ℕ) (parts : List DealtPart) (packets : List PacketFacts) (old new : List ℕ)
+      → AreDealt ga gb dealer first parts packets → new ≡ old ++ workers_in parts
+      → HaveNoted ga gb dealer first packets old new
+  dealt_noted first parts packets old new dealt is = let d = workers_dealt first parts packets dealt in record {
+    workers = workers_in parts;
+    noted = is;
+    are = d.0;
+    many = d.1;
+  }
+
+  pub workers_noted : (judges new : List ℕ) (packets more : List PacketFacts)
       → length judges ≡ length packets → AreWorkers ga gb dealer 0 judges packets
-      → AreDealt ga gb dealer (length packets) parts more → new ≡ judges ++ workers_in parts
+      → HaveNoted ga gb dealer (length packets) more judges new
       → (length new ≡ length (packets ++ more)) × AreWorkers ga gb dealer 0 new (packets ++ more)
-  workers_noted judges new parts packets more count are dealt is =
-      let d = workers_dealt (length packets) parts more dealt in (
-        let e = ap length is ∙ length-append judges (workers_in parts) in let f = length-append packets more in
-            let g = d.1 in omega arith,
-        subst (λ ws. AreWorkers ga gb dealer 0 ws (packets ++ more)) (sym is)
-            (workers_joined 0 judges (workers_in parts) (packets ++ more) (workers_before judges packets more count are)
-            (subst (λ n. AreWorkers ga gb dealer n (workers_in parts) (drop (length judges) (packets ++ more)))
-            (let e : length packets ≡ 0 + length judges = omega arith in e)
-            (subst (λ n. AreWorkers ga gb dealer (length packets) (workers_in parts) (drop n (packets ++ more)))
-            (sym count)
-            (subst (AreWorkers ga gb dealer (length packets) (workers_in parts))
-            (sym (drop-append_seam packets more)) d.0)))),
-      )
+  workers_noted judges new packets more count are noted = (
+    let e = ap length noted.noted ∙ length-append judges noted.workers in let f = length-append packets more in
+        let g = noted.many in omega arith,
+    subst (λ ws. AreWorkers ga gb dealer 0 ws (packets ++ more)) (sym noted.noted)
+        (workers_joined 0 judges noted.workers (packets ++ more) (workers_before judges packets more count are)
+        (subst (λ n. AreWorkers ga gb dealer n noted.workers (drop (length judges) (packets ++ more)))
+        (let e : length packets ≡ 0 + length judges = omega arith in e)
+        (subst (λ n. AreWorkers ga gb dealer (length packets) noted.workers (drop n (packets ++ more)))
+        (sym count)
+        (subst (AreWorkers ga gb dealer (length packets) noted.workers)
+        (sym (drop-append_seam packets more)) noted.are)))),
+  )
 
 -- ---- One worker
 
@@ -154,46 +165,40 @@ module _ {A B R G K L : Type 0} (ga : Ghosts A K) (gb : Ghosts B L) (setup : Set
 module _ {A B R G K L : Type 0} (ga : Ghosts A K) (gb : Ghosts B L) (old : Workers A B R G K L ga gb)
     (packets : List PacketFacts) (rest : AreAtRest packets old) (run : Run A B R G K L) (same : run.setup ≡ old.setup)
     (first : run.first ≡ old.count) where
-  pub may_run : length packets + length (held run.packets) < 2 ^ 64
-      → (old.setup.workers ≢ 1
-      → AreDealt ga gb (dealer_of old.setup) old.count run.dealt.now.items (held run.packets))
-      → MayRun run old.shares.items
-  may_run fits dealt = record {
+  pub may_run : length packets + length (held run.packets) < 2 ^ 64 → MayRun run old.shares.items
+  may_run fits = record {
     shapes = rest.sound.shapes;
+    some = subst (λ (s : Setup A B R G K L). 1 ≤ s.workers) (sym same) rest.sound.some;
+    few = subst (λ (s : Setup A B R G K L). s.workers ≤ 16) (sym same) rest.sound.few;
     count = rest.shares ∙ sym (ap (λ (s : Setup A B R G K L). s.workers) same);
     fits = let counted = rest.count in omega arith;
     idle = λ i d inside. subst (λ (s : Setup A B R G K L). AreIdle ga gb s.tables.now
         (get_or old.shares.items i d).callers) (sym same)
         (rest.each i d (subst (λ n. i < n) rest.shares inside)).idle;
-    dealt = λ several.
-        subst (λ n. AreDealt ga gb (dealer_of run.setup) n run.dealt.now.items (held run.packets))
-        (let e : old.count ≡ run.first + 0 = omega arith in e)
-        (subst (λ (s : Setup A B R G K L). AreDealt ga gb (dealer_of s) old.count run.dealt.now.items
-        (held run.packets)) (sym same)
-        (dealt (λ one. several (ap (λ (s : Setup A B R G K L). s.workers) same ∙ one))));
   }
 
-  pub rest_more : (shares : Vec (Share A B K L ga gb)) (judges : Vec ℕ) (count : ℕ) (parts : List DealtPart)
-      → HaveWorked run old.shares.items shares.items → count ≡ old.count + length (held run.packets)
-      → (old.setup.workers ≢ 1 → AreDealt ga gb (dealer_of old.setup) old.count parts (held run.packets))
-      → judges.items ≡ old.judges.items ++ workers_in parts
+  pub rest_more : (shares : Vec (Share A B K L ga gb)) (judges : Vec ℕ) (count : ℕ)
+      → HaveRun run old.shares.items shares.items old.judges.items judges.items
+      → count ≡ old.count + length (held run.packets)
       → AreAtRest (packets ++ held run.packets)
       (record { setup = old.setup; shares = shares; judges = judges; count = count })
-  rest_more shares judges count parts worked counted dealt noted = record {
-    sound = rest.sound;
-    count = let e = rest.count in let n = length-append packets (held run.packets) in omega arith;
-    shares = worked.count ∙ rest.shares;
-    each = λ i d inside. rest_judged ga gb old.setup packets run i (get_or old.shares.items i d)
-        (get_or shares.items i d) same (first ∙ rest.count) (rest.each i d inside)
-        (worked.each i d d (subst (λ n. i < n) (sym rest.shares) inside));
-    noted = λ several.
-        let before = rest.noted several in
-        let are =
-        workers_noted ga gb (dealer_of old.setup) old.judges.items judges.items parts packets (held run.packets)
-        before.count before.workers
-        (subst (λ n. AreDealt ga gb (dealer_of old.setup) n parts (held run.packets)) rest.count (dealt several)) noted in
-        record { count = are.0; workers = are.1 };
-  }
+  rest_more shares judges count ran counted =
+      let are =
+      workers_noted ga gb (dealer_of old.setup) old.judges.items judges.items packets (held run.packets)
+      rest.noted.count rest.noted.workers
+      (subst (λ n. HaveNoted ga gb (dealer_of old.setup) n (held run.packets) old.judges.items judges.items)
+      (first ∙ rest.count)
+      (subst (λ (s : Setup A B R G K L). HaveNoted ga gb (dealer_of s) run.first (held run.packets) old.judges.items
+      judges.items) same ran.noted)) in
+      record {
+        sound = rest.sound;
+        count = let e = rest.count in let n = length-append packets (held run.packets) in omega arith;
+        shares = ran.worked.count ∙ rest.shares;
+        each = λ i d inside. rest_judged ga gb old.setup packets run i (get_or old.shares.items i d)
+            (get_or shares.items i d) same (first ∙ rest.count) (rest.each i d inside)
+            (ran.worked.each i d d (subst (λ n. i < n) (sym rest.shares) inside));
+        noted = record { count = are.0; workers = are.1 };
+      }
 
 abbrev deal_of : {A B R G K L : Type 0} (ga : Ghosts A K) (gb : Ghosts B L) → Setup A B R G K L → Deal
 deal_of ga gb setup = record { layout = layout_of ga gb; dealing = setup.dealing; workers = setup.workers }

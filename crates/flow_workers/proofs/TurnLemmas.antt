@@ -11,6 +11,7 @@ use Rattle.bihash_steps.specs.declared.view.View.{View}
 use Rattle.bihash_steps.proofs.Lists.{there}
 use Rattle.session_state.specs.declared.timeouts.Timeouts.{Timeouts}
 use Rattle.flow_dealing.specs.Traces.{HasCalls, HaveTraces, Item, calls_in}
+use Rattle.flow_workers.specs.declared.share.Dealt.{Dealt}
 use Rattle.flow_workers.specs.declared.share.Job.{Job}
 use Rattle.flow_workers.specs.declared.share.Run.{Run}
 use Rattle.flow_workers.specs.declared.share.Share.{Share}
@@ -18,7 +19,7 @@ use Rattle.flow_workers.specs.declared.turn.Turn.{Turn}
 use Rattle.flow_workers.specs.declared.turn.Turn.TheVariants.{Ahead, Over}
 use Rattle.flow_workers.specs.inner.Fresh.{IsFresh}
 use Rattle.flow_workers.specs.inner.Work.{Continues}
-use Rattle.flow_workers.specs.inner.Jobs.{CanWork}
+use Rattle.flow_workers.specs.inner.Jobs.{AreDealtFrom, CanWork}
 use Rattle.flow_workers.specs.inner.Turns.{AreAhead, AreTurns, Becomes, CanTake, HaveWorked, IsPast, MayRun}
 
 -- a fact of each element, when one more comes
@@ -54,21 +55,22 @@ fresh_trace times family v w t fresh goes = let r = goes.calls (empty_record fre
 
 -- ---- Turns, ahead and over
 
-module _ {A B R G K L : Type 0} (ga : Ghosts A K) (gb : Ghosts B L) (run : Run A B R G K L) where
+module _ {A B R G K L : Type 0} (ga : Ghosts A K) (gb : Ghosts B L) (run : Run A B R G K L) (dealt : Dealt) where
   -- what this worker does
   abbrev job_of : ℕ → Share A B K L ga gb → Job A B R G K L ga gb
-  job_of i share = record { run = run; worker = i; share = share }
+  job_of i share = record { run = run; dealt = dealt; worker = i; share = share }
 
   abbrev turn_of : ℕ → Share A B K L ga gb → Turn A B R G K L ga gb
   turn_of i share = Ahead (job_of i share)
 
-  pub no_turns : AreTurns {ga = ga} {gb = gb} run [] []
+  pub no_turns : AreTurns {ga = ga} {gb = gb} run dealt [] []
   no_turns = record { count = refl; each = λ i d e inside. absurd (omega arith) }
 
   pub turns_push : (shares : List (Share A B K L ga gb)) (share : Share A B K L ga gb)
-      (turns longer : List (Turn A B R G K L ga gb)) (again : Run A B R G K L) (worker : ℕ) → AreTurns run shares turns
-      → longer ≡ turns ++ Ahead (record { run = again; worker = worker; share = share }) ∷ [] → again ≡ run
-      → worker ≡ length shares → AreTurns run (shares ++ share ∷ []) longer
+      (turns longer : List (Turn A B R G K L ga gb)) (again : Run A B R G K L) (worker : ℕ)
+      → AreTurns run dealt shares turns
+      → longer ≡ turns ++ Ahead (record { run = again; dealt = dealt; worker = worker; share = share }) ∷ [] → again ≡ run
+      → worker ≡ length shares → AreTurns run dealt (shares ++ share ∷ []) longer
   turns_push shares share turns longer again worker old is same last = record {
     count = let counted = old.count in let n = ap length is ∙ length-append turns (t ∷ []) in
         let m = length-append shares (share ∷ []) in omega arith;
@@ -80,32 +82,34 @@ module _ {A B R G K L : Type 0} (ga : Ghosts A K) (gb : Ghosts B L) (run : Run A
   }
     where
       t : Turn A B R G K L ga gb
-      t = Ahead (record { run = again; worker = worker; share = share })
+      t = Ahead (record { run = again; dealt = dealt; worker = worker; share = share })
 
       here : (e : Share A B K L ga gb) → t ≡ turn_of (length turns) (get_or (shares ++ share ∷ []) (length turns) e)
       here e =
-          ap (λ r. Ahead (record { run = r; worker = worker; share = share })) same
+          ap (λ r. Ahead (record { run = r; dealt = dealt; worker = worker; share = share })) same
           ∙ (ap (λ n. turn_of n share) (last ∙ sym old.count)
           ∙ ap (turn_of (length turns)) (sym (ap (λ n. get_or (shares ++ share ∷ []) n e) old.count
           ∙ get_or-append_seam shares share [] e)))
 
-module _ {A B R G K L : Type 0} (ga : Ghosts A K) (gb : Ghosts B L) (run : Run A B R G K L)
+module _ {A B R G K L : Type 0} (ga : Ghosts A K) (gb : Ghosts B L) (run : Run A B R G K L) (dealt : Dealt)
     (shares : List (Share A B K L ga gb)) (may : MayRun run shares) where
-  can_work : (i : ℕ) (d : Share A B K L ga gb) → i < length shares → CanWork ga gb (job_of ga gb run i (get_or shares i d))
-  can_work i d inside = record {
+  can_work : AreDealtFrom ga gb run 0 dealt.parts.now.items → (i : ℕ) (d : Share A B K L ga gb) → i < length shares
+      → CanWork ga gb (job_of ga gb run dealt i (get_or shares i d))
+  can_work are i d inside = record {
     shapes = may.shapes;
     few = subst (λ n. i < n) may.count inside;
     fits = may.fits;
     idle = may.idle i d inside;
-    dealt = may.dealt;
+    dealt = are;
   }
 
-  pub all_ahead : (turns : List (Turn A B R G K L ga gb)) → AreTurns run shares turns → AreAhead run shares turns
-  all_ahead turns are = record {
+  pub all_ahead : AreDealtFrom ga gb run 0 dealt.parts.now.items → (turns : List (Turn A B R G K L ga gb))
+      → AreTurns run dealt shares turns → AreAhead run dealt shares turns
+  all_ahead parts turns are = record {
     ready = all_each (CanTake ga gb) turns (λ i d inside.
         let few = subst (λ n. i < n) are.count inside in
         let s = there shares i few in
-        subst (CanTake ga gb) (sym (are.each i d s.0 few)) (can_work i s.0 few));
+        subst (CanTake ga gb) (sym (are.each i d s.0 few)) (can_work parts i s.0 few));
     are = are;
   }
 
@@ -116,18 +120,18 @@ module _ {A B R G K L : Type 0} (ga : Ghosts A K) (gb : Ghosts B L) (run : Run A
       past_of (Ahead other) became = became
       past_of (Over done) became = tt
 
-  pub all_past : (turns over : List (Turn A B R G K L ga gb)) → AreTurns run shares turns → length over ≡ length turns
+  pub all_past : (turns over : List (Turn A B R G K L ga gb)) → AreTurns run dealt shares turns → length over ≡ length turns
       → ((i : ℕ) (d e : Turn A B R G K L ga gb) → i < length turns → Becomes ga gb (get_or turns i e) (get_or over i d))
       → All (IsPast ga gb) over
   all_past turns over ahead count did = all_each (IsPast ga gb) over (λ i d inside.
       let some = subst (λ n. i < n) count inside in
       let few = subst (λ n. i < n) ahead.count some in
       let s = there shares i few in
-      past (get_or turns i d) (get_or over i d) (job_of ga gb run i (get_or shares i s.0)) (ahead.each i d s.0 few)
+      past (get_or turns i d) (get_or over i d) (job_of ga gb run dealt i (get_or shares i s.0)) (ahead.each i d s.0 few)
       (did i d d some))
 
   pub have_worked : (turns over : List (Turn A B R G K L ga gb)) (news : List (Share A B K L ga gb))
-      → AreTurns run shares turns → length over ≡ length turns
+      → AreTurns run dealt shares turns → length over ≡ length turns
       → ((i : ℕ) (d e : Turn A B R G K L ga gb) → i < length turns → Becomes ga gb (get_or turns i e) (get_or over i d))
       → over ≡ map (λ share. Over (Ok share)) news → HaveWorked run shares news
   have_worked turns over news ahead count did are = record {
@@ -138,7 +142,7 @@ module _ {A B R G K L : Type 0} (ga : Ghosts A K) (gb : Ghosts B L) (run : Run A
         let few = subst (λ n. i < n) (sym many) inside in
         let last : get_or over i ended ≡ Over (Ok (get_or news i e)) =
         ap (λ ts. get_or ts i ended) are ∙ get_or-map (λ share. Over (Ok share)) news i e ended few in
-        subst (Becomes ga gb (turn_of ga gb run i (get_or shares i d))) last
+        subst (Becomes ga gb (turn_of ga gb run dealt i (get_or shares i d))) last
         (subst (λ t. Becomes ga gb t (get_or over i ended)) (ahead.each i ended d inside) (did i ended ended some));
   }
     where

@@ -1,5 +1,5 @@
 -- What workers begin with, what they have after the packets that they judged so far, and what they say in the end.
-use Rattle.std.specs.Prelude.{◌≡◌, ◌≢◌, ◌≤◌, ◌<◌, ◌+◌, ◌++◌, ◌^◌, ℕ, List, [], length, slice_index_or}
+use Rattle.std.specs.Prelude.{◌≡◌, ◌≤◌, ◌<◌, ◌+◌, ◌++◌, ◌^◌, ℕ, List, [], length, slice_index_or}
 use Rattle.packet_view.specs.Captures.{PacketFacts}
 use Rattle.packet_view.specs.CheckedCaptures.{held}
 use Rattle.packet_view.specs.declared.packets.Packets.{Packets}
@@ -55,7 +55,7 @@ pub record AreAtRest {A B R G K L : Type 0} {ga : Ghosts A K} {gb : Ghosts B L} 
   pub shares : length all.shares.items ≡ all.setup.workers
   pub each : (i : ℕ) (d : Share A B K L ga gb) → i < all.setup.workers
       → IsAtRest ga gb all.setup packets i (slice_index_or all.shares.items i d)
-  pub noted : all.setup.workers ≢ 1 → AreNoted ga gb all.setup packets all.judges.items
+  pub noted : AreNoted ga gb all.setup packets all.judges.items
 
 -- workers of this setup that judged no packet
 pub record AreBegun {A B R G K L : Type 0} {ga : Ghosts A K} {gb : Ghosts B L} (setup : Setup A B R G K L)

@@ -6,6 +6,7 @@ pub mod Parts
 pub mod Placing
 pub mod Preparing
 pub mod Shares
+pub mod Together
 pub mod Turns
 pub mod Updates
 pub mod ViewedPackets

@@ -4,6 +4,7 @@
 mod gate;
 mod judging;
 mod numbers;
+mod part_runs;
 mod parts;
 mod placing;
 mod prepared;
@@ -12,6 +13,7 @@ mod runs;
 mod setup;
 mod share;
 mod tables;
+mod together;
 mod turn;
 mod turns;
 mod updates;

@@ -66,6 +66,7 @@ where
         tables: &tables,
         dealing,
         workers,
+        many: 0,
     };
     Workers::new(alloc, setup, callers)?
         .judge(alloc, packets)?

@@ -17,6 +17,8 @@ pub struct Setup<'t, A: Shape, B: Shape, R: Wait, G: Gate> {
     pub dealing: Dealing,
     /// How many workers there are.
     pub workers: usize,
+    /// From how many packets on that are judged at once each worker gets a thread of its own, where there are several.
+    pub many: usize,
 }
 
 impl<'t, A: Shape, B: Shape, R: Wait, G: Gate> Setup<'t, A, B, R, G> {
@@ -52,6 +54,7 @@ impl<'t, A: Shape, B: Shape, R: Wait, G: Gate> Setup<'t, A, B, R, G> {
             tables: self.tables,
             dealing: self.dealing,
             workers: self.workers,
+            many: self.many,
         }
     }
 }

@@ -9,15 +9,13 @@ use packet_dealing::DealtPart;
 use packet_view::Packets;
 use std::sync::Wait;
 
-/// Packets that follow each other, which all workers judge. A worker that is alone takes them from a copy of its own.
+/// Packets that follow each other, which all workers judge.
 #[derive(Drop)]
 pub struct Run<'t, 'a, A: Shape, B: Shape, R: Wait, G: Gate> {
     pub setup: Setup<'t, A, B, R, G>,
     /// The number of the first of these packets, from 0.
     pub first: usize,
     pub packets: Packets<'a>,
-    /// These packets with their workers, where there are several.
-    pub dealt: &'t Vec<DealtPart<'a>>,
 }
 
 impl<'t, 'a, A: Shape, B: Shape, R: Wait, G: Gate> Run<'t, 'a, A, B, R, G> {
@@ -31,15 +29,21 @@ impl<'t, 'a, A: Shape, B: Shape, R: Wait, G: Gate> Run<'t, 'a, A, B, R, G> {
             setup: self.setup.again(),
             first: self.first,
             packets: self.packets,
-            dealt: self.dealt,
         }
     }
+}
+
+/// The packets of a run with their workers, in parts.
+#[derive(Clone, Copy)]
+pub struct Dealt<'t, 'a> {
+    pub parts: &'t Vec<DealtPart<'a>>,
 }
 
 /// What a worker is given: its number, from 0, and its share so far.
 #[derive(Drop)]
 pub struct Job<'t, 'a, A: Shape, B: Shape, R: Wait, G: Gate> {
     pub run: Run<'t, 'a, A, B, R, G>,
+    pub dealt: Dealt<'t, 'a>,
     pub worker: usize,
     pub share: Share<A, B>,
 }

@@ -1,10 +1,11 @@
 //! The turns of all workers at packets.
 ghost use Rattle.std.specs.Prelude.{◌≡◌, ◌≤◌, All, IfOk, map, Ok};
 ghost use Rattle.flow_workers.specs.declared.turn.Turn.TheVariants.{Over};
+ghost use Rattle.flow_workers.specs.inner.Jobs.{AreDealtFrom};
 ghost use Rattle.flow_workers.specs.inner.Turns.{AreAhead, AreTurns, HaveWorked, IsPast, MayRun};
 
 use crate::gate::Gate;
-use crate::share::{Job, Run, Share};
+use crate::share::{Dealt, Job, Run, Share};
 use crate::turn::Turn;
 use bihash_words::Shape;
 use packet_dealing::run_all;
@@ -16,15 +17,17 @@ use std::thread::Threads;
 fn turns_of<'t, 'a, A: Shape, B: Shape, R: Wait, G: Gate>(
     alloc: Global,
     run: Run<'t, 'a, A, B, R, G>,
+    dealt: Dealt<'t, 'a>,
     shares: Vec<Share<A, B>>,
 ) -> Result<Vec<Turn<'t, 'a, A, B, R, G>>, AllocError>
-    ensures { IfOk result (λ v. AreTurns run.entry shares.items v.items) }
+    ensures { IfOk result (λ v. AreTurns run.entry dealt.entry shares.items v.items) }
 {
     let mut turns = Vec::with_capacity(alloc, shares.len())?;
     let mut worker = 0;
     for share in shares {
         turns.push(Turn::Ahead(Job {
             run: run.again(),
+            dealt,
             worker,
             share,
         }))?;
@@ -37,12 +40,14 @@ fn turns_of<'t, 'a, A: Shape, B: Shape, R: Wait, G: Gate>(
 fn turns_ahead<'t, 'a, A: Shape, B: Shape, R: Wait, G: Gate>(
     alloc: Global,
     run: Run<'t, 'a, A, B, R, G>,
+    dealt: Dealt<'t, 'a>,
     shares: Vec<Share<A, B>>,
 ) -> Result<Vec<Turn<'t, 'a, A, B, R, G>>, AllocError>
-    requires { MayRun run shares.items }
-    ensures { IfOk result (λ v. AreAhead run.entry shares.items v.items) }
+    requires may { MayRun run shares.items }
+    requires dealt { AreDealtFrom ⟦<A as Shape>⟧ ⟦<B as Shape>⟧ run 0 dealt.parts.now.items }
+    ensures { IfOk result (λ v. AreAhead run.entry dealt.entry shares.items v.items) }
 {
-    turns_of(alloc, run, shares)
+    turns_of(alloc, run, dealt, shares)
 }
 
 // The shares after all turns, where none of them was refused memory.
@@ -63,7 +68,8 @@ fn shares_over<'t, 'a, A: Shape, B: Shape, R: Wait, G: Gate>(
     Ok(shares)
 }
 
-/// The shares of all workers after they judged the packets of a run.
+/// The shares of all workers after each judged its packets of a run in a thread of its own, or in this one where none can
+/// be made.
 pub fn run_shares<
     't,
     'a,
@@ -74,16 +80,18 @@ pub fn run_shares<
 >(
     alloc: Global,
     run: Run<'t, 'a, A, B, R, G>,
+    dealt: Dealt<'t, 'a>,
     shares: Vec<Share<A, B>>,
 ) -> Result<Vec<Share<A, B>>, AllocError>
 where
     A::Key: Send + Sync,
     B::Key: Send + Sync,
-    requires { MayRun run shares.items }
+    requires may { MayRun run shares.items }
+    requires dealt { AreDealtFrom ⟦<A as Shape>⟧ ⟦<B as Shape>⟧ run 0 dealt.parts.now.items }
     ensures { IfOk result (λ v. HaveWorked run.entry shares.items v.items) }
 {
     let rt = run.setup.rt;
-    let ahead = turns_ahead(alloc, run, shares)?;
+    let ahead = turns_ahead(alloc, run, dealt, shares)?;
     let over = run_all(rt, ahead)?;
     shares_over(alloc, over)
 }

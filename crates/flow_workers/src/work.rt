@@ -1,7 +1,7 @@
 //! One worker: each packet that is dealt to it is judged, in the order of the file.
 ghost use Rattle.std.specs.Prelude.{◌≡◌, ◌≢◌, ◌+◌, ◌<◌, ◌++◌, ◌∷◌, [], false, IfOk, length};
 ghost use Rattle.packet_view.specs.Captures.{packet_facts};
-ghost use Rattle.flow_workers.specs.inner.Jobs.{CanWork, HasWorkedOn, HasWorkedOnPart, IsShareOf, MayJudge, MayJudgePart};
+ghost use Rattle.flow_workers.specs.inner.Jobs.{CanWork, HasWorkedOn, HasWorkedOnPart, IsShareOf, MayJudge, MayJudgePart, MayJudgeViewed};
 
 use crate::gate::Gate;
 use crate::judging::judge_viewed;
@@ -13,8 +13,35 @@ use packet_view::{Packet, PacketsAhead, view};
 use std::alloc::AllocError;
 use std::sync::Wait;
 
-// Judges a packet of the worker, which stands at this place among those of the run, and says its verdict. All that it does is within the loops of its two callers: as a
-// call it took a fifth more instructions.
+/// Judges a packet of the worker, which stands at this place among those of the run and was viewed, and says its verdict.
+/// All that it does is within the loops in which it is called: as a call it took a fifth more instructions.
+#[inline(always)]
+pub fn judge_own_viewed<A: Shape, B: Shape, R: Wait, G: Gate>(
+    run: &Run<'_, '_, A, B, R, G>,
+    worker: usize,
+    at: usize,
+    packet: &ViewedPacket<'_>,
+    share: &mut Share<A, B>,
+) -> Result<(), AllocError>
+    requires { MayJudgeViewed ⟦<A as Shape>⟧ ⟦<B as Shape>⟧ run.now worker at packet.now share.old }
+    ensures { IfOk result (λ _. HasWorkedOn ⟦<A as Shape>⟧ ⟦<B as Shape>⟧ run.now worker at (at + 1) share.old share.new) }
+{
+    let setup = &run.setup;
+    let number = run.first + at;
+    setup.gate.before(worker, number);
+    let verdict = judge_viewed(
+        setup.rt,
+        &setup.filter,
+        setup.tables,
+        &mut share.callers,
+        packet,
+    );
+    setup.gate.after(worker, number);
+    share.said.push(verdict)?;
+    Ok(())
+}
+
+// Judges a packet of the worker, which stands at this place among those of the run, and says its verdict.
 #[inline(always)]
 fn judge_own<A: Shape, B: Shape, R: Wait, G: Gate>(
     run: &Run<'_, '_, A, B, R, G>,
@@ -26,45 +53,10 @@ fn judge_own<A: Shape, B: Shape, R: Wait, G: Gate>(
     requires { MayJudge ⟦<A as Shape>⟧ ⟦<B as Shape>⟧ run.now worker at (packet_facts packet.now) share.old }
     ensures { IfOk result (λ _. HasWorkedOn ⟦<A as Shape>⟧ ⟦<B as Shape>⟧ run.now worker at (at + 1) share.old share.new) }
 {
-    let setup = &run.setup;
-    let number = run.first + at;
-    let frame = view(packet.frame, setup.filter.own);
+    let frame = view(packet.frame, run.setup.filter.own);
     let flow = flow_in(&frame);
     let viewed = ViewedPacket::new(packet, &frame, &flow);
-    setup.gate.before(worker, number);
-    let verdict = judge_viewed(
-        setup.rt,
-        &setup.filter,
-        setup.tables,
-        &mut share.callers,
-        &viewed,
-    );
-    setup.gate.after(worker, number);
-    share.said.push(verdict)?;
-    Ok(())
-}
-
-// Judges all packets, where no other worker is there.
-fn work_alone<'t, 'a, A: Shape, B: Shape, R: Wait, G: Gate>(
-    job: Job<'t, 'a, A, B, R, G>,
-) -> Result<Share<A, B>, AllocError>
-    requires can { CanWork ⟦<A as Shape>⟧ ⟦<B as Shape>⟧ job }
-    requires alone { job.run.setup.workers ≡ 1 }
-    ensures { IfOk result (λ share. IsShareOf ⟦<A as Shape>⟧ ⟦<B as Shape>⟧ job.entry share) }
-{
-    let Job {
-        run,
-        worker,
-        mut share,
-    } = job;
-    share.said.reserve(run.packets.count() / run.setup.workers)?;
-    let mut packets = PacketsAhead::new(run.packets);
-    let mut taken = 0;
-    'packets: while let Some(packet) = packets.next() {
-        judge_own(&run, worker, taken, &packet, &mut share)?;
-        taken += 1;
-    }
-    Ok(share)
+    judge_own_viewed(run, worker, at, &viewed, share)
 }
 
 // Judges the worker's packets of a dealt part, which begins at this place among those of the run.
@@ -91,28 +83,6 @@ fn judge_part<'a, A: Shape, B: Shape, R: Wait, G: Gate>(
     Ok(())
 }
 
-// Judges the worker's packets, where the packets were dealt.
-fn work_among<'t, 'a, A: Shape, B: Shape, R: Wait, G: Gate>(
-    job: Job<'t, 'a, A, B, R, G>,
-) -> Result<Share<A, B>, AllocError>
-    requires can { CanWork ⟦<A as Shape>⟧ ⟦<B as Shape>⟧ job }
-    requires several { job.run.setup.workers ≢ 1 }
-    ensures { IfOk result (λ share. IsShareOf ⟦<A as Shape>⟧ ⟦<B as Shape>⟧ job.entry share) }
-{
-    let Job {
-        run,
-        worker,
-        mut share,
-    } = job;
-    share.said.reserve(run.packets.count() / run.setup.workers)?;
-    let mut first = 0;
-    for part in run.dealt.as_slice() {
-        judge_part(&run, worker, first, part, &mut share)?;
-        first += part.workers.len();
-    }
-    Ok(share)
-}
-
 /// Judges the packets of a worker.
 pub fn work<'t, 'a, A: Shape, B: Shape, R: Wait, G: Gate>(
     job: Job<'t, 'a, A, B, R, G>,
@@ -120,9 +90,17 @@ pub fn work<'t, 'a, A: Shape, B: Shape, R: Wait, G: Gate>(
     requires { CanWork ⟦<A as Shape>⟧ ⟦<B as Shape>⟧ job }
     ensures { IfOk result (λ share. IsShareOf ⟦<A as Shape>⟧ ⟦<B as Shape>⟧ job.entry share) }
 {
-    if job.run.setup.is_alone() {
-        work_alone(job)
-    } else {
-        work_among(job)
+    let Job {
+        run,
+        dealt,
+        worker,
+        mut share,
+    } = job;
+    share.said.reserve(run.packets.count() / run.setup.workers)?;
+    let mut first = 0;
+    for part in dealt.parts.as_slice() {
+        judge_part(&run, worker, first, part, &mut share)?;
+        first += part.workers.len();
     }
+    Ok(share)
 }

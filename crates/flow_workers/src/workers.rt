@@ -1,20 +1,18 @@
 //! Workers that judge packets in parts.
-ghost use Rattle.std.specs.Prelude.{◌≡◌, ◌++◌, IfOk};
-ghost use Rattle.packet_dealing.specs.declared.deals.DealtPart.{DealtPart};
-ghost use Rattle.flow_workers.specs.inner.Shares.{AreSplit, MaySplit, workers_in};
+ghost use Rattle.std.specs.Prelude.{IfOk};
+ghost use Rattle.flow_workers.specs.inner.Shares.{AreSplit, MaySplit};
 
 use crate::gate::Gate;
 use crate::numbers::{join_whole, split_one};
+use crate::part_runs::judge_run;
 use crate::parts::parts_of;
 use crate::placing::in_order;
 use crate::run_fault::RunFault;
 use crate::setup::Setup;
 use crate::share::{Parts, Run, Share};
 use crate::tables::{Callers, Tables};
-use crate::turns::run_shares;
 use bihash_words::Shape;
 use flow_filter::Verdict;
-use packet_dealing::{DealtPart, deal_packets};
 use packet_view::Packets;
 use std::alloc::{AllocError, Global};
 use std::sync::Wait;
@@ -54,23 +52,13 @@ fn split_shares<A: Shape, B: Shape, R: Wait>(
     Ok(shares)
 }
 
-// The workers of the packets of these parts come after those that are there.
-fn note_workers(judges: &mut Vec<u8>, dealt: &[DealtPart<'_>]) -> Result<(), AllocError>
-    ensures { IfOk result (λ _. judges.new.items ≡ judges.old.items ++ workers_in dealt.now) }
-{
-    for part in dealt {
-        judges.extend_from_slice(part.workers.as_slice())?;
-    }
-    Ok(())
-}
-
 /// Workers, and what they have after the packets that they judged so far.
 #[derive(Drop)]
 pub struct Workers<'t, A: Shape, B: Shape, R: Wait, G: Gate> {
     pub setup: Setup<'t, A, B, R, G>,
     /// What each worker has, in their order.
     pub shares: Vec<Share<A, B>>,
-    /// The worker of each packet, where there are several.
+    /// The worker of each packet.
     pub judges: Vec<u8>,
     /// How many packets they judged.
     pub count: usize,
@@ -131,8 +119,8 @@ where
     ghost use Rattle.std.specs.Prelude.{IfOk};
     ghost use Rattle.flow_workers.specs.Progress.{CanJudge, HaveJudged};
 
-    /// The workers after they judged these packets too, which follow those so far. A worker whose thread can't be made
-    /// is run by the calling thread. `Memory`: memory was refused.
+    /// The workers after they judged these packets too, which follow those so far: each in a thread of its own where that
+    /// pays. A worker whose thread can't be made is run by the calling thread. `Memory`: memory was refused.
     pub fn judge(
         self,
         alloc: Global,
@@ -148,15 +136,12 @@ where
             count,
         } = self;
         let next = count + packets.count();
-        let dealt = deal_packets::<A, B, R>(setup.rt, alloc, setup.dealer(), count, packets)?;
         let run = Run {
             setup: setup.again(),
             first: count,
             packets,
-            dealt: &dealt,
         };
-        let shares = run_shares(alloc, run, shares)?;
-        note_workers(&mut judges, dealt.as_slice())?;
+        let shares = judge_run(alloc, run, shares, &mut judges)?;
         Ok(Workers {
             setup,
             shares,

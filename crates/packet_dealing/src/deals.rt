@@ -1,5 +1,5 @@
 //! Packets with the workers that judge them, which several threads find at once.
-ghost use Rattle.std.specs.Prelude.{◌≡◌, ◌≢◌, ◌≤◌, ◌<◌, ◌+◌, ◌^◌, IfOk, length};
+ghost use Rattle.std.specs.Prelude.{◌≤◌, ◌<◌, ◌+◌, ◌^◌, IfOk, length};
 ghost use Rattle.packet_view.specs.CheckedCaptures.{held};
 ghost use Rattle.packet_dealing.specs.Dealt.{AreDealt, AreShapes};
 
@@ -21,8 +21,7 @@ pub struct DealtPart<'a> {
 }
 
 /// The packets, whose numbers begin with this one, with the workers that judge them, in their order, in as many parts as
-/// there are workers. Each part is found by a thread of its own, or by this one where no thread can be made. A worker
-/// that is alone has all packets, and none is dealt.
+/// there are workers. Each part is found by a thread of its own, or by this one where no thread can be made.
 pub fn deal_packets<'a, A: Shape + Send, B: Shape + Send, R: Threads + Sync>(
     rt: &R,
     alloc: Global,
@@ -37,12 +36,8 @@ where
     requires some { 1 ≤ dealer.workers }
     requires few { dealer.workers ≤ 16 }
     requires fits { number + length (held packets) < 2 ^ 64 }
-    ensures { IfOk result (λ parts. dealer.workers ≢ 1
-        → AreDealt ⟦<A as Shape>⟧ ⟦<B as Shape>⟧ dealer number parts.items (held packets.entry)) }
+    ensures { IfOk result (λ parts. AreDealt ⟦<A as Shape>⟧ ⟦<B as Shape>⟧ dealer number parts.items (held packets.entry)) }
 {
-    if dealer.workers == 1 {
-        return Ok(Vec::new(alloc));
-    }
     let ahead = parts_ahead::<A, B>(alloc, dealer, number, packets)?;
     let over = run_all(rt, ahead)?;
     parts_over(alloc, over)

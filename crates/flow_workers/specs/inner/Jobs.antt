@@ -1,10 +1,12 @@
 -- What a worker is given, and what it gives back.
-use Rattle.std.specs.Prelude.{◌≡◌, ◌≢◌, ◌<◌, ◌+◌, ◌++◌, ◌^◌, ℕ, List, Some, drop, length, slice_get}
+use Rattle.std.specs.Prelude.{◌≡◌, ◌<◌, ◌+◌, ◌++◌, ◌^◌, ℕ, List, Some, drop, length, slice_get}
 use Rattle.packet_view.specs.Captures.{PacketFacts}
 use Rattle.packet_view.specs.CheckedCaptures.{held}
+use Rattle.packet_view.specs.Frames.{FrameFacts, IsFrame, frame_facts}
 use Rattle.bihash_words.specs.declared.shape.Shape.{Ghosts}
 use Rattle.flow_filter.specs.Filters.{policy_in}
 use Rattle.flow_filter.specs.OneThread.{layout_of}
+use Rattle.flow_dealing.specs.Dealings.{flow_shown, worker_by}
 use Rattle.flow_dealing.specs.Views.{Views}
 use Rattle.packet_dealing.specs.Dealt.{AreDealt, IsDealtPart, IsDealtTo}
 use Rattle.packet_dealing.specs.declared.dealer.Dealer.{Dealer}
@@ -13,7 +15,9 @@ use Rattle.flow_workers.specs.declared.setup.Setup.{Setup}
 use Rattle.flow_workers.specs.declared.share.Job.{Job}
 use Rattle.flow_workers.specs.declared.share.Run.{Run}
 use Rattle.flow_workers.specs.declared.share.Share.{Share}
+use Rattle.flow_workers.specs.declared.viewed_packet.ViewedPacket.{ViewedPacket}
 use Rattle.flow_workers.specs.Callers.{AreIdle, AreShapes, views_of}
+use Rattle.flow_workers.specs.inner.ViewedPackets.{IsViewed}
 use Rattle.flow_workers.specs.inner.Work.{IsWorkUntil, RunFacts}
 
 -- what verdicts on all packets rest on
@@ -35,7 +39,7 @@ pub record StandAmong {A B R G K L : Type 0} (run : Run A B R G K L) (all : List
   pub behind : List PacketFacts
   pub stand : drop run.first all ≡ held run.packets ++ behind
 
--- where there are several workers, these packets with their workers are all that are left behind the first of a run
+-- these packets with their workers are all that are left behind the first of a run
 abbrev pub AreDealtFrom : {A B R G K L : Type 0} (ga : Ghosts A K) (gb : Ghosts B L) → Run A B R G K L → ℕ
     → List DealtPart → Type 0
 AreDealtFrom ga gb run first parts =
@@ -47,7 +51,7 @@ pub record CanWork {A B R G K L : Type 0} (ga : Ghosts A K) (gb : Ghosts B L)
   pub few : job.worker < job.run.setup.workers
   pub fits : job.run.first + length (held job.run.packets) < 2 ^ 64
   pub idle : AreIdle ga gb job.run.setup.tables.now job.share.callers
-  pub dealt : job.run.setup.workers ≢ 1 → AreDealtFrom ga gb job.run 0 job.run.dealt.now.items
+  pub dealt : AreDealtFrom ga gb job.run 0 job.dealt.parts.now.items
 
 -- The packet at this place of the run is one of the worker's, which holds nothing.
 pub record MayJudge {A B R G K L : Type 0} (ga : Ghosts A K) (gb : Ghosts B L) (run : Run A B R G K L)
@@ -57,6 +61,28 @@ pub record MayJudge {A B R G K L : Type 0} (ga : Ghosts A K) (gb : Ghosts B L) (
   pub fits : run.first + length (held run.packets) < 2 ^ 64
   pub there : slice_get (held run.packets) at ≡ Some packet
   pub mine : IsDealtTo ga gb (dealer_of run.setup) (run.first + at) packet.frame worker
+
+-- the packet at this place of the run was viewed so, and its frame is nothing else
+pub record IsViewedAt {A B R G K L : Type 0} (run : Run A B R G K L) (at : ℕ) (viewed : ViewedPacket) : Type 0 where
+  pub packet : PacketFacts
+  pub there : slice_get (held run.packets) at ≡ Some packet
+  pub seen : IsViewed run.setup.filter.own packet viewed
+  pub only : (other : FrameFacts) → IsFrame packet.frame run.setup.filter.own other → other ≡ frame_facts viewed.frame.now
+
+-- the worker of the packet at this place, whose frame turned out to be this
+abbrev pub IsWorkerOf : {A B R G K L : Type 0} (ga : Ghosts A K) (gb : Ghosts B L) → Run A B R G K L → ℕ → FrameFacts
+    → ℕ → Type 0
+IsWorkerOf ga gb run at frame worker =
+    worker ≡ worker_by run.setup.dealing (layout_of ga gb) run.setup.workers (run.first + at) (flow_shown frame)
+
+-- the same of a packet that was viewed
+pub record MayJudgeViewed {A B R G K L : Type 0} (ga : Ghosts A K) (gb : Ghosts B L) (run : Run A B R G K L)
+    (worker at : ℕ) (viewed : ViewedPacket) (share : Share A B K L ga gb) : Type 0 where
+  pub shapes : AreShapes ga gb
+  pub idle : AreIdle ga gb run.setup.tables.now share.callers
+  pub fits : run.first + length (held run.packets) < 2 ^ 64
+  pub stands : IsViewedAt run at viewed
+  pub mine : IsWorkerOf ga gb run at (frame_facts viewed.frame.now) worker
 
 -- the part has the packets of the run from this place on, with the workers of the first of them
 abbrev pub IsPartOf : {A B R G K L : Type 0} (ga : Ghosts A K) (gb : Ghosts B L) → Run A B R G K L → ℕ → DealtPart

@@ -1,5 +1,5 @@
 -- What workers said of packets, and where it is placed.
-use Rattle.std.specs.Prelude.{◌≡◌, ◌≢◌, ◌<◌, ◌≤◌, ◌+◌, ◌==◌, if◌then◌else◌, ℕ, List, ◌∷◌, Some, drop, length, slice_get, slice_index}
+use Rattle.std.specs.Prelude.{◌≡◌, ◌<◌, ◌≤◌, ◌+◌, ◌==◌, if◌then◌else◌, ℕ, List, ◌∷◌, Some, drop, length, slice_get, slice_index}
 use Rattle.std.specs.Global.{Vec}
 use Rattle.std.specs.List.{AllZip}
 use lib.ListN.{get_elem?}
@@ -32,11 +32,11 @@ pub record AreTold (run : RunFacts) (traces : List (List Item)) (all : List (Vec
   pub traced : AreTraces run.deal run.times run.policy run.packets traces
   pub said : AllZip (λ trace said. AreSaid run trace said.items) traces all
 
--- the workers of a run did these traces and said this, and these are the workers of the packets, where there are several
+-- the workers of a run did these traces and said this, and these are the workers of the packets
 pub record AreAllSaid (run : RunFacts) (traces : List (List Item)) (all : List (Vec Verdict))
     (workers : List ℕ) : Type 0 where
   pub told : AreTold run traces all
-  pub judges : run.deal.workers ≢ 1 → AreAllJudges run workers
+  pub judges : AreAllJudges run workers
 
 -- this was said by all workers of a run
 abbrev pub CanOrder : List (Vec Verdict) → List ℕ → Type 0

@@ -1,13 +1,14 @@
 -- What becomes of workers.
-use Rattle.std.specs.Prelude.{◌≡◌, ◌≢◌, ◌<◌, ◌+◌, ◌^◌, ℕ, List, All, length, slice_index_or, IfOk}
+use Rattle.std.specs.Prelude.{◌≡◌, ◌<◌, ◌≤◌, ◌+◌, ◌^◌, ℕ, List, All, length, slice_index_or, IfOk}
 use Rattle.packet_view.specs.CheckedCaptures.{held}
 use Rattle.bihash_words.specs.declared.shape.Shape.{Ghosts}
+use Rattle.flow_workers.specs.declared.share.Dealt.{Dealt}
 use Rattle.flow_workers.specs.declared.share.Run.{Run}
 use Rattle.flow_workers.specs.declared.share.Share.{Share}
 use Rattle.flow_workers.specs.declared.turn.Turn.{Turn}
 use Rattle.flow_workers.specs.declared.turn.Turn.TheVariants.{Ahead, Over}
 use Rattle.flow_workers.specs.Callers.{AreIdle, AreShapes}
-use Rattle.flow_workers.specs.inner.Jobs.{AreDealtFrom, CanWork, HasWorked, IsShareOf}
+use Rattle.flow_workers.specs.inner.Jobs.{CanWork, HasWorkedOn, IsShareOf}
 
 abbrev pub CanTake : {A B R G K L : Type 0} (ga : Ghosts A K) (gb : Ghosts B L) → Turn A B R G K L ga gb → Type 0
 CanTake ga gb (Ahead job) = CanWork ga gb job
@@ -27,28 +28,35 @@ IsPast ga gb (Over done) = Unit {0}
 pub record MayRun {A B R G K L : Type 0} {ga : Ghosts A K} {gb : Ghosts B L} (run : Run A B R G K L)
     (shares : List (Share A B K L ga gb)) : Type 0 where
   pub shapes : AreShapes ga gb
+  pub some : 1 ≤ run.setup.workers
+  pub few : run.setup.workers ≤ 16
   pub count : length shares ≡ run.setup.workers
   pub fits : run.first + length (held run.packets) < 2 ^ 64
   pub idle : (i : ℕ) (d : Share A B K L ga gb) → i < length shares
       → AreIdle ga gb run.setup.tables.now (slice_index_or shares i d).callers
-  pub dealt : run.setup.workers ≢ 1 → AreDealtFrom ga gb run 0 run.dealt.now.items
 
--- the turns of the workers that have these shares
-pub record AreTurns {A B R G K L : Type 0} {ga : Ghosts A K} {gb : Ghosts B L} (run : Run A B R G K L)
+-- the turns of the workers that have these shares, at the packets that were dealt so
+pub record AreTurns {A B R G K L : Type 0} {ga : Ghosts A K} {gb : Ghosts B L} (run : Run A B R G K L) (dealt : Dealt)
     (shares : List (Share A B K L ga gb)) (turns : List (Turn A B R G K L ga gb)) : Type 0 where
   pub count : length turns ≡ length shares
   pub each : (i : ℕ) (d : Turn A B R G K L ga gb) (e : Share A B K L ga gb) → i < length shares
-      → slice_index_or turns i d ≡ Ahead (record { run = run; worker = i; share = slice_index_or shares i e })
+      → slice_index_or turns i d ≡ Ahead (record { run = run; dealt = dealt; worker = i; share = slice_index_or shares i e })
 
 -- they can be taken
-pub record AreAhead {A B R G K L : Type 0} {ga : Ghosts A K} {gb : Ghosts B L} (run : Run A B R G K L)
+pub record AreAhead {A B R G K L : Type 0} {ga : Ghosts A K} {gb : Ghosts B L} (run : Run A B R G K L) (dealt : Dealt)
     (shares : List (Share A B K L ga gb)) (turns : List (Turn A B R G K L ga gb)) : Type 0 where
   pub ready : All (CanTake ga gb) turns
-  pub are : AreTurns run shares turns
+  pub are : AreTurns run dealt shares turns
 
--- each worker judged its packets of the run: these are the shares before and after it
-pub record HaveWorked {A B R G K L : Type 0} {ga : Ghosts A K} {gb : Ghosts B L} (run : Run A B R G K L)
-    (old new : List (Share A B K L ga gb)) : Type 0 where
+-- each worker has looked at the packets of the run between these places, and judged its own: these are the shares
+-- before and after it
+pub record HaveWorkedOn {A B R G K L : Type 0} {ga : Ghosts A K} {gb : Ghosts B L} (run : Run A B R G K L)
+    (first last : ℕ) (old new : List (Share A B K L ga gb)) : Type 0 where
   pub count : length new ≡ length old
   pub each : (i : ℕ) (d e : Share A B K L ga gb) → i < length old
-      → HasWorked ga gb run i (slice_index_or old i d) (slice_index_or new i e)
+      → HasWorkedOn ga gb run i first last (slice_index_or old i d) (slice_index_or new i e)
+
+-- each worker judged its packets of the run
+abbrev pub HaveWorked : {A B R G K L : Type 0} {ga : Ghosts A K} {gb : Ghosts B L} → Run A B R G K L
+    → List (Share A B K L ga gb) → List (Share A B K L ga gb) → Type 0
+HaveWorked run = HaveWorkedOn run 0 (length (held run.packets))

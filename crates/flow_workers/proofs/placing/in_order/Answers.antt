@@ -1,6 +1,6 @@
 use Rattle.std.proofs.Common.{◌≡◌, [], ◌∷◌, ap, arith, length, refl, subst, sym}
 use Rattle.flow_workers.specs.inner.Placing.{AreTold}
-use Rattle.flow_workers.proofs.PlacingLemmas.{all_placed, alone_placed, count_is, none_placed, only_one, several}
+use Rattle.flow_workers.proofs.PlacingLemmas.{all_placed, alone_placed, count_is, none_placed, only_one}
 use Rattle.flow_workers.proofs.placing.in_order.Goals as goal
 
 pub place-requires : goal.place-requires
@@ -15,7 +15,7 @@ place-requires c =
       record {
         told = subst (AreTold run traces) (sym c.as_slice.ensures.value) is.told;
         judges = rw c.in_ok-with_capacity.ensures.items
-            ((is.judges (several run traces c.args.all.items is.told (omega arith))).are);
+            is.judges.are;
         before = none_placed run traces c.as_slice.result.now
             (subst (AreTold run traces) (sym c.as_slice.ensures.value) is.told) _ c.in_ok-with_capacity.ensures.items refl;
       },
@@ -25,7 +25,7 @@ pub returns-then-len-gt1 : goal.returns-then-len-gt1
 returns-then-len-gt1 c run traces is =
     let many = c.if-len-gt1.true in
     let counted = c.len.ensures in
-    let judges = is.judges (several run traces c.args.all.items is.told (omega arith)) in
+    let judges = is.judges in
     let told = subst (AreTold run traces) (sym c.as_slice.ensures.value) is.told in
     let none = ap length c.in_ok-with_capacity.ensures.items in
     let long = c.in_ok-place.ensures.count in

@@ -1,30 +1,22 @@
-use Rattle.std.proofs.Common.{arith, sym}
-use Rattle.std.proofs.lemmas.Option.{slice_get_within}
-use Rattle.packet_view.specs.CheckedCaptures.{held}
+use Rattle.std.proofs.Common.{◌∙◌, ap, subst, sym}
+use Rattle.packet_view.specs.Captures.{packet_facts}
 use Rattle.packet_view.specs.Frames.{frame_facts}
-use Rattle.flow_workers.proofs.DealtLemmas.{stands_among}
-use Rattle.flow_workers.proofs.WorkSteps.{one_more, work_push}
+use Rattle.flow_workers.specs.inner.Jobs.{IsWorkerOf}
 use Rattle.flow_workers.proofs.work.judge_own.Goals as goal
 
-pub overflow_add-number : goal.overflow_add-number
-overflow_add-number g c =
-    let inside = slice_get_within (held c.args.run.now.packets) c.args.at _ c.requires.there in
-    let fits = c.requires.fits in
-    omega arith
-
-pub returns : goal.returns
-returns g c = record {
-  idle = c.judge_viewed-verdict.ensures.idle;
-  work = λ all among v old.
-      rw c.in_ok-push.ensures.items
-      (one_more _ _ _ _ _ _ _
-      (work_push _ _ _ _ _ _ _ _ (frame_facts c.view-frame.result) _
-      (record {
-        stands = stands_among g.A.Shape g.B.Shape c.args.run.now all among c.args.at _ c.requires.there;
-        shown = c.view-frame.ensures.shown;
-        only = c.view-frame.ensures.only;
-      })
-      (sym (c.requires.mine _ c.view-frame.ensures.shown))
-      (c.judge_viewed-verdict.ensures.judged _ (c.new-viewed.ensures.seen _ c.view-frame.ensures.shown))
-      old));
-}
+pub judge_own_viewed-requires : goal.judge_own_viewed-requires
+judge_own_viewed-requires g c =
+    let same = sym (ap frame_facts c.new-viewed.ensures.frame) in
+    record {
+      shapes = c.requires.shapes;
+      idle = c.requires.idle;
+      fits = c.requires.fits;
+      stands = record {
+        packet = packet_facts c.args.packet.now;
+        there = c.requires.there;
+        seen = c.new-viewed.ensures.seen _ c.view-frame.ensures.shown;
+        only = λ other is. c.view-frame.ensures.only other is ∙ same;
+      };
+      mine = subst (λ f. IsWorkerOf g.A.Shape g.B.Shape c.args.run.now c.args.at f c.args.worker) same
+          (c.requires.mine _ c.view-frame.ensures.shown);
+    }

@@ -18,7 +18,7 @@ returns g c =
     let many = c.in_ok-over.ensures.count in
     let some_worker = c.requires.some in
     IfOk-weaker c.parts_over.result _ _
-    (λ parts are several. all_parts g.A.Shape g.B.Shape c.args.dealer c.args.number c.args.packets parts.items
+    (λ parts are. all_parts g.A.Shape g.B.Shape c.args.dealer c.args.number c.args.packets parts.items
     c.in_ok-over.over.items (omega arith) are (many ∙ count)
     (λ i d inside. turned g.A.Shape g.B.Shape c.args.dealer c.args.number c.args.packets _ _ (get_or c.in_ok-ahead.ahead.items i d)
     (get_or c.in_ok-over.over.items i d)

@@ -35,7 +35,7 @@ in_order-requires g c =
       p.traces,
       subst (AreAllSaid _ _ _) (sym c.as_slice.ensures.value)
           (all_said g.A.Shape g.B.Shape _ _ c.args.self.judges.items c.in_ok-four.field-0 p rest.sound.some
-          rest.sound.few refl (λ several. ((rest.noted several).count, (rest.noted several).workers))),
+          rest.sound.few refl (rest.noted.count, rest.noted.workers)),
     )
 
 pub returns : goal.returns
@@ -51,4 +51,4 @@ returns g c = λ packets rest.
     c.in_ok-in_order.field-0.items
     (c.in_ok-in_order.ensures _ p.traces (subst (AreAllSaid _ _ _) (sym c.as_slice.ensures.value)
     (all_said g.A.Shape g.B.Shape _ _ c.args.self.judges.items c.in_ok-four.field-0 p rest.sound.some rest.sound.few
-    refl (λ several. ((rest.noted several).count, (rest.noted several).workers)))))
+    refl (rest.noted.count, rest.noted.workers))))

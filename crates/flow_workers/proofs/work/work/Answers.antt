@@ -3,14 +3,14 @@ use Rattle.packet_view.specs.CheckedCaptures.{held}
 use Rattle.packet_dealing.proofs.DealtLists.{none_left}
 use Rattle.flow_workers.specs.inner.Jobs.{AreDealtFrom, IsPartOf}
 use Rattle.flow_workers.proofs.DealtLemmas.{all_taken, part_few, part_first, parts_behind, worked_on, worked_to}
-use Rattle.flow_workers.proofs.work.work_among.Goals as goal
+use Rattle.flow_workers.proofs.work.work.Goals as goal
 
 pub loop-part-init : goal.loop-part-init
 loop-part-init g c = record {
-  left = c.requires.can.dealt c.requires.several;
+  left = c.requires.dealt;
   inside = omega arith;
   worked = record {
-    idle = c.requires.can.idle;
+    idle = c.requires.idle;
     work = λ all among v done. rw c.in_ok-reserve.ensures.items done;
   };
 }
@@ -22,12 +22,12 @@ judge_part-requires g c =
     let same = c.as_slice-part-items.ensures.value in
     let listed = ap length same in
     record {
-      shapes = c.requires.can.shapes;
+      shapes = c.requires.shapes;
       idle = c.loop-part.invariant.worked.idle;
-      fits = c.requires.can.fits;
+      fits = c.requires.fits;
       of = subst (IsPartOf g.A.Shape g.B.Shape run c.loop-part.first)
           (ap (λ ps. get_or ps c.loop-part.part-index c.part-item.result) (sym same) ∙ sym c.part-item.is)
-          (part_first g.A.Shape g.B.Shape run c.loop-part.first c.loop-part.part-index run.dealt.now.items
+          (part_first g.A.Shape g.B.Shape run c.loop-part.first c.loop-part.part-index c.args.job.dealt.parts.now.items
           c.part-item.result (omega arith) c.loop-part.invariant.left);
     }
 
@@ -35,14 +35,14 @@ pub overflow_add-first : goal.overflow_add-first
 overflow_add-first g c =
     let run = c.args.job.run in
     let inside = c.loop-part-test.true in
-    let fits = c.requires.can.fits in
+    let fits = c.requires.fits in
     let same = c.as_slice-part-items.ensures.value in
     let listed = ap length same in
     let few =
     part_few g.A.Shape g.B.Shape run c.loop-part.first c.part-item.result
     (subst (IsPartOf g.A.Shape g.B.Shape run c.loop-part.first)
     (ap (λ ps. get_or ps c.loop-part.part-index c.part-item.result) (sym same) ∙ sym c.part-item.is)
-    (part_first g.A.Shape g.B.Shape run c.loop-part.first c.loop-part.part-index run.dealt.now.items
+    (part_first g.A.Shape g.B.Shape run c.loop-part.first c.loop-part.part-index c.args.job.dealt.parts.now.items
     c.part-item.result (omega arith) c.loop-part.invariant.left)) c.loop-part.invariant.inside in
     let long = c.len-first.ensures in
     omega arith
@@ -58,12 +58,12 @@ loop-part-preserved g c =
     let long = c.len-first.ensures in omega arith in
     let of =
     subst (IsPartOf g.A.Shape g.B.Shape run c.loop-part.first) here
-    (part_first g.A.Shape g.B.Shape run c.loop-part.first c.loop-part.part-index run.dealt.now.items
+    (part_first g.A.Shape g.B.Shape run c.loop-part.first c.loop-part.part-index c.args.job.dealt.parts.now.items
     c.part-item.result (omega arith) c.loop-part.invariant.left) in
     record {
       left = subst (λ n. AreDealtFrom g.A.Shape g.B.Shape run (c.loop-part.first + n)
-          (drop (c.loop-part.part-index + 1) run.dealt.now.items)) (ap (λ p. length p.workers.items) here ∙ counted)
-          (parts_behind g.A.Shape g.B.Shape run c.loop-part.first c.loop-part.part-index run.dealt.now.items
+          (drop (c.loop-part.part-index + 1) c.args.job.dealt.parts.now.items)) (ap (λ p. length p.workers.items) here ∙ counted)
+          (parts_behind g.A.Shape g.B.Shape run c.loop-part.first c.loop-part.part-index c.args.job.dealt.parts.now.items
           c.part-item.result (omega arith) c.loop-part.invariant.left);
       inside = subst (λ n. c.loop-part.first + n ≤ length (held run.packets)) counted
           (part_few g.A.Shape g.B.Shape run c.loop-part.first c.part-item.result of c.loop-part.invariant.inside);
@@ -81,7 +81,7 @@ returns g c =
     let inside = c.loop-part.invariant.inside in
     let none =
     none_left (held run.packets) c.loop-part.first
-    (all_taken g.A.Shape g.B.Shape run c.loop-part.first c.loop-part.part-index run.dealt.now.items (omega arith)
+    (all_taken g.A.Shape g.B.Shape run c.loop-part.first c.loop-part.part-index c.args.job.dealt.parts.now.items (omega arith)
     c.loop-part.invariant.left) in
     worked_to g.A.Shape g.B.Shape run c.args.job.worker 0 c.loop-part.first _ _ _ (omega arith)
     c.loop-part.invariant.worked

@@ -1,7 +1,7 @@
 use Rattle.std.proofs.Common.{◌∙◌, ◌++◌, ◌+◌, ap, append-nil, append_assoc, drop, sym}
 use Rattle.std.proofs.lemmas.List.{drop_all, drop_more}
 use Rattle.flow_workers.specs.inner.Shares.{workers_in}
-use Rattle.flow_workers.proofs.workers.note_workers.Goals as goal
+use Rattle.flow_workers.proofs.part_runs.note_workers.Goals as goal
 
 pub loop-part-preserved : goal.loop-part-preserved
 loop-part-preserved c =

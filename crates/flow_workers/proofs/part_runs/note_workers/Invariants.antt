@@ -1,6 +1,6 @@
 use Rattle.std.proofs.Common.{◌≡◌, ◌++◌, drop}
 use Rattle.flow_workers.specs.inner.Shares.{workers_in}
-use Rattle.flow_workers.proofs.workers.note_workers.Given as goal
+use Rattle.flow_workers.proofs.part_runs.note_workers.Given as goal
 
 abbrev pub invariant-loop-part : goal.invariant-loop-part
 invariant-loop-part l =

@@ -1,0 +1,98 @@
+-- All workers at packets that are judged one after the other.
+use Rattle.std.proofs.Common.{◌≡◌, ◌∙◌, ◌+◌, ◌<◌, ℕ, zero, suc, List, [], ◌∷◌, ◌++◌, Some, ap, append_assoc, append-nil, arith, get_or, inl, inr, length, refl, set, slice_get, subst, sym}
+use Rattle.std.proofs.lemmas.Bool.Decides.{eqb_tells}
+use Rattle.std.proofs.lemmas.List.{get_or-set_other, get_or-set_same, length-set, length_push}
+use Rattle.packet_view.specs.Captures.{PacketFacts}
+use Rattle.packet_view.specs.CheckedCaptures.{held}
+use Rattle.bihash_words.specs.declared.shape.Shape.{Ghosts}
+use Rattle.packet_dealing.proofs.DealtLists.{workers_push}
+use Rattle.packet_dealing.specs.Dealt.{IsDealtTo}
+use Rattle.packet_dealing.specs.declared.dealer.Dealer.{Dealer}
+use Rattle.flow_workers.specs.declared.share.Run.{Run}
+use Rattle.flow_workers.specs.declared.share.Share.{Share}
+use Rattle.flow_workers.specs.Callers.{AreIdle}
+use Rattle.flow_workers.specs.inner.Jobs.{HasWorkedOn, dealer_of}
+use Rattle.flow_workers.specs.inner.Together.{HaveNotedSome}
+use Rattle.flow_workers.specs.inner.Turns.{HaveWorkedOn}
+use Rattle.flow_workers.proofs.DealtLemmas.{passed_by, worked_none, worked_on}
+
+-- what is there is there by any default
+same_there : {X : Type 0} (xs : List X) (i : ℕ) (d e : X) → i < length xs → get_or xs i d ≡ get_or xs i e
+same_there [] i d e inside = absurd (omega arith)
+same_there (x ∷ xs) zero d e inside = refl
+same_there (x ∷ xs) (suc i) d e inside = same_there xs i d e (omega arith)
+
+module _ {A B R G K L : Type 0} (ga : Ghosts A K) (gb : Ghosts B L) (run : Run A B R G K L) where
+  abbrev all_idle : List (Share A B K L ga gb) → Type 0
+  all_idle shares = (i : ℕ) (d : Share A B K L ga gb) → i < length shares
+      → AreIdle ga gb run.setup.tables.now (get_or shares i d).callers
+
+  pub none_worked : (at : ℕ) (shares : List (Share A B K L ga gb)) → all_idle shares → HaveWorkedOn run at at shares shares
+  none_worked at shares idle = record {
+    count = refl;
+    each = λ i d e inside. subst (HasWorkedOn ga gb run i at at (get_or shares i d)) (same_there shares i d e inside)
+        (worked_none ga gb run i at (get_or shares i d) (idle i d inside));
+  }
+
+  pub all_worked_on : (first mid last : ℕ) (old between new : List (Share A B K L ga gb))
+      → HaveWorkedOn run first mid old between → HaveWorkedOn run mid last between new
+      → HaveWorkedOn run first last old new
+  all_worked_on first mid last old between new before behind = record {
+    count = behind.count ∙ before.count;
+    each = λ i d e inside. worked_on ga gb run i first mid last (get_or old i d) (get_or between i d) (get_or new i e)
+        (before.each i d d inside) (behind.each i d e (subst (λ n. i < n) (sym before.count) inside));
+  }
+
+  pub all_worked_to : (first last other : ℕ) (old new : List (Share A B K L ga gb)) → last ≡ other
+      → HaveWorkedOn run first last old new → HaveWorkedOn run first other old new
+  all_worked_to first last other old new same = subst (λ n. HaveWorkedOn run first n old new) same
+
+  -- all hold nothing after they judged
+  pub idle_after : (first last : ℕ) (old new : List (Share A B K L ga gb)) → HaveWorkedOn run first last old new
+      → all_idle new
+  idle_after first last old new worked i d inside = (worked.each i d d (subst (λ n. i < n) worked.count inside)).idle
+
+  -- a packet's worker judges it, and the others pass by it
+  pub next_worked : (at worker : ℕ) (packet : PacketFacts) (old : List (Share A B K L ga gb))
+      (before share : Share A B K L ga gb) → all_idle old → slice_get (held run.packets) at ≡ Some packet
+      → IsDealtTo ga gb (dealer_of run.setup) (run.first + at) packet.frame worker → worker < length old
+      → get_or old worker before ≡ before → HasWorkedOn ga gb run worker at (at + 1) before share
+      → HaveWorkedOn run at (at + 1) old (set old worker share)
+  next_worked at worker packet old before share idle there dealt one is worked = record {
+    count = length-set old worker share;
+    each = λ i d e inside. elim (eqb_tells i worker) [
+      | inl (test, same) ↦
+          subst (λ w. HasWorkedOn ga gb run w at (at + 1) (get_or old w d) (get_or (set old worker share) w e)) (sym same)
+          (subst (HasWorkedOn ga gb run worker at (at + 1) (get_or old worker d))
+          (sym (get_or-set_same old worker share e one))
+          (subst (λ s. HasWorkedOn ga gb run worker at (at + 1) s share)
+          (sym (same_there old worker d before one ∙ is)) worked))
+      | inr (test, differ) ↦
+          subst (HasWorkedOn ga gb run i at (at + 1) (get_or old i d))
+          (same_there old i d e inside ∙ sym (get_or-set_other old worker i share e differ))
+          (passed_by ga gb run i at worker packet (get_or old i d) there dealt (λ same. differ (sym same)) (idle i d inside))
+    ];
+  }
+
+module _ {A B K L : Type 0} (ga : Ghosts A K) (gb : Ghosts B L) (dealer : Dealer) (first : ℕ)
+    (packets : List PacketFacts) where
+  pub none_noted : (judges : List ℕ) → HaveNotedSome ga gb dealer first packets 0 judges judges
+  none_noted judges = record {
+    workers = [];
+    noted = sym (append-nil judges);
+    are = record { inside = omega arith; each = λ k packet below there. absurd (omega arith) };
+    many = refl;
+  }
+
+  pub noted_push : (taken worker : ℕ) (packet : PacketFacts) (old new longer : List ℕ)
+      → HaveNotedSome ga gb dealer first packets taken old new → slice_get packets taken ≡ Some packet
+      → IsDealtTo ga gb dealer (first + taken) packet.frame worker → longer ≡ new ++ worker ∷ []
+      → HaveNotedSome ga gb dealer first packets (taken + 1) old longer
+  noted_push taken worker packet old new longer before there dealt is = record {
+    workers = before.workers ++ worker ∷ [];
+    noted = is ∙ (ap (λ ws. ws ++ worker ∷ []) before.noted ∙ append_assoc old before.workers (worker ∷ []));
+    are = workers_push ga gb dealer first packets before.workers worker packet before.are
+        (ap (slice_get packets) before.many ∙ there)
+        (subst (λ n. IsDealtTo ga gb dealer (first + n) packet.frame worker) (sym before.many) dealt);
+    many = length_push before.workers worker ∙ ap (λ n. n + 1) before.many;
+  }

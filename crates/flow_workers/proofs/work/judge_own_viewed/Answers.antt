@@ -1,0 +1,33 @@
+use Rattle.std.proofs.Common.{arith, sym}
+use Rattle.std.proofs.lemmas.Option.{slice_get_within}
+use Rattle.packet_view.specs.CheckedCaptures.{held}
+use Rattle.packet_view.specs.Frames.{frame_facts}
+use Rattle.flow_workers.proofs.DealtLemmas.{stands_among}
+use Rattle.flow_workers.proofs.WorkSteps.{one_more, work_push}
+use Rattle.flow_workers.proofs.work.judge_own_viewed.Goals as goal
+
+pub overflow_add-number : goal.overflow_add-number
+overflow_add-number g c =
+    let stands = c.requires.stands in
+    let inside = slice_get_within (held c.args.run.now.packets) c.args.at _ stands.there in
+    let fits = c.requires.fits in
+    omega arith
+
+pub returns : goal.returns
+returns g c =
+    let stands = c.requires.stands in
+    record {
+      idle = c.judge_viewed-verdict.ensures.idle;
+      work = λ all among v old.
+          rw c.in_ok-push.ensures.items
+          (one_more _ _ _ _ _ _ _
+          (work_push _ _ _ _ _ _ _ stands.packet (frame_facts c.args.packet.now.frame.now) _
+          (record {
+            stands = stands_among g.A.Shape g.B.Shape c.args.run.now all among c.args.at _ stands.there;
+            shown = stands.seen.1;
+            only = stands.only;
+          })
+          (sym c.requires.mine)
+          (c.judge_viewed-verdict.ensures.judged _ stands.seen)
+          old));
+    }

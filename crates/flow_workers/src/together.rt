@@ -1,0 +1,80 @@
+//! All workers in one thread: each packet is judged by its worker, in the order of the file.
+ghost use Rattle.std.specs.Prelude.{◌≡◌, ◌<◌, ◌≤◌, ◌+◌, ◌++◌, ◌∷◌, [], false, IfOk, length};
+ghost use Rattle.packet_view.specs.Captures.{packet_facts};
+ghost use Rattle.session_state.specs.declared.flow.Flow.{Flow};
+ghost use Rattle.flow_dealing.specs.Dealings.{worker_by};
+ghost use Rattle.flow_filter.specs.OneThread.{layout_of};
+ghost use Rattle.flow_workers.specs.inner.Together.{HasJudgedNext, HaveRun, MayChoose, MayJudgeNext};
+ghost use Rattle.flow_workers.specs.inner.Turns.{MayRun};
+
+use crate::gate::Gate;
+use crate::setup::Setup;
+use crate::share::{Run, Share};
+use crate::viewed_packet::ViewedPacket;
+use crate::work::judge_own_viewed;
+use bihash_words::Shape;
+use flow_dealing::worker_of;
+use packet_dealing::flow_in;
+use packet_view::{Packet, PacketsAhead, view};
+use session_state::Flow;
+use std::alloc::AllocError;
+use std::sync::Wait;
+
+// The worker of the packet with this number and flow. One that is alone needs no hash.
+#[inline(always)]
+fn worker_for<A: Shape, B: Shape, R: Wait, G: Gate>(
+    setup: &Setup<'_, A, B, R, G>,
+    number: usize,
+    flow: Option<Flow>,
+) -> usize
+    requires { MayChoose ⟦<A as Shape>⟧ ⟦<B as Shape>⟧ setup.now }
+    ensures is { result ≡ worker_by setup.now.dealing (layout_of ⟦<A as Shape>⟧ ⟦<B as Shape>⟧) setup.now.workers number flow }
+    ensures one { result < setup.now.workers }
+{
+    if setup.is_alone() {
+        0
+    } else {
+        worker_of::<A, B>(setup.dealing, setup.workers, number, flow)
+    }
+}
+
+// The packet at this place of the run is judged by its worker, whose number is answered.
+#[inline(always)]
+fn judge_next<A: Shape, B: Shape, R: Wait, G: Gate>(
+    run: &Run<'_, '_, A, B, R, G>,
+    at: usize,
+    packet: &Packet<'_>,
+    shares: &mut Vec<Share<A, B>>,
+) -> Result<usize, AllocError>
+    requires { MayJudgeNext ⟦<A as Shape>⟧ ⟦<B as Shape>⟧ run.now at (packet_facts packet.now) shares.old.items }
+    ensures { IfOk result (HasJudgedNext ⟦<A as Shape>⟧ ⟦<B as Shape>⟧ run.now at (packet_facts packet.now) shares.old.items shares.new.items) }
+{
+    let frame = view(packet.frame, run.setup.filter.own);
+    let flow = flow_in(&frame);
+    let worker = worker_for(&run.setup, run.first + at, flow);
+    let viewed = ViewedPacket::new(packet, &frame, &flow);
+    judge_own_viewed(run, worker, at, &viewed, &mut shares[worker])?;
+    Ok(worker)
+}
+
+/// The shares of all workers after these judged the packets of a run, one after the other in this thread. The workers of
+/// the packets come after those that are noted.
+pub fn judge_together<'t, 'a, A: Shape, B: Shape, R: Wait, G: Gate>(
+    run: Run<'t, 'a, A, B, R, G>,
+    shares: Vec<Share<A, B>>,
+    judges: &mut Vec<u8>,
+) -> Result<Vec<Share<A, B>>, AllocError>
+    requires { MayRun run shares.items }
+    ensures { IfOk result (λ v. HaveRun run.entry shares.items v.items judges.old.items judges.new.items) }
+{
+    let mut shares = shares;
+    judges.reserve(run.packets.count())?;
+    let mut packets = PacketsAhead::new(run.packets);
+    let mut taken = 0;
+    'packets: while let Some(packet) = packets.next() {
+        let worker = judge_next(&run, taken, &packet, &mut shares)?;
+        judges.push(worker as u8)?;
+        taken += 1;
+    }
+    Ok(shares)
+}
