@@ -24,7 +24,7 @@ use std::sync::Wait;
 use std::thread::Threads;
 
 /// How many bytes of an input are read before any is judged, at least.
-const FRONT_BYTES: usize = 8_388_608;
+const FRONT_BYTES: usize = 1_048_576;
 
 fn judge_capture<T: Threads + Wait + Sync>(
     host: &Host<'_, T>,
@@ -153,5 +153,6 @@ pub fn run<R: Source + Send, W: Sink, T: Threads + Wait + Sync>(
     ensures unwritten { IfErr result (λ fault. fault ≢ Fault.Write → writer.new ≡ writer.old) }
 {
     let judged = judge_source(&Host { rt, alloc }, options, reader)?;
-    write_report(alloc, writer, &judged.verdicts, judged.truncated)
+    let beside = if options.workers > 1 { Some(rt) } else { None };
+    write_report(beside, alloc, writer, &judged.verdicts, judged.truncated)
 }

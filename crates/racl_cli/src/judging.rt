@@ -16,7 +16,7 @@ use std::sync::Wait;
 use std::thread::Threads;
 
 /// How many packets pay for more than one worker.
-pub const MANY_PACKETS: usize = 262_144;
+const MANY_PACKETS: usize = 524_288;
 
 /// Nothing waits before or after a packet is judged.
 pub struct OpenGate;

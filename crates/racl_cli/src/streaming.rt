@@ -8,18 +8,21 @@ ghost use Rattle.racl_cli.specs.Reads.{AnswersRead, HasJudged, HasOpened, MayJud
 
 use crate::crew::Crew;
 use crate::host::Host;
-use crate::judging::{MANY_PACKETS, OpenGate};
+use crate::judging::OpenGate;
 use crate::outcome::Judged;
 use acl_policy::read_policy;
 use bihash_words::{ShapeV4, ShapeV6, flow_shapes_are_sound};
 use capture_stream::{Opening, Streamed, judge_stream};
 use flow_workers::{Dealing, Filter, Setup, Workers, create_tables};
-use packet_view::{Order, capture_header};
+use packet_view::{Order, capture_header, front_records};
 use racl_io::{Fault, Form, Source, parts};
 use racl_words::Options;
 use std::alloc::Global;
 use std::sync::Wait;
 use std::thread::Threads;
+
+/// From how many packets of a window on each worker judges them in a thread of its own.
+const MANY_PACKETS: usize = 65_536;
 
 /// What stands before the records of a binary capture.
 #[derive(Drop)]
@@ -75,7 +78,8 @@ fn judge_records<'t, R: Source + Send, T: Threads + Wait + Sync>(
     let Ok((tables, callers)) = create_tables::<ShapeV4, ShapeV6>(alloc) else {
         return Err(Fault::Memory);
     };
-    let prepared = filter.prepare(alloc, MANY_PACKETS)?;
+    let front = front_records(&opening.bytes[opening.from..], opening.order);
+    let prepared = filter.prepare(alloc, front.records.count)?;
     let setup = Setup {
         rt,
         gate: &OpenGate,
@@ -83,6 +87,7 @@ fn judge_records<'t, R: Source + Send, T: Threads + Wait + Sync>(
         tables: &tables,
         dealing: Dealing::Bucket,
         workers: options.workers,
+        many: MANY_PACKETS,
     };
     let Ok(workers) = Workers::new(alloc, setup, callers) else {
         return Err(Fault::Memory);

@@ -3,6 +3,7 @@
 ghost use Rattle.std.specs.Prelude.{◌≤◌};
 
 use racl_cli::{Device, Fault, Options, Totals, run, status};
+use racl_io::decoded;
 use session_state::Timeouts;
 use std::alloc::{AllocError, Global};
 use std::fmt;
@@ -172,6 +173,28 @@ pub fn input(alloc: Global, policy: &str, packets: &[Sent]) -> Result<Vec<u8>, A
         push_record(alloc, &mut text, sent)?;
     }
     Ok(text)
+}
+
+/// The input of a policy and a binary capture of these packets, which come so often one after the other.
+pub fn binary_input(
+    alloc: Global,
+    policy: &str,
+    packets: &[Sent],
+    times: u32,
+) -> Result<Vec<u8>, Fault> {
+    let mut digits = Vec::new(alloc);
+    for sent in packets {
+        push_record(alloc, &mut digits, sent)?;
+    }
+    let records = decoded(alloc, &digits)?;
+    let mut bytes = Vec::new(alloc);
+    bytes.extend_from_slice(policy.as_bytes())?;
+    bytes.extend_from_slice(b"pcap\n")?;
+    bytes.extend_from_slice(&decoded(alloc, HEADER.as_bytes())?)?;
+    for _ in 0..times {
+        bytes.extend_from_slice(&records)?;
+    }
+    Ok(bytes)
 }
 
 /// The options where no word sets a timeout.
