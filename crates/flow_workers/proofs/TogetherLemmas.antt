@@ -14,7 +14,7 @@ use Rattle.flow_workers.specs.Callers.{AreIdle}
 use Rattle.flow_workers.specs.inner.Jobs.{HasWorkedOn, dealer_of}
 use Rattle.flow_workers.specs.inner.Together.{HaveNotedSome}
 use Rattle.flow_workers.specs.inner.Turns.{HaveWorkedOn}
-use Rattle.flow_workers.proofs.DealtLemmas.{passed_by, worked_none, worked_on}
+use Rattle.flow_workers.proofs.DealtLemmas.{passed_by, worked_on}
 
 -- what is there is there by any default
 same_there : {X : Type 0} (xs : List X) (i : ℕ) (d e : X) → i < length xs → get_or xs i d ≡ get_or xs i e
@@ -26,13 +26,6 @@ module _ {A B R G K L : Type 0} (ga : Ghosts A K) (gb : Ghosts B L) (run : Run A
   abbrev all_idle : List (Share A B K L ga gb) → Type 0
   all_idle shares = (i : ℕ) (d : Share A B K L ga gb) → i < length shares
       → AreIdle ga gb run.setup.tables.now (get_or shares i d).callers
-
-  pub none_worked : (at : ℕ) (shares : List (Share A B K L ga gb)) → all_idle shares → HaveWorkedOn run at at shares shares
-  none_worked at shares idle = record {
-    count = refl;
-    each = λ i d e inside. subst (HasWorkedOn ga gb run i at at (get_or shares i d)) (same_there shares i d e inside)
-        (worked_none ga gb run i at (get_or shares i d) (idle i d inside));
-  }
 
   pub all_worked_on : (first mid last : ℕ) (old between new : List (Share A B K L ga gb))
       → HaveWorkedOn run first mid old between → HaveWorkedOn run mid last between new

@@ -5,7 +5,7 @@ ghost use Rattle.session_state.specs.declared.flow.Flow.{Flow};
 ghost use Rattle.flow_dealing.specs.Dealings.{worker_by};
 ghost use Rattle.flow_filter.specs.OneThread.{layout_of};
 ghost use Rattle.flow_workers.specs.inner.Together.{HasJudgedNext, HaveRun, MayChoose, MayJudgeNext};
-ghost use Rattle.flow_workers.specs.inner.Turns.{MayRun};
+ghost use Rattle.flow_workers.specs.inner.Turns.{HaveWorkedOn, MayRun};
 
 use crate::gate::Gate;
 use crate::setup::Setup;
@@ -57,6 +57,20 @@ fn judge_next<A: Shape, B: Shape, R: Wait, G: Gate>(
     Ok(worker)
 }
 
+// Room for the verdicts on the packets of the run, where one worker says them all.
+fn make_room<A: Shape, B: Shape, R: Wait, G: Gate>(
+    run: &Run<'_, '_, A, B, R, G>,
+    shares: &mut Vec<Share<A, B>>,
+) -> Result<(), AllocError>
+    requires { MayRun run.now shares.old.items }
+    ensures { IfOk result (λ _. HaveWorkedOn run.now 0 0 shares.old.items shares.new.items) }
+{
+    if run.setup.is_alone() {
+        shares[0].said.reserve(run.packets.count())?;
+    }
+    Ok(())
+}
+
 /// The shares of all workers after these judged the packets of a run, one after the other in this thread. The workers of
 /// the packets come after those that are noted.
 pub fn judge_together<'t, 'a, A: Shape, B: Shape, R: Wait, G: Gate>(
@@ -68,6 +82,7 @@ pub fn judge_together<'t, 'a, A: Shape, B: Shape, R: Wait, G: Gate>(
     ensures { IfOk result (λ v. HaveRun run.entry shares.items v.items judges.old.items judges.new.items) }
 {
     let mut shares = shares;
+    make_room(&run, &mut shares)?;
     judges.reserve(run.packets.count())?;
     let mut packets = PacketsAhead::new(run.packets);
     let mut taken = 0;

@@ -104,7 +104,7 @@ by_parts tuple from to fields source_is dest_is fields_is =
     (record { family = tuple.family; source = tuple.source; dest = tuple.dest; proto = tuple.proto; fields = tuple.fields }) = cc in
     parts
 
-tuple_view : (frame source : List ℕ) (own : Option Mac) (packet : List ℕ) (tuple : TupleFacts) → IsEthernet frame source (ether_type tuple.family) packet → IsTuple packet tuple
+pub tuple_view : (frame source : List ℕ) (own : Option Mac) (packet : List ℕ) (tuple : TupleFacts) → IsEthernet frame source (ether_type tuple.family) packet → IsTuple packet tuple
     → view_of frame own ≡ Ip (direction_of frame own) tuple
 tuple_view frame source own packet tuple e (source_is, dest_is, inl (h, absent)) =
     right_view frame source own tuple.family packet (LaterFragment tuple.proto) e h

@@ -1,15 +1,15 @@
 -- A frame that passes the tests for a plain one is a packet of TCP or UDP whose numbers stand at fixed places.
-use Rattle.std.proofs.Common.{◌≡◌, ◌⊎◌, ◌∙◌, ◌≤◌, ◌+◌, ◌*◌, ◌-◌, ◌/◌, ◌%◌, ℕ, List, ◌++◌, length, take, drop, Option, Some, refl, sym, ap, ap₂, subst, inl, inr, arith}
+use Rattle.std.proofs.Common.{◌≡◌, ◌⊎◌, ◌∙◌, ◌≤◌, ◌<◌, ◌+◌, ◌*◌, ◌-◌, ◌/◌, ◌%◌, ℕ, List, ◌++◌, length, take, drop, get_or, Option, Some, refl, sym, ap, ap₂, subst, inl, inr, arith}
 use Rattle.std.specs.List.{slice_index, slice_range}
 use Rattle.std.proofs.lemmas.Bool.{cond-false, le-ltb}
 use Rattle.std.proofs.lemmas.Bool.Decides.{nat_tests}
-use Rattle.std.proofs.lemmas.List.{drop-drop, drop_at, get_or-drop, length-drop, take_rest}
+use Rattle.std.proofs.lemmas.List.{drop-drop, drop_at, get_or-append-add, get_or-drop, get_or_append_left, length-drop, take_rest}
 use Rattle.std.specs.Option.{option_and_then}
 use Rattle.byteorder.specs.Endian.{big_number}
 use Rattle.packet_view.specs.declared.tuple.Direction.{Direction}
 use Rattle.packet_view.specs.declared.tuple.Family.TheVariants.{V4}
 use Rattle.packet_view.specs.declared.tuple.Fields.{Fields}
-use Rattle.packet_view.specs.declared.tuple.Fields.TheVariants.{Ports, Tcp}
+use Rattle.packet_view.specs.declared.tuple.Fields.TheVariants.{Absent, Icmp, Ports, Tcp}
 use Rattle.packet_view.specs.declared.tuple.Mac.{Mac}
 use Rattle.packet_view.specs.declared.plain_packet.PlainPacket.{PlainPacket}
 use Rattle.packet_view.specs.Bytes.{number_from}
@@ -20,8 +20,8 @@ use Rattle.packet_view.specs.Packets.{Payload, extent}
 use Rattle.packet_view.specs.PlainFrames.{ArePortsOf, IsPlain, IsTupleOf}
 use Rattle.packet_view.specs.Transport.{HasFields}
 use Rattle.packet_view.specs.Tuples.{TupleFacts}
-use Rattle.packet_view.specs.inner.FrameSteps.{after_tag, content_of, direction_of, view_of_content, view_of_packet, with_fields}
-use Rattle.packet_view.proofs.FrameLemmas.{read, view_shown}
+use Rattle.packet_view.specs.inner.FrameSteps.{after_tag, content_of, direction_of, view_of, view_of_content, view_of_packet, with_fields}
+use Rattle.packet_view.proofs.FrameLemmas.{read, tuple_view, view_shown}
 use Rattle.packet_view.proofs.Ipv4Lemmas.{carries_only, payload_shown, total_cases}
 use Rattle.packet_view.proofs.PacketLemmas.{number_from-append}
 use Rattle.packet_view.proofs.TransportLemmas.{fields_only}
@@ -40,7 +40,8 @@ pub record IsRead (frame : List ℕ) (packet : PlainPacket) : Type 0 where
   pub kind : number_at 12 2 frame ≡ 0x0800
   pub first : slice_index frame 14 ≡ 0x45
   pub offset : number_at 20 2 frame % 8192 ≡ 0
-  pub fields : ((packet.proto ≡ 6) × (34 ≤ end_of frame)) ⊎ ((packet.proto ≡ 17) × (24 ≤ end_of frame))
+  pub fields : ((packet.proto ≡ 6) × (34 ≤ end_of frame) × (packet.flags ≡ slice_index frame 47))
+      ⊎ ((packet.proto ≡ 17) × (24 ≤ end_of frame) × (packet.flags ≡ 0))
   pub source : packet.source ≡ number_at 26 4 frame
   pub dest : packet.dest ≡ number_at 30 4 frame
   pub from : packet.from ≡ number_at 34 2 frame
@@ -64,6 +65,15 @@ in_payload bytes payload h place width fits =
     ∙ drop_at h.header (payload ++ h.trailer) (header_length bytes) h.header_end in
     sym (number_from-append place width payload h.trailer fits)
     ∙ ap (number_from place width) (sym behind) ∙ ap (big_number width) (drop-drop place (header_length bytes) bytes)
+
+-- so does a byte of it
+byte_in_payload : (bytes payload : List ℕ) → HasPayload bytes payload → (place : ℕ) → place < length payload
+    → slice_index payload place ≡ slice_index bytes (header_length bytes + place)
+byte_in_payload bytes payload h place inside =
+    sym (ap (λ bs. get_or bs (header_length bytes + place) 0) h.spelt
+    ∙ ap (λ n. get_or (h.header ++ (payload ++ h.trailer)) (n + place) 0) (sym h.header_end)
+    ∙ get_or-append-add h.header (payload ++ h.trailer) place 0
+    ∙ get_or_append_left payload h.trailer 0 place inside)
 
 -- the content of an untagged frame
 untagged : (frame : List ℕ) → 14 ≤ length frame → number_from 12 2 frame ≡ 0x0800
@@ -122,8 +132,8 @@ module _ (frame : List ℕ) (packet : PlainPacket) (h : IsRead frame packet) whe
 
   enough : 24 ≤ end_of frame
   enough = elim h.fields [
-    | inl (tcp, long) ↦ omega arith
-    | inr (udp, long) ↦ long
+    | inl (tcp, long, _) ↦ omega arith
+    | inr (udp, long, _) ↦ long
   ]
 
   right : HasHeader (bytes_of frame)
@@ -168,6 +178,13 @@ module _ (frame : List ℕ) (packet : PlainPacket) (h : IsRead frame packet) whe
       ∙ sym (in_payload (bytes_of frame) _ shown 2 2 fits
       ∙ ap (λ (n : ℕ). number_from (n + 2) 2 (bytes_of frame)) header_is)
 
+  flags_is : 14 ≤ length (payload_of (bytes_of frame)) → packet.flags ≡ slice_index frame 47
+      → slice_index (payload_of (bytes_of frame)) 13 ≡ packet.flags
+  flags_is enough_of_tcp flags =
+      byte_in_payload (bytes_of frame) _ shown 13 (omega arith)
+      ∙ ap (λ (n : ℕ). slice_index (bytes_of frame) (n + 13)) header_is
+      ∙ get_or-drop 14 frame 33 0 ∙ sym flags
+
   of_fields : (own : Option Mac) (fields : Fields)
       → HasFields V4 (protocol (bytes_of frame)) (payload_of (bytes_of frame)) fields → ArePortsOf packet fields
       → (way : Direction) × (tuple : TupleFacts) × IsFrame frame own (Ip way tuple) × IsTupleOf packet tuple
@@ -187,12 +204,51 @@ module _ (frame : List ℕ) (packet : PlainPacket) (h : IsRead frame packet) whe
 
   pub is_plain : IsPlain frame packet
   is_plain = λ own. elim h.fields [
-    | inl (tcp, long) ↦
+    | inl (tcp, long, flags) ↦
         let enough_of_tcp : 14 ≤ length (payload_of (bytes_of frame)) = omega (arith, payload_size, long) in
         of_fields own (Tcp packet.from packet.to (slice_index (payload_of (bytes_of frame)) 13))
-        (sym proto_is ∙ tcp, enough_of_tcp, from_is, to_is, refl) (tcp, refl, refl)
-    | inr (udp, long) ↦
+        (sym proto_is ∙ tcp, enough_of_tcp, from_is, to_is, refl) (tcp, refl, refl, flags_is enough_of_tcp flags)
+    | inr (udp, long, none) ↦
         let enough_of_udp : 4 ≤ length (payload_of (bytes_of frame)) = omega (arith, payload_size, long) in
         of_fields own (Ports packet.from packet.to)
-        (sym proto_is ∙ udp, enough_of_udp, from_is, to_is) (udp, refl, refl)
+        (sym proto_is ∙ udp, enough_of_udp, from_is, to_is) (udp, refl, refl, none)
   ]
+
+fields_one : (packet : PlainPacket) (fields others : Fields) → ArePortsOf packet fields → ArePortsOf packet others
+    → fields ≡ others
+fields_one packet Absent others is are = absurd is
+fields_one packet (Icmp kind code) others is are = absurd is
+fields_one packet (Ports from to) Absent is are = absurd are
+fields_one packet (Ports from to) (Icmp kind code) is are = absurd are
+fields_one packet (Ports from to) (Ports first last) (_, a, b, _) (_, c, d, _) =
+    ap₂ Ports (a ∙ sym c) (b ∙ sym d)
+fields_one packet (Ports from to) (Tcp first last flags) (udp, _, _, _) (tcp, _, _, _) = absurd (omega arith)
+fields_one packet (Tcp from to flags) Absent is are = absurd are
+fields_one packet (Tcp from to flags) (Icmp kind code) is are = absurd are
+fields_one packet (Tcp from to flags) (Ports first last) (tcp, _, _, _) (udp, _, _, _) = absurd (omega arith)
+fields_one packet (Tcp from to flags) (Tcp first last more) (_, a, b, c) (_, d, e, f) =
+    let one : ◌≡◌ {A = Fields} (Tcp from to flags) (Tcp first last more) = cc in
+    one
+
+-- a plain packet says one five-tuple
+tuple_one : (packet : PlainPacket) (tuple other : TupleFacts) → IsTupleOf packet tuple → IsTupleOf packet other
+    → tuple ≡ other
+tuple_one packet tuple other is are =
+    let fields = fields_one packet tuple.fields other.fields is.ports are.ports in
+    let family = is.family ∙ sym are.family in
+    let source = is.source ∙ sym are.source in
+    let dest = is.dest ∙ sym are.dest in
+    let proto = is.proto ∙ sym are.proto in
+    let parts : ◌≡◌ {A = TupleFacts}
+    (record { family = tuple.family; source = tuple.source; dest = tuple.dest; proto = tuple.proto; fields = tuple.fields })
+    (record { family = other.family; source = other.source; dest = other.dest; proto = other.proto; fields = other.fields }) =
+    cc in
+    parts
+
+-- so it is what the frame turns out to be
+pub plain_view : (frame : List ℕ) (own : Option Mac) (packet : PlainPacket) (tuple : TupleFacts) → IsPlain frame packet
+    → IsTupleOf packet tuple → view_of frame own ≡ Ip (direction_of frame own) tuple
+plain_view frame own packet tuple plain is =
+    let (way, other, (source, bytes, ethernet, goes, of), are) = plain own in
+    tuple_view frame source own bytes other ethernet of
+    ∙ ap (Ip (direction_of frame own)) (tuple_one packet other tuple are is)

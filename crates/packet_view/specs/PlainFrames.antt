@@ -1,5 +1,5 @@
 -- What a plain frame's packet says, by what the frame turns out to be (RFC 791, RFC 9293, RFC 768).
-use Rattle.std.specs.Prelude.{◌≡◌, ℕ, List, Option}
+use Rattle.std.specs.Prelude.{◌≡◌, ◌⊎◌, ℕ, List, Option}
 use Rattle.packet_view.specs.declared.tuple.Direction.{Direction}
 use Rattle.packet_view.specs.declared.tuple.Family.TheVariants.{V4}
 use Rattle.packet_view.specs.declared.tuple.Fields.{Fields}
@@ -9,11 +9,16 @@ use Rattle.packet_view.specs.declared.plain_packet.PlainPacket.{PlainPacket}
 use Rattle.packet_view.specs.Frames.{IsFrame, Ip}
 use Rattle.packet_view.specs.Tuples.{TupleFacts}
 
--- fields with the packet's ports, of its protocol
+-- a packet of TCP, or one of UDP, which has no flags
+abbrev pub IsTcpOrUdp : PlainPacket → Type 0
+IsTcpOrUdp packet = (packet.proto ≡ 6) ⊎ ((packet.proto ≡ 17) × (packet.flags ≡ 0))
+
+-- fields with the packet's ports, and flags where it is one of TCP, of its protocol
 abbrev pub ArePortsOf : PlainPacket → Fields → Type 0
 ArePortsOf packet Absent = ⊥
-ArePortsOf packet (Ports from to) = (packet.proto ≡ 17) × (from ≡ packet.from) × (to ≡ packet.to)
-ArePortsOf packet (Tcp from to flags) = (packet.proto ≡ 6) × (from ≡ packet.from) × (to ≡ packet.to)
+ArePortsOf packet (Ports from to) = (packet.proto ≡ 17) × (from ≡ packet.from) × (to ≡ packet.to) × (packet.flags ≡ 0)
+ArePortsOf packet (Tcp from to flags) =
+    (packet.proto ≡ 6) × (from ≡ packet.from) × (to ≡ packet.to) × (flags ≡ packet.flags)
 ArePortsOf packet (Icmp kind code) = ⊥
 
 -- a five-tuple of IPv4 that says what the packet says

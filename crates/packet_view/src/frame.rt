@@ -5,6 +5,7 @@ ghost use Rattle.packet_view.specs.Frames.{IsFrame, FrameFacts, frame_facts};
 ghost use Rattle.packet_view.specs.inner.FrameSteps.{direction_of, packets, view_of, view_of_packet};
 
 use crate::packet::{IpPacket, Upper};
+use crate::plain_packet::plain;
 use crate::tuple::{Direction, Fields, Mac, Tuple};
 use crate::{ethernet, ipv4, ipv6, transport};
 use byteorder::{BigEndian, ByteOrder};
@@ -78,8 +79,8 @@ fn frame_of(direction: Direction, packet: Option<IpPacket<'_>>) -> Frame
     )
 }
 
-/// The layers, one above the other.
-#[inline(always)]
+/// The layers, one above the other. Few frames aren't plain, and the path of the others is shorter without this.
+#[inline(never)]
 fn read(frame: &[u8], own: Option<Mac>) -> Frame
     ensures { frame_facts result ≡ view_of frame.now own }
 {
@@ -103,5 +104,8 @@ pub fn view(frame: &[u8], own: Option<Mac>) -> Frame
     ensures shown { IsFrame frame.now own (frame_facts result) }
     ensures only { (other : FrameFacts) → IsFrame frame.now own other → other ≡ frame_facts result }
 {
-    read(frame, own)
+    match plain(frame) {
+        Some(packet) => Frame::Ip(direction(frame, own), packet.tuple()),
+        None => read(frame, own),
+    }
 }

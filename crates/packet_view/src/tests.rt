@@ -116,6 +116,7 @@ fn reads_plain_frames(rt: HostRuntime) {
         from: 1000,
         to: 53,
         proto: 17,
+        flags: 0,
     };
     let tcp = PlainPacket {
         source: 0x0a00_0001,
@@ -123,6 +124,7 @@ fn reads_plain_frames(rt: HostRuntime) {
         from: 1000,
         to: 80,
         proto: 6,
+        flags: 0x02,
     };
     assert_eq!(rt; plain(&UDP), Some(udp));
     assert_eq!(rt; plain(&UDP[..38]), Some(udp), "4 bytes of UDP");

@@ -113,6 +113,7 @@ fn flows_of_plain_packets(rt: HostRuntime) {
         from: 1000,
         to: 53,
         proto: 17,
+        flags: 0,
     };
     assert_eq!(rt;
         Some(plain_flow(asked)),
@@ -124,6 +125,7 @@ fn flows_of_plain_packets(rt: HostRuntime) {
         from: 80,
         to: 1000,
         proto: 6,
+        flags: 0x18,
     };
     assert_eq!(rt;
         Some(plain_flow(sent)),

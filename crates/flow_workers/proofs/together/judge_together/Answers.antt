@@ -4,7 +4,7 @@ use Rattle.packet_view.specs.CheckedCaptures.{held}
 use Rattle.packet_dealing.proofs.DealtLists.{left_behind, none_left, stands_at}
 use Rattle.flow_workers.specs.inner.Jobs.{dealer_of}
 use Rattle.flow_workers.specs.inner.Together.{HaveNotedSome}
-use Rattle.flow_workers.proofs.TogetherLemmas.{all_worked_on, all_worked_to, idle_after, none_noted, none_worked, noted_push}
+use Rattle.flow_workers.proofs.TogetherLemmas.{all_worked_on, all_worked_to, idle_after, none_noted, noted_push}
 use Rattle.flow_workers.proofs.WorkSteps.{taken_inside}
 use Rattle.flow_workers.proofs.together.judge_together.Goals as goal
 
@@ -14,7 +14,7 @@ packets-init g c =
     record {
       left = sym c.new-packets.ensures;
       inside = omega arith;
-      worked = none_worked g.A.Shape g.B.Shape run 0 c.args.shares.items c.requires.idle;
+      worked = c.in_ok-make_room.ensures;
       noted = rw c.in_ok-reserve.ensures.items
           (none_noted g.A.Shape g.B.Shape (dealer_of run.setup) run.first (held run.packets) c.args.judges.now.items);
     }

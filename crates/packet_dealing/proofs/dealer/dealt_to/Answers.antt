@@ -9,7 +9,7 @@ pub returns-in-Some-clause-dealt : goal.returns-in-Some-clause-dealt
 returns-in-Some-clause-dealt g c = λ seen shown.
     let frame = c.args.frame.now in
     let own = c.args.dealer.now.own in
-    let (way, tuple, is, of) = c.in-Some.ensures own in
+    let (way, tuple, is, of) = c.in-Some.ensures.plain own in
     let by = worker_by c.args.dealer.now.dealing (layout_of g.A.Shape g.B.Shape) c.args.dealer.now.workers c.args.number
     in
     ◌∙◌ {b = by (Some c.plain_flow.result)} c.worker_of.ensures.worker
