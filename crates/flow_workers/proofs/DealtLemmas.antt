@@ -5,6 +5,7 @@ use Rattle.std.proofs.lemmas.List.{drop_all, drop_more, length-drop}
 use Rattle.std.proofs.lemmas.Option.{slice_get_within}
 use Rattle.packet_view.specs.Captures.{PacketFacts}
 use Rattle.packet_view.specs.CheckedCaptures.{held}
+use Rattle.packet_view.specs.Frames.{FrameFacts, IsFrame, frame_facts}
 use Rattle.packet_view.specs.inner.FrameSteps.{view_of}
 use Rattle.packet_view.proofs.FrameLemmas.{view_only, view_shown}
 use Rattle.bihash_words.specs.declared.shape.Shape.{Ghosts}
@@ -13,8 +14,10 @@ use Rattle.packet_dealing.specs.Dealt.{AreDealt, IsDealtTo}
 use Rattle.packet_dealing.specs.declared.deals.DealtPart.{DealtPart}
 use Rattle.flow_workers.specs.declared.share.Run.{Run}
 use Rattle.flow_workers.specs.declared.share.Share.{Share}
+use Rattle.flow_workers.specs.declared.viewed_packet.ViewedPacket.{ViewedPacket}
 use Rattle.flow_workers.specs.Callers.{AreIdle}
-use Rattle.flow_workers.specs.inner.Jobs.{AreDealtFrom, HasWorkedOn, IsPartOf, StandAmong, dealer_of}
+use Rattle.flow_workers.specs.inner.Jobs.{AreDealtFrom, HasWorkedOn, IsPartOf, IsWorkerOf, MayJudge, MayJudgeViewed, StandAmong, dealer_of}
+use Rattle.flow_workers.specs.inner.ViewedPackets.{IsViewed}
 use Rattle.flow_workers.proofs.WorkSteps.{one_more, work_passed}
 
 pub front_only : {X : Type 0} (xs ys : List X) (k : ℕ) → k < length xs → slice_get (xs ++ ys) k ≡ slice_get xs k
@@ -56,6 +59,21 @@ module _ {A B R G K L : Type 0} (ga : Ghosts A K) (gb : Ghosts B L) (run : Run A
       subst (λ n. IsDealtTo ga gb (dealer_of run.setup) n packet.frame (slice_index part.workers.items k))
       (let e : run.first + first + k ≡ run.first + (first + k) = omega arith in e)
       (is.workers.each k packet below (next_there (held run.packets) behind first k packet here))
+
+  -- a packet that turned out to be this may be judged as it was viewed
+  pub may_judge_viewed : (worker at : ℕ) (packet : PacketFacts) (viewed : ViewedPacket) (frame : FrameFacts)
+      (share : Share A B K L ga gb) → MayJudge ga gb run worker at packet share
+      → IsViewed run.setup.filter.own packet viewed → frame ≡ frame_facts viewed.frame.now
+      → IsFrame packet.frame run.setup.filter.own frame
+      → ((other : FrameFacts) → IsFrame packet.frame run.setup.filter.own other → other ≡ frame)
+      → MayJudgeViewed ga gb run worker at viewed share
+  may_judge_viewed worker at packet viewed frame share may seen same shown only = record {
+    shapes = may.shapes;
+    idle = may.idle;
+    fits = may.fits;
+    stands = record { packet = packet; there = may.there; seen = seen; only = λ other is. only other is ∙ same };
+    mine = subst (λ f. IsWorkerOf ga gb run at f worker) same (may.mine frame shown);
+  }
 
   pub worked_none : (w at : ℕ) (share : Share A B K L ga gb) → AreIdle ga gb run.setup.tables.now share.callers
       → HasWorkedOn ga gb run w at at share share

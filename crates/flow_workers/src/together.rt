@@ -1,40 +1,36 @@
 //! All workers in one thread: each packet is judged by its worker, in the order of the file.
 ghost use Rattle.std.specs.Prelude.{◌≡◌, ◌<◌, ◌≤◌, ◌+◌, ◌++◌, ◌∷◌, [], false, IfOk, length};
 ghost use Rattle.packet_view.specs.Captures.{packet_facts};
-ghost use Rattle.session_state.specs.declared.flow.Flow.{Flow};
-ghost use Rattle.flow_dealing.specs.Dealings.{worker_by};
-ghost use Rattle.flow_filter.specs.OneThread.{layout_of};
+ghost use Rattle.packet_dealing.specs.Dealt.{IsDealtTo};
+ghost use Rattle.flow_workers.specs.inner.Jobs.{dealer_of};
 ghost use Rattle.flow_workers.specs.inner.Together.{HasJudgedNext, HaveRun, MayChoose, MayJudgeNext};
 ghost use Rattle.flow_workers.specs.inner.Turns.{HaveWorkedOn, MayRun};
 
 use crate::gate::Gate;
 use crate::setup::Setup;
 use crate::share::{Run, Share};
-use crate::viewed_packet::ViewedPacket;
-use crate::work::judge_own_viewed;
+use crate::work::judge_own;
 use bihash_words::Shape;
-use flow_dealing::worker_of;
-use packet_dealing::flow_in;
-use packet_view::{Packet, PacketsAhead, view};
-use session_state::Flow;
+use packet_dealing::dealt_to;
+use packet_view::{Packet, PacketsAhead};
 use std::alloc::AllocError;
 use std::sync::Wait;
 
-// The worker of the packet with this number and flow. One that is alone needs no hash.
+// The worker of the packet with this number and frame. One that is alone needs no look.
 #[inline(always)]
 fn worker_for<A: Shape, B: Shape, R: Wait, G: Gate>(
     setup: &Setup<'_, A, B, R, G>,
     number: usize,
-    flow: Option<Flow>,
+    frame: &[u8],
 ) -> usize
     requires { MayChoose ⟦<A as Shape>⟧ ⟦<B as Shape>⟧ setup.now }
-    ensures is { result ≡ worker_by setup.now.dealing (layout_of ⟦<A as Shape>⟧ ⟦<B as Shape>⟧) setup.now.workers number flow }
+    ensures dealt { IsDealtTo ⟦<A as Shape>⟧ ⟦<B as Shape>⟧ (dealer_of setup.now) number frame.now result }
     ensures one { result < setup.now.workers }
 {
     if setup.is_alone() {
         0
     } else {
-        worker_of::<A, B>(setup.dealing, setup.workers, number, flow)
+        dealt_to::<A, B>(&setup.dealer(), number, frame)
     }
 }
 
@@ -49,11 +45,8 @@ fn judge_next<A: Shape, B: Shape, R: Wait, G: Gate>(
     requires { MayJudgeNext ⟦<A as Shape>⟧ ⟦<B as Shape>⟧ run.now at (packet_facts packet.now) shares.old.items }
     ensures { IfOk result (HasJudgedNext ⟦<A as Shape>⟧ ⟦<B as Shape>⟧ run.now at (packet_facts packet.now) shares.old.items shares.new.items) }
 {
-    let frame = view(packet.frame, run.setup.filter.own);
-    let flow = flow_in(&frame);
-    let worker = worker_for(&run.setup, run.first + at, flow);
-    let viewed = ViewedPacket::new(packet, &frame, &flow);
-    judge_own_viewed(run, worker, at, &viewed, &mut shares[worker])?;
+    let worker = worker_for(&run.setup, run.first + at, packet.frame);
+    judge_own(run, worker, at, packet, &mut shares[worker])?;
     Ok(worker)
 }
 

@@ -8,7 +8,7 @@ mod part;
 mod parts;
 mod task;
 
-pub use dealer::{Dealer, flow_in};
+pub use dealer::{Dealer, dealt_to, flow_in};
 pub use deals::{DealtPart, deal_packets};
 pub use task::{Task, run_all};
 

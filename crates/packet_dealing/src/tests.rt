@@ -1,7 +1,7 @@
 //! Packets whose workers were worked out by hand.
 ghost use Rattle.std.specs.Prelude.{◌≤◌, ◌<◌, ◌+◌, ◌^◌, length};
 
-use crate::{Dealer, DealtPart, deal_packets};
+use crate::{Dealer, DealtPart, deal_packets, dealt_to};
 use bihash_words::{ShapeV4, ShapeV6, flow_shapes_are_sound};
 use flow_dealing::Dealing;
 use packet_view::{Packet, Packets};
@@ -106,4 +106,18 @@ fn deals_packets_of_several_flows(rt: HostRuntime) -> Result<(), Fail> {
     assert_eq!(rt; parts.len(), 2);
     expect_packets(&rt, parts, &packets, [1, 0, 1, 0, 1, 0, 1]);
     Ok(())
+}
+
+#[test]
+fn one_packet_has_its_worker(rt: HostRuntime) {
+    flow_shapes_are_sound();
+    let dealer = Dealer {
+        own: None,
+        dealing: Dealing::Bucket,
+        workers: 3,
+    };
+    let request = four(17, 1, 2, [0x03, 0xe8, 0, 53]);
+    assert_eq!(rt; dealt_to::<ShapeV4, ShapeV6>(&dealer, 9, &request), 1);
+    assert_eq!(rt; dealt_to::<ShapeV4, ShapeV6>(&dealer, 9, &ARP), 0);
+    assert_eq!(rt; dealt_to::<ShapeV4, ShapeV6>(&dealer, 9, &SIX), 2);
 }

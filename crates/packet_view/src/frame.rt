@@ -1,5 +1,5 @@
 //! Frames, and what they turn out to be.
-ghost use Rattle.std.specs.Prelude.{◌≡◌, ◌≤◌, ◌<◌, ℕ, length, slice_index};
+ghost use Rattle.std.specs.Prelude.{◌≡◌, ◌≤◌, ◌<◌, ℕ, IfSome, length, slice_index};
 ghost use Rattle.packet_view.specs.Bytes.{number_from};
 ghost use Rattle.packet_view.specs.Frames.{IsFrame, FrameFacts, frame_facts};
 ghost use Rattle.packet_view.specs.inner.FrameSteps.{direction_of, packets, view_of, view_of_packet};
@@ -95,6 +95,18 @@ fn read(frame: &[u8], own: Option<Mac>) -> Frame
     frame_of(direction(frame, own), packet)
 }
 
+/// What a plain frame is at the interface with this address; whoever judges many packets asks this first.
+///
+/// `None` says nothing of the frame: `view` tells what it is.
+#[inline(always)]
+pub fn plain_frame(frame: &[u8], own: Option<Mac>) -> Option<Frame>
+    ensures shown { IfSome result (λ seen. IsFrame frame.now own (frame_facts seen)) }
+    ensures only { IfSome result (λ seen. (other : FrameFacts) → IsFrame frame.now own other → other ≡ frame_facts seen) }
+{
+    let packet = plain(frame)?;
+    Some(Frame::Ip(direction(frame, own), packet.tuple()))
+}
+
 /// What a frame is at the interface with this address: from that address it goes out, from every other it comes in.
 ///
 /// Up to two VLAN tags are skipped, and up to eight IPv6 extension headers. A packet ends where its total or payload
@@ -104,8 +116,8 @@ pub fn view(frame: &[u8], own: Option<Mac>) -> Frame
     ensures shown { IsFrame frame.now own (frame_facts result) }
     ensures only { (other : FrameFacts) → IsFrame frame.now own other → other ≡ frame_facts result }
 {
-    match plain(frame) {
-        Some(packet) => Frame::Ip(direction(frame, own), packet.tuple()),
+    match plain_frame(frame, own) {
+        Some(seen) => seen,
         None => read(frame, own),
     }
 }

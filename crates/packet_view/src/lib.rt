@@ -23,7 +23,7 @@ pub use capture::{
     Capture, CaptureFault, CheckedCapture, Order, Packet, Piece, capture_header, check_capture,
     next_record, read_capture,
 };
-pub use frame::{Frame, view};
+pub use frame::{Frame, plain_frame, view};
 pub use front::{Front, Stop, front_records};
 pub use laws::{
     a_cut_capture_keeps_its_front, bytes_after_the_packet_are_not_seen,

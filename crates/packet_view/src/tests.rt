@@ -2,7 +2,7 @@
 use crate::{
     Capture, CaptureFault, Direction, Family, Fields, Frame, Mac, Order, Packet, Packets,
     PacketsAhead, Piece, PlainPacket, Stop, Tuple, capture_header, check_capture, front_records,
-    next_record, plain, read_capture, view,
+    next_record, plain, plain_frame, read_capture, view,
 };
 use std::test::Fail;
 
@@ -131,6 +131,30 @@ fn reads_plain_frames(rt: HostRuntime) {
     assert_eq!(rt; plain(&TCP), Some(tcp));
     assert_eq!(rt; plain(&TCP[..48]), Some(tcp), "14 bytes of TCP");
     assert_eq!(rt; plain(&TCP[..47]), None, "13 bytes of TCP");
+}
+
+#[test]
+fn sees_plain_frames(rt: HostRuntime) {
+    let tcp = Tuple {
+        family: Family::V4,
+        source: 0x0a00_0001,
+        dest: 0x0a00_0002,
+        proto: 6,
+        fields: Fields::Tcp {
+            from: 1000,
+            to: 80,
+            flags: 0x02,
+        },
+    };
+    assert_eq!(rt;
+        plain_frame(&UDP, OWN),
+        Some(Frame::Ip(Direction::Outbound, UDP_TUPLE))
+    );
+    assert_eq!(rt;
+        plain_frame(&TCP, None),
+        Some(Frame::Ip(Direction::Inbound, tcp))
+    );
+    assert_eq!(rt; plain_frame(&TCP[..47], None), None);
 }
 
 #[test]

@@ -18,14 +18,22 @@ returns-clause-plain c =
       first = c.if-frame-ne69.false;
       offset = ap (λ (n : ℕ). n % 8192) (sym c.read_u16-else-end-least.ensures) ∙ c.if-read_u16-ne0.false;
       fields = elim c.match-frame.branch [
-        | in-6 w ↦ inl (w.in-6.is, omega (arith, there, w.least-is), elim c.if-least-eq34.branch [
-          | then-least-eq34 v ↦ v.flags-is
-          | else-least-eq34 v ↦ absurd (v.if-least-eq34.false w.least-is)
-        ])
-        | in-17 w ↦ inr (w.in-17.is, omega (arith, there, w.least-is), elim c.if-least-eq34.branch [
-          | then-least-eq34 v ↦ let tcp = v.if-least-eq34.true in absurd (omega (arith, w.least-is))
-          | else-least-eq34 v ↦ v.flags-is
-        ])
+        | in-6 w ↦ inl (
+          w.in-6.is,
+          omega (arith, there, w.least-is),
+          elim c.if-least-eq34.branch [
+            | then-least-eq34 v ↦ v.flags-is
+            | else-least-eq34 v ↦ absurd (v.if-least-eq34.false w.least-is)
+          ],
+        )
+        | in-17 w ↦ inr (
+          w.in-17.is,
+          omega (arith, there, w.least-is),
+          elim c.if-least-eq34.branch [
+            | then-least-eq34 v ↦ let tcp = v.if-least-eq34.true in absurd (omega (arith, w.least-is))
+            | else-least-eq34 v ↦ v.flags-is
+          ],
+        )
       ];
       source = c.read_u32.ensures;
       dest = c.read_u32-2.ensures;
