@@ -31,6 +31,18 @@ const TCP: [u8; 54] = [
     0x03, 0xe8, 0x00, 0x50, 0, 0, 0, 0, 0, 0, 0, 0, 0x50, 0x02, 0, 0, 0, 0, 0, 0, // TCP
 ];
 
+const TCP_TUPLE: Tuple = Tuple {
+    family: Family::V4,
+    source: 0x0a00_0001,
+    dest: 0x0a00_0002,
+    proto: 6,
+    fields: Fields::Tcp {
+        from: 1000,
+        to: 80,
+        flags: 2,
+    },
+};
+
 #[test]
 fn sees_a_packet_by_its_way(rt: HostRuntime) {
     let other = Some(Mac([2, 0, 0, 0, 0, 2]));
@@ -63,21 +75,10 @@ fn sees_frames_cut_and_foreign(rt: HostRuntime) {
 
 #[test]
 fn reads_tcp_and_icmp(rt: HostRuntime) {
-    let tcp = Tuple {
-        family: Family::V4,
-        source: 0x0a00_0001,
-        dest: 0x0a00_0002,
-        proto: 6,
-        fields: Fields::Tcp {
-            from: 1000,
-            to: 80,
-            flags: 2,
-        },
-    };
-    assert_eq!(rt; view(&TCP, OWN), Frame::Ip(Direction::Outbound, tcp));
+    assert_eq!(rt; view(&TCP, OWN), Frame::Ip(Direction::Outbound, TCP_TUPLE));
     assert_eq!(rt;
         view(&TCP[..48], OWN),
-        Frame::Ip(Direction::Outbound, tcp),
+        Frame::Ip(Direction::Outbound, TCP_TUPLE),
         "14 bytes of TCP"
     );
 
@@ -135,24 +136,13 @@ fn reads_plain_frames(rt: HostRuntime) {
 
 #[test]
 fn sees_plain_frames(rt: HostRuntime) {
-    let tcp = Tuple {
-        family: Family::V4,
-        source: 0x0a00_0001,
-        dest: 0x0a00_0002,
-        proto: 6,
-        fields: Fields::Tcp {
-            from: 1000,
-            to: 80,
-            flags: 0x02,
-        },
-    };
     assert_eq!(rt;
         plain_frame(&UDP, OWN),
         Some(Frame::Ip(Direction::Outbound, UDP_TUPLE))
     );
     assert_eq!(rt;
         plain_frame(&TCP, None),
-        Some(Frame::Ip(Direction::Inbound, tcp))
+        Some(Frame::Ip(Direction::Inbound, TCP_TUPLE))
     );
     assert_eq!(rt; plain_frame(&TCP[..47], None), None);
 }
