@@ -24,7 +24,7 @@ use std::sync::Wait;
 use std::thread::Threads;
 
 /// How many bytes of an input are read before any is judged, at least.
-const FRONT_BYTES: usize = 8_388_608;
+const FRONT_BYTES: usize = 12_582_912;
 
 fn judge_capture<T: Threads + Wait + Sync>(
     host: &Host<'_, T>,
