@@ -1,12 +1,14 @@
-"""Runs the gate and the checks, says how long each part took, and adds up what passed and failed.
+"""Runs the gate, the edits that must be refused and the checks, says how long each part took, and adds up what passed and
+failed.
 
-The gate is `rt ci`, which leaves each program that it proved in crates/NAME/out, as LLVM builds it and as Rattle's own
-compiler does. Where all of it passed, the launcher takes the first one for the program of these sources, by the record
-that is written here.
+The gate is `rt ci`, which leaves each library and program that it proved in crates/NAME/out, a program as LLVM builds it
+and as Rattle's own compiler does. Where all of it passed, the launcher takes the first one for the program of these
+sources, by the record that is written here, and the edits are tried over the libraries (edits.py).
 """
 import fcntl
 import os
 import re
+import shutil
 import subprocess
 import sys
 import time
@@ -20,10 +22,8 @@ COUNTS = re.compile(r"(\d+) passed, (\d+) failed")
 STEPS = [
     ("proved", re.compile(r"rt: (\w+) (?:NOT )?(?:proved|PROVED)\b")),
     ("tests proved", re.compile(r"rt: (\w+): its tests are (?:NOT )?(?:proved|PROVED)\b")),
-    ("edits begun", re.compile(r"rt: (\w+): trying its must-fail edits")),
     ("tests run", re.compile(r"rt: (\w+): its tests (?:passed|FAILED)\b")),
 ]
-EDITS_DONE = re.compile(r"rt: must-fail ")
 
 
 def followed(command, look):
@@ -52,7 +52,6 @@ class Times:
     def __init__(self):
         self.start = time.monotonic()
         self.steps = {}
-        self.edits_done = None
 
     def look(self, line):
         now = time.monotonic() - self.start
@@ -60,18 +59,14 @@ class Times:
             found = pattern.match(line)
             if found:
                 self.steps.setdefault(found[1], {})[step] = now
-        if self.edits_done is None and EDITS_DONE.match(line):
-            self.edits_done = now
 
-    def tell(self, total, used):
+    def tell(self, total, spent):
         names = [step for step, _ in STEPS]
         print("seconds from the gate's start until a crate was")
         print(f"  {'':22}" + "".join(f"{it:>14}" for it in names))
         for crate, at in self.steps.items():
             print(f"  {crate:22}" + "".join(f"{at[it]:14.0f}" if it in at else f"{'':14}" for it in names))
-        if self.edits_done is not None:
-            print(f"  all edits were tried after {self.edits_done:.0f}")
-        print(f"rt ci took {total:.0f} s and {used / 60:.1f} processor minutes")
+        print(f"rt ci took {total:.0f} s and {spent / 60:.1f} processor minutes")
 
 
 def held_back():
@@ -79,6 +74,8 @@ def held_back():
     os.makedirs("out", exist_ok=True)
     lock = open("out/build.lock", "a")
     fcntl.flock(lock, fcntl.LOCK_EX)
+    # what a build that was killed left, sources that belong to no crate
+    shutil.rmtree("out/build", ignore_errors=True)
     return lock
 
 
@@ -99,17 +96,25 @@ def programs_after(has_passed, sources):
     return [program, PROGRAM + BY_RATTLE]
 
 
+def used():
+    """The processor time of the commands that ended, in seconds."""
+    ended = os.times()
+    return ended.children_user + ended.children_system
+
+
 def main():
     with held_back():
         times, sources = Times(), of_sources("sources_digest")
         status, last = followed(["rt", "ci"], times.look)
-        total, ended = time.monotonic() - times.start, os.times()
+        total, of_gate = time.monotonic() - times.start, used()
         gate = counted(status, last)
         # where the gate left no program, none is built for the checks: that would only fail again
         is_there = os.path.exists(PROGRAM)
         programs = programs_after(status == 0 and gate[1] == 0, sources) if is_there else []
+        start = time.monotonic()
+        counts = [gate, counted(*followed([sys.executable, ".ci/edits.py"], lambda _: None)) if is_there else (0, 1)]
+        of_edits, spent = used() - of_gate, time.monotonic() - start
     start = time.monotonic()
-    counts = [gate]
     if is_there:
         built = [it + by for it in (PROGRAM, TABLE_PROGRAM) for by in ("", BY_RATTLE)]
         checks = (["checks/house"], ["checks/documents"], ["checks/launcher"], ["checks/run", *programs],
@@ -117,9 +122,11 @@ def main():
         counts += [counted(*followed(it, lambda _: None)) for it in checks]
     else:
         counts.append((0, 1))
-    times.tell(total, ended.children_user + ended.children_system)
+    times.tell(total, of_gate)
+    print(f"the edits took {spent:.0f} s and {of_edits / 60:.1f} processor minutes")
     of = "the programs that rt ci built" if is_there else "no program"
-    print(f"the checks of {of} took {time.monotonic() - start:.0f} s")
+    of_checks = used() - of_gate - of_edits
+    print(f"the checks of {of} took {time.monotonic() - start:.0f} s and {of_checks / 60:.1f} processor minutes")
     passed, failed = (sum(it[part] for it in counts) for part in (0, 1))
     print(f"{passed} passed, {failed} failed")
     sys.exit(status or int(failed != 0))

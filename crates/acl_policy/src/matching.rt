@@ -11,9 +11,6 @@ use crate::family::width_of;
 use crate::rule::{Action, Rule};
 use packet_view::{Family, Fields, Tuple};
 
-#[cfg(test)]
-mod tests;
-
 #[tactic(auto, using(crate::proofs::PrefixBits::begins_alike))]
 fn has_prefix(family: Family, prefix: (u128, u8), address: u128) -> bool
     requires length { prefix.1 ≤ width family }

@@ -13,9 +13,6 @@ use crate::rule::Rule;
 use packet_view::Direction;
 use std::alloc::Global;
 
-#[cfg(test)]
-mod tests;
-
 /// The greatest number of rules of one direction.
 const MOST_RULES: usize = 4096;
 

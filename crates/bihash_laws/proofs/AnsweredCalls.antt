@@ -6,19 +6,21 @@ use Rattle.std.proofs.Math.Nat.{mod-lt}
 use Rattle.std.proofs.lemmas.Bool.{cases_eq, cases_lt}
 use mathlib.Core.Option.{some, some-ne-none, some-injective}
 use lib.ListN.{get_elem?}
-use Rattle.bihash_words.specs.Maps.{Event}
+use Rattle.bihash_words.specs.Maps.{Event, Pairs}
 use Rattle.bihash_words.specs.Sizes.{Sizes}
 use Rattle.bihash_steps.specs.Words.{buckets}
 use Rattle.bihash_steps.specs.Histories.{IsLegal, IsPrefix, after, bucket_of, is_changed}
-use Rattle.bihash_steps.specs.Callers.{HasWrite, IsLawfulCaller, known_at, opening_at}
-use Rattle.bihash_steps.specs.Views.{first_view}
+use Rattle.bihash_steps.specs.Callers.{HasWrite, IsLawfulCaller, known_at, opening_at, opening_in}
+use Rattle.bihash_steps.specs.Views.{opening_view}
 use Rattle.bihash_steps.specs.BucketSteps.{acting, map_now, push_call}
+use Rattle.bihash_steps.specs.declared.view.Openings.{Openings}
 use Rattle.bihash_steps.specs.declared.view.Write.{Write}
 use Rattle.bihash_steps.specs.declared.view.Call.{Call}
 use Rattle.bihash_steps.specs.declared.view.Record.{Record}
 use Rattle.bihash_steps.specs.declared.view.Known.{Known}
 use Rattle.bihash_steps.specs.declared.view.View.{View}
 use Rattle.bihash_steps.proofs.Prefixes.{prefix_below}
+use Rattle.bihash_steps.proofs.Whole.{prefix_whole}
 use Rattle.bihash_steps.proofs.Lists.{at_end, within}
 use Rattle.bihash_steps.proofs.Pushed.{push-length}
 use Rattle.bihash_table.specs.Answers.{entry_of, own_writes, with_locks}
@@ -238,8 +240,8 @@ module _ (z : Sizes) (b : ℕ) (v w : View) (e : Event) (a : IsLawfulAnswer z b 
           absurd (omega arith)
 
 -- nothing is known at first
-pub first_one_writer : (z : Sizes) (b : ℕ) → IsOneWriter (first_view z).known b (acting (first_view z).records)
-first_one_writer z b n w at = absurd (some-ne-none w (sym (ap (λ (ws : List Write). get_elem? ws n) (sym (none_known (buckets z) b)) ∙ at)))
+pub first_one_writer : (z : Sizes) (o : Openings) (b : ℕ) → IsOneWriter (opening_view z o).known b (acting (opening_view z o).records)
+first_one_writer z o b n w at = absurd (some-ne-none w (sym (ap (λ (ws : List Write). get_elem? ws n) (sym (none_known (buckets z) b)) ∙ at)))
 
 -- a lone caller learns of no write but its own, and stays lone
 pub lone_learns_own : (z : Sizes) (b : ℕ) (v w : View) (e : Event) → IsLawfulAnswer z b v w e → v.lone ≡ true
@@ -252,3 +254,15 @@ lone_learns_own z b v w e a lone =
           (learned_length v.known.writes (bucket_of z e.key) h.history most (h.alone lone))),
       h.lone ∙ lone,
     )
+
+-- answered otherwise than Changed it learned nothing of the bucket
+pub lone_keeps : (z : Sizes) (b : ℕ) (v w : View) (e : Event) → IsLawfulAnswer z b v w e → v.lone ≡ true → is_changed e.reply ≡ false
+    → (known_at w.known b ≡ known_at v.known b) × (map_now w b ≡ map_now v b)
+lone_keeps z b v w e a lone read =
+    let own = (lone_learns_own z b v w e a lone).0 in
+    let few : length (known_at w.known b) ≤ length (known_at v.known b) + 0 =
+    subst (λ (t : Bool). length (known_at w.known b) ≤ length (known_at v.known b) + cond t 1 0) read own in
+    let same : known_at w.known b ≡ known_at v.known b =
+    sym (prefix_whole (known_at v.known b) (known_at w.known b) (continues z b v w e a) (omega arith)) in
+    let from : opening_at w.known b ≡ opening_at v.known b = ap (λ (o : Openings). opening_in o b) (openings_same z b v w e a) in
+    (same, ap (λ (p : Pairs × List Write). after p.0 p.1 (length p.1)) (λ t. (from t, same t)))

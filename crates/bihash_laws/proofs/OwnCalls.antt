@@ -11,6 +11,7 @@ use Rattle.bihash_words.specs.Maps.{Answers, Bounds, NoRoom, NewKey, Event, Worn
 use Rattle.bihash_words.specs.Sizes.{Sizes}
 use Rattle.bihash_words.specs.declared.patch.Change.{Change}
 use Rattle.bihash_words.specs.declared.patch.Change.TheVariants.{Keep, Set, Remove}
+use Rattle.bihash_words.proofs.MapLemmas.{refused_or_recycled}
 use Rattle.bihash_words.specs.declared.patch.Reply.{Reply}
 use Rattle.bihash_words.specs.declared.patch.Reply.TheVariants.{Changed}
 use Rattle.bihash_steps.specs.Histories.{IsAnswer, IsLegal, after, bounds_of, event_of, is_changed, store_of, write_of}
@@ -34,7 +35,10 @@ enters_tells : (b : Bounds) (m n : Pairs) (e : Event) (s t : Bool) → Answers (
     → is_changed e.reply ≡ true → e.reply ≡ Changed None
 enters_tells b m n e true true (inl h) wrote = h.0
 enters_tells b m n e true true (inr h) wrote = absurd (no_write e _ h.0.2 refl wrote)
-enters_tells b m n e true false h wrote = absurd (no_write e _ h.0 refl wrote)
+enters_tells b m n e true false h wrote = elim (refused_or_recycled e.recycling.removed m n e h) [
+  | inl refused ↦ absurd (no_write e _ refused.0 refl wrote)
+  | inr recycled ↦ recycled.0
+]
 enters_tells b m n e false t h wrote = absurd (no_write e _ h.0 refl wrote)
 
 row_tells : (b : Bounds) (m n : Pairs) (w k : ℕ) (e : Event) (found : Option ℕ) (effect : Change) → e.found ≡ found
@@ -61,6 +65,7 @@ call_of b n m w = record {
   found = get m w.key;
   change = w.change;
   reply = Changed (get m w.key);
+  recycling = w.recycling;
   store = None;
 }
 
@@ -110,9 +115,10 @@ module _ (z : Sizes) (b : ℕ) (opening : Pairs) (H : List Write) (by : ℕ) whe
       let found : c.found ≡ get (after opening H n) w.key = answer.1.found ∙ ap (get (after opening H n)) key in
       let reply : c.reply ≡ Changed (get (after opening H n) w.key) =
       change_tells (bounds_of z) (after opening H n) answer.0 n (event_of c) answer.1 wrote ∙ ap Changed found in
+      let recycling : c.recycling ≡ w.recycling = sym (ap (λ (x : Write). x.recycling) is) in
       let store : c.store ≡ None = legal.store ∙ ap (λ (r : Reply). store_of r c.store) reply in (
         is,
-        λ i. record { bucket = home i; stamp = stamp i; key = key i; found = found i; change = change i; reply = reply i; store = store i },
+        λ i. record { bucket = home i; stamp = stamp i; key = key i; found = found i; change = change i; reply = reply i; recycling = recycling i; store = store i },
       )
 
   -- the calls of a record, the history, and what they have to do with each other on bucket b

@@ -6,7 +6,7 @@ use Rattle.std.proofs.lemmas.List.Elements.{All-cons, All-head, All-nil, All-tai
 use lib.Dec.{eqb}
 use mathlib.Core.Option.{some}
 use lib.ListN.{get_elem?}
-use Rattle.bihash_words.specs.Maps.{Pairs, IsEvent, changed}
+use Rattle.bihash_words.specs.Maps.{Pairs, IsEvent, written}
 use Rattle.bihash_words.specs.Sizes.{Sizes}
 use Rattle.bihash_steps.specs.Words.{buckets}
 use Rattle.bihash_steps.specs.Histories.{IsAnswer, IsLegal, after, bounds_of, event_of, event_of_write, is_changed, write_of}
@@ -31,7 +31,7 @@ pub record AreLawful (z : Sizes) (b : ℕ) (opening : Pairs) (H : List Write) (r
       → HasWrite r.calls b (n + 1)
   pub once : BearOnce records
   pub steps : (n : ℕ) (w : Write) → get_elem? H n ≡ some w → IsEvent (bounds_of z) (after opening H n) n (event_of_write (after opening H n) w)
-      (changed (after opening H n) w.key w.change)
+      (written (after opening H n) w.key w.change w.recycling)
 
 module _ (z : Sizes) (b : ℕ) (opening : Pairs) (H : List Write) (records : List Record) where
   -- ---- The operations
@@ -40,7 +40,7 @@ module _ (z : Sizes) (b : ℕ) (opening : Pairs) (H : List Write) (records : Lis
   abbrev pub writes_and_reads : ℕ → Pairs → List Write → List Operation
   writes_and_reads n m [] = []
   writes_and_reads n m (w ∷ ws) = operation w.by (call_of b n m w)
-      ∷ (operations_at b (2 * (n + 1) + 1) records ++ writes_and_reads (n + 1) (changed m w.key w.change) ws)
+      ∷ (operations_at b (2 * (n + 1) + 1) records ++ writes_and_reads (n + 1) (written m w.key w.change w.recycling) ws)
 
   abbrev pub operations : List Operation
   operations = operations_at b 1 records ++ writes_and_reads 0 opening H
@@ -54,9 +54,9 @@ module _ (z : Sizes) (b : ℕ) (opening : Pairs) (H : List Write) (records : Lis
   first : (n : ℕ) (m : Pairs) (w : Write) (ws : List Write) → AreLeft n m (w ∷ ws) → get_elem? H n ≡ some w
   first n m w ws left = let zeroth : n ≡ n + 0 = omega arith in ap (get_elem? H) zeroth ∙ left.each 0 w refl
 
-  next : (n : ℕ) (m : Pairs) (w : Write) (ws : List Write) → AreLeft n m (w ∷ ws) → AreLeft (n + 1) (changed m w.key w.change) ws
+  next : (n : ℕ) (m : Pairs) (w : Write) (ws : List Write) → AreLeft n m (w ∷ ws) → AreLeft (n + 1) (written m w.key w.change w.recycling) ws
   next n m w ws left = record {
-    map = ap (λ (p : Pairs). changed p w.key w.change) left.map ∙ sym (after_next opening H n w (first n m w ws left));
+    map = ap (λ (p : Pairs). written p w.key w.change w.recycling) left.map ∙ sym (after_next opening H n w (first n m w ws left));
     count = let all = left.count in omega arith;
     each = λ k x at. let place : n + 1 + k ≡ n + suc k = omega arith in ap (get_elem? H) place ∙ left.each (suc k) x at;
   }
@@ -142,11 +142,11 @@ module _ (z : Sizes) (b : ℕ) (opening : Pairs) (H : List Write) (records : Lis
         }
 
     one_write : (n : ℕ) (m : Pairs) (w : Write) (ws : List Write) (ts : List Operation) → m ≡ after opening H n → get_elem? H n ≡ some w
-        → AreGood (n + 1) (changed m w.key w.change) ws ts → AreGood n m (w ∷ ws) (operation w.by (call_of b n m w) ∷ ts)
+        → AreGood (n + 1) (written m w.key w.change w.recycling) ws ts → AreGood n m (w ∷ ws) (operation w.by (call_of b n m w) ∷ ts)
     one_write n m w ws ts is at good = record {
       run = (
-        changed m w.key w.change,
-        subst (λ (p : Pairs). IsEvent (bounds_of z) p n (event_of_write p w) (changed p w.key w.change)) (sym is) (law.steps n w at),
+        written m w.key w.change w.recycling,
+        subst (λ (p : Pairs). IsEvent (bounds_of z) p n (event_of_write p w) (written p w.key w.change w.recycling)) (sym is) (law.steps n w at),
         good.run,
       );
       writes = ap (λ (x : List Write). w ∷ x) good.writes;
@@ -163,7 +163,7 @@ module _ (z : Sizes) (b : ℕ) (opening : Pairs) (H : List Write) (records : Lis
       home = All-nil IsHere;
       ours = All-nil IsOurs;
     }
-    rest_good n m (w ∷ ws) left = let then = next n m w ws left in let p : Pairs = changed m w.key w.change in
+    rest_good n m (w ∷ ws) left = let then = next n m w ws left in let p : Pairs = written m w.key w.change w.recycling in
         one_write n m w ws (operations_at b (2 * (n + 1) + 1) records ++ writes_and_reads (n + 1) p ws) left.map (first n m w ws left)
         (reads_good (n + 1) p ws (operations_at b (2 * (n + 1) + 1) records) (writes_and_reads (n + 1) p ws) then.map (reads_at (n + 1))
         (rest_good (n + 1) p ws then))
@@ -201,7 +201,7 @@ module _ (z : Sizes) (b : ℕ) (opening : Pairs) (H : List Write) (records : Lis
       its_rest n m [] left = let all : 2 * length H + 2 ≡ 2 * n + 2 = let c = left.count in omega arith in
           sym (ap from_it (sym all) ∙ none_later z b opening H r.number r.calls (calls_of i r at))
       its_rest n m (w ∷ ws) left =
-          let then = next n m w ws left in let p : Pairs = changed m w.key w.change in
+          let then = next n m w ws left in let p : Pairs = written m w.key w.change w.recycling in
           let reads : List Operation = operations_at b (2 * (n + 1) + 1) records in let others : List Operation = writes_and_reads (n + 1) p ws in
           let here : cond (eqb w.by r.number) (call_of b n m w ∷ []) [] ≡ at_it (2 * n + 2) =
           ap (λ (q : Pairs). cond (eqb w.by r.number) (call_of b n q w ∷ []) []) left.map

@@ -1,2 +1,3 @@
+pub mod Recyclings
 pub mod Runs
 pub mod Serializations

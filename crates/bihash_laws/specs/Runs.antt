@@ -4,7 +4,7 @@ use Rattle.std.specs.List.{filter}
 use Rattle.std.specs.FinMap.{get}
 use lib.ListN.{get_elem?}
 use mathlib.Core.Option.{some}
-use Rattle.bihash_words.specs.Maps.{Pairs, Event, changed}
+use Rattle.bihash_words.specs.Maps.{Pairs, Event, written}
 use Rattle.bihash_words.specs.Runs as events
 use Rattle.bihash_words.specs.Runs.{writes_of}
 use Rattle.bihash_words.specs.Sizes.{Sizes}
@@ -67,9 +67,9 @@ pub record IsLawfulAnswer (z : Sizes) (b : ℕ) (v w : View) (e : Event) : Type 
 pub record IsLastWrite (opening : Pairs) (history : List Write) (number : ℕ) (e : Event) : Type 0 where
   pub before : ℕ
   pub last : length history ≡ before + 1
-  pub stands : get_elem? history before ≡ some (record { by = number; key = e.key; change = e.change })
+  pub stands : get_elem? history before ≡ some (record { by = number; key = e.key; change = e.change; recycling = e.recycling })
   pub found : e.found ≡ get (after opening history before) e.key
-  pub leaves : after opening history (length history) ≡ changed (after opening history before) e.key e.change
+  pub leaves : after opening history (length history) ≡ written (after opening history before) e.key e.change e.recycling
 
 -- no write of bucket b was learned but the one that the call made
 abbrev pub LearnsOnlyOwn : ℕ → View → View → Event → Type 0

@@ -1,22 +1,27 @@
 //! What the lawfulness of callers means for the maps of the buckets.
 //!
 //! The functions do nothing: their contracts are the laws.
-ghost use Rattle.std.specs.Prelude.{◌≡◌, ◌≢◌, ◌≤◌, ◌<◌, ◌+◌, ◌++◌, ℕ, [], ◌∷◌, List, length, true, false, All};
+ghost use Rattle.std.specs.Prelude.{◌≡◌, ◌≢◌, ◌≤◌, ◌<◌, ◌+◌, ◌++◌, ◌^◌, ℕ, Bool, [], ◌∷◌, List, Option, Some, length, true, false, All};
 ghost use Rattle.std.specs.FinMap.{get};
 ghost use lib.ListN.{get_elem?};
 ghost use mathlib.Core.Option.{some};
 ghost use Rattle.bihash_words.specs.Maps.{Event};
 ghost use Rattle.bihash_words.specs.Sizes.{Sizes};
+ghost use Rattle.bihash_words.specs.declared.patch.Change.{Change};
+ghost use Rattle.bihash_words.specs.declared.patch.Reply.{Reply};
+ghost use Rattle.bihash_words.specs.declared.patch.Reply.TheVariants.{Full};
 ghost use Rattle.bihash_steps.specs.Words.{buckets};
 ghost use Rattle.bihash_steps.specs.Histories.{IsLegal, IsPrefix, is_changed};
 ghost use Rattle.bihash_steps.specs.Callers.{Agrees, HasMadeAll, HasNumber, IsLawfulCaller, IsWhole, known_at, opening_at};
 ghost use Rattle.bihash_steps.specs.Steps.{HaveBearers};
-ghost use Rattle.bihash_steps.specs.Views.{first_view};
+ghost use Rattle.bihash_steps.specs.Views.{opening_view};
 ghost use Rattle.bihash_steps.specs.BucketSteps.{acting, map_now};
+ghost use Rattle.bihash_steps.specs.declared.view.Openings.{Openings};
 ghost use Rattle.bihash_steps.specs.declared.view.Write.{Write};
 ghost use Rattle.bihash_steps.specs.declared.view.Record.{Record};
 ghost use Rattle.bihash_steps.specs.declared.view.View.{View};
-ghost use Rattle.bihash_table.specs.Answers.{entry_of};
+ghost use Rattle.bihash_table.specs.Answers.{entry_of, recycled_update};
+ghost use Rattle.bihash_laws.specs.Recyclings.{HasRecycled};
 ghost use Rattle.bihash_laws.specs.Serializations.{IsCalled, IsCommonSerialization, IsSerialization, Operation};
 ghost use Rattle.bihash_laws.specs.Runs.{IsCommonHistory, IsLastWrite, IsLawfulAnswer, LearnsOnlyOwn, IsOneWriter, IsRun, calls_on};
 
@@ -111,11 +116,32 @@ pub fn changed_alone_writes()
 {}
 
 /// A caller that only ever learns of writes that it makes itself is each bucket's one writer: caller 1 of a
-/// new table is, an answer that taught no other write leaves it so, and an answer teaches a lone caller none.
+/// new or a renewed table is, an answer that taught no other write leaves it so, and an answer teaches a lone caller none.
 pub fn one_writer_stays()
-    ensures first { (z : Sizes) (b : ℕ) → IsOneWriter (first_view z).known b (acting (first_view z).records) }
+    ensures first { (z : Sizes) (o : Openings) (b : ℕ)
+        → IsOneWriter (opening_view z o).known b (acting (opening_view z o).records) }
     ensures stays { (z : Sizes) (b : ℕ) (v w : View) (e : Event) → IsLawfulAnswer z b v w e → LearnsOnlyOwn b v w e
         → (d : ℕ) → IsOneWriter v.known d (acting v.records) → IsOneWriter w.known d (acting w.records) }
     ensures lone { (z : Sizes) (b : ℕ) (v w : View) (e : Event) → IsLawfulAnswer z b v w e → v.lone ≡ true
         → LearnsOnlyOwn b v w e × (w.lone ≡ true) }
+{}
+
+/// To a lone caller what it knows of a bucket is all there is: a call that doesn't write leaves it as it was, and the
+/// bucket's map with it.
+#[tactic(auto, using(crate::proofs::AnsweredCalls::lone_keeps))]
+pub fn lone_callers_know_all()
+    ensures { (z : Sizes) (b : ℕ) (v w : View) (e : Event) → IsLawfulAnswer z b v w e → v.lone ≡ true
+        → is_changed e.reply ≡ false
+        → (known_at w.known b ≡ known_at v.known b) × (map_now w b ≡ map_now v b) }
+{}
+
+/// A call with an expiry is answered Full only where no value of its bucket's map is expired. Where it removes a key,
+/// that is the one with the least words among those with expired values: no live pair goes, and never two.
+pub fn only_the_least_expired_pair_goes()
+    ensures full { (z : Sizes) (b : ℕ) (v w : View) (key : List ℕ) (found : Option ℕ) (change : Change) (is_expired : ℕ → Bool)
+        (removed : Option (List ℕ)) → IsLawfulAnswer z b v w (recycled_update key found change is_expired removed Full)
+        → (other : List ℕ) (value : ℕ) → get (map_now w b) other ≡ Some value → value < 2 ^ 64 → is_expired value ≡ false }
+    ensures gone { (z : Sizes) (b : ℕ) (v w : View) (key : List ℕ) (found : Option ℕ) (change : Change) (is_expired : ℕ → Bool)
+        (gone : List ℕ) (reply : Reply) → IsLawfulAnswer z b v w (recycled_update key found change is_expired (Some gone) reply)
+        → HasRecycled (opening_at w.known b) (known_at w.known b) key change is_expired gone reply }
 {}

@@ -1,14 +1,11 @@
-//! What the answers of a shared session table mean for those who share it, as laws, and its worked rows as
-//! tests.
+//! What the answers of a shared session table mean for those who share it, as laws.
 #![tactic(auto)]
 
 mod laws;
 
 pub use laws::{
     agreeing_callers_have_one_order, agreeing_callers_share_a_history, answers_are_the_maps,
-    calls_have_one_order, changed_alone_writes, one_writer_has_one_map, one_writer_stays,
-    whole_callers_have_one_order, whole_callers_made_each_write,
+    calls_have_one_order, changed_alone_writes, lone_callers_know_all, one_writer_has_one_map,
+    one_writer_stays, only_the_least_expired_pair_goes, whole_callers_have_one_order,
+    whole_callers_made_each_write,
 };
-
-#[cfg(test)]
-mod tests;

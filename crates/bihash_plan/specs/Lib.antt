@@ -1,5 +1,6 @@
 pub mod Blocks
 pub mod Layouts
 pub mod Plans
+pub mod Recycles
 pub mod Searches
 pub mod inner

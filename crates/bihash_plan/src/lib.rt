@@ -2,17 +2,18 @@
 //! larger block is laid out.
 #![tactic(auto)]
 
+mod expired;
 mod fit;
 mod growth;
 mod outcome;
 mod place;
 mod rehash;
 mod search;
+mod spare_place;
 
+pub use expired::recycle;
 pub use growth::{larger, plan};
 pub use outcome::Plan;
 pub use rehash::lay;
 pub use search::find;
-
-#[cfg(test)]
-mod tests;
+pub use spare_place::Recycle;

@@ -1,5 +1,5 @@
 -- The address of a step names the bucket, or the word of a block, of which the step tells.
-use Rattle.std.proofs.Common.{◌≡◌, eqb, ℕ, ◌+◌, ◌-◌, ◌*◌, ◌<◌, ◌≤◌, false, true, length, sym, ap, ◌∙◌, subst, arith, Some, None}
+use Rattle.std.proofs.Common.{◌≡◌, eqb, Bool, ℕ, ◌+◌, ◌-◌, ◌*◌, ◌<◌, ◌≤◌, false, true, length, sym, ap, ◌∙◌, subst, arith, Some, None}
 use lib.ListN.{get_elem?}
 use mathlib.Core.Option.{some}
 use prog.Atomic.{either}
@@ -9,7 +9,7 @@ use Rattle.bihash_words.specs.Words.{Bucket, Fits, packed}
 use Rattle.bihash_steps.specs.Words.{buckets, bucket_at, page_at, page_words}
 use Rattle.bihash_steps.specs.Callers.{known_at}
 use Rattle.bihash_steps.specs.Buckets.{word_of, open_word}
-use Rattle.bihash_steps.specs.BucketSteps.{TellsBucket, TellsLock, IsLockedWord, TellsLockedWord, TellsStored, HoldsClean, without_lock, MayAnswer, view_after_answer, MayPublish, TellsEvent, view_after_write, IsOpenWord, TellsOpenWord, MayValidate, TellsValid}
+use Rattle.bihash_steps.specs.BucketSteps.{TellsBucket, TellsLock, IsLockedWord, TellsLockedWord, TellsStored, HoldsClean, without_lock, MayAnswer, view_after_answer, MayMark, marked, TellsEvent, view_after_write, IsOpenWord, TellsOpenWord, MayValidate, TellsValid}
 use Rattle.bihash_steps.specs.Steps.{ViewOfSeat}
 use Rattle.bihash_steps.specs.StoreSteps.{MayReplace, view_after_replace, IsHeldWord, holding, stored_at}
 use Rattle.bihash_steps.specs.WordRule.{WordRule}
@@ -84,12 +84,13 @@ module _ (z : Sizes) where
       (a.0, a.1, a.2, a.3, (a.4, has_version s r id m.0 seat))
 
   -- the bucket's next word, over the block as it is
-  pub publishes_at : (slots id at b word next : ℕ) (c : Call) (m : ViewOfSeat) (may : MayPublish z m.0 b word c) → at ≡ bucket_at z b
-      → 1 ≤ length m.0.records → next ≡ packed (word_of may.write.lock.extent false (may.write.lock.version + 1))
+  pub publishes_at : (slots id at b word next : ℕ) (linear : Bool) (c : Call) (m : ViewOfSeat)
+      (may : MayMark z m.0 b word linear c) → at ≡ bucket_at z b → 1 ≤ length m.0.records
+      → next ≡ packed (word_of (marked may.write.lock.extent linear) false (may.write.lock.version + 1))
       → Allows (WordRule z) slots id m at (λ _. next) (λ _. TellsEvent z (λ v. view_after_write v c) m)
-  publishes_at slots id at b word next c m may is acts stored =
+  publishes_at slots id at b word next linear c m may is acts stored =
       subst (λ (p : ℕ × ℕ). Allows (WordRule z) slots id m p.0 (λ _. p.1) (λ _. TellsEvent z (λ v. view_after_write v c) m)) (λ i. (sym is i, sym stored i))
-      (publishes_call z slots id m b word c may acts)
+      (publishes_call z slots id m b word linear c may acts)
 
   -- and over another one
   pub replaces_at : (slots id at b word next : ℕ) (extent : Extent) (c : Call) (m : ViewOfSeat) (may : MayReplace z m.0 b word extent c)

@@ -12,7 +12,7 @@ use Rattle.bihash_steps.specs.Words.{count_of, returned_count_at, list_at, lists
 use Rattle.bihash_steps.specs.Callers.{IsWhole, Apart, known_at, opening_in}
 use Rattle.bihash_steps.specs.Partition.{IsPartition, run_of, runs_of}
 use Rattle.bihash_steps.specs.Buckets.{BucketState, IsBucket, HoldsBucket, HoldsBucketIf, StandsStillIf}
-use Rattle.bihash_steps.specs.PageStores.{StoreState, returned_in, all_writes, IsStore, IsListedIf, HoldsStoreIf, HoldsBlockIf, run_in, run_held, runs_now}
+use Rattle.bihash_steps.specs.PageStores.{StoreState, returned_in, all_used, IsStore, IsListedIf, HoldsStoreIf, HoldsBlockIf, run_in, run_held, runs_now}
 use Rattle.bihash_steps.specs.WordRule.{TableState, IsView, WordRule}
 use Rattle.bihash_steps.specs.declared.view.Record.{Record}
 use Rattle.bihash_steps.specs.declared.view.Write.{Write}
@@ -125,10 +125,14 @@ module _ (z : Sizes) (words words' : List ℕ) (same : SameButCount words words'
   still_open None h = tt
   still_open (Some o) h = same (bucket_at z o.bucket) (let f = front z in omega arith) ∙ h
 
+  still_row : (xs : List ℕ) → count_of words' ≡ count_of words → Stands words 0 xs → Stands words' 0 xs
+  still_row xs first h zero l = first ∙ h 0 l
+  still_row xs first h (suc k) l = same (0 + suc k) (omega arith) ∙ h (suc k) l
+
   -- a view stands while the caller count grows, unless it is lone
   pub still_view : (count count' : ℕ) (t : TableState) (j : ℕ) (v : View) → count ≤ count' → (v.lone ≡ true → count' ≡ count)
-      → IsView z words count t j v → IsView z words' count' t j v
-  still_view count count' t j v more lone ok = record {
+      → (v.lone ≡ true → count_of words' ≡ count_of words) → IsView z words count t j v → IsView z words' count' t j v
+  still_view count count' t j v more lone first ok = record {
     informed = ok.informed;
     numbers = ok.numbers;
     seen = let s = ok.seen in omega arith;
@@ -141,6 +145,7 @@ module _ (z : Sizes) (words words' : List ℕ) (same : SameButCount words words'
     block = still_block v.holds.block ok.block;
     open_bucket = ok.open_bucket;
     still = λ e. still_open v.notes.open_bucket (ok.still e);
+    row = λ e. still_row v.notes.row (first e) (ok.row e);
     short = ok.short;
     left = ok.left;
     meeting = ok.meeting;
@@ -234,7 +239,7 @@ module _ (z : Sizes) (s : State (Unit {0}) View) (r : WordRule z s) where
         still_bucket z s.words words m.same (count_of s.words) (count_of words) b (opening_in r.table.openings b) (r.table.bucket b) m.more
         (r.each_bucket b l);
     outside = r.outside;
-    store = still_store z s.words words m.same (all_writes z r.table.bucket) r.table.store r.store;
+    store = still_store z s.words words m.same (all_used z r.table.openings r.table.bucket) r.table.store r.store;
     each_view = m.each;
     apart = m.apart;
     holders = λ b j e. let h = r.holders b j e in let l = m.longer in omega arith;
@@ -263,7 +268,7 @@ module _ (z : Sizes) (s : State (Unit {0}) View) (r : WordRule z s) where
     each = λ j u e. elim (at_set s.views id j w u e) [
       | inl p ↦ as_view z words (count_of words) r.table id j w u p.0 p.1 ok
       | inr p ↦ still_view z s.words words same (count_of s.words) (count_of words) r.table j u more (others j u p.0 p.1).0
-          (r.each_view j u p.1)
+          (others j u p.0 p.1).0 (r.each_view j u p.1)
     ];
     apart = apart_set s.views id w (λ i j a b ne ni nj e f. r.apart i j a b ne e f) (λ j u ne e. (others j u ne e).1);
     blocks = λ j. block_set s.views id v w j at block;

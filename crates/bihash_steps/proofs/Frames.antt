@@ -15,7 +15,7 @@ use Rattle.bihash_steps.specs.Callers.{HasNumber, known_at, opening_in}
 use Rattle.bihash_steps.specs.Blocks.{no_block}
 use Rattle.bihash_steps.specs.Partition.{PageRun, Owner, IsPartition, of_bucket, held_by, run_of}
 use Rattle.bihash_steps.specs.Buckets.{BucketState, IsBucket, HoldsBucket, HoldsBucketIf, IsOpenIf}
-use Rattle.bihash_steps.specs.PageStores.{StoreState, IsStore, BearsOutOfPages, IsListedIf, HoldsStore, HoldsStoreIf, HoldsBlockIf, LeftIf, returned_in, writes_in, all_writes, run_in, run_held, runs_now}
+use Rattle.bihash_steps.specs.PageStores.{StoreState, IsStore, BearsOutOfPages, IsListedIf, HoldsStore, HoldsStoreIf, HoldsBlockIf, LeftIf, returned_in, writes_in, all_writes, all_used, most_used, run_in, run_held, runs_now}
 use Rattle.bihash_steps.specs.WordRule.{IsInformed, HaveMetIf, IsView, WordRule}
 use Rattle.bihash_steps.specs.declared.view.Write.{Write}
 use Rattle.bihash_steps.specs.declared.view.Call.{Call}
@@ -83,7 +83,7 @@ module _ (z : Sizes) where
     pub keeps : Keeps (r.table.bucket b) (bucket' b)
     pub here : b < buckets z → IsBucket z words' (count_of s.words) b (opening_in r.table.openings b) (bucket' b)
     pub outside : buckets z ≤ b → ((bucket' b).lock ≡ None) × ((bucket' b).extent ≡ no_block)
-    pub store : IsStore z words' (all_writes z bucket') store'
+    pub store : IsStore z words' (all_used z r.table.openings bucket') store'
     pub undisturbed : Undisturbed s.words words' r.table.store store' id
     pub view : IsView z words' (count_of s.words) (record r.table { bucket = bucket'; store = store' }) id w
     pub numbers : (n : ℕ) → HasNumber w.records n → HasNumber v.records n
@@ -108,19 +108,23 @@ more_writes x x' more zero = omega arith
 more_writes x x' more (suc n) = let a = more_writes x x' more n in let b = more n in omega arith
 
 module _ (z : Sizes) where
+  -- more writes can have taken more pages
+  pub used_more : (before n n' : ℕ) → n ≤ n' → most_used z before n ≤ most_used z before n'
+  used_more before n n' h = let m = mul-le-mul_left (2 ^ z.max_log2) h in let a : ℕ = 2 ^ z.max_log2 * n in
+      let b : ℕ = 2 ^ z.max_log2 * n' in let l : a ≤ b = m in omega arith
+
   pub more_short : (n n' : ℕ) (c : Call) (log2 left : ℕ) → n ≤ n' → BearsOutOfPages z n c log2 left → BearsOutOfPages z n' c log2 left
-  more_short n n' c log2 left h s = let m = mul-le-mul_left (2 ^ z.max_log2) h in let a : ℕ = 2 ^ z.max_log2 * n in
-      let b : ℕ = 2 ^ z.max_log2 * n' in let l : a ≤ b = m in let o : z.pages ≤ left + a = s.taken in record {
-        store = s.store;
-        bears = s.bears;
-        none = s.none;
-        unused = s.unused;
-        taken = omega arith;
-      }
+  more_short n n' c log2 left h s = let o = s.taken in record {
+    store = s.store;
+    bears = s.bears;
+    none = s.none;
+    unused = s.unused;
+    taken = omega arith;
+  }
 
   pub more_left : (n n' : ℕ) → n ≤ n' → (left : Option PageStore) → LeftIf z n left → LeftIf z n' left
   more_left n n' h None l = tt
-  more_left n n' h (Some store) l = (l.0, le_trans l.1 (mul-le-mul_left (2 ^ z.max_log2) h))
+  more_left n n' h (Some store) l = (l.0, le_trans l.1 h)
 
   -- what was noted of an open bucket stands while the buckets keep it
   pub open_keeps : (x x' : ℕ → BucketState) → ((c : ℕ) → Keeps (x c) (x' c)) → (seen : Option OpenBucket) → IsOpenIf z x seen → IsOpenIf z x' seen
@@ -172,7 +176,7 @@ module _ (z : Sizes) (words words' : List ℕ) (same : (i : ℕ) → 1 ≤ i →
     stands = same (list_at z i.log2 + length (returned_in store i.log2)) (omega arith) a.1 ∙ h.stands;
   }
 
-  -- the page store where its words are as they were, after perhaps more writes
+  -- the page store where its words are as they were, and perhaps more pages can be handed out
   pub store_keeps : (n n' : ℕ) (q : StoreState) → n ≤ n' → IsStore z words n q → IsStore z words' n' q
   store_keeps n n' q more ok = let f = front z in record {
     lock = same 1 (omega arith) (omega arith) ∙ ok.lock;
@@ -182,8 +186,7 @@ module _ (z : Sizes) (words words' : List ℕ) (same : (i : ℕ) → 1 ≤ i →
     lists = λ log2 small k l. let room = ok.room log2 small in let a = list_inside z log2 k small (omega arith) in let low = a.0 in
         same (list_at z log2 + k) (omega arith) a.1 ∙ ok.lists log2 small k l;
     room = ok.room;
-    bound = le_trans ok.bound (mul-le-mul_left (2 ^ z.max_log2)
-        (let t : ℕ = bit q.store.unpublished in let m : n + t ≤ n' + t = omega arith in m));
+    bound = let t : ℕ = 2 ^ z.max_log2 * bit q.store.unpublished in let b : q.store.used ≤ n + t = ok.bound in omega arith;
     settled = ok.settled;
   }
 
@@ -199,8 +202,9 @@ module _ (z : Sizes) (s : State (Unit {0}) View) (r : WordRule z s) (b id : ℕ)
   each_keeps c = dite (ℕ_discrete c b) (λ e. subst (λ (c : ℕ). Keeps (r.table.bucket c) (bucket' c)) (sym e) m.keeps)
       (λ ne. subst (Keeps (r.table.bucket c)) (sym (m.elsewhere c ne)) (keeps_refl (r.table.bucket c)))
 
-  all_more : all_writes z r.table.bucket ≤ all_writes z bucket'
-  all_more = more_writes r.table.bucket bucket' (λ c. (each_keeps c).more) (buckets z)
+  all_more : all_used z r.table.openings r.table.bucket ≤ all_used z r.table.openings bucket'
+  all_more = used_more z r.table.openings.used (all_writes z r.table.bucket) (all_writes z bucket')
+      (more_writes r.table.bucket bucket' (λ c. (each_keeps c).more) (buckets z))
 
   -- what begins a bucket's history still does
   begins_still : (known : List Write) (c : ℕ) → IsPrefix known (r.table.bucket c).history → IsPrefix known (bucket' c).history
@@ -299,8 +303,9 @@ module _ (z : Sizes) (s : State (Unit {0}) View) (r : WordRule z s) (b id : ℕ)
       block = block_beside u.holds.block refl ok.block;
       open_bucket = open_keeps z r.table.bucket bucket' each_keeps u.notes.open_bucket ok.open_bucket;
       still = λ lone. absurd (not_lone z s r id j v u m.at at ne m.acts lone);
-      short = λ c h log2 left e. more_short z (all_writes z r.table.bucket) (all_writes z bucket') c log2 left all_more (ok.short c h log2 left e);
-      left = more_left z (all_writes z r.table.bucket) (all_writes z bucket') all_more u.notes.left ok.left;
+      row = λ lone. absurd (not_lone z s r id j v u m.at at ne m.acts lone);
+      short = λ c h log2 left e. more_short z (all_used z r.table.openings r.table.bucket) (all_used z r.table.openings bucket') c log2 left all_more (ok.short c h log2 left e);
+      left = more_left z (all_used z r.table.openings r.table.bucket) (all_used z r.table.openings bucket') all_more u.notes.left ok.left;
       meeting = meeting_still u.notes.meeting ok.meeting;
     }
 

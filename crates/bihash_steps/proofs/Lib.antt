@@ -13,10 +13,14 @@ pub mod Frames
 pub mod Runs
 pub mod Exchange
 pub mod Whole
+pub mod Homes
+pub mod Beginnings
 pub mod Fresh
 pub mod Bounds
 pub mod Addresses
 pub mod SeatCounts
+pub mod Renewed
+pub mod RenewedWords
 pub mod bucket_steps
 pub mod pool_steps
 pub mod caller_steps

@@ -2,6 +2,7 @@
 use Rattle.std.proofs.Common.{◌≡◌, ◌⊎◌, ℕ, zero, suc, ◌+◌, ◌<◌, List, [], ◌∷◌, ◌++◌, length, take, drop, refl, sym, ap, ◌∙◌, inl, inr, arith}
 use mathlib.Core.Option.{some, some-ne-none, some-injective}
 use lib.ListN.{get_elem?}
+use Rattle.bihash_steps.specs.Words.{Stands}
 
 module _ {A : Type 0} where
   pub within : (l : List A) (i : ℕ) (a : A) → get_elem? l i ≡ some a → i < length l
@@ -42,3 +43,7 @@ module _ {A : Type 0} where
   at_drop zero l i a e = let m : 0 + i ≡ i = omega arith in ap (get_elem? l) m ∙ e
   at_drop (suc n) [] i a e = absurd (some-ne-none a (sym e))
   at_drop (suc n) (x ∷ xs) i a e = let m : suc n + i ≡ suc (n + i) = omega arith in ap (get_elem? (x ∷ xs)) m ∙ at_drop n xs i a e
+
+-- no word at all stands anywhere
+pub no_row : (words : List ℕ) → Stands words 0 []
+no_row words k l = absurd (omega arith)

@@ -1,27 +1,30 @@
 -- A caller that has seen another caller count, or notes something else, and did nothing else.
 use Rattle.std.proofs.Common.{◌≡◌, ℕ, ◌≤◌, Bool, true, List}
 use Rattle.bihash_words.specs.Sizes.{Sizes}
+use Rattle.bihash_steps.specs.Words.{Stands}
 use Rattle.bihash_steps.specs.Callers.{HasNumbers, IsWhole}
 use Rattle.bihash_steps.specs.Buckets.{IsOpenIf, StandsStillIf}
-use Rattle.bihash_steps.specs.PageStores.{LeftIf, all_writes}
+use Rattle.bihash_steps.specs.PageStores.{LeftIf, all_used}
 use Rattle.bihash_steps.specs.Views.{no_notes}
 use Rattle.bihash_steps.specs.WordRule.{TableState, HaveMetIf, IsView}
 use Rattle.bihash_steps.specs.declared.view.Notes.{Notes}
 use Rattle.bihash_steps.specs.declared.view.View.{View}
+use Rattle.bihash_steps.proofs.Lists.{no_row}
 
 module _ (z : Sizes) (words : List ℕ) (count : ℕ) (t : TableState) (j : ℕ) where
   -- what is noted is so
   pub record AreSo (lone : Bool) (notes : Notes) : Type 0 where
     pub open_bucket : IsOpenIf z t.bucket notes.open_bucket
     pub still : lone ≡ true → StandsStillIf z words notes.open_bucket
-    pub left : LeftIf z (all_writes z t.bucket) notes.left
+    pub row : lone ≡ true → Stands words 0 notes.row
+    pub left : LeftIf z (all_used z t.openings t.bucket) notes.left
     pub meeting : HaveMetIf z t notes.meeting
 
   noted : (v : View) → IsView z words count t j v → AreSo v.lone v.notes
-  noted v ok = record { open_bucket = ok.open_bucket; still = ok.still; left = ok.left; meeting = ok.meeting }
+  noted v ok = record { open_bucket = ok.open_bucket; still = ok.still; row = ok.row; left = ok.left; meeting = ok.meeting }
 
   nothing_noted : (lone : Bool) → AreSo lone no_notes
-  nothing_noted lone = record { open_bucket = tt; still = λ _. tt; left = tt; meeting = tt }
+  nothing_noted lone = record { open_bucket = tt; still = λ _. tt; row = λ _. no_row words; left = tt; meeting = tt }
 
   pub seen_view : (v : View) (seen : ℕ) (lone : Bool) (notes : Notes) → HasNumbers seen v.records → seen ≤ count
       → (lone ≡ true → IsWhole v.records count) → AreSo lone notes → IsView z words count t j v
@@ -39,6 +42,7 @@ module _ (z : Sizes) (words : List ℕ) (count : ℕ) (t : TableState) (j : ℕ)
     block = ok.block;
     open_bucket = so.open_bucket;
     still = so.still;
+    row = so.row;
     short = ok.short;
     left = so.left;
     meeting = so.meeting;

@@ -183,7 +183,7 @@ stored_stands words at k n xs inside below stood i l = dite (ℕ_discrete i k)
 
 -- ---- What seats hold where one of them gets another view
 
-at_same : {A : Type 0} (l : List A) (i : ℕ) (a b : A) → get_elem? l i ≡ some a → get_elem? (set l i b) i ≡ some b
+pub at_same : {A : Type 0} (l : List A) (i : ℕ) (a b : A) → get_elem? l i ≡ some a → get_elem? (set l i b) i ≡ some b
 at_same [] i a b e = absurd (some-ne-none a (sym e))
 at_same (x ∷ xs) zero a b e = refl
 at_same (x ∷ xs) (suc i) a b e = at_same xs i a b e
@@ -212,8 +212,9 @@ runs_same xs ys ls ms hs gs a b c = λ t. runs_of (λ k. a k t) (λ k. b k t) (�
 
 -- no owner gets another block
 pub runs_still : (x x' : ℕ → BucketState) (store store' : PageStore) (views : List View) (id : ℕ) (v w : View)
-    → ((b : ℕ) → (x' b).extent ≡ (x b).extent) → ((log2 : ℕ) → returned_in store' log2 ≡ returned_in store log2)
+    → ((b : ℕ) → run_of (x' b).extent.page (x' b).extent.size.log2 ≡ run_of (x b).extent.page (x b).extent.size.log2)
+    → ((log2 : ℕ) → returned_in store' log2 ≡ returned_in store log2)
     → get_elem? views id ≡ some v → run_in w.holds.block ≡ run_in v.holds.block
     → runs_now x' store' (set views id w) ≡ runs_now x store views
 runs_still x x' store store' views id v w extents lists at block = runs_same _ _ _ _ _ _
-    (λ b. ap (λ (e : Extent). run_of e.page e.size.log2) (extents b)) lists (λ j. block_set views id v w j at block)
+    extents lists (λ j. block_set views id v w j at block)

@@ -2,3 +2,4 @@
 pub mod LoadCount
 pub mod CutAndJoin
 pub mod Split
+pub mod LoadLone

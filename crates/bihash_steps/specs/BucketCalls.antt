@@ -1,5 +1,6 @@
 -- What the steps on a bucket leave of their caller: s is the caller before the step, t after it.
 use Rattle.std.specs.Prelude.{◌≡◌, ◌⊎◌, ℕ, true, false, Bool, List, Option, Some, None}
+use Rattle.bihash_words.specs.Expiries.{expired_words, no_recycling}
 use Rattle.bihash_words.specs.Maps
 use Rattle.bihash_words.specs.Sizes.{Sizes}
 use Rattle.bihash_words.specs.Words.{Bucket, Fits, packed}
@@ -10,7 +11,9 @@ use Rattle.bihash_steps.specs.Callers.{IsLawfulCaller, known_at}
 use Rattle.bihash_steps.specs.Buckets.{open_word}
 use Rattle.bihash_steps.specs.BucketSteps.{RestsOn, SeesLocked, SeesOpen, TakesLock, call_of, without_notes, view_after_validate}
 use Rattle.bihash_steps.specs.Seats.{CallerState, IsSameSeat, with_view}
+use Rattle.bihash_steps.specs.Views.{nothing_held}
 use Rattle.bihash_steps.specs.declared.event.Event.{Event}
+use Rattle.bihash_steps.specs.declared.recycled.Recycled.{Recycled}
 use Rattle.bihash_steps.specs.declared.view.Call.{Call}
 use Rattle.bihash_steps.specs.declared.view.LockedBucket.{LockedBucket}
 use Rattle.bihash_steps.specs.declared.view.OpenBucket.{OpenBucket}
@@ -18,7 +21,19 @@ use Rattle.bihash_steps.specs.declared.view.View.{View}
 
 -- what was found at a key, what was decided on it, and the reply
 abbrev pub event : List ℕ → Option ℕ → Change → Reply → Maps.Event
-event key found change reply = record { key = key; found = found; change = change; reply = reply }
+event key found change reply = record {
+  key = key;
+  found = found;
+  change = change;
+  reply = reply;
+  recycling = no_recycling;
+}
+
+-- the same of a call that asked an expiry, and the key that it removed for its own
+abbrev pub recycled_event : Maps.Event → (ℕ → Bool) → Option (List ℕ) → Maps.Event
+recycled_event e is_expired removed = record e {
+  recycling = record { expired = expired_words is_expired; removed = removed };
+}
 
 -- the event, with the words of its key
 abbrev pub in_words : {A K : Type 0} (g : Ghosts A K) → Event A K → Maps.Event
@@ -31,6 +46,14 @@ answer_at g v b e = call_of v b 0 (in_words g e)
 abbrev pub write_at : {A K : Type 0} (g : Ghosts A K) → View → ℕ → Event A K → Call
 write_at g v b e = call_of v b 1 (in_words g e)
 
+-- the entry of a refusal for want of room that asked an expiry, and that of a write that removed an expired pair
+abbrev pub refusal_at : {A K : Type 0} (g : Ghosts A K) → View → ℕ → Event A K → (ℕ → Bool) → Call
+refusal_at g v b e is_expired = call_of v b 0 (recycled_event (in_words g e) is_expired None)
+
+abbrev pub recycled_at : {A K E : Type 0} (g : Ghosts A K) → View → ℕ → Recycled A E K → (ℕ → Bool) → Call
+recycled_at g v b r is_expired =
+    call_of v b 1 (recycled_event (in_words g r.event) is_expired (Some (g.words_of r.removed.now)))
+
 -- A bucket's word was loaded. A lone caller that holds no lock finds it unlocked, and knew the history before.
 pub record FindsBucket (z : Sizes) (s t : CallerState) (b word : ℕ) : Type 0 where
   pub same : IsSameSeat s t
@@ -39,9 +62,10 @@ pub record FindsBucket (z : Sizes) (s t : CallerState) (b word : ℕ) : Type 0 w
   pub whole : s.view.lone ≡ true → known_at t.view.known b ≡ known_at s.view.known b
   pub lawful : IsLawfulCaller z t.view
 
--- a caller that has no lock may take that of a bucket with this unlocked word
+-- A caller that holds nothing may take the lock of a bucket with this unlocked word: so a bucket's lock is never taken
+-- under the allocation lock.
 pub record MayLock (v : View) (word : ℕ) : Type 0 where
-  pub free : v.holds.bucket ≡ None
+  pub free : v.holds ≡ nothing_held
   pub bucket : Bucket
   pub fits : Fits bucket
   pub stood : word ≡ packed bucket

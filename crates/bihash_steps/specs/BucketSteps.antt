@@ -1,8 +1,8 @@
 -- What a view becomes at each kind of step on a bucket, and what the step tells its caller.
-use Rattle.std.specs.Prelude.{◌≡◌, ◌⊎◌, ℕ, ◌+◌, ◌^◌, ◌<◌, ◌≤◌, List, [], ◌∷◌, ◌++◌, length, slice_index, slice_set, true, false, Option, Some, None}
+use Rattle.std.specs.Prelude.{◌≡◌, ◌⊎◌, ℕ, ◌+◌, ◌^◌, ◌<◌, ◌≤◌, List, [], ◌∷◌, ◌++◌, length, slice_index, slice_set, Bool, true, false, Option, Some, None}
 use Rattle.std.specs.FinMap.{get}
 use Rattle.std.specs.List.{last_or}
-use Rattle.bihash_words.specs.Maps.{Event, Pairs, changed}
+use Rattle.bihash_words.specs.Maps.{Event, Pairs, written}
 use Rattle.bihash_words.specs.Sizes.{Sizes}
 use Rattle.bihash_words.specs.Words.{Fits, packed}
 use Rattle.bihash_words.specs.declared.patch.Reply.TheVariants.{Changed, NoPages}
@@ -199,6 +199,7 @@ call_of v b more e = record {
   found = e.found;
   change = e.change;
   reply = e.reply;
+  recycling = e.recycling;
   store = store_of e.reply v.notes.left;
 }
 
@@ -248,12 +249,21 @@ pub record MayWrite (z : Sizes) (v : View) (b word : ℕ) (c : Call) : Type 0 wh
 
 -- the map after the write
 abbrev pub next_map : View → ℕ → Call → Pairs
-next_map v b c = changed (map_now v b) c.key c.change
+next_map v b c = written (map_now v b) c.key c.change c.recycling
 
 -- it may be made with the block as it is now
 pub record MayPublish (z : Sizes) (v : View) (b word : ℕ) (c : Call) : Type 0 where
   pub write : MayWrite z v b word c
   pub pairs : IsBlockOf z write.lock.extent write.lock.now (next_map v b c)
+
+-- the same block with this linear mark
+abbrev pub marked : Extent → Bool → Extent
+marked e linear = record { page = e.page; size = record { log2 = e.size.log2; linear = linear } }
+
+-- it may be made with the block as it is now, which has this linear mark from then on
+pub record MayMark (z : Sizes) (v : View) (b word : ℕ) (linear : Bool) (c : Call) : Type 0 where
+  pub write : MayWrite z v b word c
+  pub pairs : IsBlockOf z (marked write.lock.extent linear) write.lock.now (next_map v b c)
 
 -- the write is at the end of the bucket's history, and the lock is open
 abbrev pub view_after_write : View → Call → View

@@ -11,14 +11,12 @@ use Rattle.bihash_steps.specs.declared.view.Write.{Write}
 use Rattle.bihash_steps.specs.declared.view.Call.{Call}
 use Rattle.bihash_steps.specs.declared.view.Record.{Record}
 use Rattle.bihash_steps.specs.declared.view.Known.{Known}
+pub use Rattle.bihash_steps.specs.declared.view.Openings.{Openings}
 use Rattle.bihash_steps.specs.declared.view.View.{View}
 
--- for each bucket the pairs with which it began
-abbrev pub Openings : Type 0
-Openings = List (List (List ℕ × ℕ))
-
+-- the map with which bucket b of a row with these openings began
 abbrev pub opening_in : Openings → ℕ → Pairs
-opening_in openings b = from_entries (slice_index_or openings b [])
+opening_in openings b = from_entries (slice_index_or openings.pairs b [])
 
 -- the map with which bucket b began
 abbrev pub opening_at : Known → ℕ → Pairs

@@ -4,7 +4,7 @@ use Rattle.std.proofs.Math.ListN.{take}
 use lib.ListN.{get_elem?}
 use mathlib.Core.Option.{some}
 use Rattle.std.specs.FinMap.{get}
-use Rattle.bihash_words.specs.Maps.{Pairs, Bounds, Event, IsEvent, changed}
+use Rattle.bihash_words.specs.Maps.{Pairs, Bounds, Event, IsEvent, written}
 use Rattle.bihash_words.specs.Patches.{IsStorable}
 use Rattle.bihash_words.specs.declared.patch.Reply.{Reply}
 use Rattle.bihash_words.specs.declared.patch.Reply.TheVariants.{Kept, Changed, Worn, Full, NoPages}
@@ -26,7 +26,7 @@ pub record IsKeyOf (z : Sizes) (b : ℕ) (key : List ℕ) : Type 0 where
 -- the map after these writes, from the map m
 abbrev pub replay : Pairs → List Write → Pairs
 replay m [] = m
-replay m (w ∷ ws) = replay (changed m w.key w.change) ws
+replay m (w ∷ ws) = replay (written m w.key w.change w.recycling) ws
 
 -- the map after the first n writes
 abbrev pub after : Pairs → List Write → ℕ → Pairs
@@ -39,13 +39,14 @@ event_of_write m w = record {
   found = get m w.key;
   change = w.change;
   reply = Changed (get m w.key);
+  recycling = w.recycling;
 }
 
 -- a write of bucket b that follows n others, which left the map m
 pub record IsWrite (z : Sizes) (b n : ℕ) (m : Pairs) (w : Write) : Type 0 where
   pub key : IsKeyOf z b w.key
   pub storable : IsStorable w.change
-  pub changes : IsEvent (bounds_of z) m n (event_of_write m w) (changed m w.key w.change)
+  pub changes : IsEvent (bounds_of z) m n (event_of_write m w) (written m w.key w.change w.recycling)
 
 -- a write list: at most `limit` writes, each of which changes the map that those before it left; the keys
 -- of the map that it starts from are the bucket's
@@ -76,7 +77,7 @@ store_of Full noted = None
 store_of (NoPages log2 left) noted = noted
 
 abbrev pub event_of : Call → Event
-event_of c = record { key = c.key; found = c.found; change = c.change; reply = c.reply }
+event_of c = record { key = c.key; found = c.found; change = c.change; reply = c.reply; recycling = c.recycling }
 
 -- the call is what a bounded map answers at the map m, after n writes
 abbrev pub IsAnswer : Sizes → Pairs → ℕ → Call → Type 0
@@ -84,7 +85,7 @@ IsAnswer z m n c = (m' : Pairs) × IsEvent (bounds_of z) m n (event_of c) m'
 
 -- the write that a call of this caller number made
 abbrev pub write_of : ℕ → Call → Write
-write_of by c = record { by = by; key = c.key; change = c.change }
+write_of by c = record { by = by; key = c.key; change = c.change; recycling = c.recycling }
 
 -- A legal call on the history H. A write is the one of H that its stamp names, and an answer at the map
 -- before it. Any other call is an answer at the map that its stamp names. Only a refusal for want of pages

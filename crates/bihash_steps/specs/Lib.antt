@@ -14,3 +14,4 @@ pub mod CallerCalls
 pub mod BucketSteps
 pub mod StoreSteps
 pub mod StoreCalls
+pub mod Renewals

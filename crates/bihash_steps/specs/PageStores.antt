@@ -17,6 +17,7 @@ use Rattle.bihash_steps.specs.declared.view.ListedPage.{ListedPage}
 use Rattle.bihash_steps.specs.declared.view.LockedStore.{LockedStore}
 use Rattle.bihash_steps.specs.declared.view.HeldBlock.{HeldBlock}
 use Rattle.bihash_steps.specs.declared.view.View.{View}
+use Rattle.bihash_steps.specs.declared.view.Openings.{Openings}
 
 -- the page store, and the seat that holds the allocation lock
 pub record StoreState : Type 0 where
@@ -35,9 +36,16 @@ writes_in x (suc n) = writes_in x n + length (x n).history
 abbrev pub all_writes : Sizes → (ℕ → BucketState) → ℕ
 all_writes z x = writes_in x (buckets z)
 
--- The words of the page store, after so many writes. No more pages were handed out than the writes, and
--- one block that is not published yet, can have taken.
-pub record IsStore (z : Sizes) (words : List ℕ) (writes : ℕ) (q : StoreState) : Type 0 where
+-- how many pages can be handed out after so many writes, where some had been when the row began
+abbrev pub most_used : Sizes → ℕ → ℕ → ℕ
+most_used z before writes = before + 2 ^ z.max_log2 * writes
+
+abbrev pub all_used : Sizes → Openings → (ℕ → BucketState) → ℕ
+all_used z openings x = most_used z openings.used (all_writes z x)
+
+-- The words of the page store. No more pages were handed out than `most`, but for one block that is not
+-- published yet.
+pub record IsStore (z : Sizes) (words : List ℕ) (most : ℕ) (q : StoreState) : Type 0 where
   pub lock : allocation_lock_of words ≡ bit (is_some q.lock)
   pub used : used_mark_of words ≡ q.store.used
   pub wide : length q.store.returned ≡ suc z.max_log2
@@ -45,7 +53,7 @@ pub record IsStore (z : Sizes) (words : List ℕ) (writes : ℕ) (q : StoreState
       → slice_index words (returned_count_at log2) ≡ length (returned_in q.store log2)
   pub lists : (log2 : ℕ) → log2 ≤ z.max_log2 → Stands words (list_at z log2) (returned_in q.store log2)
   pub room : (log2 : ℕ) → log2 ≤ z.max_log2 → length (returned_in q.store log2) ≤ list_words z log2
-  pub bound : q.store.used ≤ 2 ^ z.max_log2 * (writes + bit q.store.unpublished)
+  pub bound : q.store.used ≤ most + 2 ^ z.max_log2 * bit q.store.unpublished
   pub settled : q.lock ≡ None → q.store.unpublished ≡ false
 
 -- ---- With the allocation lock
@@ -104,13 +112,13 @@ runs_now x store views = runs_of (λ b. run_of (x b).extent.page (x b).extent.si
 -- ---- Refusals for want of pages
 
 -- A call that found no block of this log2 bears the page store that it saw: none was returned there, and
--- `left` pages were never used. So many writes took the others.
-pub record BearsOutOfPages (z : Sizes) (writes : ℕ) (c : Call) (log2 left : ℕ) : Type 0 where
+-- `left` pages were never used. The others are no more than `most`.
+pub record BearsOutOfPages (z : Sizes) (most : ℕ) (c : Call) (log2 left : ℕ) : Type 0 where
   pub store : PageStore
   pub bears : c.store ≡ Some store
   pub none : returned_in store log2 ≡ []
   pub unused : store.used + left ≡ z.pages
-  pub taken : z.pages ≤ left + 2 ^ z.max_log2 * writes
+  pub taken : z.pages ≤ left + most
 
 abbrev pub HasCall : List Record → Call → Type 0
 HasCall records c = (i k : ℕ) × (r : Record) × (get_elem? records i ≡ some r)
@@ -118,10 +126,10 @@ HasCall records c = (i k : ℕ) × (r : Record) × (get_elem? records i ≡ some
 
 -- each call of the records that was refused for want of pages tells what it saw, and what can be left
 abbrev pub BearOutOfPages : Sizes → ℕ → List Record → Type 0
-BearOutOfPages z writes records = (c : Call) → HasCall records c → (log2 left : ℕ)
-    → c.reply ≡ NoPages log2 left → BearsOutOfPages z writes c log2 left
+BearOutOfPages z most records = (c : Call) → HasCall records c → (log2 left : ℕ)
+    → c.reply ≡ NoPages log2 left → BearsOutOfPages z most c log2 left
 
 -- what was noted when the allocation lock was opened
 abbrev pub LeftIf : Sizes → ℕ → Option PageStore → Type 0
-LeftIf z writes None = Unit {0}
-LeftIf z writes (Some store) = (store.used ≤ z.pages) × (store.used ≤ 2 ^ z.max_log2 * writes)
+LeftIf z most None = Unit {0}
+LeftIf z most (Some store) = (store.used ≤ z.pages) × (store.used ≤ most)

@@ -6,7 +6,7 @@ use Rattle.atomic_table.specs.Table.{Me}
 use Rattle.bihash_words.specs.Sizes.{Sizes}
 use Rattle.bihash_steps.specs.Words.{buckets}
 use Rattle.bihash_steps.specs.Callers.{HasMadeAll, IsConsistent, IsLawfulCaller, IsWhole, KnowsOwn, known_at, known_writes}
-use Rattle.bihash_steps.specs.PageStores.{BearOutOfPages}
+use Rattle.bihash_steps.specs.PageStores.{BearOutOfPages, most_used}
 use Rattle.bihash_steps.specs.Views.{empty_record, nothing_known, nothing_held, no_notes}
 use Rattle.bihash_steps.specs.declared.view.Write.{Write}
 use Rattle.bihash_steps.specs.declared.view.Meeting.{Meeting}
@@ -35,7 +35,7 @@ HaveBearers z v = (b n : ℕ) (w : Write) → b < buckets z → get_elem? (known
 pub record IsToldWhole (z : Sizes) (v : View) : Type 0 where
   pub whole : IsWhole v.records v.seen
   pub made : HasMadeAll z v
-  pub short : BearOutOfPages z (known_writes v.known (buckets z)) v.records
+  pub short : BearOutOfPages z (most_used z v.known.openings.used (known_writes v.known (buckets z))) v.records
 
 pub record TellsCount (z : Sizes) (m : ViewOfSeat) (found : ℕ) (m' : ViewOfSeat) : Type 0 where
   pub seat : m' ≡ (view_after_count m.0 found, m.1)

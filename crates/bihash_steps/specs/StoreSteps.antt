@@ -36,6 +36,13 @@ pub record LocksStore (z : Sizes) (v w : View) : Type 0 where
   pub room : (log2 : ℕ) → log2 ≤ z.max_log2 → length (returned_in store log2) ≤ list_words z log2
   pub is : w ≡ holding v (Some (record { store = store; listed = None })) v.holds.block
 
+-- The allocation lock may be opened: the page store is settled, and the caller has given its block to a bucket or back.
+pub record MayOpenStore (v : View) : Type 0 where
+  pub locked : LockedStore
+  pub held : v.holds.store ≡ Some locked
+  pub settled : locked.store.unpublished ≡ false
+  pub returned : v.holds.block ≡ None
+
 -- a lone caller that doesn't have it takes it
 pub record TellsStoreLock (z : Sizes) (m : ViewOfSeat) (found : ℕ) (m' : ViewOfSeat) : Type 0 where
   pub slots : m'.1 ≡ m.1
@@ -124,13 +131,14 @@ pub record TellsTakenReturned (z : Sizes) (at number : ℕ) (m m' : ViewOfSeat) 
       → m.0.holds.store ≡ Some n → TakesBlock z m.0 (unlisted n.store log2)
       (slice_index (returned_in n.store log2) number) log2 m'.0
 
--- the next pages that were never used may be taken
+-- The next pages that were never used may be taken: no block of this log2 was returned.
 pub record MayTakeUnused (z : Sizes) (v : View) (log2 used : ℕ) : Type 0 where
   pub locked : LockedStore
   pub store : v.holds.store ≡ Some locked
   pub block : v.holds.block ≡ None
   pub settled : locked.store.unpublished ≡ false
   pub small : log2 ≤ z.max_log2
+  pub none : returned_in locked.store log2 ≡ []
   pub mark : locked.store.used ≡ used
   pub left : used + 2 ^ log2 ≤ z.pages
 

@@ -5,13 +5,13 @@ use lib.ListN.{get_elem?}
 use mathlib.Core.Option.{some}
 use Rattle.atomic_table.specs.Table.{State}
 use Rattle.bihash_words.specs.Sizes.{Sizes, IsSound}
-use Rattle.bihash_steps.specs.Words.{count_of, buckets, all_words}
+use Rattle.bihash_steps.specs.Words.{count_of, buckets, all_words, Stands}
 use Rattle.bihash_steps.specs.Histories.{IsPrefix}
 use Rattle.bihash_steps.specs.Callers.{Openings, known_at, opening_in, IsLawful, HasNumbers, IsWhole, Apart, KnowsOwn}
 use Rattle.bihash_steps.specs.Blocks.{no_block}
 use Rattle.bihash_steps.specs.Partition.{IsPartition}
 use Rattle.bihash_steps.specs.Buckets.{BucketState, IsBucket, HoldsBucketIf, NotesLocks, IsOpenIf, StandsStillIf}
-use Rattle.bihash_steps.specs.PageStores.{StoreState, IsStore, HoldsStoreIf, NotesStore, HoldsBlockIf, BearOutOfPages, LeftIf, all_writes, runs_now}
+use Rattle.bihash_steps.specs.PageStores.{StoreState, IsStore, HoldsStoreIf, NotesStore, HoldsBlockIf, BearOutOfPages, LeftIf, all_used, runs_now}
 use Rattle.bihash_steps.specs.Views.{nothing_held}
 use Rattle.bihash_steps.specs.declared.view.Write.{Write}
 use Rattle.bihash_steps.specs.declared.view.Record.{Record}
@@ -19,16 +19,16 @@ use Rattle.bihash_steps.specs.declared.view.Known.{Known}
 use Rattle.bihash_steps.specs.declared.view.Meeting.{Meeting}
 use Rattle.bihash_steps.specs.declared.view.View.{View}
 
--- What there is to know of a table between two steps: the maps with which its buckets began, each
--- bucket, and the page store.
+-- What there is to know of a table between two steps: with what it began, each bucket, and the page
+-- store.
 pub record TableState : Type 0 where
   pub openings : Openings
   pub bucket : ℕ → BucketState
   pub store : StoreState
 
 -- What a view knows of the histories: a beginning of each, on which its records are lawful and in which
--- each write stands that bears one of its numbers. A view with a number knows the maps with which the
--- buckets began.
+-- each write stands that bears one of its numbers. A view with a number knows with what the table
+-- began.
 pub record IsInformed (z : Sizes) (t : TableState) (known : Known) (records : List Record) : Type 0 where
   pub wide : length known.writes ≡ buckets z
   pub begins : (b : ℕ) → b < buckets z → IsPrefix (known_at known b) (t.bucket b).history
@@ -69,9 +69,11 @@ pub record IsView (z : Sizes) (words : List ℕ) (count : ℕ) (t : TableState) 
   pub open_bucket : IsOpenIf z t.bucket v.notes.open_bucket
   pub still : v.lone ≡ true → StandsStillIf z words v.notes.open_bucket
   -- what it was told, and what it noted, of pages that were left
-  pub short : BearOutOfPages z (all_writes z t.bucket) v.records
-  pub left : LeftIf z (all_writes z t.bucket) v.notes.left
+  pub short : BearOutOfPages z (all_used z t.openings t.bucket) v.records
+  pub left : LeftIf z (all_used z t.openings t.bucket) v.notes.left
   pub meeting : HaveMetIf z t v.notes.meeting
+  -- the words that a lone caller loaded are the first words
+  pub row : v.lone ≡ true → Stands words 0 v.notes.row
 
 -- the word rule
 pub record WordRule (z : Sizes) (s : State (Unit {0}) View) : Type 0 where
@@ -85,7 +87,7 @@ pub record WordRule (z : Sizes) (s : State (Unit {0}) View) : Type 0 where
       → IsBucket z s.words (count_of s.words) b (opening_in table.openings b) (table.bucket b)
   pub outside : (b : ℕ) → buckets z ≤ b → ((table.bucket b).lock ≡ None)
       × ((table.bucket b).extent ≡ no_block)
-  pub store : IsStore z s.words (all_writes z table.bucket) table.store
+  pub store : IsStore z s.words (all_used z table.openings table.bucket) table.store
   -- the views fit them, those of dropped callers too, and no two have a number in common
   pub each_view : (j : ℕ) (v : View) → get_elem? s.views j ≡ some v
       → IsView z s.words (count_of s.words) table j v

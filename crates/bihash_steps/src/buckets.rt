@@ -1,16 +1,17 @@
 //! Steps on a bucket: its word, its lock, and the words of its block under the lock.
 ghost use Rattle.std.specs.Prelude.{◌≡◌, [], ◌∷◌, Some, slice_index};
 ghost use Rattle.bihash_words.specs.Sizes.{sizes_of};
-ghost use Rattle.bihash_steps.specs.BucketCalls.{FindsBucket, IsValidated, MayLock, TriesLock, answer_at, write_at};
-ghost use Rattle.bihash_steps.specs.BucketSteps.{IsLockedWord, with_lock, stored_in, HoldsClean, without_lock, MayAnswer, view_after_answer, MayPublish, view_after_write, IsOpenWord, with_reading, MayValidate};
+ghost use Rattle.bihash_steps.specs.BucketCalls.{FindsBucket, IsValidated, MayLock, TriesLock, answer_at, recycled_at, refusal_at, write_at};
+ghost use Rattle.bihash_steps.specs.BucketSteps.{IsLockedWord, with_lock, stored_in, HoldsClean, without_lock, MayAnswer, view_after_answer, MayMark, MayPublish, view_after_write, IsOpenWord, with_reading, MayValidate};
 ghost use Rattle.bihash_steps.specs.StoreSteps.{MayReplace, view_after_replace};
 ghost use Rattle.bihash_steps.specs.declared.view.LockedBucket.{LockedBucket};
 ghost use Rattle.bihash_steps.specs.Seats.{Becomes, IsAt, with_view};
 
 use crate::event::Event;
+use crate::recycled::Recycled;
 use crate::row::{CallerSeat, Row};
 use crate::view::Extent;
-use bihash_words::{BucketWord, Shape};
+use bihash_words::{BlockSize, BucketWord, Expiry, Shape};
 use std::marker::Brand;
 
 mod plays;
@@ -117,6 +118,40 @@ impl<S: Shape> Row<S> {
         true
     }
 
+    /// The same for a new key that finds no room, where the call asked an expiry and removes no pair.
+    pub fn validate_full<X: Expiry>(
+        &self,
+        caller: &mut CallerSeat<S>,
+        bucket: usize,
+        word: BucketWord,
+        event: &Event<'_, S>,
+        expiry: &X,
+    ) -> bool
+        requires at { IsAt (sizes_of S.Shape) self.now caller.old bucket }
+        requires may { MayValidate (sizes_of S.Shape) caller.old.view bucket word
+            (refusal_at ⟦<S as Shape>⟧ caller.old.view bucket event.now (X.is_expired expiry.now)) }
+        ensures { IsValidated (sizes_of S.Shape) caller.old caller.new
+            (refusal_at ⟦<S as Shape>⟧ caller.old.view bucket event.now (X.is_expired expiry.now)) result }
+    {
+        self.validate_full_as::<Brand, X>(caller, bucket, word, event, expiry)
+    }
+
+    // The same for the call that `E` names: it is that of the event and the expiry.
+    fn validate_full_as<E: Calling, X: Expiry>(
+        &self,
+        caller: &mut CallerSeat<S>,
+        bucket: usize,
+        word: BucketWord,
+        event: &Event<'_, S>,
+        _expiry: &X,
+    ) -> bool
+        requires at { IsAt (sizes_of S.Shape) self.now caller.old bucket }
+        requires may { MayValidate (sizes_of S.Shape) caller.old.view bucket word E.call }
+        ensures { IsValidated (sizes_of S.Shape) caller.old caller.new E.call result }
+    {
+        self.validate_as::<E>(caller, bucket, word, event)
+    }
+
     /// Opens the lock of a bucket in whose block nothing was stored, without an answer.
     pub fn release(&self, caller: &mut CallerSeat<S>, bucket: usize, word: BucketWord)
         requires at { IsAt (sizes_of S.Shape) self.now caller.old bucket }
@@ -176,11 +211,11 @@ impl<S: Shape> Row<S> {
         ensures { Becomes (sizes_of S.Shape) caller.old
             (view_after_write caller.old.view (write_at ⟦<S as Shape>⟧ caller.old.view bucket event.now)) caller.new }
     {
-        self.publish_as::<Brand>(caller, bucket, word, event);
+        self.publish_called::<Brand>(caller, bucket, word, event);
     }
 
     // The same for the call that `E` names: it is that of the event.
-    fn publish_as<E: Calling>(
+    fn publish_called<E: Calling>(
         &self,
         caller: &mut CallerSeat<S>,
         bucket: usize,
@@ -191,8 +226,61 @@ impl<S: Shape> Row<S> {
         requires may { MayPublish (sizes_of S.Shape) caller.old.view bucket word E.call }
         ensures { Becomes (sizes_of S.Shape) caller.old (view_after_write caller.old.view E.call) caller.new }
     {
+        self.publish_as::<E>(caller, bucket, word, word.linear());
+    }
+
+    /// Stores the next word of a bucket over its block as it is now: it is the write of a call that removed an
+    /// expired pair for its own.
+    pub fn publish_recycled<X: Expiry>(
+        &self,
+        caller: &mut CallerSeat<S>,
+        bucket: usize,
+        word: BucketWord,
+        recycled: &Recycled<'_, S, X>,
+    )
+        requires at { IsAt (sizes_of S.Shape) self.now caller.old bucket }
+        requires may { MayMark (sizes_of S.Shape) caller.old.view bucket word recycled.now.linear
+            (recycled_at ⟦<S as Shape>⟧ caller.old.view bucket recycled.now (X.is_expired recycled.now.expiry.now)) }
+        ensures { Becomes (sizes_of S.Shape) caller.old (view_after_write caller.old.view
+            (recycled_at ⟦<S as Shape>⟧ caller.old.view bucket recycled.now (X.is_expired recycled.now.expiry.now))) caller.new }
+    {
+        self.publish_recycled_called::<Brand, X>(caller, bucket, word, recycled);
+    }
+
+    // The same for the call that `E` names: it is that of the event.
+    fn publish_recycled_called<E: Calling, X: Expiry>(
+        &self,
+        caller: &mut CallerSeat<S>,
+        bucket: usize,
+        word: BucketWord,
+        recycled: &Recycled<'_, S, X>,
+    )
+        requires at { IsAt (sizes_of S.Shape) self.now caller.old bucket }
+        requires may { MayMark (sizes_of S.Shape) caller.old.view bucket word recycled.now.linear E.call }
+        ensures { Becomes (sizes_of S.Shape) caller.old (view_after_write caller.old.view E.call) caller.new }
+    {
+        self.publish_as::<E>(caller, bucket, word, recycled.linear);
+    }
+
+    // Stores the next word over the same block, with this linear mark.
+    fn publish_as<E: Calling>(
+        &self,
+        caller: &mut CallerSeat<S>,
+        bucket: usize,
+        word: BucketWord,
+        linear: bool,
+    )
+        requires at { IsAt (sizes_of S.Shape) self.now caller.old bucket }
+        requires may { MayMark (sizes_of S.Shape) caller.old.view bucket word linear E.call }
+        ensures { Becomes (sizes_of S.Shape) caller.old (view_after_write caller.old.view E.call) caller.new }
+    {
+        self.is_sound();
+        let size = BlockSize {
+            log2: word.log2(),
+            linear,
+        };
+        let next = word.next(word.page(), size);
         let shared = &self.table.shared;
-        let next = word.next(word.page(), word.block_size());
         shared.store::<Publishes<S, E>>(&mut caller.seat, self.bucket_at(bucket), next.to_word());
         caller.stamp = Some((bucket as u64, word.version() + 1));
     }

@@ -33,7 +33,7 @@ pub fn open_row<S: Shape>(alloc: Global) -> Result<(Row<S>, Caller<S>), CreateFa
 {
     let scratch = Scratch::reserve(alloc)?;
     let words = fresh_words::<S>(alloc)?;
-    let (table, seat) = Table::of_words(alloc, words.as_slice(), &())?;
+    let (table, seat) = Table::of_words(alloc, words.as_slice(), &None)?;
     let row = Row { table };
     let seat = CallerSeat {
         seat,

@@ -61,8 +61,8 @@ pub(crate) fn row_words<S: Shape>() -> usize
 }
 
 impl<S: Shape> Row<S> {
-    /// The word of a bucket.
-    pub(crate) fn bucket_at(&self, bucket: usize) -> usize
+    /// Where the word of a bucket stands among the words of the row.
+    pub fn bucket_at(&self, bucket: usize) -> usize
         requires { bucket < buckets (sizes_of S.Shape) }
         ensures place { result ≡ Words.bucket_at (sizes_of S.Shape) bucket }
         ensures inside { result < self.now.words }
@@ -72,8 +72,8 @@ impl<S: Shape> Row<S> {
         front_words::<S>() + bucket
     }
 
-    /// Word k of the block that begins at this page.
-    pub(crate) fn page_at(&self, page: u64, k: usize) -> usize
+    /// Where word k stands of the block that begins at this page.
+    pub fn page_at(&self, page: u64, k: usize) -> usize
         requires some_page { 1 ≤ page }
         requires inside { Words.page_at (sizes_of S.Shape) page + k < all_words (sizes_of S.Shape) }
         ensures place { result ≡ Words.page_at (sizes_of S.Shape) page + k }

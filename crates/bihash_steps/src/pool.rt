@@ -3,7 +3,7 @@ ghost use Rattle.std.specs.Prelude.{◌≡◌, ◌+◌, false, Some, None, slice
 ghost use Rattle.bihash_words.specs.Sizes.{sizes_of};
 ghost use Rattle.bihash_steps.specs.PageStores.{returned_in};
 ghost use Rattle.bihash_steps.specs.StoreCalls.{ReadsStore, TriesStoreLock};
-ghost use Rattle.bihash_steps.specs.StoreSteps.{holding, store_opened, IsInStore, unlisted, grown, TakesBlock, MayTakeReturned, MayTakeUnused, IsHeldWord, stored_at, MayList, listing, MayReturn, relisted};
+ghost use Rattle.bihash_steps.specs.StoreSteps.{holding, store_opened, IsInStore, unlisted, grown, TakesBlock, MayTakeReturned, MayTakeUnused, IsHeldWord, stored_at, MayList, listing, MayReturn, relisted, MayOpenStore};
 ghost use Rattle.bihash_steps.specs.declared.view.LockedStore.{LockedStore};
 ghost use Rattle.bihash_steps.specs.declared.view.HeldBlock.{HeldBlock};
 ghost use Rattle.bihash_steps.specs.Seats.{with_view};
@@ -55,7 +55,8 @@ impl<S: Shape> Row<S> {
         shared.store::<TakesReturned<S>>(&mut caller.seat, self.returned_count_at(log2), count);
     }
 
-    /// Takes the next `2^log2` pages that were never used, where `used` pages were handed out.
+    /// Takes the next `2^log2` pages that were never used, where `used` pages were handed out and no block of this log2 was
+    /// returned.
     pub fn pool_take_unused(&self, caller: &mut CallerSeat<S>, log2: u64, used: u64)
         requires own { caller.old.row ≡ self.now }
         requires may { MayTakeUnused (sizes_of S.Shape) caller.old.view log2 used }
@@ -102,10 +103,11 @@ impl<S: Shape> Row<S> {
         shared.store::<Returns<S>>(&mut caller.seat, self.returned_count_at(log2), count + 1);
     }
 
-    /// Opens the allocation lock. What stood in the page store is noted, for a refusal for want of pages.
+    /// Opens the allocation lock, once the block that a growth replaced has been given back. What stood in the page store
+    /// is noted, for a refusal for want of pages.
     pub fn pool_unlock(&self, caller: &mut CallerSeat<S>)
         requires own { caller.old.row ≡ self.now }
-        requires settled { (n : LockedStore) × (caller.old.view.holds.store ≡ Some n) × (n.store.unpublished ≡ false) }
+        requires may { MayOpenStore caller.old.view }
         ensures { (n : LockedStore) → caller.old.view.holds.store ≡ Some n
             → caller.new ≡ with_view caller.old (store_opened caller.old.view n) }
     {

@@ -3,9 +3,10 @@ ghost use Rattle.std.specs.Prelude.{◌≡◌, ◌+◌, []};
 ghost use Rattle.atomic_table.specs.Seated.{TableId};
 ghost use Rattle.bihash_words.specs.Sizes.{sizes_of};
 ghost use Rattle.bihash_steps.specs.Seats.{CallerState, caller_state, IsRow, CanAct, stamp_of};
-ghost use Rattle.bihash_steps.specs.Views.{first_view};
+ghost use Rattle.bihash_steps.specs.Views.{opening_view, openings_told};
 ghost use Rattle.bihash_steps.specs.WordRule.{WordRule};
 
+use crate::began::Began;
 use crate::scratch::Scratch;
 use crate::view::View;
 use atomic_table::{Seat, Table, TableRule};
@@ -13,21 +14,21 @@ use bihash_words::Shape;
 use std::alloc::Global;
 use std::marker::{Model, PhantomData};
 
-/// The word rule, at the sizes of a shape.
+/// The word rule, at the sizes of a shape. Caller 1 knows with what the row began.
 pub struct RowRule<S> {
     shape: PhantomData<S>,
 }
 
-impl<S: Shape> TableRule<(), View, ()> for RowRule<S> {
+impl<S: Shape> TableRule<(), View, Began> for RowRule<S> {
     ghost holds = { λ _. WordRule (sizes_of S.Shape) };
 
-    ghost first = { λ _. first_view (sizes_of S.Shape) };
+    ghost first = { λ began. opening_view (sizes_of S.Shape) (openings_told (λ m. m.view) began) };
 }
 
 /// The words of one table. Contracts see which table it is.
 #[derive(Drop)]
 pub struct Row<S: Shape> {
-    pub(crate) table: Table<(), View, (), RowRule<S>, Global>,
+    pub(crate) table: Table<(), View, Began, RowRule<S>, Global>,
 }
 
 impl<S: Shape> Model for Row<S> {

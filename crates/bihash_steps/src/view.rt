@@ -1,17 +1,19 @@
 //! What a caller knows, as proofs and contracts see it. Of these types only extents are ever made.
-use bihash_words::{BlockSize, Change, Reply};
+use bihash_words::{BlockSize, Change, Recycling, Reply};
 use std::collections::LinkedList;
 
-/// One write of a bucket's history: the caller number that made it, the words of its key, and what was
-/// done at the key.
+/// One write of a bucket's history: the caller number that made it, the words of its key, what was done at
+/// the key, and which key was removed for it.
 pub struct Write {
     pub by: u64,
     pub key: LinkedList<u64>,
     pub change: Change,
+    pub recycling: Recycling,
 }
 
 /// One answered call. The stamp of a write is its number in the history of its bucket; that of any other
-/// call is how many writes stood before it. A refusal for want of pages bears the page store that it saw.
+/// call is how many writes stood before it. A call that asked an expiry bears what it told, and the key that
+/// was removed. A refusal for want of pages bears the page store that it saw.
 pub struct Call {
     pub bucket: u64,
     pub stamp: u64,
@@ -19,6 +21,7 @@ pub struct Call {
     pub found: Option<u64>,
     pub change: Change,
     pub reply: Reply,
+    pub recycling: Recycling,
     pub store: Option<PageStore>,
 }
 
@@ -93,9 +96,15 @@ pub struct OpenBucket {
     pub reads: LinkedList<(u64, u64)>,
 }
 
-/// What is known of the buckets: the pairs with which each began, and the first of its writes.
+/// With what a row began: the pairs of each bucket, and how many pages had been handed out.
+pub struct Openings {
+    pub pairs: LinkedList<LinkedList<(LinkedList<u64>, u64)>>,
+    pub used: u64,
+}
+
+/// What is known of the buckets: with what the row began, and the first writes of each.
 pub struct Known {
-    pub openings: LinkedList<LinkedList<(LinkedList<u64>, u64)>>,
+    pub openings: Openings,
     pub writes: LinkedList<LinkedList<Write>>,
 }
 
@@ -108,11 +117,12 @@ pub struct Meeting {
 }
 
 /// What the caller noted: a bucket that it saw unlocked, the page store when it last opened the
-/// allocation lock, a meeting.
+/// allocation lock, a meeting, and the first words of the row, which it loaded as a lone caller.
 pub struct Notes {
     pub open_bucket: Option<OpenBucket>,
     pub left: Option<PageStore>,
     pub meeting: Option<Meeting>,
+    pub row: LinkedList<u64>,
 }
 
 /// A caller: its numbers with their records, of which it acts under the first, what it knows of the

@@ -54,7 +54,7 @@ sized (suc page) log2 count is = inr is
 module _ {A K : Type 0} (g : Ghosts A K) (e : Extent) (words : List ℕ) (ps : List (K × ℕ))
     (are : ArePlaces g ps words) (count : length ps ≡ places e.page e.size.log2) where
   -- a pair at a place, as words
-  as_words : (key : K) (v i : ℕ) → HasPairAt ps key v i → HoldsPair (sizes_of g) e words (g.words_of key) v i
+  pub as_words : (key : K) (v i : ℕ) → HasPairAt ps key v i → HoldsPair (sizes_of g) e words (g.words_of key) v i
   as_words key v i h =
       let value : value_in (sizes_of g) words i ≡ v = are.value i (key, v) h.at in
       record {
@@ -64,7 +64,7 @@ module _ {A K : Type 0} (g : Ghosts A K) (e : Extent) (words : List ℕ) (ps : L
       }
 
   -- a pair in words, at its place
-  as_place : K → (w : List ℕ) (v i : ℕ) → HoldsPair (sizes_of g) e words w v i
+  pub as_place : K → (w : List ℕ) (v i : ℕ) → HoldsPair (sizes_of g) e words w v i
       → (key : K) × HasPairAt ps key v i × (w ≡ g.words_of key)
   as_place any w v i h =
       let d : K × ℕ = (any, 0) in

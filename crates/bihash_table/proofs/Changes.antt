@@ -35,7 +35,7 @@ value_is_stored z a b l i value n is =
     (ap (λ (m : ℕ). i * place_words z + m) is) refl
 
 -- the words of the block after that
-abbrev with_value : Sizes → List ℕ → ℕ → ℕ → List ℕ
+abbrev pub with_value : Sizes → List ℕ → ℕ → ℕ → List ℕ
 with_value z block i value = set block (i * place_words z + z.key_words) value
 
 module _ (z : Sizes) (v : View) (b word : ℕ) (l : LockedBucket) (has : HasLock z v b word l) (key : List ℕ)
@@ -59,7 +59,7 @@ module _ (z : Sizes) (v : View) (b word : ℕ) (l : LockedBucket) (has : HasLock
         (value_stored z v b word l has w i vacant.inside key z.key_words h w' value refl long is))
 
     pub filled : (u : View) → u ≡ view_after_write w' (call_of w' b 1 (event key None (Set value) (Changed None)))
-        → IsAnswered z v u (record { key = key; found = None; change = Set value; reply = Changed None })
+        → IsAnswered z v u (event key None (Set value) (Changed None))
     filled = published z v b word l has key long home None (Set value) w' _ filled_is
 
   -- the pair of the key at place i
@@ -85,7 +85,7 @@ module _ (z : Sizes) (v : View) (b word : ℕ) (l : LockedBucket) (has : HasLock
           (value_stored z v b word l has v i pair.pair.0 key z.key_words h w' value refl long is))
 
       pub overwritten : (u : View) → u ≡ view_after_write w' (call_of w' b 1 (event key (Some old) (Set value) (Changed (Some old))))
-          → IsAnswered z v u (record { key = key; found = Some old; change = Set value; reply = Changed (Some old) })
+          → IsAnswered z v u (event key (Some old) (Set value) (Changed (Some old)))
       overwritten = published z v b word l has key long home (Some old) (Set value) w' _ overwritten_is
 
     -- it goes, and another is left
@@ -103,5 +103,5 @@ module _ (z : Sizes) (v : View) (b word : ℕ) (l : LockedBucket) (has : HasLock
           key old pair (stored_here z v b word l has v i pair.pair.0 key 0 h w' z.key_words free is (omega arith)) k apart left)
 
       pub removed : (u : View) → u ≡ view_after_write w' (call_of w' b 1 (event key (Some old) Remove (Changed (Some old))))
-          → IsAnswered z v u (record { key = key; found = Some old; change = Remove; reply = Changed (Some old) })
+          → IsAnswered z v u (event key (Some old) Remove (Changed (Some old)))
       removed = published z v b word l has key long home (Some old) Remove w' _ freed_is

@@ -1,116 +1,151 @@
--- The pairs of a bucket's block, read by a lone caller and added to a list place by place.
-use Rattle.std.proofs.Common.{◌≡◌, ◌≢◌, ◌∙◌, ◌+◌, ◌<◌, ℕ, true, List, [], ◌∷◌, ◌++◌, set, sym, ap, subst, Result, Ok, Err}
+-- The pairs of a bucket's block, found among the words of a row and added to a list place by place.
+use Rattle.std.proofs.Common.{◌≡◌, ◌≢◌, ◌∙◌, ◌+◌, ◌*◌, ◌^◌, ◌%◌, ◌<◌, ◌≤◌, ℕ, zero, suc, List, [], ◌∷◌, ◌++◌, ap, arith, drop, get_or-drop, get_or-take, length, length-drop, length-take-le, pow_mono, slice_index, subst, sym, Result, Ok, Err}
+use Rattle.std.proofs.Math.ListN.{take}
 use Rattle.std.specs.Prelude.{IfOk, IsErrAnd}
-use lib.Seq.{set-get_or}
-use Rattle.bihash_words.specs.Sizes.{Sizes, sizes_of}
+use Rattle.bihash_words.specs.Sizes.{IsSound, Sizes, sizes_of}
+use Rattle.bihash_words.specs.Words.{Bucket, Fits, packed}
 use Rattle.bihash_words.specs.declared.shape.Shape.{Ghosts}
+use Rattle.bihash_steps.specs.Words.{all_words, bucket_at, buckets, page_at, place_words}
 use Rattle.bihash_steps.specs.Blocks.{free, places}
 use Rattle.bihash_steps.specs.Callers.{known_at}
+use Rattle.bihash_steps.specs.Renewals.{AreRowWords}
 use Rattle.bihash_steps.specs.Views.{nothing_held}
-use Rattle.bihash_steps.specs.BucketSteps.{with_reading, without_lock}
-use Rattle.bihash_steps.specs.Seats.{CallerState}
 use Rattle.bihash_steps.specs.declared.view.Extent.{Extent}
-use Rattle.bihash_steps.specs.declared.view.Known.{Known}
-use Rattle.bihash_steps.specs.declared.view.Notes.{Notes}
-use Rattle.bihash_steps.specs.declared.view.Record.{Record}
 use Rattle.bihash_steps.specs.declared.view.View.{View}
-use Rattle.bihash_steps.specs.declared.view.Write.{Write}
-use Rattle.bihash_steps.proofs.Whole.{prefix_whole}
-use Rattle.bihash_table.specs.Answers.{locks_of, with_locks}
-use Rattle.bihash_table.specs.inner.OpenReads.{HasRead, IsOpened, NotesBlock, Saw, StandsAt}
-use Rattle.bihash_table.specs.inner.PairLists.{AddsBlock, AddsPlaces, InPart, IsBlockIn, ListsBuckets, ListsPairs, TookLocks}
-use Rattle.bihash_table.specs.inner.Seen.{LocksSeen}
+use Rattle.bihash_steps.proofs.Renewed.{block_there}
+use Rattle.bihash_steps.proofs.Runs.{word_of_block}
+use Rattle.bihash_table.specs.inner.OpenReads.{StandsAt}
+use Rattle.bihash_table.specs.inner.PairLists.{AddsBlock, AddsPlaces, InPart, IsBlockIn, ListsBuckets, ListsPairs}
+use Rattle.bihash_table.specs.inner.RowWords.{HasBlockIn, LiesIn, OfBlockIn}
+use Rattle.bihash_table.specs.inner.Scans.{IsWordOf}
 use Rattle.bihash_table.proofs.PairListLemmas.{part_all, part_free, part_more, part_none}
-use Rattle.bihash_table.proofs.Composed.{with_locks_twice}
-use Rattle.bihash_table.proofs.Released.{with_locks-locks_of}
-use Rattle.bihash_table.proofs.Sights.{seen_first, told_locked}
-use Rattle.bihash_table.proofs.TakenLocks.{locked_known, took_lock}
-use Rattle.bihash_table.proofs.Seeing.{note_extent, read_as, read_nothing, read_then}
+use Rattle.bihash_table.proofs.PlaceReads.{all_same, place_inside}
+use Rattle.bihash_table.proofs.Stores.{page_is}
 
-module _ {A K : Type 0} (g : Ghosts A K) where
-  pub added_none : (v : CallerState) (ps : List (K × ℕ)) → HasRead v v (λ e block. AddsPlaces g 0 e block ps ps)
-  added_none v ps = read_nothing v (λ e block known b has lists. part_none g known b e block ps lists.pairs)
+-- the words that a lone caller loaded have the block of each bucket
+pub block_in : (z : Sizes) (v : View) (words : List ℕ) → AreRowWords z v words → v.holds ≡ nothing_held → (b : ℕ) → b < buckets z
+    → (e : Extent) × (block : List ℕ) × LiesIn z words (slice_index words (bucket_at z b)) e block × IsBlockIn z v.known b e block
+block_in z v words row idle b inside =
+    let there = block_there z v words row idle b inside in
+    let found = there.0 in (
+      (row.rule.table.bucket b).extent,
+      (row.rule.table.bucket b).block,
+      record {
+        names = record { version = length (known_at v.known b); fits = found.fits; stood = found.stood; small = found.pairs.rule.small };
+        near = found.near;
+        size = found.size;
+        stands = there.1;
+      },
+      record { pairs = found.pairs; writes = found.writes },
+    )
 
-  module _ (u v w : CallerState) (n : ℕ) (old ps : List (K × ℕ)) (pair : K × ℕ) (before : HasRead u v (λ e block. AddsPlaces g n e block old ps))
-      (now : HasRead v w (StandsAt g n pair)) where
-    pub added_free : pair.1 ≡ free → HasRead u w (λ e block. AddsPlaces g (n + 1) e block old ps)
-    added_free is = read_then u v w (λ o noted seen here known b has lists.
-        part_free g known b o.extent o.block n ps (here.1 ∙ is) (seen known b has lists)) before now
+-- a loop over all buckets is at one of them
+pub bucket_below : (z : Sizes) (b log2 : ℕ) → IsSound z → log2 ≡ z.log2_buckets → b < 1 * 2 ^ log2 % 2 ^ 64 → b < buckets z
+bucket_below z b log2 sound is below =
+    let small = sound.few_buckets in
+    let at_most : log2 ≤ 24 = omega arith in
+    let few : 2 ^ log2 ≤ 2 ^ 24 = pow_mono at_most in
+    let n : ℕ = 2 ^ log2 in
+    let inside : b < n = omega arith in subst (λ (k : ℕ). b < 2 ^ k) is inside
 
-    pub added_pair : (word : ℕ) (e : Extent) → NotesBlock (sizes_of g) u.view word e → n < places e.page e.size.log2 → pair.1 ≢ free
-        → HasRead u w (λ e block. AddsPlaces g (n + 1) e block old (ps ++ pair ∷ []))
-    added_pair word e h inside taken = read_then u v w (λ o noted seen here known b has lists.
-        part_more g known b o.extent o.block has n pair ps (record {
-          pair = (
-            subst (λ (x : Extent). n < places x.page x.size.log2) (sym (note_extent (sizes_of g) u.view word e o h noted)) inside,
-            λ is. taken (sym here.1 ∙ is),
-          );
+-- they are all words of the row
+pub row_wide : (z : Sizes) (v : View) (words : List ℕ) → AreRowWords z v words → length words ≡ all_words z
+row_wide z v words row = ap length (sym row.are) ∙ row.rule.wide
+
+pub has_block : (z : Sizes) (v : View) (words : List ℕ) (b word : ℕ) → AreRowWords z v words → v.holds ≡ nothing_held → b < buckets z
+    → word ≡ slice_index words (bucket_at z b) → HasBlockIn z words word 0
+has_block z v words b word row idle inside is =
+    let here = block_in z v words row idle b inside in record {
+      wide = row_wide z v words row;
+      extent = here.0;
+      block = here.1;
+      lies = rw is here.2;
+      inside = λ e names. omega arith;
+    }
+
+-- a block with a place has a page
+pub some_page : (page log2 n : ℕ) → n + 1 ≤ places page log2 → 1 ≤ page
+some_page zero log2 n l = absurd (omega arith)
+some_page (suc page) log2 n l = omega arith
+
+-- the words of a place of the block are words of the row
+pub place_in_row : (z : Sizes) (words block : List ℕ) (word page i w : ℕ) (e : Extent) → LiesIn z words word e block → page ≡ e.page
+    → w ≡ z.key_words → i + 1 ≤ places e.page e.size.log2 → page_at z page + i * (w + 1) + w < all_words z
+place_in_row z words block word page i w e lies is wide inside =
+    let x : ℕ = i * place_words z in
+    let there : page_at z e.page + (x + z.key_words) < all_words z = word_of_block z e.page e.size.log2 (x + z.key_words) lies.near
+    (place_inside z e.page e.size.log2 i z.key_words (omega arith) (omega arith)) in
+    rw (is, wide) (let y : ℕ = page_at z e.page in let all : y + x + z.key_words < all_words z = omega arith in all)
+
+-- the same, of a place of the block that the word of its bucket names
+pub last_in_row : (z : Sizes) (words : List ℕ) (word i page w : ℕ) → HasBlockIn z words word (i + 1)
+    → ((x : Bucket) → Fits x → word ≡ packed x → page ≡ x.page) → w ≡ z.key_words → page_at z page + i * (w + 1) + w < length words
+last_in_row z words word i page w h tells wide = subst (λ (n : ℕ). page_at z page + i * (w + 1) + w < n) (sym h.wide)
+    (place_in_row z words h.block word page i w h.extent h.lies (page_is z word h.extent h.lies.names page tells) wide
+    (h.inside h.extent h.lies.names))
+
+module _ {A K : Type 0} (g : Ghosts A K) (words : List ℕ) (word : ℕ) where
+  abbrev z : Sizes
+  z = sizes_of g
+
+  -- the key of a place, by its words, and the value
+  pub place_there : ((w : List ℕ) → length w ≡ g.WORDS → g.words_of (g.key_of w) ≡ w) → (at i value : ℕ) (key : K) (e : Extent)
+      (block : List ℕ) → LiesIn z words word e block → i < places e.page e.size.log2 → length words ≡ all_words z
+      → at ≡ page_at z e.page + i * place_words z → key ≡ g.key_of (take g.WORDS (drop at words))
+      → value ≡ slice_index words (at + g.WORDS) → StandsAt g i (key, value) e block
+  place_there law at i value key e block lies inside wide there is has =
+      let part : List ℕ = take g.WORDS (drop at words) in
+      let last : i * place_words z + g.WORDS < length block =
+      subst (λ (n : ℕ). i * place_words z + g.WORDS < n) (sym lies.size) (place_inside z e.page e.size.log2 i g.WORDS inside (omega arith)) in
+      let row : page_at z e.page + (i * place_words z + g.WORDS) < all_words z =
+      word_of_block z e.page e.size.log2 (i * place_words z + g.WORDS) lies.near (place_inside z e.page e.size.log2 i g.WORDS inside (omega arith)) in
+      let x : ℕ = i * place_words z in
+      let y : ℕ = page_at z e.page in
+      let rest = length-drop at words in
+      let counted : length part ≡ g.WORDS = length-take-le g.WORDS (drop at words) (omega arith) in (
+        all_same z block part i e.page e.size.log2 lies.size inside counted
+            (λ k low. sym (lies.stands (x + k) (omega arith))
+            ∙ (ap (slice_index words) (let same : y + (x + k) ≡ at + k = omega arith in same)
+            ∙ (sym (get_or-drop at words k 0) ∙ sym (get_or-take g.WORDS (drop at words) k 0 low))))
+            ∙ (sym (law part counted) ∙ ap g.words_of (sym is)),
+        sym (lies.stands (x + g.WORDS) last) ∙ (ap (slice_index words) (let same : y + (x + g.WORDS) ≡ at + g.WORDS = omega arith in same) ∙ sym has),
+      )
+
+  pub added_none : (ps : List (K × ℕ)) → OfBlockIn z words word (λ e block. AddsPlaces g 0 e block ps ps)
+  added_none ps e block lies known b has lists = part_none g known b e block ps lists.pairs
+
+  module _ (n : ℕ) (old ps : List (K × ℕ)) (pair : K × ℕ) (before : OfBlockIn z words word (λ e block. AddsPlaces g n e block old ps))
+      (now : OfBlockIn z words word (StandsAt g n pair)) where
+    pub added_free : pair.1 ≡ free → OfBlockIn z words word (λ e block. AddsPlaces g (n + 1) e block old ps)
+    added_free is e block lies known b has lists =
+        part_free g known b e block n ps ((now e block lies).1 ∙ is) (before e block lies known b has lists)
+
+    pub added_pair : (count : ℕ) → ((e : Extent) → IsWordOf z word e → count ≡ places e.page e.size.log2) → n < count → pair.1 ≢ free
+        → OfBlockIn z words word (λ e block. AddsPlaces g (n + 1) e block old (ps ++ pair ∷ []))
+    added_pair count counts low taken e block lies known b has lists =
+        let here = now e block lies in
+        part_more g known b e block has n pair ps (record {
+          pair = (subst (λ (m : ℕ). n < m) (counts e lies.names) low, λ is. taken (sym here.1 ∙ is));
           stands = here.0;
           has = here.1;
-        }) (seen known b has lists)) before now
+        }) (before e block lies known b has lists)
 
-    -- nothing is told where it was refused
-    pub added_not : {T E : Type 0} (Q : E → Type 0) (P : T → Extent → List ℕ → Type 0) (r : Result T E) → IsErrAnd r Q
-        → HasRead u w (λ e block. IfOk r (λ x. P x e block))
-    added_not Q P (Ok x) err = absurd err
-    added_not Q P (Err fault) err = read_then u v w (λ o noted seen here. tt) before now
+  -- nothing is told where it was refused
+  pub added_not : {T E : Type 0} (Q : E → Type 0) (P : T → Extent → List ℕ → Type 0) (r : Result T E) → IsErrAnd r Q
+      → OfBlockIn z words word (λ e block. IfOk r (λ x. P x e block))
+  added_not Q P (Ok x) err e block lies = absurd err
+  added_not Q P (Err fault) err e block lies = tt
 
-  pub added_all : (u v : CallerState) (n word : ℕ) (old ps : List (K × ℕ)) (e : Extent) → NotesBlock (sizes_of g) u.view word e → n ≡ places e.page e.size.log2
-      → HasRead u v (λ e block. AddsPlaces g n e block old ps) → HasRead u v (λ e block. AddsBlock g e block old ps)
-  added_all u v n word old ps e h all = read_as u v (λ o noted seen known b has lists.
-      let end : n ≡ places o.extent.page o.extent.size.log2 =
-      all ∙ ap (λ (x : Extent). places x.page x.size.log2) (sym (note_extent (sizes_of g) u.view word e o h noted)) in
-      part_all g known b o.extent o.block has ps lists.home
-      (subst (λ (m : ℕ). ListsPairs g ps (InPart (sizes_of g) known b o.extent o.block m)) end (seen known b has lists)))
+  pub added_all : (n : ℕ) (old ps : List (K × ℕ)) → ((e : Extent) → IsWordOf z word e → n ≡ places e.page e.size.log2)
+      → OfBlockIn z words word (λ e block. AddsPlaces g n e block old ps) → OfBlockIn z words word (λ e block. AddsBlock g e block old ps)
+  added_all n old ps counts added e block lies known b has lists =
+      part_all g known b e block has ps lists.home (subst (λ (m : ℕ). ListsPairs g ps (InPart z known b e block m)) (counts e lies.names)
+      (added e block lies known b has lists))
 
--- ---- The lock after the reads
-
-took_notes : (v w : View) (notes : Notes) → w ≡ record v { notes = notes } → TookLocks v w
-took_notes v w notes is = record {
-  locks = locks_of v.records;
-  is = is ∙ (λ i. record v { records = sym (with_locks-locks_of v.records) i; notes = sym (ap (λ (x : View). x.notes) is) i });
-}
-
-took_both : (u v w : View) → TookLocks u v → TookLocks v w → TookLocks u w
-took_both u v w s t = record {
-  locks = t.locks;
-  is = t.is ∙ (ap (λ (x : View). record x { records = with_locks t.locks x.records; notes = w.notes }) s.is
-      ∙ ap (λ (rs : List Record). record u { records = rs; notes = w.notes }) (with_locks_twice t.locks s.locks u.records));
-}
-
--- A lone caller saw the bucket from the view v, read words of it up to the view y, and took its lock then.
-module _ (z : Sizes) (v x y w : View) (b word : ℕ) (lone : v.lone ≡ true) (s : IsOpened z v x b word) {P : Extent → List ℕ → Type 0}
-    (t : Saw x y P) (k : LocksSeen z y w b word) where
-  nothing_new : x ≡ record v { notes = s.notes }
-  nothing_new =
-      let whole : known_at v.known b ≡ s.history = prefix_whole (known_at v.known b) s.history s.begins (s.alone lone) in
-      s.is ∙ (λ i. record v {
-        known = record v.known {
-          writes = (ap (λ (h : List Write). set v.known.writes b h) (sym whole) ∙ set-get_or v.known.writes b []) i;
-        };
-        notes = s.notes;
-      })
-
-  only_notes : y ≡ record v { notes = y.notes }
-  only_notes = let is = t.is ∙ ap (λ (u : View). with_reading u t.more) nothing_new in
-      is ∙ (λ i. record v { notes = sym (ap (λ (u : View). u.notes) is) i })
-
-  pub took_read : v.holds ≡ nothing_held → TookLocks v (without_lock w)
-  took_read free = took_both v y (without_lock w) (took_notes v y y.notes only_notes)
-      (took_lock z y w b word (ap (λ (u : View). u.holds) only_notes ∙ free) k.locked k.known)
-
-  pub known_after : w.known ≡ v.known
-  known_after = locked_known z y w b word k.locked k.known ∙ ap (λ (u : View). u.known) only_notes
-
--- where no memory was refused, the pairs of the bucket were added to the list
-pub bucket_if_ok : {A K T E : Type 0} (g : Ghosts A K) (v x y w : View) (b word : ℕ) (old new : List (K × ℕ)) (r : Result T E) → v.lone ≡ true
-    → IsOpened (sizes_of g) v x b word → Saw x y (λ e block. IfOk r (λ _. AddsBlock g e block old new)) → LocksSeen (sizes_of g) y w b word
-    → ListsBuckets g v.known b old → IfOk r (λ _. ListsBuckets g v.known (b + 1) new)
-bucket_if_ok g v x y w b word old new (Err fault) lone s t k lists = tt
-bucket_if_ok g v x y w b word old new (Ok done) lone s t k lists =
-    let z : Sizes = sizes_of g in
-    let l = k.locked.lock in
-    let known : w.known ≡ v.known = known_after z v x y w b word lone s t k in
-    let here : IsBlockIn z w.known b l.extent l.now = record { pairs = k.locked.has.pairs; writes = k.locked.has.writes } in
-    told_locked z y w b word (seen_first z x y b word t s.has) k v.known b
-    (subst (λ (n : Known). IsBlockIn z n b l.extent l.now) known here) lists
+-- all pairs of the bucket's block were added to the list
+pub bucket_added : {A K : Type 0} (g : Ghosts A K) (v : View) (words : List ℕ) (b word : ℕ) (old new : List (K × ℕ))
+    → AreRowWords (sizes_of g) v words → v.holds ≡ nothing_held → b < buckets (sizes_of g)
+    → word ≡ slice_index words (bucket_at (sizes_of g) b) → OfBlockIn (sizes_of g) words word (λ e block. AddsBlock g e block old new)
+    → ListsBuckets g v.known b old → ListsBuckets g v.known (b + 1) new
+bucket_added g v words b word old new row idle inside is adds lists =
+    let here = block_in (sizes_of g) v words row idle b inside in adds here.0 here.1 (rw is here.2) v.known b here.3 lists

@@ -15,8 +15,8 @@ use Rattle.bihash_steps.specs.declared.view.Write.{Write}
 use Rattle.bihash_steps.specs.declared.view.Record.{Record}
 use Rattle.bihash_steps.specs.declared.view.View.{View}
 use Rattle.bihash_steps.proofs.Prefixes.{prefix_refl}
-use Rattle.bihash_table.specs.Answers.{locks_of, with_locks, entry_of, own_writes}
-use Rattle.bihash_table.specs.Promise.{IsAnswered, IsContended, IsUpdated}
+use Rattle.bihash_table.specs.Answers.{locks_of, with_locks, entry_of, own_writes, recycled_update}
+use Rattle.bihash_table.specs.Promise.{IsAnswered, IsContended, IsUpdated, IsUpdatedOver}
 use Rattle.bihash_table.specs.inner.Locked.{IsLocked}
 use Rattle.bihash_table.proofs.Promised.{answered_as, answered_by, contended_as, contended_by}
 use Rattle.bihash_table.proofs.Released.{with_locks-locks_of}
@@ -152,6 +152,19 @@ module _ (z : Sizes) (v u w : View) where
   pub again_updated : (b : ℕ) (key : List ℕ) (decision : Option ℕ → Change) (reply : Reply) → bucket_of z key ≡ b → IsContended z v u b
       → IsUpdated z u w key decision reply → IsUpdated z v w key decision reply
   again_updated b key decision reply home s = ahead_updated b key decision reply home (contended_ahead z v u b s)
+
+  pub again_updated_over : (b : ℕ) (key : List ℕ) (decision : Option ℕ → Change) (is_expired : ℕ → Bool) (reply : Reply)
+      → bucket_of z key ≡ b → IsContended z v u b → IsUpdatedOver z u w key decision is_expired reply
+      → IsUpdatedOver z v w key decision is_expired reply
+  again_updated_over b key decision is_expired reply home s h = record {
+    found = h.found;
+    answered = record {
+      removed = h.answered.removed;
+      answered = again_answered b (recycled_update key h.found (decision h.found) is_expired h.answered.removed reply) home s
+          h.answered.answered;
+      expired = h.answered.expired;
+    };
+  }
 
 -- before the first try
 pub not_yet_tried : (z : Sizes) (v : View) (b : ℕ) → v.holds ≡ nothing_held → IsContended z v v b

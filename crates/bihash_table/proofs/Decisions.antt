@@ -7,6 +7,7 @@ use Rattle.bihash_words.specs.declared.patch.Change.{Change}
 use Rattle.bihash_words.specs.declared.patch.Change.TheVariants.{Keep, Set, Remove}
 use Rattle.bihash_words.specs.declared.patch.Reply.TheVariants.{Changed, Kept, Worn}
 use Rattle.bihash_words.specs.Maps.{Answers, Bounds, NoRoom, NewKey, WornOut, Pairs, OldKey, IsEvent, changed, effect_of, most_pairs, case_with}
+use Rattle.bihash_words.proofs.MapLemmas.{none_removed}
 use Rattle.bihash_steps.specs.BucketCalls.{event}
 
 -- a decision that changes nothing
@@ -15,6 +16,7 @@ pub kept_step : (b : Bounds) (m : Pairs) (n : ℕ) (key : List ℕ) (found : Opt
     → IsEvent b m n (event key found change (Kept found)) m
 kept_step b m n key found change is idle = record {
   found = is;
+  removed = sym (none_removed _ m);
   answers = subst (λ c. Answers (case_with b (len m) n found c) b m (event key found change (Kept found)) m)
       (sym idle) (refl, refl);
 }
@@ -36,6 +38,7 @@ pub worn_step : (b : Bounds) (m : Pairs) (n : ℕ) (key : List ℕ) (found : Opt
     → IsEvent b m n (event key found change (Worn found)) m
 worn_step b m n key found change is wanted worn = record {
   found = is;
+  removed = sym (none_removed _ m);
   answers = subst (λ r. Answers r b m (event key found change (Worn found)) m)
       (sym (exhausted b (len m) n found (effect_of change found) wanted worn)) (refl, refl);
 }
@@ -46,6 +49,7 @@ pub set_step : (b : Bounds) (m : Pairs) (n : ℕ) (key : List ℕ) (old value : 
     → IsEvent b m n (event key (get m key) (Set value) (Changed (get m key))) (changed m key (Set value))
 set_step b m n key old value is other room = record {
   found = refl;
+  removed = sym (none_removed _ m);
   answers = subst (λ o. Answers (case_with b (len m) n o (effect_of (Set value) o)) b m
       (event key o (Set value) (Changed o)) (changed m key (Set value))) is
       (subst (λ r. Answers r b m (event key (Some old) (Set value) (Changed (Some old))) (changed m key (Set value))) (sym row) (refl, refl));
@@ -61,6 +65,7 @@ pub remove_step : (b : Bounds) (m : Pairs) (n : ℕ) (key : List ℕ) (old : ℕ
     → IsEvent b m n (event key (get m key) Remove (Changed (get m key))) (changed m key Remove)
 remove_step b m n key old is room = record {
   found = refl;
+  removed = sym (none_removed _ m);
   answers = subst (λ o. Answers (case_with b (len m) n o (effect_of Remove o)) b m (event key o Remove (Changed o)) (changed m key Remove)) is
       (subst (λ r. Answers r b m (event key (Some old) Remove (Changed (Some old))) (changed m key Remove))
       (sym (ap (λ t. if t then OldKey else WornOut) (lt-ltb n b.limit room))) (refl, refl));
@@ -78,6 +83,7 @@ pub enter_step : (b : Bounds) (m : Pairs) (n : ℕ) (key : List ℕ) (value : �
     → IsEvent b m n (event key (get m key) (Set value) (Changed (get m key))) (changed m key (Set value))
 enter_step b m n key value is room few = record {
   found = refl;
+  removed = sym (none_removed _ m);
   answers = subst (λ o. Answers (case_with b (len m) n o (effect_of (Set value) o)) b m
       (event key o (Set value) (Changed o)) (changed m key (Set value))) is
       (subst (λ r. Answers r b m (event key None (Set value) (Changed None)) (changed m key (Set value)))

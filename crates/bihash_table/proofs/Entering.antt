@@ -3,16 +3,18 @@ use Rattle.std.proofs.Common.{◌≡◌, ◌≢◌, ◌∙◌, ◌<◌, ◌≤�
 use Rattle.std.specs.FinMap.{get, insert, len, remove}
 use Rattle.std.specs.Prelude.{if◌then◌else◌, nat_lt}
 use Rattle.std.proofs.lemmas.Bool.{le-ltb, lt-ltb}
+use Rattle.bihash_words.specs.Expiries.{no_recycling}
 use Rattle.bihash_words.specs.Maps.{Answers, Bounds, NoRoom, NewKey, WornOut, Pairs, OldKey, IsEvent, effect_of, most_pairs, case_with}
 use Rattle.bihash_words.specs.Patches.{free_mark}
 use Rattle.bihash_words.specs.Sizes.{Sizes}
 use Rattle.bihash_words.specs.declared.patch.Change.{Change}
 use Rattle.bihash_words.specs.declared.patch.Change.TheVariants.{Set, Remove}
-use Rattle.bihash_words.specs.declared.patch.Reply.TheVariants.{Changed, Full, NoPages}
+use Rattle.bihash_words.specs.declared.patch.Reply.TheVariants.{Changed, NoPages}
 use Rattle.bihash_steps.specs.Histories.{IsKeyOf, IsWrite, bounds_of}
 use Rattle.bihash_steps.specs.Callers.{known_at}
 use Rattle.bihash_steps.specs.PageStores.{returned_in}
 use Rattle.bihash_steps.specs.Views.{no_notes}
+use Rattle.bihash_words.proofs.MapLemmas.{none_removed}
 use Rattle.bihash_steps.specs.BucketCalls.{event}
 use Rattle.bihash_steps.specs.BucketSteps.{HoldsClean, MayAnswer, MayWrite, acting, call_of, map_now}
 use Rattle.bihash_steps.specs.StoreSteps.{holding}
@@ -34,7 +36,7 @@ entering_row b pairs n value unworn room =
     ap (λ t. if t then (if nat_lt pairs (most_pairs b) then NewKey else NoRoom) else WornOut) (lt-ltb n b.limit unworn)
     ∙ ap (λ t. if t then NewKey else NoRoom) (lt-ltb pairs (most_pairs b) room)
 
-crowded_row : (b : Bounds) (pairs n value : ℕ) → n < b.limit → most_pairs b ≤ pairs
+pub crowded_row : (b : Bounds) (pairs n value : ℕ) → n < b.limit → most_pairs b ≤ pairs
     → case_with b pairs n None (Set value) ≡ NoRoom
 crowded_row b pairs n value unworn full =
     ap (λ t. if t then (if nat_lt pairs (most_pairs b) then NewKey else NoRoom) else WornOut) (lt-ltb n b.limit unworn)
@@ -46,6 +48,7 @@ pub enters : (b : Bounds) (m : Pairs) (n : ℕ) (key : List ℕ) (value : ℕ) (
     → IsEvent b m n (event key found (Set value) (Changed found)) (insert m key value)
 enters b m n key value found unworn room absent is = record {
   found = is;
+  removed = sym (none_removed _ m);
   answers = subst (λ f. Answers (case_with b (len m) n f (effect_of (Set value) f)) b m
       (event key f (Set value) (Changed f)) (insert m key value)) (sym (is ∙ absent))
       (subst (λ r. Answers r b m (event key None (Set value) (Changed None)) (insert m key value))
@@ -58,18 +61,9 @@ pub wants : (b : Bounds) (m : Pairs) (n : ℕ) (key : List ℕ) (value log2 left
     → IsEvent b m n (event key None (Set value) (NoPages log2 left)) m
 wants b m n key value log2 left unworn room absent small few = record {
   found = sym absent;
+  removed = sym (none_removed _ m);
   answers = subst (λ r. Answers r b m (event key None (Set value) (NoPages log2 left)) m)
       (sym (entering_row b (len m) n value unworn room)) (inr ((log2, left, refl, small, few), refl));
-}
-
--- a new pair finds no room
-pub crowds : (b : Bounds) (m : Pairs) (n : ℕ) (key : List ℕ) (value : ℕ)
-    → n < b.limit → most_pairs b ≤ len m → get m key ≡ None
-    → IsEvent b m n (event key None (Set value) Full) m
-crowds b m n key value unworn full absent = record {
-  found = sym absent;
-  answers = subst (λ r. Answers r b m (event key None (Set value) Full) m)
-      (sym (crowded_row b (len m) n value unworn full)) (refl, refl);
 }
 
 -- a pair is removed
@@ -78,6 +72,7 @@ pub removes : (b : Bounds) (m : Pairs) (n : ℕ) (key : List ℕ) (old : ℕ) (f
     → IsEvent b m n (event key found Remove (Changed found)) (remove m key)
 removes b m n key old found unworn there is = record {
   found = is;
+  removed = sym (none_removed _ m);
   answers = subst (λ f. Answers (case_with b (len m) n f (effect_of Remove f)) b m
       (event key f Remove (Changed f)) (remove m key)) (sym (is ∙ there))
       (subst (λ r. Answers r b m (event key (Some old) Remove (Changed (Some old))) (remove m key))
@@ -104,7 +99,7 @@ module _ (z : Sizes) (v : View) (b word : ℕ) (l : LockedBucket) (key : List �
   -- with the allocation lock, whatever else is held
   pub may_write : (store : Option LockedStore) (block : Option HeldBlock) (found : Option ℕ) (change : Change)
       → found ≡ get (map_now v b) key
-      → IsWrite z b (length (known_at v.known b)) (map_now v b) (record { by = acting v.records; key = key; change = change })
+      → IsWrite z b (length (known_at v.known b)) (map_now v b) (record { by = acting v.records; key = key; change = change; recycling = no_recycling })
       → MayWrite z (holding v store block) b word (call_of v b 1 (event key found change (Changed found)))
   may_write store block found change is write = record {
     lock = l;
@@ -125,7 +120,7 @@ module _ (z : Sizes) (v : View) (b word : ℕ) (l : LockedBucket) (key : List �
   pub entering : (value : ℕ) → value ≢ free_mark → len (map_now v b) < most_pairs (bounds_of z)
       → get (map_now v b) key ≡ None
       → IsWrite z b (length (known_at v.known b)) (map_now v b)
-      (record { by = acting v.records; key = key; change = Set value })
+      (record { by = acting v.records; key = key; change = Set value; recycling = no_recycling })
   entering value storable room absent = record {
     key = home;
     storable = storable;
@@ -135,7 +130,7 @@ module _ (z : Sizes) (v : View) (b word : ℕ) (l : LockedBucket) (key : List �
 
   pub removing : (old : ℕ) → get (map_now v b) key ≡ Some old
       → IsWrite z b (length (known_at v.known b)) (map_now v b)
-      (record { by = acting v.records; key = key; change = Remove })
+      (record { by = acting v.records; key = key; change = Remove; recycling = no_recycling })
   removing old there = record {
     key = home;
     storable = tt;

@@ -1,14 +1,12 @@
 -- A larger block that was planned and laid out from what was read of a bucket: what it is without the lock, and
 -- after it.
-use Rattle.std.proofs.Common.{◌≡◌, ◌≢◌, ◌<◌, ◌≤◌, ℕ, List, None, ap, subst, sym}
+use Rattle.std.proofs.Common.{◌≡◌, ◌≢◌, ◌<◌, ◌≤◌, ℕ, List, length, None, ap, subst, sym}
 use Rattle.std.specs.FinMap.{get, insert, len}
 use Rattle.bihash_words.specs.declared.shape.Shape.{Ghosts}
 use Rattle.bihash_words.specs.Maps.{most_pairs}
-use Rattle.bihash_words.specs.Patches.{free_mark}
+use Rattle.bihash_words.specs.Patches.{IsStorable, free_mark}
 use Rattle.bihash_words.specs.Sizes.{sizes_of}
 use Rattle.bihash_words.specs.declared.block_size.BlockSize.{BlockSize}
-use Rattle.bihash_words.specs.declared.patch.Change.TheVariants.{Set}
-use Rattle.bihash_words.specs.declared.patch.Reply.TheVariants.{Full}
 use Rattle.bihash_words.specs.Words.{Bucket, Fits, packed}
 use Rattle.bihash_words.specs.Pages.{page_of, paging_of}
 use Rattle.bihash_plan.specs.Blocks.{IsCrowded, IsLawfulBlock, IsNew}
@@ -18,22 +16,23 @@ use Rattle.bihash_plan.specs.Searches.{IsOnlyPlan}
 use Rattle.bihash_plan.specs.declared.outcome.Plan.{Plan}
 use Rattle.bihash_plan.specs.declared.outcome.Plan.TheVariants.{Grow}
 use Rattle.bihash_steps.specs.Histories.{bounds_of}
-use Rattle.bihash_steps.specs.Blocks.{IsBlockOf}
+use Rattle.bihash_steps.specs.Blocks.{IsBlockOf, places}
+use Rattle.bihash_words.specs.declared.patch.Change.TheVariants.{Set}
+use Rattle.bihash_steps.specs.Callers.{known_at}
+use Rattle.bihash_steps.specs.Seats.{CallerState}
 use Rattle.bihash_steps.specs.BucketSteps.{map_now}
 use Rattle.bihash_steps.specs.declared.view.LockedBucket.{LockedBucket}
 use Rattle.bihash_steps.specs.declared.view.View.{View}
-use Rattle.bihash_steps.specs.BucketCalls.{event}
 use Rattle.bihash_table.specs.inner.Locked.{HasLock}
 use Rattle.bihash_table.specs.inner.Places.{ArePlaces}
-use Rattle.bihash_table.specs.inner.Seen.{HasSeen, IsAnswerOf, IsNewAndCrowded, LocksSeen}
+use Rattle.bihash_table.specs.inner.Seen.{HasSeen, IsFullFor, IsNewAndCrowded, LocksSeen, WantsPlace}
 use Rattle.bihash_table.specs.OutOfPages.{IsPlanned}
 use Rattle.bihash_table.proofs.Bridge.{AreKeyWords, block_of_rehash, extent_of}
-use Rattle.bihash_table.proofs.Entering.{crowds}
 use Rattle.bihash_table.proofs.LookedAt.{pair_value}
 use Rattle.bihash_table.proofs.OpenPlaces.{word_tells}
 use Rattle.bihash_table.proofs.Planning.{has_room, hold, is_full, is_named, is_planned, of_keys, planned}
 use Rattle.bihash_table.proofs.Seeing.{word_notes}
-use Rattle.bihash_table.proofs.Sights.{seen_as, told_locked}
+use Rattle.bihash_table.proofs.Sights.{told_locked}
 use Rattle.bihash_table.proofs.Stores.{linear_is, log2_is}
 
 module _ {A K : Type 0} (g : Ghosts A K) (keys : AreKeyWords g) (v : View) (b word : ℕ) (key : K) (ps : List (K × ℕ))
@@ -49,18 +48,28 @@ module _ {A K : Type 0} (g : Ghosts A K) (keys : AreKeyWords g) (v : View) (b wo
   linear_told x fits is = ap (λ (s : BlockSize). s.linear) (was_told x fits is)
 
   -- a plan that isn't a larger block
-  pub full_seen : ((size : BlockSize) → plan ≡ Grow size → ⊥) → (value n : ℕ) → n < g.LIMIT
-      → HasSeen (sizes_of g) v b word (IsAnswerOf (sizes_of g) n (event (g.words_of key) None (Set value) Full))
-  full_seen other value n unworn = let z = sizes_of g in let e = h.seen.extent in let block = h.seen.block.open_bucket.block in
+  pub full_seen : ((size : BlockSize) → plan ≡ Grow size → ⊥) → length ps ≡ places h.seen.extent.page h.seen.extent.size.log2
+      → HasSeen (sizes_of g) v b word (IsFullFor g key ps)
+  full_seen other count = let z = sizes_of g in let e = h.seen.extent in let block = h.seen.block.open_bucket.block in
       let tells = word_notes z v word e h.seen.block in
-      seen_as z v b word h (λ told m pairs.
-      let absent : get m (g.words_of key) ≡ None = sym (pair_value z e block (g.words_of key) m None told.0.0 pairs) in (
-        m,
-        crowds (bounds_of z) m n (g.words_of key) value unworn
-            (is_full g keys e block m key h.seen.block.size pairs told.0.1 absent ps told.1 plan
-            (planned g keys e block m key h.seen.block.size pairs told.0.1 absent ps told.1 was.log2 was.linear plan
-            (log2_is z word e tells was.log2 log2_told) (linear_is z word e tells was.linear linear_told) told_plan) other) absent,
-      ))
+      record {
+        seen = h.seen;
+        told = λ reads. let told = h.told reads in (
+          told.0,
+          told.1,
+          λ m pairs.
+              let absent : get m (g.words_of key) ≡ None = sym (pair_value z e block (g.words_of key) m None told.0.0 pairs) in
+              is_full g keys e block m key h.seen.block.size pairs told.0.1 absent ps told.1 plan
+              (planned g keys e block m key h.seen.block.size pairs told.0.1 absent ps told.1 was.log2 was.linear plan
+              (log2_is z word e tells was.log2 log2_told) (linear_is z word e tells was.linear linear_told) told_plan) other,
+          count,
+        );
+      }
+
+  pub full_extent : (other : (size : BlockSize) → plan ≡ Grow size → ⊥) (count : length ps ≡ places h.seen.extent.page h.seen.extent.size.log2)
+      → length ps ≡ places (full_seen other count).seen.extent.page (full_seen other count).seen.extent.size.log2
+  unfolding full_seen
+  full_extent other count = count
 
   -- ---- After the lock
 
@@ -103,3 +112,11 @@ module _ {A K : Type 0} (g : Ghosts A K) (keys : AreKeyWords g) (v : View) (b wo
       pub planned_there : IsPlanned g (map_now u b) key size
       planned_there = is_planned g keys k.locked.lock.extent k.locked.lock.now (map_now u b) key has.size has.pairs told.0.1 absent_there ps told.1
           size named
+
+-- a caller may look for a place in a full bucket whose places it read
+pub wants_place : {A K : Type 0} (g : Ghosts A K) (row : _) (s : CallerState) (b word : ℕ) (key : K) (value : ℕ) (ps : List (K × ℕ))
+    → s.row ≡ row → (h : HasSeen (sizes_of g) s.view b word (IsFullFor g key ps))
+    → length ps ≡ places h.seen.extent.page h.seen.extent.size.log2 → length (known_at s.view.known b) < g.LIMIT
+    → IsStorable (Set value) → WantsPlace g row s b word key value ps
+wants_place g row s b word key value ps own h count unworn storable =
+    record { own = own; seen = h; count = count; unworn = unworn; storable = storable }

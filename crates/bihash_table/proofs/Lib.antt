@@ -8,8 +8,6 @@ pub mod Count
 pub mod Decisions
 pub mod Entering
 pub mod Growing
-pub mod Homes
-pub mod KeyOrders
 pub mod LockCounts
 pub mod LookedAt
 pub mod Opened
@@ -21,7 +19,9 @@ pub mod PlaceWords
 pub mod Planning
 pub mod Promised
 pub mod Publishing
+pub mod Recycled
 pub mod Released
+pub mod RowWordLemmas
 pub mod Replacing
 pub mod SameCallers
 pub mod Seeing
@@ -30,6 +30,6 @@ pub mod Snapshots
 pub mod Sorting
 pub mod Stores
 pub mod Storing
-pub mod TakenLocks
 pub mod Tries
 pub mod Versions
+pub mod WholeCounts

@@ -75,7 +75,7 @@ lost_at z key v w b home away = subst (IsContended z v w) (sym home) away
 -- a search is a call that leaves the map
 pub is_read : (z : Sizes) (key : List ℕ) (found : Option ℕ) (m : Pairs) (n : ℕ) → found ≡ get m key
     → (m' : Pairs) × IsEvent (bounds_of z) m n (search_of key found) m'
-is_read z key found m n is = (m, record { found = is; answers = (refl, refl) })
+is_read z key found m n is = (m, record { found = is; removed = refl; answers = (refl, refl) })
 
 -- ---- The lock is taken after the reads
 

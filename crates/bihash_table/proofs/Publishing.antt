@@ -24,7 +24,7 @@ module _ (z : Sizes) (v : View) (b word : ℕ) (l : LockedBucket) (has : HasLock
   -- a call that is no write, and no refusal for want of pages
   pub may_answer : (reply : Reply) → is_changed reply ≡ false → ((log2 left : ℕ) → reply ≡ NoPages log2 left → ⊥)
       → IsEvent (bounds_of z) (map_now v b) (length (known_at v.known b))
-      (record { key = key; found = found; change = change; reply = reply }) (map_now v b)
+      (event key found change reply) (map_now v b)
       → MayAnswer z v b word (call_of v b 0 (event key found change reply))
   may_answer reply reads paged step =
       let stamp : length (known_at v.known b) + 0 ≡ length (known_at v.known b) = omega arith in
@@ -40,7 +40,7 @@ module _ (z : Sizes) (v : View) (b word : ℕ) (l : LockedBucket) (has : HasLock
         stamp = stamp;
         key = record { long = long; home = home };
         reads = reads;
-        answers = (map_now v b, record { found = step.found; answers = step.answers });
+        answers = (map_now v b, record { found = step.found; removed = step.removed; answers = step.answers });
         short = λ log2 left is. absurd (paged log2 left is);
         store = refl;
       }
@@ -49,7 +49,7 @@ module _ (z : Sizes) (v : View) (b word : ℕ) (l : LockedBucket) (has : HasLock
     -- a write, where the words of the block are those of the map after it
     pub may_publish : found ≡ get (map_now v b) key → length (known_at v.known b) < z.limit → IsStorable change
         → IsEvent (bounds_of z) (map_now v b) (length (known_at v.known b))
-        (record { key = key; found = get (map_now v b) key; change = change; reply = Changed (get (map_now v b) key) })
+        (event key (get (map_now v b) key) change (Changed (get (map_now v b) key)))
         (changed (map_now v b) key change)
         → IsBlockOf z l.extent now (changed (map_now v b) key change)
         → MayPublish z w b word (call_of w b 1 (event key found change (Changed found)))
@@ -71,7 +71,7 @@ module _ (z : Sizes) (v : View) (b word : ℕ) (l : LockedBucket) (has : HasLock
             write = record {
               key = record { long = long; home = home };
               storable = storable;
-              changes = record { found = step.found; answers = step.answers };
+              changes = record { found = step.found; removed = step.removed; answers = step.answers };
             };
           };
           pairs = pairs;
@@ -79,12 +79,12 @@ module _ (z : Sizes) (v : View) (b word : ℕ) (l : LockedBucket) (has : HasLock
 
     -- it was answered
     pub published : (u : View) → u ≡ view_after_write w (call_of w b 1 (event key found change (Changed found)))
-        → IsAnswered z v u (record { key = key; found = found; change = change; reply = Changed found })
+        → IsAnswered z v u (event key found change (Changed found))
     published u done =
         let all : u ≡ view_after_write (with_lock v (Some (record l { now = now; stored = true }))) (call_of v b 1 (event key found change (Changed found))) =
         done ∙ ap (λ (x : View). view_after_write x (call_of x b 1 (event key found change (Changed found)))) is in
         let here : View = view_after_write v (call_of v b 1 (event key found change (Changed found))) in
         let notes = ap (λ (x : View). x.notes) all in
-        written_from_lock z v u b word l (record { key = key; found = found; change = change; reply = Changed found }) has home refl
+        written_from_lock z v u b word l (event key found change (Changed found)) has home refl
         (all ∙ (ap (λ (h : Holdings). record here { holds = record h { bucket = None } }) has.held
         ∙ ap (λ n. record here { holds = record { bucket = None; store = None; block = None }; notes = n }) (sym notes)))

@@ -1,14 +1,14 @@
 -- One try of an update: answered without the lock, contended, or answered under the lock.
-use Rattle.std.proofs.Common.{◌≡◌, ◌≢◌, ◌∙◌, ◌<◌, ℕ, Bool, true, false, true≢false, List, length, Option, Some, Result, Ok, Err, refl, sym, ap, subst, eq-eqb}
+use Rattle.std.proofs.Common.{◌≡◌, ◌≢◌, ◌∙◌, ◌<◌, ℕ, Bool, true, false, true≢false, List, length, Option, Some, None, Result, Ok, Err, refl, sym, ap, subst, eq-eqb}
 use Rattle.std.specs.Prelude.{IfOk, if◌then◌else◌}
-use Rattle.bihash_words.specs.Maps.{Event, effect_of}
+use Rattle.bihash_words.specs.Maps.{Event, asked, effect_of}
 use Rattle.bihash_words.specs.Patches.{IsStorable}
 use Rattle.bihash_words.specs.Sizes.{Sizes, sizes_of}
 use Rattle.bihash_words.specs.declared.shape.Shape.{Ghosts}
 use Rattle.bihash_words.specs.declared.patch.Change.{Change}
 use Rattle.bihash_words.specs.declared.patch.Change.TheVariants.{Keep, Set}
 use Rattle.bihash_words.specs.declared.patch.Reply.{Reply}
-use Rattle.bihash_words.specs.declared.patch.Reply.TheVariants.{Changed, NoPages}
+use Rattle.bihash_words.specs.declared.patch.Reply.TheVariants.{Changed, Full, Kept, NoPages, Worn}
 use Rattle.bihash_steps.specs.Histories.{bucket_of}
 use Rattle.bihash_steps.specs.Callers.{IsLawfulCaller, known_at}
 use Rattle.bihash_steps.specs.BucketSteps.{call_of, without_notes, view_after_validate}
@@ -17,13 +17,15 @@ use Rattle.bihash_steps.specs.declared.view.Extent.{Extent}
 use Rattle.bihash_steps.specs.declared.view.View.{View}
 use Rattle.bihash_steps.specs.declared.view.Write.{Write}
 use Rattle.bihash_steps.specs.BucketCalls.{event}
-use Rattle.bihash_table.specs.Answers.{locks_of}
-use Rattle.bihash_table.specs.Promise.{IsAnswered, IsContended, IsUpdated}
+use Rattle.bihash_words.proofs.CallLemmas.{asks_nothing}
+use Rattle.bihash_words.proofs.SpareLemmas.{no_words}
+use Rattle.bihash_table.specs.Answers.{locks_of, recycled_update}
+use Rattle.bihash_table.specs.Promise.{IsAnswered, IsContended, IsRecycled, IsUpdated, IsUpdatedOver}
 use Rattle.bihash_table.specs.inner.Locked.{IsPairBeside, UnderLock}
 use Rattle.bihash_table.specs.inner.OpenReads.{HasRead, IsPairIn, OtherPairTells, value_of}
 use Rattle.bihash_table.specs.inner.Seen.{Found, HasSeen, IsValueOf, TellsLock, WantsChange}
 use Rattle.bihash_table.specs.OutOfPages.{IsOutOfPages}
-use Rattle.bihash_table.specs.Tries.{Finished, Tried, TookAtMost, is_without_lock, try_locks}
+use Rattle.bihash_table.specs.Tries.{Finished, FinishedOver, Tried, TriedOver, TookAtMost, is_without_lock, try_locks}
 use Rattle.bihash_table.specs.declared.contended.Contended.{Contended}
 use Rattle.bihash_table.proofs.Composed.{IsAhead, ahead_answered, ahead_contended, locked_ahead}
 use Rattle.bihash_table.proofs.LockCounts.{took_after, took_no_lock, took_one_lock, took_then}
@@ -35,6 +37,10 @@ use Rattle.bihash_table.proofs.Sights.{answer_locks, answer_seen, saw_ahead, saw
 -- to set another value is no change that keeps the one that was found
 pub other_value : (value old : ℕ) → effect_of (Set value) (Some old) ≢ Keep → value ≢ old
 other_value value old wanted same = wanted (ap (λ (t : Bool). if t then Keep else Set value) (eq-eqb old value (sym same)))
+
+-- a reply that is given under the lock is no refusal for want of room
+paid_roomy : (reply : Reply) → is_without_lock reply ≡ false → reply ≢ Full
+paid_roomy reply paid is = true≢false (sym (ap is_without_lock is) ∙ paid)
 
 -- the value of the pair that was found is what the map has at the key
 pub value_seen : (z : Sizes) (v : View) (b word : ℕ) (key : List ℕ) (pair : Option (ℕ × ℕ)) (found : Option ℕ) → found ≡ value_of pair
@@ -66,6 +72,7 @@ module _ {A K : Type 0} (g : Ghosts A K) (s t : CallerState) (b : ℕ) (key : K)
     same = same;
     answered = tt;
     no_pages = tt;
+    room = tt;
     locks = took_no_lock s.view t.view locks 1;
     contended = subst (IsContended (sizes_of g) s.view t.view) (sym home) away;
     lone = λ lone. absurd (crowd lone);
@@ -83,11 +90,12 @@ module _ {A K : Type 0} (g : Ghosts A K) (s t : CallerState) (b : ℕ) (key : K)
   module _ (word : ℕ) {P : Extent → List ℕ → Type 0} (h : HasSeen (sizes_of g) s.view b word P)
       (lawful : IsLawfulCaller (sizes_of g) t.view) where
     pub tried_valid : (reply : Reply) → t ≡ with_view s (view_after_validate s.view (call_of s.view b 0 (event (g.words_of key) found change reply)))
-        → ((log2 left : ℕ) → reply ≡ NoPages log2 left → ⊥) → Tried g s t key found change (Ok reply)
-    tried_valid reply is paged = let now = view_is s t _ is in let e : Event = event (g.words_of key) found change reply in record {
+        → ((log2 left : ℕ) → reply ≡ NoPages log2 left → ⊥) → reply ≢ Full → Tried g s t key found change (Ok reply)
+    tried_valid reply is paged roomy = let now = view_is s t _ is in let e : Event = event (g.words_of key) found change reply in record {
       same = same_but_view s t _ is;
       answered = answer_seen (sizes_of g) s.view b word h e t.view now home;
       no_pages = λ log2 left short. absurd (paged log2 left short);
+      room = roomy;
       locks = took_no_lock s.view t.view (answer_locks (sizes_of g) s.view b word h e t.view now) (try_locks (Ok reply));
       contended = tt;
       lone = λ _. refl;
@@ -113,6 +121,7 @@ module _ {A K : Type 0} (g : Ghosts A K) (s t : CallerState) (key : K) (found : 
       same = same;
       answered = answered;
       no_pages = short;
+      room = paid_roomy reply paid;
       locks = took_no_lock s.view t.view locks (try_locks (Ok reply));
       contended = tt;
       lone = λ _. refl;
@@ -146,6 +155,7 @@ module _ {A K : Type 0} (g : Ghosts A K) (s u t : CallerState) (b : ℕ) (key : 
     same = same_through s u t _ same h.same;
     answered = ahead_answered (sizes_of g) s.view u.view t.view b (event (g.words_of key) found change reply) home a h.answered;
     no_pages = h.no_pages;
+    room = h.room;
     locks = locks;
     contended = tt;
     lone = λ _. refl;
@@ -155,6 +165,7 @@ module _ {A K : Type 0} (g : Ghosts A K) (s u t : CallerState) (b : ℕ) (key : 
     same = same_through s u t _ same h.same;
     answered = tt;
     no_pages = tt;
+    room = tt;
     locks = locks;
     contended = ahead_contended z s.view u.view t.view (bucket_of z (g.words_of key)) (subst (IsAhead s.view u.view) (sym home) a) h.contended;
     lone = λ lone. h.lone (ap (λ (v : View). v.lone) a.is ∙ lone);
@@ -224,11 +235,146 @@ unworn_read g s u b read unworn = subst (λ (l : List Write). length l < g.LIMIT
 
 -- ---- What the public call tells
 
-pub update_answered : {A K : Type 0} (g : Ghosts A K) (s t : CallerState) (key : K) (found : Option ℕ) (change : Change)
-    (decision : Option ℕ → Change) → change ≡ decision found → (r : Result Reply Contended)
-    → Tried g s t key found change r → IfOk r (IsUpdated (sizes_of g) s.view t.view (g.words_of key) decision)
-update_answered g s t key found change decision is (Ok reply) h = record {
-  found = found;
-  answered = subst (λ (c : Change). IsAnswered (sizes_of g) s.view t.view (event (g.words_of key) found c reply)) is h.answered;
+-- ---- With an expiry
+
+module _ {A K : Type 0} (g : Ghosts A K) (s t : CallerState) (key : K) (found : Option ℕ) (change : Change)
+    (is_expired : ℕ → Bool) where
+  unasked : (reply : Reply) → reply ≢ Full → event (g.words_of key) found change reply
+      ≡ recycled_update (g.words_of key) found change is_expired None reply
+  unasked (Kept was) roomy = refl
+  unasked (Changed was) roomy = refl
+  unasked (Worn was) roomy = refl
+  unasked Full roomy = absurd (roomy refl)
+  unasked (NoPages log2 left) roomy = refl
+
+  -- a try that finds room doesn't ask the expiry
+  pub over : (r : Result Reply Contended) → Tried g s t key found change r → TriedOver g s t key found change is_expired r
+  over (Ok reply) h = record {
+    same = h.same;
+    answered = record {
+      removed = None;
+      answered = subst (IsAnswered (sizes_of g) s.view t.view) (unasked reply h.room) h.answered;
+      expired = λ gone none. absurd (let c : ⊥ = cc in c);
+    };
+    no_pages = h.no_pages;
+    locks = h.locks;
+    contended = tt;
+    lone = h.lone;
+    lawful = h.lawful;
+  }
+  over (Err refused) h = record {
+    same = h.same;
+    answered = tt;
+    no_pages = tt;
+    locks = h.locks;
+    contended = h.contended;
+    lone = h.lone;
+    lawful = h.lawful;
+  }
+
+-- from an earlier view
+module _ {A K : Type 0} (g : Ghosts A K) (s u t : CallerState) (b : ℕ) (key : K) (found : Option ℕ) (change : Change)
+    (is_expired : ℕ → Bool) (same : u ≡ with_view s u.view) (a : IsAhead s.view u.view b)
+    (home : bucket_of (sizes_of g) (g.words_of key) ≡ b) where
+  over_ahead : (r : Result Reply Contended) → TookAtMost s.view t.view (try_locks r)
+      → TriedOver g u t key found change is_expired r → TriedOver g s t key found change is_expired r
+  over_ahead (Ok reply) locks h = record {
+    same = same_through s u t _ same h.same;
+    answered = record {
+      removed = h.answered.removed;
+      answered = ahead_answered (sizes_of g) s.view u.view t.view b
+          (recycled_update (g.words_of key) found change is_expired h.answered.removed reply) home a h.answered.answered;
+      expired = h.answered.expired;
+    };
+    no_pages = h.no_pages;
+    locks = locks;
+    contended = tt;
+    lone = λ _. refl;
+    lawful = h.lawful;
+  }
+  over_ahead (Err refused) locks h = let z : Sizes = sizes_of g in record {
+    same = same_through s u t _ same h.same;
+    answered = tt;
+    no_pages = tt;
+    locks = locks;
+    contended = ahead_contended z s.view u.view t.view (bucket_of z (g.words_of key)) (subst (IsAhead s.view u.view) (sym home) a) h.contended;
+    lone = λ lone. h.lone (ap (λ (v : View). v.lone) a.is ∙ lone);
+    lawful = h.lawful;
+  }
+
+  pub over_seen : locks_of u.view.records ≡ locks_of s.view.records → (r : Result Reply Contended)
+      → TriedOver g u t key found change is_expired r → TriedOver g s t key found change is_expired r
+  over_seen locks r h = over_ahead r (took_after s.view u.view t.view (try_locks r) locks h.locks) h
+
+-- words of the block were read before
+pub over_read : {A K : Type 0} (g : Ghosts A K) (s u t : CallerState) (b : ℕ) (key : K) (found : Option ℕ) (change : Change)
+    (is_expired : ℕ → Bool) {Q : Extent → List ℕ → Type 0} → HasRead s u Q → bucket_of (sizes_of g) (g.words_of key) ≡ b
+    → (r : Result Reply Contended) → TriedOver g u t key found change is_expired r → TriedOver g s t key found change is_expired r
+over_read g s u t b key found change is_expired read home = over_seen g s u t b key found change is_expired read.same
+    (saw_ahead s.view u.view b read.saw) home (ap locks_of (saw_records s.view u.view b read.saw))
+
+-- the lock was taken before
+pub over_locked : {A K : Type 0} (g : Ghosts A K) (s u t : CallerState) (b word : ℕ) (key : K) (found : Option ℕ) (change : Change)
+    (is_expired : ℕ → Bool) {won : Bool} (told : TellsLock (sizes_of g) s u b word won) (taken : won ≡ true)
+    → bucket_of (sizes_of g) (g.words_of key) ≡ b → (reply : Reply) → FinishedOver g u t key found change is_expired reply
+    → TriedOver g s t key found change is_expired (Ok reply)
+over_locked g s u t b word key found change is_expired told taken home reply h =
+    over_ahead g s u t b key found change is_expired told.same (locked_ahead (sizes_of g) s.view u.view b word (told.locked taken).locked) home (Ok reply)
+    (subst (λ (free : Bool). TookAtMost s.view t.view (if free then 0 else 1)) (sym h.paid)
+    (took_then s.view u.view t.view 1 0 (took_one_lock s.view u.view (sizes_of g) b word (told.locked taken).locked)
+    (took_no_lock u.view t.view h.no_lock 0))) h.tried
+
+-- a refusal for want of room, where the bucket has the word that was seen
+pub over_full : {A K : Type 0} (g : Ghosts A K) (s t : CallerState) (b : ℕ) (key : K) (value : ℕ) (is_expired : ℕ → Bool)
+    → bucket_of (sizes_of g) (g.words_of key) ≡ b → (word : ℕ) {P : Extent → List ℕ → Type 0} (h : HasSeen (sizes_of g) s.view b word P)
+    → IsLawfulCaller (sizes_of g) t.view
+    → t ≡ with_view s (view_after_validate s.view (call_of s.view b 0
+    (recycled_update (g.words_of key) None (Set value) is_expired None Full)))
+    → TriedOver g s t key None (Set value) is_expired (Ok Full)
+over_full g s t b key value is_expired home word h lawful is =
+    let now = view_is s t _ is in
+    let e : Event = recycled_update (g.words_of key) None (Set value) is_expired None Full in record {
+      same = same_but_view s t _ is;
+      answered = record {
+        removed = None;
+        answered = answer_seen (sizes_of g) s.view b word h e t.view now home;
+        expired = λ gone none. absurd (let c : ⊥ = cc in c);
+      };
+      no_pages = λ log2 left short. absurd (let c : ⊥ = cc in c);
+      locks = took_no_lock s.view t.view (answer_locks (sizes_of g) s.view b word h e t.view now) 0;
+      contended = tt;
+      lone = λ _. refl;
+      lawful = lawful;
+    }
+
+-- ---- Without one
+
+-- where no value is expired no key was removed, and the expiry wasn't asked
+never_asked : (key : List ℕ) (found : Option ℕ) (change : Change) (removed : Option (List ℕ)) (reply : Reply)
+    → ((gone : List ℕ) → removed ≡ Some gone → (value : ℕ) × (false ≡ true))
+    → recycled_update key found change (λ _. false) removed reply ≡ event key found change reply
+never_asked key found change None reply none =
+    λ i. record (event key found change reply) {
+      recycling = record { expired = (ap (asked None reply) no_words ∙ asks_nothing None reply) i; removed = None };
+    }
+never_asked key found change (Some gone) reply none = absurd (true≢false (sym (none gone refl).1))
+
+pub never_updated : {A K : Type 0} (g : Ghosts A K) (v w : View) (key : K) (decision : Option ℕ → Change)
+    → (r : Result Reply Contended) → IfOk r (IsUpdatedOver (sizes_of g) v w (g.words_of key) decision (λ _. false))
+    → IfOk r (IsUpdated (sizes_of g) v w (g.words_of key) decision)
+never_updated g v w key decision (Ok reply) h = record {
+  found = h.found;
+  answered = subst (IsAnswered (sizes_of g) v w)
+      (never_asked (g.words_of key) h.found (decision h.found) h.answered.removed reply h.answered.expired) h.answered.answered;
 }
-update_answered g s t key found change decision is (Err refused) h = tt
+never_updated g v w key decision (Err refused) h = tt
+
+pub update_answered_over : {A K : Type 0} (g : Ghosts A K) (s t : CallerState) (key : K) (found : Option ℕ) (change : Change)
+    (decision : Option ℕ → Change) (is_expired : ℕ → Bool) → change ≡ decision found → (r : Result Reply Contended)
+    → TriedOver g s t key found change is_expired r
+    → IfOk r (IsUpdatedOver (sizes_of g) s.view t.view (g.words_of key) decision is_expired)
+update_answered_over g s t key found change decision is_expired is (Ok reply) h = record {
+  found = found;
+  answered = subst (λ (c : Change). IsRecycled (sizes_of g) s.view t.view (g.words_of key) found c is_expired reply) is h.answered;
+}
+update_answered_over g s t key found change decision is_expired is (Err refused) h = tt

@@ -1,11 +1,13 @@
 -- The entry of an answered call, and what is counted of it.
-use Rattle.std.specs.Prelude.{ℕ, if◌then◌else◌, List, [], ◌∷◌, Option}
-use Rattle.bihash_words.specs.Maps.{Event}
+use Rattle.std.specs.Prelude.{ℕ, Bool, if◌then◌else◌, List, [], ◌∷◌, Option}
+use Rattle.bihash_words.specs.Expiries.{expired_words}
+use Rattle.bihash_words.specs.Maps.{Event, asked}
 use Rattle.bihash_words.specs.Sizes.{Sizes}
 use Rattle.bihash_words.specs.declared.patch.Change.{Change}
 use Rattle.bihash_words.specs.declared.patch.Change.TheVariants.{Keep}
 use Rattle.bihash_words.specs.declared.patch.Reply.{Reply}
 use Rattle.bihash_words.specs.declared.patch.Reply.TheVariants.{Kept}
+use Rattle.bihash_steps.specs.BucketCalls.{event}
 use Rattle.bihash_steps.specs.Histories.{bucket_of, is_changed, store_of}
 use Rattle.bihash_steps.specs.declared.view.Call.{Call}
 use Rattle.bihash_steps.specs.declared.view.PageStore.{PageStore}
@@ -30,6 +32,7 @@ entry_of z stamp e noted = record {
   found = e.found;
   change = e.change;
   reply = e.reply;
+  recycling = e.recycling;
   store = store_of e.reply noted;
 }
 
@@ -39,8 +42,14 @@ own_writes reply = if is_changed reply then 1 else 0
 
 -- a search of a key that answered this
 abbrev pub search_of : List ℕ → Option ℕ → Event
-search_of key found = record { key = key; found = found; change = Keep; reply = Kept found }
+search_of key found = event key found Keep (Kept found)
+
+-- the same of an update that may remove an expired pair for its own: it bears the expiry where it asked it
+abbrev pub recycled_update : List ℕ → Option ℕ → Change → (ℕ → Bool) → Option (List ℕ) → Reply → Event
+recycled_update key found change is_expired removed reply = record (event key found change reply) {
+  recycling = record { expired = asked removed reply (expired_words is_expired); removed = removed };
+}
 
 -- an update of a key, decided on the value that was found
 abbrev pub update_of : List ℕ → Option ℕ → (Option ℕ → Change) → Reply → Event
-update_of key found decision reply = record { key = key; found = found; change = decision found; reply = reply }
+update_of key found decision reply = event key found (decision found) reply

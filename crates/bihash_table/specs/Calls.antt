@@ -10,7 +10,7 @@ use Rattle.bihash_steps.specs.Callers.{IsLawfulCaller}
 use Rattle.bihash_steps.specs.Seats.{CallerState, with_view}
 use Rattle.bihash_steps.specs.Steps.{HaveBearers, IsToldWhole, view_after_count}
 use Rattle.bihash_table.specs.Answers.{locks_of, search_of}
-use Rattle.bihash_table.specs.Promise.{IsAnswered, IsContended, IsUpdated}
+use Rattle.bihash_table.specs.Promise.{IsAnswered, IsContended, IsUpdated, IsUpdatedOver}
 use Rattle.bihash_table.specs.OutOfPages.{IsOutOfPages}
 use Rattle.bihash_table.specs.Tries.{TookAtMost, TookByTries, try_locks}
 use Rattle.bihash_table.specs.declared.contended.Contended.{Contended}
@@ -52,6 +52,28 @@ pub record TellsUpdateTry {A K : Type 0} (g : Ghosts A K) (s t : CallerState) (k
   pub locks : TookAtMost s.view t.view (try_locks r)
   pub contended : IfErr r (λ _. IsContended (sizes_of g) s.view t.view (bucket_of (sizes_of g) (g.words_of key)))
   pub lone : s.view.lone ≡ true → is_ok r ≡ true
+  pub lawful : IsLawfulCaller (sizes_of g) t.view
+
+-- one try of an update with an expiry, which a lone caller finds answered
+pub record TellsRecycleTry {A K : Type 0} (g : Ghosts A K) (s t : CallerState) (key : K) (decision : Option ℕ → Change)
+    (is_expired : ℕ → Bool) (r : Result Reply Contended) : Type 0 where
+  pub same : t ≡ with_view s t.view
+  pub answered : IfOk r (IsUpdatedOver (sizes_of g) s.view t.view (g.words_of key) decision is_expired)
+  pub no_pages : IfOk r (λ reply. (log2 left : ℕ) → reply ≡ NoPages log2 left
+      → IsOutOfPages g t.view (bucket_of (sizes_of g) (g.words_of key)) key log2 left)
+  pub locks : TookAtMost s.view t.view (try_locks r)
+  pub contended : IfErr r (λ _. IsContended (sizes_of g) s.view t.view (bucket_of (sizes_of g) (g.words_of key)))
+  pub lone : s.view.lone ≡ true → is_ok r ≡ true
+  pub lawful : IsLawfulCaller (sizes_of g) t.view
+
+-- an update with an expiry that was answered so, with the locks that its tries took, and why pages were wanted
+pub record TellsRecycle {A K : Type 0} (g : Ghosts A K) (s t : CallerState) (key : K) (decision : Option ℕ → Change)
+    (is_expired : ℕ → Bool) (reply : Reply) : Type 0 where
+  pub same : t ≡ with_view s t.view
+  pub answered : IsUpdatedOver (sizes_of g) s.view t.view (g.words_of key) decision is_expired reply
+  pub locks : TookByTries s.view t.view reply
+  pub no_pages : (log2 left : ℕ) → reply ≡ NoPages log2 left
+      → IsOutOfPages g t.view (bucket_of (sizes_of g) (g.words_of key)) key log2 left
   pub lawful : IsLawfulCaller (sizes_of g) t.view
 
 -- whether the caller was found to have every number that was made, and then is lone and was told what that tells it

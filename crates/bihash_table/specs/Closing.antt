@@ -13,8 +13,6 @@ use Rattle.bihash_steps.specs.Callers.{known_at, opening_at}
 use Rattle.bihash_steps.specs.Steps.{HaveBearers, IsToldWhole, view_after_count}
 use Rattle.bihash_steps.specs.declared.view.Known.{Known}
 use Rattle.bihash_steps.specs.declared.view.View.{View}
-use Rattle.bihash_table.specs.Answers.{with_locks}
-use Rattle.bihash_table.specs.Tries.{TookAtMost}
 use Rattle.bihash_table.specs.declared.close_fault.CloseFault.{CloseFault}
 use Rattle.bihash_table.specs.declared.close_fault.CloseFault.TheVariants.{Strangers, Memory}
 
@@ -44,11 +42,18 @@ pub record WasWhole (z : Sizes) (v : View) : Type 0 where
   pub told : IsToldWhole z (view_after_count v count)
   pub bearers : HaveBearers z (view_after_count v count)
 
--- Why a table was not closed, and what the caller knows then: there are more callers than it has numbers,
--- or it has every number and memory was refused, after it took as many locks as there are buckets at most.
-abbrev pub IsCloseRefused : Sizes → View → CloseFault → View → Type 0
-IsCloseRefused z v Strangers w = (count : ℕ) × (v.seen ≤ count) × (length v.records < count)
+-- there are more callers than this one has numbers, and it knows how many
+abbrev pub LeavesStrangers : Sizes → View → View → Type 0
+LeavesStrangers z v w = (count : ℕ) × (v.seen ≤ count) × (length v.records < count)
     × (w ≡ view_after_count v count) × HaveBearers z w
-IsCloseRefused z v Memory w = (count locks : ℕ) × (v.seen ≤ count) × (count ≡ length v.records)
-    × (w ≡ record (view_after_count v count) { records = with_locks locks v.records; notes = w.notes })
-    × TookAtMost v w (buckets z) × IsToldWhole z w × HaveBearers z w
+
+-- the caller has every number, and is as it was but for what it noted
+abbrev pub StaysWhole : Sizes → View → View → Type 0
+StaysWhole z v w = (count : ℕ) × (v.seen ≤ count) × (count ≡ length v.records)
+    × (w ≡ record (view_after_count v count) { notes = w.notes }) × IsToldWhole z w × HaveBearers z w
+
+-- Why a table was not closed, and what the caller knows then: there are more callers than it has numbers, or it has
+-- every number and memory was refused.
+abbrev pub IsCloseRefused : Sizes → View → CloseFault → View → Type 0
+IsCloseRefused z v Strangers w = LeavesStrangers z v w
+IsCloseRefused z v Memory w = StaysWhole z v w

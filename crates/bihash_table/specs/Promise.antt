@@ -1,6 +1,6 @@
 -- What a call of a shared table leaves of its caller: v is what the caller knew before the call, w what it
 -- knows after it. Each line is a fact about one field; docs/DEFINITIONS.md explains the words.
-use Rattle.std.specs.Prelude.{◌≡◌, ◌≤◌, ℕ, ◌+◌, true, List, length, Option}
+use Rattle.std.specs.Prelude.{◌≡◌, ◌≤◌, ℕ, ◌+◌, Bool, true, List, length, Option, Some}
 use Rattle.bihash_words.specs.Maps.{Event}
 use Rattle.bihash_words.specs.Sizes.{Sizes}
 use Rattle.bihash_words.specs.declared.patch.Change.{Change}
@@ -12,7 +12,7 @@ use Rattle.bihash_steps.specs.BucketSteps.{with_history, push_call}
 use Rattle.bihash_steps.specs.declared.view.Write.{Write}
 use Rattle.bihash_steps.specs.declared.view.PageStore.{PageStore}
 use Rattle.bihash_steps.specs.declared.view.View.{View}
-use Rattle.bihash_table.specs.Answers.{entry_of, own_writes, update_of, with_locks}
+use Rattle.bihash_table.specs.Answers.{entry_of, own_writes, recycled_update, update_of, with_locks}
 
 -- The call was answered.
 pub record IsAnswered (z : Sizes) (v w : View) (e : Event) : Type 0 where
@@ -32,8 +32,7 @@ pub record IsAnswered (z : Sizes) (v w : View) (e : Event) : Type 0 where
   pub alone : v.lone ≡ true → length history
       ≤ length (known_at v.known (bucket_of z e.key)) + own_writes e.reply
 
--- The call met another caller: a bucket's word that was locked or had changed, or the allocation lock. It has no
--- entry, and more may be known of bucket b alone.
+-- The call was given up. It has no entry, and more may be known of bucket b alone.
 pub record IsContended (z : Sizes) (v w : View) (b : ℕ) : Type 0 where
   pub history : List Write
   pub begins : IsPrefix (known_at v.known b) history
@@ -45,8 +44,21 @@ pub record IsContended (z : Sizes) (v w : View) (b : ℕ) : Type 0 where
   pub free : w.holds ≡ nothing_held
   pub alone : v.lone ≡ true → length history ≤ length (known_at v.known b)
 
+-- An update with this expiry was answered so: it may have removed the key of an expired pair for its own.
+pub record IsRecycled (z : Sizes) (v w : View) (key : List ℕ) (found : Option ℕ) (change : Change)
+    (is_expired : ℕ → Bool) (reply : Reply) : Type 0 where
+  pub removed : Option (List ℕ)
+  pub answered : IsAnswered z v w (recycled_update key found change is_expired removed reply)
+  pub expired : (gone : List ℕ) → removed ≡ Some gone → (value : ℕ) × (is_expired value ≡ true)
+
 -- an update was answered so, on some value that was found
 pub record IsUpdated (z : Sizes) (v w : View) (key : List ℕ) (decision : Option ℕ → Change)
     (reply : Reply) : Type 0 where
   pub found : Option ℕ
   pub answered : IsAnswered z v w (update_of key found decision reply)
+
+-- the same with an expiry
+pub record IsUpdatedOver (z : Sizes) (v w : View) (key : List ℕ) (decision : Option ℕ → Change) (is_expired : ℕ → Bool)
+    (reply : Reply) : Type 0 where
+  pub found : Option ℕ
+  pub answered : IsRecycled z v w key found (decision found) is_expired reply

@@ -1,5 +1,5 @@
 -- What one try of an update leaves of its caller.
-use Rattle.std.specs.Prelude.{◌≡◌, ◌≤◌, ℕ, ◌+◌, ◌-◌, Bool, true, false, if◌then◌else◌, Option, Result, Ok, Err, IfOk, IfErr, is_ok}
+use Rattle.std.specs.Prelude.{◌≡◌, ◌≢◌, ◌≤◌, ℕ, ◌+◌, ◌-◌, Bool, true, false, if◌then◌else◌, Option, Result, Ok, Err, IfOk, IfErr, is_ok}
 use Rattle.bihash_words.specs.Sizes.{sizes_of}
 use Rattle.bihash_words.specs.declared.shape.Shape.{Ghosts}
 use Rattle.bihash_words.specs.declared.patch.Change.{Change}
@@ -11,7 +11,7 @@ use Rattle.bihash_steps.specs.BucketCalls.{event}
 use Rattle.bihash_steps.specs.Seats.{CallerState, with_view}
 use Rattle.bihash_steps.specs.declared.view.View.{View}
 use Rattle.bihash_table.specs.Answers.{locks_of}
-use Rattle.bihash_table.specs.Promise.{IsAnswered, IsContended}
+use Rattle.bihash_table.specs.Promise.{IsAnswered, IsContended, IsRecycled}
 use Rattle.bihash_table.specs.OutOfPages.{IsOutOfPages}
 use Rattle.bihash_table.specs.declared.contended.Contended.{Contended}
 
@@ -41,14 +41,15 @@ pub record TookByTries (v w : View) (reply : Reply) : Type 0 where
   pub alone : v.lone ≡ true → tries ≡ 1
   pub took : TookAtMost v w (tries - 1 + try_locks (Ok reply))
 
--- One try of an update, on a value that was found and what was decided on it: it was answered, or contended. A
--- lone caller is answered.
+-- One try of an update that finds room, on a value that was found and what was decided on it: it was answered, or
+-- contended. A lone caller is answered.
 pub record Tried {A K : Type 0} (g : Ghosts A K) (s t : CallerState) (key : K) (found : Option ℕ) (change : Change)
     (r : Result Reply Contended) : Type 0 where
   pub same : t ≡ with_view s t.view
   pub answered : IfOk r (λ reply. IsAnswered (sizes_of g) s.view t.view (event (g.words_of key) found change reply))
   pub no_pages : IfOk r (λ reply. (log2 left : ℕ) → reply ≡ NoPages log2 left
       → IsOutOfPages g t.view (bucket_of (sizes_of g) (g.words_of key)) key log2 left)
+  pub room : IfOk r (λ reply. reply ≢ Full)
   pub locks : TookAtMost s.view t.view (try_locks r)
   pub contended : IfErr r (λ _. IsContended (sizes_of g) s.view t.view (bucket_of (sizes_of g) (g.words_of key)))
   pub lone : s.view.lone ≡ true → is_ok r ≡ true
@@ -60,4 +61,23 @@ pub record Finished {A K : Type 0} (g : Ghosts A K) (s t : CallerState) (key : K
     (r : Result Reply Contended) : Type 0 where
   pub tried : Tried g s t key found change r
   pub paid : IfOk r (λ reply. is_without_lock reply ≡ false)
+  pub no_lock : locks_of t.view.records ≡ locks_of s.view.records
+
+-- One try of an update with an expiry. A new key that finds no room takes the place of an expired pair, or is refused.
+pub record TriedOver {A K : Type 0} (g : Ghosts A K) (s t : CallerState) (key : K) (found : Option ℕ) (change : Change)
+    (is_expired : ℕ → Bool) (r : Result Reply Contended) : Type 0 where
+  pub same : t ≡ with_view s t.view
+  pub answered : IfOk r (IsRecycled (sizes_of g) s.view t.view (g.words_of key) found change is_expired)
+  pub no_pages : IfOk r (λ reply. (log2 left : ℕ) → reply ≡ NoPages log2 left
+      → IsOutOfPages g t.view (bucket_of (sizes_of g) (g.words_of key)) key log2 left)
+  pub locks : TookAtMost s.view t.view (try_locks r)
+  pub contended : IfErr r (λ _. IsContended (sizes_of g) s.view t.view (bucket_of (sizes_of g) (g.words_of key)))
+  pub lone : s.view.lone ≡ true → is_ok r ≡ true
+  pub lawful : IsLawfulCaller (sizes_of g) t.view
+
+-- the end of such a try that has the lock of the bucket, and takes no other
+pub record FinishedOver {A K : Type 0} (g : Ghosts A K) (s t : CallerState) (key : K) (found : Option ℕ) (change : Change)
+    (is_expired : ℕ → Bool) (reply : Reply) : Type 0 where
+  pub tried : TriedOver g s t key found change is_expired (Ok reply)
+  pub paid : is_without_lock reply ≡ false
   pub no_lock : locks_of t.view.records ≡ locks_of s.view.records

@@ -6,5 +6,6 @@ pub mod OpenReads
 pub mod PairLists
 pub mod Places
 pub mod Scans
+pub mod RowWords
 pub mod Seen
 pub mod Stores

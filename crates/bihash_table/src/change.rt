@@ -141,7 +141,12 @@ fn vacate<S: Shape>(
 
 // Stores the words of a key at a place of the block that the caller has locked, but those that stand there. A
 // freed place shows the key that it had, and a store costs far more than a load.
-fn store_key<S: Shape>(row: &Row<S>, seat: &mut CallerSeat<S>, seen: &Seen<'_, S>, place: usize)
+pub(crate) fn store_key<S: Shape>(
+    row: &Row<S>,
+    seat: &mut CallerSeat<S>,
+    seen: &Seen<'_, S>,
+    place: usize,
+)
     requires own { seat.old.row ≡ row.now }
     requires lock { (l : LockedBucket) × HasLock (sizes_of S.Shape) seat.old.view seen.now.site.bucket seen.now.word l
         × (place < places l.extent.page l.extent.size.log2) }
@@ -174,7 +179,7 @@ fn held_word<S: Shape>(
 }
 
 // Stores word i of a place of the block that the caller has locked.
-fn store_word<S: Shape>(
+pub(crate) fn store_word<S: Shape>(
     row: &Row<S>,
     seat: &mut CallerSeat<S>,
     word: BucketWord,

@@ -1,26 +1,25 @@
 //! The end of a table: all its pairs, in the order of their keys.
-ghost use Rattle.std.specs.Prelude.{◌≡◌, ◌+◌, ◌<◌, ◌≤◌, List, IfOk, IfErr, IsPermutation};
+ghost use Rattle.std.specs.Prelude.{◌≡◌, ◌+◌, ◌≤◌, IfOk, IfErr, IsPermutation};
 ghost use Rattle.std.specs.Ordering.{is_lt, nat_cmp};
 ghost use Rattle.std.specs.Cmp.Lexicographic.{slice_cmp};
 ghost use Rattle.std.specs.List.Sorted.{IsSortedBy};
 ghost use Rattle.bihash_words.specs.Sizes.{sizes_of};
 ghost use Rattle.bihash_steps.specs.Words.{buckets};
 ghost use Rattle.bihash_steps.specs.Callers.{IsLawfulCaller};
-ghost use Rattle.bihash_steps.specs.Views.{nothing_held};
+ghost use Rattle.bihash_steps.specs.Views.{no_notes, nothing_held};
 ghost use Rattle.bihash_steps.specs.Seats.{with_view};
-ghost use Rattle.bihash_table.specs.inner.OpenReads.{HasRead, MayRead};
 ghost use Rattle.bihash_table.specs.Closing.{ArePairsOf, IsCloseRefused, WasWhole};
-ghost use Rattle.bihash_table.specs.inner.PairLists.{AddsBlock, IsAfterLocks, IsIdleAndLone, ListsBuckets};
+ghost use Rattle.bihash_table.specs.inner.OpenReads.{StandsAt};
+ghost use Rattle.bihash_table.specs.inner.PairLists.{AddsBlock, IsIdleAndLone, ListsBuckets};
+ghost use Rattle.bihash_table.specs.inner.RowWords.{HasBlockIn, HasNoted, OfBlockIn};
 
 use crate::close_fault::CloseFault;
-use crate::lock::{lock_seen, look};
 use crate::places::{FREE, place_count};
+use crate::renewal::read_words;
 use crate::sessions::Sessions;
-use crate::snapshot::read_place;
 use bihash_steps::{Caller, CallerSeat, Row};
-use bihash_words::{BucketWord, Shape};
+use bihash_words::{BucketWord, Shape, compare};
 use std::alloc::{AllocError, Global};
-use std::cmp::Ordering;
 
 impl<S: Shape> Sessions<S> {
     /// The pairs of the table, which ends, sorted by the words of their keys, first word first.
@@ -60,56 +59,36 @@ fn read_all<S: Shape>(
     seat: &mut CallerSeat<S>,
     alloc: Global,
 ) -> Result<Vec<(S::Key, u64)>, AllocError>
-    requires { IsIdleAndLone (sizes_of S.Shape) row.now seat.old }
-    ensures after { IsAfterLocks (sizes_of S.Shape) seat.old seat.new (buckets (sizes_of S.Shape)) }
+    requires lone { IsIdleAndLone (sizes_of S.Shape) row.now seat.old }
+    requires bare { seat.old.view.notes ≡ no_notes }
+    ensures noted { HasNoted (sizes_of S.Shape) seat.old seat.new }
     ensures pairs { IfOk result (λ ps. ListsBuckets ⟦<S as Shape>⟧ seat.old.view.known (buckets (sizes_of S.Shape)) ps.items) }
 {
     row.is_sound();
+    let loaded = read_words(row, seat, alloc)?;
+    let words = loaded.as_slice();
     let mut pairs = Vec::new(alloc);
     for bucket in 0..(1usize << S::LOG2_BUCKETS) {
-        read_bucket(row, seat, bucket, &mut pairs)?;
+        let word = BucketWord::of(words[row.bucket_at(bucket)]);
+        read_pairs(row, words, word, &mut pairs)?;
     }
     Ok(pairs)
 }
 
-/// Adds the pairs of a bucket. A lone caller finds it as it saw it, and its lock tells so.
-fn read_bucket<S: Shape>(
-    row: &Row<S>,
-    seat: &mut CallerSeat<S>,
-    bucket: usize,
-    pairs: &mut Vec<(S::Key, u64)>,
-) -> Result<(), AllocError>
-    requires lone { IsIdleAndLone (sizes_of S.Shape) row.now seat.old }
-    requires inside { bucket < buckets (sizes_of S.Shape) }
-    requires pairs { ListsBuckets ⟦<S as Shape>⟧ seat.old.view.known bucket pairs.old.items }
-    ensures after { IsAfterLocks (sizes_of S.Shape) seat.old seat.new 1 }
-    ensures pairs { IfOk result (λ _. ListsBuckets ⟦<S as Shape>⟧ seat.old.view.known (bucket + 1) pairs.new.items) }
-{
-    let Some(word) = look(row, seat, bucket) else {
-        unreachable!()
-    };
-    let read = read_pairs(row, seat, word, pairs);
-    if !lock_seen(row, seat, bucket, word) {
-        unreachable!()
-    }
-    row.release(seat, bucket, word);
-    read
-}
-
-/// Adds the pairs of the open bucket's block.
+/// Adds the pairs of the block that the word of its bucket names.
 fn read_pairs<S: Shape>(
     row: &Row<S>,
-    seat: &mut CallerSeat<S>,
+    words: &[u64],
     word: BucketWord,
     pairs: &mut Vec<(S::Key, u64)>,
 ) -> Result<(), AllocError>
-    requires { MayRead (sizes_of S.Shape) row.now seat.old word 0 }
-    ensures { HasRead seat.old seat.new (λ e block.
+    requires { HasBlockIn (sizes_of S.Shape) words.now word 0 }
+    ensures { OfBlockIn (sizes_of S.Shape) words.now word (λ e block.
         IfOk result (λ _. AddsBlock ⟦<S as Shape>⟧ e block pairs.old.items pairs.new.items)) }
 {
     row.is_sound();
     for place in 0..place_count::<S>(word) {
-        let pair = read_place(row, seat, word, place);
+        let pair = pair_at(row, words, word, place);
         if pair.1 == FREE {
             continue;
         }
@@ -118,23 +97,21 @@ fn read_pairs<S: Shape>(
     Ok(())
 }
 
+/// The key and the value of a place of that block.
+fn pair_at<S: Shape>(row: &Row<S>, words: &[u64], word: BucketWord, place: usize) -> (S::Key, u64)
+    requires { HasBlockIn (sizes_of S.Shape) words.now word (place + 1) }
+    ensures { OfBlockIn (sizes_of S.Shape) words.now word (StandsAt ⟦<S as Shape>⟧ place result) }
+{
+    row.is_sound();
+    let at = row.page_at(word.page(), place * (S::WORDS + 1));
+    let end = at + S::WORDS;
+    (S::key(&words[at..end]), words[end])
+}
+
 /// Sorts pairs by the words of their keys, in place.
 fn sort<S: Shape>(pairs: &mut Vec<(S::Key, u64)>)
     ensures same { IsPermutation pairs.old.items pairs.new.items }
     ensures sorted { 1 ≤ S.WORDS → IsSortedBy (λ p q. is_lt (slice_cmp nat_cmp (S.words_of p.0) (S.words_of q.0))) pairs.new.items }
 {
     pairs.sort_unstable_by(|a, b| compare::<S>(&a.0, &b.0));
-}
-
-/// How two keys stand by their words.
-fn compare<S: Shape>(a: &S::Key, b: &S::Key) -> Ordering
-    ensures { 1 ≤ S.WORDS → result ≡ slice_cmp nat_cmp (S.words_of a.now) (S.words_of b.now) }
-{
-    for i in 0..S::WORDS {
-        let order = S::word(a, i).cmp(&S::word(b, i));
-        if order != Ordering::Equal {
-            return order;
-        }
-    }
-    Ordering::Equal
 }

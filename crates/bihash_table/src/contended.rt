@@ -1,8 +1,8 @@
 //! The refusal of a try that another caller stood in the way of.
 use thiserror::Error;
 
-/// A bucket word was found locked or changed, or the allocation lock was found held. The call made no write
-/// and is in no record.
+/// The call was given up, as it is where another caller stands in its way. It made no write and is in no record. A lone
+/// caller is never told so.
 #[derive(Clone, Copy, Debug, PartialEq, Eq, Error)]
 #[error("another caller holds a lock or changed the bucket")]
 pub struct Contended;

@@ -7,65 +7,70 @@ ghost use Rattle.bihash_table.specs.inner.Copying.{GivenBack, MayLeave, Released
 ghost use Rattle.bihash_table.specs.inner.Laid.{IsLaidFor};
 ghost use Rattle.bihash_table.specs.inner.Locked.{IsPairBeside, UnderLock};
 ghost use Rattle.bihash_table.specs.inner.Seen.{WantsRoom};
-ghost use Rattle.bihash_table.specs.Tries.{Finished, Tried};
+ghost use Rattle.bihash_table.specs.Tries.{Finished, TriedOver};
 
 use crate::block::write_block;
-use crate::change::answer;
 use crate::contended::Contended;
+use crate::entrant::Entrant;
 use crate::lock::lock_seen;
 use crate::pages::{give_back, take_block};
 use crate::places::{place_count, places_of};
+use crate::recycling::recycle_or_refuse;
 use crate::site::Seen;
 use crate::snapshot::read_block;
 use bihash_plan::{Plan, larger, lay};
 use bihash_steps::view::Extent;
 use bihash_steps::{Caller, CallerSeat, Event, Row};
-use bihash_words::{BlockSize, BucketWord, Change, Reply, Shape};
+use bihash_words::{BlockSize, BucketWord, Change, Expiry, Reply, Shape};
 
-/// Enters a new pair that finds no place in the block that was seen: the block grows, or the call is
-/// refused.
+/// Enters a new pair that finds no place in the block that was seen: the block grows, or an expired pair makes
+/// room, or the call is refused.
 #[inline(never)]
-pub(crate) fn enter_larger<S: Shape>(
+pub(crate) fn enter_larger<S: Shape, E: Expiry>(
     row: &Row<S>,
     caller: &mut Caller<S>,
     seen: &Seen<'_, S>,
-    value: u64,
+    entrant: &Entrant<'_, E>,
 ) -> Result<Reply, Contended>
-    requires { WantsRoom ⟦<S as Shape>⟧ row.now caller.old.seat seen.now.site.bucket seen.now.word seen.now.site.key.now value }
-    ensures { Tried ⟦<S as Shape>⟧ caller.old.seat caller.new.seat seen.now.site.key.now None (Set value) result }
+    requires { WantsRoom ⟦<S as Shape>⟧ row.now caller.old.seat seen.now.site.bucket seen.now.word seen.now.site.key.now
+        entrant.now.value }
+    ensures { TriedOver ⟦<S as Shape>⟧ caller.old.seat caller.new.seat seen.now.site.key.now None (Set entrant.now.value)
+        (E.is_expired entrant.now.expiry.now) result }
 {
     let seat = &mut caller.seat;
     let scratch = &mut caller.scratch;
     let old = &mut scratch.old_places;
     let new = &mut scratch.new_places;
-    enter_as_planned(row, seat, seen, value, old, new)
+    enter_as_planned(row, seat, seen, entrant, old, new)
 }
 
 /// The same, with room for all pairs of a bucket twice: as they stand, and as they will stand.
-fn enter_as_planned<S: Shape>(
+fn enter_as_planned<S: Shape, E: Expiry>(
     row: &Row<S>,
     seat: &mut CallerSeat<S>,
     seen: &Seen<'_, S>,
-    value: u64,
+    entrant: &Entrant<'_, E>,
     old: &mut [(S::Key, u64)],
     new: &mut [(S::Key, u64)],
 ) -> Result<Reply, Contended>
-    requires wants { WantsRoom ⟦<S as Shape>⟧ row.now seat.old seen.now.site.bucket seen.now.word seen.now.site.key.now value }
+    requires wants { WantsRoom ⟦<S as Shape>⟧ row.now seat.old seen.now.site.bucket seen.now.word seen.now.site.key.now
+        entrant.now.value }
     requires room { (length old.old ≡ 4 * 2 ^ S.MAX_LOG2) × (length new.old ≡ 4 * 2 ^ S.MAX_LOG2) }
-    ensures { Tried ⟦<S as Shape>⟧ seat.old seat.new seen.now.site.key.now None (Set value) result }
+    ensures { TriedOver ⟦<S as Shape>⟧ seat.old seat.new seen.now.site.key.now None (Set entrant.now.value)
+        (E.is_expired entrant.now.expiry.now) result }
 {
     row.is_sound();
     let old = &mut old[..place_count::<S>(seen.word)];
     read_block(row, seat, seen.word, old);
     let Plan::Grow(size) = larger::<S>(old, seen.word.block_size(), seen.site.key) else {
-        return answer(row, seat, seen, None, Change::Set(value), Reply::Full);
+        return recycle_or_refuse(row, seat, seen, entrant, old);
     };
     let new = &mut new[..places_of(size.log2)];
-    lay::<S>(old, seen.site.key, value, size, new);
+    lay::<S>(old, seen.site.key, entrant.value, size, new);
     if !lock_seen(row, seat, seen.site.bucket, seen.word) {
         return Err(Contended);
     }
-    enter(row, seat, seen, value, size, new)
+    enter(row, seat, seen, entrant.value, size, new)
 }
 
 /// Gives the bucket a block of this size, in which its pairs and the new one are laid out.

@@ -5,20 +5,22 @@ ghost use Rattle.bihash_words.specs.Patches.{IsStorable};
 ghost use Rattle.bihash_words.specs.Words.{Bucket, Fits, packed};
 ghost use Rattle.bihash_words.specs.declared.patch.Change.TheVariants.{Keep};
 ghost use Rattle.bihash_steps.specs.Views.{nothing_held};
-ghost use Rattle.bihash_table.specs.Calls.{TellsUpdateTry};
+ghost use Rattle.bihash_table.specs.Calls.{TellsRecycleTry, TellsUpdateTry};
 ghost use Rattle.bihash_table.specs.inner.OpenReads.{value_of};
 ghost use Rattle.bihash_table.specs.inner.Seen.{Found, WantsChange};
-ghost use Rattle.bihash_table.specs.Tries.{Tried};
+ghost use Rattle.bihash_table.specs.Tries.{Tried, TriedOver};
 
 use crate::change::{answer, fill, overwrite, remove};
 use crate::contended::Contended;
+use crate::entrant::Entrant;
 use crate::grow::enter_larger;
 use crate::lock::{lock_seen, look};
+use crate::never::Never;
 use crate::reads::{find_free, find_pair, value_found};
 use crate::sessions::Sessions;
 use crate::site::{Seen, Site};
 use bihash_steps::{Caller, CallerSeat, Row};
-use bihash_words::{BucketWord, Change, Patch, Reply, Shape};
+use bihash_words::{BucketWord, Change, Expiry, Patch, Reply, Shape};
 
 impl<S: Shape> Sessions<S> {
     /// Decides once on the value of the key, and makes the change that was decided. The answers come in
@@ -35,6 +37,25 @@ impl<S: Shape> Sessions<S> {
         requires free { caller.old.seat.view.holds ≡ nothing_held }
         ensures { TellsUpdateTry ⟦<S as Shape>⟧ caller.old.seat caller.new.seat key.now (P.decision patch.now) result }
     {
+        self.try_add_or_recycle(caller, key, patch, &Never)
+    }
+
+    /// The same, but where the answer would be `Full`, the new pair takes the place of the expired pair of the bucket
+    /// with the least key by its words, first word first, and the answer is `Changed(None)`. It is `Full` where no
+    /// pair of the bucket is expired.
+    #[inline(always)]
+    pub fn try_add_or_recycle<P: Patch, E: Expiry>(
+        &self,
+        caller: &mut Caller<S>,
+        key: &S::Key,
+        patch: &P,
+        expiry: &E,
+    ) -> Result<Reply, Contended>
+        requires own { caller.old.seat.row ≡ self.now.row }
+        requires free { caller.old.seat.view.holds ≡ nothing_held }
+        ensures { TellsRecycleTry ⟦<S as Shape>⟧ caller.old.seat caller.new.seat key.now (P.decision patch.now)
+            (E.is_expired expiry.now) result }
+    {
         self.row.is_sound();
         let site = Site::of(key);
         let Some(word) = look(&self.row, &mut caller.seat, site.bucket) else {
@@ -44,22 +65,24 @@ impl<S: Shape> Sessions<S> {
         let found = value_found(pair);
         let change = patch.decide(found);
         let seen = Seen { word, site };
-        make(&self.row, caller, &seen, pair, change)
+        make(&self.row, caller, &seen, pair, change, expiry)
     }
 }
 
 // Makes the change that was decided on what was found, where it is one and the version isn't used up.
 #[inline(always)]
-fn make<S: Shape>(
+fn make<S: Shape, E: Expiry>(
     row: &Row<S>,
     caller: &mut Caller<S>,
     seen: &Seen<'_, S>,
     pair: Option<(usize, u64)>,
     change: Change,
+    expiry: &E,
 ) -> Result<Reply, Contended>
     requires found { Found ⟦<S as Shape>⟧ row.now caller.old.seat seen.now.site.bucket seen.now.word seen.now.site.key.now pair }
     requires storable { IsStorable change }
-    ensures { Tried ⟦<S as Shape>⟧ caller.old.seat caller.new.seat seen.now.site.key.now (value_of pair) change result }
+    ensures { TriedOver ⟦<S as Shape>⟧ caller.old.seat caller.new.seat seen.now.site.key.now (value_of pair) change
+        (E.is_expired expiry.now) result }
 {
     let found = value_found(pair);
     let seat = &mut caller.seat;
@@ -71,7 +94,7 @@ fn make<S: Shape>(
     }
     match pair {
         Some(held) => change_pair(row, seat, seen, held, change),
-        None => enter_new(row, caller, seen, change),
+        None => enter_new(row, caller, seen, change, expiry),
     }
 }
 
@@ -122,15 +145,17 @@ fn change_pair<S: Shape>(
 
 // Enters a pair of a new key: at a free place that is open to it, or in a larger block.
 #[inline(always)]
-fn enter_new<S: Shape>(
+fn enter_new<S: Shape, E: Expiry>(
     row: &Row<S>,
     caller: &mut Caller<S>,
     seen: &Seen<'_, S>,
     change: Change,
+    expiry: &E,
 ) -> Result<Reply, Contended>
     requires { WantsChange ⟦<S as Shape>⟧ row.now caller.old.seat seen.now.site.bucket seen.now.word seen.now.site.key.now
         None change }
-    ensures { Tried ⟦<S as Shape>⟧ caller.old.seat caller.new.seat seen.now.site.key.now None change result }
+    ensures { TriedOver ⟦<S as Shape>⟧ caller.old.seat caller.new.seat seen.now.site.key.now None change
+        (E.is_expired expiry.now) result }
 {
     let Change::Set(value) = change else {
         unreachable!();
@@ -143,6 +168,6 @@ fn enter_new<S: Shape>(
             }
             Ok(fill(row, seat, seen, place, value))
         }
-        None => enter_larger(row, caller, seen, value),
+        None => enter_larger(row, caller, seen, &Entrant { value, expiry }),
     }
 }

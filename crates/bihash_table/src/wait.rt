@@ -3,11 +3,11 @@ ghost use Rattle.std.specs.Prelude.{◌≡◌, ◌≢◌};
 ghost use Rattle.bihash_words.specs.Patches.{free_mark, set_if_absent, set_if_present};
 ghost use Rattle.bihash_words.specs.declared.patch.Change.TheVariants.{Set, Remove};
 ghost use Rattle.bihash_steps.specs.Views.{nothing_held};
-ghost use Rattle.bihash_table.specs.Calls.{TellsUpdate};
+ghost use Rattle.bihash_table.specs.Calls.{TellsRecycle, TellsUpdate};
 
 use crate::sessions::Sessions;
 use bihash_steps::Caller;
-use bihash_words::{Add, AddIfAbsent, Delete, Patch, Reply, Shape, Touch};
+use bihash_words::{Add, AddIfAbsent, Delete, Expiry, Patch, Reply, Shape, Touch};
 use crossbeam_utils::Backoff;
 use std::sync::Wait;
 
@@ -29,6 +29,32 @@ impl<S: Shape> Sessions<S> {
         let backoff = Backoff::new();
         for _ in rt.forever() {
             if let Ok(reply) = self.try_update(caller, key, patch) {
+                return reply;
+            }
+            backoff.snooze();
+        }
+        unreachable!()
+    }
+
+    /// The same, but a new key that finds no room takes the place of the expired pair of the bucket with the least
+    /// key, if any: the answer is `Changed(None)` then.
+    #[inline(always)]
+    pub fn add_or_recycle<P: Patch, E: Expiry, R: Wait>(
+        &self,
+        rt: &R,
+        caller: &mut Caller<S>,
+        key: &S::Key,
+        patch: &P,
+        expiry: &E,
+    ) -> Reply
+        requires own { caller.old.seat.row ≡ self.now.row }
+        requires free { caller.old.seat.view.holds ≡ nothing_held }
+        ensures { TellsRecycle ⟦<S as Shape>⟧ caller.old.seat caller.new.seat key.now (P.decision patch.now)
+            (E.is_expired expiry.now) result }
+    {
+        let backoff = Backoff::new();
+        for _ in rt.forever() {
+            if let Ok(reply) = self.try_add_or_recycle(caller, key, patch, expiry) {
                 return reply;
             }
             backoff.snooze();

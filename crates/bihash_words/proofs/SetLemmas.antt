@@ -4,8 +4,9 @@ use Rattle.std.specs.FinMap.{get, len}
 use Rattle.std.specs.Prelude.{◌↔◌, if◌then◌else◌, nat_lt}
 use Rattle.std.proofs.lemmas.Bool.{eqb-false, eqb-true}
 use Rattle.bihash_words.specs.declared.patch.Change.TheVariants.{Keep, Set}
-use Rattle.bihash_words.specs.Maps.{Answers, Bounds, NoRoom, NewKey, Event, WornOut, Pairs, OldKey, IsEvent, changed, effect_of, most_pairs, case_with}
+use Rattle.bihash_words.specs.Maps.{Answers, Bounds, NoRoom, NewKey, Event, WornOut, Pairs, OldKey, IsEvent, effect_of, most_pairs, case_with, without, written}
 use Rattle.bihash_words.specs.Refusals.{IsTaken}
+use Rattle.bihash_words.proofs.MapLemmas.{refused_or_recycled}
 use Rattle.bihash_words.proofs.MapValues.{get_set}
 
 abbrev Stands : ℕ → Pairs → Event → Type 0
@@ -18,8 +19,10 @@ refused : (value : ℕ) (n : Pairs) (e : Event) → (IsTaken e.reply → ⊥) �
 refused value n e not other = (λ t. absurd (not t), λ g. absurd (other g))
 
 -- the key has the value once it is set
-set_there : (value : ℕ) (m n : Pairs) (e : Event) → e.change ≡ Set value → n ≡ changed m e.key e.change → get n e.key ≡ Some value
-set_there value m n e sets is = ap (λ x. get x e.key) (is ∙ ap (changed m e.key) sets) ∙ get_set m e.key value
+set_there : (value : ℕ) (m n : Pairs) (e : Event) → e.change ≡ Set value → n ≡ written m e.key e.change e.recycling
+    → get n e.key ≡ Some value
+set_there value m n e sets is = ap (λ x. get x e.key) (is ∙ ap (λ c. written m e.key c e.recycling) sets)
+    ∙ get_set (without m e.recycling.removed) e.key value
 
 -- it has what it had where nothing was changed
 still : (found : Option ℕ) (m n : Pairs) (e : Event) → get m e.key ≡ found → n ≡ m → get n e.key ≡ found
@@ -31,8 +34,10 @@ of_new true true b value m n e sets none (inl h) =
     taken value n e (subst IsTaken (sym h.0) tt) (set_there value m n e sets h.1)
 of_new true true b value m n e sets none (inr h) =
     refused value n e (λ t. subst IsTaken h.0.2 t) (λ g. let had = still None m n e none h.1 in let f : ⊥ = cc in f)
-of_new true false b value m n e sets none h =
-    refused value n e (λ t. subst IsTaken h.0 t) (λ g. let had = still None m n e none h.1 in let f : ⊥ = cc in f)
+of_new true false b value m n e sets none h = elim (refused_or_recycled e.recycling.removed m n e h) [
+  | inl full ↦ refused value n e (λ t. subst IsTaken full.0 t) (λ g. let had = still None m n e none full.1 in let f : ⊥ = cc in f)
+  | inr recycled ↦ taken value n e (subst IsTaken (sym recycled.0) tt) (set_there value m n e sets recycled.1)
+]
 of_new false room b value m n e sets none h =
     refused value n e (λ t. subst IsTaken h.0 t) (λ g. let had = still None m n e none h.1 in let f : ⊥ = cc in f)
 

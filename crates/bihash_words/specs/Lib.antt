@@ -1,4 +1,5 @@
 pub mod Blocks
+pub mod Expiries
 pub mod Hash
 pub mod Maps
 pub mod Pages

@@ -5,17 +5,20 @@
 mod block_size;
 mod bucket;
 mod bucket_word;
+mod expiry;
 mod flow_shapes;
 mod hash;
 mod laws;
 mod maps;
 mod patch;
+mod recycling;
 mod shape;
 mod tiny;
 
 pub use block_size::BlockSize;
 pub use bucket::bucket_of;
 pub use bucket_word::BucketWord;
+pub use expiry::Expiry;
 pub use flow_shapes::{ShapeV4, ShapeV6};
 pub use hash::mix;
 pub use laws::{
@@ -25,10 +28,9 @@ pub use laws::{
 pub use maps::{
     each_call_has_one_answer, maps_stay_bounded, other_keys_stay, refusals_change_nothing,
     replies_tell_what_was_found, runs_join_and_part, taken_values_stand,
+    the_least_expired_key_goes,
 };
 pub use patch::{Add, AddIfAbsent, Change, Delete, FREE, Patch, Reply, Touch};
-pub use shape::{PAGE_PLACES, Shape, is_same};
+pub use recycling::Recycling;
+pub use shape::{PAGE_PLACES, Shape, compare, is_same};
 pub use tiny::Tiny;
-
-#[cfg(test)]
-mod tests;

@@ -1,11 +1,13 @@
 //! What follows of the bounded map of a bucket. The functions do nothing: their contracts are the laws.
-ghost use Rattle.std.specs.Prelude.{◌≡◌, ◌≢◌, ◌<◌, ◌≤◌, ◌↔◌, ◌++◌, ℕ, List, Option, Some};
+ghost use Rattle.std.specs.Prelude.{◌≡◌, ◌≢◌, ◌<◌, ◌≤◌, ◌↔◌, ◌++◌, ◌^◌, ℕ, Bool, false, List, Option, Some, None};
 ghost use Rattle.std.specs.FinMap.{get, len};
-ghost use Rattle.bihash_words.specs.Maps.{Bounds, Event, Pairs, IsEvent, found_by, most_pairs};
+ghost use Rattle.bihash_words.specs.Expiries.{expired_words, is_among};
+ghost use Rattle.bihash_words.specs.Maps.{Bounds, Event, Pairs, IsEvent, IsSpare, HasExpiry, asked, found_by, most_pairs, spare};
 ghost use Rattle.bihash_words.specs.Refusals.{IsNoRefusal, IsTaken};
 ghost use Rattle.bihash_words.specs.Runs.{IsRun};
 ghost use Rattle.bihash_words.specs.declared.patch.Change.{Change};
 ghost use Rattle.bihash_words.specs.declared.patch.Reply.{Reply};
+ghost use Rattle.bihash_words.specs.declared.recycling.Recycling.{Recycling};
 ghost use Rattle.bihash_words.specs.declared.patch.Change.TheVariants.{Keep, Set};
 ghost use Rattle.bihash_words.specs.declared.patch.Reply.TheVariants.{Changed, Full, Kept};
 
@@ -18,11 +20,12 @@ pub fn refusals_change_nothing()
         → e.change ≡ Keep → e.reply ≡ Kept (get m e.key) }
 {}
 
-/// A call changes the value of its own key alone, and only where the map may still change.
+/// A call changes the value of its own key alone, and of the one key that it removed for it, if any. It does so only
+/// where the map may still change.
 #[tactic(auto, using(crate::proofs::MapLemmas::others_stay, crate::proofs::MapLemmas::within_limit))]
 pub fn other_keys_stay()
     ensures others { (b : Bounds) (m n : Pairs) (w : ℕ) (e : Event) (key : List ℕ) → IsEvent b m w e n
-        → key ≢ e.key → get n key ≡ get m key }
+        → key ≢ e.key → e.recycling.removed ≢ Some key → get n key ≡ get m key }
     ensures limit { (b : Bounds) (m n : Pairs) (w : ℕ) (e : Event) (found : Option ℕ) → IsEvent b m w e n
         → e.reply ≡ Changed found → w < b.limit }
 {}
@@ -53,15 +56,39 @@ pub fn runs_join_and_part()
         → (middle : Pairs) × (v : ℕ) × IsRun b m w before middle v × IsRun b middle v after last n }
 {}
 
-/// A call that decides by what it finds has one answer where pages don't run out, and leaves one map.
+/// A call that decides by what it finds, and has an expiry or none, has one answer where pages don't run out, and
+/// leaves one map.
 #[tactic(auto, using(crate::proofs::CallLemmas::some_call, crate::proofs::CallLemmas::one_call))]
 pub fn each_call_has_one_answer()
-    ensures some { (b : Bounds) (m : Pairs) (w : ℕ) (key : List ℕ) (decision : Option ℕ → Change)
-        → (reply : Reply) × (n : Pairs) × IsNoRefusal reply
-        × IsEvent b m w (record { key = key; found = get m key; change = decision (get m key); reply = reply }) n }
-    ensures one { (b : Bounds) (m n o : Pairs) (w : ℕ) (decision : Option ℕ → Change) (e f : Event)
+    ensures some { (b : Bounds) (m : Pairs) (w : ℕ) (key : List ℕ) (decision : Option ℕ → Change) (expired : List ℕ)
+        → (reply : Reply) × (recycling : Recycling) × (n : Pairs) × IsNoRefusal reply
+        × (recycling.expired ≡ asked recycling.removed reply expired)
+        × IsEvent b m w (record {
+          key = key;
+          found = get m key;
+          change = decision (get m key);
+          reply = reply;
+          recycling = recycling;
+        }) n }
+    ensures one { (b : Bounds) (m n o : Pairs) (w : ℕ) (decision : Option ℕ → Change) (expired : List ℕ) (e f : Event)
         → e.key ≡ f.key → e.change ≡ decision e.found → f.change ≡ decision f.found
+        → HasExpiry expired e → HasExpiry expired f
         → IsNoRefusal e.reply → IsNoRefusal f.reply → IsEvent b m w e n → IsEvent b m w f o → (e ≡ f) × (n ≡ o) }
+{}
+
+/// The key that goes for a new one is the least whose value counts as expired, and none goes where no value does.
+/// The words at which an expiry answers yes count as it says.
+#[tactic(auto, using(crate::proofs::SpareLemmas::spare_tells, crate::proofs::SpareLemmas::none_spare, crate::proofs::SpareLemmas::among_words, crate::proofs::MapLemmas::removed_was_spare))]
+pub fn the_least_expired_key_goes()
+    ensures tells { (m : Pairs) (expired gone : List ℕ) → spare m expired ≡ Some gone → IsSpare m expired gone }
+    ensures only { (m : Pairs) (expired gone : List ℕ) → IsSpare m expired gone → spare m expired ≡ Some gone }
+    ensures none { (m : Pairs) (expired : List ℕ)
+        → ((key : List ℕ) (value : ℕ) → get m key ≡ Some value → is_among value expired ≡ false)
+        ↔ (spare m expired ≡ None) }
+    ensures removed { (b : Bounds) (m n : Pairs) (w : ℕ) (e : Event) (gone : List ℕ) → IsEvent b m w e n
+        → e.recycling.removed ≡ Some gone → IsSpare m e.recycling.expired gone }
+    ensures words { (expired : ℕ → Bool) (value : ℕ) → value < 2 ^ 64
+        → is_among value (expired_words expired) ≡ expired value }
 {}
 
 /// A call that sets a value is taken exactly where its key has the value after it.

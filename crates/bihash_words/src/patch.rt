@@ -30,7 +30,7 @@ pub enum Reply {
     NoPages { log2: u64, left: u64 },
 }
 
-/// A decision on a key's value, made once for each update.
+/// A decision on a key's value, made once for each try of an update.
 pub trait Patch {
     /// What is decided at a value, or where there is none.
     ghost decision: { Self → Option ℕ → Change };

@@ -15,7 +15,8 @@ use Rattle.packet_view.proofs.RecordLemmas.{number_from-append}
 use Rattle.packet_view.proofs.RecordListLemmas.{packets_count, records_within}
 use Rattle.racl_io.specs.declared.fault.Fault.{Fault}
 use Rattle.racl_io.specs.declared.fault.Fault.TheVariants as fault
-use Rattle.racl_io.specs.Transfers.{HasRead}
+use Rattle.racl_io.specs.Transfers.{GaveAtMost, HasRead}
+use Rattle.racl_io.proofs.TransferLemmas.{gave_more}
 use Rattle.racl_io.specs.Inputs.{most_bytes}
 use Rattle.capture_stream.specs.Judging.{CanFollow, HaveFollowed}
 use Rattle.capture_stream.specs.Streams.{AreAllRead, HasLongRecord, HasStreamed, IsStreamFault, MayStream, records_in}
@@ -121,7 +122,7 @@ front_advanced Became old before after cleared front new all judged least more h
       found = subst (λ (o : Order). HaveFound o (ahead_of new) new.found) (sym order)
           (subst (λ (b : List ℕ). HaveFound old.order b new.found) (sym whole) found);
       ended = λ e. (has_read.ended e).0;
-      goes_on = λ e. let enough = (has_read.enough e).0 in omega arith;
+      goes_on = λ e. let enough = has_read.enough e in omega arith;
     }
 
 -- a record that is too long is so with more bytes behind it
@@ -253,6 +254,13 @@ module _ {J : Type 0} (Became : J → List PacketFacts → J → Type 0) (first 
         long = long_appended opening.order long.rest gone here;
         counted = let e = amid.count in let f = long.counted in omega arith;
       }
+
+  -- what the source gave to here, and then at most as much as may still be read
+  pub amid_gave : (now after : Option (List ℕ)) (walk : Walk J) → IsAmid Became first opening before now walk
+      → GaveAtMost now after (most_bytes + 1 - walk.read) → GaveAtMost before after (most_bytes + 1 - length opening.bytes.items)
+  amid_gave now after walk amid (more, consumed, few) =
+      let size = amid.size in let bound = amid.bound in
+      gave_more before now after amid.gone more _ (omega arith) amid.consumed consumed
 
   pub amid_fault : (now after : Option (List ℕ)) (walk : Walk J) (found : Fault) → IsAmid Became first opening before now walk
       → IsWindowFault walk now after found → IsStreamFault opening before after found

@@ -3,8 +3,6 @@
 
 mod judges;
 mod stream;
-#[cfg(test)]
-mod tests;
 mod window;
 
 pub use judges::Judges;

@@ -1,6 +1,7 @@
 //! A capture from what was read of it to its end.
-ghost use Rattle.std.specs.Prelude.{◌≡◌, ◌-◌, ◌<◌, ◌^◌, MatchResult};
-ghost use Rattle.racl_io.specs.Transfers.{failures_after_reads};
+ghost use Rattle.std.specs.Prelude.{◌≡◌, ◌+◌, ◌-◌, ◌<◌, ◌^◌, MatchResult, length};
+ghost use Rattle.racl_io.specs.Inputs.{most_bytes};
+ghost use Rattle.racl_io.specs.Transfers.{HasReadWithin};
 ghost use Rattle.capture_stream.specs.Streams.{HasStreamed, IsStreamFault, MayStream};
 ghost use Rattle.capture_stream.specs.inner.Walks.{HasAdvanced, HasEnded, IsLastFault, IsWindowFault, MayAdvance};
 
@@ -59,7 +60,7 @@ fn next_window<J: Judges + Drop, T: Threads, R: Source + Send>(
     requires may { MayAdvance J.became walk }
     requires sound { R.failures reader.old < 2 ^ 64 - 1 }
     ensures walk { let old = R.bytes reader.old in let new = R.bytes reader.new in MatchResult result (HasAdvanced J.became walk old new) (IsWindowFault walk old new) }
-    ensures failures { R.failures reader.new ≡ failures_after_reads (R.failures reader.old) result }
+    ensures within { HasReadWithin R.bytes R.failures (most_bytes + 1 - walk.read) reader.old reader.new result }
 {
     let Walk {
         judges,
@@ -88,7 +89,8 @@ fn next_window<J: Judges + Drop, T: Threads, R: Source + Send>(
         order,
         count,
     };
-    let least = behind + bytes_beside(read);
+    let beside = bytes_beside(read).min(MOST_BYTES + 1 - read);
+    let least = behind + beside;
     let (judged, next) = judge_and_read(rt, judges, records, reader, &mut spare, least);
     let NextWindow { found, ended } = next?;
     let judges = judged?;
@@ -138,7 +140,7 @@ fn last_window<J: Judges + Drop>(walk: Walk<J>) -> Result<Streamed<J>, Fault>
 }
 
 /// Those who judge packets judge all of a capture, a window at a time, while the next one is read to the end of the
-/// source. A fault of the capture is answered when all was read.
+/// source, or until an input would be too long. A fault of the capture is answered when all was read.
 pub fn judge_stream<J: Judges + Drop, T: Threads, R: Source + Send>(
     rt: &T,
     alloc: Global,
@@ -149,7 +151,7 @@ pub fn judge_stream<J: Judges + Drop, T: Threads, R: Source + Send>(
     requires may { MayStream J.became judges opening }
     requires sound { R.failures reader.old < 2 ^ 64 - 1 }
     ensures streamed { let old = R.bytes reader.old in let new = R.bytes reader.new in MatchResult result (HasStreamed J.became judges opening old new) (IsStreamFault opening old new) }
-    ensures failures { R.failures reader.new ≡ failures_after_reads (R.failures reader.old) result }
+    ensures within { HasReadWithin R.bytes R.failures (most_bytes + 1 - length opening.bytes.items) reader.old reader.new result }
 {
     let Opening { bytes, from, order } = opening;
     let read = bytes.len();

@@ -19,6 +19,7 @@ use Rattle.bihash_words.specs.declared.patch.Reply.TheVariants as reply
 use Rattle.bihash_steps.specs.Words.{buckets}
 use Rattle.bihash_steps.specs.Histories.{event_of, is_changed}
 use Rattle.bihash_steps.specs.Callers.{HasMadeAll, HasWrite, IsLawfulCaller, known_at, known_writes}
+use Rattle.bihash_steps.specs.declared.view.Openings.{Openings}
 use Rattle.bihash_steps.specs.declared.view.Call.{Call}
 use Rattle.bihash_steps.specs.declared.view.Known.{Known}
 use Rattle.bihash_steps.specs.declared.view.Record.{Record}
@@ -172,7 +173,7 @@ module _ (d : Deal) (times : Timeouts) (family : Family) where
       omega arith
 
   -- the flow of a packet of the family
-  flow_inside : (reading : Reading) → is_in family (update_of times reading) ≡ true
+  pub flow_inside : (reading : Reading) → is_in family (update_of times reading) ≡ true
       → (flow : Flow) × (flow_in reading ≡ Some flow) × (family_of flow.key ≡ family)
   flow_inside (Framed said) is = let f : ⊥ = cc in absurd f
   flow_inside (Ruled moment tuple ruling) is = go (flow_of tuple) is
@@ -205,11 +206,11 @@ events_for_few d times policy packets verdicts are family few =
     let c = call_of_packet d times family are.judged v recorded k j flow e at has inside its in
     let refused : c.call.reply ≡ reply.NoPages log2 left = ap (λ (x : Event). x.reply) c.event ∙ short in
     let want =
-    wants (sizes_in d.layout family) v c.at c.place c.record_at c.call log2 left recorded.lawful c.stands c.called
+    wants (sizes_in d.layout family) v (worker_of d k (Some flow)) c.place c.record_at c.call log2 left recorded.lawful c.stands c.called
     refused in
-    let taken = (recorded.told.short c.call (c.at, c.place, c.record_at, c.stands, c.called) log2 left refused).taken in
+    let taken = (recorded.told.short c.call (worker_of d k (Some flow), c.place, c.record_at, c.stands, c.called) log2 left refused).taken in
     let calls =
-    more_calls (sizes_in d.layout family) v c.at c.place c.record_at c.call recorded.lawful recorded.told.made
+    more_calls (sizes_in d.layout family) v (worker_of d k (Some flow)) c.place c.record_at c.call recorded.lawful recorded.told.made
     c.stands c.called (ap is_changed refused) in
     let packets_few = no_more_calls d times family are.judged v recorded in
     let M : ℕ = (sizes_in d.layout family).max_log2 in
@@ -218,7 +219,8 @@ events_for_few d times policy packets verdicts are family few =
     let left_few : left < 2 ^ log2 = want.few in
     let enough : (writes + 1) * 2 ^ M ≤ keyed times family are.judged * 2 ^ M =
     mul-le-mul_right (2 ^ M) (omega arith) in
-    omega (arith, few, taken))
+    let none = ap (λ (o : Openings). o.used) recorded.openings in
+    omega (arith, few, taken, none))
 
 -- a packet that was judged has another verdict where it wasn't refused for want of pages
 told_else : (d : Deal) (times : Timeouts) (policy : PolicyFacts) (packets : List PacketFacts) (verdicts : List Verdict)

@@ -4,5 +4,6 @@ pub mod Merging
 pub mod OneOwner
 pub mod OneReport
 pub mod PacketCalls
+pub mod Passing
 pub mod Places
 pub mod Refusals

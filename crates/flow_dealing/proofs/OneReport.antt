@@ -16,7 +16,7 @@ use Rattle.flow_filter.specs.Judged.{IsAsked, Judged, verdict_on}
 use Rattle.flow_filter.specs.OneThread.{AreVerdicts, HasPages, family_of, sizes_in}
 use Rattle.flow_dealing.specs.declared.dealing.Dealing.TheVariants.{Bucket}
 use Rattle.flow_dealing.specs.Views.{view_in}
-use Rattle.flow_dealing.specs.Dealings.{Deal, flow_in}
+use Rattle.flow_dealing.specs.Dealings.{Deal, flow_in, worker_of}
 use Rattle.flow_dealing.specs.Runs.{AreJudged, HavePages}
 use Rattle.flow_dealing.proofs.OneOwner.{owner, runs_at}
 use Rattle.flow_dealing.proofs.PacketCalls.{IsFlowEvent, asked_flow, call_of_packet, some_worker}
@@ -44,7 +44,7 @@ module _ (d : Deal) (times : Timeouts) (policy : PolicyFacts) (packets : List Pa
           call_of_packet d times family are.judged (view_in are.views family) recorded k j flow e at is refl its in
           let want =
           wants (sizes_in d.layout family)
-          (view_in are.views family) c.at c.place c.record_at c.call log2 left recorded.lawful
+          (view_in are.views family) (worker_of d k (Some flow)) c.place c.record_at c.call log2 left recorded.lawful
           c.stands c.called (ap (λ (x : Event). x.reply) c.event ∙ short) in
           refusal_is_verdict times j.reading j.event flow e
           (bounds_of (sizes_in d.layout family)) log2 left is asked its

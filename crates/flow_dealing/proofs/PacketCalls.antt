@@ -192,10 +192,9 @@ module _ (d : Deal) (times : Timeouts) (family : Family) where
 
   -- ---- The call of a packet
 
-  pub record IsCallFor (v : View) (e : Event) : Type 0 where
-    pub at : ℕ
+  pub record IsCallFor (v : View) (worker : ℕ) (e : Event) : Type 0 where
     pub record_at : Record
-    pub stands : get_elem? v.records at ≡ some record_at
+    pub stands : get_elem? v.records worker ≡ some record_at
     pub place : ℕ
     pub call : Call
     pub called : get_elem? record_at.calls place ≡ some call
@@ -206,7 +205,8 @@ module _ (d : Deal) (times : Timeouts) (family : Family) where
     some_worker = let acts = recorded.lawful.acts in let count = recorded.count in omega arith
 
     pub call_of_packet : (k : ℕ) (j : Judged) (flow : Flow) (e : Event) → get_elem? js k ≡ some j
-        → flow_in j.reading ≡ Some flow → family_of flow.key ≡ family → j.event ≡ Some e → IsCallFor v e
+        → flow_in j.reading ≡ Some flow → family_of flow.key ≡ family → j.event ≡ Some e
+        → IsCallFor v (worker_of d k (Some flow)) e
     call_of_packet k j flow e at has inside its =
         let w : ℕ = worker_of d k (Some flow) in
         let r =
@@ -215,4 +215,4 @@ module _ (d : Deal) (times : Timeouts) (family : Family) where
         let number : 0 + k ≡ k = omega arith in
         let s = event_of_packet w 0 js k j flow e at has inside its (ap (λ m. worker_of d m (Some flow)) number) in
         let c = before_map event_of r.0.calls s.0 e (ap (λ es. get_elem? es s.0) (recorded.each w r.0 r.1) ∙ s.1) in
-        record { at = w; record_at = r.0; stands = r.1; place = s.0; call = c.0; called = c.1; event = c.2 }
+        record { record_at = r.0; stands = r.1; place = s.0; call = c.0; called = c.1; event = c.2 }

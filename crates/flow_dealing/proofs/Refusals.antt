@@ -12,6 +12,7 @@ use Rattle.acl_policy.specs.declared.rule.Action.{Action}
 use Rattle.acl_policy.specs.declared.rule.Action.TheVariants as action
 use Rattle.bihash_words.specs.Maps.{Answers, Bounds, NoRoom, NewKey, Event, WornOut, Pairs, OldKey, effect_of, most_pairs, case_with}
 use Rattle.bihash_words.specs.Refusals.{IsNoRefusal}
+use Rattle.bihash_words.proofs.MapLemmas.{refused_or_recycled}
 use Rattle.bihash_words.specs.Sizes.{Sizes}
 use Rattle.bihash_words.specs.declared.patch.Change.{Change}
 use Rattle.bihash_words.specs.declared.patch.Change.TheVariants.{Keep, Set, Remove}
@@ -78,7 +79,11 @@ wants_new b m m' e value log2 left true true (inr ((other, rest, is, small, few)
           subst (λ k. left < 2 ^ k) (same_log2 other rest log2 left told)
           (subst (λ k. k < 2 ^ other) (same_left other rest log2 left told) few);
     }
-wants_new b m m' e value log2 left true false answers short = absurd (full_pages log2 left (sym answers.0 ∙ short))
+wants_new b m m' e value log2 left true false answers short =
+    elim (refused_or_recycled e.recycling.removed m m' e answers) [
+      | inl refused ↦ absurd (full_pages log2 left (sym refused.0 ∙ short))
+      | inr recycled ↦ absurd (changed_pages None log2 left (sym recycled.0 ∙ short))
+    ]
 wants_new b m m' e value log2 left false room answers short =
     absurd (worn_pages e.found log2 left (sym answers.0 ∙ short))
 

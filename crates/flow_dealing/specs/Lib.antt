@@ -1,4 +1,5 @@
 pub mod Dealings
+pub mod Places
 pub mod Runs
 pub mod Traces
 pub mod Views

@@ -6,6 +6,7 @@ use Rattle.packet_view.specs.Captures.{PacketFacts}
 use Rattle.packet_view.specs.declared.tuple.Family.{Family}
 use Rattle.acl_policy.specs.Policies.{PolicyFacts}
 use Rattle.bihash_words.specs.Maps.{Event}
+use Rattle.bihash_steps.specs.Views.{no_openings}
 use Rattle.bihash_steps.specs.Callers.{IsLawfulCaller}
 use Rattle.bihash_steps.specs.Histories.{event_of}
 use Rattle.bihash_steps.specs.Steps.{IsToldWhole}
@@ -41,7 +42,7 @@ events_by d times family worker n (j ∷ js) =
 pub record AreRecorded (d : Deal) (times : Timeouts) (family : Family) (js : List Judged) (v : View) : Type 0 where
   pub lawful : IsLawfulCaller (sizes_in d.layout family) v
   pub told : IsToldWhole (sizes_in d.layout family) v
-  pub openings : v.known.openings ≡ []
+  pub openings : v.known.openings ≡ no_openings
   pub count : length v.records ≡ d.workers
   pub each : (worker : ℕ) (r : Record) → get_elem? v.records worker ≡ some r
       → map event_of r.calls ≡ events_by d times family worker 0 js

@@ -9,6 +9,7 @@ use Rattle.packet_view.specs.Frames.{IsFrame}
 use Rattle.packet_view.specs.declared.tuple.Mac.{Mac}
 use Rattle.packet_view.specs.declared.tuple.Family.{Family}
 use Rattle.acl_policy.specs.Policies.{PolicyFacts}
+use Rattle.bihash_steps.specs.Views.{no_openings}
 use Rattle.bihash_steps.specs.Callers.{IsLawfulCaller}
 use Rattle.bihash_steps.specs.Histories.{event_of}
 use Rattle.bihash_steps.specs.Steps.{IsToldWhole}
@@ -93,7 +94,7 @@ HasCalls times family trace r = r.calls ≡ calls_in times family trace
 -- the records are those of the workers in their order, of a table whose buckets began empty
 pub record HaveTraces (times : Timeouts) (family : Family) (traces : List (List Item)) (v : View) : Type 0 where
   pub records : AllZip (HasCalls times family) traces v.records
-  pub openings : v.known.openings ≡ []
+  pub openings : v.known.openings ≡ no_openings
 
 -- the traces are those of all workers, in their order
 pub record AreTraces (d : Deal) (times : Timeouts) (policy : PolicyFacts) (packets : List PacketFacts)

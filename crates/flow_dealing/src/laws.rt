@@ -12,6 +12,7 @@ ghost use Rattle.flow_dealing.specs.declared.dealing.Dealing.TheVariants.{Bucket
 ghost use Rattle.flow_dealing.specs.Views.{Views, view_in};
 ghost use Rattle.flow_dealing.specs.Dealings.{Deal};
 ghost use Rattle.flow_dealing.specs.Traces.{AreGathered, ArePlaced, AreTraces, Item};
+ghost use Rattle.flow_dealing.specs.Places.{PassAtPlaces};
 ghost use Rattle.flow_dealing.specs.Runs.{AreFew, AreJudged, HasPagesIn, HavePages};
 
 /// Where each worker judged the packets that were dealt to it, each packet was judged once, and its event
@@ -42,4 +43,12 @@ pub fn few_packets_have_pages()
     ensures both_families { (d : Deal) (times : Timeouts) (policy : PolicyFacts) (packets : List PacketFacts)
         (verdicts : List Verdict) (are : AreJudged d times policy packets verdicts)
         → ((family : Family) → AreFew d.layout times family are.judged) → HavePages verdicts }
+{}
+
+/// The main promise. Whatever packets are dealt by, and whatever verdicts say: each packet of a flow has its event in the
+/// record of the worker that it is dealt to, at one place in the history of its bucket, and passes exactly where the map
+/// there holds a live session of its flow, or the first rule that matches lets it through.
+pub fn packets_pass_at_their_places()
+    ensures { (d : Deal) (times : Timeouts) (policy : PolicyFacts) (packets : List PacketFacts)
+        (verdicts : List Verdict) → PassAtPlaces d times policy packets verdicts }
 {}

@@ -6,8 +6,8 @@ mod laws;
 mod worker;
 
 pub use dealing::Dealing;
-pub use laws::{few_packets_have_pages, traces_judge_each_packet, workers_give_one_report};
+pub use laws::{
+    few_packets_have_pages, packets_pass_at_their_places, traces_judge_each_packet,
+    workers_give_one_report,
+};
 pub use worker::worker_of;
-
-#[cfg(test)]
-mod tests;

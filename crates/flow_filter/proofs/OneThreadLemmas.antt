@@ -14,7 +14,7 @@ use Rattle.acl_policy.specs.Policies.{PolicyFacts}
 use Rattle.flow_filter.specs.declared.verdict.Verdict.{Verdict}
 use Rattle.flow_filter.specs.Readings.{AreReadings, Reading}
 use Rattle.flow_filter.specs.Updates.{Update, update_of, words_of}
-use Rattle.flow_filter.specs.Judged.{AreAsked, IsAsked, IsAskedBy, IsEventOf, Judged, readings_of, verdicts_on}
+use Rattle.flow_filter.specs.Judged.{AreAsked, IsAsked, IsAskedBy, IsEventOf, Judged, expired_for, readings_of, verdicts_on}
 use Rattle.flow_filter.specs.OneThread.{AreVerdicts, HasPages, Home, IsHome, IsOneThread, Layout, nothing, add_event, bounds_in, events_at, home_of, same_home}
 use Rattle.flow_filter.proofs.ReadingLemmas.{one_readings, some_readings}
 use Rattle.flow_filter.proofs.HomeLemmas.{homes_are_one, is_home, same_as_itself}
@@ -128,15 +128,17 @@ one_more l times maps counts reading readings rest None none =
     one_unasked l times maps counts reading readings none (rest maps counts)
 one_more l times maps counts reading readings rest (Some u) is =
     let at = home_of l u.key in
-    let (reply, n, paged, step) =
-    some_call (bounds_in l at.family) (maps at) (counts at) (words_of u.key) (decision_of u.patch) in
+    let (reply, recycling, n, paged, bears, step) =
+    some_call (bounds_in l at.family) (maps at) (counts at) (words_of u.key) (decision_of u.patch)
+    (expired_for u.patch) in
     let e : Event = record {
       key = words_of u.key;
       found = get (maps at) (words_of u.key);
       change = decision_of u.patch (get (maps at) (words_of u.key));
       reply = reply;
+      recycling = recycling;
     } in
-    one_asked l times maps counts reading readings u e n is (record { key = refl; change = refl }) paged step
+    one_asked l times maps counts reading readings u e n is (record { key = refl; change = refl; expiry = bears }) paged step
     (rest (maps_after maps at n) (counts_after counts at e))
 
 -- packets of each list of readings can be judged on one thread
@@ -236,8 +238,9 @@ one_by_update l times maps counts j k js ks same (Some u) is rest one two =
     let a = first_asked l times maps counts u j js is one in
     let b = first_asked l times maps counts u k ks (ap (update_of times) (sym same) ∙ is) two in
     let both =
-    one_call (bounds_in l home.family) (maps home) a.left b.left (counts home) (decision_of u.patch) a.event b.event
-    (a.of.key ∙ sym b.of.key) a.of.change b.of.change a.paged b.paged a.step b.step in
+    one_call (bounds_in l home.family) (maps home) a.left b.left (counts home) (decision_of u.patch)
+    (expired_for u.patch) a.event b.event (a.of.key ∙ sym b.of.key) a.of.change b.of.change a.of.expiry b.of.expiry
+    a.paged b.paged a.step b.step in
     let behind : IsThread l times (maps_after maps home a.left) (counts_after counts home a.event) ks =
     subst (λ n. IsThread l times (maps_after maps home n) (counts_after counts home a.event) ks) (sym both.1)
     (subst (λ e. IsThread l times (maps_after maps home b.left) (counts_after counts home e) ks)

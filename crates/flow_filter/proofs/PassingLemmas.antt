@@ -72,7 +72,7 @@ unlive u (Some (i, Permit)) false n reply is rules taken = (λ p. tt, λ h. refl
 unlive u (Some (i, Reflect)) false n reply is rules taken = (λ p reflecting. let f : ⊥ = cc in absurd f, λ h. refl)
 
 -- an update reflects only where the rule does
-reflects_by_rule : (times : Timeouts) (moment : ℕ) (tuple : TupleFacts) (ruling : Ruling) (u : Update)
+pub reflects_by_rule : (times : Timeouts) (moment : ℕ) (tuple : TupleFacts) (ruling : Ruling) (u : Update)
     → update_of times (Ruled moment tuple ruling) ≡ Some u → u.patch.reflects ≡ true → reflects ruling ≡ true
 reflects_by_rule times moment tuple ruling u is starts = go (flow_of tuple) is
   where

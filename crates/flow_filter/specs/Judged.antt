@@ -1,8 +1,10 @@
 -- A packet with what came of it (this project's profile).
-use Rattle.std.specs.Prelude.{◌≡◌, List, map, Option, Some, None, All}
-use Rattle.bihash_words.specs.Maps.{Event}
+use Rattle.std.specs.Prelude.{◌≡◌, ℕ, List, map, Option, Some, None, All}
+use Rattle.bihash_words.specs.Expiries.{expired_words}
+use Rattle.bihash_words.specs.Maps.{Event, HasExpiry}
 use Rattle.session_state.specs.declared.timeouts.Timeouts.{Timeouts}
-use Rattle.session_state.specs.Decisions.{decision_of}
+use Rattle.session_state.specs.Decisions.{PatchFacts, decision_of}
+use Rattle.session_state.specs.Sessions.{is_expired_at}
 use Rattle.flow_filter.specs.declared.verdict.Verdict.{Verdict}
 use Rattle.flow_filter.specs.Readings.{Framed, Reading, Ruled, Ruling}
 use Rattle.flow_filter.specs.Updates.{Update, update_of, words_of}
@@ -13,10 +15,16 @@ pub record Judged : Type 0 where
   pub reading : Reading
   pub event : Option Event
 
--- the event has the key of the flow, and the change is what the packet decides on the value that was found
+-- the words that count as expired at the packet's moment
+abbrev pub expired_for : PatchFacts → List ℕ
+expired_for patch = expired_words (is_expired_at patch.times patch.moment)
+
+-- The event has the key of the flow, and the change is what the packet decides on the value that was found. In a full
+-- bucket a session may go for it that is expired at the packet's moment.
 pub record IsEventOf (u : Update) (e : Event) : Type 0 where
   pub key : e.key ≡ words_of u.key
   pub change : e.change ≡ decision_of u.patch e.found
+  pub expiry : HasExpiry (expired_for u.patch) e
 
 abbrev pub IsAskedBy : Option Update → Option Event → Type 0
 IsAskedBy None event = event ≡ None

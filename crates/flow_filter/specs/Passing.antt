@@ -1,11 +1,14 @@
 -- Which packets go through: those that a rule lets through, and those of a live session (this project's profile).
-use Rattle.std.specs.Prelude.{◌≡◌, ℕ, true, List, Some, None}
-use Rattle.std.specs.FinMap.{get}
+use Rattle.std.specs.Prelude.{◌≡◌, ◌≢◌, ◌<◌, ◌≤◌, ◌^◌, ℕ, true, false, List, Some, None}
+use Rattle.std.specs.Cmp.Lexicographic.{slice_cmp}
+use Rattle.std.specs.FinMap.{get, len}
+use Rattle.std.specs.Ordering.{nat_cmp}
+use Rattle.std.specs.declared.cmp.Ordering.TheVariants.{Greater}
 use Rattle.acl_policy.specs.declared.rule.Action.TheVariants.{Deny, Permit, Reflect}
-use Rattle.bihash_words.specs.Maps.{Pairs}
+use Rattle.bihash_words.specs.Maps.{Bounds, Pairs, most_pairs}
 use Rattle.bihash_words.specs.Runs.{IsRun}
 use Rattle.session_state.specs.declared.timeouts.Timeouts.{Timeouts}
-use Rattle.session_state.specs.Decisions.{IsLiveFor, started_session}
+use Rattle.session_state.specs.Decisions.{IsLiveFor, is_live_for, started_session}
 use Rattle.session_state.specs.Sessions.{SessionFacts, session_word}
 use Rattle.flow_filter.specs.Judged.{Judged}
 use Rattle.flow_filter.specs.OneThread.{Home, Layout, bounds_in, events_at}
@@ -39,3 +42,21 @@ LetsThrough u m (Some (i, Reflect)) = u.patch.reflects ≡ true → HoldsStarted
 abbrev pub Leave : Layout → Timeouts → (Home → Pairs) → List Judged → Home → Pairs → Type 0
 Leave l times opening js home m =
     (writes : ℕ) × IsRun (bounds_in l home.family) (opening home) 0 (events_at l times home js) m writes
+
+-- The packet would start a session, and there is no room for it: its bucket may still change, holds none of this flow,
+-- has its most pairs, and each word there is a session that is live at the packet's moment.
+pub record FindsNoRoom (u : Update) (b : Bounds) (m : Pairs) (writes : ℕ) : Type 0 where
+  pub starts : u.patch.reflects ≡ true
+  pub absent : get m (words_of u.key) ≡ None
+  pub may_change : writes < b.limit
+  pub most : most_pairs b ≤ len m
+  pub live : (key : List ℕ) (word : ℕ) → word < 2 ^ 64 → get m key ≡ Some word → is_live_for u.patch (Some word) ≡ true
+
+-- the key's session makes room for the packet's: it isn't live at the packet's moment, and none that isn't has a
+-- lesser key
+pub record MakesRoom (u : Update) (m : Pairs) (gone : List ℕ) : Type 0 where
+  pub word : ℕ
+  pub stands : get m gone ≡ Some word
+  pub ended : is_live_for u.patch (Some word) ≡ false
+  pub least : (key : List ℕ) (other : ℕ) → other < 2 ^ 64 → get m key ≡ Some other
+      → is_live_for u.patch (Some other) ≡ false → slice_cmp nat_cmp gone key ≢ Greater

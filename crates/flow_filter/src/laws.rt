@@ -8,9 +8,10 @@ ghost use Rattle.acl_policy.specs.Policies.{PolicyFacts};
 ghost use Rattle.bihash_words.specs.Maps.{Bounds, Event, Pairs, IsEvent};
 ghost use Rattle.session_state.specs.declared.timeouts.Timeouts.{Timeouts};
 ghost use Rattle.flow_filter.specs.declared.verdict.Verdict.{Verdict};
+ghost use Rattle.flow_filter.specs.declared.verdict.Verdict.TheVariants.{Full};
 ghost use Rattle.flow_filter.specs.Judged.{IsEventOf, Judged, readings_of, verdict_on, verdict_with};
-ghost use Rattle.flow_filter.specs.OneThread.{AreVerdicts, Home, IsOneThread, Layout, home_of};
-ghost use Rattle.flow_filter.specs.Passing.{HoldsLive, IsPermitting, Leave, LetsThrough};
+ghost use Rattle.flow_filter.specs.OneThread.{AreVerdicts, Home, IsOneThread, Layout, bounds_in, home_of};
+ghost use Rattle.flow_filter.specs.Passing.{FindsNoRoom, HoldsLive, IsPermitting, Leave, LetsThrough, MakesRoom};
 ghost use Rattle.flow_filter.specs.Readings.{AreReadings, IsReading, Reading, Ruled, Ruling};
 ghost use Rattle.flow_filter.specs.Updates.{Update, update_of};
 ghost use Rattle.flow_filter.specs.Verdicts.{passes};
@@ -66,4 +67,25 @@ pub fn packets_pass_by_rule_or_session()
         → update_of times j.reading ≡ Some u → (m n : Pairs) × Leave l times opening before (home_of l u.key) m
         × Leave l times opening (before ++ j ∷ []) (home_of l u.key) n
         × ((passes (verdict_on times j) ≡ true) ↔ (HoldsLive u m ⊎ LetsThrough u n ruling)) }
+{}
+
+/// A packet is dropped as full exactly where it would start a session and its bucket, which may still change, has its
+/// most sessions, all of which are live and none of which is of its flow.
+pub fn full_buckets_hold_live_sessions()
+    ensures flow { (times : Timeouts) (moment : ℕ) (tuple : TupleFacts) (ruling : Ruling) (u : Update) (b : Bounds)
+        (m n : Pairs) (w : ℕ) (e : Event) → update_of times (Ruled moment tuple ruling) ≡ Some u
+        → IsEventOf u e → IsEvent b m w e n
+        → (verdict_with times (Ruled moment tuple ruling) (Some e) ≡ Full) ↔ FindsNoRoom u b m w }
+    ensures in_order { (l : Layout) (times : Timeouts) (opening : Home → Pairs) (before after : List Judged)
+        (j : Judged) (moment : ℕ) (tuple : TupleFacts) (ruling : Ruling) (u : Update)
+        → IsOneThread l times opening (before ++ j ∷ after) → j.reading ≡ Ruled moment tuple ruling
+        → update_of times j.reading ≡ Some u → (m : Pairs) × (left : Leave l times opening before (home_of l u.key) m)
+        × ((verdict_on times j ≡ Full) ↔ FindsNoRoom u (bounds_in l (home_of l u.key).family) m left.0) }
+{}
+
+/// In a full bucket a packet's new session takes the place of one that isn't live at the packet's moment, and of those
+/// the one with the least key.
+pub fn only_expired_sessions_make_room()
+    ensures { (u : Update) (b : Bounds) (m n : Pairs) (w : ℕ) (e : Event) (gone : List ℕ) → IsEventOf u e
+        → IsEvent b m w e n → e.recycling.removed ≡ Some gone → MakesRoom u m gone }
 {}

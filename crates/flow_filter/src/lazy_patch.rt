@@ -129,6 +129,14 @@ impl<'a, D: HasReading> LazyPatch<'a, D> {
         ruling
     }
 
+    /// Whether the rules were asked for the packet.
+    pub fn has_asked(&self) -> bool {
+        let decided = self.decided.replace(None);
+        let has_asked = decided.is_some();
+        self.decided.set(decided);
+        has_asked
+    }
+
     // What the packet does to a live session, which no rule is asked for.
     #[inline]
     fn unruled(&self) -> PacketPatch
@@ -199,6 +207,3 @@ impl<'a, D: HasReading> Patch for LazyPatch<'a, D> {
         }
     }
 }
-
-#[cfg(test)]
-mod tests;

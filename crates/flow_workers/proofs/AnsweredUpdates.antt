@@ -10,15 +10,15 @@ use Rattle.bihash_steps.specs.Callers.{IsLawfulCaller, known_at, opening_at}
 use Rattle.bihash_steps.specs.BucketSteps.{acting}
 use Rattle.bihash_steps.specs.Histories.{IsLegal, is_changed}
 use Rattle.bihash_steps.specs.declared.view.View.{View}
-use Rattle.bihash_table.specs.Answers.{entry_of}
-use Rattle.bihash_table.specs.Promise.{IsAnswered, IsUpdated}
+use Rattle.bihash_table.specs.Answers.{entry_of, recycled_update}
+use Rattle.bihash_table.specs.Promise.{IsAnswered, IsUpdatedOver}
 use Rattle.bihash_table.specs.OutOfPages.{IsOutOfPages}
 use Rattle.bihash_table.specs.Tries.{TookAtMost, try_locks}
 use Rattle.bihash_table.specs.declared.contended.Contended.{Contended}
 use Rattle.bihash_laws.specs.Runs.{IsLawfulAnswer}
 use Rattle.bihash_laws.proofs.AnsweredCalls.{legal}
 use Rattle.flow_workers.specs.Judging.{TookByOneTry}
-use Rattle.flow_workers.specs.inner.Updates.{told}
+use Rattle.flow_workers.specs.inner.Updates.{IsTold, told}
 
 found_in : (z : Sizes) (v w : View) (e : Event) → IsAnswered z v w e → IsLawfulCaller z w → e.found ≡ found_by e.reply
 found_in z v w e answered lawful = go (is_changed e.reply) refl
@@ -35,13 +35,17 @@ found_in z v w e answered lawful = go (is_changed e.reply) refl
     go false read = let o = is_legal.other read in found_is_told _ _ _ _ e o.1
 
 -- an update that was answered on some value was answered on the one that its reply tells
-pub as_told : (z : Sizes) (v w : View) (key words : List ℕ) (decision : Option ℕ → Change) (reply : Reply)
-    → key ≡ words → IsUpdated z v w key decision reply → IsLawfulCaller z w
-    → IsAnswered z v w (told words decision reply)
-as_told z v w key words decision reply same updated lawful =
-    subst (λ k. IsAnswered z v w (told k decision reply)) same
-    (subst (λ found. IsAnswered z v w (record { key = key; found = found; change = decision found; reply = reply }))
-    (found_in z v w _ updated.answered lawful) updated.answered)
+pub as_told : (z : Sizes) (v w : View) (key words : List ℕ) (decision : Option ℕ → Change) (is_expired : ℕ → Bool)
+    (reply : Reply) → key ≡ words → IsUpdatedOver z v w key decision is_expired reply → IsLawfulCaller z w
+    → IsTold z v w words decision is_expired reply
+as_told z v w key words decision is_expired reply same updated lawful =
+    let recycled = updated.answered in (
+      recycled.removed,
+      subst (λ k. IsAnswered z v w (told k decision is_expired recycled.removed reply)) same
+          (subst (λ found. IsAnswered z v w
+          (recycled_update key found (decision found) is_expired recycled.removed reply))
+          (found_in z v w _ recycled.answered lawful) recycled.answered),
+    )
 
 pub if_ok : {T E : Type 0} (P Q : T → Type 0) (r : Result T E) → ((x : T) → P x → Q x) → IfOk r P → IfOk r Q
 if_ok P Q (Ok x) f p = f x p

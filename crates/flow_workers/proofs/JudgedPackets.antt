@@ -1,27 +1,32 @@
 -- A packet that was prepared under what the rules say of it is judged by its verdict alone, or by the reply to its
 -- update.
-use Rattle.std.proofs.Common.{◌≡◌, ◌∙◌, ℕ, Some, None, ap, refl, sym, subst}
+use Rattle.std.proofs.Common.{◌≡◌, ◌∙◌, ℕ, Some, None, Option, ap, refl, sym, subst}
+use Rattle.std.specs.Prelude.{option_map}
 use Rattle.packet_view.specs.Captures.{PacketFacts}
 use Rattle.packet_view.specs.Frames as frames
 use Rattle.packet_view.specs.Frames.{FrameFacts, frame_facts}
 use Rattle.acl_policy.specs.Policies.{PolicyFacts, rules_of}
 use Rattle.acl_policy.proofs.RulingLaws.{some_ruling_of}
-use Rattle.bihash_words.specs.Maps.{Event, found_by}
+use Rattle.bihash_words.specs.Expiries.{expired_words}
+use Rattle.bihash_words.specs.Maps.{Event, HasExpiry, asked, found_by}
 use Rattle.bihash_words.specs.declared.patch.Reply.{Reply}
 use Rattle.bihash_steps.specs.declared.view.View.{View}
 use Rattle.session_state.specs.declared.timeouts.Timeouts.{Timeouts}
+use Rattle.session_state.specs.declared.flow.Flow.{Flow}
 use Rattle.session_state.specs.Decisions.{decision_of}
+use Rattle.session_state.specs.Flows.{flow_of}
+use Rattle.session_state.specs.Sessions.{is_expired_at}
 use Rattle.flow_filter.specs.declared.verdict.Verdict.{Verdict}
 use Rattle.flow_filter.specs.Readings.{IsReading, IsReadingOf, Reading, Ruling}
-use Rattle.flow_filter.specs.Updates.{Update, update_of, words_of}
+use Rattle.flow_filter.specs.Updates.{Update, update_in, update_of, words_of}
 use Rattle.flow_filter.specs.Verdicts.{verdict_of}
-use Rattle.flow_filter.specs.Judged.{IsAskedBy, verdict_by_event, verdict_with}
+use Rattle.flow_filter.specs.Judged.{IsAskedBy, expired_for, verdict_by_event, verdict_with}
 use Rattle.flow_filter.specs.OneThread.{Layout}
 use Rattle.flow_dealing.specs.Views.{Views}
 use Rattle.flow_workers.specs.declared.viewed_packet.ViewedPacket.{ViewedPacket}
-use Rattle.flow_workers.specs.Judging.{IsAway, IsEntered, IsEnteredBy, IsJudged, IsRefused}
+use Rattle.flow_workers.specs.Judging.{IsAway, IsEnteredBy, IsJudged, IsRefused}
 use Rattle.flow_workers.specs.inner.Preparing.{IsFrameRuling, reading_with}
-use Rattle.flow_workers.specs.inner.Updates.{told}
+use Rattle.flow_workers.specs.inner.Updates.{IsToldFlow, told}
 use Rattle.flow_workers.specs.inner.ViewedPackets.{IsViewed}
 
 -- what the rules say of a packet, where they are asked
@@ -88,22 +93,41 @@ said_by times moment frames.Short ruling u e is = absurd (let f : ⊥ = cc in f)
 said_by times moment (frames.Ip direction tuple) ruling u e is =
     ap (λ update. verdict_by_event ruling update (Some e)) is
 
+-- the update's patch has the packet's moment and these timeouts
+timed_by : (times : Timeouts) (moment : ℕ) (view : FrameFacts) (ruling : Ruling) (u : Update)
+    → update_of times (reading_with moment view ruling) ≡ Some u
+    → expired_words (is_expired_at times moment) ≡ expired_for u.patch
+timed_by times moment frames.NotIp ruling u is = absurd (let f : ⊥ = cc in f)
+timed_by times moment frames.Malformed ruling u is = absurd (let f : ⊥ = cc in f)
+timed_by times moment frames.Short ruling u is = absurd (let f : ⊥ = cc in f)
+timed_by times moment (frames.Ip direction tuple) ruling u is = go (flow_of tuple) is
+  where
+    go : (found : Option Flow) → option_map (update_in times moment tuple ruling) found ≡ Some u
+        → expired_words (is_expired_at times moment) ≡ expired_for u.patch
+    go None e = absurd (let f : ⊥ = cc in f)
+    go (Some flow) e =
+        let same : update_in times moment tuple ruling flow ≡ u = cc in ap (λ (x : Update). expired_for x.patch) same
+
 pub answered : (l : Layout) (took : View → View → Reply → Type 0) (times : Timeouts) (policy : PolicyFacts)
     (s : PacketFacts) (p : ViewedPacket) (ruling : Ruling) (v w : Views) (verdict : Verdict) (u : Update)
     (reply : Reply) → IsRuled policy s p ruling → update_of times (reading_in p ruling) ≡ Some u
-    → IsEntered l took u.key (told (words_of u.key) (decision_of u.patch) reply) v w
+    → IsToldFlow l took u.key (decision_of u.patch) (is_expired_at times p.moment) v w reply
     → verdict ≡ verdict_of u.patch ruling (found_by reply) reply → IsJudged l took times policy s v w verdict
 answered l took times policy s p ruling v w verdict u reply is asks entered said = record {
   judged = record { reading = reading_in p ruling; event = Some event };
   read = reads policy s p ruling is;
   asked =
-      subst (λ update. IsAskedBy update (Some event)) (sym asks) (event, refl, record { key = refl; change = refl });
-  entered = subst (λ update. IsEnteredBy l took update (Some event) v w) (sym asks) entered;
+      subst (λ update. IsAskedBy update (Some event)) (sym asks)
+      (event, refl, record { key = refl; change = refl; expiry = expiry });
+  entered = subst (λ update. IsEnteredBy l took update (Some event) v w) (sym asks) entered.1;
   said = said ∙ sym (said_by times p.moment (frame_facts p.frame.now) ruling u event asks);
 }
   where
     event : Event
-    event = told (words_of u.key) (decision_of u.patch) reply
+    event = told (words_of u.key) (decision_of u.patch) (is_expired_at times p.moment) entered.0 reply
+
+    expiry : HasExpiry (expired_for u.patch) event
+    expiry = ap (asked entered.0 reply) (timed_by times p.moment (frame_facts p.frame.now) ruling u asks)
 
 pub refused : (l : Layout) (times : Timeouts) (policy : PolicyFacts) (s : PacketFacts) (p : ViewedPacket)
     (ruling : Ruling) (v w : Views) (u : Update)

@@ -4,6 +4,7 @@ pub mod JudgedPackets
 pub mod NumberLemmas
 pub mod PartLemmas
 pub mod PlacingLemmas
+pub mod RenewalLemmas
 pub mod RestLemmas
 pub mod ShortPackets
 pub mod TogetherLemmas

@@ -23,7 +23,7 @@ use Rattle.flow_workers.specs.declared.share.Run.{Run}
 use Rattle.flow_workers.specs.declared.share.Share.{Share}
 use Rattle.flow_workers.specs.Callers.{AreIdle, views_of}
 use Rattle.flow_workers.specs.declared.workers.Workers.{Workers}
-use Rattle.flow_workers.specs.Progress.{AreAtRest, HaveSaid, IsAtRest}
+use Rattle.flow_workers.specs.Progress.{AreAtRest, HaveAllSaid, HaveSaid, IsAtRest}
 use Rattle.flow_workers.specs.inner.Jobs.{HasDone, HasWorked, StandAmong, dealer_of, run_facts}
 use Rattle.flow_workers.specs.inner.Shares.{IsUnused, workers_in}
 use Rattle.flow_workers.specs.inner.Together.{HaveNoted, HaveRun}
@@ -200,17 +200,15 @@ module _ {A B R G K L : Type 0} (ga : Ghosts A K) (gb : Ghosts B L) (old : Worke
         noted = record { count = are.0; workers = are.1 };
       }
 
-abbrev deal_of : {A B R G K L : Type 0} (ga : Ghosts A K) (gb : Ghosts B L) → Setup A B R G K L → Deal
-deal_of ga gb setup = record { layout = layout_of ga gb; dealing = setup.dealing; workers = setup.workers }
+-- by equal timeouts and policies packets are judged alike
+pub judged_alike : (d : Deal) (packets : List PacketFacts) (verdicts : List Verdict) (times times' : Timeouts) (policy policy' : PolicyFacts)
+    → times ≡ times' → policy ≡ policy' → AreJudged d times policy packets verdicts → AreJudged d times' policy' packets verdicts
+judged_alike d packets verdicts times times' policy policy' timed ruled said =
+    subst (λ p. AreJudged d times' p packets verdicts) ruled (subst (λ t. AreJudged d t policy packets verdicts) timed said)
 
--- what workers of a setup said, by the times and the policy of its filter
+-- what workers of a setup said
 pub said_by : {A B R G K L : Type 0} (ga : Ghosts A K) (gb : Ghosts B L) (all : Workers A B R G K L ga gb)
-    (setup : Setup A B R G K L) (packets : List PacketFacts) (verdicts : List Verdict) (times : Timeouts)
-    (policy : PolicyFacts) → all.setup ≡ setup → setup.filter.times ≡ times → policy_in setup.filter ≡ policy
-    → AreAtRest packets all → HaveSaid all verdicts
-    → AreJudged (deal_of ga gb setup) times policy packets verdicts
-said_by ga gb all setup packets verdicts times policy by timed ruled rest said =
-    subst (λ p. AreJudged (deal_of ga gb setup) times p packets verdicts) ruled
-    (subst (λ t. AreJudged (deal_of ga gb setup) t (policy_in setup.filter) packets verdicts) timed
-    (subst (λ s. AreJudged (deal_of ga gb s) s.filter.times (policy_in s.filter) packets verdicts) by
-    (said packets rest)))
+    (setup : Setup A B R G K L) (packets : List PacketFacts) (verdicts : List Verdict) → all.setup ≡ setup
+    → AreAtRest packets all → HaveSaid all verdicts → HaveAllSaid ga gb setup packets verdicts
+said_by ga gb all setup packets verdicts by rest said =
+    subst (λ s. HaveAllSaid ga gb s packets verdicts) by (said packets rest)

@@ -1,5 +1,5 @@
 -- What judging a packet that was viewed tells, by what its update told, or without one.
-use Rattle.std.proofs.Common.{◌≡◌, ◌∙◌, ℕ, Option, None, Some, Ok, refl, sym}
+use Rattle.std.proofs.Common.{◌≡◌, ◌∙◌, ℕ, Bool, Option, None, Some, Ok, refl, sym}
 use Rattle.packet_view.specs.Frames.{frame_facts}
 use Rattle.bihash_words.specs.Maps.{found_by}
 use Rattle.bihash_words.specs.declared.patch.Change.{Change}
@@ -7,6 +7,7 @@ use Rattle.bihash_words.specs.declared.patch.Reply.{Reply}
 use Rattle.bihash_words.specs.declared.shape.Shape.{Ghosts}
 use Rattle.bihash_steps.specs.declared.view.View.{View}
 use Rattle.session_state.specs.Decisions.{decision_of}
+use Rattle.session_state.specs.Sessions.{is_expired_at}
 use Rattle.session_state.specs.declared.flow.FlowKey.{FlowKey}
 use Rattle.flow_filter.specs.declared.filter.ReadyFilter.{ReadyFilter}
 use Rattle.flow_filter.specs.declared.verdict.Verdict.{Verdict}
@@ -50,7 +51,7 @@ pub told_answered : {A B K L : Type 0} (ga : Ghosts A K) (gb : Ghosts B L) (took
     (old new : Callers A B K L ga gb) (u : Update) (reply : Reply) (verdict : Verdict)
     → IsFrameRuling (policy_in filter) (frame_facts packet.frame.now) ruling
     → update_of filter.times (reading_in packet ruling) ≡ Some u
-    → TellsFlow took tables old new u.key (decision_of u.patch) reply
+    → TellsFlow took tables old new u.key (decision_of u.patch) (is_expired_at filter.times packet.moment) reply
     → verdict ≡ verdict_of u.patch ruling (found_by reply) reply
     → TellsViewed took filter packet tables old new verdict
 told_answered ga gb took filter packet ruling tables old new u reply verdict ruled asks told said = record {
@@ -61,15 +62,16 @@ told_answered ga gb took filter packet ruling tables old new u reply verdict rul
       (record { seen = seen; ruled = ruled }) asks told.entered said;
   no_pages = λ s seen none.
       short_packet ga gb _ filter.times s packet ruling u _ reply (found_by reply) seen asks
-      (flow_reply _ took u.key _ _ _ told.entered told.idle.lawful.0.acts told.idle.lawful.1.acts)
+      (flow_reply _ took u.key _ _ _ told.entered.1 told.idle.lawful.0.acts told.idle.lawful.1.acts)
       told.no_pages (sym said ∙ none);
 }
 
 -- a try that was answered tells what an update does
 pub try_answered : {A B K L : Type 0} {ga : Ghosts A K} {gb : Ghosts B L} (tables : Tables A B K L)
-    (old new : Callers A B K L ga gb) (key : FlowKey) (decision : Option ℕ → Change) (reply : Reply)
-    → TellsFlowTry tables old new key decision (Ok reply) → TellsFlow TookByOneTry tables old new key decision reply
-try_answered tables old new key decision reply told =
+    (old new : Callers A B K L ga gb) (key : FlowKey) (decision : Option ℕ → Change) (is_expired : ℕ → Bool)
+    (reply : Reply) → TellsFlowTry tables old new key decision is_expired (Ok reply)
+    → TellsFlow TookByOneTry tables old new key decision is_expired reply
+try_answered tables old new key decision is_expired reply told =
     record { same = told.same; idle = told.idle; entered = told.entered; no_pages = told.no_pages }
 
 -- what is told of a verdict is told by a try that gave it

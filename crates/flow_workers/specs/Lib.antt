@@ -3,5 +3,6 @@ pub mod Calls
 pub mod Judging
 pub mod OutOfPages
 pub mod Progress
+pub mod Renewals
 pub mod Verdicts
 pub mod inner

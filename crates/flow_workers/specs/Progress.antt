@@ -80,10 +80,15 @@ pub record HaveJudged {A B R G K L : Type 0} {ga : Ghosts A K} {gb : Ghosts B L}
 abbrev pub CanEnd : {A B R G K L : Type 0} {ga : Ghosts A K} {gb : Ghosts B L} → Workers A B R G K L ga gb → Type 0
 CanEnd all = (packets : List PacketFacts) × AreAtRest packets all
 
+-- these are the verdicts on these packets, by workers of this setup
+abbrev pub HaveAllSaid : {A B R G K L : Type 0} (ga : Ghosts A K) (gb : Ghosts B L) → Setup A B R G K L → List PacketFacts
+    → List Verdict → Type 0
+HaveAllSaid ga gb setup packets verdicts = AreJudged
+    (record { layout = layout_of ga gb; dealing = setup.dealing; workers = setup.workers })
+    setup.filter.times (policy_in setup.filter) packets verdicts
+
 -- these are the verdicts on the packets that they judged
 abbrev pub HaveSaid : {A B R G K L : Type 0} {ga : Ghosts A K} {gb : Ghosts B L} → Workers A B R G K L ga gb
     → List Verdict → Type 0
 HaveSaid {ga = ga} {gb = gb} all verdicts = (packets : List PacketFacts) → AreAtRest packets all
-    → AreJudged
-    (record { layout = layout_of ga gb; dealing = all.setup.dealing; workers = all.setup.workers })
-    all.setup.filter.times (policy_in all.setup.filter) packets verdicts
+    → HaveAllSaid ga gb all.setup packets verdicts

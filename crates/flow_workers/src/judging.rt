@@ -16,6 +16,7 @@ use bihash_words::Shape;
 use flow_filter::{Filter, HasReading, ReadyFilter, Verdict};
 use packet_dealing::flow_in;
 use packet_view::{Packet, view};
+use session_state::SessionExpiry;
 use std::marker::Brand;
 use std::sync::Wait;
 
@@ -33,10 +34,16 @@ fn try_judge_as<A: Shape, B: Shape, D: HasReading>(
 {
     match Prepared::<D>::new(filter, packet) {
         Prepared::Settled(verdict) => Ok(verdict),
-        Prepared::Asks(key, patch) => match try_update(tables, callers, *key, &patch) {
-            Ok(reply) => Ok(patch.verdict(reply)),
-            Err(contended) => Err(contended),
-        },
+        Prepared::Asks(key, patch) => {
+            let expiry = SessionExpiry {
+                moment: packet.moment,
+                times: filter.times,
+            };
+            match try_update(tables, callers, *key, &patch, &expiry) {
+                Ok(reply) => Ok(patch.verdict(reply)),
+                Err(contended) => Err(contended),
+            }
+        }
     }
 }
 
@@ -57,7 +64,11 @@ fn judge_as<A: Shape, B: Shape, D: HasReading, R: Wait>(
     match Prepared::<D>::new(filter, packet) {
         Prepared::Settled(verdict) => verdict,
         Prepared::Asks(key, patch) => {
-            let reply = update(rt, tables, callers, *key, &patch);
+            let expiry = SessionExpiry {
+                moment: packet.moment,
+                times: filter.times,
+            };
+            let reply = update(rt, tables, callers, *key, &patch, &expiry);
             patch.verdict(reply)
         }
     }

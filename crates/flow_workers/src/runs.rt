@@ -1,17 +1,19 @@
 //! All packets at once.
-ghost use Rattle.std.specs.Prelude.{◌≡◌, ◌⊎◌, ◌≤◌, All, IfOk};
+ghost use Rattle.std.specs.Prelude.{◌≡◌, ◌⊎◌, ◌≤◌, ◌<◌, ◌^◌, All, IfOk, length};
 ghost use Rattle.packet_view.specs.CheckedCaptures.{held};
 ghost use Rattle.packet_view.specs.declared.tuple.Family.{Family};
 ghost use Rattle.acl_policy.specs.Policies.{policy_facts};
 ghost use Rattle.flow_filter.specs.OneThread.{AreVerdicts, layout_of};
 ghost use Rattle.flow_dealing.specs.declared.dealing.Dealing.TheVariants.{Bucket};
+ghost use Rattle.flow_dealing.specs.Places.{PassAtPlaces};
 ghost use Rattle.flow_dealing.specs.Runs.{AreFew, AreJudged, HasPagesIn, HavePages};
 ghost use Rattle.flow_workers.specs.Callers.{AreShapes};
+ghost use Rattle.flow_workers.specs.Progress.{HaveAllSaid, MayBegin};
 
 use crate::gate::Gate;
 use crate::run_fault::RunFault;
 use crate::setup::Setup;
-use crate::tables::create_tables;
+use crate::tables::{Callers, create_tables};
 use crate::workers::Workers;
 use bihash_words::Shape;
 use flow_dealing::Dealing;
@@ -20,6 +22,32 @@ use packet_view::Packets;
 use std::alloc::Global;
 use std::sync::Wait;
 use std::thread::Threads;
+
+// The verdicts on the packets, in their order, by workers of this setup, which begin with these callers.
+fn run_setup<
+    't,
+    'a,
+    A: Shape + Send + Sync,
+    B: Shape + Send + Sync,
+    R: Threads + Wait + Sync,
+    G: Gate + Sync,
+>(
+    alloc: Global,
+    setup: Setup<'t, A, B, R, G>,
+    callers: Callers<A, B>,
+    packets: Packets<'a>,
+) -> Result<Vec<Verdict>, RunFault>
+where
+    A::Key: Send + Sync,
+    B::Key: Send + Sync,
+    requires begin { MayBegin setup callers }
+    requires fits { length (held packets) < 2 ^ 64 }
+    ensures { IfOk result (λ v. HaveAllSaid ⟦<A as Shape>⟧ ⟦<B as Shape>⟧ setup.entry (held packets.entry) v.items) }
+{
+    Workers::new(alloc, setup, callers)?
+        .judge(alloc, packets)?
+        .end(alloc)
+}
 
 /// The verdicts on the packets, in their order, by so many workers at once over new tables. A worker whose thread
 /// can't be made is run by the calling thread. `Memory`: memory was refused.
@@ -51,6 +79,9 @@ where
     ensures one_report { IfOk result (λ v. (dealing ≡ Bucket) ⊎ (workers ≡ 1) → HavePages v.items
         → AreVerdicts (layout_of ⟦<A as Shape>⟧ ⟦<B as Shape>⟧) filter.now.times (policy_facts filter.now.policy)
         (held packets.entry) v.items) }
+    ensures places { IfOk result (λ v. PassAtPlaces
+        (record { layout = layout_of ⟦<A as Shape>⟧ ⟦<B as Shape>⟧; dealing = dealing; workers = workers })
+        filter.now.times (policy_facts filter.now.policy) (held packets.entry) v.items) }
     ensures pages { IfOk result (λ v. (are : AreJudged
         (record { layout = layout_of ⟦<A as Shape>⟧ ⟦<B as Shape>⟧; dealing = dealing; workers = workers })
         filter.now.times (policy_facts filter.now.policy) (held packets.entry) v.items) (family : Family)
@@ -68,7 +99,5 @@ where
         workers,
         many: 0,
     };
-    Workers::new(alloc, setup, callers)?
-        .judge(alloc, packets)?
-        .end(alloc)
+    run_setup(alloc, setup, callers, packets)
 }

@@ -11,6 +11,3 @@ mod task;
 pub use dealer::{Dealer, dealt_to, flow_in};
 pub use deals::{DealtPart, deal_packets};
 pub use task::{Task, run_all};
-
-#[cfg(test)]
-mod tests;

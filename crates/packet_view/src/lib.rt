@@ -13,8 +13,6 @@ mod packet;
 mod packets;
 mod plain_packet;
 mod records;
-#[cfg(test)]
-mod tests;
 mod transport;
 mod tuple;
 

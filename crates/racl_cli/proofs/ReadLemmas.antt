@@ -1,7 +1,7 @@
 -- An input that is read, and one whose capture is judged while it is read.
 use Rattle.std.specs.Io.KnownBytes.{Consumes, IsAtEnd}
 use Rattle.std.proofs.KnownBytes.{Consumes-all}
-use Rattle.std.proofs.Common.{◌≡◌, ◌∙◌, ◌+◌, ◌-◌, ◌<◌, ◌≤◌, ◌⊎◌, ℕ, Bool, List, [], ◌∷◌, ◌++◌, Option, Some, None, IfSome, IfOk, IfErr, Result, Ok, Err, drop, length, append_assoc, arith, refl, sym, ap, subst, inl, inr}
+use Rattle.std.proofs.Common.{◌≡◌, ◌∙◌, ◌+◌, ◌-◌, ◌<◌, ◌≤◌, ◌⊎◌, ℕ, Bool, true, false, List, [], ◌∷◌, ◌++◌, Option, Some, None, IfSome, IfOk, IfErr, Result, Ok, Err, drop, length, append_assoc, arith, refl, sym, ap, subst, inl, inr}
 use Rattle.std.proofs.Math.Seq.{drop-append-add}
 use Rattle.std.proofs.lemmas.List.{drop-append-le, length-append}
 use Rattle.packet_view.specs.Captures.{AreRecords, PacketFacts, end_of}
@@ -14,7 +14,8 @@ use Rattle.racl_io.specs.declared.fault.Fault.{Fault}
 use Rattle.racl_io.specs.declared.fault.Fault.TheVariants.{Memory, Read, TooLarge, LongRecord}
 use Rattle.racl_io.specs.declared.input.Form.TheVariants.{Binary}
 use Rattle.racl_io.specs.Faults.{IsInputFault, IsSystemFault}
-use Rattle.racl_io.specs.Transfers.{HasRead, failures_after_reads}
+use Rattle.racl_io.specs.Transfers.{GaveAtMost, HasRead, HasReadWithin, failures_after_reads}
+use Rattle.racl_io.proofs.TransferLemmas.{gave_more}
 use Rattle.racl_io.specs.Inputs.{InputFacts, IsInput, IsMarked, most_bytes}
 use Rattle.capture_stream.specs.Streams.{HasLongRecord, IsStreamFault, records_in}
 use Rattle.capture_stream.specs.declared.stream.Opening.{Opening}
@@ -74,6 +75,27 @@ answers_after options before after old front least at_end result none has answer
     let same : has.read ≡ front = sym (has.appended ∙ ap (λ (b : List ℕ). b ++ has.read) none) in
     answers_before options before after front result (subst (Consumes before after) same has.consumed) answers
 
+front_within : (before after : Option (List ℕ)) (front : List ℕ) (least : ℕ) (at_end : Bool) → HasRead before after [] front least at_end → length front ≤ least
+front_within before after front least true has = let few = (has.ended refl).1 in omega (arith, few)
+front_within before after front least false has = let same = has.enough refl in omega (arith, same)
+
+-- what the source gave of a front, and then at most as much as may still be read
+gave_behind : (before now after : Option (List ℕ)) (front : List ℕ) (least : ℕ) (at_end : Bool) → least ≤ most_bytes
+    → HasRead before now [] front least at_end → GaveAtMost now after (most_bytes + 1 - length front) → GaveAtMost before after (most_bytes + 1)
+gave_behind before now after front least at_end less has (more, consumed, few) =
+    let same = ap length has.appended in let within = front_within before now front least at_end has in
+    gave_more before now after has.read more _ (omega (arith, same, within, less, few)) has.consumed consumed
+
+-- what is read after a front was read
+pub within_after : {R X : Type 0} (left : R → Option (List ℕ)) (failures : R → ℕ) (before now after : R) (old front : List ℕ) (least : ℕ) (at_end : Bool)
+    (result : Result X Fault) → least ≤ most_bytes → old ≡ [] → HasRead (left before) (left now) old front least at_end → failures now ≡ failures before
+    → HasReadWithin left failures (most_bytes + 1 - length front) now after result → HasReadWithin left failures (most_bytes + 1) before after result
+within_after left failures before now after old front least at_end result less none has sound within = record {
+  gave = gave_behind (left before) (left now) (left after) front least at_end less
+      (subst (λ (b : List ℕ). HasRead (left before) (left now) b front least at_end) none has) within.gave;
+  failed = subst (λ n. failures after ≡ failures_after_reads n result) sound within.failed;
+}
+
 -- what is answered of all the bytes after a front
 pub answers_whole : (options : Options) (before after : Option (List ℕ)) (front all read : List ℕ) (result : Result Outcome Fault) → Consumes before after read
     → IsAtEnd after → all ≡ front ++ read → length all ≤ most_bytes → AnswersInput options all result → AnswersRead options front before result
@@ -83,20 +105,6 @@ answers_whole options before after front all read result consumed ended same few
   few = subst (λ bytes. length bytes ≤ most_bytes) same few;
   answers = subst (λ bytes. AnswersInput options bytes result) same answers;
 })
-
--- ---- failures
-
-failures_of : (X Y : Type 0) (before after : ℕ) (fault : Fault) → after ≡ failures_after_reads {X = X} before (Err fault)
-    → after ≡ failures_after_reads {X = Y} before (Err fault)
-failures_of X Y before after Read same = same
-failures_of X Y before after fault same = same
-
--- what a fault says of failures, whatever else might have been answered
-pub failures_of_err : {X Y : Type 0} (before after : ℕ) (one : Result X Fault) (other : Result Y Fault) (fault : Fault) → one ≡ Err fault → other ≡ Err fault
-    → after ≡ failures_after_reads before one → after ≡ failures_after_reads before other
-failures_of_err {X = X} {Y = Y} before after one other fault is is_too same =
-    subst (λ result. after ≡ failures_after_reads before result) (sym is_too)
-    (failures_of X Y before after fault (subst (λ result. after ≡ failures_after_reads before result) is same))
 
 -- ---- what is answered of an input that was read
 

@@ -1,10 +1,11 @@
 //! One run of the filter, from the bytes of an input to the report.
-ghost use Rattle.std.specs.Prelude.{[], ◌≡◌, ◌≢◌, ◌+◌, ◌-◌, ◌<◌, ◌≤◌, ◌^◌, ◌⊎◌, ◌↔◌, Err, IfOk, IfErr, IfSome, MatchResult};
+ghost use Rattle.std.specs.Prelude.{[], ◌≡◌, ◌≢◌, ◌+◌, ◌-◌, ◌<◌, ◌≤◌, ◌^◌, ◌⊎◌, ◌↔◌, Err, IfOk, IfErr, IfSome, MatchResult, length};
 ghost use Rattle.acl_policy.specs.Policies.{policy_facts};
 ghost use Rattle.racl_io.specs.declared.fault.Fault.{Fault};
 ghost use Rattle.racl_io.specs.declared.fault.Fault.TheVariants.{Memory};
 ghost use Rattle.racl_io.specs.Faults.{IsInputFault, IsSystemFault, RefusesRead};
-ghost use Rattle.racl_io.specs.Transfers.{failures_after_reads};
+ghost use Rattle.racl_io.specs.Inputs.{most_bytes};
+ghost use Rattle.racl_io.specs.Transfers.{GaveAtMost, HasReadWithin};
 ghost use Rattle.racl_cli.specs.Reads.{AnswersRead};
 ghost use Rattle.racl_cli.specs.Runs.{AnswersCapture, AnswersContent, AnswersInput, ByOneThread, HasOutcome, HasReported, HasRun, Outcome};
 
@@ -89,7 +90,7 @@ fn judge_whole<R: Source + Send, T: Threads + Wait + Sync>(
 ) -> Result<Judged, Fault>
     requires { R.failures reader.old < 2 ^ 64 - 1 }
     ensures answers { AnswersRead options.now front.items (R.bytes reader.old) result }
-    ensures failures { R.failures reader.new ≡ failures_after_reads (R.failures reader.old) result }
+    ensures within { HasReadWithin R.bytes R.failures (most_bytes + 1 - length front.items) reader.old reader.new result }
 {
     let mut bytes = front;
     if !read_until(reader, &mut bytes, MOST_BYTES + 1)? {
@@ -106,7 +107,7 @@ fn judge_source<R: Source + Send, T: Threads + Wait + Sync>(
 ) -> Result<Judged, Fault>
     requires { R.failures reader.old < 2 ^ 64 - 1 }
     ensures answers { AnswersRead options.now [] (R.bytes reader.old) result }
-    ensures failures { R.failures reader.new ≡ failures_after_reads (R.failures reader.old) result }
+    ensures within { HasReadWithin R.bytes R.failures (most_bytes + 1) reader.old reader.new result }
 {
     let mut front = Vec::new(host.alloc);
     if read_until(reader, &mut front, FRONT_BYTES)? {
@@ -144,6 +145,9 @@ pub fn run<R: Source + Send, W: Sink, T: Threads + Wait + Sync>(
     // A fault of the input is answered where its cause stands first, and then nothing else of the input.
     ensures fault { IfErr result (λ fault. IsSystemFault fault ⊎ IfSome (R.bytes reader.old) (λ bytes. IsInputFault bytes fault)) }
     ensures refuses { IfSome (R.bytes reader.old) (λ bytes. (fault : Fault) → IsInputFault bytes fault → RefusesRead fault result) }
+
+    // No more is read than an input may have, and one byte.
+    ensures far { GaveAtMost (R.bytes reader.old) (R.bytes reader.new) (most_bytes + 1) }
 
     // A device's fault is answered where it failed, and it failed once.
     ensures read { (result ≡ Err Fault.Read) ↔ (R.failures reader.new ≡ R.failures reader.old + 1) }

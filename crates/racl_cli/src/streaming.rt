@@ -1,9 +1,9 @@
 //! A large capture, which is judged while it is read.
-ghost use Rattle.std.specs.Prelude.{◌≡◌, ◌-◌, ◌<◌, ◌≤◌, ◌^◌, IfErr, IfOk, IfSome, length};
+ghost use Rattle.std.specs.Prelude.{◌≡◌, ◌+◌, ◌-◌, ◌<◌, ◌≤◌, ◌^◌, IfErr, IfOk, IfSome, length};
 ghost use Rattle.acl_policy.specs.Policies.{policy_facts};
 ghost use Rattle.capture_stream.specs.Streams.{IsStreamFault};
 ghost use Rattle.racl_io.specs.Inputs.{most_bytes};
-ghost use Rattle.racl_io.specs.Transfers.{failures_after_reads};
+ghost use Rattle.racl_io.specs.Transfers.{HasReadWithin};
 ghost use Rattle.racl_cli.specs.Reads.{AnswersRead, HasJudged, HasOpened, MayJudge};
 
 use crate::crew::Crew;
@@ -72,7 +72,7 @@ fn judge_records<'t, R: Source + Send, T: Threads + Wait + Sync>(
     requires sound { R.failures reader.old < 2 ^ 64 - 1 }
     ensures ok { IfOk result (HasJudged options.now (policy_facts filter.now.policy) opening (R.bytes reader.old) (R.bytes reader.new)) }
     ensures fault { IfErr result (IsStreamFault opening (R.bytes reader.old) (R.bytes reader.new)) }
-    ensures failures { R.failures reader.new ≡ failures_after_reads (R.failures reader.old) result }
+    ensures within { HasReadWithin R.bytes R.failures (most_bytes + 1 - length opening.bytes.items) reader.old reader.new result }
 {
     flow_shapes_are_sound();
     let Ok((tables, callers)) = create_tables::<ShapeV4, ShapeV6>(alloc) else {
@@ -116,7 +116,7 @@ pub fn judge_opened<R: Source + Send, T: Threads + Wait + Sync>(
     requires few { length front.items ≤ most_bytes }
     requires sound { R.failures reader.old < 2 ^ 64 - 1 }
     ensures answers { AnswersRead options.now front.items (R.bytes reader.old) result }
-    ensures failures { R.failures reader.new ≡ failures_after_reads (R.failures reader.old) result }
+    ensures within { HasReadWithin R.bytes R.failures (most_bytes + 1 - length front.items) reader.old reader.new result }
 {
     let Opened {
         filter,

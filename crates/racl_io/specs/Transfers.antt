@@ -10,13 +10,22 @@ abbrev pub failures_after_reads : {X : Type 0} → ℕ → Result X Fault → �
 failures_after_reads failures (Err Read) = failures + 1
 failures_after_reads failures result = failures
 
--- what a buffer got is what the source lost: all that it had and less than `least` bytes, or enough for `least`
+-- the source gave at most so many bytes
+abbrev pub GaveAtMost : Option (List ℕ) → Option (List ℕ) → ℕ → Type 0
+GaveAtMost before after most = (given : List ℕ) × Consumes before after given × (length given ≤ most)
+
+-- the source gave at most so many bytes, and failed once more where the answer is that a read failed
+pub record HasReadWithin {R X : Type 0} (bytes_left : R → Option (List ℕ)) (failures : R → ℕ) (most : ℕ) (before after : R) (result : Result X Fault) : Type 0 where
+  pub gave : GaveAtMost (bytes_left before) (bytes_left after) most
+  pub failed : failures after ≡ failures_after_reads (failures before) result
+
+-- what a buffer got is what the source lost: all that it had and less than `least` bytes, or as many as make `least`
 pub record HasRead (before after : Option (List ℕ)) (old new : List ℕ) (least : ℕ) (at_end : Bool) : Type 0 where
   pub read : List ℕ
   pub consumed : Consumes before after read
   pub appended : new ≡ old ++ read
   pub ended : at_end ≡ true → IsAtEnd after × (length new < least)
-  pub enough : at_end ≡ false → (least ≤ length new) × (length new ≤ max (length old) (least + 65535))
+  pub enough : at_end ≡ false → length new ≡ max (length old) least
 
 -- the source is at its end after `count` bytes and those that it lost, or these are too many
 abbrev pub HasDrained : Option (List ℕ) → Option (List ℕ) → ℕ → Result ⊤ Fault → Type 0

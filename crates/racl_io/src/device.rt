@@ -2,7 +2,7 @@ ghost use Rattle.std.specs.Prelude.{◌≡◌, ◌+◌, ◌-◌, ◌<◌, ◌≤
 ghost use Rattle.std.specs.Io.KnownBytes.{Appends, Consumes, IsAtEnd, Keeps, ReadConsumes, WriteAppends};
 ghost use Rattle.racl_io.specs.Devices.{failures_after_read, failures_after_write};
 
-use std::io::{Read, Write};
+use std::io::{ErrorKind, Read, Write};
 
 /// A device failed.
 #[derive(Clone, Copy, Debug, PartialEq, Eq)]
@@ -40,7 +40,7 @@ pub trait Sink {
         ensures failures { failures self.new ≡ failures_after_write (failures self.old) result };
 }
 
-/// A reader or a writer of std as a device.
+/// A reader or a writer of std as a device. A read or a write that a signal interrupts is no failure: it is tried again.
 #[derive(Drop)]
 pub struct Device<T> {
     pub inner: T,
@@ -61,13 +61,15 @@ impl<T: Read> Source for Device<T> {
     ghost failures = { λ d. d.failures };
 
     fn read(&mut self, buf: &mut [u8]) -> Result<usize, DeviceFault> {
-        match self.inner.read(buf) {
-            Ok(n) => Ok(n),
-            Err(_) => {
-                self.failures += 1;
-                Err(DeviceFault)
+        'tries: for _ in 0..u64::MAX {
+            match self.inner.read(buf) {
+                Ok(n) => return Ok(n),
+                Err(e) if e.kind() == ErrorKind::Interrupted => {}
+                Err(_) => break,
             }
         }
+        self.failures += 1;
+        Err(DeviceFault)
     }
 }
 
@@ -77,16 +79,18 @@ impl<T: Write> Sink for Device<T> {
     ghost failures = { λ d. d.failures };
 
     fn write(&mut self, buf: &[u8]) -> Result<usize, DeviceFault> {
-        match self.inner.write(buf) {
-            Ok(0) => {
-                self.failures += 1;
-                Ok(0)
-            }
-            Ok(n) => Ok(n),
-            Err(_) => {
-                self.failures += 1;
-                Err(DeviceFault)
+        'tries: for _ in 0..u64::MAX {
+            match self.inner.write(buf) {
+                Ok(0) => {
+                    self.failures += 1;
+                    return Ok(0);
+                }
+                Ok(n) => return Ok(n),
+                Err(e) if e.kind() == ErrorKind::Interrupted => {}
+                Err(_) => break,
             }
         }
+        self.failures += 1;
+        Err(DeviceFault)
     }
 }

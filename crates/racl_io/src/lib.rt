@@ -18,6 +18,3 @@ pub use fault::Fault;
 pub use input::{Form, Input, parts};
 pub use report::{Totals, write_report};
 pub use transfer::{MOST_BYTES, drain, read_until, write_all};
-
-#[cfg(test)]
-mod tests;

@@ -171,6 +171,3 @@ fn number_at(matches: &ArgMatches<'_>, name: &str) -> u32
         None => unreachable!(),
     }
 }
-
-#[cfg(test)]
-mod tests;

@@ -1,8 +1,7 @@
 -- Bits that are set one by one.
 use Rattle.std.proofs.Common.{◌≡◌, ◌≢◌, ◌⊎◌, ◌≤◌, ◌<◌, ℕ, ◌+◌, ◌++◌, ◌*◌, ◌^◌, ◌/◌, ◌%◌, List, length, arith, inl, inr, refl, ap, ◌∙◌, sym, get_or, subst, take, drop}
-use Rattle.std.proofs.lemmas.Bool.{cases_eq, cases_lt, cases_order}
-use Rattle.std.proofs.lemmas.List.{get_or_default, get_or-drop, get_or-replicate, get_or-set_other, get_or-set_same, get_or-take, length-replicate}
-use Rattle.std.proofs.Math.ListN.{get_or-eq_default, replicate}
+use Rattle.std.proofs.lemmas.Bool.{cases_eq, cases_order}
+use Rattle.std.proofs.lemmas.List.{get_or_default, get_or-drop, get_or-set_other, get_or-set_same, get_or-take}
 use Rattle.std.proofs.Math.Seq.{take-append_seam}
 use Rattle.std.proofs.lemmas.Option.{slice_get_read, slice_get-get_or, slice_get_within}
 use Rattle.rule_index.specs.declared.column.Column.{Column}
@@ -15,7 +14,7 @@ use Rattle.acl_policy.specs.Rules.{RuleFacts}
 use Rattle.std.specs.Prelude.{slice_get, Some}
 use Rattle.acl_policy.proofs.OptionLemmas.{same_some}
 use Rattle.std.proofs.lemmas.Nat.{mul-le}
-use Rattle.std.proofs.lemmas.Nat.Bits.{bit_at-zero, bit_at_set_same, bit_at_set_other}
+use Rattle.std.proofs.lemmas.Nat.Bits.{bit_at_set_same, bit_at_set_other}
 use Rattle.std.specs.Prelude.{bit_or, slice_set}
 use Rattle.std.specs.Int.{w64, bit_at}
 use mir.Val.{bits}

@@ -14,8 +14,6 @@ mod flag_rows;
 mod index;
 mod ranges;
 mod sieve;
-#[cfg(test)]
-mod tests;
 mod worth;
 
 pub use index::RuleIndex;

@@ -2,7 +2,7 @@
 use Rattle.std.proofs.Common.{◌≡◌, ◌∙◌, ℕ, Bool, true, false, ap, sym, subst, refl, Option, Some, None, if◌then◌else◌}
 use Rattle.std.proofs.lemmas.Bool.{le-leb, leb-true}
 use Rattle.std.proofs.lemmas.Option.{cond_some, none-some, option_and_then_some}
-use Rattle.std.specs.Prelude.{option_and_then}
+use Rattle.std.specs.Prelude.{◌↔◌, option_and_then}
 use Rattle.bihash_words.specs.declared.patch.Change.{Change}
 use Rattle.bihash_words.specs.declared.patch.Change.TheVariants.{Set}
 use Rattle.bihash_words.specs.Patches.{IsStorable}
@@ -83,6 +83,11 @@ by_found packet old change (Some session) same h =
 decided_only : (packet : PatchFacts) (old : Option ℕ) (change : Change) → IsDecision packet old change
     → change ≡ decision_of packet old
 decided_only packet old change h = by_found packet old change (live_session packet old) refl h
+
+-- both ways
+pub decision_told : (packet : PatchFacts) (old : Option ℕ) (change : Change)
+    → (change ≡ decision_of packet old) ↔ IsDecision packet old change
+decision_told packet old change = (decided packet old change, decided_only packet old change)
 
 -- what is promised of the decision that is computed
 pub told : (packet : PatchFacts) (old : Option ℕ) (change : Change) → change ≡ decision_of packet old

@@ -1,5 +1,6 @@
 -- The flow that is computed for a packet is the flow that the definition names, and the only one.
 use Rattle.std.proofs.Common.{◌≡◌, ◌≢◌, ◌∙◌, ◌<◌, ℕ, Bool, true, false, ap, ap₂, arith, sym, subst, refl, inl, inr, Option, Some, None, IfSome, if◌then◌else◌}
+use Rattle.std.specs.Prelude.{◌↔◌}
 use Rattle.std.proofs.lemmas.Bool.{eq-eqb, ne_eqb}
 use Rattle.std.proofs.lemmas.Bool.Decides.{eqb_tells}
 use Rattle.std.proofs.lemmas.Option.{same_Some}
@@ -182,6 +183,10 @@ only_at family source dest proto (Icmp kind code) flow h =
 -- a packet has no other flow than the one that is computed
 pub only : (packet : TupleFacts) (flow : Flow) → IsFlow packet flow → flow_of packet ≡ Some flow
 only packet flow = only_at packet.family packet.source packet.dest packet.proto packet.fields flow
+
+-- both ways
+pub flow_told : (packet : TupleFacts) (flow : Flow) → (flow_of packet ≡ Some flow) ↔ IsFlow packet flow
+flow_told packet flow = (found packet flow, only packet flow)
 
 -- a sender's side is one of two
 side_fits : (packet : TupleFacts) (flow : Flow) → IsFlow packet flow → flow.side < 2

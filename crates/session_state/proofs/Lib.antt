@@ -1,5 +1,6 @@
 pub mod DecisionLemmas
 pub mod EndLemmas
+pub mod ExpiryLemmas
 pub mod FlagLemmas
 pub mod FlowLemmas
 pub mod KeyLemmas

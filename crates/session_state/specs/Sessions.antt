@@ -1,5 +1,5 @@
 -- Sessions, how long they live, and their words (this project's profile).
-use Rattle.std.specs.Prelude.{◌≤◌, ◌<◌, ℕ, ◌+◌, ◌*◌, ◌/◌, ◌%◌, ◌^◌, Bool, ◌&&◌, ◌==◌, nat_lt, if◌then◌else◌, Option, Some, None, bit_or, max}
+use Rattle.std.specs.Prelude.{◌≤◌, ◌<◌, ℕ, ◌+◌, ◌*◌, ◌/◌, ◌%◌, ◌^◌, Bool, true, not, ◌&&◌, ◌==◌, nat_le, nat_lt, if◌then◌else◌, Option, Some, None, bit_or, max}
 use Rattle.session_state.specs.Flags.{IsKept, kept_flags, syn_and_ack}
 use Rattle.session_state.specs.declared.timeouts.Timeouts.{Timeouts}
 
@@ -81,3 +81,12 @@ is_session_word word =
 -- the session of a word, where it has one
 abbrev pub session_of : ℕ → Option SessionFacts
 session_of word = if is_session_word word then Some (fields_of_word word) else None
+
+-- what is stored has ended by a moment: no session, or one that isn't live then
+abbrev pub has_ended : Timeouts → ℕ → Option SessionFacts → Bool
+has_ended times moment None = true
+has_ended times moment (Some session) = not (nat_le moment (live_until session times))
+
+-- the word counts as expired at a moment: it is no session's, or the session isn't live then
+abbrev pub is_expired_at : Timeouts → ℕ → ℕ → Bool
+is_expired_at times moment word = has_ended times moment (session_of word)

@@ -1,13 +1,14 @@
 //! What follows from the definitions, for every packet and every session.
 //!
 //! The functions do nothing: their contracts are the laws.
-ghost use Rattle.std.specs.Prelude.{◌≡◌, ◌≢◌, ◌≤◌, ◌+◌, ◌↔◌, ℕ, Option, Some, IsSome, true, false};
+ghost use Rattle.std.specs.Prelude.{◌≡◌, ◌≢◌, ◌≤◌, ◌+◌, ◌↔◌, ℕ, Option, Some, IsSome, not, true, false};
+ghost use Rattle.bihash_words.specs.declared.patch.Change.{Change};
 ghost use Rattle.bihash_words.specs.declared.patch.Change.TheVariants.{Set};
 ghost use Rattle.packet_view.specs.Tuples.{TupleFacts, tuple_facts};
-ghost use Rattle.session_state.specs.Decisions.{IsLiveFor, PatchFacts, decision_of, is_live_for};
+ghost use Rattle.session_state.specs.Decisions.{IsDecision, IsLiveFor, PatchFacts, decision_of, is_live_for};
 ghost use Rattle.session_state.specs.Flows.{IsEchoReply, IsFlow, flow_of, receiver_of, sender_of};
 ghost use Rattle.session_state.specs.SameFlow.{AreFlows, IsAnswer, IsTuple, SameFlow};
-ghost use Rattle.session_state.specs.Sessions.{IsLive, IsSession, SessionFacts, session_of, session_word, timeout_of, touched_session};
+ghost use Rattle.session_state.specs.Sessions.{IsLive, IsSession, SessionFacts, is_expired_at, session_of, session_word, timeout_of, touched_session};
 ghost use Rattle.session_state.specs.declared.flow.Flow.{Flow};
 ghost use Rattle.session_state.specs.declared.timeouts.Timeouts.{Timeouts};
 
@@ -16,6 +17,13 @@ use packet_view::Tuple;
 /// Every five-tuple is within the ranges that the laws ask for.
 pub fn tuples_are_in_range(tuple: Tuple)
     ensures { IsTuple (tuple_facts tuple) }
+{}
+
+/// The flow and the decision that are computed are those that the definitions name, and no other is, for all facts.
+pub fn computations_meet_definitions()
+    ensures flow { (packet : TupleFacts) (flow : Flow) → (flow_of packet ≡ Some flow) ↔ IsFlow packet flow }
+    ensures decision { (packet : PatchFacts) (old : Option ℕ) (change : Change)
+        → (change ≡ decision_of packet old) ↔ IsDecision packet old change }
 {}
 
 /// Packets have one key exactly where they are of one flow.
@@ -79,4 +87,11 @@ pub fn last_never_falls()
 pub fn tests_tell_live_sessions()
     ensures { (packet : PatchFacts) (old : Option ℕ)
         → (is_live_for packet old ≡ true) ↔ ((session : SessionFacts) × IsLiveFor packet old session) }
+{}
+
+/// A stored word is expired exactly where it is no live session for a packet of that moment.
+#[tactic(auto, using(crate::proofs::ExpiryLemmas::expired_is_not_live))]
+pub fn expired_words_are_not_live()
+    ensures { (packet : PatchFacts) (word : ℕ)
+        → is_expired_at packet.times packet.moment word ≡ not (is_live_for packet (Some word)) }
 {}

@@ -7,17 +7,16 @@ mod flow;
 mod laws;
 mod packet_patch;
 mod session;
+mod session_expiry;
 mod timeouts;
 
 pub use flow::{Flow, FlowKey, orient, plain_flow};
 pub use laws::{
-    both_directions_share_a_key, keys_tell_flows, last_never_falls, last_second_counts,
-    replies_start_nothing, sides_tell_senders, tests_tell_live_sessions, tuples_are_in_range,
-    words_tell_sessions,
+    both_directions_share_a_key, computations_meet_definitions, expired_words_are_not_live,
+    keys_tell_flows, last_never_falls, last_second_counts, replies_start_nothing,
+    sides_tell_senders, tests_tell_live_sessions, tuples_are_in_range, words_tell_sessions,
 };
 pub use packet_patch::PacketPatch;
 pub use session::Session;
+pub use session_expiry::SessionExpiry;
 pub use timeouts::Timeouts;
-
-#[cfg(test)]
-mod tests;

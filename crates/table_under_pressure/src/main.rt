@@ -1,11 +1,11 @@
-//! Makes, splits and closes a small table, and prints what each call answered. A call that was refused memory is made once
-//! more, after a line on what is there by then: so who refuses memory from outside sees that nothing changed.
+//! Makes, splits, renews and closes a small table, and prints what each call answered. A call that was refused memory is
+//! made once more, after a line on what is there by then: so who refuses memory from outside sees that nothing changed.
 #![tactic(auto)]
 
 ghost use Rattle.std.specs.Prelude.{◌≡◌, IfOk, IfErr, IfSome};
 ghost use Rattle.bihash_steps.specs.Views.{nothing_held};
 
-use bihash_table::{Caller, CloseFault, Sessions, SplitFault, create, stamp};
+use bihash_table::{Caller, CloseFault, RenewFault, Sessions, SplitFault, create, stamp};
 use bihash_words::{Add, Tiny};
 use std::io;
 use std::process::ExitCode;
@@ -23,7 +23,8 @@ fn main(rt: HostRuntime) -> ExitCode {
     }
 }
 
-// Whether a table was made, filled, and closed once its callers were joined: memory was refused to no call twice.
+// Whether a table was made, filled, and renewed and closed once its callers were joined: memory was refused to no call
+// twice.
 fn made_and_closed(rt: &HostRuntime) -> io::Result<bool> {
     let Some((table, caller)) = make(rt)? else {
         return Ok(false);
@@ -36,9 +37,12 @@ fn made_and_closed(rt: &HostRuntime) -> io::Result<bool> {
         return Ok(false);
     };
     let both = told(rt, &table, table.join(first, second))?;
-    match close(rt, table, both)? {
+    let Some((table, caller)) = open_again(rt, table, both)? else {
+        return Ok(false);
+    };
+    match close(rt, table, caller)? {
         Ok(()) => Ok(true),
-        Err((table, both)) => Ok(close(rt, table, both)?.is_ok()),
+        Err((table, caller)) => Ok(close(rt, table, caller)?.is_ok()),
     }
 }
 
@@ -114,6 +118,54 @@ fn split(
             let refused = fault == SplitFault::Memory;
             println!(rt; "split: {}", if refused { "no memory" } else { "refused" })?;
             Ok(Err(told(rt, table, caller)?))
+        }
+    }
+}
+
+// The renewed table and its caller, at the second attempt where memory was refused to the first.
+fn open_again(
+    rt: &HostRuntime,
+    table: Sessions<Small>,
+    caller: Caller<Small>,
+) -> io::Result<Option<(Sessions<Small>, Caller<Small>)>>
+    requires own { caller.seat.row ≡ table.row }
+    requires free { caller.seat.view.holds ≡ nothing_held }
+    ensures own { IfOk result (λ r. IfSome r (λ t. t.1.seat.row ≡ t.0.row)) }
+    ensures free { IfOk result (λ r. IfSome r (λ t. t.1.seat.view.holds ≡ nothing_held)) }
+{
+    match renew(rt, table, caller)? {
+        Ok(renewed) => Ok(Some(renewed)),
+        Err((table, caller)) => Ok(renew(rt, table, caller)?.ok()),
+    }
+}
+
+// The renewed table and its caller, which added a value; or the table and its caller, as they are where that was refused.
+fn renew(
+    rt: &HostRuntime,
+    table: Sessions<Small>,
+    caller: Caller<Small>,
+) -> io::Result<Result<(Sessions<Small>, Caller<Small>), (Sessions<Small>, Caller<Small>)>>
+    requires own { caller.seat.row ≡ table.row }
+    requires free { caller.seat.view.holds ≡ nothing_held }
+    ensures own { IfOk result (λ r. IfOk r (λ t. t.1.seat.row ≡ t.0.row) × IfErr r (λ t. t.1.seat.row ≡ t.0.row)) }
+    ensures free { IfOk result (λ r. IfOk r (λ t. t.1.seat.view.holds ≡ nothing_held) × IfErr r (λ t. t.1.seat.view.holds ≡ nothing_held)) }
+{
+    match table.renew(rt.alloc(), caller) {
+        Ok((table, mut caller)) => {
+            println!(rt; "renew: done")?;
+            let reply = table.try_update(&mut caller, &[2, 0], &Add { value: 6 });
+            println!(rt; "add 2: {reply:?}")?;
+            let caller = told(rt, &table, caller)?;
+            Ok(Ok((table, caller)))
+        }
+        Err((fault, table, caller)) => {
+            let refused = fault == RenewFault::Memory;
+            println!(rt;
+                "renew: {}",
+                if refused { "no memory" } else { "strangers" }
+            )?;
+            let caller = told(rt, &table, caller)?;
+            Ok(Err((table, caller)))
         }
     }
 }

@@ -23,7 +23,7 @@ use Rattle.bihash_steps.specs.declared.view.Holdings.{Holdings}
 use Rattle.bihash_steps.specs.declared.view.LockedBucket.{LockedBucket}
 use Rattle.bihash_steps.specs.declared.view.View.{View}
 use Rattle.bihash_steps.proofs.KnownLists.{lawful_here}
-use Rattle.bihash_steps.proofs.Lists.{there}
+use Rattle.bihash_steps.proofs.Lists.{there, no_row}
 use Rattle.bihash_steps.proofs.CountWord.{held_still, not_lone, others_apart, stays_at}
 use Rattle.bihash_steps.proofs.NotedViews.{unnoted_view}
 use Rattle.bihash_steps.proofs.Runs.{extent_near_end}
@@ -116,6 +116,7 @@ module _ (z : Sizes) where
     };
     still = λ _. (r.each_bucket b inside).word
         ∙ ap (λ (lock : Option ℕ). packed (word_of x.extent (is_some lock) (length x.history))) free;
+    row = λ _. no_row s.words;
     short = ok.short;
     left = tt;
     meeting = tt;

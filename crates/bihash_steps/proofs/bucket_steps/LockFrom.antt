@@ -11,7 +11,7 @@ use Rattle.bihash_words.specs.Sizes.{Sizes}
 use Rattle.bihash_words.specs.Words.{Bucket, Fits, packed}
 use Rattle.bihash_steps.specs.Words.{count_of, buckets, bucket_at}
 use Rattle.bihash_steps.specs.Buckets.{StandsStillIf, word_of}
-use Rattle.bihash_steps.specs.PageStores.{all_writes, runs_now}
+use Rattle.bihash_steps.specs.PageStores.{all_used, runs_now}
 use Rattle.bihash_steps.specs.WordRule.{IsView, WordRule}
 use Rattle.bihash_steps.specs.Steps.{ViewOfSeat}
 use Rattle.bihash_steps.specs.BucketSteps.{without_notes, with_history, lock_counted, locked_on, locking, IsFound, TellsLock}
@@ -67,7 +67,7 @@ module _ (z : Sizes) where
         whole = λ lone. counted_whole (count_of s.words) v.records (ok.lone lone);
         able = let n = counted-length v.records in omega arith;
         same_numbers = λ n h. counted_number n v.records h;
-        short = counted_short z (all_writes z r.table.bucket) v.records ok.short;
+        short = counted_short z (all_used z r.table.openings r.table.bucket) v.records ok.short;
         other = λ o e. absurd (cc (none, e));
         noted = λ _. (l, refl, refl);
         holds = (

@@ -12,7 +12,7 @@ use Rattle.bihash_steps.specs.Words.{count_of, buckets, bucket_at, page_at, bloc
 use Rattle.bihash_steps.specs.Histories.{IsKeyOf, IsAnswer}
 use Rattle.bihash_steps.specs.Callers.{known_at}
 use Rattle.bihash_steps.specs.Buckets.{BucketState, HoldsBucket, HoldsBucketIf, AreReadIn, IsOpen, IsOpenIf, StandsStillIf, word_of, open_word}
-use Rattle.bihash_steps.specs.PageStores.{all_writes}
+use Rattle.bihash_steps.specs.PageStores.{all_used}
 use Rattle.bihash_steps.specs.WordRule.{IsInformed, IsView, WordRule}
 use Rattle.bihash_steps.specs.Steps.{ViewOfSeat}
 use Rattle.bihash_steps.specs.BucketSteps.{without_notes, with_reading, read_more, IsOpenWord, TellsOpenWord, MayValidate, view_after_validate, TellsValid, RestsOn, push_call, map_now}
@@ -22,7 +22,7 @@ use Rattle.bihash_steps.specs.declared.view.LockedBucket.{LockedBucket}
 use Rattle.bihash_steps.specs.declared.view.OpenBucket.{OpenBucket}
 use Rattle.bihash_steps.specs.declared.view.View.{View}
 use Rattle.bihash_steps.proofs.KnownLists.{lawful_here}
-use Rattle.bihash_steps.proofs.Lists.{there}
+use Rattle.bihash_steps.proofs.Lists.{there, no_row}
 use Rattle.bihash_steps.proofs.CountWord.{stays_at, others_apart}
 use Rattle.bihash_steps.proofs.NotedViews.{seen_view, unnoted_view}
 use Rattle.bihash_steps.proofs.Pushed.{push_numbers, push_whole, push_short, push-length, push_renumbers}
@@ -93,6 +93,7 @@ module _ (z : Sizes) (s : State (Unit {0}) View) (r : WordRule z s) where
             (reads_word o k inside (subst (IsOpenIf z r.table.bucket) noted ok.open_bucket));
         still = λ lone. subst (λ (seen : Option OpenBucket). StandsStillIf z s.words (read_more ((k, word) ∷ []) seen)) (sym noted)
             (subst (StandsStillIf z s.words) noted (ok.still lone));
+        row = ok.row;
         left = ok.left;
         meeting = ok.meeting;
       } ok
@@ -195,7 +196,8 @@ module _ (z : Sizes) where
             block = ok.block;
             open_bucket = tt;
             still = λ _. tt;
-            short = push_short z (all_writes z r.table.bucket) c v.records (λ log2 left f. absurd (may.pages log2 left f)) ok.short;
+            row = λ _. no_row s.words;
+            short = push_short z (all_used z r.table.openings r.table.bucket) c v.records (λ log2 left f. absurd (may.pages log2 left f)) ok.short;
             left = tt;
             meeting = tt;
           } in (

@@ -1,5 +1,5 @@
 -- The store of a bucket's next word, which opens its lock.
-use Rattle.std.proofs.Common.{◌≡◌, ◌≢◌, ℕ, zero, suc, ◌+◌, ◌<◌, ◌≤◌, false, List, [], ◌∷◌, ◌++◌, length, set, refl, sym, ap, ◌∙◌, subst, inl, arith, le_refl, length-set, length-append, get_or-set_same, Option, Some, None}
+use Rattle.std.proofs.Common.{◌≡◌, ◌≢◌, ℕ, zero, suc, ◌+◌, ◌<◌, ◌≤◌, Bool, false, List, [], ◌∷◌, ◌++◌, length, set, refl, sym, ap, ◌∙◌, subst, inl, arith, le_refl, length-set, length-append, get_or-set_same, Option, Some, None}
 use mathlib.Core.Logic.{dite}
 use mathlib.Core.Option.{some, some-ne-none, some-injective}
 use native.Mathlib.Decide.{ℕ_discrete}
@@ -13,12 +13,12 @@ use Rattle.bihash_steps.specs.Words.{count_of, front_words, buckets, bucket_at, 
 use Rattle.bihash_steps.specs.Histories.{IsWrite, after, write_of}
 use Rattle.bihash_steps.specs.Callers.{Openings, known_at, opening_in, HasNumber}
 use Rattle.bihash_steps.specs.Blocks.{IsBlockOf}
-use Rattle.bihash_steps.specs.Partition.{IsPartition}
+use Rattle.bihash_steps.specs.Partition.{IsPartition, PageRun, run_of}
 use Rattle.bihash_steps.specs.Buckets.{BucketState, word_of, IsBucket, HoldsBucket, HoldsBucketIf}
-use Rattle.bihash_steps.specs.PageStores.{StoreState, IsStore, HoldsStoreIf, NotesStore, HoldsBlockIf, all_writes, runs_now}
+use Rattle.bihash_steps.specs.PageStores.{StoreState, IsStore, HoldsStoreIf, NotesStore, HoldsBlockIf, all_writes, all_used, runs_now}
 use Rattle.bihash_steps.specs.WordRule.{IsView, WordRule}
 use Rattle.bihash_steps.specs.Steps.{ViewOfSeat}
-use Rattle.bihash_steps.specs.BucketSteps.{acting, MayWrite, MayPublish, next_map, view_after_write, TellsEvent}
+use Rattle.bihash_steps.specs.BucketSteps.{acting, MayWrite, MayMark, marked, next_map, view_after_write, TellsEvent}
 use Rattle.bihash_steps.specs.declared.view.Write.{Write}
 use Rattle.bihash_steps.specs.declared.view.Call.{Call}
 use Rattle.bihash_steps.specs.declared.view.Record.{Record}
@@ -28,8 +28,8 @@ use Rattle.bihash_steps.specs.declared.view.LockedStore.{LockedStore}
 use Rattle.bihash_steps.specs.declared.view.HeldBlock.{HeldBlock}
 use Rattle.bihash_steps.specs.declared.view.View.{View}
 use Rattle.bihash_steps.proofs.KnownLists.{lawful_set}
-use Rattle.bihash_steps.proofs.Lists.{there}
-use Rattle.bihash_steps.proofs.Frames.{Keeps, Undisturbed, store_keeps, store_lock_beside, more_writes, more_short, moved}
+use Rattle.bihash_steps.proofs.Lists.{there, no_row}
+use Rattle.bihash_steps.proofs.Frames.{Keeps, Undisturbed, store_keeps, store_lock_beside, more_writes, used_more, more_short, moved}
 use Rattle.bihash_steps.proofs.Runs.{beside_bucket, block_keeps, front_still, store_still, count_still, bucket_after, bucket_inside, runs_still}
 use Rattle.bihash_steps.proofs.Put.{put, put_here, put_else}
 use Rattle.bihash_steps.proofs.Pushed.{push-length, push_numbers, push_whole, push_number, push_short, acting_is}
@@ -69,7 +69,7 @@ module _ (z : Sizes) where
     pub record Settles (words' : List ℕ) (x' : ℕ → BucketState) (store' : StoreState) (store : Option LockedStore)
         (block : Option HeldBlock) : Type 0 where
       pub undisturbed : Undisturbed z s.words words' r.table.store store' id
-      pub is : IsStore z words' (all_writes z x') store'
+      pub is : IsStore z words' (all_used z r.table.openings x') store'
       pub holds : HoldsStoreIf z words' store' id store
       pub notes : NotesStore store' id store
       pub held : HoldsBlockIf z words' block
@@ -166,9 +166,11 @@ module _ (z : Sizes) where
         block = settles.held;
         open_bucket = tt;
         still = λ _. tt;
-        short = push_short z (all_writes z x') c v.records (λ log2 left f. absurd (no_refusal log2 left (sym may.reply ∙ f)))
-            (λ d h log2 left f. more_short z (all_writes z r.table.bucket) (all_writes z x') d log2 left
-            (more_writes r.table.bucket x' (no_shorter r.table.bucket x' b w e now elsewhere here) (buckets z)) (ok.short d h log2 left f));
+        row = λ _. no_row words';
+        short = push_short z (all_used z r.table.openings x') c v.records (λ log2 left f. absurd (no_refusal log2 left (sym may.reply ∙ f)))
+            (λ d h log2 left f. more_short z (all_used z r.table.openings r.table.bucket) (all_used z r.table.openings x') d log2 left
+            (used_more z r.table.openings.used (all_writes z r.table.bucket) (all_writes z x')
+            (more_writes r.table.bucket x' (no_shorter r.table.bucket x' b w e now elsewhere here) (buckets z))) (ok.short d h log2 left f));
         left = tt;
         meeting = tt;
       }
@@ -205,11 +207,12 @@ module _ (z : Sizes) where
 
   -- ---- The same block
 
-  -- the holder of the lock of bucket b writes the bucket's next word, over the block as it is now
-  pub publishes_call : (slots id : ℕ) (m : ViewOfSeat) (b word : ℕ) (c : Call) (may : MayPublish z m.0 b word c) → 1 ≤ length m.0.records
-      → Allows (WordRule z) slots id m (bucket_at z b) (λ _. packed (word_of may.write.lock.extent false (may.write.lock.version + 1)))
+  -- the holder of the lock of bucket b writes the bucket's next word, over the block as it is now, with this linear mark
+  pub publishes_call : (slots id : ℕ) (m : ViewOfSeat) (b word : ℕ) (linear : Bool) (c : Call) (may : MayMark z m.0 b word linear c)
+      → 1 ≤ length m.0.records
+      → Allows (WordRule z) slots id m (bucket_at z b) (λ _. packed (word_of (marked may.write.lock.extent linear) false (may.write.lock.version + 1)))
       (λ _. TellsEvent z (λ v. view_after_write v c) m)
-  publishes_call slots id m b word c may acts s r deep at fits = (
+  publishes_call slots id m b word linear c may acts s r deep at fits = (
     view_after_write v c,
     keeps,
     tt,
@@ -239,14 +242,17 @@ module _ (z : Sizes) where
       inside : b < buckets z
       inside = bucket_in s r id v b word c at acts may.write
 
+      e : Extent
+      e = marked l.extent linear
+
       n : ℕ
-      n = packed (word_of l.extent false (l.version + 1))
+      n = packed (word_of e false (l.version + 1))
 
       words' : List ℕ
       words' = set s.words (bucket_at z b) n
 
       new : BucketState
-      new = state_after (r.table.bucket b) (write_of (acting v.records) c) l.extent l.now
+      new = state_after (r.table.bucket b) (write_of (acting v.records) c) e l.now
 
       x' : ℕ → BucketState
       x' = put r.table.bucket b new
@@ -257,14 +263,17 @@ module _ (z : Sizes) where
       elsewhere : (d : ℕ) → d ≢ b → x' d ≡ r.table.bucket d
       elsewhere d ne = put_else r.table.bucket b d new ne
 
-      is : n ≡ packed (word_of l.extent false (length (known_at v.known b) + 1))
-      is = ap (λ (k : ℕ). packed (word_of l.extent false (k + 1))) may.write.version
+      is : n ≡ packed (word_of e false (length (known_at v.known b) + 1))
+      is = ap (λ (k : ℕ). packed (word_of e false (k + 1))) may.write.version
 
-      extents : (d : ℕ) → (x' d).extent ≡ (r.table.bucket d).extent
-      extents d = dite (ℕ_discrete d b)
-          (λ same. ap (λ (y : ℕ). (x' y).extent) same ∙ (ap (λ (y : BucketState). y.extent) here
-          ∙ (h.extent ∙ ap (λ (y : ℕ). (r.table.bucket y).extent) (sym same))))
-          (λ ne. ap (λ (y : BucketState). y.extent) (elsewhere d ne))
+      its_run : BucketState → Option PageRun
+      its_run y = run_of y.extent.page y.extent.size.log2
+
+      runs : (d : ℕ) → its_run (x' d) ≡ its_run (r.table.bucket d)
+      runs d = dite (ℕ_discrete d b)
+          (λ same. ap (λ (y : ℕ). its_run (x' y)) same ∙ (ap its_run here
+          ∙ (ap (λ (y : Extent). run_of y.page y.size.log2) h.extent ∙ ap (λ (y : ℕ). its_run (r.table.bucket y)) (sym same))))
+          (λ ne. ap its_run (elsewhere d ne))
 
       still : (k : ℕ) → 1 ≤ k → k < front_words z → slice_index words' k ≡ slice_index s.words k
       still = store_still z s.words (bucket_at z b) n (omega arith)
@@ -272,16 +281,17 @@ module _ (z : Sizes) where
       settles : Settles s r id v b word c at acts may.write words' x' q v.holds.store v.holds.block
       settles = record {
         undisturbed = inl (refl, still);
-        is = store_keeps z s.words words' still (all_writes z r.table.bucket) (all_writes z x') q
-            (more_writes r.table.bucket x' (no_shorter r.table.bucket x' b (write_of (acting v.records) c) l.extent l.now elsewhere here) (buckets z))
+        is = store_keeps z s.words words' still (all_used z r.table.openings r.table.bucket) (all_used z r.table.openings x') q
+            (used_more z r.table.openings.used (all_writes z r.table.bucket) (all_writes z x') (more_writes r.table.bucket x'
+            (no_shorter r.table.bucket x' b (write_of (acting v.records) c) e l.now elsewhere here) (buckets z)))
             r.store;
         holds = store_lock_beside z s.words words' still q id v.holds.store ok.store;
         notes = ok.only_store;
         held = block_keeps z s.words (bucket_at z b) n (let a = inside in omega arith) v.holds.block ok.block;
         parted = subst (IsPartition z.pages q.store.used)
-            (sym (runs_still r.table.bucket x' q.store q.store s.views id v (view_after_write v c) extents (λ _. refl) at refl)) r.parted;
+            (sym (runs_still r.table.bucket x' q.store q.store s.views id v (view_after_write v c) runs (λ _. refl) at refl)) r.parted;
       }
 
       rule : WordRule z record { words = words'; homes = s.homes; views = set s.views id (view_after_write v c) }
-      rule = writes_word s r id v b word c at acts may.write n l.extent l.now v.holds.store v.holds.block x' q elsewhere here is h.size h.stands
+      rule = writes_word s r id v b word c at acts may.write n e l.now v.holds.store v.holds.block x' q elsewhere here is h.size h.stands
           may.pairs settles

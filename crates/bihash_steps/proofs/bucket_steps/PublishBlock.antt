@@ -1,5 +1,6 @@
 -- The store of a bucket's next word that gives it another block, or none: the old one passes to the caller.
-use Rattle.std.proofs.Common.{◌≡◌, ◌≢◌, ℕ, zero, suc, ◌+◌, ◌^◌, ◌<◌, ◌≤◌, Bool, true, false, List, [], ◌∷◌, length, set, refl, sym, ap, ◌∙◌, subst, inr, arith, le_trans, length-append, mul-le-mul_left, Option, Some, None}
+use native.Mathlib.Nat.{mul-add}
+use Rattle.std.proofs.Common.{◌≡◌, ◌≢◌, ℕ, zero, suc, ◌+◌, ◌*◌, ◌^◌, ◌<◌, ◌≤◌, Bool, true, false, List, [], ◌∷◌, length, set, refl, sym, ap, ◌∙◌, subst, inr, arith, length-append, mul-le-mul_left, Option, Some, None}
 use mathlib.Core.Logic.{dite}
 use native.Mathlib.Decide.{ℕ_discrete}
 use Rattle.std.specs.Prelude.{slice_index}
@@ -11,7 +12,7 @@ use Rattle.bihash_steps.specs.Histories.{write_of}
 use Rattle.bihash_steps.specs.Callers.{known_at}
 use Rattle.bihash_steps.specs.Partition.{run_of}
 use Rattle.bihash_steps.specs.Buckets.{BucketState, word_of, HoldsBucket}
-use Rattle.bihash_steps.specs.PageStores.{StoreState, IsStore, IsListedIf, HoldsStore, HoldsStoreIf, HoldsBlockIf, writes_in, all_writes, run_in}
+use Rattle.bihash_steps.specs.PageStores.{StoreState, IsStore, IsListedIf, HoldsStore, HoldsStoreIf, HoldsBlockIf, writes_in, all_writes, all_used, run_in}
 use Rattle.bihash_steps.specs.WordRule.{IsView, WordRule}
 use Rattle.bihash_steps.specs.Steps.{ViewOfSeat}
 use Rattle.bihash_steps.specs.BucketSteps.{acting, TellsEvent}
@@ -26,7 +27,7 @@ use Rattle.bihash_steps.specs.declared.view.ListedPage.{ListedPage}
 use Rattle.bihash_steps.specs.declared.view.HeldBlock.{HeldBlock}
 use Rattle.bihash_steps.specs.declared.view.View.{View}
 use Rattle.bihash_steps.proofs.KnownLists.{lawful_set}
-use Rattle.bihash_steps.proofs.Frames.{free_own, more_writes, store_keeps, store_lock_beside}
+use Rattle.bihash_steps.proofs.Frames.{free_own, more_writes, used_more, store_keeps, store_lock_beside}
 use Rattle.bihash_steps.proofs.Runs.{front_still, store_still}
 use Rattle.bihash_steps.proofs.Exchange.{passes}
 use Rattle.bihash_steps.proofs.Put.{put, put_here, put_else}
@@ -177,9 +178,10 @@ module _ (z : Sizes) where
           (let a = ap (λ (y : BucketState). length y.history) here in let k = length-append (r.table.bucket b).history (w ∷ []) in omega arith)
           (buckets z) inside
 
-      base : IsStore z words' (all_writes z x') q
-      base = store_keeps z s.words words' still (all_writes z r.table.bucket) (all_writes z x') q
-          (more_writes r.table.bucket x' more (buckets z)) r.store
+      base : IsStore z words' (all_used z r.table.openings x') q
+      base = store_keeps z s.words words' still (all_used z r.table.openings r.table.bucket) (all_used z r.table.openings x') q
+          (used_more z r.table.openings.used (all_writes z r.table.bucket) (all_writes z x')
+          (more_writes r.table.bucket x' more (buckets z))) r.store
 
       small : l.extent.size.log2 ≤ z.max_log2
       small = subst (λ (y : Extent). y.size.log2 ≤ z.max_log2) (sym h.extent) (r.each_bucket b inside).pairs.rule.small
@@ -198,8 +200,14 @@ module _ (z : Sizes) where
           lists = base.lists;
           room = base.room;
           bound = let few = few_unpublished q.store.unpublished in let longer = next in
-              le_trans r.store.bound (mul-le-mul_left (2 ^ z.max_log2)
-              (let t : ℕ = bit q.store.unpublished in let a : all_writes z r.table.bucket + t ≤ all_writes z x' + 0 = omega arith in a));
+              let t : ℕ = 2 ^ z.max_log2 in let u : ℕ = bit q.store.unpublished in
+              let w : ℕ = all_writes z r.table.bucket in let w' : ℕ = all_writes z x' in
+              let m : t * (w + u) ≤ t * w' = mul-le-mul_left t (let l : w + u ≤ w' = omega arith in l) in
+              let e : t * (w + u) ≡ t * w + t * u = mul-add t w u in
+              let a : ℕ = t * w in let b : ℕ = t * u in let c : ℕ = t * w' in
+              let m' : a + b ≤ c = subst (λ (k : ℕ). k ≤ c) e m in
+              let old : q.store.used ≤ r.table.openings.used + a + b = r.store.bound in
+              let none : t * 0 ≡ 0 = omega arith in omega arith;
           settled = λ _. refl;
         };
         holds = settled_lock words' q id v.holds.store (store_lock_beside z s.words words' still q id v.holds.store ok.store);

@@ -1,5 +1,5 @@
 -- The old word is stored over a locked bucket: its lock is opened without an answer, or a call that is no write is answered.
-use Rattle.std.proofs.Common.{◌≡◌, ℕ, ◌*◌, ◌^◌, ◌<◌, ◌≤◌, true, false, List, length, set, refl, sym, ap, ◌∙◌, subst, arith, length-set, get_or-set_same, None}
+use Rattle.std.proofs.Common.{◌≡◌, ℕ, ◌<◌, true, false, List, length, set, refl, sym, ap, ◌∙◌, subst, arith, length-set, get_or-set_same, None}
 use mathlib.Core.Option.{some}
 use lib.ListN.{get_elem?}
 use Rattle.atomic_table.specs.Table.{State, keeps, Allows}
@@ -11,7 +11,7 @@ use Rattle.bihash_steps.specs.Words.{count_of, buckets, bucket_at, page_at, Stan
 use Rattle.bihash_steps.specs.Histories.{IsKeyOf, IsAnswer, store_of}
 use Rattle.bihash_steps.specs.Callers.{HasNumber, HasNumbers, IsWhole, known_at}
 use Rattle.bihash_steps.specs.Buckets.{HoldsBucket, word_of}
-use Rattle.bihash_steps.specs.PageStores.{BearsOutOfPages, BearOutOfPages, LeftIf, all_writes, runs_now}
+use Rattle.bihash_steps.specs.PageStores.{BearsOutOfPages, BearOutOfPages, LeftIf, all_used, runs_now}
 use Rattle.bihash_steps.specs.WordRule.{IsInformed, WordRule}
 use Rattle.bihash_steps.specs.Steps.{ViewOfSeat}
 use Rattle.bihash_steps.specs.BucketSteps.{HoldsClean, MayAnswer, TellsEvent, without_lock, view_after_answer, push_call, map_now}
@@ -35,7 +35,7 @@ module _ (z : Sizes) where
     pub whole : v.lone ≡ true → IsWhole records (count_of s.words)
     pub long : length records ≡ length v.records
     pub same : (n : ℕ) → HasNumber records n → HasNumber v.records n
-    pub short : BearOutOfPages z (all_writes z r.table.bucket) records
+    pub short : BearOutOfPages z (all_used z r.table.openings r.table.bucket) records
 
   -- the rule stands where the word from before the lock is stored over a block in which nothing was stored
   opened_rule : (s : State (Unit {0}) View) (r : WordRule z s) (id b word : ℕ) (v : View) (records : List Record)
@@ -105,14 +105,13 @@ module _ (z : Sizes) where
       )
 
   -- a refusal bears what was noted of the page store, which bounds it
-  few_left : (writes left : ℕ) (v : View) (b word : ℕ) (c : Call) → MayAnswer z v b word c → LeftIf z writes v.notes.left → (log2 : ℕ)
-      → c.reply ≡ NoPages log2 left → BearsOutOfPages z writes c log2 left
-  few_left writes left v b word c may noted log2 e =
+  few_left : (most left : ℕ) (v : View) (b word : ℕ) (c : Call) → MayAnswer z v b word c → LeftIf z most v.notes.left → (log2 : ℕ)
+      → c.reply ≡ NoPages log2 left → BearsOutOfPages z most c log2 left
+  few_left most left v b word c may noted log2 e =
       let o = may.short log2 left e in
-      let n = subst (LeftIf z writes) o.1 noted in
+      let n = subst (LeftIf z most) o.1 noted in
       let all = o.2 in
-      let a : ℕ = 2 ^ z.max_log2 * writes in
-      let few : o.0.used ≤ a = n.1 in record {
+      let few = n.1 in record {
         store = o.0;
         bears = may.store ∙ (ap (λ (reply : Reply). store_of reply v.notes.left) e ∙ o.1);
         none = o.3;
@@ -144,8 +143,8 @@ module _ (z : Sizes) where
           whole = λ lone. push_whole (count_of s.words) c v.records (ok.lone lone);
           long = push-length c v.records;
           same = λ n h. push_number n c v.records h;
-          short = push_short z (all_writes z r.table.bucket) c v.records
-              (λ log2 left e. few_left (all_writes z r.table.bucket) left v b word c may ok.left log2 e) ok.short;
+          short = push_short z (all_used z r.table.openings r.table.bucket) c v.records
+              (λ log2 left e. few_left (all_used z r.table.openings r.table.bucket) left v b word c may ok.left log2 e) ok.short;
         },
         record {
           seat = refl;

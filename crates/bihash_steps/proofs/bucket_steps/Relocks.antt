@@ -11,9 +11,9 @@ use Rattle.bihash_words.specs.Words.{packed}
 use Rattle.bihash_steps.specs.Words.{count_of, front_words, buckets, bucket_at, page_at, Stands}
 use Rattle.bihash_steps.specs.Histories.{IsPrefix}
 use Rattle.bihash_steps.specs.Callers.{HasNumber, HasNumbers, IsWhole, known_at, opening_in}
-use Rattle.bihash_steps.specs.Partition.{IsPartition}
+use Rattle.bihash_steps.specs.Partition.{IsPartition, run_of}
 use Rattle.bihash_steps.specs.Buckets.{BucketState, IsBucket, HoldsBucket, HoldsBucketIf, NotesLocks, word_of}
-use Rattle.bihash_steps.specs.PageStores.{BearOutOfPages, IsStore, HoldsBlockIf, writes_in, all_writes, runs_now}
+use Rattle.bihash_steps.specs.PageStores.{BearOutOfPages, IsStore, HoldsBlockIf, writes_in, all_used, most_used, runs_now}
 use Rattle.bihash_steps.specs.Views.{no_notes}
 use Rattle.bihash_steps.specs.WordRule.{TableState, IsInformed, IsView, WordRule}
 use Rattle.bihash_steps.specs.declared.view.Write.{Write}
@@ -21,6 +21,7 @@ use Rattle.bihash_steps.specs.declared.view.Record.{Record}
 use Rattle.bihash_steps.specs.declared.view.Known.{Known}
 use Rattle.bihash_steps.specs.declared.view.LockedBucket.{LockedBucket}
 use Rattle.bihash_steps.specs.declared.view.View.{View}
+use Rattle.bihash_steps.proofs.Lists.{no_row}
 use Rattle.bihash_steps.proofs.Put.{put, put_here, put_else}
 use Rattle.bihash_steps.proofs.Frames.{Grows, Keeps, Beside, Free, grows_not, store_keeps, store_lock_beside, moved}
 use Rattle.bihash_steps.proofs.Runs.{runs_still}
@@ -85,7 +86,7 @@ module _ (z : Sizes) (s : State (Unit {0}) View) (r : WordRule z s) (b id : ℕ)
     pub whole : v.lone ≡ true → IsWhole records (count_of s.words)
     pub able : 1 ≤ length records
     pub same_numbers : (n : ℕ) → HasNumber records n → HasNumber v.records n
-    pub short : BearOutOfPages z (all_writes z r.table.bucket) records
+    pub short : BearOutOfPages z (all_used z r.table.openings r.table.bucket) records
     pub other : (l : LockedBucket) → v.holds.bucket ≡ Some l → l.bucket ≡ b
     pub noted : lock ≡ Some id → (l : LockedBucket) × (held ≡ Some l) × (l.bucket ≡ b)
     pub holds : HoldsIt held
@@ -133,8 +134,9 @@ module _ (z : Sizes) (s : State (Unit {0}) View) (r : WordRule z s) (b id : ℕ)
       block = m.block;
       open_bucket = tt;
       still = λ _. tt;
-      short = subst (λ (n : ℕ). BearOutOfPages z n records) (sym (same_writes r.table.bucket buckets' (same_at (λ (x : BucketState). x.history) refl)
-          (buckets z))) m.short;
+      row = λ _. no_row words';
+      short = subst (λ (n : ℕ). BearOutOfPages z n records) (sym (ap (most_used z r.table.openings.used)
+          (same_writes r.table.bucket buckets' (same_at (λ (x : BucketState). x.history) refl) (buckets z)))) m.short;
       left = tt;
       meeting = tt;
     }
@@ -172,13 +174,14 @@ module _ (z : Sizes) (s : State (Unit {0}) View) (r : WordRule z s) (b id : ℕ)
       here = λ _. subst (IsBucket z words' (count_of s.words) b (opening_in r.table.openings b)) (sym here) bucket_still;
       outside = λ out. let l = m.inside in absurd (omega arith);
       store = subst (λ (n : ℕ). IsStore z words' n r.table.store)
-          (sym (same_writes r.table.bucket buckets' (same_at (λ (x : BucketState). x.history) refl) (buckets z)))
-          (store_keeps z s.words words' m.front (all_writes z r.table.bucket) (all_writes z r.table.bucket) r.table.store
-          (le_refl (all_writes z r.table.bucket)) r.store);
+          (sym (ap (most_used z r.table.openings.used)
+          (same_writes r.table.bucket buckets' (same_at (λ (x : BucketState). x.history) refl) (buckets z))))
+          (store_keeps z s.words words' m.front (all_used z r.table.openings r.table.bucket) (all_used z r.table.openings r.table.bucket) r.table.store
+          (le_refl (all_used z r.table.openings r.table.bucket)) r.store);
       undisturbed = inl (refl, m.front);
       view = relocked_view;
       numbers = m.same_numbers;
       parted = subst (IsPartition z.pages r.table.store.store.used) (sym (runs_still r.table.bucket buckets' r.table.store.store
-          r.table.store.store s.views id v (relocking v records known held) (same_at (λ (x : BucketState). x.extent) refl) (λ _. refl) m.at refl))
+          r.table.store.store s.views id v (relocking v records known held) (same_at (λ (x : BucketState). run_of x.extent.page x.extent.size.log2) refl) (λ _. refl) m.at refl))
           r.parted;
     }

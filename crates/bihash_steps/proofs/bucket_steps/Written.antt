@@ -5,7 +5,7 @@ use mathlib.Core.Option.{some}
 use native.Mathlib.Decide.{ℕ_discrete}
 use lib.ListN.{get_elem?}
 use Rattle.atomic_table.proofs.Lists.{at_last}
-use Rattle.bihash_words.specs.Maps.{Pairs, Event, IsEvent, changed}
+use Rattle.bihash_words.specs.Maps.{Pairs, Event, IsEvent, written}
 use Rattle.bihash_words.specs.Sizes.{Sizes}
 use Rattle.bihash_words.specs.declared.patch.Reply.TheVariants.{Changed}
 use Rattle.bihash_steps.specs.Words.{buckets}
@@ -31,10 +31,10 @@ one_longer H w = record { rest = w ∷ []; whole = refl }
 
 -- the map after the last write
 pub after_last : (opening : Pairs) (H : List Write) (w : Write)
-    → after opening (H ++ w ∷ []) (length H + 1) ≡ changed (after opening H (length H)) w.key w.change
+    → after opening (H ++ w ∷ []) (length H + 1) ≡ written (after opening H (length H)) w.key w.change w.recycling
 after_last opening [] w = refl
 after_last opening (x ∷ xs) w = let n : suc (length xs) + 1 ≡ suc (length xs + 1) = omega arith in
-    ap (after opening (x ∷ (xs ++ w ∷ []))) n ∙ after_last (changed opening x.key x.change) xs w
+    ap (after opening (x ∷ (xs ++ w ∷ []))) n ∙ after_last (written opening x.key x.change x.recycling) xs w
 
 pub list_more : (z : Sizes) (b : ℕ) (opening : Pairs) (H : List Write) (w : Write) → length H < z.limit → IsWriteList z b opening H
     → IsWrite z b (length H) (after opening H (length H)) w → IsWriteList z b opening (H ++ w ∷ [])
@@ -68,8 +68,8 @@ module _ (z : Sizes) (v : View) (b word : ℕ) (c : Call) (may : MayWrite z v b 
   -- it is answered at the map before the write
   write_answers : IsAnswer z (map_now v b) (length (known_at v.known b)) c
   write_answers = (
-    changed (map_now v b) c.key c.change,
-    subst (λ (e : Event). IsEvent (bounds_of z) (map_now v b) (length (known_at v.known b)) e (changed (map_now v b) c.key c.change))
+    written (map_now v b) c.key c.change c.recycling,
+    subst (λ (e : Event). IsEvent (bounds_of z) (map_now v b) (length (known_at v.known b)) e (written (map_now v b) c.key c.change c.recycling))
         same may.write.changes,
   )
     where
@@ -79,6 +79,7 @@ module _ (z : Sizes) (v : View) (b word : ℕ) (c : Call) (may : MayWrite z v b 
         found = sym may.found t;
         change = c.change;
         reply = sym (may.reply ∙ ap Changed may.found) t;
+        recycling = c.recycling;
       }
 
   module _ (t t' : TableState) (inside : b < buckets z) (openings : t'.openings ≡ t.openings)

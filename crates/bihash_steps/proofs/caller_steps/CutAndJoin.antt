@@ -20,7 +20,7 @@ use Rattle.bihash_steps.specs.declared.view.Record.{Record}
 use Rattle.bihash_steps.specs.declared.view.Known.{Known}
 use Rattle.bihash_steps.specs.declared.view.Holdings.{Holdings}
 use Rattle.bihash_steps.specs.declared.view.View.{View}
-use Rattle.bihash_steps.proofs.Lists.{at_end, at_either, at_take, at_drop}
+use Rattle.bihash_steps.proofs.Lists.{at_end, at_either, at_take, at_drop, no_row}
 use Rattle.bihash_steps.proofs.Prefixes.{prefix_refl}
 use Rattle.bihash_steps.proofs.Lawful.{IsPart, first_part, other_part, part_informed, part_lawful, part_numbers, both_informed, both_numbers}
 use Rattle.bihash_steps.proofs.KnownLists.{knows_own}
@@ -90,6 +90,7 @@ module _ (z : Sizes) where
     block = subst (λ (h : Holdings). HoldsBlockIf z words h.block) (sym holds) tt;
     open_bucket = tt;
     still = λ _. tt;
+    row = λ _. no_row words;
     short = λ c h. ok.short c (part.from h.0, h.1, h.2, part.at h.0 h.2 h.3, h.4);
     left = tt;
     meeting = tt;
@@ -178,6 +179,7 @@ module _ (z : Sizes) where
     block = ok.block;
     open_bucket = tt;
     still = λ _. tt;
+    row = λ _. no_row words;
     short = λ c h. elim (at_either v.records w.records h.0 h.2 h.3) [
       | inl o ↦ ok.short c (h.0, h.1, h.2, o, h.4)
       | inr o ↦
@@ -221,6 +223,7 @@ module _ (z : Sizes) where
     block = tt;
     open_bucket = tt;
     still = λ _. tt;
+    row = λ _. no_row words;
     short = λ c h. absurd (some-ne-none h.2 (sym h.3));
     left = tt;
     meeting = tt;

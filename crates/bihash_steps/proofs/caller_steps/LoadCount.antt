@@ -12,7 +12,7 @@ use Rattle.bihash_steps.specs.Words.{count_of, buckets}
 use Rattle.bihash_steps.specs.Histories.{IsPrefix}
 use Rattle.bihash_steps.specs.Callers.{IsWhole, known_writes, known_at, opening_in, IsConsistent, HasNumbers, Apart, Agrees, KnowsOwn}
 use Rattle.bihash_steps.specs.Buckets.{IsBucket}
-use Rattle.bihash_steps.specs.PageStores.{BearOutOfPages, HasCall, writes_in}
+use Rattle.bihash_steps.specs.PageStores.{BearOutOfPages, HasCall, most_used, writes_in}
 use Rattle.bihash_steps.specs.Views.{empty_record, no_notes}
 use Rattle.std.specs.Prelude.{◌==◌}
 use Rattle.bihash_steps.specs.WordRule.{TableState, HaveMet, HaveMetIf, IsView, WordRule}
@@ -56,7 +56,7 @@ module _ (z : Sizes) where
           let mine = whole last.0.by by.0 by.1 in
           let reached : n < length (known_at v.known b) = ok.informed.own mine.0 b n mine.1 last.0 mine.2 inside last.1 (sym mine.3) in omega arith
 
-  known_sum : (known : Known) (x : ℕ → BucketState) (n : ℕ) → ((b : ℕ) → b < n → known_at known b ≡ (x b).history) → known_writes known n ≡ writes_in x n
+  pub known_sum : (known : Known) (x : ℕ → BucketState) (n : ℕ) → ((b : ℕ) → b < n → known_at known b ≡ (x b).history) → known_writes known n ≡ writes_in x n
   known_sum known x zero each = refl
   known_sum known x (suc n) each =
       let before = known_sum known x n (λ b l. each b (omega arith)) in let last = ap length (each n (omega arith)) in omega arith
@@ -82,7 +82,8 @@ module _ (z : Sizes) where
             whole = good.lone lone;
             made = lawful.made lone;
             short = subst (λ (n : ℕ). BearOutOfPages z n v.records)
-                (sym (known_sum v.known r.table.bucket (buckets z) (known_whole s r id v ok (good.lone lone)))) ok.short;
+                (λ i. most_used z (sym (ok.informed.opening acts) i).used
+                (sym (known_sum v.known r.table.bucket (buckets z) (known_whole s r id v ok (good.lone lone))) i)) ok.short;
           };
         },
       )
@@ -156,6 +157,7 @@ module _ (z : Sizes) where
     block = still_block z words words' same v.holds.block ok.block;
     open_bucket = ok.open_bucket;
     still = λ e. absurd (true≢false (sym e));
+    row = λ e. absurd (true≢false (sym e));
     short = λ c h. ok.short c (old_call c h);
     left = ok.left;
     meeting = ok.meeting;

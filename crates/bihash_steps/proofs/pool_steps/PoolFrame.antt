@@ -9,7 +9,7 @@ use Rattle.bihash_steps.specs.Words.{count_of, front_words, buckets, page_words}
 use Rattle.bihash_steps.specs.Callers.{known_at}
 use Rattle.bihash_steps.specs.Partition.{IsPartition}
 use Rattle.bihash_steps.specs.Buckets.{BucketState, HoldsBucketIf}
-use Rattle.bihash_steps.specs.PageStores.{StoreState, IsStore, all_writes, IsListedIf, HoldsStore, HoldsStoreIf, NotesStore, HoldsBlockIf, LeftIf, runs_now}
+use Rattle.bihash_steps.specs.PageStores.{StoreState, IsStore, all_used, IsListedIf, HoldsStore, HoldsStoreIf, NotesStore, HoldsBlockIf, LeftIf, runs_now}
 use Rattle.bihash_steps.specs.Views.{no_notes}
 use Rattle.bihash_steps.specs.WordRule.{TableState, IsView, WordRule}
 use Rattle.bihash_steps.specs.BucketSteps.{without_notes}
@@ -21,6 +21,7 @@ use Rattle.bihash_steps.specs.declared.view.ListedPage.{ListedPage}
 use Rattle.bihash_steps.specs.declared.view.LockedStore.{LockedStore}
 use Rattle.bihash_steps.specs.declared.view.HeldBlock.{HeldBlock}
 use Rattle.bihash_steps.specs.declared.view.View.{View}
+use Rattle.bihash_steps.proofs.Lists.{no_row}
 use Rattle.bihash_steps.proofs.CountWord.{held_still, others_apart, stays_at}
 use Rattle.bihash_steps.proofs.NotedViews.{unnoted_view}
 use Rattle.bihash_steps.proofs.Frames.{Free, free_none, free_own, grows_not, keeps_refl, moved}
@@ -51,7 +52,7 @@ module _ (z : Sizes) where
 
     view_still : (count : ℕ) (t : TableState) (q : StoreState) (id : ℕ) (v : View) (store : Option LockedStore) (block : Option HeldBlock)
         (left : Option PageStore) → 1 ≤ length v.records → HoldsStoreIf z (set words i n) q id store → NotesStore q id store
-        → HoldsBlockIf z (set words i n) block → LeftIf z (all_writes z t.bucket) left → IsView z words count t id v
+        → HoldsBlockIf z (set words i n) block → LeftIf z (all_used z t.openings t.bucket) left → IsView z words count t id v
         → IsView z (set words i n) count (record t { store = q }) id (storing v store block left)
     view_still count t q id v store block left acts held noted has_block few ok = record {
       informed = same_informed z t (record t { store = q }) v.known v.records refl (λ c. refl) ok.informed;
@@ -66,6 +67,7 @@ module _ (z : Sizes) where
       block = has_block;
       open_bucket = tt;
       still = λ _. tt;
+      row = λ _. no_row (set words i n);
       short = ok.short;
       left = few;
       meeting = tt;
@@ -79,9 +81,9 @@ module _ (z : Sizes) where
 
     -- a store in the words of the page store, whose lock is the seat's or nobody's
     pub store_moved : (i n : ℕ) (q : StoreState) (store : Option LockedStore) (block : Option HeldBlock) (left : Option PageStore)
-        → 1 ≤ i → i < front_words z → Free id r.table.store.lock → Free id q.lock → IsStore z (set s.words i n) (all_writes z r.table.bucket) q
+        → 1 ≤ i → i < front_words z → Free id r.table.store.lock → Free id q.lock → IsStore z (set s.words i n) (all_used z r.table.openings r.table.bucket) q
         → HoldsStoreIf z (set s.words i n) q id store → NotesStore q id store → HoldsBlockIf z (set s.words i n) block
-        → LeftIf z (all_writes z r.table.bucket) left
+        → LeftIf z (all_used z r.table.openings r.table.bucket) left
         → IsPartition z.pages q.store.used (runs_now r.table.bucket q.store (set s.views id (storing v store block left)))
         → WordRule z (after_store s id (storing v store block left) i n)
     store_moved i n q store block left behind before free free' ok held noted has_block few parted =
@@ -123,9 +125,9 @@ module _ (z : Sizes) where
   module _ (s : State (Unit {0}) View) (r : WordRule z s) (id : ℕ) (v : View) (at : get_elem? s.views id ≡ some v) (n : LockedStore)
       (held : v.holds.store ≡ Some n) where
     -- the page store, as the holder of its lock knows it
-    pub known_store : IsStore z s.words (all_writes z r.table.bucket) (record { store = n.store; lock = Some id })
+    pub known_store : IsStore z s.words (all_used z r.table.openings r.table.bucket) (record { store = n.store; lock = Some id })
     known_store = let has = held_store s r id v at n held in
-        subst (IsStore z s.words (all_writes z r.table.bucket)) (λ k. record { store = sym has.store k; lock = has.held k }) r.store
+        subst (IsStore z s.words (all_used z r.table.openings r.table.bucket)) (λ k. record { store = sym has.store k; lock = has.held k }) r.store
 
     pub known_runs : IsPartition z.pages n.store.used (runs_now r.table.bucket n.store s.views)
     known_runs = let has = held_store s r id v at n held in
@@ -133,7 +135,7 @@ module _ (z : Sizes) where
 
     -- a store in the words of the page store by the holder of its lock
     pub held_moved : (i word : ℕ) (store : PageStore) (listed : Option ListedPage) (block : Option HeldBlock) → 1 ≤ length v.records → 1 ≤ i
-        → i < front_words z → IsStore z (set s.words i word) (all_writes z r.table.bucket) (record { store = store; lock = Some id })
+        → i < front_words z → IsStore z (set s.words i word) (all_used z r.table.openings r.table.bucket) (record { store = store; lock = Some id })
         → IsListedIf z (set s.words i word) store listed → HoldsBlockIf z (set s.words i word) block
         → IsPartition z.pages store.used
         (runs_now r.table.bucket store (set s.views id (holding v (Some (record { store = store; listed = listed })) block)))

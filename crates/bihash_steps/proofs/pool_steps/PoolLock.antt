@@ -11,7 +11,7 @@ use Rattle.bihash_words.specs.Sizes.{Sizes}
 use Rattle.bihash_words.specs.Words.{bit}
 use Rattle.bihash_steps.specs.Words.{allocation_lock_of, returned_count_at}
 use Rattle.bihash_steps.specs.Partition.{IsPartition}
-use Rattle.bihash_steps.specs.PageStores.{StoreState, IsStore, returned_in, all_writes, HoldsStore, LeftIf}
+use Rattle.bihash_steps.specs.PageStores.{StoreState, IsStore, returned_in, all_used, HoldsStore, LeftIf}
 use Rattle.bihash_steps.specs.WordRule.{WordRule}
 use Rattle.bihash_steps.specs.Steps.{ViewOfSeat}
 use Rattle.bihash_steps.specs.BucketSteps.{without_notes}
@@ -47,7 +47,7 @@ module _ (z : Sizes) where
   }
 
   -- a lone caller that has no allocation lock finds it open
-  alone_open : (s : State (Unit {0}) View) (r : WordRule z s) (id : ℕ) (v : View) → get_elem? s.views id ≡ some v → v.lone ≡ true
+  pub alone_open : (s : State (Unit {0}) View) (r : WordRule z s) (id : ℕ) (v : View) → get_elem? s.views id ≡ some v → v.lone ≡ true
       → v.holds.store ≡ None → r.table.store.lock ≡ None
   alone_open s r id v at lone without = go r.table.store.lock refl
     where
@@ -92,7 +92,7 @@ module _ (z : Sizes) where
       locked_rule none_holds = let top = front z in let inside = word_inside z s r id v at acts 1 (omega arith) in
           store_moved z s r id v at acts 1 1 (record q { lock = Some id }) (Some known) v.holds.block None (omega arith) (omega arith)
           (free_none id q.lock none_holds) (free_own id (Some id) refl)
-          (relocked s.words 1 (all_writes z r.table.bucket) q (Some id) inside refl (λ e. absurd (cc)) r.store)
+          (relocked s.words 1 (all_used z r.table.openings r.table.bucket) q (Some id) inside refl (λ e. absurd (cc)) r.store)
           record { held = refl; store = refl; listed = tt } (λ _. (known, refl))
           (block_keeps z s.words 1 1 (let f = front z in omega arith) v.holds.block (r.each_view id v at).block) tt
           (subst (IsPartition z.pages q.store.used)
@@ -155,18 +155,18 @@ module _ (z : Sizes) where
       whole : q.store.unpublished ≡ false
       whole = ap (λ (k : PageStore). k.unpublished) (sym has.store) ∙ settled
 
-      few : q.store.used ≤ 2 ^ z.max_log2 * all_writes z r.table.bucket
-      few = subst (λ (k : ℕ). q.store.used ≤ 2 ^ z.max_log2 * k)
-          (ap (λ (b : Bool). all_writes z r.table.bucket + bit b) whole ∙ omega arith) r.store.bound
+      few : q.store.used ≤ all_used z r.table.openings r.table.bucket
+      few = let w : ℕ = all_used z r.table.openings r.table.bucket in let t : ℕ = 2 ^ z.max_log2 in
+          let bound : q.store.used ≤ w + t * 0 = subst (λ (b : Bool). q.store.used ≤ w + t * bit b) whole r.store.bound in omega arith
 
       rule : WordRule z (after_store s id (store_opened v n) 1 0)
       rule = let top = front z in let inside = word_inside z s r id v at acts 1 (omega arith) in
           store_moved z s r id v at acts 1 0 (record q { lock = None }) None v.holds.block (Some n.store) (omega arith) (omega arith)
           (free_own id q.lock has.held) (free_none id None refl)
-          (relocked s.words 0 (all_writes z r.table.bucket) q None inside refl (λ _. whole) r.store)
+          (relocked s.words 0 (all_used z r.table.openings r.table.bucket) q None inside refl (λ _. whole) r.store)
           tt (λ e. absurd (cc))
           (block_keeps z s.words 1 0 (let f = front z in omega arith) v.holds.block (r.each_view id v at).block)
-          (subst (λ (k : PageStore). LeftIf z (all_writes z r.table.bucket) (Some k)) (sym has.store) (r.parted.few, few))
+          (subst (λ (k : PageStore). LeftIf z (all_used z r.table.openings r.table.bucket) (Some k)) (sym has.store) (r.parted.few, few))
           (subst (IsPartition z.pages q.store.used)
           (sym (runs_still r.table.bucket r.table.bucket q.store q.store s.views id v (store_opened v n) (λ b. refl) (λ log2. refl) at refl))
           r.parted)

@@ -8,7 +8,7 @@ use Rattle.bihash_words.specs.Sizes.{Sizes}
 use Rattle.bihash_words.specs.Words.{bit}
 use Rattle.bihash_steps.specs.Words.{returned_count_at, list_words, list_at, front_words, page_words, all_words, Stands}
 use Rattle.bihash_steps.specs.Partition.{IsPartition, run_of}
-use Rattle.bihash_steps.specs.PageStores.{StoreState, IsStore, returned_in, all_writes, IsListed, IsListedIf, HoldsStore, HoldsBlock, HoldsBlockIf, run_in}
+use Rattle.bihash_steps.specs.PageStores.{StoreState, IsStore, returned_in, all_used, IsListed, IsListedIf, HoldsStore, HoldsBlock, HoldsBlockIf, run_in}
 use Rattle.bihash_steps.specs.WordRule.{WordRule}
 use Rattle.bihash_steps.specs.Steps.{ViewOfSeat}
 use Rattle.bihash_steps.specs.StoreSteps.{holding, MayList, listing, TellsListed, MayReturn, relisted, TellsReturned}
@@ -84,7 +84,7 @@ module _ (z : Sizes) where
       rule : WordRule z (after_store s id (holding v (Some known) v.holds.block) (list_at z log2 + count) page)
       rule = let low = inside.0 in
           held_moved z s r id v seat n may.store (list_at z log2 + count) page n.store known.listed v.holds.block acts (omega arith) inside.1
-          (store_after s.words (all_writes z r.table.bucket) log2 count page (record { store = n.store; lock = Some id }) may.small may.listed
+          (store_after s.words (all_used z r.table.openings r.table.bucket) log2 count page (record { store = n.store; lock = Some id }) may.small may.listed
           may.room (known_store z s r id v seat n may.store))
           record {
             small = may.small;
@@ -98,12 +98,12 @@ module _ (z : Sizes) where
           (λ log2. refl) seat refl)) (known_runs z s r id v seat n may.store))
 
   -- a list of returned blocks changes, with its count
-  pub relist : (words : List ℕ) (writes log2 : ℕ) (xs : List ℕ) (unpublished : Bool) (q : StoreState) → length words ≡ all_words z
+  pub relist : (words : List ℕ) (most log2 : ℕ) (xs : List ℕ) (unpublished : Bool) (q : StoreState) → length words ≡ all_words z
       → log2 ≤ z.max_log2 → length xs ≤ list_words z log2 → Stands words (list_at z log2) xs
-      → q.store.used ≤ 2 ^ z.max_log2 * (writes + bit unpublished) → (q.lock ≡ None → unpublished ≡ false) → IsStore z words writes q
-      → IsStore z (set words (returned_count_at log2) (length xs)) writes
+      → q.store.used ≤ most + 2 ^ z.max_log2 * bit unpublished → (q.lock ≡ None → unpublished ≡ false) → IsStore z words most q
+      → IsStore z (set words (returned_count_at log2) (length xs)) most
       (record q { store = record q.store { returned = slice_set q.store.returned log2 xs; unpublished = unpublished } })
-  relist words writes log2 xs unpublished q whole small room stands bound settled ok =
+  relist words most log2 xs unpublished q whole small room stands bound settled ok =
       let i : ℕ = returned_count_at log2 in
       let word : ℕ = length xs in
       let store : PageStore = record q.store { returned = slice_set q.store.returned log2 xs; unpublished = unpublished } in
@@ -170,7 +170,7 @@ module _ (z : Sizes) where
       long : length (xs ++ b.page ∷ []) ≡ count + 1
       long = length-append xs (b.page ∷ []) ∙ ap (λ (k : ℕ). k + 1) may.listed
 
-      ok : IsStore z s.words (all_writes z r.table.bucket) (record { store = n.store; lock = Some id })
+      ok : IsStore z s.words (all_used z r.table.openings r.table.bucket) (record { store = n.store; lock = Some id })
       ok = known_store z s r id v seat n may.store
 
       has : HoldsStore z s.words r.table.store id n
@@ -194,7 +194,7 @@ module _ (z : Sizes) where
       rule = let top = front z in let small = may.small in
           held_moved z s r id v seat n may.store (returned_count_at log2) (length (xs ++ b.page ∷ [])) known.store None None acts (omega arith)
           (omega arith)
-          (relist s.words (all_writes z r.table.bucket) log2 (xs ++ b.page ∷ []) n.store.unpublished (record { store = n.store; lock = Some id })
+          (relist s.words (all_used z r.table.openings r.table.bucket) log2 (xs ++ b.page ∷ []) n.store.unpublished (record { store = n.store; lock = Some id })
           r.wide may.small
           (let all = length-append xs (b.page ∷ []) in let fits = item.room in omega arith) stands ok.bound ok.settled ok)
           tt tt

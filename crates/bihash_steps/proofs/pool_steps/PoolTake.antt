@@ -1,6 +1,6 @@
 -- A block is taken from the page store: the last returned one of its size, or pages that were never used.
-use Rattle.std.proofs.Common.{◌≡◌, ℕ, zero, suc, ◌+◌, ◌-◌, ◌*◌, ◌^◌, ◌<◌, ◌≤◌, Bool, true, false, List, length, set, take, refl, sym, ap, ◌∙◌, subst, arith, le_trans, mul-le-mul_left, mul-le-mul_right, get_or-set_same, get_or-set_other, Some, None}
-use native.Mathlib.Nat.{pow-le-pow_right, mul-add}
+use Rattle.std.proofs.Common.{◌≡◌, ℕ, zero, suc, ◌+◌, ◌-◌, ◌*◌, ◌^◌, ◌<◌, ◌≤◌, Bool, true, false, List, length, set, take, refl, sym, ap, ◌∙◌, subst, arith, mul-le-mul_left, mul-le-mul_right, get_or-set_same, get_or-set_other, Some, None}
+use native.Mathlib.Nat.{pow-le-pow_right}
 use Rattle.std.specs.Prelude.{slice_index}
 use Rattle.std.proofs.lemmas.Nat.{pow_pos}
 use Rattle.std.proofs.lemmas.List.{get_or-take, length-take-le}
@@ -9,7 +9,7 @@ use Rattle.bihash_words.specs.Sizes.{Sizes}
 use Rattle.bihash_words.specs.Words.{bit}
 use Rattle.bihash_steps.specs.Words.{returned_count_at, front_words, page_at, block_words, page_words, all_words}
 use Rattle.bihash_steps.specs.Partition.{returned_at, run_of, IsPartition}
-use Rattle.bihash_steps.specs.PageStores.{IsStore, returned_in, all_writes, HoldsBlock, run_in, runs_now}
+use Rattle.bihash_steps.specs.PageStores.{IsStore, returned_in, all_used, HoldsBlock, run_in, runs_now}
 use Rattle.bihash_steps.specs.WordRule.{WordRule}
 use Rattle.bihash_steps.specs.Steps.{ViewOfSeat}
 use Rattle.bihash_steps.specs.StoreSteps.{holding, unlisted, grown, TakesBlock, MayTakeReturned, TellsTakenReturned, MayTakeUnused, TellsTakenUnused}
@@ -110,7 +110,7 @@ module _ (z : Sizes) where
       long : length rest ≡ number
       long = let all = may.listed in length-take-le (length xs - 1) xs (omega arith) ∙ omega arith
 
-      ok : IsStore z s.words (all_writes z r.table.bucket) (record { store = n.store; lock = Some id })
+      ok : IsStore z s.words (all_used z r.table.openings r.table.bucket) (record { store = n.store; lock = Some id })
       ok = known_store z s r id v seat n may.store
 
       parted : IsPartition z.pages n.store.used (runs_now r.table.bucket n.store s.views)
@@ -122,17 +122,17 @@ module _ (z : Sizes) where
           (returned_run r.table.bucket n.store s.views log2 number (omega arith)) in
           let few = parted.few in let low = h.1 in (h.0, omega arith)
 
-      bound : n.store.used ≤ 2 ^ z.max_log2 * (all_writes z r.table.bucket + 1)
-      bound = let few = few_bit n.store.unpublished in let w : ℕ = all_writes z r.table.bucket in
-          let b : ℕ = bit n.store.unpublished in let few' : b ≤ 1 = few in
-          let more : w + b ≤ w + 1 = omega arith in
-          le_trans ok.bound (mul-le-mul_left (2 ^ z.max_log2) more)
+      bound : n.store.used ≤ all_used z r.table.openings r.table.bucket + 2 ^ z.max_log2 * 1
+      bound = let m = mul-le-mul_left (2 ^ z.max_log2) (few_bit n.store.unpublished) in
+          let w : ℕ = all_used z r.table.openings r.table.bucket in
+          let a : ℕ = 2 ^ z.max_log2 * bit n.store.unpublished in let b : ℕ = 2 ^ z.max_log2 * 1 in
+          let less : a ≤ b = m in let old : n.store.used ≤ w + a = ok.bound in omega arith
 
       rule : WordRule z (after_store s id after (returned_count_at log2) (length rest))
       rule = let top = front z in let small = may.small in
           held_moved z s r id v seat n may.store (returned_count_at log2) (length rest) (unlisted n.store log2) None
           (Some (block_at s.words page log2)) acts (omega arith) (omega arith)
-          (relist z s.words (all_writes z r.table.bucket) log2 rest true (record { store = n.store; lock = Some id }) r.wide may.small
+          (relist z s.words (all_used z r.table.openings r.table.bucket) log2 rest true (record { store = n.store; lock = Some id }) r.wide may.small
           (let fits = ok.room log2 small in let all = may.listed in let l = long in omega arith)
           (λ k lt. let l = long in let all = may.listed in
           ok.lists log2 small k (omega arith) ∙ sym (get_or-take (length xs - 1) xs k 0 (omega arith)))
@@ -175,18 +175,15 @@ module _ (z : Sizes) where
       near : (used + 1) + 2 ^ log2 ≤ z.pages + 1
       near = let left = may.left in omega arith
 
-      ok : IsStore z s.words (all_writes z r.table.bucket) (record { store = n.store; lock = Some id })
+      ok : IsStore z s.words (all_used z r.table.openings r.table.bucket) (record { store = n.store; lock = Some id })
       ok = known_store z s r id v seat n may.store
 
-      bound : n.store.used + 2 ^ log2 ≤ 2 ^ z.max_log2 * (all_writes z r.table.bucket + 1)
-      bound = let w : ℕ = all_writes z r.table.bucket in let t : ℕ = 2 ^ z.max_log2 in
-          let few : n.store.used ≤ t * w = subst (λ (k : ℕ). n.store.used ≤ t * k) (ap (λ (b : Bool). w + bit b) may.settled ∙ omega arith)
-          ok.bound in
-          let less : 2 ^ log2 ≤ t = pow-le-pow_right {n = 2} (omega arith) may.small in
-          let x : ℕ = t * w in let few' : n.store.used ≤ x = few in
-          let y : ℕ = t * (w + 1) in let e : y ≡ x + t * 1 = mul-add t w 1 in omega arith
+      bound : n.store.used + 2 ^ log2 ≤ all_used z r.table.openings r.table.bucket + 2 ^ z.max_log2 * 1
+      bound = let w : ℕ = all_used z r.table.openings r.table.bucket in let t : ℕ = 2 ^ z.max_log2 in
+          let few : n.store.used ≤ w + t * 0 = subst (λ (b : Bool). n.store.used ≤ w + t * bit b) may.settled ok.bound in
+          let less : 2 ^ log2 ≤ t = pow-le-pow_right {n = 2} (omega arith) may.small in omega arith
 
-      grown_store : IsStore z (set s.words 2 (n.store.used + 2 ^ log2)) (all_writes z r.table.bucket)
+      grown_store : IsStore z (set s.words 2 (n.store.used + 2 ^ log2)) (all_used z r.table.openings r.table.bucket)
           (record { store = grown n.store log2; lock = Some id })
       grown_store = let top = front z in record {
         lock = get_or-set_other s.words 2 1 (n.store.used + 2 ^ log2) 0 (λ e. omega arith) ∙ ok.lock;

@@ -8,7 +8,7 @@ use Rattle.bihash_words.specs.Sizes.{Sizes}
 use Rattle.bihash_steps.specs.Words.{count_of, front_words, buckets, page_at, block_words}
 use Rattle.bihash_steps.specs.Partition.{PageRun, Owner, of_bucket, held_by, IsPartition, run_of}
 use Rattle.bihash_steps.specs.Buckets.{HoldsBucketIf}
-use Rattle.bihash_steps.specs.PageStores.{HoldsBlock, HoldsBlockIf, all_writes, run_in, run_held, runs_now}
+use Rattle.bihash_steps.specs.PageStores.{HoldsBlock, HoldsBlockIf, all_used, run_in, run_held, runs_now}
 use Rattle.bihash_steps.specs.WordRule.{IsView, WordRule}
 use Rattle.bihash_steps.specs.Steps.{ViewOfSeat}
 use Rattle.bihash_steps.specs.StoreSteps.{holding, IsHeldWord, stored_at}
@@ -17,6 +17,7 @@ use Rattle.bihash_steps.specs.declared.view.Known.{Known}
 use Rattle.bihash_steps.specs.declared.view.LockedBucket.{LockedBucket}
 use Rattle.bihash_steps.specs.declared.view.HeldBlock.{HeldBlock}
 use Rattle.bihash_steps.specs.declared.view.View.{View}
+use Rattle.bihash_steps.proofs.Lists.{no_row}
 use Rattle.bihash_steps.proofs.CountWord.{front}
 use Rattle.bihash_steps.proofs.Frames.{Beside, free_none, grows_not, keeps_refl, stands_beside, store_keeps, store_lock_beside, moved}
 use Rattle.bihash_steps.proofs.Runs.{near_end, run_word, beside_block, stored_stands, store_still, count_still, page_after, word_of_block, runs_still}
@@ -87,6 +88,7 @@ module _ (z : Sizes) (s : State (Unit {0}) View) (r : WordRule z s) (id : ℕ) (
     block = block_stored;
     open_bucket = tt;
     still = λ _. tt;
+    row = λ _. no_row words';
     short = ok.short;
     left = tt;
     meeting = tt;
@@ -109,8 +111,8 @@ module _ (z : Sizes) (s : State (Unit {0}) View) (r : WordRule z s) (id : ℕ) (
         keeps = keeps_refl (r.table.bucket (buckets z));
         here = λ l. absurd (omega arith);
         outside = λ _. nobody;
-        store = store_keeps z s.words words' front_same (all_writes z r.table.bucket) (all_writes z r.table.bucket) r.table.store
-            (le_refl (all_writes z r.table.bucket)) r.store;
+        store = store_keeps z s.words words' front_same (all_used z r.table.openings r.table.bucket) (all_used z r.table.openings r.table.bucket) r.table.store
+            (le_refl (all_used z r.table.openings r.table.bucket)) r.store;
         undisturbed = inl (refl, front_same);
         view = view_stored;
         numbers = λ k has_number. has_number;

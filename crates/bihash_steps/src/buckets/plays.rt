@@ -2,6 +2,7 @@
 //! word of a block.
 ghost use Rattle.std.specs.Prelude.{◌≡◌, ℕ, ◌+◌, false, [], length, Some, None};
 ghost use Rattle.bihash_words.specs.Sizes.{sizes_of};
+ghost use Rattle.bihash_words.specs.Expiries.{no_recycling};
 ghost use Rattle.bihash_words.specs.declared.patch.Change.TheVariants.{Keep};
 ghost use Rattle.bihash_words.specs.declared.patch.Reply.TheVariants.{Full};
 ghost use Rattle.bihash_words.specs.Words.{Fits};
@@ -74,7 +75,7 @@ pub(crate) trait Calling {
 }
 
 impl Calling for Brand {
-    ghost call = { record { bucket = 0; stamp = 0; key = []; found = None; change = Keep; reply = Full; store = None } };
+    ghost call = { record { bucket = 0; stamp = 0; key = []; found = None; change = Keep; reply = Full; recycling = no_recycling; store = None } };
 }
 
 /// A store of a bucket's old word that answers a call. The word's version is the number of the writes that

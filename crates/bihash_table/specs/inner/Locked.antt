@@ -1,13 +1,20 @@
 -- A bucket whose lock a caller has, before it stored a word of its block.
-use Rattle.std.specs.Prelude.{◌≡◌, ℕ, ◌+◌, ◌^◌, ◌<◌, ◌≤◌, Bool, List, length, true, false, None, Some}
+use Rattle.std.specs.Cmp.Lexicographic.{slice_cmp}
+use Rattle.std.specs.FinMap.{len}
+use Rattle.std.specs.Ordering.{nat_cmp}
+use Rattle.std.specs.declared.cmp.Ordering.TheVariants.{Greater}
+use Rattle.bihash_words.specs.Blocks.{IsOpen}
+use Rattle.bihash_words.specs.Maps.{Pairs, most_pairs}
+use Rattle.bihash_words.specs.Pages.{page_of, word_paging}
+use Rattle.std.specs.Prelude.{◌≡◌, ◌≢◌, ℕ, ◌+◌, ◌^◌, ◌<◌, ◌≤◌, Bool, List, length, true, false, None, Some}
 use Rattle.bihash_words.specs.Patches.{IsStorable}
 use Rattle.bihash_words.specs.Sizes.{Sizes}
 use Rattle.bihash_words.specs.declared.patch.Change.{Change}
 use Rattle.bihash_words.specs.Words.{Fits, packed}
 use Rattle.bihash_steps.specs.Words.{buckets, block_words}
-use Rattle.bihash_steps.specs.Histories.{IsPrefix, IsWriteList}
+use Rattle.bihash_steps.specs.Histories.{IsPrefix, IsWriteList, bounds_of}
 use Rattle.bihash_steps.specs.Callers.{known_at, opening_at}
-use Rattle.bihash_steps.specs.Blocks.{IsBlockOf}
+use Rattle.bihash_steps.specs.Blocks.{HoldsPair, IsBlockOf}
 use Rattle.bihash_steps.specs.Buckets.{word_of}
 use Rattle.bihash_steps.specs.Views.{nothing_held}
 use Rattle.bihash_steps.specs.BucketSteps.{with_history, locking, map_now}
@@ -61,3 +68,21 @@ IsPlaceForNew z key i e block = IsPairIn z key None e block × IsFreeFor z e blo
 -- the key's pair is there, and whether another pair does
 abbrev pub IsPairBeside : Sizes → List ℕ → ℕ × ℕ → Bool → Extent → List ℕ → Type 0
 IsPairBeside z key pair other e block = IsPairIn z key (Some pair) e block × OtherPairTells z pair.0 other e block
+
+-- Place i has an expired pair of the key that goes for a new one, and the block may have this linear mark then.
+pub record IsSpareFor (z : Sizes) (key gone : List ℕ) (is_expired : ℕ → Bool) (linear : Bool) (i : ℕ) (e : Extent)
+    (block : List ℕ) : Type 0 where
+  pub value : ℕ
+  pub pair : HoldsPair z e block gone value i
+  pub word : value < 2 ^ 64
+  pub expired : is_expired value ≡ true
+  pub least : (other : List ℕ) (v j : ℕ) → HoldsPair z e block other v j → is_expired v ≡ true
+      → slice_cmp nat_cmp gone other ≢ Greater
+  pub open_to : IsOpen linear (page_of (word_paging z) e.size.log2 key) i
+  pub stays : e.size.linear ≡ true → linear ≡ true
+
+-- the key is new to a bucket that has no room, and takes that place
+abbrev pub TakesPlace : Sizes → List ℕ → List ℕ → (ℕ → Bool) → Bool → ℕ → Extent → List ℕ → Type 0
+TakesPlace z key gone is_expired linear i e block = IsPairIn z key None e block
+    × ((m : Pairs) → IsBlockOf z e block m → most_pairs (bounds_of z) ≤ len m)
+    × IsSpareFor z key gone is_expired linear i e block

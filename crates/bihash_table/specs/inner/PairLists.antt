@@ -9,14 +9,11 @@ use Rattle.bihash_words.specs.declared.shape.Shape.{Ghosts}
 use Rattle.bihash_steps.specs.Histories.{IsWriteList, bucket_of}
 use Rattle.bihash_steps.specs.Callers.{IsLawfulCaller, known_at, opening_at}
 use Rattle.bihash_steps.specs.Blocks.{HoldsPair, IsBlockOf}
-use Rattle.bihash_steps.specs.Seats.{CallerState, with_view}
+use Rattle.bihash_steps.specs.Seats.{CallerState}
 use Rattle.bihash_steps.specs.Views.{nothing_held}
 use Rattle.bihash_steps.specs.declared.view.Extent.{Extent}
 use Rattle.bihash_steps.specs.declared.view.Known.{Known}
-use Rattle.bihash_steps.specs.declared.view.View.{View}
-use Rattle.bihash_table.specs.Answers.{with_locks}
 use Rattle.bihash_table.specs.Closing.{keys_of, map_in}
-use Rattle.bihash_table.specs.Tries.{TookAtMost}
 
 -- The pairs of the list are those that `has` has, and each key stands once.
 pub record ListsPairs {A K : Type 0} (g : Ghosts A K) (ps : List (K × ℕ)) (has : List ℕ → ℕ → Type 0) : Type 0 where
@@ -60,21 +57,9 @@ abbrev pub AddsBlock : {A K : Type 0} → Ghosts A K → Extent → List ℕ →
 AddsBlock g e block old new = (known : Known) (b : ℕ) → IsBlockIn (sizes_of g) known b e block → ListsBuckets g known b old
     → ListsBuckets g known (b + 1) new
 
--- locks were taken and opened, and nothing changed but what was noted
-pub record TookLocks (v w : View) : Type 0 where
-  pub locks : ℕ
-  pub is : w ≡ record v { records = with_locks locks v.records; notes = w.notes }
-
 -- the caller belongs to this row, holds nothing, is lone and lawful
 pub record IsIdleAndLone (z : Sizes) (row : _) (s : CallerState) : Type 0 where
   pub own : s.row ≡ row
   pub free : s.view.holds ≡ nothing_held
   pub lone : s.view.lone ≡ true
   pub lawful : IsLawfulCaller z s.view
-
--- the same caller, lawful, after locks that it took and opened, so many at most
-pub record IsAfterLocks (z : Sizes) (s t : CallerState) (most : ℕ) : Type 0 where
-  pub same : t ≡ with_view s t.view
-  pub took : TookLocks s.view t.view
-  pub few : TookAtMost s.view t.view most
-  pub lawful : IsLawfulCaller z t.view

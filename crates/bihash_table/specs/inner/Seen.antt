@@ -1,17 +1,17 @@
 -- A bucket that was seen without its lock, with what was read of it, and its lock after that.
-use Rattle.std.specs.Prelude.{◌≡◌, ◌≢◌, ◌<◌, ℕ, Bool, true, false, List, length, Option, None, Some, IfSome, IfNone, is_some}
-use Rattle.std.specs.FinMap.{get}
-use Rattle.bihash_words.specs.Maps.{Event, Pairs, IsEvent, effect_of}
+use Rattle.std.specs.Prelude.{◌≡◌, ◌≢◌, ◌<◌, ◌≤◌, ℕ, Bool, true, false, List, length, Option, None, Some, IfSome, IfNone, is_some}
+use Rattle.std.specs.FinMap.{get, len}
+use Rattle.bihash_words.specs.Maps.{Event, Pairs, IsEvent, effect_of, most_pairs}
 use Rattle.bihash_words.specs.Patches.{IsStorable}
 use Rattle.bihash_words.specs.Sizes.{Sizes, sizes_of}
 use Rattle.bihash_words.specs.declared.patch.Change.{Change}
 use Rattle.bihash_words.specs.declared.patch.Change.TheVariants.{Keep, Set}
 use Rattle.bihash_words.specs.declared.patch.Reply.{Reply}
-use Rattle.bihash_words.specs.declared.patch.Reply.TheVariants.{NoPages}
+use Rattle.bihash_words.specs.declared.patch.Reply.TheVariants.{Full, NoPages}
 use Rattle.bihash_words.specs.declared.shape.Shape.{Ghosts}
 use Rattle.bihash_steps.specs.Histories.{bounds_of, is_changed}
 use Rattle.bihash_steps.specs.Callers.{IsLawfulCaller, known_at}
-use Rattle.bihash_steps.specs.Blocks.{IsBlockOf}
+use Rattle.bihash_steps.specs.Blocks.{IsBlockOf, places}
 use Rattle.bihash_steps.specs.Buckets.{AreReadIn}
 use Rattle.bihash_steps.specs.BucketSteps.{map_now}
 use Rattle.bihash_steps.specs.Seats.{CallerState, with_view}
@@ -22,7 +22,7 @@ use Rattle.bihash_steps.specs.BucketCalls.{event}
 use Rattle.bihash_table.specs.inner.Locked.{IsLocked}
 use Rattle.bihash_table.specs.inner.OpenReads.{HasOpen, IsOpened, IsPairIn, value_of}
 use Rattle.bihash_table.specs.Promise.{IsContended}
-use Rattle.bihash_table.specs.inner.Places.{IsCrowdedFor}
+use Rattle.bihash_table.specs.inner.Places.{ArePlaces, IsCrowdedFor}
 
 -- The caller saw bucket b without its lock, and read words of its block since. What they tell of the block
 -- holds on the condition that they are its words.
@@ -74,7 +74,8 @@ pub record TellsLock (z : Sizes) (s t : CallerState) (b word : ℕ) (won : Bool)
 
 -- ---- What a call may do on what was seen
 
--- The caller of this row saw bucket b, and may give this reply, which is no write and no refusal for want of pages.
+-- The caller of this row saw bucket b, and may give this reply, which is no write and no refusal for want of pages or
+-- of room.
 pub record MayReply {A K : Type 0} (g : Ghosts A K) (row : _) (s : CallerState) (b word : ℕ) (key : K)
     (found : Option ℕ) (change : Change) (reply : Reply) : Type 0 where
   pub own : s.row ≡ row
@@ -82,6 +83,7 @@ pub record MayReply {A K : Type 0} (g : Ghosts A K) (row : _) (s : CallerState) 
       (event (g.words_of key) found change reply))
   pub reads : is_changed reply ≡ false
   pub paged : (log2 left : ℕ) → reply ≡ NoPages log2 left → ⊥
+  pub roomy : reply ≢ Full
 
 -- The caller of this row saw bucket b, and what a look for the key's pair found there.
 pub record Found {A K : Type 0} (g : Ghosts A K) (row : _) (s : CallerState) (b word : ℕ) (key : K)
@@ -105,3 +107,23 @@ pub record WantsRoom {A K : Type 0} (g : Ghosts A K) (row : _) (s : CallerState)
   pub seen : HasSeen (sizes_of g) s.view b word (IsNewAndCrowded (sizes_of g) (g.words_of key))
   pub unworn : length (known_at s.view.known b) < g.LIMIT
   pub storable : IsStorable (Set value)
+
+-- the places of a bucket that has no room for the new key
+abbrev pub IsFullFor : {A K : Type 0} (g : Ghosts A K) → K → List (K × ℕ) → Extent → List ℕ → Type 0
+IsFullFor g key ps e block = IsNewAndCrowded (sizes_of g) (g.words_of key) e block × ArePlaces g ps block
+    × ((m : Pairs) → IsBlockOf (sizes_of g) e block m → most_pairs (bounds_of (sizes_of g)) ≤ len m)
+    × (length ps ≡ places e.page e.size.log2)
+
+-- The caller of this row saw bucket b, which is full, with these places. A new key is to have this value.
+pub record WantsPlace {A K : Type 0} (g : Ghosts A K) (row : _) (s : CallerState) (b word : ℕ) (key : K)
+    (value : ℕ) (ps : List (K × ℕ)) : Type 0 where
+  pub own : s.row ≡ row
+  pub seen : HasSeen (sizes_of g) s.view b word (IsFullFor g key ps)
+  pub count : length ps ≡ places seen.seen.extent.page seen.seen.extent.size.log2
+  pub unworn : length (known_at s.view.known b) < g.LIMIT
+  pub storable : IsStorable (Set value)
+
+-- The caller of this row saw bucket b, and may be refused so.
+pub record MayRefuse {A K : Type 0} (g : Ghosts A K) (row : _) (s : CallerState) (b word : ℕ) (call : Event) : Type 0 where
+  pub own : s.row ≡ row
+  pub seen : HasSeen (sizes_of g) s.view b word (IsAnswerOf (sizes_of g) (length (known_at s.view.known b)) call)

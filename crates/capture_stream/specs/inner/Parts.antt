@@ -1,12 +1,12 @@
 -- Those who judge packets in one thread, and what another one reads: before and after.
-use Rattle.std.specs.Prelude.{◌≡◌, ◌-◌, ◌<◌, ◌≤◌, ◌^◌, ◌⊎◌, ℕ, IfErr, IfOk, List, Option, Result}
+use Rattle.std.specs.Prelude.{◌≡◌, ◌-◌, ◌<◌, ◌≤◌, ◌^◌, ◌⊎◌, ℕ, IfErr, IfOk, List, Option, Result, length}
 use Rattle.packet_view.specs.Captures.{PacketFacts}
 use Rattle.packet_view.specs.declared.capture.Order.{Order}
 use Rattle.packet_view.specs.declared.packets.Packets.{Packets}
 use Rattle.racl_io.specs.declared.fault.Fault.{Fault}
 use Rattle.racl_io.specs.declared.fault.Fault.TheVariants.{Memory, Read}
 use Rattle.racl_io.specs.Inputs.{most_bytes}
-use Rattle.racl_io.specs.Transfers.{HasRead, failures_after_reads}
+use Rattle.racl_io.specs.Transfers.{HasRead, HasReadWithin}
 use Rattle.capture_stream.specs.Judging.{CanFollow, HaveFollowed}
 use Rattle.capture_stream.specs.inner.Found.{HaveFound}
 use Rattle.capture_stream.specs.declared.window.NextWindow.{NextWindow}
@@ -28,9 +28,9 @@ HaveJudged Became old more new = ⊥
 abbrev pub MayRead : ℕ → ℕ → Type 0
 MayRead failures least = (failures < 2 ^ 64 - 1) × (least ≤ most_bytes)
 
--- a buffer got bytes of the reader until it had so many, and the records in it were found; or a read failed, or there was no memory
+-- a buffer got bytes of the reader until it had so many and no more, and the records in it were found; or a read failed, or there was no memory
 abbrev pub HasReadMore : {R : Type 0} → (R → Option (List ℕ)) → (R → ℕ) → R → R → List ℕ → List ℕ → ℕ → Order → Result NextWindow Fault → Type 0
 HasReadMore bytes_left failures before after old new least order result =
     IfOk result (λ next. HasRead (bytes_left before) (bytes_left after) old new least next.ended × HaveFound order new next.found)
-    × (failures after ≡ failures_after_reads (failures before) result)
+    × HasReadWithin bytes_left failures (least - length old) before after result
     × IfErr result (λ e. (e ≡ Memory) ⊎ (e ≡ Read))

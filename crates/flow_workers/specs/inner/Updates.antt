@@ -1,7 +1,7 @@
 -- An update as the packet that made it is told of it, and what it tells of callers.
-use Rattle.std.specs.Prelude.{◌≡◌, ℕ, true, List, Option, Result, IfOk, IfErr, is_ok}
+use Rattle.std.specs.Prelude.{◌≡◌, ℕ, Bool, true, List, Option, Result, IfOk, IfErr, is_ok}
 use Rattle.bihash_words.specs.Maps.{Event, found_by}
-use Rattle.bihash_words.specs.Sizes.{bucket_of, sizes_of}
+use Rattle.bihash_words.specs.Sizes.{Sizes, bucket_of, sizes_of}
 use Rattle.bihash_words.specs.declared.patch.Change.{Change}
 use Rattle.bihash_words.specs.declared.patch.Reply.{Reply}
 use Rattle.bihash_words.specs.declared.patch.Reply.TheVariants.{NoPages}
@@ -9,29 +9,37 @@ use Rattle.bihash_words.specs.declared.shape.Shape.{Ghosts}
 use Rattle.bihash_steps.specs.Callers.{IsLawfulCaller}
 use Rattle.bihash_steps.specs.Seats.{CallerState, with_view}
 use Rattle.bihash_steps.specs.declared.view.View.{View}
-use Rattle.bihash_table.specs.Answers.{update_of}
+use Rattle.bihash_table.specs.Answers.{recycled_update}
 use Rattle.bihash_table.specs.OutOfPages.{IsOutOfPages}
 use Rattle.bihash_table.specs.Promise.{IsAnswered, IsContended}
 use Rattle.bihash_table.specs.Tries.{TookAtMost, TookByTries}
 use Rattle.bihash_table.specs.declared.contended.Contended.{Contended}
 use Rattle.session_state.specs.declared.flow.FlowKey.{FlowKey}
-use Rattle.flow_filter.specs.OneThread.{layout_of}
+use Rattle.flow_filter.specs.OneThread.{Layout, layout_of}
 use Rattle.flow_filter.specs.Updates.{words_of}
+use Rattle.flow_dealing.specs.Views.{Views}
 use Rattle.flow_workers.specs.declared.tables.Callers.{Callers}
 use Rattle.flow_workers.specs.declared.tables.Tables.{Tables}
 use Rattle.flow_workers.specs.Callers.{AreIdle, AreSame, views_of}
 use Rattle.flow_workers.specs.Judging.{IsAway, IsEntered, TookByOneTry}
 use Rattle.flow_workers.specs.OutOfPages.{IsFlowOutOfPages}
 
--- an update of a key by this decision, on the value that its reply tells
-abbrev pub told : List ℕ → (Option ℕ → Change) → Reply → Event
-told key decision reply = update_of key (found_by reply) decision reply
+-- An update of a key by this decision, on the value that its reply tells, with this expiry. It removed a key for its
+-- own, or none.
+abbrev pub told : List ℕ → (Option ℕ → Change) → (ℕ → Bool) → Option (List ℕ) → Reply → Event
+told key decision is_expired removed reply =
+    recycled_update key (found_by reply) (decision (found_by reply)) is_expired removed reply
+
+-- from the view v to w an update with this expiry was answered so
+abbrev pub IsTold : Sizes → View → View → List ℕ → (Option ℕ → Change) → (ℕ → Bool) → Reply → Type 0
+IsTold z v w words decision is_expired reply =
+    (removed : Option (List ℕ)) × IsAnswered z v w (told words decision is_expired removed reply)
 
 -- an update of the key of these words that was answered so: s is the caller before it, t after it
 pub record TellsWords {A K : Type 0} (g : Ghosts A K) (s t : CallerState) (words : List ℕ)
-    (decision : Option ℕ → Change) (reply : Reply) : Type 0 where
+    (decision : Option ℕ → Change) (is_expired : ℕ → Bool) (reply : Reply) : Type 0 where
   pub same : t ≡ with_view s t.view
-  pub answered : IsAnswered (sizes_of g) s.view t.view (told words decision reply)
+  pub answered : IsTold (sizes_of g) s.view t.view words decision is_expired reply
   pub locks : TookByTries s.view t.view reply
   pub no_pages : (log2 left : ℕ) → reply ≡ NoPages log2 left
       → IsOutOfPages g t.view (bucket_of (sizes_of g) words) (g.key_of words) log2 left
@@ -39,9 +47,9 @@ pub record TellsWords {A K : Type 0} (g : Ghosts A K) (s t : CallerState) (words
 
 -- one try of it, which a lone caller finds answered
 pub record TellsWordsTry {A K : Type 0} (g : Ghosts A K) (s t : CallerState) (words : List ℕ)
-    (decision : Option ℕ → Change) (r : Result Reply Contended) : Type 0 where
+    (decision : Option ℕ → Change) (is_expired : ℕ → Bool) (r : Result Reply Contended) : Type 0 where
   pub same : t ≡ with_view s t.view
-  pub answered : IfOk r (λ reply. IsAnswered (sizes_of g) s.view t.view (told words decision reply))
+  pub answered : IfOk r (IsTold (sizes_of g) s.view t.view words decision is_expired)
   pub no_pages : IfOk r (λ reply. (log2 left : ℕ) → reply ≡ NoPages log2 left
       → IsOutOfPages g t.view (bucket_of (sizes_of g) words) (g.key_of words) log2 left)
   pub locks : IfOk r (TookByOneTry s.view t.view) × IfErr r (λ _. TookAtMost s.view t.view 1)
@@ -49,24 +57,29 @@ pub record TellsWordsTry {A K : Type 0} (g : Ghosts A K) (s t : CallerState) (wo
   pub lone : s.view.lone ≡ true → is_ok r ≡ true
   pub lawful : IsLawfulCaller (sizes_of g) t.view
 
+-- the same of a flow's key in the table of its family, by a call that took locks as `took` says
+abbrev pub IsToldFlow : Layout → (View → View → Reply → Type 0) → FlowKey → (Option ℕ → Change) → (ℕ → Bool) → Views
+    → Views → Reply → Type 0
+IsToldFlow l took key decision is_expired v w reply =
+    (removed : Option (List ℕ)) × IsEntered l took key (told (words_of key) decision is_expired removed reply) v w
+
 -- an update of a flow's key that was answered so, in the table of its family, and took locks as `took` says
 pub record TellsFlow {A B K L : Type 0} {ga : Ghosts A K} {gb : Ghosts B L} (took : View → View → Reply → Type 0)
     (tables : Tables A B K L) (old new : Callers A B K L ga gb) (key : FlowKey) (decision : Option ℕ → Change)
-    (reply : Reply) : Type 0 where
+    (is_expired : ℕ → Bool) (reply : Reply) : Type 0 where
   pub same : AreSame ga gb old new
   pub idle : AreIdle ga gb tables new
-  pub entered : IsEntered (layout_of ga gb) took key (told (words_of key) decision reply) (views_of ga gb old)
-      (views_of ga gb new)
+  pub entered : IsToldFlow (layout_of ga gb) took key decision is_expired (views_of ga gb old) (views_of ga gb new) reply
   pub no_pages : (log2 left : ℕ) → reply ≡ NoPages log2 left → IsFlowOutOfPages ga gb key (views_of ga gb new) log2 left
 
 -- one try of it, which lone callers find answered
 pub record TellsFlowTry {A B K L : Type 0} {ga : Ghosts A K} {gb : Ghosts B L} (tables : Tables A B K L)
-    (old new : Callers A B K L ga gb) (key : FlowKey) (decision : Option ℕ → Change) (r : Result Reply Contended)
-    : Type 0 where
+    (old new : Callers A B K L ga gb) (key : FlowKey) (decision : Option ℕ → Change) (is_expired : ℕ → Bool)
+    (r : Result Reply Contended) : Type 0 where
   pub same : AreSame ga gb old new
   pub idle : AreIdle ga gb tables new
-  pub entered : IfOk r (λ reply. IsEntered (layout_of ga gb) TookByOneTry key (told (words_of key) decision reply)
-      (views_of ga gb old) (views_of ga gb new))
+  pub entered : IfOk r (IsToldFlow (layout_of ga gb) TookByOneTry key decision is_expired (views_of ga gb old)
+      (views_of ga gb new))
   pub no_pages : IfOk r (λ reply. (log2 left : ℕ) → reply ≡ NoPages log2 left
       → IsFlowOutOfPages ga gb key (views_of ga gb new) log2 left)
   pub contended : IfErr r (λ _. IsAway (layout_of ga gb) key (views_of ga gb old) (views_of ga gb new))

@@ -146,13 +146,15 @@ returns-in-Ok g c =
     (left_written z s.view c.publish_block.new.caller.view c.leave_store.new.seat.view site.bucket c.args.seen.now.word h.lock n block
     (event key None (Set c.args.value) (Changed None)) h.has (sym site.home) refl done c.leave_store.ensures.left)
 
-pub pool_unlock-requires-clause-settled : goal.pool_unlock-requires-clause-settled
-pool_unlock-requires-clause-settled g c =
-    let locks = c.pool_lock.ensures.taken c.if-not-pool_lock.false in (
-      locked_on locks.store,
-      ap (λ (s : CallerState). s.view.holds.store) c.in-Err.ensures.refused.0 ∙ ap (λ (x : View). x.holds.store) locks.is,
-      locks.settled,
-    )
+pub pool_unlock-requires-clause-may : goal.pool_unlock-requires-clause-may
+pool_unlock-requires-clause-may g c =
+    let locks = c.pool_lock.ensures.taken c.if-not-pool_lock.false in let same = c.in-Err.ensures.refused.0 in record {
+      locked = locked_on locks.store;
+      held = ap (λ (s : CallerState). s.view.holds.store) same ∙ ap (λ (x : View). x.holds.store) locks.is;
+      settled = locks.settled;
+      returned = ap (λ (s : CallerState). s.view.holds.block) same ∙ ap (λ (x : View). x.holds.block) locks.is
+          ∙ ap (λ (h : Holdings). h.block) c.requires.held.has.held;
+    }
 
 pub release-requires-clause-at : goal.release-requires-clause-at
 release-requires-clause-at g c = let h = c.requires.held in

@@ -1,4 +1,4 @@
-use Rattle.std.proofs.Common.{◌≤◌, ◌∙◌, ◌^◌, None, Err, ap, arith, length, length-take, length-take-le, pow_mono, refl, subst, sym}
+use Rattle.std.proofs.Common.{◌≡◌, ◌≤◌, ◌∙◌, ◌^◌, None, Err, ap, arith, length, length-take, length-take-le, pow_mono, refl, subst, sym}
 use Rattle.bihash_words.specs.Sizes.{sizes_of}
 use Rattle.bihash_words.specs.declared.block_size.BlockSize.{BlockSize}
 use Rattle.bihash_words.specs.declared.patch.Change.TheVariants.{Set}
@@ -6,13 +6,13 @@ use Rattle.bihash_plan.specs.declared.outcome.Plan.TheVariants.{Grow}
 use Rattle.bihash_steps.specs.Blocks.{places}
 use Rattle.bihash_table.specs.inner.Scans.{CountsPlaces}
 use Rattle.bihash_table.proofs.Bridge.{AreKeyWords, sized}
-use Rattle.bihash_table.proofs.Growing.{full_seen, laid_there, planned_there, room_there}
+use Rattle.bihash_table.proofs.Growing.{full_extent, full_seen, wants_place, laid_there, planned_there, room_there}
 use Rattle.bihash_table.proofs.SameCallers.{own_through}
 use Rattle.bihash_table.proofs.Seeing.{may_read, names_block, word_notes}
 use Rattle.bihash_table.proofs.Sights.{seen_more}
 use Rattle.bihash_table.proofs.Stores.{log2_is}
 use Rattle.bihash_table.proofs.Planning.{places_read}
-use Rattle.bihash_table.proofs.Tries.{tried_locked, tried_not, tried_read, under_as, under_lock, unworn_read}
+use Rattle.bihash_table.proofs.Tries.{over, over_read, tried_locked, tried_not, tried_read, under_as, under_lock, unworn_read}
 use Rattle.bihash_table.proofs.grow.enter_as_planned.Goals as goal
 
 pub place_count-requires : goal.place_count-requires
@@ -42,28 +42,34 @@ larger-requires g c =
           ∙ ap (places e.page) (sym log2_at));
     }
 
-pub answer-requires : goal.answer-requires
-answer-requires g c =
+pub recycle_or_refuse-requires : goal.recycle_or_refuse-requires
+recycle_or_refuse-requires g c =
     let z = sizes_of g.S.Shape in
     let site = c.args.seen.now.site in
     let y = c.read_block.new.seat in
     let read = c.read_block.ensures.read in
     let w = c.requires.wants in
     let h = seen_more z c.args.seat.now.view y.view site.bucket c.args.seen.now.word read.saw w.seen in
-    let keys : AreKeyWords g.S.Shape = record { law = g.met.S.Shape.key_of_words } in record {
-      own = own_through c.args.seat.now _ _ read.same w.own;
-      seen = full_seen g.S.Shape keys y.view site.bucket c.args.seen.now.word site.key.now c.read_block.new.out h c.block_size.result
-          c.block_size.ensures c.larger.result c.larger.ensures.lawful c.in_default.not-Grow c.args.value _
-          (unworn_read g.S.Shape c.args.seat.now y site.bucket read w.unworn);
-      reads = refl;
-      paged = λ log2 left e. absurd cc;
-    }
+    let e = h.seen.extent in
+    let tells = word_notes z y.view c.args.seen.now.word e h.seen.block in
+    let count : length c.read_block.new.out ≡ places e.page e.size.log2 = c.read_block.ensures.sized
+    ∙ places_read e.page e.page e.size.log2 c.place_count.result _ c.args.old.now refl
+    (c.place_count.ensures.count e tells) c.place_count.ensures.few c.requires.room.0 in
+    let keys : AreKeyWords g.S.Shape = record { law = g.met.S.Shape.key_of_words } in
+    let full = full_seen g.S.Shape keys y.view site.bucket c.args.seen.now.word site.key.now c.read_block.new.out h c.block_size.result
+    c.block_size.ensures c.larger.result c.larger.ensures.lawful c.in_default.not-Grow count in
+    wants_place g.S.Shape _ y site.bucket c.args.seen.now.word site.key.now c.args.entrant.now.value c.read_block.new.out
+    (own_through c.args.seat.now _ _ read.same w.own) full
+    (full_extent g.S.Shape keys y.view site.bucket c.args.seen.now.word site.key.now c.read_block.new.out h c.block_size.result
+    c.block_size.ensures c.larger.result c.larger.ensures.lawful c.in_default.not-Grow count)
+    (unworn_read g.S.Shape c.args.seat.now y site.bucket read w.unworn) w.storable
 
 pub returns-in_default : goal.returns-in_default
 returns-in_default g c =
     let site = c.args.seen.now.site in
-    tried_read g.S.Shape c.args.seat.now c.read_block.new.seat c.answer.new.seat site.bucket site.key.now None (Set c.args.value)
-    c.read_block.ensures.read (sym site.home) c.answer.result c.answer.ensures
+    over_read g.S.Shape c.args.seat.now c.read_block.new.seat c.recycle_or_refuse.new.seat site.bucket site.key.now None
+    (Set c.args.entrant.now.value) (g.E.Expiry.is_expired c.args.entrant.now.expiry.now)
+    c.read_block.ensures.read (sym site.home) c.recycle_or_refuse.result c.recycle_or_refuse.ensures
 
 pub slice_bounds-new-end : goal.slice_bounds-new-end
 slice_bounds-new-end g c =
@@ -96,9 +102,10 @@ lock_seen-requires-clause-seen g c =
 pub returns-then-not-lock_seen : goal.returns-then-not-lock_seen
 returns-then-not-lock_seen g c =
     let site = c.args.seen.now.site in
-    tried_read g.S.Shape c.args.seat.now c.read_block.new.seat c.lock_seen.new.seat site.bucket site.key.now None (Set c.args.value)
+    over g.S.Shape _ _ _ _ _ _ (Err _)
+    (tried_read g.S.Shape c.args.seat.now c.read_block.new.seat c.lock_seen.new.seat site.bucket site.key.now None (Set c.args.entrant.now.value)
     c.read_block.ensures.read (sym site.home) (Err _)
-    (tried_not g.S.Shape _ _ _ _ _ _ (sym site.home) _ c.lock_seen.ensures c.if-not-lock_seen.true)
+    (tried_not g.S.Shape _ _ _ _ _ _ (sym site.home) _ c.lock_seen.ensures c.if-not-lock_seen.true))
 
 pub enter-requires : goal.enter-requires
 enter-requires g c =
@@ -112,7 +119,7 @@ enter-requires g c =
     let small : c.in-Grow.size.log2 ≤ g.S.Shape.MAX_LOG2 = c.in-Grow.ensures.safe in
     let few : 2 ^ c.in-Grow.size.log2 ≤ 2 ^ g.S.Shape.MAX_LOG2 = pow_mono small in
     let k = c.lock_seen.ensures.locked c.if-not-lock_seen.false in record {
-      held = under_as (under_lock g.S.Shape y _ _ _ (Set c.args.value) (own_through c.args.seat.now _ _ read.same w.own)
+      held = under_as (under_lock g.S.Shape y _ _ _ (Set c.args.entrant.now.value) (own_through c.args.seat.now _ _ read.same w.own)
           (unworn_read g.S.Shape c.args.seat.now y site.bucket read w.unworn) w.storable h c.lock_seen.ensures c.if-not-lock_seen.false)
           (λ told. told.0.0);
       room = room_there g.S.Shape keys y.view site.bucket c.args.seen.now.word site.key.now c.read_block.new.out h c.block_size.result
@@ -121,7 +128,7 @@ enter-requires g c =
       sized = omega (arith, c.lay.auto.out, c.places_of.ensures, c.requires.room.1, length-take c.places_of.result c.args.new.now);
       laid = laid_there g.S.Shape keys y.view site.bucket c.args.seen.now.word site.key.now c.read_block.new.out h c.block_size.result
           c.block_size.ensures (Grow c.in-Grow.size) c.in-Grow.ensures.lawful c.lock_seen.new.seat.view k c.in-Grow.size refl
-          c.args.value c.lay.new.out w.storable c.lay.ensures;
+          c.args.entrant.now.value c.lay.new.out w.storable c.lay.ensures;
       planned = planned_there g.S.Shape keys y.view site.bucket c.args.seen.now.word site.key.now c.read_block.new.out h c.block_size.result
           c.block_size.ensures (Grow c.in-Grow.size) c.in-Grow.ensures.lawful c.lock_seen.new.seat.view k c.in-Grow.size refl;
     }
@@ -130,7 +137,8 @@ pub returns : goal.returns
 returns g c =
     let site = c.args.seen.now.site in
     let y = c.read_block.new.seat in
-    tried_read g.S.Shape c.args.seat.now y c.enter.new.seat site.bucket site.key.now None (Set c.args.value)
+    over g.S.Shape _ _ _ _ _ _ c.enter.result
+    (tried_read g.S.Shape c.args.seat.now y c.enter.new.seat site.bucket site.key.now None (Set c.args.entrant.now.value)
     c.read_block.ensures.read (sym site.home) c.enter.result
-    (tried_locked g.S.Shape y c.lock_seen.new.seat c.enter.new.seat site.bucket c.args.seen.now.word site.key.now None (Set c.args.value)
-    c.lock_seen.ensures c.if-not-lock_seen.false (sym site.home) c.enter.result c.enter.ensures)
+    (tried_locked g.S.Shape y c.lock_seen.new.seat c.enter.new.seat site.bucket c.args.seen.now.word site.key.now None (Set c.args.entrant.now.value)
+    c.lock_seen.ensures c.if-not-lock_seen.false (sym site.home) c.enter.result c.enter.ensures))

@@ -9,12 +9,13 @@ give_back_old-requires g c = c.requires
 pub pool_unlock-requires-clause-own : goal.pool_unlock-requires-clause-own
 pool_unlock-requires-clause-own g c = ap (λ (s : CallerState). s.row) c.give_back_old.ensures.is ∙ c.requires.own
 
-pub pool_unlock-requires-clause-settled : goal.pool_unlock-requires-clause-settled
-pool_unlock-requires-clause-settled g c = (
-  c.give_back_old.ensures.locked,
-  ap (λ (s : CallerState). s.view.holds.store) c.give_back_old.ensures.is,
-  c.give_back_old.ensures.settled,
-)
+pub pool_unlock-requires-clause-may : goal.pool_unlock-requires-clause-may
+pool_unlock-requires-clause-may g c = let given = c.give_back_old.ensures in record {
+  locked = given.locked;
+  held = ap (λ (s : CallerState). s.view.holds.store) given.is;
+  settled = given.settled;
+  returned = ap (λ (s : CallerState). s.view.holds.block) given.is;
+}
 
 pub returns-clause-same : goal.returns-clause-same
 returns-clause-same g c =

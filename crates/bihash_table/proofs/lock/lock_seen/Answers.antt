@@ -1,7 +1,6 @@
 use Rattle.std.proofs.Common.{false, refl, ap}
 use Rattle.bihash_words.specs.Sizes.{sizes_of}
 use Rattle.bihash_steps.specs.Buckets.{word_of}
-use Rattle.bihash_steps.specs.declared.view.Holdings.{Holdings}
 use Rattle.bihash_steps.specs.declared.view.View.{View}
 use Rattle.bihash_table.proofs.Opened.{open_word_is, not_taken}
 use Rattle.bihash_table.proofs.Sights.{locks_seen}
@@ -12,7 +11,7 @@ lock_from-requires-clause-at g c = record { own = c.requires.own; inside = c.req
 
 pub lock_from-requires-clause-may : goal.lock_from-requires-clause-may
 lock_from-requires-clause-may g c = let h = c.requires.seen in record {
-  free = ap (λ (h : Holdings). h.bucket) h.held;
+  free = h.held;
   bucket = word_of h.extent false h.block.open_bucket.version;
   fits = h.block.fits;
   stood = h.block.stood;

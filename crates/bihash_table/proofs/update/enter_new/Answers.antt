@@ -2,11 +2,11 @@ use Rattle.std.proofs.Common.{None, Ok, Err, subst, sym}
 use Rattle.bihash_words.specs.Sizes.{sizes_of}
 use Rattle.bihash_words.specs.declared.patch.Change.{Change}
 use Rattle.bihash_table.specs.inner.Seen.{WantsChange}
-use Rattle.bihash_table.specs.Tries.{Tried}
+use Rattle.bihash_table.specs.Tries.{Tried, TriedOver}
 use Rattle.bihash_table.proofs.SameCallers.{own_through}
 use Rattle.bihash_table.proofs.Seeing.{may_read}
 use Rattle.bihash_table.proofs.Sights.{seen_more}
-use Rattle.bihash_table.proofs.Tries.{tried_locked, tried_not, tried_read, under_as, under_lock, unworn_read}
+use Rattle.bihash_table.proofs.Tries.{over, over_read, tried_locked, tried_not, tried_read, under_as, under_lock, unworn_read}
 use Rattle.bihash_table.proofs.update.enter_new.Goals as goal
 
 pub find_free-requires : goal.find_free-requires
@@ -20,9 +20,9 @@ lock_seen-requires-clause-seen g c = (seen_more (sizes_of g.S.Shape) _ _ _ _ c.i
 
 pub returns-then-not-lock_seen : goal.returns-then-not-lock_seen
 returns-then-not-lock_seen g c = let site = c.args.seen.now.site in
-    tried_read g.S.Shape c.args.caller.now.seat c.find_free.new.seat c.lock_seen.new.seat site.bucket site.key.now None c.args.change
+    over g.S.Shape _ _ _ _ _ _ (Err _) (tried_read g.S.Shape c.args.caller.now.seat c.find_free.new.seat c.lock_seen.new.seat site.bucket site.key.now None c.args.change
     c.in-Some.ensures (sym site.home) (Err _)
-    (tried_not g.S.Shape _ _ _ _ _ _ (sym site.home) _ c.lock_seen.ensures c.if-not-lock_seen.true)
+    (tried_not g.S.Shape _ _ _ _ _ _ (sym site.home) _ c.lock_seen.ensures c.if-not-lock_seen.true))
 
 pub fill-requires : goal.fill-requires
 fill-requires g c =
@@ -35,12 +35,13 @@ fill-requires g c =
 
 pub returns-else-not-lock_seen : goal.returns-else-not-lock_seen
 returns-else-not-lock_seen g c = let site = c.args.seen.now.site in
-    subst (λ (d : Change). Tried g.S.Shape c.args.caller.now.seat c.fill.new.seat site.key.now None d (Ok c.fill.result))
+    over g.S.Shape _ _ _ _ _ _ (Ok c.fill.result)
+    (subst (λ (d : Change). Tried g.S.Shape c.args.caller.now.seat c.fill.new.seat site.key.now None d (Ok c.fill.result))
     (sym c.in-Set.is)
     (tried_read g.S.Shape c.args.caller.now.seat c.find_free.new.seat c.fill.new.seat site.bucket site.key.now None _
     c.in-Some.ensures (sym site.home) (Ok c.fill.result)
     (tried_locked g.S.Shape c.find_free.new.seat c.lock_seen.new.seat c.fill.new.seat site.bucket c.args.seen.now.word site.key.now _ _
-    c.lock_seen.ensures c.if-not-lock_seen.false (sym site.home) (Ok c.fill.result) c.fill.ensures))
+    c.lock_seen.ensures c.if-not-lock_seen.false (sym site.home) (Ok c.fill.result) c.fill.ensures)))
 
 pub enter_larger-requires : goal.enter_larger-requires
 enter_larger-requires g c =
@@ -55,7 +56,8 @@ enter_larger-requires g c =
 
 pub returns-in-None : goal.returns-in-None
 returns-in-None g c = let site = c.args.seen.now.site in
-    subst (λ (d : Change). Tried g.S.Shape c.args.caller.now.seat c.enter_larger.new.caller.seat site.key.now None d
-    c.enter_larger.result) (sym c.in-Set.is)
-    (tried_read g.S.Shape c.args.caller.now.seat c.find_free.new.seat c.enter_larger.new.caller.seat site.bucket site.key.now None _
+    subst (λ (d : Change). TriedOver g.S.Shape c.args.caller.now.seat c.enter_larger.new.caller.seat site.key.now None d
+    (g.E.Expiry.is_expired c.args.expiry.now) c.enter_larger.result) (sym c.in-Set.is)
+    (over_read g.S.Shape c.args.caller.now.seat c.find_free.new.seat c.enter_larger.new.caller.seat site.bucket site.key.now None _
+    (g.E.Expiry.is_expired c.args.expiry.now)
     c.in-None.ensures (sym site.home) c.enter_larger.result c.enter_larger.ensures)

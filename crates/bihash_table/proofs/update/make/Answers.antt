@@ -2,10 +2,10 @@ use Rattle.std.proofs.Common.{ℕ, Option, ap, refl, subst, sym}
 use Rattle.bihash_words.specs.Sizes.{sizes_of}
 use Rattle.bihash_steps.specs.Histories.{bounds_of}
 use Rattle.bihash_table.specs.inner.OpenReads.{value_of}
-use Rattle.bihash_table.specs.Tries.{Tried}
+use Rattle.bihash_table.specs.Tries.{TriedOver}
 use Rattle.bihash_table.proofs.Decisions.{kept_step, worn_step}
 use Rattle.bihash_table.proofs.Sights.{seen_as}
-use Rattle.bihash_table.proofs.Tries.{value_seen, wants_change}
+use Rattle.bihash_table.proofs.Tries.{over, value_seen, wants_change}
 use Rattle.bihash_table.proofs.Versions.{unworn, worn}
 use Rattle.bihash_table.proofs.update.make.Goals as goal
 
@@ -18,12 +18,14 @@ answer-requires g c =
           (m, kept_step (bounds_of z) m _ _ _ _ (told m pairs) (c.is_idle.ensures.yes c.if-is_idle.true)));
       reads = refl;
       paged = λ log2 left e. absurd cc;
+      roomy = λ e. let c : ⊥ = cc in c;
     }
 
 pub returns-then-is_idle : goal.returns-then-is_idle
 returns-then-is_idle g c = let site = c.args.seen.now.site in
-    subst (λ (f : Option ℕ). Tried g.S.Shape c.args.caller.now.seat c.answer.new.seat site.key.now f c.args.change c.answer.result)
-    c.value_found-found.ensures c.answer.ensures
+    subst (λ (f : Option ℕ). TriedOver g.S.Shape c.args.caller.now.seat c.answer.new.seat site.key.now f c.args.change
+    (g.E.Expiry.is_expired c.args.expiry.now) c.answer.result)
+    c.value_found-found.ensures (over g.S.Shape _ _ _ _ _ _ c.answer.result c.answer.ensures)
 
 pub answer-requires-then-is_worn : goal.answer-requires-then-is_worn
 answer-requires-then-is_worn g c =
@@ -37,12 +39,14 @@ answer-requires-then-is_worn g c =
       ));
       reads = refl;
       paged = λ log2 left e. absurd cc;
+      roomy = λ e. let c : ⊥ = cc in c;
     }
 
 pub returns-then-is_worn : goal.returns-then-is_worn
 returns-then-is_worn g c = let site = c.args.seen.now.site in
-    subst (λ (f : Option ℕ). Tried g.S.Shape c.args.caller.now.seat c.answer-then-is_worn.new.seat site.key.now f c.args.change
-    c.answer-then-is_worn.result) c.value_found-found.ensures c.answer-then-is_worn.ensures
+    subst (λ (f : Option ℕ). TriedOver g.S.Shape c.args.caller.now.seat c.answer-then-is_worn.new.seat site.key.now f c.args.change
+    (g.E.Expiry.is_expired c.args.expiry.now) c.answer-then-is_worn.result) c.value_found-found.ensures
+    (over g.S.Shape _ _ _ _ _ _ c.answer-then-is_worn.result c.answer-then-is_worn.ensures)
 
 pub change_pair-requires : goal.change_pair-requires
 change_pair-requires g c = wants_change g.S.Shape _ _ _ _ _ _ _ _ _ c.in-Some.is c.value_found-found.ensures c.requires.found
@@ -51,8 +55,9 @@ change_pair-requires g c = wants_change g.S.Shape _ _ _ _ _ _ _ _ _ c.in-Some.is
 
 pub returns-in-Some : goal.returns-in-Some
 returns-in-Some g c = let site = c.args.seen.now.site in
-    subst (λ (f : Option ℕ). Tried g.S.Shape c.args.caller.now.seat c.change_pair.new.seat site.key.now f c.args.change
-    c.change_pair.result) (sym (ap value_of c.in-Some.is)) c.change_pair.ensures
+    subst (λ (f : Option ℕ). TriedOver g.S.Shape c.args.caller.now.seat c.change_pair.new.seat site.key.now f c.args.change
+    (g.E.Expiry.is_expired c.args.expiry.now) c.change_pair.result) (sym (ap value_of c.in-Some.is))
+    (over g.S.Shape _ _ _ _ _ _ c.change_pair.result c.change_pair.ensures)
 
 pub enter_new-requires : goal.enter_new-requires
 enter_new-requires g c = wants_change g.S.Shape _ _ _ _ _ _ _ _ _ c.in-None.is c.value_found-found.ensures c.requires.found
@@ -61,5 +66,5 @@ enter_new-requires g c = wants_change g.S.Shape _ _ _ _ _ _ _ _ _ c.in-None.is c
 
 pub returns-in-None : goal.returns-in-None
 returns-in-None g c = let site = c.args.seen.now.site in
-    subst (λ (f : Option ℕ). Tried g.S.Shape c.args.caller.now.seat c.enter_new.new.caller.seat site.key.now f c.args.change
-    c.enter_new.result) (sym (ap value_of c.in-None.is)) c.enter_new.ensures
+    subst (λ (f : Option ℕ). TriedOver g.S.Shape c.args.caller.now.seat c.enter_new.new.caller.seat site.key.now f c.args.change
+    (g.E.Expiry.is_expired c.args.expiry.now) c.enter_new.result) (sym (ap value_of c.in-None.is)) c.enter_new.ensures

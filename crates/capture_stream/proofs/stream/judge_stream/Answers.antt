@@ -1,7 +1,8 @@
-use Rattle.std.proofs.Common.{◌≡◌, ◌∙◌, length, refl, subst}
+use Rattle.std.proofs.Common.{Err, ◌≡◌, ◌∙◌, ap, length, refl, subst}
 use Rattle.std.proofs.lemmas.Result.{MatchResult-weaker, err_from_is_err_and}
 use Rattle.capture_stream.specs.inner.Found.{HaveFound}
-use Rattle.capture_stream.proofs.WalkLemmas.{amid_advanced, amid_begun, amid_ended, amid_fault, amid_last_fault, amid_may, part_from}
+use Rattle.racl_io.proofs.TransferLemmas.{within_of_err}
+use Rattle.capture_stream.proofs.WalkLemmas.{amid_advanced, amid_begun, amid_ended, amid_fault, amid_gave, amid_last_fault, amid_may, part_from}
 use Rattle.capture_stream.proofs.stream.judge_stream.Goals as goal
 
 pub windows-init : goal.windows-init
@@ -21,10 +22,18 @@ returns-in_err-walk-clause-streamed g c =
     rw (p.1, p.2)
     (amid_fault _ c.args.judges c.args.opening _ c.requires.may.within _ _ c.windows.walk _ c.windows.invariant.amid c.in_err-walk.ensures.walk)
 
+pub returns-in_err-walk-clause-within : goal.returns-in_err-walk-clause-within
+returns-in_err-walk-clause-within g c =
+    let p = err_from_is_err_and c.from_residual.result c.from_residual.ensures.1 in
+    let within = c.next_window.ensures.within in
+    within_of_err _ _ _ c.args.reader.now c.windows.reader _ c.next_window.result c.from_residual.result c.in_err-walk.field-0.0
+    (amid_gave _ c.args.judges c.args.opening _ c.requires.may.within _ _ c.windows.walk c.windows.invariant.amid within.gave)
+    c.windows.invariant.sound c.in_err-walk.was (p.1 ∙ ap Err p.2) within.failed
+
 pub windows-preserved : goal.windows-preserved
 windows-preserved g c = record {
   amid = amid_advanced _ c.args.judges c.args.opening _ c.requires.may.within _ _ c.windows.walk _ c.windows.invariant.amid c.in_ok-walk.ensures.walk;
-  sound = c.in_ok-walk.ensures.failures ∙ c.windows.invariant.sound;
+  sound = c.in_ok-walk.ensures.within.failed ∙ c.windows.invariant.sound;
 }
 
 pub last_window-requires : goal.last_window-requires

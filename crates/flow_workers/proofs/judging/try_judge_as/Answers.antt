@@ -16,7 +16,7 @@ pub returns-in-Ok : goal.returns-in-Ok
 returns-in-Ok g c =
     try_judged _ _ _ _ _ _
     (told_answered _ _ _ c.args.filter.now c.args.packet.now g.D.HasReading.ruling _ _ _ _ c.in-Ok.reply _
-    c.requires.ruling c.in-Asks.ensures (try_answered _ _ _ _ _ c.in-Ok.reply c.in-Ok.ensures) c.verdict.ensures)
+    c.requires.ruling c.in-Asks.ensures (try_answered _ _ _ _ _ _ c.in-Ok.reply c.in-Ok.ensures) c.verdict.ensures)
 
 pub returns-in-Err : goal.returns-in-Err
 returns-in-Err g c = record {

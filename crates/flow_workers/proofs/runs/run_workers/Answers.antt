@@ -1,57 +1,24 @@
-use Rattle.std.proofs.Common.{◌∙◌, [], arith}
 use Rattle.std.proofs.lemmas.Result.{IfOk-weaker}
-use Rattle.packet_view.specs.CheckedCaptures.{held}
 use Rattle.flow_dealing.proofs.FewPackets.{pages_for_few}
 use Rattle.flow_dealing.proofs.OneReport.{one_report}
-use Rattle.flow_workers.specs.Progress.{CanJudge}
-use Rattle.flow_workers.proofs.RestLemmas.{said_by}
+use Rattle.flow_dealing.proofs.Passing.{pass_at_place}
+use Rattle.flow_workers.proofs.RestLemmas.{judged_alike}
 use Rattle.flow_workers.proofs.runs.run_workers.Goals as goal
-
-pub judge-requires : goal.judge-requires
-judge-requires g c =
-    let are = c.type_bounds in
-    let n = c.count.ensures in
-    let may : CanJudge {ga = g.A.Shape} {gb = g.B.Shape} c.in_ok-new.field-0 c.args.packets =
-    record { packets = []; rest = c.in_ok-new.ensures.rest; fits = omega arith } in (
-      are.send-A,
-      (
-        are.send-B,
-        (
-          are.send-A-Key,
-          (
-            are.send-B-Key,
-            (
-              are.sync-A,
-              (
-                are.sync-B,
-                (
-                  are.sync-R,
-                  (
-                    are.sync-G,
-                    (are.sync-A-Key, (are.sync-B-Key, may)),
-                  ),
-                ),
-              ),
-            ),
-          ),
-        ),
-      ),
-    )
-
-pub end-requires : goal.end-requires
-end-requires g c = (held c.args.packets, c.in_ok-judge.ensures.rest [] c.in_ok-new.ensures.rest)
 
 pub returns-clause-judged : goal.returns-clause-judged
 returns-clause-judged g c =
-    IfOk-weaker c.end.result _ _
-    (λ v said. said_by g.A.Shape g.B.Shape _ _ (held c.args.packets) v.items _ _
-    (c.in_ok-judge.ensures.by ∙ c.in_ok-new.ensures.by) c.ready_with.ensures.times c.ready_with.ensures.policy
-    (c.in_ok-judge.ensures.rest [] c.in_ok-new.ensures.rest) said) c.end.ensures
+    IfOk-weaker c.run_setup.result _ _
+    (λ v said. judged_alike _ _ v.items _ _ _ _ c.ready_with.ensures.times c.ready_with.ensures.policy said)
+    c.run_setup.ensures
 
 pub returns-clause-one_report : goal.returns-clause-one_report
 returns-clause-one_report g c =
-    IfOk-weaker c.end.result _ _ (λ v judged. one_report _ _ _ _ _ judged) (returns-clause-judged g c)
+    IfOk-weaker c.run_setup.result _ _ (λ v judged. one_report _ _ _ _ _ judged) (returns-clause-judged g c)
+
+pub returns-clause-places : goal.returns-clause-places
+returns-clause-places g c =
+    IfOk-weaker c.run_setup.result _ _ (λ v judged. pass_at_place _ _ _ _ _) (returns-clause-judged g c)
 
 pub returns-clause-pages : goal.returns-clause-pages
 returns-clause-pages g c =
-    IfOk-weaker c.end.result _ _ (λ v judged. pages_for_few _ _ _ _ _) (returns-clause-judged g c)
+    IfOk-weaker c.run_setup.result _ _ (λ v judged. pages_for_few _ _ _ _ _) (returns-clause-judged g c)

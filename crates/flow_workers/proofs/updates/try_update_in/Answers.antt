@@ -9,20 +9,20 @@ pub returns : goal.returns
 returns g c =
     let key : g.S.Shape.words_of c.key.result ≡ c.args.words.now
     = ap g.S.Shape.words_of c.key.ensures ∙ g.met.S.Shape.words_of_key c.args.words.now c.requires.counted in
-    let tells = c.try_update.ensures in record {
+    let tells = c.try_add_or_recycle.ensures in record {
       same = tells.same;
       answered =
-          if_ok _ _ c.try_update.result (λ reply updated. as_told _ _ _ _ _ _ reply key updated tells.lawful)
+          if_ok _ _ c.try_add_or_recycle.result (λ reply updated. as_told _ _ _ _ _ _ _ reply key updated tells.lawful)
           tells.answered;
-      no_pages = if_ok _ _ c.try_update.result
+      no_pages = if_ok _ _ c.try_add_or_recycle.result
           (λ reply short log2 left is.
-          short_at g.S.Shape c.try_update.new.caller.seat.view c.key.result c.args.words.now log2 left c.key.ensures key
+          short_at g.S.Shape c.try_add_or_recycle.new.caller.seat.view c.key.result c.args.words.now log2 left c.key.ensures key
           (short log2 left is))
           tells.no_pages;
-      locks = took_by_one _ _ c.try_update.result tells.locks;
+      locks = took_by_one _ _ c.try_add_or_recycle.result tells.locks;
       contended =
-          subst (λ words. IfErr c.try_update.result (λ _. IsContended (sizes_of g.S.Shape) c.args.caller.now.seat.view
-          c.try_update.new.caller.seat.view (bucket_of (sizes_of g.S.Shape) words))) key tells.contended;
+          subst (λ words. IfErr c.try_add_or_recycle.result (λ _. IsContended (sizes_of g.S.Shape) c.args.caller.now.seat.view
+          c.try_add_or_recycle.new.caller.seat.view (bucket_of (sizes_of g.S.Shape) words))) key tells.contended;
       lone = tells.lone;
       lawful = tells.lawful;
     }

@@ -7,12 +7,12 @@ pub returns : goal.returns
 returns g c =
     let key : g.S.Shape.words_of c.key.result ≡ c.args.words.now
     = ap g.S.Shape.words_of c.key.ensures ∙ g.met.S.Shape.words_of_key c.args.words.now c.requires.counted in
-    let tells = c.update.ensures in record {
+    let tells = c.add_or_recycle.ensures in record {
       same = tells.same;
-      answered = as_told _ _ _ _ _ _ c.update.result key tells.answered tells.lawful;
+      answered = as_told _ _ _ _ _ _ _ c.add_or_recycle.result key tells.answered tells.lawful;
       locks = tells.locks;
       no_pages = λ log2 left is.
-          short_at g.S.Shape c.update.new.caller.seat.view c.key.result c.args.words.now log2 left c.key.ensures key
+          short_at g.S.Shape c.add_or_recycle.new.caller.seat.view c.key.result c.args.words.now log2 left c.key.ensures key
           (tells.no_pages log2 left is);
       lawful = tells.lawful;
     }

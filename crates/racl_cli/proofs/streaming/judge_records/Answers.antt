@@ -5,16 +5,17 @@ use Rattle.flow_dealing.specs.Runs.{AreJudged, HavePages}
 use Rattle.flow_dealing.proofs.FewPackets.{pages_for_few}
 use Rattle.flow_dealing.proofs.OneReport.{one_report}
 use Rattle.flow_workers.proofs.RestLemmas.{said_by}
+use Rattle.racl_io.proofs.TransferLemmas.{within_of_err}
 use Rattle.racl_cli.specs.Runs.{ByOneThread, dealt_to}
 use Rattle.racl_cli.proofs.OutcomeLemmas.{given_by_workers}
-use Rattle.racl_cli.proofs.ReadLemmas.{failures_of_err}
 use Rattle.racl_cli.proofs.streaming.judge_records.Goals as goal
 
-pub returns-in_err-judges-clause-failures : goal.returns-in_err-judges-clause-failures
-returns-in_err-judges-clause-failures g c =
+pub returns-in_err-judges-clause-within : goal.returns-in_err-judges-clause-within
+returns-in_err-judges-clause-within g c =
     let p = err_from_is_err_and c.from_residual-in_err-judges.result c.from_residual-in_err-judges.ensures.1 in
-    failures_of_err _ _ c.judge_stream.result c.from_residual-in_err-judges.result c.in_err-judges.field-0.0 c.in_err-judges.was (p.1 ∙ ap Err p.2)
-    c.judge_stream.ensures.failures
+    let within = c.judge_stream.ensures.within in
+    within_of_err _ _ _ c.args.reader.now c.args.reader.now _ c.judge_stream.result c.from_residual-in_err-judges.result c.in_err-judges.field-0.0
+    within.gave refl c.in_err-judges.was (p.1 ∙ ap Err p.2) within.failed
 
 pub returns-clause-ok : goal.returns-clause-ok
 returns-clause-ok g c =

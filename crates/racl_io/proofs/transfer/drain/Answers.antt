@@ -8,5 +8,6 @@ reading-preserved g c =
     let inv = c.reading.invariant in
     record {
       read = (inv.read.0 ++ take c.in-Ok.n c.read.new.buf, Consumes-trans _ _ _ _ _ inv.read.1 c.in-Ok.ensures.bytes.0, grind (arith, common_steps, inv.read.2, c.in-Ok.ensures.bound));
+      few = grind (arith, common_steps, c.in-Ok.ensures.bound);
       sound = grind (arith, common_steps, c.in-Ok.ensures.failures, inv.sound);
     }

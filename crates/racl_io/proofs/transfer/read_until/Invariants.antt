@@ -1,4 +1,4 @@
-use Rattle.std.proofs.Common.{◌≡◌, ◌++◌, ◌+◌, ◌-◌, ◌≤◌, List, ℕ, max, vec_capacity, vec_len}
+use Rattle.std.proofs.Common.{◌≡◌, ◌++◌, ◌-◌, ◌≤◌, List, ℕ, max, vec_capacity, vec_len}
 use Rattle.std.specs.Io.KnownBytes.{Consumes}
 use Rattle.racl_io.proofs.transfer.read_until.Given as goal
 
@@ -6,7 +6,7 @@ use Rattle.racl_io.proofs.transfer.read_until.Given as goal
 abbrev pub invariant-reading : goal.invariant-reading
 invariant-reading g l = record {
   read : (read : List ℕ) × Consumes (g.R.Source.bytes l.fn.reader) (g.R.Source.bytes l.reader) read × (l.all.items ≡ l.fn.all.items ++ read);
-  few : vec_len l.all ≤ max (vec_len l.fn.all) (l.least + 65535);
+  few : vec_len l.all ≤ max (vec_len l.fn.all) l.least;
   room : vec_capacity l.fn.all ≤ vec_capacity l.all;
   sound : g.R.Source.failures l.reader ≡ g.R.Source.failures l.fn.reader;
 }

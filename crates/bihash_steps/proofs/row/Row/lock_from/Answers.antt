@@ -1,4 +1,5 @@
 use Rattle.std.proofs.Common.{rules, ◌∙◌, ap}
+use Rattle.bihash_steps.specs.declared.view.Holdings.{Holdings}
 use Rattle.bihash_steps.specs.Seats.{CallerState}
 use Rattle.bihash_steps.proofs.Addresses.{locks_at}
 use Rattle.bihash_steps.proofs.SeatCounts.{can_act, counted_locks, tried_lock}
@@ -10,7 +11,7 @@ compare_exchange-requires g c =
       search rules,
       search rules,
       locks_at _ _ _ _ _ _ _ may.bucket _ c.bucket_at-at.ensures.place c.requires.at.inside (can_act _ _ c.caller.invariant.1)
-          (ap (λ (k : CallerState). k.view.holds.bucket) c.caller.view_is ∙ may.free) may.fits
+          (ap (λ (k : CallerState). k.view.holds.bucket) c.caller.view_is ∙ ap (λ (h : Holdings). h.bucket) may.free) may.fits
           (c.to_word-open.ensures ∙ may.stood) may.unlocked
           (c.to_word-locked.ensures ∙ c.with_lock.ensures may.bucket may.fits may.stood),
     )

@@ -7,8 +7,9 @@ use Rattle.bihash_steps.proofs.row.Row.pool_unlock.Goals as goal
 
 pub store-requires : goal.store-requires
 store-requires g c =
-    let n = c.requires.settled in (
+    let may = c.requires.may in (
       search rules,
       rw c.self.invariant.wide (some_front _).0,
-      opens_store _ _ _ _ n.0 (ap (λ (k : CallerState). k.view.holds.store) c.caller.view_is ∙ n.1) n.2 (can_act _ _ c.caller.invariant.1),
+      opens_store _ _ _ _ may.locked
+          (ap (λ (k : CallerState). k.view.holds.store) c.caller.view_is ∙ may.held) may.settled (can_act _ _ c.caller.invariant.1),
     )

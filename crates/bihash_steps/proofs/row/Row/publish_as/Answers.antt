@@ -1,7 +1,6 @@
-use Rattle.std.proofs.Common.{ap, rules, refl, arith, ◌∙◌}
-use Rattle.bihash_words.specs.declared.block_size.BlockSize.{BlockSize}
+use Rattle.std.proofs.Common.{rules, refl, arith, ◌∙◌}
 use Rattle.bihash_words.specs.Sizes.{sizes_of}
-use Rattle.bihash_steps.specs.BucketSteps.{MayPublish, view_after_write}
+use Rattle.bihash_steps.specs.BucketSteps.{MayMark, marked, view_after_write}
 use Rattle.bihash_steps.proofs.Addresses.{publishes_at}
 use Rattle.bihash_steps.proofs.bucket_steps.NextWords.{next_is, version_rises, counted_write}
 use Rattle.bihash_steps.proofs.SeatCounts.{can_act, of_seat}
@@ -13,20 +12,21 @@ next-next-requires-clause-page g c =
 
 pub next-next-requires-clause-log2 : goal.next-next-requires-clause-log2
 next-next-requires-clause-log2 g c =
-    let may = c.requires.may.write in let is = ap (λ (s : BlockSize). s.log2) (c.block_size.ensures _ may.fits may.stood) in let fits = may.fits.log2 in omega arith
+    let may = c.requires.may.write in let is = c.log2.ensures _ may.fits may.stood in let fits = may.fits.log2 in omega arith
 
 pub next-next-requires-clause-version : goal.next-next-requires-clause-version
-next-next-requires-clause-version g c = version_rises _ _ _ _ _ c.requires.may.write c.self.invariant.sound
+next-next-requires-clause-version g c = version_rises _ _ _ _ _ c.requires.may.write c.is_sound.ensures
 
 pub store-requires : goal.store-requires
 store-requires g c =
-    let may = of_seat (λ v. MayPublish (sizes_of g.S.Shape) v c.args.bucket c.args.word g.E.Calling.call) c.caller.view_is c.requires.may in
+    let may = of_seat (λ v. MayMark (sizes_of g.S.Shape) v c.args.bucket c.args.word c.args.linear g.E.Calling.call) c.caller.view_is c.requires.may in
     let fits = may.write.fits in
     let stood = may.write.stood in (
       search rules,
       search rules,
-      publishes_at _ _ _ _ _ _ _ _ _ may c.bucket_at.ensures.place (can_act _ _ c.caller.invariant.1)
-          (c.to_word.ensures ∙ next_is may.write.lock.extent _ _ _ _ (c.page.ensures _ fits stood) (c.block_size.ensures _ fits stood)
+      publishes_at _ _ _ _ _ _ _ _ _ _ may c.bucket_at.ensures.place (can_act _ _ c.caller.invariant.1)
+          (c.to_word.ensures ∙ next_is (marked may.write.lock.extent c.args.linear) _ _ _ _ (c.page.ensures _ fits stood)
+          (λ i. record { log2 = c.log2.ensures _ fits stood i; linear = c.args.linear })
           (c.next-next.ensures _ fits stood)),
     )
 
@@ -36,7 +36,7 @@ overflow_add-caller g c =
 
 pub invariant_of-caller : goal.invariant_of-caller
 invariant_of-caller g c =
-    let may = of_seat (λ v. MayPublish (sizes_of g.S.Shape) v c.args.bucket c.args.word g.E.Calling.call) c.caller.view_is
+    let may = of_seat (λ v. MayMark (sizes_of g.S.Shape) v c.args.bucket c.args.word c.args.linear g.E.Calling.call) c.caller.view_is
     c.requires.may in
     counted_write (sizes_of g.S.Shape) (λ v. view_after_write v g.E.Calling.call) c.caller.inside.seat.me _ _ _ _ _ _ _ may.write c.version.ensures
     c.store.ensures.2 refl c.caller.invariant

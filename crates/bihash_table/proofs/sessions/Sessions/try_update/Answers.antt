@@ -1,49 +1,14 @@
-use Rattle.std.proofs.Common.{◌∙◌, ap, subst, sym}
-use Rattle.bihash_words.specs.Sizes.{sizes_of}
-use Rattle.bihash_table.specs.Answers.{locks_of}
-use Rattle.bihash_table.specs.Tries.{Tried}
-use Rattle.bihash_table.specs.inner.OpenReads.{value_of}
-use Rattle.bihash_table.proofs.SameCallers.{own_through, same_through}
-use Rattle.bihash_table.proofs.Seeing.{may_read}
-use Rattle.bihash_table.proofs.Sights.{seen_ahead, seen_first, seen_records}
-use Rattle.bihash_table.proofs.Tries.{tried_seen, update_answered}
+use Rattle.bihash_table.proofs.Tries.{never_updated}
 use Rattle.bihash_table.proofs.sessions.Sessions.try_update.Goals as goal
 
-pub find_pair-pair-requires : goal.find_pair-pair-requires
-find_pair-pair-requires g c = may_read (own_through c.args.caller.now.seat _ _ c.look.ensures.same c.requires.own) c.in-Some.ensures.opened.has
-
-pub make-requires-clause-found : goal.make-requires-clause-found
-make-requires-clause-found g c = record {
-  own = own_through c.look.new.seat _ _ c.find_pair-pair.ensures.same (own_through c.args.caller.now.seat _ _ c.look.ensures.same c.requires.own);
-  seen = seen_first (sizes_of g.S.Shape) _ _ _ _ c.find_pair-pair.ensures.saw c.in-Some.ensures.opened.has;
-}
-
 pub returns : goal.returns
-returns g c =
-    let z = sizes_of g.S.Shape in
-    let s = c.args.caller.now.seat in
-    let x = c.look.new.seat in
-    let y = c.find_pair-pair.new.seat in
-    let t = c.make.new.caller.seat in
-    let site = c.of-site.result in
-    let found = value_of c.find_pair-pair.result in
-    let change = c.decide-change.result in
-    let r = c.make.result in
-    let same = same_through s x y _ c.look.ensures.same c.find_pair-pair.ensures.same in
-    let ahead = seen_ahead z s.view x.view y.view site.bucket c.in-Some.word c.in-Some.ensures.opened c.find_pair-pair.ensures.saw in
-    let locks = ap locks_of (seen_records z s.view x.view y.view site.bucket c.in-Some.word c.in-Some.ensures.opened c.find_pair-pair.ensures.saw) in
-    let all : Tried g.S.Shape s t site.key.now found change r
-    = tried_seen g.S.Shape s y t site.bucket site.key.now found change same ahead (sym site.home) locks r c.make.ensures in
-    let key = c.args.key.now in
-    let tried : Tried g.S.Shape s t key found change r
-    = subst (λ k. Tried g.S.Shape s t k found change r) c.of-site.ensures.key all in
-    record {
-      same = tried.same;
-      answered = update_answered g.S.Shape s t key found change (g.P.Patch.decision c.args.patch.now)
-          (c.decide-change.ensures.decision ∙ ap (g.P.Patch.decision c.args.patch.now) c.value_found-found.ensures) r tried;
-      no_pages = tried.no_pages;
-      locks = tried.locks;
-      contended = tried.contended;
-      lone = tried.lone;
-      lawful = tried.lawful;
-    }
+returns g c = let told = c.try_add_or_recycle.ensures in record {
+  same = told.same;
+  answered = never_updated g.S.Shape c.args.caller.now.seat.view c.try_add_or_recycle.new.caller.seat.view c.args.key.now
+      (g.P.Patch.decision c.args.patch.now) c.try_add_or_recycle.result told.answered;
+  no_pages = told.no_pages;
+  locks = told.locks;
+  contended = told.contended;
+  lone = told.lone;
+  lawful = told.lawful;
+}

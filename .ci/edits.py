@@ -1,0 +1,213 @@
+"""Tries the edits that must be refused, crates/NAME/edits/*.edit: usage edits.py [CRATE [EDIT..]]
+
+An edit turns the meaning of one function. It is refused where the check leaves a goal of that function unproved, or of
+one that calls it. Edits of different functions are tried together, in one check of a copy of the crate: no contract
+changes, so a goal of one function doesn't depend on how another is edited. What isn't refused by a goal of its own
+function is tried alone. So most crates cost a check or two, and not one for each edit.
+
+Where the toolchain's gate has left the libraries in crates/NAME/out these are used, or those of `rt check`. What an
+edit came to is told in a line; the last one is `N passed, M failed`. One that can't be applied or read has failed, and
+so has one that is refused only because a proof names what it took away, since that says nothing of the contract.
+"""
+import collections
+import concurrent.futures
+import importlib.machinery
+import importlib.util
+import os
+import re
+import shutil
+import subprocess
+import sys
+import tempfile
+
+TOP = os.path.dirname(os.path.dirname(os.path.abspath(__file__)))
+EDITS = "edits"
+# The memory that a check is expected to take, in bytes.
+MEMORY_OF_A_CHECK = 2_500_000_000
+
+FUNCTION = re.compile(r"\bfn (\w+)")
+# A goal that a written answer doesn't prove, one that has no answer, and a function's own line where it is searched.
+ANSWER = re.compile(r"^(?:\./)?proofs/(\S+)/\w+\.antt:\d+:\d+: error: (.*)", re.M)
+GOAL = re.compile(r"^note: src/(\S+)\.rt:(\d+):\d+: (it is not proved that .*)", re.M)
+SEARCHED = re.compile(r"^(?:fn|impl|trait) (\S+): .*(`\w+` did not prove `[^`]*`)", re.M)
+# What is said of a proof that names what isn't there any more.
+NAMES_ALONE = re.compile(r"has no field|is not in scope|has no `|was not admitted|\(nearest: ")
+UNREAD = re.compile(r"^(?:\./)?(?:src|specs)/\S+:\d+:\d+: error.*|^error(?:\[.*|:.*)", re.M)
+
+
+def toolchain():
+    """The toolchain's own command as a module, for the words that it gives its checker."""
+    path = os.path.realpath(shutil.which("rt"))
+    loader = importlib.machinery.SourceFileLoader("rt", path)
+    module = importlib.util.module_from_spec(importlib.util.spec_from_loader("rt", loader))
+    sys.dont_write_bytecode = True
+    loader.exec_module(module)
+    return module
+
+
+class Place:
+    """A text that stands once in a source file, what it becomes, and the function that it is in."""
+
+    def __init__(self, file, old, new, text, named):
+        self.file, self.old, self.new = file, old, new
+        starts = [*FUNCTION.finditer(text)]
+        above = [it for it in starts if it.start() < text.index(old) + len(old)]
+        self.function = above[-1][1] if above else ""
+        self.is_named_once = named[self.function] == 1
+        # its lines, for goals that are told by where they are
+        self.first = text.count("\n", 0, above[-1].start()) + 1 if above else 1
+        self.last = text.count("\n", 0, starts[len(above)].start()) if len(above) < len(starts) else text.count("\n") + 1
+        self.inside = file[len("src/"):-len(".rt")]
+
+    def module(self):
+        """The path of its module below the crate."""
+        return "::".join(it for it in self.inside.split("/") if it not in ("lib", "mod"))
+
+    def goals_in(self, said):
+        """The goals of its function that a check leaves unproved, but for proofs that name what isn't there any more. A
+        method's proofs lie in the folder of its type, which another file may declare."""
+        found = [text for file, line, text in GOAL.findall(said)
+                 if file == self.inside and self.first <= int(line) <= self.last]
+        found += [text for folder, text in ANSWER.findall(said) if folder.rsplit("/", 1)[-1] == self.function
+                  and (self.is_named_once or folder.startswith(f"{self.inside}/"))]
+        found += [text for path, text in SEARCHED.findall(said) if path.rsplit("::", 1)[-1] == self.function
+                  and (self.is_named_once or f"::{self.module()}::" in path)]
+        return [it for it in found if not NAMES_ALONE.search(it)]
+
+
+class Edit:
+    """Texts that become others. `named` counts the crate's functions by name."""
+
+    def __init__(self, path, crate, named):
+        self.name, self.places, self.why = os.path.basename(path)[:-len(".edit")], [], None
+        words = {}
+        with open(path, encoding="utf-8") as file:
+            for line in file.read().splitlines():
+                word, colon, text = line.partition(":")
+                if colon and word in ("file", "old", "new"):
+                    words[word] = text[1:]
+                if word == "new" and not self.why:
+                    self.add(words.get("file", "").strip(), words.pop("old", ""), words["new"], crate, named)
+        if not self.places and not self.why:
+            self.why = "it has no lines `file:`, `old:` and `new:`"
+
+    def add(self, file, old, new, crate, named):
+        text = ""
+        if file.startswith("src/") and os.path.isfile(f"{crate}/{file}"):
+            with open(f"{crate}/{file}", encoding="utf-8") as source:
+                text = source.read()
+        if not old or text.count(old) != 1 or old == new:
+            self.why = f"its old text is in {file or 'no file'} {text.count(old) if old else 0} times"
+        else:
+            self.places.append(Place(file, old, new, text, named))
+
+    def apply(self, room):
+        for it in self.places:
+            with open(f"{room}/{it.file}", encoding="utf-8") as file:
+                text = file.read()
+            with open(f"{room}/{it.file}", "w", encoding="utf-8") as file:
+                file.write(text.replace(it.old, it.new))
+
+    def functions(self):
+        return {(it.file, it.function) for it in self.places}
+
+    def goals_in(self, said):
+        return [goal for it in self.places for goal in it.goals_in(said)]
+
+
+class Trial:
+    """A crate whose edits are tried."""
+
+    def __init__(self, rt, crate, wanted):
+        self.rt, self.crate = rt, crate
+        folder, named = f"{crate.folder}/{EDITS}", collections.Counter()
+        for at, _, files in os.walk(f"{crate.folder}/src"):
+            for it in files:
+                with open(f"{at}/{it}", encoding="utf-8") as file:
+                    named.update(FUNCTION.findall(file.read()))
+        names = sorted(os.listdir(folder)) if os.path.isdir(folder) else []
+        self.edits = [Edit(f"{folder}/{it}", crate.folder, named) for it in names
+                      if it.endswith(".edit") and (not wanted or it[:-len(".edit")] in wanted)]
+
+    def rounds(self):
+        """The edits, those of different functions together."""
+        found = []
+        for edit in (it for it in self.edits if not it.why):
+            for together in found:
+                if not any(it.functions() & edit.functions() for it in together):
+                    together.append(edit)
+                    break
+            else:
+                found.append([edit])
+        return found
+
+    def check(self, edits, kept, only):
+        """What the check of a copy with these edits says, over what earlier ones left in `kept`."""
+        with tempfile.TemporaryDirectory() as room:
+            for part in self.rt.rtlib.PARTS:
+                if os.path.isdir(f"{self.crate.folder}/{part}"):
+                    shutil.copytree(f"{self.crate.folder}/{part}", f"{room}/{part}")
+            for edit in edits:
+                edit.apply(room)
+            words = self.crate.words(["--jobs", "1", *only], keeps=False)
+            ran = subprocess.run([self.rt.rtlib.RATTLE, "check", *words, "--incremental", kept], cwd=room,
+                                 stdin=subprocess.DEVNULL, stdout=subprocess.PIPE, stderr=subprocess.STDOUT,
+                                 text=True, errors="replace")
+        return ran.returncode, ran.stdout
+
+    def alone(self, edit, kept):
+        """What an edit comes to that no goal of its own function refuses."""
+        status, said = self.check([edit], kept, [])
+        goals = [text for _, text in ANSWER.findall(said)] + [text for _, _, text in GOAL.findall(said)]
+        goals += [text for _, text in SEARCHED.findall(said)]
+        if status == 0:
+            return False, "is still proved"
+        unread = UNREAD.search(said)
+        if unread:
+            return False, f"can't be read: {unread[0]}"
+        meant = [it for it in goals if not NAMES_ALONE.search(it)]
+        if meant:
+            return True, f"refused in a caller: {meant[0]}"
+        return False, f"is refused for names alone: {goals[0]}" if goals else f"has no verdict (status {status})"
+
+    def run(self):
+        """Each edit's name, whether it is refused, and what is said."""
+        told = {it.name: (False, f"can't be applied: {it.why}") for it in self.edits if it.why}
+        with tempfile.TemporaryDirectory() as kept:
+            begun = f"{self.crate.folder}/out/incremental"
+            if os.path.isdir(begun):
+                shutil.copytree(begun, kept, dirs_exist_ok=True)
+            for together in self.rounds():
+                places = [place for it in together for place in it.places]
+                modules = sorted({f"{self.crate.name}::{it.module()}".rstrip(":") for it in places})
+                status, said = self.check(together, kept, [word for it in modules for word in ("--only", it)])
+                for edit in together:
+                    goals = edit.goals_in(said) if status == 1 else []
+                    told[edit.name] = (True, f"refused: {goals[0]}") if goals else self.alone(edit, kept)
+        return [(it.name, *told[it.name]) for it in self.edits]
+
+
+def at_once():
+    found = re.search(r"MemAvailable:\s+(\d+)", open("/proc/meminfo").read())
+    return max(1, min(len(os.sched_getaffinity(0)), int(found[1]) * 1024 // MEMORY_OF_A_CHECK if found else 1))
+
+
+def main():
+    rt, known = toolchain(), {}
+    os.chdir(TOP)
+    crates = [rt.rtlib.Crate(folder, TOP, known) for folder in rt.rtlib.listed(TOP)]
+    trials = [Trial(rt, it, sys.argv[2:]) for it in crates if not sys.argv[1:] or it.name == sys.argv[1]]
+    length = lambda it: sum(map(os.path.getsize, rt.rtlib.files_of(it.crate.folder)))
+    trials = sorted((it for it in trials if it.edits), key=length, reverse=True)
+    passed = failed = 0
+    with concurrent.futures.ThreadPoolExecutor(at_once()) as pool:
+        for trial, results in zip(trials, pool.map(Trial.run, trials)):
+            for name, is_refused, why in results:
+                print(f"{trial.crate.name}/{name}: {why[:200]}", flush=True)
+                passed, failed = passed + is_refused, failed + (not is_refused)
+    print(f"{passed} passed, {failed} failed")
+    sys.exit(1 if failed else 0)
+
+
+if __name__ == "__main__":
+    main()

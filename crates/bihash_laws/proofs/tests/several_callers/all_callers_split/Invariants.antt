@@ -1,6 +1,0 @@
-use Rattle.std.proofs.Common.{◌≡◌}
-use Rattle.bihash_steps.specs.Views.{nothing_held}
-use Rattle.bihash_laws.proofs.tests.several_callers.all_callers_split.Given as goal
-
-abbrev pub invariant-splits : goal.invariant-splits
-invariant-splits g l = (l.caller.seat.row ≡ l.table.row) × (l.caller.seat.view.holds ≡ nothing_held)

@@ -1,0 +1,132 @@
+-- The expired pair with the least key, with one place more.
+use Rattle.std.proofs.Common.{◌≡◌, ◌≢◌, ◌∙◌, ◌<◌, ◌+◌, ◌^◌, ℕ, Bool, true, false, true≢false, ap, arith, sym, subst, refl, inl, inr, List, length, Option, Some, None}
+use Rattle.std.specs.Prelude.{slice_get}
+use Rattle.std.proofs.lemmas.Bool.{cases_eq}
+use Rattle.std.specs.Cmp.{alike_right}
+use Rattle.std.specs.Cmp.Lexicographic.{nat_list_cmp_total, slice_cmp}
+use Rattle.std.specs.Ordering.{nat_cmp, ordering_reverse}
+use Rattle.std.specs.declared.cmp.Ordering.TheVariants.{Less, Equal, Greater}
+use Rattle.bihash_plan.specs.Blocks.{HasPairAt}
+use Rattle.bihash_plan.specs.Recycles.{IsLeastExpired, NoneIsExpired}
+use Rattle.bihash_plan.specs.inner.LeastPairs.{IsLeastAmong, IsLeastTo}
+use Rattle.bihash_plan.proofs.Places.{pair_inside}
+
+-- a key below one that is not above another is not above that other
+still_least : (a b c : List ℕ) → slice_cmp nat_cmp b a ≡ Greater → slice_cmp nat_cmp b c ≢ Greater → slice_cmp nat_cmp a c ≢ Greater
+still_least a b c above not =
+    let below : slice_cmp nat_cmp a b ≡ Less = nat_list_cmp_total.antisymm a b ∙ ap ordering_reverse above in
+    elim (slice_cmp nat_cmp b c) as (λ r. slice_cmp nat_cmp b c ≡ r → slice_cmp nat_cmp a c ≢ Greater) [
+      | Less ↦ λ is more. let less = sym (nat_list_cmp_total.trans a b c below is) ∙ more in let e : ⊥ = cc in e
+      | Equal ↦ λ is more. let less = sym (sym (alike_right nat_list_cmp_total b c a is) ∙ below) ∙ more in let e : ⊥ = cc in e
+      | Greater ↦ λ is. absurd (not is)
+    ] refl
+
+module _ {K : Type 0} (words_of : K → List ℕ) (is_expired : ℕ → Bool) (places : List (K × ℕ)) where
+  -- a place shows one key
+  same_key : (key other : K) (value v i : ℕ) → slice_get places i ≡ Some (key, value) → HasPairAt places other v i → key ≡ other
+  same_key key other value v i at b =
+      let both : Some (key, value) ≡ Some (other, v) = sym at ∙ b.at in
+      let pair : (key, value) ≡ (other, v) = cc in
+      ap (λ (p : K × ℕ). p.0) pair
+
+  -- the place is free, or its pair isn't expired
+  pub still_none : (i : ℕ) (r : Option ℕ) → ((key : K) (value : ℕ) → HasPairAt places key value i → is_expired value ≡ false)
+      → IsLeastAmong words_of is_expired places i r → IsLeastAmong words_of is_expired places (i + 1) r
+  still_none i None not h = record {
+    found = tt;
+    none = λ key value j l pair. elim (cases_eq j i) [
+      | inl here ↦ not key value (subst (HasPairAt places key value) here pair)
+      | inr differ ↦ h.none key value j (omega arith) pair
+    ];
+  }
+  still_none i (Some k) not h = record {
+    found = record {
+      key = h.found.key;
+      value = h.found.value;
+      pair = h.found.pair;
+      word = h.found.word;
+      expired = h.found.expired;
+      least = λ other v j l pair counts. elim (cases_eq j i) [
+        | inl here ↦ absurd (true≢false (sym counts ∙ not other v (subst (HasPairAt places other v) here pair)))
+        | inr differ ↦ h.found.least other v j (omega arith) pair counts
+      ];
+    };
+    none = tt;
+  }
+
+  module _ (i : ℕ) (key : K) (value : ℕ) (pair : HasPairAt places key value i) (word : value < 2 ^ 64)
+      (expired : is_expired value ≡ true) where
+    itself : (other : K) (v : ℕ) → HasPairAt places other v i → slice_cmp nat_cmp (words_of key) (words_of other) ≢ Greater
+    itself other v h more =
+        let same = same_key key other value v i pair.at h in
+        let tied = tied_itself' in tied same more
+      where
+        tied_itself' : key ≡ other → slice_cmp nat_cmp (words_of key) (words_of other) ≡ Greater → ⊥
+        tied_itself' same more =
+            let turned = nat_list_cmp_total.antisymm (words_of key) (words_of key) in
+            let here : slice_cmp nat_cmp (words_of key) (words_of key) ≡ Greater =
+            ap (λ (k : K). slice_cmp nat_cmp (words_of key) (words_of k)) same ∙ more in
+            let e : Greater ≡ Less = sym here ∙ turned ∙ ap ordering_reverse here in
+            let c : ⊥ = cc in c
+
+    least_with : ((other : K) (v j : ℕ) → j < i → HasPairAt places other v j → is_expired v ≡ true
+        → slice_cmp nat_cmp (words_of key) (words_of other) ≢ Greater)
+        → IsLeastAmong words_of is_expired places (i + 1) (Some i)
+    least_with before = record {
+      found = record {
+        key = key;
+        value = value;
+        pair = pair;
+        word = word;
+        expired = expired;
+        least = λ other v j l h counts. elim (cases_eq j i) [
+          | inl here ↦ itself other v (subst (HasPairAt places other v) here h)
+          | inr differ ↦ before other v j (omega arith) h counts
+        ];
+      };
+      none = tt;
+    }
+
+    -- the first expired pair
+    pub first_least : IsLeastAmong words_of is_expired places i None → IsLeastAmong words_of is_expired places (i + 1) (Some i)
+    first_least h = least_with (λ other v j l p counts. absurd (true≢false (sym counts ∙ h.none other v j l p)))
+
+    -- an expired pair with a lesser key
+    pub lesser_least : (k : ℕ) (h : IsLeastTo words_of is_expired places i k)
+        → slice_cmp nat_cmp (words_of h.key) (words_of key) ≡ Greater → IsLeastAmong words_of is_expired places (i + 1) (Some i)
+    lesser_least k h above = least_with (λ other v j l p counts.
+        still_least (words_of key) (words_of h.key) (words_of other) above (h.least other v j l p counts))
+
+  -- the place shows a key that isn't less
+  pub same_least : (i : ℕ) (key : K) (value : ℕ) → slice_get places i ≡ Some (key, value) → (k : ℕ) (h : IsLeastTo words_of is_expired places i k)
+      → slice_cmp nat_cmp (words_of h.key) (words_of key) ≢ Greater → IsLeastAmong words_of is_expired places (i + 1) (Some k)
+  same_least i key value at k h not = record {
+    found = record {
+      key = h.key;
+      value = h.value;
+      pair = h.pair;
+      word = h.word;
+      expired = h.expired;
+      least = λ other v j l p counts. elim (cases_eq j i) [
+        | inl here ↦ subst (λ (x : K). slice_cmp nat_cmp (words_of h.key) (words_of x) ≢ Greater)
+            (same_key key other value v i at (subst (HasPairAt places other v) here p)) not
+        | inr differ ↦ h.least other v j (omega arith) p counts
+      ];
+    };
+    none = tt;
+  }
+
+  -- ---- All places
+
+  pub least_of_all : (i : ℕ) → IsLeastTo words_of is_expired places (length places) i → IsLeastExpired words_of is_expired places i
+  least_of_all i h = record {
+    key = h.key;
+    value = h.value;
+    pair = h.pair;
+    word = h.word;
+    expired = h.expired;
+    least = λ other v j p. h.least other v j (pair_inside p) p;
+  }
+
+  pub none_of_all : IsLeastAmong words_of is_expired places (length places) None → NoneIsExpired is_expired places
+  none_of_all h = λ key value i p. h.none key value i (pair_inside p) p

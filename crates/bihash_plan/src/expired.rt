@@ -1,0 +1,69 @@
+//! The pair that goes for a new one where a block is full.
+
+ghost use Rattle.std.specs.Prelude.{◌+◌, IfSome, IfNone, length};
+ghost use Rattle.bihash_words.specs.Sizes.{IsSound, sizes_of};
+ghost use Rattle.bihash_words.specs.Pages.{paging_of};
+ghost use Rattle.bihash_plan.specs.Recycles.{IsLeastExpired, IsMarked, NoneIsExpired};
+ghost use Rattle.bihash_plan.specs.Searches.{IsPlace, IsRange, MayHavePlaces};
+ghost use Rattle.bihash_plan.specs.inner.LeastPairs.{IsLeastAmong};
+
+use crate::place::page;
+use crate::spare_place::Recycle;
+use bihash_words::{BlockSize, Expiry, FREE, PAGE_PLACES, Shape, compare};
+use std::cmp::Ordering;
+
+/// The place of the expired pair with the least key by its words, first word first, where a new key is to have it,
+/// and whether the block is linear then: where it was, or where that place isn't in the key's page. `None`: no pair
+/// is expired. It is asked where `plan` answers Full.
+pub fn recycle<S: Shape, E: Expiry>(
+    places: &[(S::Key, u64)],
+    size: BlockSize,
+    key: &S::Key,
+    expiry: &E,
+) -> Option<Recycle>
+    requires { MayHavePlaces ⟦<S as Shape>⟧ size.log2 (length places.now) }
+    ensures place { IfSome result (λ r. IsLeastExpired S.words_of (E.is_expired expiry.now) places.now r.place) }
+    ensures mark { IfSome result (IsMarked (paging_of ⟦<S as Shape>⟧) size key.now) }
+    ensures none { IfNone result (NoneIsExpired (E.is_expired expiry.now) places.now) }
+{
+    let place = least_expired::<S, E>(places, expiry)?;
+    let linear = size.linear || place / PAGE_PLACES != page::<S>(key, size.log2);
+    Some(Recycle { place, linear })
+}
+
+/// The place of the expired pair with the least key.
+fn least_expired<S: Shape, E: Expiry>(places: &[(S::Key, u64)], expiry: &E) -> Option<usize>
+    requires shape { IsSound (sizes_of ⟦<S as Shape>⟧) }
+    requires range { IsRange places.now (length places.now) }
+    ensures { IsLeastAmong S.words_of (E.is_expired expiry.now) places.now (length places.now) result }
+{
+    let mut least = None;
+    for i in 0..places.len() {
+        least = lesser::<S, E>(places, expiry, least, i);
+    }
+    least
+}
+
+/// The same among the places up to one and with it, where it is known among those before it.
+fn lesser<S: Shape, E: Expiry>(
+    places: &[(S::Key, u64)],
+    expiry: &E,
+    least: Option<usize>,
+    i: usize,
+) -> Option<usize>
+    requires shape { IsSound (sizes_of ⟦<S as Shape>⟧) }
+    requires place { IsPlace places.now i }
+    requires least { IsLeastAmong S.words_of (E.is_expired expiry.now) places.now i least }
+    ensures { IsLeastAmong S.words_of (E.is_expired expiry.now) places.now (i + 1) result }
+{
+    let (key, value) = &places[i];
+    if let Some(other) = least {
+        if compare::<S>(&places[other].0, key) != Ordering::Greater {
+            return least;
+        }
+    }
+    if *value == FREE || !expiry.expired(*value) {
+        return least;
+    }
+    Some(i)
+}

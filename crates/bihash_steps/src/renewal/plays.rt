@@ -1,0 +1,17 @@
+//! What a load by a lone caller tells it.
+ghost use Rattle.bihash_words.specs.Sizes.{sizes_of};
+ghost use Rattle.bihash_steps.specs.Renewals.{TellsRowWord};
+
+use crate::view::View;
+use atomic_table::Play;
+use bihash_words::Shape;
+use std::marker::PhantomData;
+
+/// A load of the next word of a row.
+pub(crate) struct LoneLoads<S> {
+    shape: PhantomData<S>,
+}
+
+impl<S: Shape> Play<(), View> for LoneLoads<S> {
+    ghost then = { λ _. TellsRowWord (sizes_of S.Shape) };
+}

@@ -1,0 +1,114 @@
+//! A new pair in a full bucket: it takes the place of an expired one, or is refused.
+ghost use Rattle.std.specs.Prelude.{◌≡◌, None};
+ghost use Rattle.bihash_words.specs.Sizes.{sizes_of};
+ghost use Rattle.bihash_words.specs.declared.patch.Change.TheVariants.{Set};
+ghost use Rattle.bihash_words.specs.declared.patch.Reply.TheVariants.{Full};
+ghost use Rattle.bihash_steps.specs.Callers.{known_at};
+ghost use Rattle.bihash_table.specs.Answers.{recycled_update};
+ghost use Rattle.bihash_table.specs.Tries.{FinishedOver, TriedOver};
+ghost use Rattle.bihash_table.specs.inner.Locked.{TakesPlace, UnderLock};
+ghost use Rattle.bihash_table.specs.inner.Seen.{MayRefuse, WantsPlace};
+
+use crate::change::{store_key, store_word};
+use crate::contended::Contended;
+use crate::entrant::Entrant;
+use crate::lock::lock_seen;
+use crate::site::Seen;
+use bihash_plan::recycle;
+use bihash_steps::{CallerSeat, Event, Recycled, Row};
+use bihash_words::{Change, Expiry, Reply, Shape};
+
+/// A place of the block, the key of the pair that is there, and whether any place may hold any key once it is gone.
+#[derive(Drop)]
+pub(crate) struct Going<'k, S: Shape> {
+    pub(crate) place: usize,
+    pub(crate) key: &'k S::Key,
+    pub(crate) linear: bool,
+}
+
+/// Enters a pair of a new key in the place of the expired pair with the least key. Where none of these places has an
+/// expired pair, the call is refused.
+pub(crate) fn recycle_or_refuse<S: Shape, E: Expiry>(
+    row: &Row<S>,
+    seat: &mut CallerSeat<S>,
+    seen: &Seen<'_, S>,
+    entrant: &Entrant<'_, E>,
+    places: &[(S::Key, u64)],
+) -> Result<Reply, Contended>
+    requires { WantsPlace ⟦<S as Shape>⟧ row.now seat.old seen.now.site.bucket seen.now.word seen.now.site.key.now
+        entrant.now.value places.now }
+    ensures { TriedOver ⟦<S as Shape>⟧ seat.old seat.new seen.now.site.key.now None (Set entrant.now.value)
+        (E.is_expired entrant.now.expiry.now) result }
+{
+    row.is_sound();
+    let size = seen.word.block_size();
+    let Some(spare) = recycle::<S, E>(places, size, seen.site.key, entrant.expiry) else {
+        return refuse(row, seat, seen, entrant);
+    };
+    if !lock_seen(row, seat, seen.site.bucket, seen.word) {
+        return Err(Contended);
+    }
+    let going = Going {
+        place: spare.place,
+        key: &places[spare.place].0,
+        linear: spare.linear,
+    };
+    Ok(replace(row, seat, seen, entrant, &going))
+}
+
+/// Refuses a new key for want of room, where the bucket still has the word that was seen.
+fn refuse<S: Shape, E: Expiry>(
+    row: &Row<S>,
+    seat: &mut CallerSeat<S>,
+    seen: &Seen<'_, S>,
+    entrant: &Entrant<'_, E>,
+) -> Result<Reply, Contended>
+    requires { MayRefuse ⟦<S as Shape>⟧ row.now seat.old seen.now.site.bucket seen.now.word
+        (recycled_update (S.words_of seen.now.site.key.now) None (Set entrant.now.value)
+        (E.is_expired entrant.now.expiry.now) None Full) }
+    ensures { TriedOver ⟦<S as Shape>⟧ seat.old seat.new seen.now.site.key.now None (Set entrant.now.value)
+        (E.is_expired entrant.now.expiry.now) result }
+{
+    let event = Event {
+        key: seen.site.key,
+        found: None,
+        change: Change::Set(entrant.value),
+        reply: Reply::Full,
+    };
+    if !row.validate_full(seat, seen.site.bucket, seen.word, &event, entrant.expiry) {
+        return Err(Contended);
+    }
+    Ok(Reply::Full)
+}
+
+/// Enters a pair of a new key where an expired one stands.
+fn replace<S: Shape, E: Expiry>(
+    row: &Row<S>,
+    seat: &mut CallerSeat<S>,
+    seen: &Seen<'_, S>,
+    entrant: &Entrant<'_, E>,
+    going: &Going<'_, S>,
+) -> Reply
+    requires { UnderLock (sizes_of S.Shape) row.now seat.old seen.now.site.bucket seen.now.word (Set entrant.now.value)
+        (TakesPlace (sizes_of S.Shape) (S.words_of seen.now.site.key.now) (S.words_of going.now.key.now)
+        (E.is_expired entrant.now.expiry.now) going.now.linear going.now.place) }
+    ensures { FinishedOver ⟦<S as Shape>⟧ seat.old seat.new seen.now.site.key.now None (Set entrant.now.value)
+        (E.is_expired entrant.now.expiry.now) result }
+{
+    store_key(row, seat, seen, going.place);
+    store_word(row, seat, seen.word, going.place, S::WORDS, entrant.value);
+    let event = Event {
+        key: seen.site.key,
+        found: None,
+        change: Change::Set(entrant.value),
+        reply: Reply::Changed(None),
+    };
+    let recycled = Recycled {
+        event,
+        removed: going.key,
+        expiry: entrant.expiry,
+        linear: going.linear,
+    };
+    row.publish_recycled(seat, seen.site.bucket, seen.word, &recycled);
+    Reply::Changed(None)
+}

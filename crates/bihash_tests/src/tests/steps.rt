@@ -1,0 +1,96 @@
+//! New rows, callers of a small table that split, meet and join, and as many callers as it may have.
+ghost use Rattle.std.specs.Prelude.{◌≡◌, IfOk};
+ghost use Rattle.bihash_steps.specs.Views.{nothing_held};
+
+use bihash_steps::{Caller, PoolWord, Row, SplitFault, open_row};
+use bihash_words::{ShapeV4, ShapeV6, Tiny};
+use std::alloc::Global;
+use std::test::Fail;
+
+// Four pages, and eight writes to a bucket. A table of this shape may have 64 callers.
+type Small = Tiny<4, 8>;
+
+// A caller and a new one. A refusal fails the test.
+fn split(
+    alloc: Global,
+    row: &Row<Small>,
+    caller: Caller<Small>,
+) -> Result<(Caller<Small>, Caller<Small>), Fail>
+    requires { (caller.seat.row ≡ row.now) × (caller.seat.view.holds ≡ nothing_held) }
+    ensures old { IfOk result (λ r. (r.0.seat.row ≡ row.now) × (r.0.seat.view.holds ≡ nothing_held)) }
+    ensures new { IfOk result (λ r. (r.1.seat.row ≡ row.now) × (r.1.seat.view.holds ≡ nothing_held)) }
+{
+    match row.split(alloc, caller) {
+        Ok(both) => Ok(both),
+        Err((fault, _)) => Err(fault)?,
+    }
+}
+
+#[test]
+fn rows_of_both_flow_shapes_open(rt: HostRuntime) -> Result<(), Fail> {
+    let (four, mut first) = open_row::<ShapeV4>(rt.alloc())?;
+    assert_eq!(rt; four.load_count(&mut first.seat), 1);
+    let (six, mut first) = open_row::<ShapeV6>(rt.alloc())?;
+    assert_eq!(rt; six.load_count(&mut first.seat), 1);
+    Ok(())
+}
+
+// Numbers stay with the caller that has them, until one caller takes in the other. Each sees the count that was made.
+#[test]
+fn callers_split_meet_and_join(rt: HostRuntime) -> Result<(), Fail> {
+    let (row, mut first) = open_row::<Small>(rt.alloc())?;
+    assert_eq!(rt; row.load_count(&mut first.seat), 1);
+    assert_eq!(rt; first.seat.numbers(), 1);
+    let (first, mut second) = split(rt.alloc(), &row, first)?;
+    assert_eq!(rt; row.load_count(&mut second.seat), 2);
+    assert_eq!(rt; (first.seat.numbers(), second.seat.numbers()), (1, 1));
+    let (second, third) = split(rt.alloc(), &row, second)?;
+    let (first, second) = row.meet(first, second);
+    assert_eq!(rt; (first.seat.numbers(), second.seat.numbers()), (1, 1));
+    assert_eq!(rt; (first.seat.stamp(), second.seat.stamp()), (None, None));
+    let two = row.join(second, third);
+    assert_eq!(rt; two.seat.numbers(), 2);
+    let (first, two) = row.meet(first, two);
+    assert_eq!(rt; (first.seat.numbers(), two.seat.numbers()), (1, 2));
+    let mut all = row.join(first, two);
+    assert_eq!(rt; row.load_count(&mut all.seat), 3);
+    assert_eq!(rt; all.seat.numbers(), 3);
+    let (mut all, mut fourth) = split(rt.alloc(), &row, all)?;
+    assert_eq!(rt; (all.seat.numbers(), fourth.seat.numbers()), (3, 1));
+    assert_eq!(rt; row.load_count(&mut all.seat), 4);
+    assert_eq!(rt; row.load_count(&mut fourth.seat), 4);
+    Ok(())
+}
+
+#[test]
+fn lone_caller_takes_both_locks_and_opens_them(rt: HostRuntime) -> Result<(), Fail> {
+    let (row, mut first) = open_row::<Small>(rt.alloc())?;
+    let seat = &mut first.seat;
+    let word = row.load_bucket(seat, 1);
+    assert_eq!(rt; word.to_word(), 0);
+    assert!(rt; row.lock_from(seat, 1, word));
+    assert!(rt; row.pool_lock(seat));
+    assert_eq!(rt; row.pool_load(seat, PoolWord::Used), 0);
+    assert_eq!(rt; row.pool_load(seat, PoolWord::Count(2)), 0);
+    row.pool_unlock(seat);
+    row.release(seat, 1, word);
+    assert_eq!(rt; row.load_bucket(seat, 1).to_word(), 0);
+    assert_eq!(rt; seat.stamp(), None);
+    assert_eq!(rt; seat.numbers(), 1);
+    Ok(())
+}
+
+#[test]
+fn sixty_third_split_makes_the_last_caller(rt: HostRuntime) -> Result<(), Fail> {
+    let (row, mut caller) = open_row::<Small>(rt.alloc())?;
+    for made in 2..65u64 {
+        let (old, mut new) = split(rt.alloc(), &row, caller)?;
+        assert_eq!(rt; row.load_count(&mut new.seat), made);
+        caller = old;
+    }
+    let refused = row.split(rt.alloc(), caller).err();
+    let (fault, mut caller) = refused.ok_or("a sixty-fifth caller was made")?;
+    assert_eq!(rt; fault, SplitFault::Numbers);
+    assert_eq!(rt; row.load_count(&mut caller.seat), 64);
+    Ok(())
+}

@@ -1,0 +1,241 @@
+//! The shared table: worked rows with one try a call, searches that take no lock, threads, calls that wait, and
+//! tables that end.
+ghost use Rattle.std.specs.Prelude.{◌≡◌, ◌<◌, IfOk};
+ghost use Rattle.bihash_words.specs.Sizes.{sizes_of, IsSound};
+ghost use Rattle.bihash_steps.specs.Views.{nothing_held};
+
+use bihash_steps::PoolWord;
+use bihash_table::{Caller, CloseFault, Contended, Sessions, create, stamp};
+use bihash_words::{Add, AddIfAbsent, Delete, Reply, Shape, Tiny, Touch};
+use std::alloc::Global;
+use std::test::Fail;
+
+mod closing;
+mod exhaustion;
+mod one_caller;
+mod open_reads;
+mod recycling;
+mod renewal;
+mod several_callers;
+mod threads;
+mod waiting;
+
+// Eight pages, and 1000 writes to a bucket.
+type Eight = Tiny<8, 1000>;
+
+// A call, with the value that it sets.
+#[derive(Clone, Copy)]
+enum Call {
+    Add(u32),
+    AddIfAbsent(u32),
+    Touch(u32),
+    Remove,
+    Search,
+}
+
+// A call on a key, its answer, and the bucket and stamp of its caller after it. A search answers `Kept`.
+type Row = (Call, [u64; 2], Reply, (u64, u64));
+
+// A new table and two callers. A refusal fails the test.
+fn two_callers<S: Shape>(alloc: Global) -> Result<(Sessions<S>, Caller<S>, Caller<S>), Fail>
+    requires sound { IsSound (sizes_of S.Shape) }
+    ensures own { IfOk result (λ r. (r.1.seat.row ≡ r.0.row) × (r.2.seat.row ≡ r.0.row)) }
+    ensures free { IfOk result (λ r. (r.1.seat.view.holds ≡ nothing_held) × (r.2.seat.view.holds ≡ nothing_held)) }
+{
+    let (table, first) = create::<S>(alloc)?;
+    match table.split(alloc, first) {
+        Ok((first, second)) => Ok((table, first, second)),
+        Err((fault, _)) => Err(fault)?,
+    }
+}
+
+// What one try of a call answers.
+fn answer<const P: u64, const L: u64>(
+    table: &Sessions<Tiny<P, L>>,
+    caller: &mut Caller<Tiny<P, L>>,
+    call: Call,
+    key: &[u64; 2],
+) -> Result<Reply, Contended>
+    requires own { caller.old.seat.row ≡ table.now.row }
+    requires free { caller.old.seat.view.holds ≡ nothing_held }
+    ensures own { caller.new.seat.row ≡ table.now.row }
+    ensures free { caller.new.seat.view.holds ≡ nothing_held }
+{
+    match call {
+        Call::Add(value) => {
+            let value = u64::from(value);
+            table.try_update(caller, key, &Add { value })
+        }
+        Call::AddIfAbsent(value) => {
+            let value = u64::from(value);
+            table.try_update(caller, key, &AddIfAbsent { value })
+        }
+        Call::Touch(value) => {
+            let value = u64::from(value);
+            table.try_update(caller, key, &Touch { value })
+        }
+        Call::Remove => table.try_update(caller, key, &Delete),
+        Call::Search => Ok(Reply::Kept(table.try_search(caller, key)?)),
+    }
+}
+
+// The number of the first row whose call is answered otherwise at its one try, if one is.
+fn first_wrong<const P: u64, const L: u64>(
+    table: &Sessions<Tiny<P, L>>,
+    caller: &mut Caller<Tiny<P, L>>,
+    rows: &[Row],
+) -> Option<usize>
+    requires own { caller.old.seat.row ≡ table.now.row }
+    requires free { caller.old.seat.view.holds ≡ nothing_held }
+    ensures own { caller.new.seat.row ≡ table.now.row }
+    ensures free { caller.new.seat.view.holds ≡ nothing_held }
+{
+    'rows: for (i, (call, key, reply, at)) in rows.iter().enumerate() {
+        let answered = answer(table, caller, *call, key);
+        if answered != Ok(*reply) || stamp(caller) != Some(*at) {
+            return Some(i);
+        }
+    }
+    None
+}
+
+// Adds keys of these numbers, each with its number as value. Each is a new pair.
+fn fill<const P: u64, const L: u64>(
+    table: &Sessions<Tiny<P, L>>,
+    caller: &mut Caller<Tiny<P, L>>,
+    keys: &[u32],
+) -> bool
+    requires own { caller.old.seat.row ≡ table.now.row }
+    requires free { caller.old.seat.view.holds ≡ nothing_held }
+    ensures own { caller.new.seat.row ≡ table.now.row }
+    ensures free { caller.new.seat.view.holds ≡ nothing_held }
+{
+    let mut all_new = true;
+    for key in keys {
+        let reply = answer(table, caller, Call::Add(*key), &[u64::from(*key), 0]);
+        all_new &= reply == Ok(Reply::Changed(None));
+    }
+    all_new
+}
+
+// Whether each key of these numbers is found with its number as value.
+fn has<const P: u64, const L: u64>(
+    table: &Sessions<Tiny<P, L>>,
+    caller: &mut Caller<Tiny<P, L>>,
+    keys: &[u32],
+) -> bool
+    requires own { caller.old.seat.row ≡ table.now.row }
+    requires free { caller.old.seat.view.holds ≡ nothing_held }
+    ensures own { caller.new.seat.row ≡ table.now.row }
+    ensures free { caller.new.seat.view.holds ≡ nothing_held }
+{
+    let mut all_found = true;
+    for key in keys {
+        let key = u64::from(*key);
+        all_found &= table.try_search(caller, &[key, 0]) == Ok(Some(key));
+    }
+    all_found
+}
+
+// The first page of a bucket's block, its log2, and whether it is linear.
+fn block<const P: u64, const L: u64>(
+    table: &Sessions<Tiny<P, L>>,
+    caller: &mut Caller<Tiny<P, L>>,
+    bucket: usize,
+) -> (u64, u64, bool)
+    requires there { bucket < 2 }
+    requires own { caller.old.seat.row ≡ table.now.row }
+    requires free { caller.old.seat.view.holds ≡ nothing_held }
+    ensures own { caller.new.seat.row ≡ table.now.row }
+    ensures free { caller.new.seat.view.holds ≡ nothing_held }
+{
+    let word = table.row.load_bucket(&mut caller.seat, bucket);
+    (word.page(), word.log2(), word.linear())
+}
+
+// The table opened again, with its caller 1. A refusal fails the test.
+fn renew<S: Shape>(
+    alloc: Global,
+    table: Sessions<S>,
+    caller: Caller<S>,
+) -> Result<(Sessions<S>, Caller<S>), Fail>
+    requires own { caller.seat.row ≡ table.row }
+    requires free { caller.seat.view.holds ≡ nothing_held }
+    ensures own { IfOk result (λ r. r.1.seat.row ≡ r.0.row) }
+    ensures free { IfOk result (λ r. r.1.seat.view.holds ≡ nothing_held) }
+{
+    match table.renew(alloc, caller) {
+        Ok((table, caller)) => Ok((table, caller)),
+        Err((fault, _, _)) => Err(fault)?,
+    }
+}
+
+// How many returned pages there are, and how many pages were ever handed out. `None`: the allocation lock is held.
+fn pages<S: Shape>(table: &Sessions<S>, caller: &mut Caller<S>) -> Option<(u64, u64)>
+    requires own { caller.old.seat.row ≡ table.now.row }
+    requires free { caller.old.seat.view.holds ≡ nothing_held }
+    ensures own { caller.new.seat.row ≡ table.now.row }
+    ensures free { caller.new.seat.view.holds ≡ nothing_held }
+{
+    let row = &table.row;
+    let seat = &mut caller.seat;
+    if !row.pool_lock(seat) {
+        return None;
+    }
+    let returned = row.pool_load(seat, PoolWord::Count(0));
+    let used = row.pool_load(seat, PoolWord::Used);
+    row.pool_unlock(seat);
+    Some((returned, used))
+}
+
+// Drops a caller that has the lock of bucket 0, and the allocation lock where that is asked for. False: it did not get
+// one of them.
+fn drop_with_locks(table: &Sessions<Eight>, mut caller: Caller<Eight>, and_pool: bool) -> bool
+    requires own { caller.seat.row ≡ table.now.row }
+    requires free { caller.seat.view.holds ≡ nothing_held }
+{
+    let row = &table.row;
+    let seat = &mut caller.seat;
+    let word = row.load_bucket(seat, 0);
+    if word.locked() {
+        return false;
+    }
+    row.lock_from(seat, 0, word) && (!and_pool || row.pool_lock(seat))
+}
+
+// Whether the table ends with these pairs.
+fn ends_with<const P: u64, const L: u64>(
+    alloc: Global,
+    table: Sessions<Tiny<P, L>>,
+    caller: Caller<Tiny<P, L>>,
+    pairs: &[([u64; 2], u64)],
+) -> bool
+    requires own { caller.seat.row ≡ table.row }
+    requires free { caller.seat.view.holds ≡ nothing_held }
+{
+    match table.close(alloc, caller) {
+        Ok(found) => found.as_slice() == pairs,
+        Err(_) => false,
+    }
+}
+
+// The table, which can't be closed while there is the second caller, and both callers joined.
+fn stays_open<S: Shape>(
+    alloc: Global,
+    table: Sessions<S>,
+    first: Caller<S>,
+    second: Caller<S>,
+) -> Result<(Sessions<S>, Caller<S>), Fail>
+    requires own { (first.seat.row ≡ table.row) × (second.seat.row ≡ table.row) }
+    requires free { (first.seat.view.holds ≡ nothing_held) × (second.seat.view.holds ≡ nothing_held) }
+    ensures own { IfOk result (λ r. r.1.seat.row ≡ r.0.row) }
+    ensures free { IfOk result (λ r. r.1.seat.view.holds ≡ nothing_held) }
+{
+    match table.close(alloc, first) {
+        Err((CloseFault::Strangers, table, first)) => {
+            let both = table.join(first, second);
+            Ok((table, both))
+        }
+        _ => Err("the table was closed under a stranger")?,
+    }
+}

@@ -1,0 +1,55 @@
+//! Tables that end: empty, with pairs, and with a caller too many.
+use super::Call::{Add, Remove};
+use super::{ends_with, first_wrong, stays_open, two_callers};
+use bihash_table::create;
+use bihash_words::Reply::Changed;
+use bihash_words::Tiny;
+use std::test::Fail;
+
+// Eight pages, and 64 writes to a bucket.
+type Small = Tiny<8, 64>;
+
+#[test]
+fn an_empty_table_closes_without_pairs(rt: HostRuntime) -> Result<(), Fail> {
+    let (table, caller) = create::<Small>(rt.alloc())?;
+    assert!(rt; ends_with(rt.alloc(), table, caller, &[]));
+    Ok(())
+}
+
+#[test]
+fn pairs_come_in_the_order_of_their_words(rt: HostRuntime) -> Result<(), Fail> {
+    let (table, mut caller) = create::<Small>(rt.alloc())?;
+    let rows = [
+        (Add(1), [2, 1], Changed(None), (0, 1)),
+        (Add(2), [256, 0], Changed(None), (0, 2)),
+        (Add(3), [1, 1 << 63], Changed(None), (1, 1)),
+        (Add(4), [1, 2], Changed(None), (1, 2)),
+        (Add(5), [0, u64::MAX], Changed(None), (0, 3)),
+        (Add(6), [u64::MAX, 0], Changed(None), (1, 3)),
+        (Add(7), [1, 256], Changed(None), (1, 4)),
+        (Add(8), [0, 3], Changed(None), (0, 4)),
+        (Add(9), [1, 1], Changed(None), (1, 5)),
+        (Remove, [1, 2], Changed(Some(4)), (1, 6)),
+    ];
+    assert_eq!(rt; first_wrong(&table, &mut caller, &rows), None);
+    let sorted = [
+        ([0, 3], 8),
+        ([0, u64::MAX], 5),
+        ([1, 1], 9),
+        ([1, 256], 7),
+        ([1, 1 << 63], 3),
+        ([2, 1], 1),
+        ([256, 0], 2),
+        ([u64::MAX, 0], 6),
+    ];
+    assert!(rt; ends_with(rt.alloc(), table, caller, &sorted));
+    Ok(())
+}
+
+#[test]
+fn a_stranger_keeps_the_table_open(rt: HostRuntime) -> Result<(), Fail> {
+    let (table, first, second) = two_callers::<Small>(rt.alloc())?;
+    let (table, both) = stays_open(rt.alloc(), table, first, second)?;
+    assert!(rt; ends_with(rt.alloc(), table, both, &[]));
+    Ok(())
+}

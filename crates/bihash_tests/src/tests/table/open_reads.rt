@@ -1,0 +1,87 @@
+//! A search that takes no lock, made step by step while another caller gives the page away that it reads.
+ghost use Rattle.std.specs.Prelude.{◌≡◌};
+ghost use Rattle.bihash_steps.specs.Views.{nothing_held};
+
+use super::Call::{Add, Remove, Search};
+use super::{Eight, block, first_wrong, two_callers};
+use bihash_steps::Event;
+use bihash_table::{Caller, Sessions};
+use bihash_words::Reply::{Changed, Kept};
+use bihash_words::{Change, Reply};
+use std::test::Fail;
+
+// Whether the page of key 0 in bucket 0 goes to key 1 in bucket 1.
+fn gives_page_away(table: &Sessions<Eight>, caller: &mut Caller<Eight>) -> bool
+    requires own { caller.old.seat.row ≡ table.now.row }
+    requires free { caller.old.seat.view.holds ≡ nothing_held }
+    ensures own { caller.new.seat.row ≡ table.now.row }
+    ensures free { caller.new.seat.view.holds ≡ nothing_held }
+{
+    let rows = [
+        (Remove, [0, 0], Changed(Some(7)), (0, 2)),
+        (Add(9), [1, 0], Changed(None), (1, 1)),
+    ];
+    first_wrong(table, caller, &rows).is_none() && block(table, caller, 1).0 == 1
+}
+
+// The second caller reads the key in page 1, which is bucket 0's, and the value when the first one gave the page away.
+// Whether that is refused as an answer.
+fn refuses_moved_page(
+    table: &Sessions<Eight>,
+    first: &mut Caller<Eight>,
+    second: &mut Caller<Eight>,
+) -> Result<bool, Fail>
+    requires own { (first.old.seat.row ≡ table.now.row) × (second.old.seat.row ≡ table.now.row) }
+    requires free { (first.old.seat.view.holds ≡ nothing_held) × (second.old.seat.view.holds ≡ nothing_held) }
+    ensures own { (first.new.seat.row ≡ table.now.row) × (second.new.seat.row ≡ table.now.row) }
+    ensures free { (first.new.seat.view.holds ≡ nothing_held) × (second.new.seat.view.holds ≡ nothing_held) }
+{
+    let row = &table.row;
+    let seat = &mut second.seat;
+    let key = [0, 0];
+    let word = row.load_bucket(seat, 0);
+    if word.locked() {
+        return Err("bucket 0 is locked")?;
+    }
+    if word.page() != 1 {
+        return Err("bucket 0 does not have page 1")?;
+    }
+    let low = row.load_open(seat, 1, 0);
+    let high = row.load_open(seat, 1, 1);
+    if low != 0 {
+        return Err("the first place does not have the key")?;
+    }
+    if high != 0 {
+        return Err("the first place does not have the key")?;
+    }
+    if !gives_page_away(table, first) {
+        return Err("page 1 stays where it is")?;
+    }
+    let value = row.load_open(seat, 1, 2);
+    if value != 9 {
+        return Err("page 1 does not have the other pair")?;
+    }
+    let event = Event {
+        key: &key,
+        found: Some(value),
+        change: Change::Keep,
+        reply: Reply::Kept(Some(value)),
+    };
+    Ok(!row.validate(seat, 0, word, &event) && seat.stamp().is_none())
+}
+
+// Bucket 0 has page 1. The second caller reads the key there, the first one removes the pair and adds one to
+// bucket 1, which takes page 1, and the second caller reads the value that is there then. It is no answer.
+#[test]
+fn read_across_a_moved_page(rt: HostRuntime) -> Result<(), Fail> {
+    let (table, mut first, mut second) = two_callers::<Eight>(rt.alloc())?;
+    let added = [(Add(7), [0, 0], Changed(None), (0, 1))];
+    assert_eq!(rt; first_wrong(&table, &mut first, &added), None);
+    assert!(rt; refuses_moved_page(&table, &mut first, &mut second)?);
+    let found = [
+        (Search, [0, 0], Kept(None), (0, 2)),
+        (Search, [1, 0], Kept(Some(9)), (1, 1)),
+    ];
+    assert_eq!(rt; first_wrong(&table, &mut second, &found), None);
+    Ok(())
+}

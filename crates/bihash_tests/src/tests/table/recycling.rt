@@ -1,0 +1,153 @@
+//! A full bucket in which pairs are expired.
+ghost use Rattle.std.specs.Prelude.{◌≡◌, ◌<◌, ◌==◌, ◌||◌, false, nat_lt};
+ghost use Rattle.std.specs.Thread.{IsSync};
+ghost use Rattle.bihash_steps.specs.Views.{nothing_held};
+
+use super::Call::Search;
+use super::{Eight, block, fill, first_wrong, has, two_callers};
+use bihash_table::{Caller, Contended, Sessions, create, stamp};
+use bihash_words::Reply::{Changed, Full, Kept};
+use bihash_words::{Add, Expiry, Reply};
+use std::sync::Wait;
+use std::test::Fail;
+use std::thread::{Threads, join};
+
+// Values 2 and 4 are expired.
+struct TwoAndFour;
+
+impl Expiry for TwoAndFour {
+    ghost is_expired = { λ _ value. (value == 2) || (value == 4) };
+
+    fn expired(&self, value: u64) -> bool {
+        value == 2 || value == 4
+    }
+}
+
+// No value is expired.
+struct Nothing;
+
+impl Expiry for Nothing {
+    ghost is_expired = { λ _ _. false };
+
+    fn expired(&self, _value: u64) -> bool {
+        false
+    }
+}
+
+// Enters 99 under the key of this number, in the place of an expired pair where there is no other.
+fn enter<E: Expiry>(
+    table: &Sessions<Eight>,
+    caller: &mut Caller<Eight>,
+    key: u64,
+    expiry: &E,
+) -> Result<Reply, Contended>
+    requires own { caller.old.seat.row ≡ table.now.row }
+    requires free { caller.old.seat.view.holds ≡ nothing_held }
+    ensures own { caller.new.seat.row ≡ table.now.row }
+    ensures free { caller.new.seat.view.holds ≡ nothing_held }
+{
+    table.try_add_or_recycle(caller, &[key, 0], &Add { value: 99 }, expiry)
+}
+
+#[test]
+fn recycled_pair(rt: HostRuntime) -> Result<(), Fail> {
+    let (table, mut caller) = create::<Eight>(rt.alloc())?;
+    let caller = &mut caller;
+    let keys = [0, 2, 4, 6, 8, 10, 12, 14, 16, 18, 20, 22, 24, 26, 28, 30];
+    assert!(rt; fill(&table, caller, &keys));
+    assert_eq!(rt; enter(&table, caller, 32, &TwoAndFour), Ok(Changed(None)));
+    let found = [
+        (Search, [2, 0], Kept(None), (0, 17)),
+        (Search, [32, 0], Kept(Some(99)), (0, 17)),
+    ];
+    assert_eq!(rt; first_wrong(&table, caller, &found), None);
+    let others = [0, 4, 6, 8, 10, 12, 14, 16, 18, 20, 22, 24, 26, 28, 30];
+    assert!(rt; has(&table, caller, &others));
+    assert_eq!(rt; enter(&table, caller, 34, &Nothing), Ok(Full));
+    assert_eq!(rt; stamp(caller), Some((0, 17)));
+    assert_eq!(rt; block(&table, caller, 0), (4, 2, true));
+    Ok(())
+}
+
+// Values below 100 are expired.
+struct BelowHundred;
+
+impl Expiry for BelowHundred {
+    ghost is_expired = { λ _ value. nat_lt value 100 };
+
+    fn expired(&self, value: u64) -> bool {
+        value < 100
+    }
+}
+
+// Each of two threads enters six keys in a bucket that is full of expired pairs: whatever their order, the twelve least
+// of these go, and nothing else does.
+#[test]
+fn two_recyclers(rt: HostRuntime) -> Result<(), Fail> {
+    let (table, mut first, second) = two_callers::<Eight>(rt.alloc())?;
+    let keys = [0, 2, 4, 6, 8, 10, 12, 14, 16, 18, 20, 22, 24, 26, 28, 30];
+    assert!(rt; fill(&table, &mut first, &keys));
+    let (mut both, all_new) = recycle_both(&rt, &table, first, second);
+    assert!(rt; all_new);
+    let left = [
+        24, 26, 28, 30, 100, 102, 104, 106, 108, 110, 200, 202, 204, 206, 208, 210,
+    ];
+    assert!(rt; has(&table, &mut both, &left));
+    let pairs = table.close(rt.alloc(), both).ok();
+    assert_eq!(rt; pairs.map(|p| p.len()), Some(16));
+    Ok(())
+}
+
+// Two callers at once, joined after their calls, and whether each key found room.
+fn recycle_both<R: Threads + Wait + Sync>(
+    rt: &R,
+    table: &Sessions<Eight>,
+    first: Caller<Eight>,
+    second: Caller<Eight>,
+) -> (Caller<Eight>, bool)
+    requires own { (first.seat.row ≡ table.now.row) × (second.seat.row ≡ table.now.row) }
+    requires free { (first.seat.view.holds ≡ nothing_held) × (second.seat.view.holds ≡ nothing_held) }
+    ensures own { result.0.seat.row ≡ table.now.row }
+    ensures free { result.0.seat.view.holds ≡ nothing_held }
+{
+    let (one, two) = join(
+        rt,
+        || -> (Caller<Eight>, bool)
+            requires { IsSync R.row × (first.seat.row ≡ table.now.row) × (first.seat.view.holds ≡ nothing_held) }
+            ensures { (result.0.seat.row ≡ table.entry.now.row) × (result.0.seat.view.holds ≡ nothing_held) }
+        { recycle_six(table, rt, first, 100) },
+        || -> (Caller<Eight>, bool)
+            requires { IsSync R.row × (second.seat.row ≡ table.now.row) × (second.seat.view.holds ≡ nothing_held) }
+            ensures { (result.0.seat.row ≡ table.entry.now.row) × (result.0.seat.view.holds ≡ nothing_held) }
+        { recycle_six(table, rt, second, 200) },
+    );
+    (table.join(one.0, two.0), one.1 && two.1)
+}
+
+// The caller, and whether each of the six even keys from this one on found room. A key is its own value.
+fn recycle_six<R: Wait>(
+    table: &Sessions<Eight>,
+    rt: &R,
+    mut caller: Caller<Eight>,
+    from: u32,
+) -> (Caller<Eight>, bool)
+    requires own { caller.seat.row ≡ table.now.row }
+    requires free { caller.seat.view.holds ≡ nothing_held }
+    requires few { from < 1000 }
+    ensures own { result.0.seat.row ≡ table.now.row }
+    ensures free { result.0.seat.view.holds ≡ nothing_held }
+{
+    let mut all_new = true;
+    for i in 0..6u32 {
+        let value = u64::from(from + 2 * i);
+        let reply = table.add_or_recycle(
+            rt,
+            &mut caller,
+            &[value, 0],
+            &Add { value },
+            &BelowHundred,
+        );
+        all_new &= reply == Reply::Changed(None);
+    }
+    (caller, all_new)
+}

@@ -1,0 +1,86 @@
+//! Tables that are opened again: with versions used up, under a stranger, and after as many callers as there may be.
+ghost use Rattle.std.specs.Prelude.{◌≡◌, IfOk};
+ghost use Rattle.bihash_steps.specs.Views.{nothing_held};
+
+use super::Call::{Add, Search, Touch};
+use super::{Eight, ends_with, first_wrong, renew, two_callers};
+use bihash_table::{Caller, RenewFault, Sessions, create, stamp};
+use bihash_words::Reply::{Changed, Kept, Worn};
+use bihash_words::Tiny;
+use std::alloc::Global;
+use std::test::Fail;
+
+// A bucket whose writes are used up takes writes again, and its pairs are there.
+#[test]
+fn renewed_worn_table(rt: HostRuntime) -> Result<(), Fail> {
+    let (table, mut caller) = create::<Tiny<8, 3>>(rt.alloc())?;
+    let worn = [
+        (Add(7), [0, 0], Changed(None), (0, 1)),
+        (Add(8), [0, 0], Changed(Some(7)), (0, 2)),
+        (Touch(9), [0, 0], Changed(Some(8)), (0, 3)),
+        (Add(5), [1, 0], Changed(None), (1, 1)),
+        (Add(10), [0, 0], Worn(Some(9)), (0, 3)),
+    ];
+    assert_eq!(rt; first_wrong(&table, &mut caller, &worn), None);
+    let (table, mut caller) = renew(rt.alloc(), table, caller)?;
+    assert_eq!(rt; stamp(&caller), None);
+    let renewed = [
+        (Search, [0, 0], Kept(Some(9)), (0, 0)),
+        (Add(10), [0, 0], Changed(Some(9)), (0, 1)),
+        (Add(1), [2, 0], Changed(None), (0, 2)),
+        (Search, [1, 0], Kept(Some(5)), (1, 0)),
+    ];
+    assert_eq!(rt; first_wrong(&table, &mut caller, &renewed), None);
+    let (table, mut caller) = renew(rt.alloc(), table, caller)?;
+    assert_eq!(rt; stamp(&caller), None);
+    let again = [(Search, [0, 0], Kept(Some(10)), (0, 0))];
+    assert_eq!(rt; first_wrong(&table, &mut caller, &again), None);
+    Ok(())
+}
+
+// The table, which can't be renewed while there is the second caller, and both callers joined.
+fn stays_worn(
+    alloc: Global,
+    table: Sessions<Eight>,
+    first: Caller<Eight>,
+    second: Caller<Eight>,
+) -> Result<(Sessions<Eight>, Caller<Eight>), Fail>
+    requires own { (first.seat.row ≡ table.row) × (second.seat.row ≡ table.row) }
+    requires free { (first.seat.view.holds ≡ nothing_held) × (second.seat.view.holds ≡ nothing_held) }
+    ensures own { IfOk result (λ r. r.1.seat.row ≡ r.0.row) }
+    ensures free { IfOk result (λ r. r.1.seat.view.holds ≡ nothing_held) }
+{
+    match table.renew(alloc, first) {
+        Err((RenewFault::Strangers, table, first)) => {
+            let both = table.join(first, second);
+            Ok((table, both))
+        }
+        _ => Err("the table was renewed under a stranger")?,
+    }
+}
+
+#[test]
+fn renew_strangers(rt: HostRuntime) -> Result<(), Fail> {
+    let (table, mut first, second) = two_callers::<Eight>(rt.alloc())?;
+    let added = [(Add(5), [2, 0], Changed(None), (0, 1))];
+    assert_eq!(rt; first_wrong(&table, &mut first, &added), None);
+    let (table, both) = stays_worn(rt.alloc(), table, first, second)?;
+    let (table, caller) = renew(rt.alloc(), table, both)?;
+    assert!(rt; ends_with(rt.alloc(), table, caller, &[([2, 0], 5)]));
+    Ok(())
+}
+
+// As many callers as a table may have are joined, and the renewed table has as many numbers left.
+#[test]
+fn renew_after_many_callers(rt: HostRuntime) -> Result<(), Fail> {
+    let (table, mut caller) = create::<Eight>(rt.alloc())?;
+    'splits: for _ in 1..64u32 {
+        let Ok((old, new)) = table.split(rt.alloc(), caller) else {
+            return Err("a split was refused")?;
+        };
+        caller = table.join(old, new);
+    }
+    let (table, caller) = renew(rt.alloc(), table, caller)?;
+    assert!(rt; table.split(rt.alloc(), caller).is_ok());
+    Ok(())
+}

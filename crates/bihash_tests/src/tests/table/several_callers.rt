@@ -1,0 +1,71 @@
+//! The worked rows of several callers.
+use super::Call::{Add, Remove, Search, Touch};
+use super::{Eight, answer, drop_with_locks, ends_with, first_wrong, stays_open, two_callers};
+use bihash_table::{CloseFault, Contended, SplitFault, create, stamp};
+use bihash_words::Reply::{Changed, Kept};
+use std::test::Fail;
+
+#[test]
+fn two_callers_without_a_meeting(rt: HostRuntime) -> Result<(), Fail> {
+    let (table, mut first, mut second) = two_callers::<Eight>(rt.alloc())?;
+    assert_eq!(rt; stamp(&second), None);
+    let added = [(Add(7), [0, 0], Changed(None), (0, 1))];
+    assert_eq!(rt; first_wrong(&table, &mut first, &added), None);
+    let touched = [
+        (Search, [0, 0], Kept(Some(7)), (0, 1)),
+        (Touch(8), [0, 0], Changed(Some(7)), (0, 2)),
+    ];
+    assert_eq!(rt; first_wrong(&table, &mut second, &touched), None);
+    let found = [(Search, [0, 0], Kept(Some(8)), (0, 2))];
+    assert_eq!(rt; first_wrong(&table, &mut first, &found), None);
+    let both = table.join(first, second);
+    assert!(rt; ends_with(rt.alloc(), table, both, &[([0, 0], 8)]));
+    Ok(())
+}
+
+// As many splits as a table may have succeed at once, each after the other, and no further one.
+#[test]
+fn all_callers_split(rt: HostRuntime) -> Result<(), Fail> {
+    let (table, mut caller) = create::<Eight>(rt.alloc())?;
+    'splits: for _ in 1..64u32 {
+        let Ok((old, _)) = table.split(rt.alloc(), caller) else {
+            return Err("a split was refused")?;
+        };
+        caller = old;
+    }
+    let Err((fault, _)) = table.split(rt.alloc(), caller) else {
+        return Err("a sixty-fifth caller was made")?;
+    };
+    assert_eq!(rt; fault, SplitFault::Numbers);
+    Ok(())
+}
+
+#[test]
+fn close(rt: HostRuntime) -> Result<(), Fail> {
+    let (table, mut first, second) = two_callers::<Eight>(rt.alloc())?;
+    let added = [(Add(5), [2, 0], Changed(None), (0, 1))];
+    assert_eq!(rt; first_wrong(&table, &mut first, &added), None);
+    assert!(rt; !table.is_lone(&mut first));
+    let (table, mut both) = stays_open(rt.alloc(), table, first, second)?;
+    assert!(rt; table.is_lone(&mut both));
+    assert!(rt; ends_with(rt.alloc(), table, both, &[([2, 0], 5)]));
+    Ok(())
+}
+
+// A caller that has a bucket's lock and is dropped holds up that bucket alone.
+#[test]
+fn dropped_lock_holder(rt: HostRuntime) -> Result<(), Fail> {
+    let (table, mut first, second) = two_callers::<Eight>(rt.alloc())?;
+    assert!(rt; drop_with_locks(&table, second, false));
+    assert_eq!(rt; answer(&table, &mut first, Search, &[0, 0]), Err(Contended));
+    assert_eq!(rt; answer(&table, &mut first, Remove, &[0, 0]), Err(Contended));
+    assert_eq!(rt; stamp(&first), None);
+    let added = [(Add(3), [1, 0], Changed(None), (1, 1))];
+    assert_eq!(rt; first_wrong(&table, &mut first, &added), None);
+    let fault = table
+        .close(rt.alloc(), first)
+        .err()
+        .map(|refused| refused.0);
+    assert_eq!(rt; fault, Some(CloseFault::Strangers));
+    Ok(())
+}

@@ -1,0 +1,174 @@
+//! Calls that wait for their turn, and callers that meet. What they answer is worked out by hand.
+ghost use Rattle.std.specs.Prelude.{◌≡◌};
+ghost use Rattle.bihash_steps.specs.Views.{nothing_held};
+
+use super::{Call, Eight, Row, first_wrong, two_callers};
+use bihash_table::{Caller, Sessions, create, stamp};
+use bihash_words::Reply::{Changed, Kept};
+use bihash_words::{Add, AddIfAbsent, Delete, Reply, Touch};
+use std::sync::Wait;
+use std::test::Fail;
+
+// What a call answers that waits for its turn.
+fn named<R: Wait>(
+    rt: &R,
+    table: &Sessions<Eight>,
+    caller: &mut Caller<Eight>,
+    call: Call,
+    key: &[u64; 2],
+) -> Reply
+    requires own { caller.old.seat.row ≡ table.now.row }
+    requires free { caller.old.seat.view.holds ≡ nothing_held }
+    ensures own { caller.new.seat.row ≡ table.now.row }
+    ensures free { caller.new.seat.view.holds ≡ nothing_held }
+{
+    match call {
+        Call::Add(value) => table.add(rt, caller, key, u64::from(value)),
+        Call::AddIfAbsent(value) => table.add_if_absent(rt, caller, key, u64::from(value)),
+        Call::Touch(value) => table.touch(rt, caller, key, u64::from(value)),
+        Call::Remove => table.remove(rt, caller, key),
+        Call::Search => Reply::Kept(table.search(rt, caller, key)),
+    }
+}
+
+// The same, made as an update by its patch, where it isn't a search.
+fn patched<R: Wait>(
+    rt: &R,
+    table: &Sessions<Eight>,
+    caller: &mut Caller<Eight>,
+    call: Call,
+    key: &[u64; 2],
+) -> Reply
+    requires own { caller.old.seat.row ≡ table.now.row }
+    requires free { caller.old.seat.view.holds ≡ nothing_held }
+    ensures own { caller.new.seat.row ≡ table.now.row }
+    ensures free { caller.new.seat.view.holds ≡ nothing_held }
+{
+    match call {
+        Call::Add(value) => {
+            let value = u64::from(value);
+            table.update(rt, caller, key, &Add { value })
+        }
+        Call::AddIfAbsent(value) => {
+            let value = u64::from(value);
+            table.update(rt, caller, key, &AddIfAbsent { value })
+        }
+        Call::Touch(value) => {
+            let value = u64::from(value);
+            table.update(rt, caller, key, &Touch { value })
+        }
+        Call::Remove => table.update(rt, caller, key, &Delete),
+        Call::Search => Reply::Kept(table.search(rt, caller, key)),
+    }
+}
+
+// The number of the first row whose call is answered otherwise when it waits, by its name or as an update, if one is.
+fn first_wrong_waiting<R: Wait>(
+    rt: &R,
+    table: &Sessions<Eight>,
+    caller: &mut Caller<Eight>,
+    by_name: bool,
+    rows: &[Row],
+) -> Option<usize>
+    requires own { caller.old.seat.row ≡ table.now.row }
+    requires free { caller.old.seat.view.holds ≡ nothing_held }
+    ensures own { caller.new.seat.row ≡ table.now.row }
+    ensures free { caller.new.seat.view.holds ≡ nothing_held }
+{
+    'rows: for (i, (call, key, reply, at)) in rows.iter().enumerate() {
+        let answered = if by_name {
+            named(rt, table, caller, *call, key)
+        } else {
+            patched(rt, table, caller, *call, key)
+        };
+        if answered != *reply || stamp(caller) != Some(*at) {
+            return Some(i);
+        }
+    }
+    None
+}
+
+#[test]
+fn fixed_calls(rt: HostRuntime) -> Result<(), Fail> {
+    let (table, mut caller) = create::<Eight>(rt.alloc())?;
+    let rows = [
+        (Call::Touch(6), [0, 0], Kept(None), (0, 0)),
+        (Call::AddIfAbsent(7), [0, 0], Changed(None), (0, 1)),
+        (Call::AddIfAbsent(8), [0, 0], Kept(Some(7)), (0, 1)),
+        (Call::Touch(9), [0, 0], Changed(Some(7)), (0, 2)),
+        (Call::Touch(9), [2, 0], Kept(None), (0, 2)),
+        (Call::Search, [0, 0], Kept(Some(9)), (0, 2)),
+        (Call::Search, [2, 0], Kept(None), (0, 2)),
+        (Call::Remove, [2, 0], Kept(None), (0, 2)),
+        (Call::Remove, [0, 0], Changed(Some(9)), (0, 3)),
+        (Call::Search, [0, 0], Kept(None), (0, 3)),
+        (Call::Add(4), [0, 0], Changed(None), (0, 4)),
+    ];
+    assert_eq!(rt;
+        first_wrong_waiting(&rt, &table, &mut caller, true, &rows),
+        None
+    );
+    Ok(())
+}
+
+#[test]
+fn updates_by_each_fixed_patch(rt: HostRuntime) -> Result<(), Fail> {
+    let (table, mut caller) = create::<Eight>(rt.alloc())?;
+    let rows = [
+        (Call::Touch(2), [1, 5], Kept(None), (1, 0)),
+        (Call::Remove, [1, 5], Kept(None), (1, 0)),
+        (Call::Add(3), [1, 5], Changed(None), (1, 1)),
+        (Call::Add(3), [1, 5], Kept(Some(3)), (1, 1)),
+        (Call::AddIfAbsent(4), [1, 5], Kept(Some(3)), (1, 1)),
+        (Call::Touch(5), [1, 5], Changed(Some(3)), (1, 2)),
+        (Call::Add(6), [1, 5], Changed(Some(5)), (1, 3)),
+        (Call::Remove, [1, 5], Changed(Some(6)), (1, 4)),
+        (Call::AddIfAbsent(4), [1, 5], Changed(None), (1, 5)),
+        (Call::Search, [1, 5], Kept(Some(4)), (1, 5)),
+    ];
+    assert_eq!(rt;
+        first_wrong_waiting(&rt, &table, &mut caller, false, &rows),
+        None
+    );
+    Ok(())
+}
+
+// Two callers that know the same writes of every bucket afterwards.
+fn met(
+    table: &Sessions<Eight>,
+    first: Caller<Eight>,
+    second: Caller<Eight>,
+) -> (Caller<Eight>, Caller<Eight>)
+    requires own { (first.seat.row ≡ table.now.row) × (second.seat.row ≡ table.now.row) }
+    requires free { (first.seat.view.holds ≡ nothing_held) × (second.seat.view.holds ≡ nothing_held) }
+    ensures own { (result.0.seat.row ≡ table.now.row) × (result.1.seat.row ≡ table.now.row) }
+    ensures free { (result.0.seat.view.holds ≡ nothing_held) × (result.1.seat.view.holds ≡ nothing_held) }
+    ensures same { result.0.seat.view.known.writes ≡ result.1.seat.view.known.writes }
+    ensures records { (result.0.seat.view.records ≡ first.seat.view.records)
+        × (result.1.seat.view.records ≡ second.seat.view.records) }
+{
+    table.meet(first, second)
+}
+
+#[test]
+fn callers_that_met_keep_their_stamps(rt: HostRuntime) -> Result<(), Fail> {
+    let (table, mut first, mut second) = two_callers::<Eight>(rt.alloc())?;
+    let by_first = [(Call::Add(7), [0, 0], Changed(None), (0, 1))];
+    assert_eq!(rt; first_wrong(&table, &mut first, &by_first), None);
+    let by_second = [
+        (Call::Add(9), [1, 0], Changed(None), (1, 1)),
+        (Call::Add(8), [1, 0], Changed(Some(9)), (1, 2)),
+    ];
+    assert_eq!(rt; first_wrong(&table, &mut second, &by_second), None);
+    let (mut first, mut second) = met(&table, first, second);
+    assert_eq!(rt;
+        (stamp(&first), stamp(&second)),
+        (Some((0, 1)), Some((1, 2)))
+    );
+    assert_eq!(rt; (first.seat.numbers(), second.seat.numbers()), (1, 1));
+    let by_first = [(Call::Search, [1, 0], Kept(Some(8)), (1, 2))];
+    assert_eq!(rt; first_wrong(&table, &mut first, &by_first), None);
+    let by_second = [(Call::Search, [0, 0], Kept(Some(7)), (0, 1))];
+    assert_eq!(rt; first_wrong(&table, &mut second, &by_second), None);
+    Ok(())
+}

@@ -1,0 +1,5 @@
+//! The tests of each crate from `packet_view` to `flow_workers`, over its public calls.
+#![tactic(auto)]
+
+#[cfg(test)]
+mod tests;

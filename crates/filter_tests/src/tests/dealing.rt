@@ -1,0 +1,43 @@
+//! Workers of packets whose buckets were worked out by hand.
+use bihash_words::{ShapeV4, ShapeV6, flow_shapes_are_sound};
+use flow_dealing::{Dealing, worker_of};
+use session_state::{Flow, FlowKey};
+
+/// The first step of SplitMix64 from 0, whose mixed value is 0xe220a8397b1dcdaf.
+const STEP: u64 = 0x9e3779b97f4a7c15;
+
+fn worker_in(dealing: Dealing, flow: Option<Flow>) -> usize {
+    flow_shapes_are_sound();
+    worker_of::<ShapeV4, ShapeV6>(dealing, 5, 9, flow)
+}
+
+fn flow(key: FlowKey) -> Option<Flow> {
+    Some(Flow {
+        key,
+        side: 0,
+        starts: true,
+    })
+}
+
+#[test]
+fn packets_are_dealt_in_turn(rt: HostRuntime) {
+    assert_eq!(rt; worker_in(Dealing::Round, None), 4);
+    assert_eq!(rt;
+        worker_in(Dealing::Round, flow(FlowKey::Four([0, STEP]))),
+        4
+    );
+}
+
+#[test]
+fn packets_of_a_flow_are_dealt_by_bucket(rt: HostRuntime) {
+    assert_eq!(rt; worker_in(Dealing::Bucket, None), 0);
+    assert_eq!(rt; worker_in(Dealing::Bucket, flow(FlowKey::Four([0, 0]))), 0);
+    assert_eq!(rt;
+        worker_in(Dealing::Bucket, flow(FlowKey::Four([0, STEP]))),
+        3503 % 5
+    );
+    assert_eq!(rt;
+        worker_in(Dealing::Bucket, flow(FlowKey::Six([0, 0, 0, 0, STEP]))),
+        431 % 5
+    );
+}

@@ -1,0 +1,115 @@
+//! Rules of both directions, flows, and the verdicts that the rules alone give.
+ghost use Rattle.std.specs.Prelude.{IsTrue};
+ghost use Rattle.packet_view.specs.Addresses.{fields_suit};
+ghost use Rattle.packet_view.specs.declared.tuple.Family.TheVariants as Family;
+
+use super::TIMES;
+use acl_policy::{Action, read_policy};
+use flow_filter::{Filter, Verdict, verdict_of_rules};
+use packet_view::{Direction, Family, Fields, Mac, Tuple};
+use std::alloc::{AllocError, Global};
+use std::test::Fail;
+
+/// From 10.0.0.2 to 10.0.0.1.
+fn tuple(proto: u8, fields: Fields) -> Tuple
+    requires fits { IsTrue (fields_suit Family.V4 proto fields) }
+{
+    Tuple {
+        family: Family::V4,
+        source: 0x0a000002,
+        dest: 0x0a000001,
+        proto,
+        fields,
+    }
+}
+
+#[test]
+fn each_direction_has_its_rules(rt: HostRuntime) -> Result<(), Fail> {
+    let text = b"mac 02:00:00:0a:0b:ff\n\
+        in permit ipv4 any any udp\n\
+        out deny ipv4 any any tcp\n\
+        out permit+reflect ipv4 any any udp\n";
+    let filter = Filter {
+        policy: read_policy(rt.alloc(), text)?,
+        times: TIMES,
+    };
+    let ready = filter.ready();
+    assert_eq!(rt; ready.own, Some(Mac([2, 0, 0, 10, 11, 255])));
+    assert_eq!(rt; ready.times.transient, 120);
+    let udp = tuple(17, Fields::Ports { from: 80, to: 1000 });
+    let inbound = ready.rules_of(Direction::Inbound);
+    let outbound = ready.rules_of(Direction::Outbound);
+    assert_eq!(rt; inbound.first_match(&udp), Some((0, Action::Permit)));
+    assert_eq!(rt; outbound.first_match(&udp), Some((1, Action::Reflect)));
+    Ok(())
+}
+
+/// 70 times `in deny ipv4 any any tcp`, and then a rule for UDP.
+fn many_rules(alloc: Global) -> Result<Vec<u8>, AllocError> {
+    let mut text = Vec::new(alloc);
+    for _ in 0..70 {
+        text.extend_from_slice(b"in deny ipv4 any any tcp\n")?;
+    }
+    text.extend_from_slice(b"in permit ipv4 any any udp\n")?;
+    Ok(text)
+}
+
+#[test]
+fn prepared_rules_decide_as_the_listed_ones(rt: HostRuntime) -> Result<(), Fail> {
+    let text = many_rules(rt.alloc())?;
+    let filter = Filter {
+        policy: read_policy(rt.alloc(), text.as_slice())?,
+        times: TIMES,
+    };
+    let prepared = filter.prepare(rt.alloc(), 10_000)?;
+    assert!(rt; prepared.inbound.is_some());
+    assert!(rt; prepared.outbound.is_none());
+    let udp = tuple(17, Fields::Ports { from: 80, to: 1000 });
+    let listed = filter.ready().rules_of(Direction::Inbound);
+    assert_eq!(rt; listed.first_match(&udp), Some((70, Action::Permit)));
+    let ready = filter.ready_with(&prepared);
+    let indexed = ready.rules_of(Direction::Inbound);
+    assert_eq!(rt; indexed.first_match(&udp), Some((70, Action::Permit)));
+    let outbound = ready.rules_of(Direction::Outbound);
+    assert_eq!(rt; outbound.first_match(&udp), None);
+    Ok(())
+}
+
+#[test]
+fn rules_are_numbered_from_1(rt: HostRuntime) {
+    assert_eq!(rt; verdict_of_rules(None), Verdict::ByDefault);
+    assert_eq!(rt; verdict_of_rules(Some((0, Action::Deny))), Verdict::Deny(1));
+    assert_eq!(rt;
+        verdict_of_rules(Some((4, Action::Permit))),
+        Verdict::Permit(5)
+    );
+    assert_eq!(rt;
+        verdict_of_rules(Some((9, Action::Reflect))),
+        Verdict::Permit(10)
+    );
+}
+
+#[test]
+fn which_verdicts_pass(rt: HostRuntime) {
+    let passing = [
+        Verdict::Session,
+        Verdict::Reflect(1),
+        Verdict::Permit(1),
+        Verdict::NotIp,
+    ];
+    for verdict in passing {
+        assert!(rt; verdict.passes());
+    }
+    let dropped = [
+        Verdict::Deny(1),
+        Verdict::ByDefault,
+        Verdict::Worn,
+        Verdict::Full,
+        Verdict::NoPages,
+        Verdict::Malformed,
+        Verdict::Short,
+    ];
+    for verdict in dropped {
+        assert!(rt; !verdict.passes());
+    }
+}

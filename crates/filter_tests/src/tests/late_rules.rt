@@ -1,0 +1,143 @@
+//! A packet's update with the rules that are asked late.
+ghost use Rattle.std.specs.Prelude.{◌≡◌};
+ghost use Rattle.flow_filter.specs.Filters.{policy_in};
+ghost use Rattle.flow_filter.specs.Liveness.{IsForeseen};
+ghost use Rattle.flow_filter.specs.PacketFlows.{IsRulingOn};
+
+use super::matching::{rule, udp};
+use super::{EVERY, TIMES};
+use acl_policy::Action;
+use bihash_words::{Change, Patch, Reply};
+use flow_filter::{HasReading, LazyPatch, PacketFlow, ReadyFilter, RuleSearch, Ruleset, Verdict};
+use packet_view::Direction;
+use session_state::orient;
+use std::marker::Brand;
+
+/// The UDP session whose last packet came in second 1000.
+const LAST_AT_1000: u64 = 1000;
+
+/// What came of a packet that found this value, and whether the rules were asked for it.
+#[derive(Clone, Copy, Debug, PartialEq, Eq)]
+struct Outcome {
+    change: Change,
+    asked: bool,
+    verdict: Verdict,
+}
+
+fn outcome_as<D: HasReading>(
+    filter: &ReadyFilter<'_>,
+    packet: PacketFlow<'_>,
+    reply: Reply,
+    found: Option<u64>,
+) -> Outcome
+    requires ruling { IsRulingOn (policy_in filter.now) packet D.ruling }
+    requires lives { IsForeseen filter.now.times packet.moment D.is_live }
+{
+    let patch = LazyPatch::<D>::new(filter, packet);
+    let change = patch.decide(found);
+    Outcome {
+        change,
+        asked: patch.has_asked(),
+        verdict: patch.verdict(reply),
+    }
+}
+
+fn outcome_of(
+    filter: &ReadyFilter<'_>,
+    packet: PacketFlow<'_>,
+    reply: Reply,
+    found: Option<u64>,
+) -> Outcome {
+    outcome_as::<Brand>(filter, packet, reply, found)
+}
+
+/// What comes of the UDP packet in a second, where every UDP packet meets this action.
+fn udp_outcome(action: Action, moment: u32, reply: Reply, found: Option<u64>) -> Option<Outcome> {
+    let rules = [rule(action, 17, EVERY, EVERY, (0, 0))];
+    let search = RuleSearch::Listed(&rules);
+    let listed = Ruleset { search };
+    let filter = ReadyFilter {
+        own: None,
+        inbound: listed,
+        outbound: listed,
+        times: TIMES,
+    };
+    let tuple = udp(80, 1000);
+    let flow = orient(&tuple)?;
+    let packet = PacketFlow {
+        moment,
+        direction: Direction::Inbound,
+        tuple: &tuple,
+        flow: &flow,
+    };
+    Some(outcome_of(&filter, packet, reply, found))
+}
+
+#[test]
+fn packet_of_a_live_session_asks_no_rules(rt: HostRuntime) {
+    let found = Some(LAST_AT_1000);
+    assert_eq!(rt;
+        udp_outcome(Action::Deny, 1600, Reply::Changed(found), found),
+        Some(Outcome {
+            change: Change::Set(1600),
+            asked: false,
+            verdict: Verdict::Session,
+        })
+    );
+}
+
+#[test]
+fn rules_are_asked_where_the_session_has_expired(rt: HostRuntime) {
+    let found = Some(LAST_AT_1000);
+    assert_eq!(rt;
+        udp_outcome(Action::Deny, 1601, Reply::Changed(found), found),
+        Some(Outcome {
+            change: Change::Remove,
+            asked: true,
+            verdict: Verdict::Deny(1),
+        })
+    );
+}
+
+#[test]
+fn reflecting_rule_enters_a_session(rt: HostRuntime) {
+    assert_eq!(rt;
+        udp_outcome(Action::Reflect, 7, Reply::Changed(None), None),
+        Some(Outcome {
+            change: Change::Set(7),
+            asked: true,
+            verdict: Verdict::Reflect(1),
+        })
+    );
+}
+
+#[test]
+fn reflecting_rule_without_place_drops(rt: HostRuntime) {
+    let refused = [
+        (Reply::Worn(None), Verdict::Worn),
+        (Reply::Full, Verdict::Full),
+        (Reply::NoPages { log2: 1, left: 1 }, Verdict::NoPages),
+    ];
+    for (reply, verdict) in refused {
+        assert_eq!(rt;
+            udp_outcome(Action::Reflect, 7, reply, None),
+            Some(Outcome {
+                change: Change::Set(7),
+                asked: true,
+                verdict,
+            })
+        );
+    }
+}
+
+#[test]
+fn permitted_packet_starts_no_session(rt: HostRuntime) {
+    assert_eq!(rt;
+        udp_outcome(Action::Permit, 7, Reply::Kept(None), None),
+        Some(Outcome {
+            change: Change::Keep,
+            asked: true,
+            verdict: Verdict::Permit(1),
+        })
+    );
+}

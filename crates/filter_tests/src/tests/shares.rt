@@ -1,0 +1,123 @@
+//! Packets whose workers were worked out by hand.
+ghost use Rattle.std.specs.Prelude.{◌≤◌, ◌<◌, ◌+◌, ◌^◌, length};
+
+use bihash_words::{ShapeV4, ShapeV6, flow_shapes_are_sound};
+use flow_dealing::Dealing;
+use packet_dealing::{Dealer, DealtPart, deal_packets, dealt_to};
+use packet_view::{Packet, Packets};
+use std::alloc::{AllocError, Global};
+use std::process::Abort;
+use std::test::Fail;
+use std::thread::Threads;
+
+// Who has 10.0.0.2?
+const ARP: [u8; 42] = [
+    255, 255, 255, 255, 255, 255, 2, 0, 0, 0, 0, 1, 8, 6, 0, 1, 8, 0, 6, 4, 0, 1, 2, 0, 0, 0, 0, 1,
+    10, 0, 0, 1, 0, 0, 0, 0, 0, 0, 10, 0, 0, 2,
+];
+
+// By UDP from fd00::1, port 1005, to fd00::2, port 53.
+const SIX: [u8; 62] = [
+    2, 0, 0, 0, 0, 2, 2, 0, 0, 0, 0, 1, 0x86, 0xdd, 0x60, 0, 0, 0, 0, 8, 17, 64, 0xfd, 0, 0, 0, 0,
+    0, 0, 0, 0, 0, 0, 0, 0, 0, 0, 1, 0xfd, 0, 0, 0, 0, 0, 0, 0, 0, 0, 0, 0, 0, 0, 0, 2, 0x03, 0xed,
+    0, 53, 0, 8, 0, 0,
+];
+
+// From 10.0.0.m to 10.0.0.n, by UDP (17) or TCP (6).
+fn four(proto: u8, from: u8, to: u8, ports: [u8; 4]) -> [u8; 54] {
+    let [a, b, c, d] = ports;
+    [
+        2, 0, 0, 0, 0, to, 2, 0, 0, 0, 0, from, 8, 0, 0x45, 0, 0, 40, 0, 0, 0, 0, 64, proto, 0, 0,
+        10, 0, 0, from, 10, 0, 0, to, a, b, c, d, 0, 20, 0, 0, 0, 0, 0, 0, 0x50, 2, 0, 0, 0, 0, 0,
+        0,
+    ]
+}
+
+fn seen<'a>(moment: u32, frame: &'a [u8]) -> Packet<'a> {
+    Packet { moment, frame }
+}
+
+fn deal<'a, R: Threads + Sync>(
+    rt: &R,
+    alloc: Global,
+    dealing: Dealing,
+    workers: usize,
+    number: usize,
+    packets: &'a [Packet<'a>],
+) -> Result<Vec<DealtPart<'a>>, AllocError>
+    requires some { 1 ≤ workers }
+    requires few { workers ≤ 16 }
+    requires fits { number + length packets.now < 2 ^ 64 }
+{
+    flow_shapes_are_sound();
+    let dealer = Dealer {
+        own: None,
+        dealing,
+        workers,
+    };
+    deal_packets::<ShapeV4, ShapeV6, R>(rt, alloc, dealer, number, Packets::Listed(packets))
+}
+
+// These are the packets, in their order, each with its worker.
+fn expect_packets<'a, R: Abort>(
+    rt: &R,
+    parts: Vec<DealtPart<'a>>,
+    packets: &'a [Packet<'a>],
+    workers: [u8; 7],
+) {
+    let mut at = 0;
+    for part in parts {
+        let mut front = part.packets;
+        for worker in part.workers {
+            assert!(rt; at < packets.len() && at < 7);
+            let packet = front.next().expect(rt, "a packet");
+            assert_eq!(rt; packet.frame, packets[at].frame, "packet {at}");
+            assert_eq!(rt; packet.moment, packets[at].moment, "packet {at}");
+            assert_eq!(rt; worker, workers[at], "packet {at}");
+            at += 1;
+        }
+    }
+    assert_eq!(rt; at, packets.len());
+}
+
+// The buckets are 2896, 1046 and 2793 of 4096 for the flows of IPv4, and 776 of 1024 for that of IPv6.
+#[test]
+fn deals_packets_of_several_flows(rt: HostRuntime) -> Result<(), Fail> {
+    let frames = [
+        four(17, 1, 2, [0x03, 0xe8, 0, 53]),
+        four(6, 1, 3, [0x03, 0xe8, 0, 80]),
+        four(17, 2, 1, [0, 53, 0x03, 0xe8]),
+        four(6, 3, 1, [0, 80, 0x03, 0xe8]),
+        four(17, 1, 4, [0x03, 0xe8, 0, 53]),
+    ];
+    let packets = [
+        seen(100, &frames[0]),
+        seen(101, &frames[1]),
+        seen(101, &frames[2]),
+        seen(103, &ARP),
+        seen(107, &SIX),
+        seen(107, &frames[3]),
+        seen(120, &frames[4]),
+    ];
+    let parts = deal(&rt, rt.alloc(), Dealing::Bucket, 3, 0, &packets)?;
+    assert_eq!(rt; parts.len(), 3);
+    expect_packets(&rt, parts, &packets, [1, 2, 1, 0, 2, 2, 0]);
+    let parts = deal(&rt, rt.alloc(), Dealing::Round, 2, 5, &packets)?;
+    assert_eq!(rt; parts.len(), 2);
+    expect_packets(&rt, parts, &packets, [1, 0, 1, 0, 1, 0, 1]);
+    Ok(())
+}
+
+#[test]
+fn one_packet_has_its_worker(rt: HostRuntime) {
+    flow_shapes_are_sound();
+    let dealer = Dealer {
+        own: None,
+        dealing: Dealing::Bucket,
+        workers: 3,
+    };
+    let request = four(17, 1, 2, [0x03, 0xe8, 0, 53]);
+    assert_eq!(rt; dealt_to::<ShapeV4, ShapeV6>(&dealer, 9, &request), 1);
+    assert_eq!(rt; dealt_to::<ShapeV4, ShapeV6>(&dealer, 9, &ARP), 0);
+    assert_eq!(rt; dealt_to::<ShapeV4, ShapeV6>(&dealer, 9, &SIX), 2);
+}

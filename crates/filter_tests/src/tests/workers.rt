@@ -1,0 +1,217 @@
+//! Workers that run at once, and what their verdicts have in common.
+ghost use Rattle.std.specs.Prelude.{◌≤◌};
+
+use super::tables::{NAMES, answer, filter_of, request};
+use bihash_words::{ShapeV4, ShapeV6, flow_shapes_are_sound};
+use flow_workers::{Dealing, Filter, Gate, Verdict, run_workers};
+use packet_view::{Packet, Packets};
+use std::alloc::{AllocError, Global};
+use std::sync::Wait;
+use std::sync::atomic::{AtomicBool, Ordering};
+use std::test::Fail;
+use std::thread::Threads;
+
+/// Holds packets until others came, and gives up after a while.
+#[derive(Drop)]
+struct Meeting {
+    first: AtomicBool,
+    second: AtomicBool,
+    gave_up: AtomicBool,
+    /// Packet 0 is held until packet 1 was judged; else packets 0 and 1 are held until both are at the gate.
+    in_turn: bool,
+}
+
+impl Meeting {
+    fn new(in_turn: bool) -> Meeting {
+        Meeting {
+            first: AtomicBool::new(false),
+            second: AtomicBool::new(false),
+            gave_up: AtomicBool::new(false),
+            in_turn,
+        }
+    }
+
+    fn wait_for(&self, flag: &AtomicBool) {
+        for _ in 0..100_000_000u64 {
+            if flag.load(Ordering::SeqCst) {
+                return;
+            }
+        }
+        self.gave_up.store(true, Ordering::SeqCst);
+    }
+}
+
+impl Gate for Meeting {
+    fn before(&self, worker: usize, packet: usize) {
+        if worker == 0 && packet == 0 {
+            self.first.store(true, Ordering::SeqCst);
+            self.wait_for(&self.second);
+        }
+        if worker == 1 && packet == 1 && !self.in_turn {
+            self.second.store(true, Ordering::SeqCst);
+            self.wait_for(&self.first);
+        }
+    }
+
+    fn after(&self, worker: usize, packet: usize) {
+        if worker == 1 && packet == 1 && self.in_turn {
+            self.second.store(true, Ordering::SeqCst);
+        }
+    }
+}
+
+/// Holds no packet.
+#[derive(Drop)]
+struct Open;
+
+impl Gate for Open {
+    fn before(&self, worker: usize, packet: usize) {
+        let _ = (worker, packet);
+    }
+
+    fn after(&self, worker: usize, packet: usize) {
+        let _ = (worker, packet);
+    }
+}
+
+fn verdicts<'a, R: Threads + Wait + Sync, G: Gate + Sync>(
+    rt: &R,
+    alloc: Global,
+    filter: &'a Filter,
+    packets: &'a [Packet<'a>],
+    workers: usize,
+    gate: &G,
+    dealing: Dealing,
+) -> Result<Vec<Verdict>, AllocError>
+    requires some { 1 ≤ workers }
+    requires few { workers ≤ 16 }
+{
+    flow_shapes_are_sound();
+    match run_workers::<ShapeV4, ShapeV6, R, G>(
+        rt,
+        alloc,
+        filter,
+        Packets::Listed(packets),
+        workers,
+        gate,
+        dealing,
+    ) {
+        Ok(verdicts) => Ok(verdicts),
+        Err(_) => Err(AllocError),
+    }
+}
+
+// A request, its answer, and an answer that nobody asked for.
+#[test]
+fn workers(rt: HostRuntime) -> Result<(), Fail> {
+    let alloc = rt.alloc();
+    let filter = filter_of(alloc, NAMES)?;
+    let frames = [request(2), answer(2), answer(3)];
+    let packets = [
+        Packet {
+            moment: 100,
+            frame: &frames[0],
+        },
+        Packet {
+            moment: 105,
+            frame: &frames[1],
+        },
+        Packet {
+            moment: 106,
+            frame: &frames[2],
+        },
+    ];
+    let wanted = [Verdict::Reflect(1), Verdict::Session, Verdict::ByDefault];
+    for count in [1, 2, 16] {
+        let found = verdicts(&rt, alloc, &filter, &packets, count, &Open, Dealing::Bucket)?;
+        assert_eq!(rt; found.as_slice(), wanted.as_slice(), "{count} workers");
+    }
+    // Worker 1 sees the answer before worker 0 sees the request.
+    let gate = Meeting::new(true);
+    let found = verdicts(&rt, alloc, &filter, &packets, 2, &gate, Dealing::Round)?;
+    assert!(rt; !gate.gave_up.load(Ordering::SeqCst));
+    let wanted = [Verdict::Reflect(1), Verdict::ByDefault, Verdict::ByDefault];
+    assert_eq!(rt; found.as_slice(), wanted.as_slice());
+    Ok(())
+}
+
+// Two workers are inside their packets at once.
+#[test]
+fn both_before(rt: HostRuntime) -> Result<(), Fail> {
+    let alloc = rt.alloc();
+    let filter = filter_of(alloc, NAMES)?;
+    let frames = [request(2), answer(2), answer(3)];
+    let packets = [
+        Packet {
+            moment: 100,
+            frame: &frames[0],
+        },
+        Packet {
+            moment: 105,
+            frame: &frames[1],
+        },
+        Packet {
+            moment: 106,
+            frame: &frames[2],
+        },
+    ];
+    let gate = Meeting::new(false);
+    verdicts(&rt, alloc, &filter, &packets, 2, &gate, Dealing::Round)?;
+    assert!(rt; !gate.gave_up.load(Ordering::SeqCst));
+    // A frame of another type goes to worker 0, and a request from port 1001, whose bucket is odd, to worker 1.
+    let foreign = [2, 0, 0, 0, 0, 2, 2, 0, 0, 0, 0, 1, 8, 6];
+    let mut odd = request(2);
+    odd[35] = 0xe9;
+    let packets = [
+        Packet {
+            moment: 100,
+            frame: &foreign,
+        },
+        Packet {
+            moment: 100,
+            frame: &odd,
+        },
+    ];
+    let gate = Meeting::new(false);
+    let found = verdicts(&rt, alloc, &filter, &packets, 2, &gate, Dealing::Bucket)?;
+    assert!(rt; !gate.gave_up.load(Ordering::SeqCst));
+    let wanted = [Verdict::NotIp, Verdict::Reflect(1)];
+    assert_eq!(rt; found.as_slice(), wanted.as_slice());
+    Ok(())
+}
+
+// Four hundred packets of a hundred flows, each request with its answer, twice: dealt by bucket, the verdicts are
+// those of one worker.
+#[test]
+fn many_flows(rt: HostRuntime) -> Result<(), Fail> {
+    let alloc = rt.alloc();
+    let filter = filter_of(alloc, NAMES)?;
+    let mut frames = Vec::with_capacity(alloc, 400)?;
+    for i in 0..400u32 {
+        let server = (i / 2 % 100) as u8;
+        frames.push(if i % 2 == 0 {
+            request(server)
+        } else {
+            answer(server)
+        })?;
+    }
+    let mut packets = Vec::with_capacity(alloc, 400)?;
+    for frame in frames.as_slice() {
+        packets.push(Packet { moment: 100, frame })?;
+    }
+    let alone = verdicts(&rt, alloc, &filter, &packets, 1, &Open, Dealing::Bucket)?;
+    assert_eq!(rt; alone.len(), 400);
+    for (i, verdict) in alone.as_slice().iter().enumerate() {
+        let wanted = if i < 200 && i % 2 == 0 {
+            Verdict::Reflect(1)
+        } else {
+            Verdict::Session
+        };
+        assert_eq!(rt; *verdict, wanted, "packet {i}");
+    }
+    for count in [2, 3, 16] {
+        let found = verdicts(&rt, alloc, &filter, &packets, count, &Open, Dealing::Bucket)?;
+        assert_eq!(rt; found.as_slice(), alone.as_slice(), "{count} workers");
+    }
+    Ok(())
+}

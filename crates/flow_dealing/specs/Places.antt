@@ -1,0 +1,59 @@
+-- Where a packet's event stands in the history of its bucket, and that the packet passes by what stands there.
+use Rattle.std.specs.Prelude.{◌≡◌, ◌⊎◌, ◌↔◌, ℕ, ◌+◌, true, if◌then◌else◌, List, Some}
+use lib.ListN.{get_elem?}
+use mathlib.Core.Option.{some}
+use Rattle.packet_view.specs.Captures.{PacketFacts}
+use Rattle.packet_view.specs.Tuples.{TupleFacts}
+use Rattle.acl_policy.specs.Policies.{PolicyFacts}
+use Rattle.bihash_words.specs.Maps.{Event, IsEvent, Pairs}
+use Rattle.bihash_words.specs.Sizes.{Sizes}
+use Rattle.bihash_steps.specs.Callers.{known_at, opening_at}
+use Rattle.bihash_steps.specs.Histories.{after, bounds_of, event_of, is_changed}
+use Rattle.bihash_steps.specs.declared.view.Call.{Call}
+use Rattle.bihash_steps.specs.declared.view.Record.{Record}
+use Rattle.bihash_steps.specs.declared.view.View.{View}
+use Rattle.session_state.specs.declared.timeouts.Timeouts.{Timeouts}
+use Rattle.flow_filter.specs.Judged.{Judged, verdict_on}
+use Rattle.flow_filter.specs.OneThread.{family_of, sizes_in}
+use Rattle.flow_filter.specs.Passing.{HoldsLive, LetsThrough}
+use Rattle.flow_filter.specs.Readings.{Ruled, Ruling}
+use Rattle.flow_filter.specs.Updates.{Update, update_of}
+use Rattle.flow_filter.specs.Verdicts.{passes}
+use Rattle.flow_filter.specs.declared.verdict.Verdict.{Verdict}
+use Rattle.flow_dealing.specs.Dealings.{Deal, flow_in, worker_of}
+use Rattle.flow_dealing.specs.Runs.{AreJudged}
+use Rattle.flow_dealing.specs.Views.{Views, view_in}
+
+-- the event is a call of this worker's record, after `before` writes of its bucket, and leads from the map there to
+-- another
+pub record HasPlace (z : Sizes) (v : View) (worker : ℕ) (e : Event) : Type 0 where
+  pub record_at : Record
+  pub stands : get_elem? v.records worker ≡ some record_at
+  pub place : ℕ
+  pub call : Call
+  pub called : get_elem? record_at.calls place ≡ some call
+  pub event : event_of call ≡ e
+  pub before : ℕ
+  pub number : call.stamp ≡ before + (if is_changed call.reply then 1 else 0)
+  pub left : Pairs
+  pub step : IsEvent (bounds_of z) (after (opening_at v.known call.bucket) (known_at v.known call.bucket) before) before e left
+
+-- The packet has an event in the record of the worker that it is dealt to, and passes exactly where at that place its
+-- session is live or the rule lets it through.
+pub record PassesAtPlace (d : Deal) (times : Timeouts) (views : Views) (number : ℕ) (j : Judged) (u : Update)
+    (ruling : Ruling) : Type 0 where
+  pub e : Event
+  pub its : j.event ≡ Some e
+  pub stands : HasPlace (sizes_in d.layout (family_of u.key)) (view_in views (family_of u.key))
+      (worker_of d number (flow_in j.reading)) e
+  pub exactly : (passes (verdict_on times j) ≡ true)
+      ↔ (HoldsLive u (after (opening_at (view_in views (family_of u.key)).known stands.call.bucket)
+      (known_at (view_in views (family_of u.key)).known stands.call.bucket) stands.before)
+      ⊎ LetsThrough u stands.left ruling)
+
+-- however the packets were judged, each packet of a flow does so
+abbrev pub PassAtPlaces : Deal → Timeouts → PolicyFacts → List PacketFacts → List Verdict → Type 0
+PassAtPlaces d times policy packets verdicts = (are : AreJudged d times policy packets verdicts) (k : ℕ) (j : Judged)
+    (moment : ℕ) (tuple : TupleFacts) (ruling : Ruling) (u : Update) → get_elem? are.judged k ≡ some j
+    → j.reading ≡ Ruled moment tuple ruling → update_of times j.reading ≡ Some u
+    → PassesAtPlace d times are.views k j u ruling

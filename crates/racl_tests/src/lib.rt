@@ -1,0 +1,5 @@
+//! The tests of the crates from `racl_words` to `racl_cli`, with whole inputs and their reports.
+#![tactic(auto)]
+
+#[cfg(test)]
+mod tests;

@@ -1,0 +1,9 @@
+//! The tests of the crates from `racl_words` to `racl_cli`.
+
+mod devices;
+mod parts;
+mod reports;
+mod runs;
+mod texts;
+mod windows;
+mod words;

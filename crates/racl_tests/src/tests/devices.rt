@@ -1,0 +1,154 @@
+//! Input up to so many bytes, and input that nothing is kept of.
+ghost use Rattle.std.specs.Prelude.{◌≤◌, None, IfOk};
+
+use racl_io::{Device, DeviceFault, Fault, MOST_BYTES, Source, drain, read_until, write_all};
+use std::io;
+use std::io::{Error, ErrorKind, Read, Write};
+use std::test::Fail;
+
+/// Gives seven bytes a read, and fails once it has made its reads.
+#[derive(Drop)]
+struct Sevens {
+    reads: usize,
+    failures: u64,
+}
+
+impl Source for Sevens {
+    ghost bytes = { λ _. None };
+
+    ghost failures = { λ s. s.failures };
+
+    fn read(&mut self, buf: &mut [u8]) -> Result<usize, DeviceFault> {
+        if self.reads == 0 {
+            self.failures += 1;
+            return Err(DeviceFault);
+        }
+        self.reads -= 1;
+        let count = buf.len().min(7);
+        buf[..count].fill(7);
+        Ok(count)
+    }
+}
+
+/// Is interrupted so often before each read and each write, of a byte at most.
+#[derive(Drop)]
+struct Interrupted {
+    times: u8,
+    left: u8,
+    calls: u8,
+}
+
+impl Interrupted {
+    fn new(times: u8) -> Interrupted {
+        Interrupted {
+            times,
+            left: times,
+            calls: 0,
+        }
+    }
+
+    fn call(&mut self, len: usize) -> io::Result<usize>
+        ensures { IfOk result (λ n. n ≤ len) }
+    {
+        self.calls = self.calls.wrapping_add(1);
+        if self.left > 0 {
+            self.left -= 1;
+            return Err(Error::from(ErrorKind::Interrupted));
+        }
+        self.left = self.times;
+        Ok(len.min(1))
+    }
+}
+
+impl Read for Interrupted {
+    fn read(&mut self, buf: &mut [u8]) -> io::Result<usize> {
+        self.call(buf.len())
+    }
+}
+
+impl Write for Interrupted {
+    fn write(&mut self, buf: &[u8]) -> io::Result<usize> {
+        self.call(buf.len())
+    }
+
+    fn flush(&mut self) -> io::Result<()> {
+        Ok(())
+    }
+}
+
+#[test]
+fn an_interrupted_device_is_asked_again(rt: HostRuntime) -> Result<(), Fail> {
+    let mut reader = Device::new(Interrupted::new(2));
+    let mut all = Vec::new(rt.alloc());
+    assert!(rt; !read_until(&mut reader, &mut all, 3)?);
+    assert_eq!(rt; (all.len(), reader.inner.calls, reader.failures), (3, 9, 0));
+    let mut writer = Device::new(Interrupted::new(2));
+    write_all(&mut writer, &[1; 3])?;
+    assert_eq!(rt; (writer.inner.calls, writer.failures), (9, 0));
+    Ok(())
+}
+
+#[test]
+fn reads_until_there_are_enough_bytes(rt: HostRuntime) -> Result<(), Fail> {
+    let alloc = rt.alloc();
+    let bytes = vec![in alloc; 5u8; 200_000]?;
+    let mut reader = Device::new(bytes.as_slice());
+    let mut all = Vec::new(alloc);
+    all.push(4)?;
+    assert!(rt; !read_until(&mut reader, &mut all, 70_000)?);
+    assert_eq!(rt; (all.len(), reader.inner.len()), (70_000, 130_001));
+    assert!(rt; !read_until(&mut reader, &mut all, 70_000)?);
+    assert_eq!(rt; (all.len(), reader.inner.len()), (70_000, 130_001));
+    assert!(rt; read_until(&mut reader, &mut all, 200_002)?);
+    assert_eq!(rt; all[0], 4);
+    assert_eq!(rt; &all[1..], bytes.as_slice());
+    Ok(())
+}
+
+#[test]
+fn a_read_may_be_short_or_fail(rt: HostRuntime) -> Result<(), Fail> {
+    let mut reader = Sevens {
+        reads: 3,
+        failures: 0,
+    };
+    let mut all = Vec::new(rt.alloc());
+    assert!(rt; !read_until(&mut reader, &mut all, 10)?);
+    assert_eq!(rt; all.as_slice(), [7u8; 10].as_slice());
+    assert_eq!(rt;
+        read_until(&mut reader, &mut all, 18).err(),
+        Some(Fault::Read)
+    );
+    assert_eq!(rt; (all.len(), reader.failures), (17, 1));
+    Ok(())
+}
+
+#[test]
+fn a_buffer_with_room_does_not_grow(rt: HostRuntime) -> Result<(), Fail> {
+    let alloc = rt.alloc();
+    let bytes = vec![in alloc; 5u8; 2_000_000]?;
+    let mut reader = Device::new(bytes.as_slice());
+    let mut all = Vec::with_capacity(alloc, 1_800_000)?;
+    assert!(rt; !read_until(&mut reader, &mut all, 1_800_000)?);
+    assert_eq!(rt; all.capacity(), 1_800_000);
+    Ok(())
+}
+
+#[test]
+fn drains_up_to_the_most_bytes(rt: HostRuntime) -> Result<(), Fail> {
+    let bytes = [5; 1000];
+    let mut reader = Device::new(bytes.as_slice());
+    drain(&mut reader, MOST_BYTES - 1000)?;
+    assert!(rt; reader.inner.is_empty());
+    let mut reader = Device::new(bytes.as_slice());
+    assert_eq!(rt;
+        drain(&mut reader, MOST_BYTES - 999).err(),
+        Some(Fault::TooLarge)
+    );
+    let mut reader = Sevens {
+        reads: 3,
+        failures: 0,
+    };
+    assert_eq!(rt; drain(&mut reader, 0).err(), Some(Fault::Read));
+    assert_eq!(rt; reader.failures, 1);
+    Ok(())
+}

@@ -1,0 +1,125 @@
+//! The lines of a report, and where it is written in several pieces.
+ghost use Rattle.std.specs.Prelude.{None};
+
+use flow_filter::Verdict;
+use racl_io::{Device, DeviceFault, Fault, Sink, write_report};
+use std::test::Fail;
+
+#[test]
+fn a_line_for_each_verdict(rt: HostRuntime) -> Result<(), Fail> {
+    let verdicts = [
+        Verdict::Session,
+        Verdict::Reflect(1),
+        Verdict::Permit(20),
+        Verdict::Deny(4096),
+        Verdict::ByDefault,
+        Verdict::Worn,
+        Verdict::Full,
+        Verdict::NoPages,
+        Verdict::NotIp,
+        Verdict::Malformed,
+        Verdict::Short,
+    ];
+    let lines = "\
+1 pass session
+2 pass rule 1 reflect
+3 pass rule 20
+4 drop rule 4096
+5 drop default
+6 drop worn
+7 drop full
+8 drop no-pages
+9 pass not-ip
+10 drop malformed
+11 drop short
+truncated after 11
+packets 11 pass 4 drop 7
+";
+    let mut writer = Device::new(Vec::new(rt.alloc()));
+    let totals = write_report(Some(&rt), rt.alloc(), &mut writer, &verdicts, true)?;
+    assert_eq!(rt; writer.inner.as_slice(), lines.as_bytes());
+    assert_eq!(rt; (totals.packets, totals.passed, totals.dropped), (11, 4, 7));
+    assert!(rt; totals.truncated);
+    Ok(())
+}
+
+/// Takes what it is given, and fails once it has made its writes.
+#[derive(Drop)]
+struct Counted {
+    writes: usize,
+    taken: usize,
+    failures: u64,
+}
+
+impl Sink for Counted {
+    ghost bytes = { λ _. None };
+
+    ghost failures = { λ c. c.failures };
+
+    fn write(&mut self, buf: &[u8]) -> Result<usize, DeviceFault> {
+        if self.writes == 0 {
+            self.failures += 1;
+            return Err(DeviceFault);
+        }
+        self.writes -= 1;
+        match buf.len() {
+            0 => {
+                self.failures += 1;
+                Ok(0)
+            }
+            count => {
+                self.taken = self.taken.saturating_add(count);
+                Ok(count)
+            }
+        }
+    }
+}
+
+#[test]
+fn pieces(rt: HostRuntime) -> Result<(), Fail> {
+    let alloc = rt.alloc();
+    let verdicts = vec![in alloc; Verdict::Deny(4096); 8000]?;
+    // 9 numbers of one digit, 90 of two, 900 of three and 7001 of four, and 16 bytes after each.
+    let lines = 9 + 180 + 2700 + 28_004 + 8000 * 16;
+    let end = "packets 8000 pass 0 drop 8000\n".len();
+    for writes in 0..4 {
+        let mut writer = Counted {
+            writes,
+            taken: 0,
+            failures: 0,
+        };
+        let outcome = write_report(Some(&rt), alloc, &mut writer, &verdicts, false);
+        assert_eq!(rt; outcome.err(), Some(Fault::Write), "after {writes} writes");
+        assert!(rt; writer.taken < lines + end);
+    }
+    let mut writer = Counted {
+        writes: 4,
+        taken: 0,
+        failures: 0,
+    };
+    let totals = write_report(Some(&rt), alloc, &mut writer, &verdicts, false)?;
+    assert_eq!(rt; (totals.packets, totals.dropped), (8000, 8000));
+    assert_eq!(rt; writer.taken, lines + end);
+    Ok(())
+}
+
+#[test]
+fn lines_beside_others(rt: HostRuntime) -> Result<(), Fail> {
+    let alloc = rt.alloc();
+    let mut verdicts = Vec::new(alloc);
+    let mut lines = String::new(alloc);
+    for number in 1..135_001u32 {
+        let rule = (number % 4096) as u16;
+        verdicts.push(Verdict::Permit(rule))?;
+        verdicts.push(Verdict::Short)?;
+        let (first, second) = (2 * number - 1, 2 * number);
+        let both = format!(in alloc; "{first} pass rule {rule}\n{second} drop short\n")?;
+        lines.push_str(both.as_str())?;
+    }
+    lines.push_str("packets 270000 pass 135000 drop 135000\n")?;
+    let mut writer = Device::new(Vec::new(alloc));
+    let totals = write_report(Some(&rt), alloc, &mut writer, &verdicts, false)?;
+    assert_eq!(rt; (totals.packets, totals.passed), (270_000, 135_000));
+    assert_eq!(rt; writer.inner.as_slice(), lines.as_bytes());
+    Ok(())
+}
