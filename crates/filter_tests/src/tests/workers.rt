@@ -1,13 +1,15 @@
 //! Workers that run at once, and what their verdicts have in common.
-ghost use Rattle.std.specs.Prelude.{◌≤◌};
+ghost use Rattle.std.specs.Prelude.{◌≤◌, ◌+◌, length};
 
 use super::tables::{NAMES, answer, filter_of, request};
 use bihash_words::{ShapeV4, ShapeV6, flow_shapes_are_sound};
-use flow_workers::{Dealing, Filter, Gate, Verdict, run_workers};
+use flow_workers::{
+    Dealing, Filter, Gate, RunFault, Setup, Verdict, Workers, create_tables, run_workers,
+};
 use packet_view::{Packet, Packets};
 use std::alloc::{AllocError, Global};
 use std::sync::Wait;
-use std::sync::atomic::{AtomicBool, Ordering};
+use std::sync::atomic::{AtomicBool, AtomicU64, Ordering};
 use std::test::Fail;
 use std::thread::Threads;
 
@@ -74,6 +76,36 @@ impl Gate for Open {
     }
 }
 
+/// Counts, in a byte for each of the packets 0 to 3, how often it came to the gate and how often it left it.
+#[derive(Drop)]
+struct Counts {
+    before: AtomicU64,
+    after: AtomicU64,
+}
+
+// A one in the packet's byte.
+fn one_of(packet: usize) -> u64 {
+    match packet {
+        0 => 0x1,
+        1 => 0x100,
+        2 => 0x1_0000,
+        3 => 0x100_0000,
+        _ => 0x1_0000_0000,
+    }
+}
+
+impl Gate for Counts {
+    fn before(&self, worker: usize, packet: usize) {
+        let _ = worker;
+        self.before.fetch_add(one_of(packet), Ordering::SeqCst);
+    }
+
+    fn after(&self, worker: usize, packet: usize) {
+        let _ = worker;
+        self.after.fetch_add(one_of(packet), Ordering::SeqCst);
+    }
+}
+
 fn verdicts<'a, R: Threads + Wait + Sync, G: Gate + Sync>(
     rt: &R,
     alloc: Global,
@@ -99,6 +131,34 @@ fn verdicts<'a, R: Threads + Wait + Sync, G: Gate + Sync>(
         Ok(verdicts) => Ok(verdicts),
         Err(_) => Err(AllocError),
     }
+}
+
+// The verdicts of two workers on two parts, one after the other.
+fn verdicts_on_parts<R: Threads + Wait + Sync, G: Gate + Sync>(
+    rt: &R,
+    alloc: Global,
+    filter: &Filter,
+    gate: &G,
+    first: &[Packet<'_>],
+    second: &[Packet<'_>],
+) -> Result<Vec<Verdict>, RunFault>
+    requires few { length first.now + length second.now ≤ 4 }
+{
+    flow_shapes_are_sound();
+    let (tables, callers) = create_tables::<ShapeV4, ShapeV6>(alloc)?;
+    let setup = Setup {
+        rt,
+        gate,
+        filter: filter.ready(),
+        tables: &tables,
+        dealing: Dealing::Bucket,
+        workers: 2,
+        many: 0,
+    };
+    Workers::new(alloc, setup, callers)?
+        .judge(alloc, Packets::Listed(first))?
+        .judge(alloc, Packets::Listed(second))?
+        .end(alloc)
 }
 
 // A request, its answer, and an answer that nobody asked for.
@@ -213,5 +273,48 @@ fn many_flows(rt: HostRuntime) -> Result<(), Fail> {
         let found = verdicts(&rt, alloc, &filter, &packets, count, &Open, Dealing::Bucket)?;
         assert_eq!(rt; found.as_slice(), alone.as_slice(), "{count} workers");
     }
+    Ok(())
+}
+
+// A part's packets have the numbers after those of the part before, and sessions last from part to part.
+#[test]
+fn packets_of_parts_are_numbered_on(rt: HostRuntime) -> Result<(), Fail> {
+    let alloc = rt.alloc();
+    let filter = filter_of(alloc, NAMES)?;
+    let frames = [request(2), answer(3), answer(2), request(3)];
+    let first = [
+        Packet {
+            moment: 100,
+            frame: &frames[0],
+        },
+        Packet {
+            moment: 100,
+            frame: &frames[1],
+        },
+    ];
+    let second = [
+        Packet {
+            moment: 101,
+            frame: &frames[2],
+        },
+        Packet {
+            moment: 101,
+            frame: &frames[3],
+        },
+    ];
+    let gate = Counts {
+        before: AtomicU64::new(0),
+        after: AtomicU64::new(0),
+    };
+    let found = verdicts_on_parts(&rt, alloc, &filter, &gate, &first, &second)?;
+    let wanted = [
+        Verdict::Reflect(1),
+        Verdict::ByDefault,
+        Verdict::Session,
+        Verdict::Reflect(1),
+    ];
+    assert_eq!(rt; found.as_slice(), wanted.as_slice());
+    assert_eq!(rt; gate.before.load(Ordering::SeqCst), 0x0101_0101);
+    assert_eq!(rt; gate.after.load(Ordering::SeqCst), 0x0101_0101);
     Ok(())
 }

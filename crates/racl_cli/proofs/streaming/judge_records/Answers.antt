@@ -4,7 +4,7 @@ use Rattle.acl_policy.specs.Policies.{policy_facts}
 use Rattle.flow_dealing.specs.Runs.{AreJudged, HavePages}
 use Rattle.flow_dealing.proofs.FewPackets.{pages_for_few}
 use Rattle.flow_dealing.proofs.OneReport.{one_report}
-use Rattle.flow_workers.proofs.RestLemmas.{said_by}
+use Rattle.flow_workers.proofs.RestLemmas.{judged_alike, said_by}
 use Rattle.racl_io.proofs.TransferLemmas.{within_of_err}
 use Rattle.racl_cli.specs.Runs.{ByOneThread, dealt_to}
 use Rattle.racl_cli.proofs.OutcomeLemmas.{given_by_workers}
@@ -25,8 +25,8 @@ returns-clause-ok g c =
     let policy = policy_facts filter.policy in
     let verdicts = c.in-Ok-end.verdicts.items in
     let judged : AreJudged (dealt_to options.workers) filter.times policy s.packets verdicts =
-    said_by _ _ _ _ s.packets verdicts _ _ (s.judged.1.setup ∙ c.in-Ok-new.ensures.by) c.ready_with.ensures.times c.ready_with.ensures.policy
-    s.judged.1.rest c.in-Ok-end.ensures in
+    judged_alike _ s.packets verdicts _ _ _ _ c.ready_with.ensures.times c.ready_with.ensures.policy
+    (said_by _ _ _ _ s.packets verdicts (s.judged.1.setup ∙ c.in-Ok-new.ensures.by) s.judged.1.rest c.in-Ok-end.ensures) in
     record {
       read = s.read;
       whole = s.whole;
