@@ -26,6 +26,10 @@ EDITS = "edits"
 MEMORY_OF_A_CHECK = 2_500_000_000
 
 FUNCTION = re.compile(r"\bfn (\w+)")
+# Where a block of methods begins and ends, and what declares a type.
+BLOCK = re.compile(r"^impl\b(.*?)(?:\bwhere\b|\{)|^\}", re.M | re.S)
+IN_BRACKETS = re.compile(r"<[^<>]*>")
+TYPE = re.compile(r"^(?:pub(?:\(.*?\))? )?(?:struct|enum) (\w+)", re.M)
 # A goal that a written answer doesn't prove, one that has no answer, and a function's own line where it is searched.
 ANSWER = re.compile(r"^(?:\./)?proofs/(\S+)/\w+\.antt:\d+:\d+: error: (.*)", re.M)
 GOAL = re.compile(r"^note: src/(\S+)\.rt:(\d+):\d+: (it is not proved that .*)", re.M)
@@ -45,6 +49,11 @@ def toolchain():
     return module
 
 
+def module_of(inside):
+    """The path of a module below the crate, by its file without its ending."""
+    return "::".join(it for it in inside.split("/") if it not in ("lib", "mod"))
+
+
 class Place:
     """A text that stands once in a source file, what it becomes, and the function that it is in."""
 
@@ -58,10 +67,23 @@ class Place:
         self.first = text.count("\n", 0, above[-1].start()) + 1 if above else 1
         self.last = text.count("\n", 0, starts[len(above)].start()) if len(above) < len(starts) else text.count("\n") + 1
         self.inside = file[len("src/"):-len(".rt")]
+        blocks = [*BLOCK.finditer(text, 0, above[-1].start())] if above else []
+        self.block = blocks[-1][1] if blocks else None
 
     def module(self):
         """The path of its module below the crate."""
-        return "::".join(it for it in self.inside.split("/") if it not in ("lib", "mod"))
+        return module_of(self.inside)
+
+    def path(self, types):
+        """The path of its function below the crate, as checks print it: a method's is that of its type, where that is
+        declared, with the trait behind the type's name."""
+        words = (self.block or "").replace("->", "")
+        while IN_BRACKETS.search(words):
+            words = IN_BRACKETS.sub("", words)
+        words = words.split()
+        block = (words[-1] + (words[0] if "for" in words else "")).replace("&", "") if words else ""
+        module = types.get(words[-1], self.module()) if words else self.module()
+        return "::".join(filter(None, (module, block, self.function)))
 
     def goals_in(self, said):
         """The goals of its function that a check leaves unproved, but for proofs that name what isn't there any more. A
@@ -121,10 +143,15 @@ class Trial:
     def __init__(self, rt, crate, wanted):
         self.rt, self.crate = rt, crate
         folder, named = f"{crate.folder}/{EDITS}", collections.Counter()
+        # the module of each type
+        self.types = {}
         for at, _, files in os.walk(f"{crate.folder}/src"):
             for it in files:
                 with open(f"{at}/{it}", encoding="utf-8") as file:
-                    named.update(FUNCTION.findall(file.read()))
+                    text = file.read()
+                named.update(FUNCTION.findall(text))
+                module = module_of(os.path.relpath(f"{at}/{it}", f"{crate.folder}/src")[:-len(".rt")])
+                self.types.update((name, module) for name in TYPE.findall(text))
         names = sorted(os.listdir(folder)) if os.path.isdir(folder) else []
         self.edits = [Edit(f"{folder}/{it}", crate.folder, named) for it in names
                       if it.endswith(".edit") and (not wanted or it[:-len(".edit")] in wanted)]
@@ -178,9 +205,8 @@ class Trial:
             if os.path.isdir(begun):
                 shutil.copytree(begun, kept, dirs_exist_ok=True)
             for together in self.rounds():
-                places = [place for it in together for place in it.places]
-                modules = sorted({f"{self.crate.name}::{it.module()}".rstrip(":") for it in places})
-                status, said = self.check(together, kept, [word for it in modules for word in ("--only", it)])
+                paths = sorted({f"{self.crate.name}::{place.path(self.types)}" for it in together for place in it.places})
+                status, said = self.check(together, kept, [word for it in paths for word in ("--only", it)])
                 for edit in together:
                     goals = edit.goals_in(said) if status == 1 else []
                     told[edit.name] = (True, f"refused: {goals[0]}") if goals else self.alone(edit, kept)

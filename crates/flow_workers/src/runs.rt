@@ -44,9 +44,13 @@ where
     requires fits { length (held packets) < 2 ^ 64 }
     ensures { IfOk result (λ v. HaveAllSaid ⟦<A as Shape>⟧ ⟦<B as Shape>⟧ setup.entry (held packets.entry) v.items) }
 {
-    Workers::new(alloc, setup, callers)?
-        .judge(alloc, packets)?
-        .end(alloc)
+    match Workers::new(alloc, setup, callers) {
+        Ok(begun) => match begun.judge(alloc, packets) {
+            Ok(judged) => judged.end(alloc),
+            Err(fault) => Err(fault),
+        },
+        Err(fault) => Err(fault),
+    }
 }
 
 /// The verdicts on the packets, in their order, by so many workers at once over new tables. A worker whose thread

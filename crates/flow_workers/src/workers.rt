@@ -141,12 +141,14 @@ where
             first: count,
             packets,
         };
-        let shares = judge_run(alloc, run, shares, &mut judges)?;
-        Ok(Workers {
-            setup,
-            shares,
-            judges,
-            count: next,
-        })
+        match judge_run(alloc, run, shares, &mut judges) {
+            Ok(shares) => Ok(Workers {
+                setup,
+                shares,
+                judges,
+                count: next,
+            }),
+            Err(_) => Err(RunFault::Memory),
+        }
     }
 }

@@ -155,10 +155,16 @@ fn verdicts_on_parts<R: Threads + Wait + Sync, G: Gate + Sync>(
         workers: 2,
         many: 0,
     };
-    Workers::new(alloc, setup, callers)?
-        .judge(alloc, Packets::Listed(first))?
-        .judge(alloc, Packets::Listed(second))?
-        .end(alloc)
+    let Ok(begun) = Workers::new(alloc, setup, callers) else {
+        return Err(RunFault::Memory);
+    };
+    let Ok(once) = begun.judge(alloc, Packets::Listed(first)) else {
+        return Err(RunFault::Memory);
+    };
+    let Ok(twice) = once.judge(alloc, Packets::Listed(second)) else {
+        return Err(RunFault::Memory);
+    };
+    twice.end(alloc)
 }
 
 // A request, its answer, and an answer that nobody asked for.

@@ -1,0 +1,25 @@
+use Rattle.std.proofs.Common.{[], arith}
+use Rattle.std.proofs.lemmas.List.{length-map}
+use Rattle.packet_view.specs.Captures.{packet_facts}
+use Rattle.packet_view.specs.CheckedCaptures.{held}
+use Rattle.packet_view.specs.declared.packets.Packets.TheVariants.{Listed}
+use Rattle.flow_workers.specs.Progress.{CanJudge}
+use Rattle.filter_tests.proofs.tests.workers.verdicts_on_parts.Goals as goal
+
+pub judge-requires-2-after_bounds : goal.judge-requires-2-after_bounds
+judge-requires-2-after_bounds g c κs lives =
+    let few = c.requires.few in
+    let first = length-map c.args.first.now packet_facts in
+    let second = length-map c.args.second.now packet_facts in
+    let may : CanJudge c.in-Ok-judge.once (Listed c.args.second) =
+    record {
+      packets = held (Listed c.args.first);
+      rest = c.in-Ok-judge.ensures.rest [] c.in-Ok.ensures.rest;
+      fits = omega arith;
+    } in may
+
+pub end-requires : goal.end-requires
+end-requires g c = (
+  _,
+  c.in-Ok-judge-2.ensures.rest (held (Listed c.args.first)) (c.in-Ok-judge.ensures.rest [] c.in-Ok.ensures.rest),
+)
