@@ -7,6 +7,7 @@ use Rattle.racl_io.specs.declared.fault.Fault.TheVariants.{LongRecord, Memory, R
 use Rattle.racl_io.specs.Inputs.{most_bytes}
 use Rattle.capture_stream.specs.declared.stream.Opening.{Opening}
 use Rattle.capture_stream.specs.declared.stream.Streamed.{Streamed}
+use Rattle.capture_stream.specs.declared.window.WindowSize.{WindowSize}
 
 -- the bytes from the first record on, where these were read after the opening
 abbrev pub records_in : Opening → List ℕ → List ℕ
@@ -52,3 +53,9 @@ pub record MayStream {J : Type 0} (Became : J → List PacketFacts → J → Typ
   pub begun : Became judges [] judges
   pub within : opening.from ≤ length opening.bytes.items
   pub few : length opening.bytes.items ≤ most_bytes
+
+-- windows get some bytes, and up to 16 MiB
+pub record IsSize (size : WindowSize) : Type 0 where
+  pub least : 1 ≤ size.least
+  pub most : 1 ≤ size.most
+  pub few : size.most ≤ 16777216

@@ -7,3 +7,4 @@ mod window;
 
 pub use judges::Judges;
 pub use stream::{Opening, Streamed, judge_stream};
+pub use window::WindowSize;

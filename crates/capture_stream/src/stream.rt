@@ -2,11 +2,11 @@
 ghost use Rattle.std.specs.Prelude.{◌≡◌, ◌+◌, ◌-◌, ◌<◌, ◌^◌, MatchResult, length};
 ghost use Rattle.racl_io.specs.Inputs.{most_bytes};
 ghost use Rattle.racl_io.specs.Transfers.{HasReadWithin};
-ghost use Rattle.capture_stream.specs.Streams.{HasStreamed, IsStreamFault, MayStream};
+ghost use Rattle.capture_stream.specs.Streams.{HasStreamed, IsSize, IsStreamFault, MayStream};
 ghost use Rattle.capture_stream.specs.inner.Walks.{HasAdvanced, HasEnded, IsLastFault, IsWindowFault, MayAdvance};
 
 use crate::judges::Judges;
-use crate::window::{Found, NextWindow, bytes_beside, find_records, judge_and_read};
+use crate::window::{Found, NextWindow, WindowSize, find_records, judge_and_read};
 use packet_view::{Order, Packets, Records, Stop};
 use racl_io::{Fault, MOST_BYTES, Source, drain};
 use std::alloc::Global;
@@ -51,13 +51,15 @@ struct Walk<J> {
     ended: bool,
 }
 
-// A window is judged, while the next one is read.
+// A window is judged, and the next one is read.
 fn next_window<J: Judges + Drop, T: Threads, R: Source + Send>(
-    rt: &T,
+    beside: Option<&T>,
     reader: &mut R,
+    size: WindowSize,
     walk: Walk<J>,
 ) -> Result<Walk<J>, Fault>
     requires may { MayAdvance J.became walk }
+    requires size { IsSize size }
     requires sound { R.failures reader.old < 2 ^ 64 - 1 }
     ensures walk { let old = R.bytes reader.old in let new = R.bytes reader.new in MatchResult result (HasAdvanced J.became walk old new) (IsWindowFault walk old new) }
     ensures within { HasReadWithin R.bytes R.failures (most_bytes + 1 - walk.read) reader.old reader.new result }
@@ -89,9 +91,9 @@ fn next_window<J: Judges + Drop, T: Threads, R: Source + Send>(
         order,
         count,
     };
-    let beside = bytes_beside(read).min(MOST_BYTES + 1 - read);
-    let least = behind + beside;
-    let (judged, next) = judge_and_read(rt, judges, records, reader, &mut spare, least);
+    let more = size.beside(read).min(MOST_BYTES + 1 - read);
+    let least = behind + more;
+    let (judged, next) = judge_and_read(beside, judges, records, reader, &mut spare, least);
     let NextWindow { found, ended } = next?;
     let judges = judged?;
     let read = read + (spare.len() - behind);
@@ -139,16 +141,19 @@ fn last_window<J: Judges + Drop>(walk: Walk<J>) -> Result<Streamed<J>, Fault>
     Ok(Streamed { judges, truncated })
 }
 
-/// Those who judge packets judge all of a capture, a window at a time, while the next one is read to the end of the
-/// source, or until an input would be too long. A fault of the capture is answered when all was read.
+/// Those who judge packets judge all of a capture, a window of this size at a time, to the end of the source, or until an
+/// input would be too long. Where there is a runtime for threads, each next window is read beside. A fault of the capture
+/// is answered when all was read.
 pub fn judge_stream<J: Judges + Drop, T: Threads, R: Source + Send>(
-    rt: &T,
+    beside: Option<&T>,
     alloc: Global,
     reader: &mut R,
     judges: J,
     opening: Opening,
+    size: WindowSize,
 ) -> Result<Streamed<J>, Fault>
     requires may { MayStream J.became judges opening }
+    requires size { IsSize size }
     requires sound { R.failures reader.old < 2 ^ 64 - 1 }
     ensures streamed { let old = R.bytes reader.old in let new = R.bytes reader.new in MatchResult result (HasStreamed J.became judges opening old new) (IsStreamFault opening old new) }
     ensures within { HasReadWithin R.bytes R.failures (most_bytes + 1 - length opening.bytes.items) reader.old reader.new result }
@@ -168,7 +173,7 @@ pub fn judge_stream<J: Judges + Drop, T: Threads, R: Source + Send>(
         ended: false,
     };
     'windows: while !walk.ended {
-        walk = next_window(rt, reader, walk)?;
+        walk = next_window(beside, reader, size, walk)?;
     }
     last_window(walk)
 }

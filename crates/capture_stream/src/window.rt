@@ -32,18 +32,26 @@ fn judge_part<J: Judges + Drop>(part: &mut Part<J>, records: Records<'_>)
     *part = Part::Over(judges.judge(Packets::Standing(records)));
 }
 
-/// The fewest and the most bytes that are asked for while those of a window are judged.
-const FEW_BESIDE: usize = 65_536;
+/// How many bytes a window gets beside those that the one before left, at least and at most, while the input has more.
+#[derive(Clone, Copy)]
+pub struct WindowSize {
+    pub least: usize,
+    pub most: usize,
+}
 
-const MOST_BESIDE: usize = 16_777_216;
+impl WindowSize {
+    ghost use Rattle.std.specs.Prelude.{◌≤◌};
+    ghost use Rattle.capture_stream.specs.Streams.{IsSize};
 
-/// How many bytes are read while those of a window are judged, at least, where so many were read before: as many again, so
-/// that judging begins early, and larger windows follow that pay for more threads.
-pub fn bytes_beside(read: usize) -> usize
-    ensures some { 1 ≤ result }
-    ensures few { result ≤ 16777216 }
-{
-    read.max(FEW_BESIDE).min(MOST_BESIDE)
+    /// How many bytes the next window gets where so many were read before: as many again within these bounds, so that
+    /// judging begins early, and larger windows follow that pay for more threads.
+    pub fn beside(&self, read: usize) -> usize
+        requires { IsSize self.now }
+        ensures some { 1 ≤ result }
+        ensures few { result ≤ 16777216 }
+    {
+        read.max(self.least).min(self.most)
+    }
 }
 
 /// The whole records at the front of some bytes.
@@ -99,10 +107,10 @@ fn read_and_find<R: Source>(
     })
 }
 
-/// The packets of these records are judged in this thread, and in one of its own, or in this one where none can be made,
-/// bytes are read behind those that stand in `next` until there are so many, and their records are found.
+/// The packets of these records are judged, and then bytes are read behind those that stand in `next` until there are so
+/// many, and their records are found: beside the judging in a thread of its own where there is a runtime for threads.
 pub fn judge_and_read<J: Judges + Drop, T: Threads, R: Source + Send>(
-    rt: &T,
+    beside: Option<&T>,
     judges: J,
     records: Records<'_>,
     reader: &mut R,
@@ -115,6 +123,10 @@ pub fn judge_and_read<J: Judges + Drop, T: Threads, R: Source + Send>(
     ensures read { HasReadMore R.bytes R.failures reader.old reader.new next.old.items next.new.items least records.entry.order result.1 }
 {
     let order = records.order;
+    let Some(rt) = beside else {
+        let judged = judges.judge(Packets::Standing(records));
+        return (judged, read_and_find(reader, next, least, order));
+    };
     let mut part = Part::Ahead(judges);
     let (read, ()) = join_mut(
         rt,

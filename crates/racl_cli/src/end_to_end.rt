@@ -12,7 +12,7 @@ ghost use Rattle.racl_cli.specs.Runs.{AnswersCapture, AnswersContent, AnswersInp
 use crate::host::Host;
 use crate::judging::verdicts_on;
 use crate::outcome::Judged;
-use crate::streaming::{judge_opened, open_input};
+use crate::streaming::{front_bytes, judge_opened, open_input};
 use acl_policy::read_policy;
 use flow_workers::Filter;
 use packet_view::check_capture;
@@ -23,9 +23,6 @@ use racl_words::Options;
 use std::alloc::Global;
 use std::sync::Wait;
 use std::thread::Threads;
-
-/// How many bytes of an input are read before any is judged, at least.
-const FRONT_BYTES: usize = 12_582_912;
 
 fn judge_capture<T: Threads + Wait + Sync>(
     host: &Host<'_, T>,
@@ -110,13 +107,11 @@ fn judge_source<R: Source + Send, T: Threads + Wait + Sync>(
     ensures within { HasReadWithin R.bytes R.failures (most_bytes + 1) reader.old reader.new result }
 {
     let mut front = Vec::new(host.alloc);
-    if read_until(reader, &mut front, FRONT_BYTES)? {
+    if read_until(reader, &mut front, front_bytes(options))? {
         return judge_input(host, options, &front);
     }
-    if options.workers > 1 {
-        if let Some(opened) = open_input(host.alloc, options, &front) {
-            return judge_opened(host, options, reader, front, opened);
-        }
+    if let Some(opened) = open_input(host.alloc, options, &front) {
+        return judge_opened(host, options, reader, front, opened);
     }
     judge_whole(host, options, reader, front)
 }

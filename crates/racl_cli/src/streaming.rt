@@ -1,7 +1,7 @@
 //! A large capture, which is judged while it is read.
 ghost use Rattle.std.specs.Prelude.{◌≡◌, ◌+◌, ◌-◌, ◌<◌, ◌≤◌, ◌^◌, IfErr, IfOk, IfSome, length};
 ghost use Rattle.acl_policy.specs.Policies.{policy_facts};
-ghost use Rattle.capture_stream.specs.Streams.{IsStreamFault};
+ghost use Rattle.capture_stream.specs.Streams.{IsSize, IsStreamFault};
 ghost use Rattle.racl_io.specs.Inputs.{most_bytes};
 ghost use Rattle.racl_io.specs.Transfers.{HasReadWithin};
 ghost use Rattle.racl_cli.specs.Reads.{AnswersRead, HasJudged, HasOpened, MayJudge};
@@ -12,7 +12,7 @@ use crate::judging::OpenGate;
 use crate::outcome::Judged;
 use acl_policy::read_policy;
 use bihash_words::{ShapeV4, ShapeV6, flow_shapes_are_sound};
-use capture_stream::{Opening, Streamed, judge_stream};
+use capture_stream::{Opening, Streamed, WindowSize, judge_stream};
 use flow_workers::{Dealing, Filter, Setup, Workers, create_tables};
 use packet_view::{Order, capture_header, front_records};
 use racl_io::{Fault, Form, Source, parts};
@@ -23,6 +23,41 @@ use std::thread::Threads;
 
 /// From how many packets of a window on each worker judges them in a thread of its own.
 const MANY_PACKETS: usize = 65_536;
+
+/// How many bytes one worker reads at once: so few that they are still in the processor's cache when it judges them.
+const ONE_WINDOW: usize = 262_144;
+
+/// How many bytes of an input are read before any is judged, at least: of several workers each then has packets enough to
+/// pay for its thread.
+pub fn front_bytes(options: &Options) -> usize
+    ensures { result ≤ 12582912 }
+{
+    if options.workers > 1 {
+        12_582_912
+    } else {
+        ONE_WINDOW
+    }
+}
+
+// How many bytes the windows after that get.
+fn window_size(options: &Options) -> WindowSize
+    ensures { IsSize result }
+{
+    if options.workers > 1 {
+        WindowSize {
+            least: 65_536,
+            most: 16_777_216,
+        }
+    } else {
+        WindowSize {
+            least: ONE_WINDOW,
+            most: ONE_WINDOW,
+        }
+    }
+}
+
+/// How many times as many packets as stand in its front an input is expected to have that goes on after it.
+const TIMES_FRONT: usize = 16;
 
 /// What stands before the records of a binary capture.
 #[derive(Drop)]
@@ -79,7 +114,8 @@ fn judge_records<'t, R: Source + Send, T: Threads + Wait + Sync>(
         return Err(Fault::Memory);
     };
     let front = front_records(&opening.bytes[opening.from..], opening.order);
-    let prepared = filter.prepare(alloc, front.records.count)?;
+    let expected = front.records.count.saturating_mul(TIMES_FRONT);
+    let prepared = filter.prepare(alloc, expected)?;
     let setup = Setup {
         rt,
         gate: &OpenGate,
@@ -93,7 +129,9 @@ fn judge_records<'t, R: Source + Send, T: Threads + Wait + Sync>(
         return Err(Fault::Memory);
     };
     let crew = Crew { alloc, workers };
-    let Streamed { judges, truncated } = judge_stream(rt, alloc, reader, crew, opening)?;
+    let beside = if options.workers > 1 { Some(rt) } else { None };
+    let size = window_size(options);
+    let Streamed { judges, truncated } = judge_stream(beside, alloc, reader, crew, opening, size)?;
     let Crew { workers, .. } = judges;
     let Ok(verdicts) = workers.end(alloc) else {
         return Err(Fault::Memory);

@@ -1,8 +1,9 @@
 //! Captures that are read in parts, and packets that are counted.
 ghost use Rattle.std.specs.Prelude.{◌≡◌, ◌≤◌, None, IfOk, length};
 ghost use Rattle.racl_io.specs.Inputs.{most_bytes};
+ghost use Rattle.capture_stream.specs.Streams.{IsSize};
 
-use capture_stream::{Judges, Opening, Streamed, judge_stream};
+use capture_stream::{Judges, Opening, Streamed, WindowSize, judge_stream};
 use packet_view::{Order, Packets};
 use racl_io::{Device, DeviceFault, Fault, MOST_BYTES, Source};
 use std::alloc::{AllocError, Global};
@@ -49,6 +50,23 @@ impl Source for Zeros {
     }
 }
 
+// Each window gets as many bytes as were read before, as where several workers judge.
+const GROWING: WindowSize = WindowSize {
+    least: 65_536,
+    most: 16_777_216,
+};
+
+// Each window gets so many bytes.
+fn windows_of(bytes: usize) -> WindowSize
+    ensures { IsSize result }
+{
+    let bytes = bytes.max(1).min(16_777_216);
+    WindowSize {
+        least: bytes,
+        most: bytes,
+    }
+}
+
 // What a source of so many zeros has left and how often it failed, and what was answered, after 54 bytes that were read.
 fn read_zeros<T: Threads>(
     rt: &T,
@@ -57,7 +75,8 @@ fn read_zeros<T: Threads>(
 ) -> Result<(Zeros, Option<Fault>), AllocError> {
     let opening = opened(alloc, &[0; 54])?;
     let mut reader = Zeros { left, failures: 0 };
-    let answer = judge_stream(rt, alloc, &mut reader, Counter { count: 0 }, opening);
+    let counter = Counter { count: 0 };
+    let answer = judge_stream(Some(rt), alloc, &mut reader, counter, opening, GROWING);
     Ok((reader, answer.err()))
 }
 
@@ -82,14 +101,38 @@ fn opened(alloc: Global, front: &[u8]) -> Result<Opening, AllocError>
     })
 }
 
-// The first 54 bytes are read before all others.
-fn count<T: Threads>(rt: &T, alloc: Global, capture: &[u8]) -> Result<Streamed<Counter>, Fault> {
+// The first 54 bytes are read before all others, and then windows of this size.
+fn count_in<T: Threads>(
+    beside: Option<&T>,
+    alloc: Global,
+    capture: &[u8],
+    size: WindowSize,
+) -> Result<Streamed<Counter>, Fault>
+    requires { IsSize size }
+{
     if capture.len() < 54 {
         return Err(Fault::Short);
     }
     let opening = opened(alloc, &capture[..54])?;
     let mut reader = Device::new(&capture[54..]);
-    judge_stream(rt, alloc, &mut reader, Counter { count: 0 }, opening)
+    let counter = Counter { count: 0 };
+    judge_stream(beside, alloc, &mut reader, counter, opening, size)
+}
+
+fn count<T: Threads>(rt: &T, alloc: Global, capture: &[u8]) -> Result<Streamed<Counter>, Fault> {
+    count_in(Some(rt), alloc, capture, GROWING)
+}
+
+// Windows of so many bytes, each of which is read beside the one before, or after it.
+fn count_small<T: Threads>(
+    rt: &T,
+    alloc: Global,
+    capture: &[u8],
+    bytes: usize,
+    is_beside: bool,
+) -> Result<Streamed<Counter>, Fault> {
+    let beside = if is_beside { Some(rt) } else { None };
+    count_in(beside, alloc, capture, windows_of(bytes))
 }
 
 #[test]
@@ -145,5 +188,54 @@ fn a_source_that_fails_past_the_limit_is_too_large(rt: HostRuntime) -> Result<()
     assert_eq!(rt; (answer, reader.failures), (Some(Fault::TooLarge), 0));
     let (reader, answer) = read_zeros(&rt, rt.alloc(), most - 1)?;
     assert_eq!(rt; (answer, reader.failures), (Some(Fault::Read), 1));
+    Ok(())
+}
+
+// Windows of up to two records and a byte, read beside and in turn.
+#[test]
+fn records_lie_across_the_edges_of_windows(rt: HostRuntime) -> Result<(), Fail> {
+    let alloc = rt.alloc();
+    let mut bytes = vec![in alloc; 9u8; 24]?;
+    for _ in 0..6 {
+        bytes.extend_from_slice(&record([4, 0, 0, 0]))?;
+    }
+    let mut long = Vec::new(alloc);
+    long.extend_from_slice(&bytes)?;
+    long.extend_from_slice(&record([1, 0, 4, 0]))?;
+    for is_beside in [false, true] {
+        for size in 1..=41 {
+            let whole = count_small(&rt, alloc, &bytes, size, is_beside)?;
+            assert_eq!(rt;
+                (whole.judges.count, whole.truncated),
+                (6, false),
+                "windows of {size}"
+            );
+            let fault = count_small(&rt, alloc, &long, size, is_beside).err();
+            assert_eq!(rt; fault, Some(Fault::LongRecord(7)), "windows of {size}");
+        }
+    }
+    Ok(())
+}
+
+// Cut at each byte of the windows after the first.
+#[test]
+fn a_capture_is_cut_in_any_window(rt: HostRuntime) -> Result<(), Fail> {
+    let alloc = rt.alloc();
+    let mut bytes = vec![in alloc; 9u8; 24]?;
+    for _ in 0..6 {
+        bytes.extend_from_slice(&record([4, 0, 0, 0]))?;
+    }
+    for length in 54..=144usize {
+        let cut = &bytes[..length.min(bytes.len())];
+        let found = count_small(&rt, alloc, cut, 7, false)?;
+        // A record has 20 bytes.
+        let behind_header = length.saturating_sub(24);
+        let wanted = (behind_header / 20, behind_header % 20 != 0);
+        assert_eq!(rt;
+            (found.judges.count, found.truncated),
+            wanted,
+            "{length} bytes"
+        );
+    }
     Ok(())
 }
