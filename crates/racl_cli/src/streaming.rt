@@ -24,35 +24,35 @@ use std::thread::Threads;
 /// From how many packets of a window on each worker judges them in a thread of its own.
 const MANY_PACKETS: usize = 65_536;
 
-/// How many bytes one worker reads at once: so few that they are still in the processor's cache when it judges them.
+/// How many bytes are read at once for one worker: so few that they are still in the processor's cache when they are judged.
 const ONE_WINDOW: usize = 262_144;
 
-/// How many bytes of an input are read before any is judged, at least: of several workers each then has packets enough to
-/// pay for its thread.
+/// How many bytes are read at once for several workers: so many that their packets may pay for a thread each.
+const SEVERAL_WINDOW: usize = 4_194_304;
+
+/// How many bytes of an input are read before any is judged, at least.
 pub fn front_bytes(options: &Options) -> usize
-    ensures { result ≤ 12582912 }
+    ensures { result ≤ 4194304 }
 {
     if options.workers > 1 {
-        12_582_912
+        SEVERAL_WINDOW
     } else {
         ONE_WINDOW
     }
 }
 
-// How many bytes the windows after that get.
-fn window_size(options: &Options) -> WindowSize
+// How many bytes the windows after that get, which several workers judge or one.
+fn window_size(are_several: bool) -> WindowSize
     ensures { IsSize result }
 {
-    if options.workers > 1 {
-        WindowSize {
-            least: 65_536,
-            most: 16_777_216,
-        }
+    let bytes = if are_several {
+        SEVERAL_WINDOW
     } else {
-        WindowSize {
-            least: ONE_WINDOW,
-            most: ONE_WINDOW,
-        }
+        ONE_WINDOW
+    };
+    WindowSize {
+        least: bytes,
+        most: bytes,
     }
 }
 
@@ -129,8 +129,9 @@ fn judge_records<'t, R: Source + Send, T: Threads + Wait + Sync>(
         return Err(Fault::Memory);
     };
     let crew = Crew { alloc, workers };
-    let beside = if options.workers > 1 { Some(rt) } else { None };
-    let size = window_size(options);
+    let are_several = options.workers > 1 && front.records.count >= MANY_PACKETS;
+    let beside = if are_several { Some(rt) } else { None };
+    let size = window_size(are_several);
     let Streamed { judges, truncated } = judge_stream(beside, alloc, reader, crew, opening, size)?;
     let Crew { workers, .. } = judges;
     let Ok(verdicts) = workers.end(alloc) else {
