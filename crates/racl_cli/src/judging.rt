@@ -1,5 +1,5 @@
 //! The packets of a capture through workers.
-ghost use Rattle.std.specs.Prelude.{◌≡◌, ◌≤◌, IfOk, IfErr};
+ghost use Rattle.std.specs.Prelude.{◌≡◌, IfOk, IfErr};
 ghost use Rattle.packet_view.specs.CheckedCaptures.{packets_of};
 ghost use Rattle.acl_policy.specs.Policies.{policy_facts};
 ghost use Rattle.flow_dealing.specs.Runs.{HavePages};
@@ -15,9 +15,6 @@ use racl_words::Options;
 use std::sync::Wait;
 use std::thread::Threads;
 
-/// How many packets pay for more than one worker.
-const MANY_PACKETS: usize = 524_288;
-
 /// Nothing waits before or after a packet is judged.
 pub struct OpenGate;
 
@@ -27,19 +24,7 @@ impl Gate for OpenGate {
     fn after(&self, _worker: usize, _packet: usize) {}
 }
 
-// As many workers as are asked for, or one where packets are few: the report is the same.
-fn workers_for(options: &Options, packets: usize) -> usize
-    ensures some { 1 ≤ result }
-    ensures few { result ≤ options.now.workers }
-{
-    if packets < MANY_PACKETS {
-        1
-    } else {
-        options.workers
-    }
-}
-
-/// The verdicts on packets in their order.
+/// The verdicts on packets in their order, by one worker.
 pub fn verdicts_on<'a, T: Threads + Wait + Sync>(
     host: &Host<'_, T>,
     options: &Options,
@@ -53,13 +38,12 @@ pub fn verdicts_on<'a, T: Threads + Wait + Sync>(
     ensures memory { IfErr result (λ e. e ≡ Memory) }
 {
     flow_shapes_are_sound();
-    let workers = workers_for(options, packets.count());
     match run_workers::<ShapeV4, ShapeV6, T, OpenGate>(
         host.rt,
         host.alloc,
         filter,
         Packets::Standing(packets),
-        workers,
+        1,
         &OpenGate,
         Dealing::Bucket,
     ) {

@@ -1,7 +1,9 @@
+use Rattle.std.proofs.Common.{arith}
 use Rattle.racl_cli.proofs.OutcomeLemmas.{given_by_workers}
 use Rattle.racl_cli.proofs.judging.verdicts_on.Goals as goal
 
 pub returns-in-Ok-clause-by_workers : goal.returns-in-Ok-clause-by_workers
 returns-in-Ok-clause-by_workers g c =
-    given_by_workers c.args.options.now c.args.filter.now.times _ _ _ c.workers_for-workers.result c.requires.times c.workers_for-workers.ensures.some c.workers_for-workers.ensures.few
-    c.in-Ok.ensures.judged c.in-Ok.ensures.pages
+    let options = c.args.options.now in
+    given_by_workers options c.args.filter.now.times _ _ _ 1 c.requires.times (omega arith) (options.few.0) c.in-Ok.ensures.judged
+    c.in-Ok.ensures.pages
