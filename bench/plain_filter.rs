@@ -1,6 +1,7 @@
 //! The filter written by hand in plain Rust, as one would without proofs: one thread, a hash map of sessions for each
 //! family, and rules that are asked only where no session is live. It reads and writes what `racl` does, for inputs
-//! without faults (faults end it with a message), so that both can be timed on the same bytes.
+//! without faults (faults end it with a message), so that both can be timed on the same bytes. It reads a window of 256
+//! KiB at a time and keeps a verdict of four bytes for each packet; the report is made when all was judged.
 //!
 //! The policy's grammar, the frames and the report are those of docs/FORMATS.md. Sessions are stored in std's hash map
 //! with the table's own hash, so no bucket ever is full or worn.
@@ -132,16 +133,27 @@ fn rule(words: &[&str]) -> Rule {
     rule
 }
 
-/// The policy, and where the capture begins, which follows `pcap`.
-fn read_policy(input: &[u8]) -> (Policy, usize) {
+/// What a window holds, but for a record that is larger.
+const WINDOW: usize = 262_144;
+
+/// Adds to the bytes until there are so many or the input ends, and says whether it ended.
+fn read_until(bytes: &mut Vec<u8>, least: usize) -> bool {
+    let begin = bytes.len();
+    let missing = (least - begin) as u64;
+    let read = std::io::stdin().lock().take(missing).read_to_end(bytes).unwrap();
+    (read as u64) < missing
+}
+
+/// The policy, and where the capture begins, which follows `pcap`; none where the line isn't there yet.
+fn read_policy(input: &[u8]) -> Option<(Policy, usize)> {
     let mut policy = Policy::default();
     let mut at = 0;
     loop {
-        let end = at + input[at..].iter().position(|b| *b == b'\n').expect("no pcap line");
+        let end = at + input[at..].iter().position(|b| *b == b'\n')?;
         let line = std::str::from_utf8(&input[at..end]).unwrap().trim_end_matches('\r');
         at = end + 1;
         if line == "pcap" {
-            return (policy, at);
+            return Some((policy, at));
         }
         let words: Vec<&str> = line.split('#').next().unwrap().split_whitespace().collect();
         match words.first() {
@@ -358,22 +370,28 @@ fn is_live(word: u64, moment: u64) -> bool {
     moment <= (word & 0xffff_ffff) + timeout
 }
 
+#[derive(Clone, Copy)]
 enum Verdict {
     Session,
-    Reflect(usize),
-    Permit(usize),
-    Deny(usize),
+    Reflect(u16),
+    Permit(u16),
+    Deny(u16),
     Default,
     NotIp,
     Malformed,
     Short,
 }
 
+/// The number of the rule at this place.
+fn number(at: usize) -> u16 {
+    u16::try_from(at + 1).unwrap()
+}
+
 fn by_rules(ruling: Option<(usize, Action)>) -> Verdict {
     match ruling {
         None => Verdict::Default,
-        Some((at, Action::Deny)) => Verdict::Deny(at + 1),
-        Some((at, _)) => Verdict::Permit(at + 1),
+        Some((at, Action::Deny)) => Verdict::Deny(number(at)),
+        Some((at, _)) => Verdict::Permit(number(at)),
     }
 }
 
@@ -402,7 +420,7 @@ fn update<const N: usize>(
     match ruling {
         Some((at, Action::Reflect)) if starts => {
             sessions.insert(key, moment | flags << (32 + 8 * side) | tcp << 48);
-            Verdict::Reflect(at + 1)
+            Verdict::Reflect(number(at))
         }
         _ => {
             if stored {
@@ -463,18 +481,48 @@ fn push_verdict(out: &mut Vec<u8>, verdict: Verdict) -> bool {
     };
     out.extend_from_slice(text);
     if let Some(number) = rule {
-        push_number(out, number as u64);
+        push_number(out, u64::from(number));
     }
     out.extend_from_slice(rest);
     passes
 }
 
+/// The report on the verdicts.
+fn report(verdicts: &[Verdict], truncated: bool) -> Vec<u8> {
+    let mut out = Vec::new();
+    let mut passed = 0;
+    for (at, verdict) in verdicts.iter().enumerate() {
+        push_number(&mut out, at as u64 + 1);
+        passed += usize::from(push_verdict(&mut out, *verdict));
+    }
+    if truncated {
+        out.extend_from_slice(b"truncated after ");
+        push_number(&mut out, verdicts.len() as u64);
+        out.push(b'\n');
+    }
+    let dropped = verdicts.len() - passed;
+    for (text, number) in [(&b"packets "[..], verdicts.len()), (b" pass ", passed), (b" drop ", dropped)] {
+        out.extend_from_slice(text);
+        push_number(&mut out, number as u64);
+    }
+    out.push(b'\n');
+    out
+}
+
 fn main() {
-    let mut input = Vec::new();
-    std::io::stdin().read_to_end(&mut input).unwrap();
-    let (policy, begin) = read_policy(&input);
-    let capture = &input[begin..];
-    let little = match capture[..4] {
+    let mut window = Vec::new();
+    let mut ended = false;
+    let (policy, begin) = loop {
+        assert!(!ended, "no pcap line");
+        let least = window.len() + WINDOW;
+        ended = read_until(&mut window, least);
+        match read_policy(&window) {
+            Some((_, begin)) if window.len() < begin + 24 && !ended => {}
+            Some(found) => break found,
+            None => {}
+        }
+    };
+    let little = match window[begin..begin + 4] {
         [0xd4, 0xc3, 0xb2, 0xa1] | [0x4d, 0x3c, 0xb2, 0xa1] => true,
         [0xa1, 0xb2, 0xc3, 0xd4] | [0xa1, 0xb2, 0x3c, 0x4d] => false,
         _ => panic!("not a pcap capture"),
@@ -484,37 +532,28 @@ fn main() {
         if little { u32::from_le_bytes(bytes) } else { u32::from_be_bytes(bytes) }
     };
     let (mut v4, mut v6) = (Sessions::<2>::default(), Sessions::<5>::default());
-    let mut out = Vec::new();
-    let (mut packets, mut passed) = (0u64, 0u64);
-    let mut rest = &capture[24..];
-    let mut truncated = false;
-    while !rest.is_empty() {
-        if rest.len() < 16 {
-            truncated = true;
-            break;
+    let mut verdicts = Vec::new();
+    let mut from = begin + 24;
+    let truncated = loop {
+        let mut rest = &window[from..];
+        while rest.len() >= 16 {
+            let (moment, kept) = (four(rest), four(&rest[8..]) as usize);
+            assert!(kept <= 262_144, "record {} is too long", verdicts.len() + 1);
+            if rest.len() < 16 + kept {
+                break;
+            }
+            verdicts.push(judge(&policy, &mut v4, &mut v6, u64::from(moment), &rest[16..16 + kept]));
+            rest = &rest[16 + kept..];
         }
-        let (moment, kept) = (four(rest), four(&rest[8..]) as usize);
-        assert!(kept <= 262_144, "record {} is too long", packets + 1);
-        if rest.len() < 16 + kept {
-            truncated = true;
-            break;
+        let left = rest.len();
+        if ended {
+            break left > 0;
         }
-        packets += 1;
-        push_number(&mut out, packets);
-        let verdict = judge(&policy, &mut v4, &mut v6, u64::from(moment), &rest[16..16 + kept]);
-        passed += u64::from(push_verdict(&mut out, verdict));
-        rest = &rest[16 + kept..];
-    }
-    if truncated {
-        out.extend_from_slice(b"truncated after ");
-        push_number(&mut out, packets);
-        out.push(b'\n');
-    }
-    for (text, number) in [(&b"packets "[..], packets), (b" pass ", passed), (b" drop ", packets - passed)] {
-        out.extend_from_slice(text);
-        push_number(&mut out, number);
-    }
-    out.push(b'\n');
-    std::io::stdout().write_all(&out).unwrap();
+        let judged = window.len() - left;
+        window.drain(..judged);
+        from = 0;
+        ended = read_until(&mut window, left + WINDOW);
+    };
+    std::io::stdout().write_all(&report(&verdicts, truncated)).unwrap();
     std::process::exit(if truncated { 3 } else { 0 });
 }
