@@ -342,6 +342,7 @@ judge_each_packet d times policy packets traces v verdicts some_worker are gathe
         each = λ w r at. let t = trace_of times family traces (view_in v family).records w r g.did.records at in
             ap (map event_of) (t.2 ∙ ap (calls_in times family) (sym (trace_there traces w t.0 t.1)))
             ∙ m.dealt family w (let inside = within traces w t.0 t.1 in let count = are.count in omega arith);
+        wanted = g.did.wanted;
       };
     }
   where

@@ -3,3 +3,4 @@ pub mod Places
 pub mod Runs
 pub mod Traces
 pub mod Views
+pub mod Wanted

@@ -21,6 +21,7 @@ use Rattle.flow_filter.specs.Judged.{AreAsked, Judged, readings_of, verdict_on, 
 use Rattle.flow_filter.specs.OneThread.{HasPages, Layout, family_of, same_family, sizes_in}
 use Rattle.flow_dealing.specs.Views.{Views, view_in}
 use Rattle.flow_dealing.specs.Dealings.{Deal, flow_in, worker_of}
+use Rattle.flow_dealing.specs.Wanted.{HaveWanted}
 
 -- An event of this family stands before the others.
 -- An update without an event can't occur where packets are asked (AreAsked).
@@ -38,7 +39,8 @@ events_by d times family worker n (j ∷ js) =
     else events_by d times family worker (n + 1) js
 
 -- The records of one family's callers, all of them: that of each worker has the events of its packets, in their order,
--- and no other. The caller that has them is lawful and whole, of a table that began empty.
+-- and no other. The caller that has them is lawful and whole, of a table that began empty. Each call that was refused
+-- for want of a block had wanted it at the map where it stands.
 pub record AreRecorded (d : Deal) (times : Timeouts) (family : Family) (js : List Judged) (v : View) : Type 0 where
   pub lawful : IsLawfulCaller (sizes_in d.layout family) v
   pub told : IsToldWhole (sizes_in d.layout family) v
@@ -46,6 +48,7 @@ pub record AreRecorded (d : Deal) (times : Timeouts) (family : Family) (js : Lis
   pub count : length v.records ≡ d.workers
   pub each : (worker : ℕ) (r : Record) → get_elem? v.records worker ≡ some r
       → map event_of r.calls ≡ events_by d times family worker 0 js
+  pub wanted : HaveWanted (sizes_in d.layout family) v
 
 -- The packets were judged by workers: each asked once, what was said of them are the verdicts on what they found and
 -- were answered, and their events stand in whole records.

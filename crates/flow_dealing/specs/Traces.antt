@@ -9,6 +9,7 @@ use Rattle.packet_view.specs.Frames.{IsFrame}
 use Rattle.packet_view.specs.declared.tuple.Mac.{Mac}
 use Rattle.packet_view.specs.declared.tuple.Family.{Family}
 use Rattle.acl_policy.specs.Policies.{PolicyFacts}
+use Rattle.bihash_words.specs.Sizes.{Sizes}
 use Rattle.bihash_steps.specs.Views.{no_openings}
 use Rattle.bihash_steps.specs.Callers.{IsLawfulCaller}
 use Rattle.bihash_steps.specs.Histories.{event_of}
@@ -23,6 +24,7 @@ use Rattle.flow_filter.specs.Updates.{Update, update_of}
 use Rattle.flow_filter.specs.Judged.{IsAsked, Judged, verdict_on}
 use Rattle.flow_filter.specs.OneThread.{Layout, family_of, home_of, same_family, sizes_in}
 use Rattle.flow_dealing.specs.Dealings.{Deal, flow_in, flow_shown, worker_of}
+use Rattle.flow_dealing.specs.Wanted.{HaveWanted}
 
 -- a packet by its number, from 0, its reading, and the call that it made
 pub record Item : Type 0 where
@@ -91,10 +93,13 @@ pub record IsTrace (d : Deal) (times : Timeouts) (worker : ℕ) (policy : Policy
 abbrev pub HasCalls : Timeouts → Family → List Item → Record → Type 0
 HasCalls times family trace r = r.calls ≡ calls_in times family trace
 
--- the records are those of the workers in their order, of a table whose buckets began empty
-pub record HaveTraces (times : Timeouts) (family : Family) (traces : List (List Item)) (v : View) : Type 0 where
+-- The records are those of the workers in their order, of a table whose buckets began empty; calls that were refused
+-- for want of a block had wanted it.
+pub record HaveTraces (z : Sizes) (times : Timeouts) (family : Family) (traces : List (List Item)) (v : View)
+    : Type 0 where
   pub records : AllZip (HasCalls times family) traces v.records
   pub openings : v.known.openings ≡ no_openings
+  pub wanted : HaveWanted z v
 
 -- the traces are those of all workers, in their order
 pub record AreTraces (d : Deal) (times : Timeouts) (policy : PolicyFacts) (packets : List PacketFacts)
@@ -107,7 +112,7 @@ pub record AreGathered (d : Deal) (times : Timeouts) (family : Family) (traces :
     (v : View) : Type 0 where
   pub lawful : IsLawfulCaller (sizes_in d.layout family) v
   pub told : IsToldWhole (sizes_in d.layout family) v
-  pub did : HaveTraces times family traces v
+  pub did : HaveTraces (sizes_in d.layout family) times family traces v
 
 -- each packet's verdict is at its place
 pub record ArePlaced (times : Timeouts) (packets : List PacketFacts) (traces : List (List Item))

@@ -10,4 +10,5 @@ pub mod ShortPackets
 pub mod TogetherLemmas
 pub mod TurnLemmas
 pub mod ViewedPacketLemmas
+pub mod WantedLemmas
 pub mod WorkSteps

@@ -1,13 +1,18 @@
 -- Callers of workers, split and joined.
-use Rattle.std.proofs.Common.{◌≡◌, List, [], ◌∷◌, ◌++◌, ap, refl}
+use Rattle.std.proofs.Common.{◌≡◌, ◌∙◌, List, [], ◌∷◌, ◌++◌, ap, refl, subst, sym}
 use Rattle.std.specs.List.{All, AllZip}
 use Rattle.std.proofs.lemmas.List.Elements.{All-cons, All-head, All-nil, All-tail}
 use Rattle.packet_view.specs.declared.tuple.Family.{Family}
+use Rattle.bihash_words.specs.Sizes.{Sizes}
+use Rattle.bihash_steps.specs.Callers.{IsConsistent}
 use Rattle.bihash_steps.specs.Steps.{view_after_join}
+use Rattle.bihash_steps.specs.declared.view.Known.{Known}
 use Rattle.bihash_steps.specs.declared.view.Record.{Record}
 use Rattle.bihash_steps.specs.declared.view.View.{View}
 use Rattle.session_state.specs.declared.timeouts.Timeouts.{Timeouts}
 use Rattle.flow_dealing.specs.Traces.{HasCalls, HaveTraces, Item}
+use Rattle.flow_dealing.specs.Wanted.{HasWanted}
+use Rattle.flow_workers.proofs.WantedLemmas.{joined_wanted}
 
 -- one record before others
 with_trace : (times : Timeouts) (family : Family) (t : List Item) (ts : List (List Item)) (rs qs : List Record)
@@ -17,12 +22,23 @@ with_trace times family t ts [] qs one more = absurd one
 with_trace times family t ts (r ∷ []) qs one more = (one.0, more)
 with_trace times family t ts (r ∷ q ∷ rs) qs one more = absurd one.1
 
-pub joined_traces : (v w : View) (times : Timeouts) (family : Family) (t : List Item) (ts : List (List Item))
-    → HaveTraces times family (t ∷ []) v → HaveTraces times family ts w
-    → HaveTraces times family (t ∷ ts) (view_after_join v w)
-joined_traces v w times family t ts one more = record {
+pub joined_traces : (v w : View) → IsConsistent v.known w.known → (z : Sizes) (times : Timeouts) (family : Family)
+    (t : List Item) (ts : List (List Item)) → HaveTraces z times family (t ∷ []) v → HaveTraces z times family ts w
+    → HaveTraces z times family (t ∷ ts) (view_after_join v w)
+joined_traces v w agree z times family t ts one more = record {
   records = with_trace times family t ts v.records w.records one.records more.records;
   openings = one.openings;
+  wanted = joined_wanted z v w agree one.wanted more.wanted;
+}
+
+-- the same records over the same writes
+pub same_traces : (z : Sizes) (times : Timeouts) (family : Family) (ts : List (List Item)) (v w : View)
+    → w.records ≡ v.records → w.known ≡ v.known → HaveTraces z times family ts v → HaveTraces z times family ts w
+same_traces z times family ts v w did known had = record {
+  records = subst (AllZip (HasCalls times family) ts) (sym did) had.records;
+  openings = ap (λ (k : Known). k.openings) known ∙ had.openings;
+  wanted = subst (λ k. All (λ r. All (HasWanted z k) r.calls) w.records) (sym known)
+      (subst (All (λ r. All (HasWanted z v.known) r.calls)) (sym did) had.wanted);
 }
 
 -- ---- The last of a list

@@ -73,8 +73,8 @@ pub record IsDone {A B K L : Type 0} (ga : Ghosts A K) (gb : Ghosts B L) (tables
   pub idle : AreIdle ga gb tables share.callers
   pub trace : List Item
   pub is : IsTrace run.deal run.times w run.policy run.packets trace
-  pub four : HaveTraces run.times V4 (trace ∷ []) share.callers.four.seat.view
-  pub six : HaveTraces run.times V6 (trace ∷ []) share.callers.six.seat.view
+  pub four : HaveTraces run.deal.layout.four run.times V4 (trace ∷ []) share.callers.four.seat.view
+  pub six : HaveTraces run.deal.layout.six run.times V6 (trace ∷ []) share.callers.six.seat.view
   pub said : AreSaid run trace share.said.items
 
 module _ {A B K L : Type 0} (ga : Ghosts A K) (gb : Ghosts B L) (tables : Tables A B K L) (run : RunFacts) where
@@ -85,8 +85,8 @@ module _ {A B K L : Type 0} (ga : Ghosts A K) (gb : Ghosts B L) (tables : Tables
     each : (k : ℕ) (t : List Item) → get_elem? traces k ≡ some t
         → IsTrace run.deal run.times (w + k) run.policy run.packets t
     idle : All (λ s. AreIdle ga gb tables s.callers) shares
-    four : AllZip (λ t s. HaveTraces run.times V4 (t ∷ []) s.callers.four.seat.view) traces shares
-    six : AllZip (λ t s. HaveTraces run.times V6 (t ∷ []) s.callers.six.seat.view) traces shares
+    four : AllZip (λ t s. HaveTraces run.deal.layout.four run.times V4 (t ∷ []) s.callers.four.seat.view) traces shares
+    six : AllZip (λ t s. HaveTraces run.deal.layout.six run.times V6 (t ∷ []) s.callers.six.seat.view) traces shares
     said : AllZip (λ t s. AreSaid run t s.said.items) traces shares
 
   all_done : (w : ℕ) (shares : List (Share A B K L ga gb))
@@ -149,7 +149,7 @@ module _ {A B K L : Type 0} (ga : Ghosts A K) (gb : Ghosts B L) (tables : Tables
   gathered : (traces : List (List Item)) (v : Views)
       → IsLawfulCaller run.deal.layout.four v.four × IsLawfulCaller run.deal.layout.six v.six
       → IsToldWhole run.deal.layout.four v.four × IsToldWhole run.deal.layout.six v.six
-      → HaveTraces run.times V4 traces v.four → HaveTraces run.times V6 traces v.six
+      → HaveTraces run.deal.layout.four run.times V4 traces v.four → HaveTraces run.deal.layout.six run.times V6 traces v.six
       → (family : Family) → AreGathered run.deal run.times family traces (view_in v family)
   gathered traces v lawful told four six V4 = record { lawful = lawful.0; told = told.0; did = four }
   gathered traces v lawful told four six V6 = record { lawful = lawful.1; told = told.1; did = six }
@@ -157,7 +157,7 @@ module _ {A B K L : Type 0} (ga : Ghosts A K) (gb : Ghosts B L) (tables : Tables
   pub run_judged : (parts : Parts A B K L ga gb) (p : AreParts ga gb tables run parts) → 0 < run.deal.workers
       → (v : Views) → IsLawfulCaller run.deal.layout.four v.four × IsLawfulCaller run.deal.layout.six v.six
       → IsToldWhole run.deal.layout.four v.four × IsToldWhole run.deal.layout.six v.six
-      → HaveTraces run.times V4 p.traces v.four → HaveTraces run.times V6 p.traces v.six
+      → HaveTraces run.deal.layout.four run.times V4 p.traces v.four → HaveTraces run.deal.layout.six run.times V6 p.traces v.six
       → (verdicts : List Verdict) → ArePlaced run.times run.packets p.traces verdicts
       → AreJudged run.deal run.times run.policy run.packets verdicts
   run_judged parts p some_worker v lawful told four six verdicts placed =
@@ -172,8 +172,8 @@ rest_done ga gb setup packets w share rest = record {
   idle = rest.idle;
   trace = work.trace;
   is = work.is;
-  four = fresh_trace run.times V4 rest.began.four u.four work.trace rest.fresh.0 work.four;
-  six = fresh_trace run.times V6 rest.began.six u.six work.trace rest.fresh.1 work.six;
+  four = fresh_trace _ run.times V4 rest.began.four u.four work.trace rest.fresh.0 work.four work.wanted.0;
+  six = fresh_trace _ run.times V6 rest.began.six u.six work.trace rest.fresh.1 work.six work.wanted.1;
   said = work.said;
 }
   where
@@ -222,10 +222,10 @@ module _ {A B R G K L : Type 0} (ga : Ghosts A K) (gb : Ghosts B L) (setup : Set
           all.idle)),
     );
     four =
-        subst (AllZip (λ t c. HaveTraces run.times V4 (t ∷ []) c.seat.view) all.traces) (sym of.four)
+        subst (AllZip (λ t c. HaveTraces run.deal.layout.four run.times V4 (t ∷ []) c.seat.view) all.traces) (sym of.four)
         (zip_map _ _ all.traces shares all.four);
     six =
-        subst (AllZip (λ t c. HaveTraces run.times V6 (t ∷ []) c.seat.view) all.traces) (sym of.six)
+        subst (AllZip (λ t c. HaveTraces run.deal.layout.six run.times V6 (t ∷ []) c.seat.view) all.traces) (sym of.six)
         (zip_map _ _ all.traces shares all.six);
     said =
         subst (AllZip (λ t s. AreSaid run t s.items) all.traces) (sym of.said)

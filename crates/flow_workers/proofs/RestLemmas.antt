@@ -9,8 +9,6 @@ use Rattle.packet_view.specs.CheckedCaptures.{held}
 use Rattle.bihash_words.specs.declared.shape.Shape.{Ghosts}
 use Rattle.acl_policy.specs.Policies.{PolicyFacts}
 use Rattle.session_state.specs.declared.timeouts.Timeouts.{Timeouts}
-use Rattle.flow_filter.specs.Filters.{policy_in}
-use Rattle.flow_filter.specs.OneThread.{layout_of}
 use Rattle.flow_filter.specs.declared.verdict.Verdict.{Verdict}
 use Rattle.flow_dealing.specs.Dealings.{Deal}
 use Rattle.flow_dealing.specs.Runs.{AreJudged}

@@ -105,7 +105,7 @@ last_of : (calls : List Call) (c : Call) (o : Option Call) → last_or o (calls 
 last_of [] c o = refl
 last_of (x ∷ xs) c o = last_of xs c (Some x)
 
-pushed_last : (c : Call) (rs : List Record) → 1 ≤ length (push_call c rs) → last_call (push_call c rs) ≡ Some c
+pub pushed_last : (c : Call) (rs : List Record) → 1 ≤ length (push_call c rs) → last_call (push_call c rs) ≡ Some c
 pushed_last c [] some = absurd (omega arith)
 pushed_last c (r ∷ rs) some = last_of r.calls c None
 

@@ -5,12 +5,14 @@ use Rattle.std.proofs.lemmas.List.{get_or-map, get_or_append_left, length-map}
 use Rattle.std.proofs.lemmas.List.Elements.{All-from_get_or}
 use Rattle.std.proofs.Math.Seq.{get_or-append_seam}
 use Rattle.packet_view.specs.declared.tuple.Family.{Family}
+use Rattle.bihash_words.specs.Sizes.{Sizes}
 use Rattle.bihash_words.specs.declared.shape.Shape.{Ghosts}
 use Rattle.bihash_steps.specs.Views.{empty_record}
 use Rattle.bihash_steps.specs.declared.view.View.{View}
 use Rattle.bihash_steps.proofs.Lists.{there}
 use Rattle.session_state.specs.declared.timeouts.Timeouts.{Timeouts}
 use Rattle.flow_dealing.specs.Traces.{HasCalls, HaveTraces, Item, calls_in}
+use Rattle.flow_dealing.specs.Wanted.{HaveWanted}
 use Rattle.flow_workers.specs.declared.share.Dealt.{Dealt}
 use Rattle.flow_workers.specs.declared.share.Job.{Job}
 use Rattle.flow_workers.specs.declared.share.Run.{Run}
@@ -21,6 +23,7 @@ use Rattle.flow_workers.specs.inner.Fresh.{IsFresh}
 use Rattle.flow_workers.specs.inner.Work.{Continues}
 use Rattle.flow_workers.specs.inner.Jobs.{AreDealtFrom, CanWork}
 use Rattle.flow_workers.specs.inner.Turns.{AreAhead, AreTurns, Becomes, CanTake, HaveWorked, IsPast, MayRun}
+use Rattle.flow_workers.proofs.WantedLemmas.{fresh_wanted}
 
 -- a fact of each element, when one more comes
 pub below_push : {X : Type 0} (P : ℕ → X → Type 0) (xs : List X) (x : X)
@@ -46,12 +49,15 @@ pub if_ok : {X E : Type 0} (P Q : X → Type 0) (r : Result X E) → ((x : X) �
 if_ok P Q (Ok x) f h = f x h
 if_ok P Q (Err e) f h = tt
 
-pub fresh_trace : (times : Timeouts) (family : Family) (v w : View) (t : List Item) → IsFresh v
-    → Continues v w (calls_in times family t) → HaveTraces times family (t ∷ []) w
-fresh_trace times family v w t fresh goes = let r = goes.calls (empty_record fresh.number) fresh.records in record {
-  records = subst (AllZip (HasCalls times family) (t ∷ [])) (sym r.1) (refl, tt);
-  openings = goes.openings ∙ fresh.openings;
-}
+pub fresh_trace : (z : Sizes) (times : Timeouts) (family : Family) (v w : View) (t : List Item) → IsFresh v
+    → Continues v w (calls_in times family t) → (HaveWanted z v → HaveWanted z w) → HaveTraces z times family (t ∷ []) w
+fresh_trace z times family v w t fresh goes wanted =
+    let r = goes.calls (empty_record fresh.number) fresh.records in
+    record {
+      records = subst (AllZip (HasCalls times family) (t ∷ [])) (sym r.1) (refl, tt);
+      openings = goes.openings ∙ fresh.openings;
+      wanted = wanted (fresh_wanted z v fresh);
+    }
 
 -- ---- Turns, ahead and over
 

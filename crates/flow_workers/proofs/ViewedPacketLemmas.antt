@@ -43,6 +43,7 @@ told_settled ga gb took filter packet ruling tables callers verdict idle ruled k
       (record { seen = seen; ruled = ruled }) known;
   no_pages = λ s seen said. absurd
       (settled_has_pages filter.times packet.moment (frame_facts packet.frame.now) ruling verdict known said);
+  wanted = (λ had. had, λ had. had);
 }
 
 -- of a packet whose update told this
@@ -64,6 +65,7 @@ told_answered ga gb took filter packet ruling tables old new u reply verdict rul
       short_packet ga gb _ filter.times s packet ruling u _ reply (found_by reply) seen asks
       (flow_reply _ took u.key _ _ _ told.entered.1 told.idle.lawful.0.acts told.idle.lawful.1.acts)
       told.no_pages (sym said ∙ none);
+  wanted = told.wanted;
 }
 
 -- a try that was answered tells what an update does
@@ -72,7 +74,13 @@ pub try_answered : {A B K L : Type 0} {ga : Ghosts A K} {gb : Ghosts B L} (table
     (reply : Reply) → TellsFlowTry tables old new key decision is_expired (Ok reply)
     → TellsFlow TookByOneTry tables old new key decision is_expired reply
 try_answered tables old new key decision is_expired reply told =
-    record { same = told.same; idle = told.idle; entered = told.entered; no_pages = told.no_pages }
+    record {
+      same = told.same;
+      idle = told.idle;
+      entered = told.entered;
+      no_pages = told.no_pages;
+      wanted = told.wanted;
+    }
 
 -- what is told of a verdict is told by a try that gave it
 pub try_judged : {A B K L : Type 0} {ga : Ghosts A K} {gb : Ghosts B L} (filter : ReadyFilter)

@@ -36,6 +36,7 @@ use Rattle.flow_dealing.proofs.Merging.{worker_few}
 use Rattle.flow_dealing.specs.Traces.{AreViews, IsCallAt, IsItem, IsItemOf, Item, call_in, calls_in, numbers_from, numbers_of, verdict_in}
 use Rattle.flow_workers.specs.Judging.{IsEntered, IsEnteredBy, IsJudged}
 use Rattle.flow_workers.specs.inner.Work.{AreSaid, Continues, IsWork, IsWorkUntil, RunFacts}
+use Rattle.flow_workers.specs.inner.Wanted.{KeepWanted}
 
 -- ---- Records that go on
 
@@ -202,6 +203,7 @@ work_none run w v = record {
   dealt = λ views all. refl;
   four = continues_none v.four;
   six = continues_none v.six;
+  wanted = (λ had. had, λ had. had);
   said = refl;
 }
 
@@ -232,6 +234,7 @@ work_passed run w at v x verdicts packet view is other old = record {
       ∙ old.dealt views all;
   four = old.four;
   six = old.six;
+  wanted = old.wanted;
   said = old.said;
 }
 
@@ -244,9 +247,9 @@ said_push run trace i verdicts verdict old is =
 
 pub work_push : (run : RunFacts) (w at : ℕ) (v x y : Views) (verdicts : List Verdict) (packet : PacketFacts) (view : frames.FrameFacts)
     (verdict : Verdict) → IsAt run at packet view → worker_of run.deal at (flow_shown view) ≡ w
-    → IsJudged run.deal.layout TookByTries run.times run.policy packet x y verdict
+    → IsJudged run.deal.layout TookByTries run.times run.policy packet x y verdict → KeepWanted run.deal.layout x y
     → IsWorkUntil run w at v x verdicts → IsWorkUntil run w (at + 1) v y (verdicts ++ verdict ∷ [])
-work_push run w at v x y verdicts packet view verdict is mine j old = record {
+work_push run w at v x y verdicts packet view verdict is mine j keep old = record {
   trace = old.trace ++ item ∷ [];
   items = All-push (IsItem run.deal.layout run.times) old.trace item old.items (record {
     asked = asked;
@@ -267,6 +270,7 @@ work_push run w at v x y verdicts packet view verdict is mine j old = record {
       ∙ old.dealt views all));
   four = subst (λ cs. Continues v.four y.four cs) (sym (calls_push run.times V4 old.trace item)) left.four;
   six = subst (λ cs. Continues v.six y.six cs) (sym (calls_push run.times V6 old.trace item)) left.six;
+  wanted = (λ had. keep.0 (old.wanted.0 had), λ had. keep.1 (old.wanted.1 had));
   said = said_push run old.trace item verdicts verdict old.said said;
 }
   where
@@ -341,5 +345,6 @@ whole_work run w at v u verdicts none work = record {
   is = record { items = work.items; of = work.of; dealt = all_looked_at run w at v u verdicts none work };
   four = work.four;
   six = work.six;
+  wanted = work.wanted;
   said = work.said;
 }

@@ -10,4 +10,5 @@ pub mod Together
 pub mod Turns
 pub mod Updates
 pub mod ViewedPackets
+pub mod Wanted
 pub mod Work

@@ -46,15 +46,15 @@ pub record IsJoinedOne {A K : Type 0} (z : Sizes) (table : Sessions A K) (s othe
   pub own : t.row ≡ table.row
   pub free : t.view.holds ≡ nothing_held
   pub lawful : IsLawfulCaller z t.view
-  pub traces : (times : Timeouts) (family : Family) (trace : List Item) (traces : List (List Item))
-      → HaveTraces times family (trace ∷ []) s.view → HaveTraces times family traces others.view
-      → HaveTraces times family (trace ∷ traces) t.view
+  pub traces : (of : Sizes) (times : Timeouts) (family : Family) (trace : List Item) (traces : List (List Item))
+      → HaveTraces of times family (trace ∷ []) s.view → HaveTraces of times family traces others.view
+      → HaveTraces of times family (trace ∷ traces) t.view
 
 -- the traces of all these callers are in this view, in their order
 abbrev pub HasTracesOf : {A K : Type 0} {g : Ghosts A K} → List (Caller A K g) → View → Type 0
-HasTracesOf callers v = (times : Timeouts) (family : Family) (traces : List (List Item))
-    → AllZip (λ trace c. HaveTraces times family (trace ∷ []) c.seat.view) traces callers
-    → HaveTraces times family traces v
+HasTracesOf callers v = (of : Sizes) (times : Timeouts) (family : Family) (traces : List (List Item))
+    → AllZip (λ trace c. HaveTraces of times family (trace ∷ []) c.seat.view) traces callers
+    → HaveTraces of times family traces v
 
 -- the caller t has them
 pub record AreJoined {A K : Type 0} {g : Ghosts A K} (table : Sessions A K) (callers : List (Caller A K g))

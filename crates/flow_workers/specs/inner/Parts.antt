@@ -22,8 +22,8 @@ pub record AreParts {A B K L : Type 0} (ga : Ghosts A K) (gb : Ghosts B L) (tabl
       × All (λ c. c.seat.row ≡ tables.six.row) parts.six.items
   pub free : All (λ c. c.seat.view.holds ≡ nothing_held) parts.four.items
       × All (λ c. c.seat.view.holds ≡ nothing_held) parts.six.items
-  pub four : AllZip (λ trace c. HaveTraces run.times V4 (trace ∷ []) c.seat.view) traces parts.four.items
-  pub six : AllZip (λ trace c. HaveTraces run.times V6 (trace ∷ []) c.seat.view) traces parts.six.items
+  pub four : AllZip (λ trace c. HaveTraces run.deal.layout.four run.times V4 (trace ∷ []) c.seat.view) traces parts.four.items
+  pub six : AllZip (λ trace c. HaveTraces run.deal.layout.six run.times V6 (trace ∷ []) c.seat.view) traces parts.six.items
   pub said : AllZip (λ trace s. AreSaid run trace s.items) traces parts.said.items
 
 -- these are the parts of the shares

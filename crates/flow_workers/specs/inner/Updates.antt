@@ -18,11 +18,13 @@ use Rattle.session_state.specs.declared.flow.FlowKey.{FlowKey}
 use Rattle.flow_filter.specs.OneThread.{Layout, layout_of}
 use Rattle.flow_filter.specs.Updates.{words_of}
 use Rattle.flow_dealing.specs.Views.{Views}
+use Rattle.flow_dealing.specs.Wanted.{HaveWanted}
 use Rattle.flow_workers.specs.declared.tables.Callers.{Callers}
 use Rattle.flow_workers.specs.declared.tables.Tables.{Tables}
 use Rattle.flow_workers.specs.Callers.{AreIdle, AreSame, views_of}
 use Rattle.flow_workers.specs.Judging.{IsAway, IsEntered, TookByOneTry}
 use Rattle.flow_workers.specs.OutOfPages.{IsFlowOutOfPages}
+use Rattle.flow_workers.specs.inner.Wanted.{KeepWanted}
 
 -- An update of a key by this decision, on the value that its reply tells, with this expiry. It removed a key for its
 -- own, or none.
@@ -43,6 +45,7 @@ pub record TellsWords {A K : Type 0} (g : Ghosts A K) (s t : CallerState) (words
   pub locks : TookByTries s.view t.view reply
   pub no_pages : (log2 left : ℕ) → reply ≡ NoPages log2 left
       → IsOutOfPages g t.view (bucket_of (sizes_of g) words) (g.key_of words) log2 left
+  pub wanted : HaveWanted (sizes_of g) s.view → HaveWanted (sizes_of g) t.view
   pub lawful : IsLawfulCaller (sizes_of g) t.view
 
 -- one try of it, which a lone caller finds answered
@@ -52,6 +55,7 @@ pub record TellsWordsTry {A K : Type 0} (g : Ghosts A K) (s t : CallerState) (wo
   pub answered : IfOk r (IsTold (sizes_of g) s.view t.view words decision is_expired)
   pub no_pages : IfOk r (λ reply. (log2 left : ℕ) → reply ≡ NoPages log2 left
       → IsOutOfPages g t.view (bucket_of (sizes_of g) words) (g.key_of words) log2 left)
+  pub wanted : IfOk r (λ _. HaveWanted (sizes_of g) s.view → HaveWanted (sizes_of g) t.view)
   pub locks : IfOk r (TookByOneTry s.view t.view) × IfErr r (λ _. TookAtMost s.view t.view 1)
   pub contended : IfErr r (λ _. IsContended (sizes_of g) s.view t.view (bucket_of (sizes_of g) words))
   pub lone : s.view.lone ≡ true → is_ok r ≡ true
@@ -71,6 +75,7 @@ pub record TellsFlow {A B K L : Type 0} {ga : Ghosts A K} {gb : Ghosts B L} (too
   pub idle : AreIdle ga gb tables new
   pub entered : IsToldFlow (layout_of ga gb) took key decision is_expired (views_of ga gb old) (views_of ga gb new) reply
   pub no_pages : (log2 left : ℕ) → reply ≡ NoPages log2 left → IsFlowOutOfPages ga gb key (views_of ga gb new) log2 left
+  pub wanted : KeepWanted (layout_of ga gb) (views_of ga gb old) (views_of ga gb new)
 
 -- one try of it, which lone callers find answered
 pub record TellsFlowTry {A B K L : Type 0} {ga : Ghosts A K} {gb : Ghosts B L} (tables : Tables A B K L)
@@ -82,5 +87,6 @@ pub record TellsFlowTry {A B K L : Type 0} {ga : Ghosts A K} {gb : Ghosts B L} (
       (views_of ga gb new))
   pub no_pages : IfOk r (λ reply. (log2 left : ℕ) → reply ≡ NoPages log2 left
       → IsFlowOutOfPages ga gb key (views_of ga gb new) log2 left)
+  pub wanted : IfOk r (λ _. KeepWanted (layout_of ga gb) (views_of ga gb old) (views_of ga gb new))
   pub contended : IfErr r (λ _. IsAway (layout_of ga gb) key (views_of ga gb old) (views_of ga gb new))
   pub lone : old.four.seat.view.lone ≡ true → old.six.seat.view.lone ≡ true → is_ok r ≡ true

@@ -10,13 +10,15 @@ use Rattle.bihash_table.specs.declared.contended.Contended.{Contended}
 use Rattle.flow_filter.specs.Filters.{policy_in}
 use Rattle.flow_filter.specs.declared.filter.ReadyFilter.{ReadyFilter}
 use Rattle.flow_filter.specs.declared.verdict.Verdict.{Verdict}
+use Rattle.flow_filter.specs.OneThread.{layout_of}
 use Rattle.flow_dealing.specs.Dealings.{flow_shown}
 use Rattle.flow_workers.specs.declared.tables.Callers.{Callers}
 use Rattle.flow_workers.specs.declared.tables.Tables.{Tables}
 use Rattle.flow_workers.specs.declared.viewed_packet.ViewedPacket.{ViewedPacket}
-use Rattle.flow_workers.specs.Callers.{AreIdle, AreSame}
+use Rattle.flow_workers.specs.Callers.{AreIdle, AreSame, views_of}
 use Rattle.flow_workers.specs.Judging.{TookByOneTry}
 use Rattle.flow_workers.specs.Verdicts.{HasNoVerdict, HasVerdict, ShowsOutOfPages}
+use Rattle.flow_workers.specs.inner.Wanted.{KeepWanted}
 
 -- the packet is this at the interface with this address
 abbrev pub IsViewed : Option Mac → PacketFacts → ViewedPacket → Type 0
@@ -33,6 +35,7 @@ pub record TellsViewed {A B K L : Type 0} {ga : Ghosts A K} {gb : Ghosts B L} (t
       → HasVerdict ga gb took filter.times (policy_in filter) s old new verdict
   pub no_pages : (s : PacketFacts) → IsViewed filter.own s packet
       → ShowsOutOfPages ga gb (policy_in filter) s new verdict
+  pub wanted : KeepWanted (layout_of ga gb) (views_of ga gb old) (views_of ga gb new)
 
 -- one try (`TellsVerdictTry` says it of one packet)
 pub record TellsViewedTry {A B K L : Type 0} {ga : Ghosts A K} {gb : Ghosts B L} (filter : ReadyFilter)

@@ -12,6 +12,7 @@ use Rattle.flow_filter.specs.declared.verdict.Verdict.{Verdict}
 use Rattle.flow_dealing.specs.Views.{Views}
 use Rattle.flow_dealing.specs.Dealings.{Deal}
 use Rattle.flow_dealing.specs.Traces.{AreViews, IsItem, IsItemOf, IsTrace, Item, calls_in, numbers_from, numbers_of, verdict_in}
+use Rattle.flow_workers.specs.inner.Wanted.{KeepWanted}
 
 -- what the verdicts of a run rest on
 pub record RunFacts : Type 0 where
@@ -40,6 +41,7 @@ pub record IsWorkUntil (run : RunFacts) (worker at : ℕ) (v w : Views)
       → numbers_of trace ++ numbers_from run.deal worker at (drop at views) ≡ numbers_from run.deal worker 0 views
   pub four : Continues v.four w.four (calls_in run.times V4 trace)
   pub six : Continues v.six w.six (calls_in run.times V6 trace)
+  pub wanted : KeepWanted run.deal.layout v w
   pub said : AreSaid run trace verdicts
 
 -- A worker judged its packets, all of them: their calls follow what its callers' records had, and these are
@@ -50,4 +52,5 @@ pub record IsWork (run : RunFacts) (worker : ℕ) (v w : Views)
   pub is : IsTrace run.deal run.times worker run.policy run.packets trace
   pub four : Continues v.four w.four (calls_in run.times V4 trace)
   pub six : Continues v.six w.six (calls_in run.times V6 trace)
+  pub wanted : KeepWanted run.deal.layout v w
   pub said : AreSaid run trace verdicts

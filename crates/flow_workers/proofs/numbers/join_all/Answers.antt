@@ -18,9 +18,9 @@ loop-caller-init g c =
       left = (own.0, free.0);
       own = own.1;
       free = free.1;
-      traces = λ times family traces each.
-          let last = last_of (λ trace k. HaveTraces times family (trace ∷ []) k.seat.view) traces _ _
-          (subst (AllZip (λ trace k. HaveTraces times family (trace ∷ []) k.seat.view) traces) popped each) in
+      traces = λ z times family traces each.
+          let last = last_of (λ trace k. HaveTraces z times family (trace ∷ []) k.seat.view) traces _ _
+          (subst (AllZip (λ trace k. HaveTraces z times family (trace ∷ []) k.seat.view) traces) popped each) in
           (last.front, last.last ∷ [], last.split, last.others, last.one);
     }
 
@@ -55,16 +55,16 @@ loop-caller-preserved g c =
       );
       own = c.join_one-joined.ensures.own;
       free = c.join_one-joined.ensures.free;
-      traces = λ times family traces each.
-          let old = inv.traces times family traces each in
-          let last = last_of (λ trace k. HaveTraces times family (trace ∷ []) k.seat.view) old.0 _ _
-          (subst (AllZip (λ trace k. HaveTraces times family (trace ∷ []) k.seat.view) old.0) popped old.3) in (
+      traces = λ z times family traces each.
+          let old = inv.traces z times family traces each in
+          let last = last_of (λ trace k. HaveTraces z times family (trace ∷ []) k.seat.view) old.0 _ _
+          (subst (AllZip (λ trace k. HaveTraces z times family (trace ∷ []) k.seat.view) old.0) popped old.3) in (
             last.front,
             last.last ∷ old.1,
             old.2 ∙ (ap (λ (ts : List (List Item)). ts ++ old.1) last.split
                 ∙ append_assoc last.front (last.last ∷ []) old.1),
             last.others,
-            c.join_one-joined.ensures.traces times family last.last old.1 last.one old.4,
+            c.join_one-joined.ensures.traces z times family last.last old.1 last.one old.4,
           );
     }
 
@@ -74,8 +74,8 @@ returns g c =
     grind (arith, c.in_default-pop.ensures.items, c.in_default-pop.ensures.cases) in
     record {
       own = c.loop-caller.invariant.own;
-      traces = λ times family traces each.
-          let old = c.loop-caller.invariant.traces times family traces each in
-          subst (λ ts. HaveTraces times family ts c.loop-caller.joined.seat.view)
+      traces = λ z times family traces each.
+          let old = c.loop-caller.invariant.traces z times family traces each in
+          subst (λ ts. HaveTraces z times family ts c.loop-caller.joined.seat.view)
           (sym (old.2 ∙ ap (λ (ts : List (List Item)). ts ++ old.1) (no_traces _ old.0 _ left old.3))) old.4;
     }

@@ -1,6 +1,7 @@
 use Rattle.std.proofs.Common.{◌≡◌, ◌++◌, ◌∷◌, [], All, List, length}
 use Rattle.std.specs.List.{AllZip}
 use Rattle.packet_view.specs.declared.tuple.Family.{Family}
+use Rattle.bihash_words.specs.Sizes.{Sizes}
 use Rattle.bihash_steps.specs.Views.{nothing_held}
 use Rattle.session_state.specs.declared.timeouts.Timeouts.{Timeouts}
 use Rattle.flow_dealing.specs.Traces.{HaveTraces, Item}
@@ -13,11 +14,11 @@ invariant-loop-caller g l = record {
       × All (λ c. c.seat.view.holds ≡ nothing_held) l.callers.items;
   own : l.joined.seat.row ≡ l.table.row;
   free : l.joined.seat.view.holds ≡ nothing_held;
-  traces : (times : Timeouts) (family : Family) (traces : List (List Item))
-      → AllZip (λ trace c. HaveTraces times family (trace ∷ []) c.seat.view) traces l.fn.callers.items
+  traces : (z : Sizes) (times : Timeouts) (family : Family) (traces : List (List Item))
+      → AllZip (λ trace c. HaveTraces z times family (trace ∷ []) c.seat.view) traces l.fn.callers.items
       → (before after : List (List Item)) × (traces ≡ before ++ after)
-      × AllZip (λ trace c. HaveTraces times family (trace ∷ []) c.seat.view) before l.callers.items
-      × HaveTraces times family after l.joined.seat.view;
+      × AllZip (λ trace c. HaveTraces z times family (trace ∷ []) c.seat.view) before l.callers.items
+      × HaveTraces z times family after l.joined.seat.view;
 }
 
 abbrev pub decreases-loop-caller : goal.decreases-loop-caller

@@ -9,7 +9,8 @@ returns g c = record {
   own = ap (λ (s : CallerState). s.row) c.join.ensures.view ∙ c.requires.own.0;
   free = ap (λ (s : CallerState). s.view.holds) c.join.ensures.view ∙ c.requires.free.0;
   lawful = c.join.ensures.lawful;
-  traces = λ times family t ts one more.
-      subst (λ (s : CallerState). HaveTraces times family (t ∷ ts) s.view) (sym c.join.ensures.view)
-      (joined_traces c.args.worker.seat.view c.args.others.seat.view times family t ts one more);
+  traces = λ z times family t ts one more.
+      subst (λ (s : CallerState). HaveTraces z times family (t ∷ ts) s.view) (sym c.join.ensures.view)
+      (joined_traces c.args.worker.seat.view c.args.others.seat.view c.join.ensures.agree.known z times family t ts one
+      more);
 }

@@ -29,5 +29,6 @@ returns g c =
           })
           (sym c.requires.mine)
           (c.judge_viewed-verdict.ensures.judged _ stands.seen)
+          c.judge_viewed-verdict.ensures.wanted
           old));
     }

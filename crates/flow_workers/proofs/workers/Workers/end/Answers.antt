@@ -47,7 +47,7 @@ returns g c = λ packets rest.
     (record { four = c.join_whole.result.seat.view; six = c.join_whole-2.result.seat.view })
     (c.join_whole.ensures.lawful, c.join_whole-2.ensures.lawful)
     (c.join_whole.ensures.whole, c.join_whole-2.ensures.whole)
-    (c.join_whole.ensures.traces _ V4 p.traces p.four) (c.join_whole-2.ensures.traces _ V6 p.traces p.six)
+    (c.join_whole.ensures.traces _ _ V4 p.traces p.four) (c.join_whole-2.ensures.traces _ _ V6 p.traces p.six)
     c.in_ok-in_order.field-0.items
     (c.in_ok-in_order.ensures _ p.traces (subst (AreAllSaid _ _ _) (sym c.as_slice.ensures.value)
     (all_said g.A.Shape g.B.Shape _ _ c.args.self.judges.items c.in_ok-four.field-0 p rest.sound.some rest.sound.few
