@@ -2,6 +2,7 @@ pub mod AnsweredCalls
 pub mod CommonHistories
 pub mod CommonSerializations
 pub mod ExpiredPairs
+pub mod LogOrders
 pub mod MapSteps
 pub mod Moments
 pub mod OneWriter

@@ -1,3 +1,4 @@
+pub mod Orders
 pub mod Recyclings
 pub mod Runs
 pub mod Serializations

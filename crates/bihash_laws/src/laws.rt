@@ -16,11 +16,13 @@ ghost use Rattle.bihash_steps.specs.Callers.{Agrees, HasMadeAll, HasNumber, IsLa
 ghost use Rattle.bihash_steps.specs.Steps.{HaveBearers};
 ghost use Rattle.bihash_steps.specs.Views.{opening_view};
 ghost use Rattle.bihash_steps.specs.BucketSteps.{acting, map_now};
+ghost use Rattle.bihash_steps.specs.declared.view.Entry.{Entry};
 ghost use Rattle.bihash_steps.specs.declared.view.Openings.{Openings};
 ghost use Rattle.bihash_steps.specs.declared.view.Write.{Write};
 ghost use Rattle.bihash_steps.specs.declared.view.Record.{Record};
 ghost use Rattle.bihash_steps.specs.declared.view.View.{View};
 ghost use Rattle.bihash_table.specs.Answers.{entry_of, recycled_update};
+ghost use Rattle.bihash_laws.specs.Orders.{IsCommonLog, IsOneOrder};
 ghost use Rattle.bihash_laws.specs.Recyclings.{HasRecycled};
 ghost use Rattle.bihash_laws.specs.Serializations.{IsCalled, IsCommonSerialization, IsSerialization, Operation};
 ghost use Rattle.bihash_laws.specs.Runs.{IsCommonHistory, IsLastWrite, IsLawfulAnswer, LearnsOnlyOwn, IsOneWriter, IsRun, calls_on};
@@ -41,6 +43,24 @@ pub fn one_writer_has_one_map()
 pub fn calls_have_one_order()
     ensures { (z : Sizes) (v : View) (b : ℕ) → IsLawfulCaller z v → b < buckets z → (operations : List Operation)
         × IsSerialization z b (opening_at v.known b) (known_at v.known b) v.records operations }
+{}
+
+/// What a lawful caller knows of the log is one sequential order of the calls in it, on all buckets: on each bucket they
+/// are a run of one bounded map, and each of the caller's records has its calls in their order. Two that agree have one
+/// such log with the calls of both.
+pub fn logs_are_one_order()
+    ensures one { (z : Sizes) (v : View) → IsLawfulCaller z v → IsOneOrder z v.known.openings v.records v.log }
+    ensures both { (z : Sizes) (v w : View) → IsLawfulCaller z v → IsLawfulCaller z w → Agrees v w
+        → (log : List Entry) × IsCommonLog z v w log }
+{}
+
+/// An answered call stands in the log after each entry that its caller knew when the call began, be it of its own or of
+/// a caller that it had met, and these stay where they were.
+pub fn answers_stand_after_what_was_known()
+    ensures { (z : Sizes) (b : ℕ) (v w : View) (e : Event) (a : IsLawfulAnswer z b v w e) (p : ℕ) (x : Entry)
+        → get_elem? v.log p ≡ some x → (get_elem? w.log p ≡ some x) × (k : ℕ) × (p < k)
+        × (get_elem? w.log k
+        ≡ some (record { by = acting v.records; call = entry_of z (length a.answered.history) e a.answered.noted })) }
 {}
 
 /// A caller that made each write that it knows has such an order with no call but its own.

@@ -5,7 +5,7 @@ mod laws;
 
 pub use laws::{
     agreeing_callers_have_one_order, agreeing_callers_share_a_history, answers_are_the_maps,
-    calls_have_one_order, changed_alone_writes, lone_callers_know_all, one_writer_has_one_map,
-    one_writer_stays, only_the_least_expired_pair_goes, whole_callers_have_one_order,
-    whole_callers_made_each_write,
+    answers_stand_after_what_was_known, calls_have_one_order, changed_alone_writes,
+    logs_are_one_order, lone_callers_know_all, one_writer_has_one_map, one_writer_stays,
+    only_the_least_expired_pair_goes, whole_callers_have_one_order, whole_callers_made_each_write,
 };

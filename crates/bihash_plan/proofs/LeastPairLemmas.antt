@@ -1,14 +1,15 @@
 -- The expired pair with the least key, with one place more.
-use Rattle.std.proofs.Common.{◌≡◌, ◌≢◌, ◌∙◌, ◌<◌, ◌+◌, ◌^◌, ℕ, Bool, true, false, true≢false, ap, arith, sym, subst, refl, inl, inr, List, length, Option, Some, None}
-use Rattle.std.specs.Prelude.{slice_get}
+use Rattle.std.proofs.Common.{◌≡◌, ◌≢◌, ◌∙◌, ◌<◌, ◌≤◌, ◌+◌, ◌^◌, ◌∷◌, [], ℕ, Bool, true, false, true≢false, ap, arith, sym, subst, refl, inl, inr, List, length, Option, Some, None}
+use Rattle.std.specs.Prelude.{IfNone, IfSome, slice_get, slice_index}
 use Rattle.std.proofs.lemmas.Bool.{cases_eq}
-use Rattle.std.specs.Cmp.{alike_right}
+use Rattle.std.specs.Cmp.{alike_right, nat_cmp_is}
 use Rattle.std.specs.Cmp.Lexicographic.{nat_list_cmp_total, slice_cmp}
-use Rattle.std.specs.Ordering.{nat_cmp, ordering_reverse}
+use Rattle.std.specs.Ordering.{nat_cmp, ordering_reverse, ordering_then}
 use Rattle.std.specs.declared.cmp.Ordering.TheVariants.{Less, Equal, Greater}
 use Rattle.bihash_plan.specs.Blocks.{HasPairAt}
 use Rattle.bihash_plan.specs.Recycles.{IsLeastExpired, NoneIsExpired}
-use Rattle.bihash_plan.specs.inner.LeastPairs.{IsLeastAmong, IsLeastTo}
+use Rattle.bihash_plan.specs.inner.LeastPairs.{IsBound, IsLeastAmong, IsLeastTo}
+use Rattle.bihash_plan.specs.declared.expired.Least.{Least}
 use Rattle.bihash_plan.proofs.Places.{pair_inside}
 
 -- a key below one that is not above another is not above that other
@@ -20,6 +21,14 @@ still_least a b c above not =
       | Equal ↦ λ is more. let less = sym (sym (alike_right nat_list_cmp_total b c a is) ∙ below) ∙ more in let e : ⊥ = cc in e
       | Greater ↦ λ is. absurd (not is)
     ] refl
+
+-- lists of words are in the order of their first words, where these differ
+first_less : (a b : List ℕ) → 1 ≤ length a → 1 ≤ length b → slice_index a 0 < slice_index b 0 → slice_cmp nat_cmp a b ≢ Greater
+first_less [] b some other less = absurd (omega arith)
+first_less (x ∷ xs) [] some other less = absurd (omega arith)
+first_less (x ∷ xs) (y ∷ ys) some other less = λ more.
+    let below = ap (λ o. ordering_then o (slice_cmp nat_cmp xs ys)) (nat_cmp_is x y Less less) in
+    let e : ⊥ = cc in e
 
 module _ {K : Type 0} (words_of : K → List ℕ) (is_expired : ℕ → Bool) (places : List (K × ℕ)) where
   -- a place shows one key
@@ -115,6 +124,27 @@ module _ {K : Type 0} (words_of : K → List ℕ) (is_expired : ℕ → Bool) (p
     };
     none = tt;
   }
+
+  -- ---- The bound
+
+  -- a key that begins with a word above the bound isn't less
+  pub above_least : (i : ℕ) (key : K) (value : ℕ) (least : Least) → slice_get places i ≡ Some (key, value)
+      → 1 ≤ length (words_of key) → slice_index (words_of key) 0 < 2 ^ 64 → least.bound < slice_index (words_of key) 0
+      → IsBound words_of places least → IsLeastAmong words_of is_expired places i least.place → IsLeastAmong words_of is_expired places (i + 1) least.place
+  above_least i key value least at some fits above bound h = above_at least.place refl
+    where
+      above_at : (r : Option ℕ) → r ≡ least.place → IsLeastAmong words_of is_expired places (i + 1) least.place
+      above_at None none =
+          let most : least.bound ≡ 18446744073709551615 = subst (λ r. IfNone r (least.bound ≡ 18446744073709551615)) (sym none) bound.none in
+          absurd (omega arith)
+      above_at (Some k) there =
+          let found = subst (λ r. IsLeastAmong words_of is_expired places i r) (sym there) h in
+          let its = subst (λ r. IfSome r (λ i. (key : K) (value : ℕ) → HasPairAt places key value i
+          → (least.bound ≡ slice_index (words_of key) 0) × (1 ≤ length (words_of key)))) (sym there) bound.word in
+          let first = its found.found.key found.found.value found.found.pair in
+          let word = first.0 in
+          subst (IsLeastAmong words_of is_expired places (i + 1)) there
+          (same_least i key value at k found.found (first_less (words_of found.found.key) (words_of key) first.1 some (omega arith)))
 
   -- ---- All places
 

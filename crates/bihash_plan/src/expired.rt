@@ -5,7 +5,7 @@ ghost use Rattle.bihash_words.specs.Sizes.{IsSound, sizes_of};
 ghost use Rattle.bihash_words.specs.Pages.{paging_of};
 ghost use Rattle.bihash_plan.specs.Recycles.{IsLeastExpired, IsMarked, NoneIsExpired};
 ghost use Rattle.bihash_plan.specs.Searches.{IsPlace, IsRange, MayHavePlaces};
-ghost use Rattle.bihash_plan.specs.inner.LeastPairs.{IsLeastAmong};
+ghost use Rattle.bihash_plan.specs.inner.LeastPairs.{IsBound, IsLeastAmong};
 
 use crate::place::page;
 use crate::spare_place::Recycle;
@@ -31,33 +31,50 @@ pub fn recycle<S: Shape, E: Expiry>(
     Some(Recycle { place, linear })
 }
 
-/// The place of the expired pair with the least key.
+/// The expired pair with the least key among some places.
+#[derive(Clone, Copy)]
+struct Least {
+    /// Its place; None where no pair is expired.
+    place: Option<usize>,
+    /// The first word of its key, or the greatest there is.
+    bound: u64,
+}
+
+/// The place of the expired pair with the least key. Most keys begin with a greater word than the least so far, and
+/// nothing more is asked of their pairs.
 fn least_expired<S: Shape, E: Expiry>(places: &[(S::Key, u64)], expiry: &E) -> Option<usize>
     requires shape { IsSound (sizes_of ⟦<S as Shape>⟧) }
     requires range { IsRange places.now (length places.now) }
     ensures { IsLeastAmong S.words_of (E.is_expired expiry.now) places.now (length places.now) result }
 {
-    let mut least = None;
+    let mut least = Least {
+        place: None,
+        bound: u64::MAX,
+    };
     for i in 0..places.len() {
-        least = lesser::<S, E>(places, expiry, least, i);
+        if S::word(&places[i].0, 0) <= least.bound {
+            least = lesser::<S, E>(places, expiry, least, i);
+        }
     }
-    least
+    least.place
 }
 
 /// The same among the places up to one and with it, where it is known among those before it.
 fn lesser<S: Shape, E: Expiry>(
     places: &[(S::Key, u64)],
     expiry: &E,
-    least: Option<usize>,
+    least: Least,
     i: usize,
-) -> Option<usize>
+) -> Least
     requires shape { IsSound (sizes_of ⟦<S as Shape>⟧) }
     requires place { IsPlace places.now i }
-    requires least { IsLeastAmong S.words_of (E.is_expired expiry.now) places.now i least }
-    ensures { IsLeastAmong S.words_of (E.is_expired expiry.now) places.now (i + 1) result }
+    requires least { IsLeastAmong S.words_of (E.is_expired expiry.now) places.now i least.place }
+    requires bound { IsBound S.words_of places.now least }
+    ensures least { IsLeastAmong S.words_of (E.is_expired expiry.now) places.now (i + 1) result.place }
+    ensures bound { IsBound S.words_of places.now result }
 {
     let (key, value) = &places[i];
-    if let Some(other) = least {
+    if let Some(other) = least.place {
         if compare::<S>(&places[other].0, key) != Ordering::Greater {
             return least;
         }
@@ -65,5 +82,8 @@ fn lesser<S: Shape, E: Expiry>(
     if *value == FREE || !expiry.expired(*value) {
         return least;
     }
-    Some(i)
+    Least {
+        place: Some(i),
+        bound: S::word(key, 0),
+    }
 }

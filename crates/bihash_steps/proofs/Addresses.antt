@@ -9,7 +9,7 @@ use Rattle.bihash_words.specs.Words.{Bucket, Fits, packed}
 use Rattle.bihash_steps.specs.Words.{buckets, bucket_at, page_at, page_words}
 use Rattle.bihash_steps.specs.Callers.{known_at}
 use Rattle.bihash_steps.specs.Buckets.{word_of, open_word}
-use Rattle.bihash_steps.specs.BucketSteps.{TellsBucket, TellsLock, IsLockedWord, TellsLockedWord, TellsStored, HoldsClean, without_lock, MayAnswer, view_after_answer, MayMark, marked, TellsEvent, view_after_write, IsOpenWord, TellsOpenWord, MayValidate, TellsValid}
+use Rattle.bihash_steps.specs.BucketSteps.{TellsBucket, TellsLock, IsLockedWord, TellsLockedWord, TellsStored, HoldsClean, without_lock, MayAnswer, view_after_answer, MayMark, marked, TellsEvent, view_after_write, IsOpenWord, TellsOpenWord, MayValidate, TellsValid, TellsEntry}
 use Rattle.bihash_steps.specs.Steps.{ViewOfSeat}
 use Rattle.bihash_steps.specs.StoreSteps.{MayReplace, view_after_replace, IsHeldWord, holding, stored_at}
 use Rattle.bihash_steps.specs.WordRule.{WordRule}
@@ -77,9 +77,9 @@ module _ (z : Sizes) where
   )
 
   pub answers_at : (slots id at b word : ℕ) (c : Call) (m : ViewOfSeat) → at ≡ bucket_at z b → MayAnswer z m.0 b word c
-      → Allows (WordRule z) slots id m at (λ _. word) (λ _ m'. TellsEvent z (λ v. view_after_answer v c) m m' × HasVersion m.0)
+      → Allows (WordRule z) slots id m at (λ _. word) (λ _ m'. TellsEntry z (λ v. view_after_answer v c) c m m' × HasVersion m.0)
   answers_at slots id at b word c m is may s r deep seat fits =
-      let a = subst (λ (i : ℕ). Allows (WordRule z) slots id m i (λ _. word) (λ _. TellsEvent z (λ v. view_after_answer v c) m)) (sym is)
+      let a = subst (λ (i : ℕ). Allows (WordRule z) slots id m i (λ _. word) (λ _. TellsEntry z (λ v. view_after_answer v c) c m)) (sym is)
       (answers_call z slots id b word c m may) s r deep seat fits in
       (a.0, a.1, a.2, a.3, (a.4, has_version s r id m.0 seat))
 
@@ -87,17 +87,17 @@ module _ (z : Sizes) where
   pub publishes_at : (slots id at b word next : ℕ) (linear : Bool) (c : Call) (m : ViewOfSeat)
       (may : MayMark z m.0 b word linear c) → at ≡ bucket_at z b → 1 ≤ length m.0.records
       → next ≡ packed (word_of (marked may.write.lock.extent linear) false (may.write.lock.version + 1))
-      → Allows (WordRule z) slots id m at (λ _. next) (λ _. TellsEvent z (λ v. view_after_write v c) m)
+      → Allows (WordRule z) slots id m at (λ _. next) (λ _. TellsEntry z (λ v. view_after_write v c) c m)
   publishes_at slots id at b word next linear c m may is acts stored =
-      subst (λ (p : ℕ × ℕ). Allows (WordRule z) slots id m p.0 (λ _. p.1) (λ _. TellsEvent z (λ v. view_after_write v c) m)) (λ i. (sym is i, sym stored i))
+      subst (λ (p : ℕ × ℕ). Allows (WordRule z) slots id m p.0 (λ _. p.1) (λ _. TellsEntry z (λ v. view_after_write v c) c m)) (λ i. (sym is i, sym stored i))
       (publishes_call z slots id m b word linear c may acts)
 
   -- and over another one
   pub replaces_at : (slots id at b word next : ℕ) (extent : Extent) (c : Call) (m : ViewOfSeat) (may : MayReplace z m.0 b word extent c)
       → at ≡ bucket_at z b → 1 ≤ length m.0.records → next ≡ packed (word_of extent false (may.write.lock.version + 1))
-      → Allows (WordRule z) slots id m at (λ _. next) (λ _. TellsEvent z (λ v. view_after_replace v c) m)
+      → Allows (WordRule z) slots id m at (λ _. next) (λ _. TellsEntry z (λ v. view_after_replace v c) c m)
   replaces_at slots id at b word next extent c m may is acts stored =
-      subst (λ (p : ℕ × ℕ). Allows (WordRule z) slots id m p.0 (λ _. p.1) (λ _. TellsEvent z (λ v. view_after_replace v c) m)) (λ i. (sym is i, sym stored i))
+      subst (λ (p : ℕ × ℕ). Allows (WordRule z) slots id m p.0 (λ _. p.1) (λ _. TellsEntry z (λ v. view_after_replace v c) c m)) (λ i. (sym is i, sym stored i))
       (replaces_call z slots id m b word extent c may acts)
 
   -- ---- Words of the block that the caller has locked

@@ -13,6 +13,7 @@ use Rattle.bihash_steps.specs.Histories.{IsKeyOf, IsWriteList}
 use Rattle.bihash_steps.specs.Callers.{known_at, opening_in, IsLawfulCaller}
 use Rattle.bihash_steps.specs.Buckets.{BucketState, IsBucket}
 use Rattle.bihash_steps.specs.PageStores.{StoreState, IsStore, all_used, runs_now}
+use Rattle.bihash_steps.specs.LogRule.{KnowsLog}
 use Rattle.bihash_steps.specs.Views.{empty_record, opening_view}
 use Rattle.bihash_steps.specs.WordRule.{TableState, IsView, WordRule}
 use Rattle.bihash_steps.specs.declared.view.Openings.{Openings}
@@ -57,6 +58,7 @@ module _ (z : Sizes) (openings : Openings) where
     };
     lists = λ b l. subst (IsWriteList z b (opening_in openings b)) (sym (none_known b l)) (no_writes home b l);
     made = λ _ b l n w f. absurd (some-ne-none w (sym (ap (λ (h : List Write). get_elem? h n) (sym (none_known b l)) ∙ f)));
+    logged = record { legal = tt; calls = λ i q e. ap (λ (x : Record). x.calls) (one_record i q e).1 };
   }
 
   -- a bucket in which no write was made: where its block lies, and the words of the block
@@ -129,5 +131,16 @@ module _ (z : Sizes) (openings : Openings) where
         holders = λ b j e. absurd cc;
         store = begins.stored;
         keeper = λ j e. absurd cc;
+        logged = record {
+          log = [];
+          legal = tt;
+          writes = λ b l. refl;
+          each = λ j v e. subst (λ (u : View). KnowsLog [] u.log u.records) (only_view j v e).1 record {
+            begins = record { rest = []; whole = refl };
+            calls = λ i q f. ap (λ (x : Record). x.calls) (one_record i q f).1;
+            own = λ i k q x f g. absurd (some-ne-none x (sym g));
+          };
+          made = λ k e f. absurd (some-ne-none e (sym f));
+        };
         parted = begins.parted;
       }

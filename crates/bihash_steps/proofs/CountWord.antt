@@ -13,6 +13,7 @@ use Rattle.bihash_steps.specs.Callers.{IsWhole, Apart, known_at, opening_in}
 use Rattle.bihash_steps.specs.Partition.{IsPartition, run_of, runs_of}
 use Rattle.bihash_steps.specs.Buckets.{BucketState, IsBucket, HoldsBucket, HoldsBucketIf, StandsStillIf}
 use Rattle.bihash_steps.specs.PageStores.{StoreState, returned_in, all_used, IsStore, IsListedIf, HoldsStoreIf, HoldsBlockIf, run_in, run_held, runs_now}
+use Rattle.bihash_steps.specs.LogRule.{LogRule}
 use Rattle.bihash_steps.specs.WordRule.{TableState, IsView, WordRule}
 use Rattle.bihash_steps.specs.declared.view.Record.{Record}
 use Rattle.bihash_steps.specs.declared.view.Write.{Write}
@@ -25,6 +26,7 @@ use Rattle.bihash_steps.specs.declared.view.HeldBlock.{HeldBlock}
 use Rattle.bihash_steps.specs.declared.view.OpenBucket.{OpenBucket}
 use Rattle.bihash_steps.specs.declared.view.View.{View}
 use Rattle.bihash_steps.proofs.Lists.{there}
+use Rattle.bihash_steps.proofs.LogSteps.{kept_logged}
 
 -- the words before the bucket words begin with the caller count, the allocation lock, the used mark and the counts of returned blocks
 pub front : (z : Sizes) → 4 + z.max_log2 ≤ front_words z
@@ -227,6 +229,7 @@ module _ (z : Sizes) (s : State (Unit {0}) View) (r : WordRule z s) where
     pub each : (j : ℕ) (u : View) → get_elem? views j ≡ some u → IsView z words (count_of words) r.table j u
     pub apart : AllApart views
     pub blocks : (j : ℕ) → run_held (get_elem? views j) ≡ run_held (get_elem? s.views j)
+    pub logged : LogRule z r.table.openings (λ b. (r.table.bucket b).history) views
 
   pub moved : (words : List ℕ) (views : List View) → Moves words views → WordRule z record { words = words; homes = s.homes; views = views }
   moved words views m = record {
@@ -244,6 +247,7 @@ module _ (z : Sizes) (s : State (Unit {0}) View) (r : WordRule z s) where
     apart = m.apart;
     holders = λ b j e. let h = r.holders b j e in let l = m.longer in omega arith;
     keeper = λ j e. let h = r.keeper j e in let l = m.longer in omega arith;
+    logged = m.logged;
     parted = subst (IsPartition z.pages r.table.store.store.used) (sym runs) r.parted;
   }
     where
@@ -258,8 +262,9 @@ module _ (z : Sizes) (s : State (Unit {0}) View) (r : WordRule z s) where
       → IsView z words (count_of words) r.table id w
       → ((j : ℕ) (u : View) → j ≢ id → get_elem? s.views j ≡ some u → (u.lone ≡ true → count_of words ≡ count_of s.words)
       × Apart w.records u.records)
+      → LogRule z r.table.openings (λ b. (r.table.bucket b).history) (set s.views id w)
       → WordRule z record { words = words; homes = s.homes; views = set s.views id w }
-  one_moved words id v w at same wide more few block ok others = moved words (set s.views id w) record {
+  one_moved words id v w at same wide more few block ok others logged = moved words (set s.views id w) record {
     same = same;
     wide = wide;
     more = more;
@@ -272,22 +277,30 @@ module _ (z : Sizes) (s : State (Unit {0}) View) (r : WordRule z s) where
     ];
     apart = apart_set s.views id w (λ i j a b ne ni nj e f. r.apart i j a b ne e f) (λ j u ne e. (others j u ne e).1);
     blocks = λ j. block_set s.views id v w j at block;
+    logged = logged;
   }
+
+  -- the rule on the log, where a seat knows as much of it and has the same records
+  pub kept_log : (id : ℕ) (v w : View) → get_elem? s.views id ≡ some v → w.log ≡ v.log → w.records ≡ v.records
+      → LogRule z r.table.openings (λ b. (r.table.bucket b).history) (set s.views id w)
+  kept_log id v w at log same = kept_logged z r.table.openings (λ b. (r.table.bucket b).history) s.views id v w at r.logged log same
 
   -- one seat gets another view, and no word changes
   pub stays_at : (i id : ℕ) (v w : View) → get_elem? s.views id ≡ some v → run_in w.holds.block ≡ run_in v.holds.block
       → IsView z s.words (count_of s.words) r.table id w
       → ((j : ℕ) (u : View) → j ≢ id → get_elem? s.views j ≡ some u → Apart w.records u.records)
+      → LogRule z r.table.openings (λ b. (r.table.bucket b).history) (set s.views id w)
       → WordRule z record { words = set s.words i (slice_index s.words i); homes = s.homes; views = set s.views id w }
-  stays_at i id v w at block ok others =
+  stays_at i id v w at block ok others logged =
       subst (λ (words : List ℕ). WordRule z record { words = words; homes = s.homes; views = set s.views id w })
       (sym (set-get_or s.words i 0))
       (one_moved s.words id v w at (λ i l. refl) refl (le_refl (count_of s.words)) r.few_callers block ok
-      (λ j u ne e. ((λ _. refl), others j u ne e)))
+      (λ j u ne e. ((λ _. refl), others j u ne e)) logged)
 
   -- the same at the caller count
   pub stays : (id : ℕ) (v w : View) → get_elem? s.views id ≡ some v → run_in w.holds.block ≡ run_in v.holds.block
       → IsView z s.words (count_of s.words) r.table id w
       → ((j : ℕ) (u : View) → j ≢ id → get_elem? s.views j ≡ some u → Apart w.records u.records)
+      → LogRule z r.table.openings (λ b. (r.table.bucket b).history) (set s.views id w)
       → WordRule z record { words = set s.words 0 (count_of s.words); homes = s.homes; views = set s.views id w }
   stays = stays_at 0

@@ -16,6 +16,7 @@ use Rattle.bihash_steps.specs.Blocks.{no_block}
 use Rattle.bihash_steps.specs.Partition.{PageRun, Owner, IsPartition, of_bucket, held_by, run_of}
 use Rattle.bihash_steps.specs.Buckets.{BucketState, IsBucket, HoldsBucket, HoldsBucketIf, IsOpenIf}
 use Rattle.bihash_steps.specs.PageStores.{StoreState, IsStore, BearsOutOfPages, IsListedIf, HoldsStore, HoldsStoreIf, HoldsBlockIf, LeftIf, returned_in, writes_in, all_writes, all_used, most_used, run_in, run_held, runs_now}
+use Rattle.bihash_steps.specs.LogRule.{LogRule}
 use Rattle.bihash_steps.specs.WordRule.{IsInformed, HaveMetIf, IsView, WordRule}
 use Rattle.bihash_steps.specs.declared.view.Write.{Write}
 use Rattle.bihash_steps.specs.declared.view.Call.{Call}
@@ -87,6 +88,7 @@ module _ (z : Sizes) where
     pub undisturbed : Undisturbed s.words words' r.table.store store' id
     pub view : IsView z words' (count_of s.words) (record r.table { bucket = bucket'; store = store' }) id w
     pub numbers : (n : ℕ) → HasNumber w.records n → HasNumber v.records n
+    pub logged : LogRule z r.table.openings (λ c. (bucket' c).history) (set s.views id w)
     pub parted : IsPartition z.pages store'.store.used (runs_now bucket' store'.store (set s.views id w))
 
 -- ---- What grows
@@ -222,6 +224,7 @@ module _ (z : Sizes) (s : State (Unit {0}) View) (r : WordRule z s) (b id : ℕ)
     begin = λ c l. let p = h.begin c l in (begins_still (known_at y.first c) c p.0, begins_still (known_at y.second c) c p.1);
     own = h.own;
     other_own = h.other_own;
+    logs = h.logs;
   }
 
   -- another bucket
@@ -345,5 +348,6 @@ module _ (z : Sizes) (s : State (Unit {0}) View) (r : WordRule z s) (b id : ℕ)
           | inl same ↦ r.keeper j (ap (λ (q : StoreState). q.lock) (sym same.0) ∙ e)
           | inr free ↦ absurd (free.1 j not e)
         ]));
+    logged = m.logged;
     parted = m.parted;
   }

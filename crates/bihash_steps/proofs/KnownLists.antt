@@ -10,6 +10,7 @@ use Rattle.bihash_words.specs.Sizes.{Sizes}
 use Rattle.bihash_steps.specs.Words.{buckets, count_of}
 use Rattle.bihash_steps.specs.Histories.{IsPrefix, IsWrite, IsWriteList}
 use Rattle.bihash_steps.specs.Callers.{HasNumbers, IsLawfulCaller, IsWhole, KnowsOwn, Openings, known_at, opening_at, opening_in}
+use Rattle.bihash_steps.specs.Logs.{IsLogged}
 use Rattle.bihash_steps.specs.WordRule.{IsInformed, TableState, WordRule}
 use Rattle.bihash_steps.specs.declared.view.Write.{Write}
 use Rattle.bihash_steps.specs.declared.view.Record.{Record}
@@ -17,6 +18,7 @@ use Rattle.bihash_steps.specs.declared.view.Known.{Known}
 use Rattle.bihash_steps.specs.declared.view.View.{View}
 use Rattle.atomic_table.proofs.Lists.{set_here}
 use Rattle.bihash_steps.proofs.Lists.{within}
+use Rattle.bihash_steps.proofs.LogSteps.{is_logged}
 use Rattle.bihash_steps.proofs.Prefixes.{after_longer, prefix_at, prefix_below, prefix_length}
 
 -- the beginning of a write list is one
@@ -58,19 +60,28 @@ knows_own z t known other records others ok ok' b n x at by = dite (dec_lt b (bu
 
 -- a view that is informed of the table is a lawful caller's
 pub lawful_here : (z : Sizes) (s : State (Unit {0}) View) (r : WordRule z s) (v : View) → 1 ≤ length v.records → HasNumbers v.seen v.records
-    → IsInformed z r.table v.known v.records → (v.lone ≡ true → IsWhole v.records (count_of s.words)) → IsLawfulCaller z v
-lawful_here z s r v acts numbers ok whole = record {
+    → IsInformed z r.table v.known v.records → (v.lone ≡ true → IsWhole v.records (count_of s.words))
+    → IsLogged z v.known.openings v.log v.records → IsLawfulCaller z v
+lawful_here z s r v acts numbers ok whole logged = record {
   acts = acts;
   numbers = numbers;
   lawful = ok.lawful;
   lists = λ b inside. known_list z s r b inside v.known v.records ok acts;
   made = λ lone b inside n w at. let by = known_bearers z s r b inside v.known v.records ok n w at in whole lone w.by by.0 by.1;
+  logged = logged;
 }
+
+-- what the view of a seat knows of the log is a log
+pub logged_at : (z : Sizes) (s : State (Unit {0}) View) (r : WordRule z s) (id : ℕ) (v : View) → get_elem? s.views id ≡ some v
+    → 1 ≤ length v.records → IsLogged z v.known.openings v.log v.records
+logged_at z s r id v at acts = is_logged z r.table.openings (λ b. (r.table.bucket b).history) s.views id v r.logged at
+    ((r.each_view id v at).informed.opening acts)
 
 -- the caller of each view that has a number is lawful
 pub lawful_at : (z : Sizes) (s : State (Unit {0}) View) → WordRule z s → (id : ℕ) (v : View) → get_elem? s.views id ≡ some v
     → 1 ≤ length v.records → IsLawfulCaller z v
 lawful_at z s r id v at acts = let ok = r.each_view id v at in lawful_here z s r v acts ok.numbers ok.informed ok.lone
+    (logged_at z s r id v at acts)
 
 -- also that of a view that was just set
 pub lawful_set : (z : Sizes) (words : List ℕ) (s : State (Unit {0}) View) (id : ℕ) (v w : View) → get_elem? s.views id ≡ some v

@@ -7,7 +7,12 @@ pub mod KnownLists
 pub mod Lawful
 pub mod Pushed
 pub mod Informed
+pub mod LogLemmas
+pub mod LogSteps
 pub mod CountWord
+pub mod LogEvents
+pub mod LogLaws
+pub mod LogRuns
 pub mod NotedViews
 pub mod Frames
 pub mod Runs

@@ -122,7 +122,7 @@ counted_at (r ∷ rs) (suc i) q e = (q, e, refl, refl)
 counted_renumbers : (rs : List Record) → Renumbers rs (lock_counted rs)
 counted_renumbers rs i q e = let o = counted_at rs i q e in (o.0, o.1, o.2)
 
-renumbers_counted : (rs : List Record) → Renumbers (lock_counted rs) rs
+pub renumbers_counted : (rs : List Record) → Renumbers (lock_counted rs) rs
 renumbers_counted [] i r e = absurd (some-ne-none r (sym e))
 renumbers_counted (q ∷ qs) zero r e = (record q { locks = q.locks + 1 }, refl, ap (λ (x : Record). x.number) (some-injective q r e))
 renumbers_counted (q ∷ qs) (suc i) r e = (r, e, refl)

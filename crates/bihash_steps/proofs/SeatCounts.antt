@@ -1,5 +1,5 @@
 -- What a step makes of a caller: its state, the count of its numbers, and the stamp of its last call.
-use Rattle.std.proofs.Common.{◌≡◌, ◌⊎◌, ℕ, ◌+◌, ◌^◌, ◌≤◌, List, [], ◌∷◌, ◌++◌, nat_eq, length, refl, sym, ap, ◌∙◌, subst, inl, inr, arith, Option, Some}
+use Rattle.std.proofs.Common.{◌≡◌, ◌≢◌, ◌⊎◌, ℕ, Bool, true, false, ◌+◌, ◌^◌, ◌≤◌, List, [], ◌∷◌, ◌++◌, nat_eq, length, refl, sym, ap, ◌∙◌, subst, inl, inr, arith, Option, Some}
 use Rattle.std.proofs.lemmas.Bool.{eq-eqb, eqb-false, eqb-true}
 use mathlib.Core.Logic.{dite}
 use native.Mathlib.Decide.{ℕ_discrete}
@@ -8,8 +8,8 @@ use Rattle.bihash_words.specs.Sizes.{Sizes}
 use Rattle.bihash_steps.specs.Words.{returned_count_at}
 use Rattle.bihash_steps.specs.Seats.{CallerState, caller_state, with_view, CanAct, stamp_in, stamp_of}
 use Rattle.bihash_steps.specs.Steps.{ViewOfSeat}
-use Rattle.bihash_steps.specs.BucketCalls.{FindsBucket, TriesLock}
-use Rattle.bihash_steps.specs.BucketSteps.{lock_counted, push_call, SeesOpen, SeesLocked, TellsBucket, TellsLock}
+use Rattle.bihash_steps.specs.BucketCalls.{FindsBucket, HasEntered, IsValidated, TriesLock}
+use Rattle.bihash_steps.specs.BucketSteps.{TellsEntry, TellsValid, lock_counted, push_call, SeesOpen, SeesLocked, TellsBucket, TellsLock}
 use Rattle.bihash_steps.specs.StoreSteps.{MayTakeReturned, TellsTakenReturned, MayTakeUnused, TellsTakenUnused}
 use Rattle.bihash_steps.specs.declared.view.Call.{Call}
 use Rattle.bihash_steps.specs.declared.view.Record.{Record}
@@ -108,6 +108,29 @@ pub state_next : (next : View → View) (t t' : TableId) (i i' : ℕ) (m m' : Vi
     → caller_state t i m.0 ≡ state → caller_state t' i' m'.0 ≡ with_view state (next state.view)
 state_next next t t' i i' m m' state row seat is before =
     (λ k. caller_state (row k) (seat k) (is k).0) ∙ ap (λ (s : CallerState). with_view s (next s.view)) before
+
+-- what the answer of a call tells
+pub entered_state : (z : Sizes) (after : View → View) (c : Call) (t t' : TableId) (i i' : ℕ) (m m' : ViewOfSeat) (state : CallerState) → t' ≡ t → i' ≡ i
+    → caller_state t i m.0 ≡ state → TellsEntry z after c m m' → HasEntered z state (after state.view) c (caller_state t' i' m'.0)
+entered_state z after c t t' i i' m m' state row seat before told =
+    subst (λ (s : CallerState). HasEntered z s (after s.view) c (caller_state t' i' m'.0)) before record {
+      same = λ k. caller_state (row k) (seat k) m'.0;
+      entered = told.entered;
+      lawful = told.lawful;
+    }
+
+-- and where it was answered without a lock, or not
+pub validated_state : (z : Sizes) (word : ℕ) (c : Call) (t t' : TableId) (i i' : ℕ) (m m' : ViewOfSeat) (found : ℕ) (state : CallerState) (here : Bool)
+    → t' ≡ t → i' ≡ i → caller_state t i m.0 ≡ state → (here ≡ true → found ≡ word) → (here ≡ false → found ≢ word) → (found ≡ word → here ≡ true)
+    → TellsValid z word c m found m' → IsValidated z state (caller_state t' i' m'.0) c here
+validated_state z word c t t' i i' m m' found state here row seat before met lost back told =
+    subst (λ (s : CallerState). IsValidated z s (caller_state t' i' m'.0) c here) before record {
+      same = λ k. caller_state (row k) (seat k) m'.0;
+      valid = λ h. told.valid (met h);
+      not = λ h k. caller_state (row k) (seat k) (told.not (lost h) k);
+      lone = λ alone. back (told.lone alone);
+      lawful = told.lawful;
+    }
 
 -- what a load of a bucket's word tells
 pub found_bucket : (z : Sizes) (b found word : ℕ) (t t' : TableId) (i i' : ℕ) (m m' : ViewOfSeat) (state : CallerState) → t' ≡ t → i' ≡ i

@@ -9,7 +9,7 @@ use Rattle.bihash_words.specs.declared.patch.Reply.{Reply}
 use Rattle.bihash_words.specs.declared.shape.Shape.{Ghosts}
 use Rattle.bihash_steps.specs.Callers.{IsLawfulCaller, known_at}
 use Rattle.bihash_steps.specs.Buckets.{open_word}
-use Rattle.bihash_steps.specs.BucketSteps.{RestsOn, SeesLocked, SeesOpen, TakesLock, call_of, without_notes, view_after_validate}
+use Rattle.bihash_steps.specs.BucketSteps.{Enters, RestsOn, SeesLocked, SeesOpen, TakesLock, call_of, without_notes, view_after_validate}
 use Rattle.bihash_steps.specs.Seats.{CallerState, IsSameSeat, with_view}
 use Rattle.bihash_steps.specs.Views.{nothing_held}
 use Rattle.bihash_steps.specs.declared.event.Event.{Event}
@@ -84,9 +84,16 @@ pub record TriesLock (z : Sizes) (s t : CallerState) (b word : ℕ) (locked : Bo
   pub whole : s.view.lone ≡ true → locked ≡ true → known_at t.view.known b ≡ known_at s.view.known b
   pub lawful : IsLawfulCaller z t.view
 
+-- The call c was answered: but for the log the caller is this view, and its entry is at the end of the log.
+pub record HasEntered (z : Sizes) (s : CallerState) (after : View) (c : Call) (t : CallerState) : Type 0 where
+  pub same : IsSameSeat s t
+  pub entered : Enters z s.view c after t.view
+  pub lawful : IsLawfulCaller z t.view
+
 -- the call was answered where the bucket had the word that was noted; a lone caller finds it
 pub record IsValidated (z : Sizes) (s t : CallerState) (c : Call) (here : Bool) : Type 0 where
-  pub valid : here ≡ true → t ≡ with_view s (view_after_validate s.view c)
+  pub same : IsSameSeat s t
+  pub valid : here ≡ true → Enters z s.view c (view_after_validate s.view c) t.view
   pub not : here ≡ false → t ≡ with_view s (without_notes s.view)
   pub lone : s.view.lone ≡ true → here ≡ true
   pub lawful : IsLawfulCaller z t.view

@@ -1,5 +1,7 @@
 -- What a view becomes at each kind of step on a bucket, and what the step tells its caller.
 use Rattle.std.specs.Prelude.{◌≡◌, ◌⊎◌, ℕ, ◌+◌, ◌^◌, ◌<◌, ◌≤◌, List, [], ◌∷◌, ◌++◌, length, slice_index, slice_set, Bool, true, false, Option, Some, None}
+use lib.ListN.{get_elem?}
+use mathlib.Core.Option.{some}
 use Rattle.std.specs.FinMap.{get}
 use Rattle.std.specs.List.{last_or}
 use Rattle.bihash_words.specs.Maps.{Event, Pairs, written}
@@ -8,7 +10,8 @@ use Rattle.bihash_words.specs.Words.{Fits, packed}
 use Rattle.bihash_words.specs.declared.patch.Reply.TheVariants.{Changed, NoPages}
 use Rattle.bihash_steps.specs.Words.{block_words}
 use Rattle.bihash_steps.specs.Histories.{IsKeyOf, IsPrefix, IsWrite, IsWriteList, IsAnswer, after, is_changed, store_of, write_of}
-use Rattle.bihash_steps.specs.Callers.{known_at, opening_at, IsLawfulCaller}
+use Rattle.bihash_steps.specs.Callers.{known_at, opening_at, HasNumber, IsLawfulCaller}
+use Rattle.bihash_steps.specs.Logs.{Begins, writes_on}
 use Rattle.bihash_steps.specs.Blocks.{IsBlockOf}
 use Rattle.bihash_steps.specs.Buckets.{AreReadIn, word_of, open_word}
 use Rattle.bihash_steps.specs.PageStores.{returned_in}
@@ -16,6 +19,7 @@ use Rattle.bihash_steps.specs.Views.{no_notes}
 use Rattle.bihash_steps.specs.Steps.{ViewOfSeat}
 use Rattle.bihash_steps.specs.declared.view.Write.{Write}
 use Rattle.bihash_steps.specs.declared.view.Call.{Call}
+use Rattle.bihash_steps.specs.declared.view.Entry.{Entry}
 use Rattle.bihash_steps.specs.declared.view.Record.{Record}
 use Rattle.bihash_steps.specs.declared.view.Extent.{Extent}
 use Rattle.bihash_steps.specs.declared.view.LockedBucket.{LockedBucket}
@@ -225,6 +229,26 @@ pub record MayAnswer (z : Sizes) (v : View) (b word : ℕ) (c : Call) : Type 0 w
 abbrev pub view_after_answer : View → Call → View
 view_after_answer v c = without_lock (with_call v c)
 
+-- ---- The entry of an answered call
+
+abbrev pub entry_of : View → Call → Entry
+entry_of v c = record { by = acting v.records; call = c }
+
+-- The call of the caller v was answered at a step before which the log of the table was `before`: its entry is the
+-- next one. What the caller knew of the log begins it, and all that others entered since bears no number of the
+-- caller. What the caller knew of the bucket are all its writes: the entry has the bucket's version at that step.
+pub record Enters (z : Sizes) (v : View) (c : Call) (after w : View) : Type 0 where
+  pub before : List Entry
+  pub begins : Begins v.log before
+  pub others : (k : ℕ) (e : Entry) → get_elem? begins.rest k ≡ some e → HasNumber v.records e.by → ⊥
+  pub now : writes_on c.bucket before ≡ known_at v.known c.bucket
+  pub is : w ≡ record after { log = before ++ entry_of v c ∷ [] }
+
+pub record TellsEntry (z : Sizes) (after : View → View) (c : Call) (m m' : ViewOfSeat) : Type 0 where
+  pub slots : m'.1 ≡ m.1
+  pub entered : Enters z m.0 c (after m.0) m'.0
+  pub lawful : IsLawfulCaller z m'.0
+
 pub record TellsEvent (z : Sizes) (after : View → View) (m m' : ViewOfSeat) : Type 0 where
   pub seat : m' ≡ (after m.0, m.1)
   pub lawful : IsLawfulCaller z m'.0
@@ -317,7 +341,7 @@ view_after_validate v c = without_notes (with_call v c)
 -- a lone caller finds the word that it noted
 pub record TellsValid (z : Sizes) (word : ℕ) (c : Call) (m : ViewOfSeat) (found : ℕ) (m' : ViewOfSeat) : Type 0 where
   pub slots : m'.1 ≡ m.1
-  pub valid : found ≡ word → m'.0 ≡ view_after_validate m.0 c
+  pub valid : found ≡ word → Enters z m.0 c (view_after_validate m.0 c) m'.0
   pub not : (found ≡ word → ⊥) → m'.0 ≡ without_notes m.0
   pub lone : m.0.lone ≡ true → found ≡ word
   pub lawful : IsLawfulCaller z m'.0

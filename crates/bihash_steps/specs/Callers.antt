@@ -2,21 +2,19 @@
 use Rattle.std.specs.Prelude.{◌≡◌, ◌≢◌, ◌⊎◌, ℕ, ◌+◌, ◌<◌, ◌≤◌, true, List, [], length, slice_index_or, zero, suc}
 use lib.ListN.{get_elem?}
 use mathlib.Core.Option.{some}
-use Rattle.std.specs.FinMap.{from_entries}
 use Rattle.bihash_words.specs.Maps.{Pairs}
 use Rattle.bihash_words.specs.Sizes.{Sizes}
 use Rattle.bihash_steps.specs.Words.{buckets}
-use Rattle.bihash_steps.specs.Histories.{IsLegal, IsPrefix, IsWriteList, is_changed}
+use Rattle.bihash_steps.specs.Histories.{Begins, IsLegal, IsPrefix, IsWriteList, is_changed}
+pub use Rattle.bihash_steps.specs.Histories.{opening_in}
+use Rattle.bihash_steps.specs.Logs.{IsLogged}
 use Rattle.bihash_steps.specs.declared.view.Write.{Write}
 use Rattle.bihash_steps.specs.declared.view.Call.{Call}
+use Rattle.bihash_steps.specs.declared.view.Entry.{Entry}
 use Rattle.bihash_steps.specs.declared.view.Record.{Record}
 use Rattle.bihash_steps.specs.declared.view.Known.{Known}
 pub use Rattle.bihash_steps.specs.declared.view.Openings.{Openings}
 use Rattle.bihash_steps.specs.declared.view.View.{View}
-
--- the map with which bucket b of a row with these openings began
-abbrev pub opening_in : Openings → ℕ → Pairs
-opening_in openings b = from_entries (slice_index_or openings.pairs b [])
 
 -- the map with which bucket b began
 abbrev pub opening_at : Known → ℕ → Pairs
@@ -69,13 +67,14 @@ abbrev pub HasMadeAll : Sizes → View → Type 0
 HasMadeAll z v = (b : ℕ) → b < buckets z → HasMade v.records (known_at v.known b)
 
 -- A lawful caller. It has a number, what it knows of a bucket is a write list, and a lone caller made each
--- of these writes.
+-- of these writes. What it knows of the log is a log that has its calls.
 pub record IsLawfulCaller (z : Sizes) (v : View) : Type 0 where
   pub acts : 1 ≤ length v.records
   pub numbers : HasNumbers v.seen v.records
   pub lawful : IsLawful z v.known v.records
   pub lists : (b : ℕ) → b < buckets z → IsWriteList z b (opening_at v.known b) (known_at v.known b)
   pub made : v.lone ≡ true → HasMadeAll z v
+  pub logged : IsLogged z v.known.openings v.log v.records
 
 -- a whole caller has every number up to the caller count
 abbrev pub IsWhole : List Record → ℕ → Type 0
@@ -96,13 +95,21 @@ abbrev pub KnowsOwn : List Record → Known → Known → Type 0
 KnowsOwn records known other = (b n : ℕ) (w : Write) → get_elem? (known_at other b) n ≡ some w
     → HasNumber records w.by → get_elem? (known_at known b) n ≡ some w
 
--- Two callers agree: they share no number, of each bucket the one knows a beginning of what the other
--- knows, and neither lacks a write of its own that the other knows.
+-- Of two callers with these records one knows a beginning of the log that the other knows, and neither lacks an entry
+-- of its own that the other knows.
+pub record HaveOneLog (records : List Record) (log : List Entry) (others : List Record) (other : List Entry) : Type 0 where
+  pub one : Begins log other ⊎ Begins other log
+  pub own : (k : ℕ) (e : Entry) → get_elem? other k ≡ some e → HasNumber records e.by → k < length log
+  pub other_own : (k : ℕ) (e : Entry) → get_elem? log k ≡ some e → HasNumber others e.by → k < length other
+
+-- Two callers agree: they share no number, of each bucket and of the log the one knows a beginning of what the
+-- other knows, and neither lacks a write or an entry of its own that the other knows.
 pub record Agrees (v w : View) : Type 0 where
   pub apart : Apart v.records w.records
   pub known : IsConsistent v.known w.known
   pub own : KnowsOwn v.records v.known w.known
   pub other_own : KnowsOwn w.records w.known v.known
+  pub logs : HaveOneLog v.records v.log w.records w.log
 
 -- how many writes are known of the first n buckets
 abbrev pub known_writes : Known → ℕ → ℕ

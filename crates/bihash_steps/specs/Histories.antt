@@ -1,9 +1,9 @@
 -- The writes of a bucket in their order, and when an answered call is legal on them.
-use Rattle.std.specs.Prelude.{◌≡◌, ℕ, ◌+◌, ◌≤◌, ◌++◌, Bool, true, false, List, [], ◌∷◌, length, Option, Some, None}
+use Rattle.std.specs.Prelude.{◌≡◌, ℕ, ◌+◌, ◌≤◌, ◌++◌, Bool, true, false, List, [], ◌∷◌, length, slice_index_or, Option, Some, None}
 use Rattle.std.proofs.Math.ListN.{take}
 use lib.ListN.{get_elem?}
 use mathlib.Core.Option.{some}
-use Rattle.std.specs.FinMap.{get}
+use Rattle.std.specs.FinMap.{from_entries, get}
 use Rattle.bihash_words.specs.Maps.{Pairs, Bounds, Event, IsEvent, written}
 use Rattle.bihash_words.specs.Patches.{IsStorable}
 use Rattle.bihash_words.specs.declared.patch.Reply.{Reply}
@@ -12,6 +12,8 @@ use Rattle.bihash_words.specs.Sizes.{Sizes}
 pub use Rattle.bihash_words.specs.Sizes.{bucket_of}
 use Rattle.bihash_steps.specs.declared.view.Write.{Write}
 use Rattle.bihash_steps.specs.declared.view.Call.{Call}
+use Rattle.bihash_steps.specs.declared.view.Entry.{Entry}
+use Rattle.bihash_steps.specs.declared.view.Openings.{Openings}
 use Rattle.bihash_steps.specs.declared.view.PageStore.{PageStore}
 
 -- what bounds the map of a bucket
@@ -22,6 +24,10 @@ bounds_of z = record { limit = z.limit; max_log2 = z.max_log2 }
 pub record IsKeyOf (z : Sizes) (b : ℕ) (key : List ℕ) : Type 0 where
   pub long : length key ≡ z.key_words
   pub home : bucket_of z key ≡ b
+
+-- the map with which bucket b of a row with these openings began
+abbrev pub opening_in : Openings → ℕ → Pairs
+opening_in openings b = from_entries (slice_index_or openings.pairs b [])
 
 -- the map after these writes, from the map m
 abbrev pub replay : Pairs → List Write → Pairs
@@ -58,6 +64,11 @@ pub record IsWriteList (z : Sizes) (b : ℕ) (opening : Pairs) (H : List Write) 
 -- xs is the beginning of ys
 pub record IsPrefix (xs ys : List Write) : Type 0 where
   pub rest : List Write
+  pub whole : ys ≡ xs ++ rest
+
+-- the log xs is the beginning of the log ys
+pub record Begins (xs ys : List Entry) : Type 0 where
+  pub rest : List Entry
   pub whole : ys ≡ xs ++ rest
 
 -- whether a reply tells of a write

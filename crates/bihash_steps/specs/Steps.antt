@@ -5,10 +5,11 @@ use mathlib.Core.Option.{some}
 use Rattle.atomic_table.specs.Table.{Me}
 use Rattle.bihash_words.specs.Sizes.{Sizes}
 use Rattle.bihash_steps.specs.Words.{buckets}
-use Rattle.bihash_steps.specs.Callers.{HasMadeAll, IsConsistent, IsLawfulCaller, IsWhole, KnowsOwn, known_at, known_writes}
+use Rattle.bihash_steps.specs.Callers.{HasMadeAll, HaveOneLog, IsConsistent, IsLawfulCaller, IsWhole, KnowsOwn, known_at, known_writes}
 use Rattle.bihash_steps.specs.PageStores.{BearOutOfPages, most_used}
 use Rattle.bihash_steps.specs.Views.{empty_record, nothing_known, nothing_held, no_notes}
 use Rattle.bihash_steps.specs.declared.view.Write.{Write}
+use Rattle.bihash_steps.specs.declared.view.Entry.{Entry}
 use Rattle.bihash_steps.specs.declared.view.Meeting.{Meeting}
 use Rattle.bihash_steps.specs.declared.view.View.{View}
 use Rattle.bihash_steps.specs.declared.faults.SplitFault.{SplitFault}
@@ -113,10 +114,15 @@ longer_each [] yss = yss
 longer_each (xs ∷ xss) [] = xs ∷ xss
 longer_each (xs ∷ xss) (ys ∷ yss) = longer xs ys ∷ longer_each xss yss
 
+-- the longer of two beginnings of the log
+abbrev pub longer_log : List Entry → List Entry → List Entry
+longer_log xs ys = cond (nat_le (length ys) (length xs)) xs ys
+
 -- the caller u, which knows what v or w knew
 abbrev pub informed_by : View → View → View → View
 informed_by u v w = record u {
   known = record u.known { writes = longer_each v.known.writes w.known.writes };
+  log = longer_log v.log w.log;
   seen = max v.seen w.seen;
   lone = false;
   notes = no_notes;
@@ -131,7 +137,7 @@ abbrev pub joining : View → View → View
 joining v w = record (view_after_join v w) {
   notes = record no_notes {
     meeting = Some
-        (record { first = v.known; second = w.known; first_records = v.records; second_records = w.records });
+        (record { first = v.known; second = w.known; first_log = v.log; second_log = w.log; first_records = v.records; second_records = w.records });
   };
 }
 
@@ -140,6 +146,7 @@ abbrev pub view_after_spending : Sizes → View
 view_after_spending z = record {
   records = [];
   known = nothing_known z;
+  log = [];
   seen = 0;
   lone = false;
   holds = nothing_held;
@@ -153,3 +160,4 @@ pub record TellsAgreement (z : Sizes) (m m' : ViewOfSeat) : Type 0 where
   pub lawful : IsLawfulCaller z m'.0
   pub agree : (y : Meeting) → m.0.notes.meeting ≡ Some y → IsConsistent y.first y.second
       × KnowsOwn y.first_records y.first y.second × KnowsOwn y.second_records y.second y.first
+      × HaveOneLog y.first_records y.first_log y.second_records y.second_log

@@ -40,6 +40,7 @@ abbrev pub opening_view : Sizes → Openings → View
 opening_view z openings = record {
   records = empty_record 1 ∷ [];
   known = nothing_since z openings;
+  log = [];
   seen = 1;
   lone = true;
   holds = nothing_held;

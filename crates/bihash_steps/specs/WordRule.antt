@@ -7,11 +7,12 @@ use Rattle.atomic_table.specs.Table.{State}
 use Rattle.bihash_words.specs.Sizes.{Sizes, IsSound}
 use Rattle.bihash_steps.specs.Words.{count_of, buckets, all_words, Stands}
 use Rattle.bihash_steps.specs.Histories.{IsPrefix}
-use Rattle.bihash_steps.specs.Callers.{Openings, known_at, opening_in, IsLawful, HasNumbers, IsWhole, Apart, KnowsOwn}
+use Rattle.bihash_steps.specs.Callers.{Openings, known_at, opening_in, IsLawful, HasNumbers, IsWhole, Apart, HaveOneLog, KnowsOwn}
 use Rattle.bihash_steps.specs.Blocks.{no_block}
 use Rattle.bihash_steps.specs.Partition.{IsPartition}
 use Rattle.bihash_steps.specs.Buckets.{BucketState, IsBucket, HoldsBucketIf, NotesLocks, IsOpenIf, StandsStillIf}
 use Rattle.bihash_steps.specs.PageStores.{StoreState, IsStore, HoldsStoreIf, NotesStore, HoldsBlockIf, BearOutOfPages, LeftIf, all_used, runs_now}
+use Rattle.bihash_steps.specs.LogRule.{LogRule}
 use Rattle.bihash_steps.specs.Views.{nothing_held}
 use Rattle.bihash_steps.specs.declared.view.Write.{Write}
 use Rattle.bihash_steps.specs.declared.view.Record.{Record}
@@ -37,7 +38,8 @@ pub record IsInformed (z : Sizes) (t : TableState) (known : Known) (records : Li
   pub own : (i b n : ℕ) (r : Record) (w : Write) → get_elem? records i ≡ some r → b < buckets z
       → get_elem? (t.bucket b).history n ≡ some w → w.by ≡ r.number → n < length (known_at known b)
 
--- what two callers knew when they met is of one table, and begins its histories; each knew its own writes
+-- what two callers knew when they met is of one table, and begins its histories and its log; each knew its own writes
+-- and entries
 pub record HaveMet (z : Sizes) (t : TableState) (m : Meeting) : Type 0 where
   pub openings : m.first.openings ≡ m.second.openings
   pub wide : (length m.first.writes ≡ buckets z) × (length m.second.writes ≡ buckets z)
@@ -45,6 +47,7 @@ pub record HaveMet (z : Sizes) (t : TableState) (m : Meeting) : Type 0 where
       × IsPrefix (known_at m.second b) (t.bucket b).history
   pub own : KnowsOwn m.first_records m.first m.second
   pub other_own : KnowsOwn m.second_records m.second m.first
+  pub logs : HaveOneLog m.first_records m.first_log m.second_records m.second_log
 
 abbrev pub HaveMetIf : Sizes → TableState → Option Meeting → Type 0
 HaveMetIf z t None = Unit {0}
@@ -96,6 +99,8 @@ pub record WordRule (z : Sizes) (s : State (Unit {0}) View) : Type 0 where
   -- each lock that is held has a seat that holds it
   pub holders : (b j : ℕ) → (table.bucket b).lock ≡ Some j → j < length s.views
   pub keeper : (j : ℕ) → table.store.lock ≡ Some j → j < length s.views
+  -- all answered calls stand in one log, of which each view knows a beginning
+  pub logged : LogRule z table.openings (λ b. (table.bucket b).history) s.views
   -- each page has one owner
   pub parted : IsPartition z.pages table.store.store.used
       (runs_now table.bucket table.store.store s.views)

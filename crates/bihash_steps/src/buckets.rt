@@ -1,7 +1,7 @@
 //! Steps on a bucket: its word, its lock, and the words of its block under the lock.
 ghost use Rattle.std.specs.Prelude.{◌≡◌, [], ◌∷◌, Some, slice_index};
 ghost use Rattle.bihash_words.specs.Sizes.{sizes_of};
-ghost use Rattle.bihash_steps.specs.BucketCalls.{FindsBucket, IsValidated, MayLock, TriesLock, answer_at, recycled_at, refusal_at, write_at};
+ghost use Rattle.bihash_steps.specs.BucketCalls.{FindsBucket, IsValidated, MayLock, TriesLock, answer_at, recycled_at, refusal_at, write_at, HasEntered};
 ghost use Rattle.bihash_steps.specs.BucketSteps.{IsLockedWord, with_lock, stored_in, HoldsClean, without_lock, MayAnswer, view_after_answer, MayMark, MayPublish, view_after_write, IsOpenWord, with_reading, MayValidate};
 ghost use Rattle.bihash_steps.specs.StoreSteps.{MayReplace, view_after_replace};
 ghost use Rattle.bihash_steps.specs.declared.view.LockedBucket.{LockedBucket};
@@ -174,8 +174,9 @@ impl<S: Shape> Row<S> {
         requires at { IsAt (sizes_of S.Shape) self.now caller.old bucket }
         requires may { MayAnswer (sizes_of S.Shape) caller.old.view bucket word
             (answer_at ⟦<S as Shape>⟧ caller.old.view bucket event.now) }
-        ensures { Becomes (sizes_of S.Shape) caller.old
-            (view_after_answer caller.old.view (answer_at ⟦<S as Shape>⟧ caller.old.view bucket event.now)) caller.new }
+        ensures { HasEntered (sizes_of S.Shape) caller.old
+            (view_after_answer caller.old.view (answer_at ⟦<S as Shape>⟧ caller.old.view bucket event.now))
+            (answer_at ⟦<S as Shape>⟧ caller.old.view bucket event.now) caller.new }
     {
         self.cancel_as::<Brand>(caller, bucket, word, event);
     }
@@ -190,7 +191,7 @@ impl<S: Shape> Row<S> {
     )
         requires at { IsAt (sizes_of S.Shape) self.now caller.old bucket }
         requires may { MayAnswer (sizes_of S.Shape) caller.old.view bucket word E.call }
-        ensures { Becomes (sizes_of S.Shape) caller.old (view_after_answer caller.old.view E.call) caller.new }
+        ensures { HasEntered (sizes_of S.Shape) caller.old (view_after_answer caller.old.view E.call) E.call caller.new }
     {
         let shared = &self.table.shared;
         shared.store::<Answers<S, E>>(&mut caller.seat, self.bucket_at(bucket), word.to_word());
@@ -208,8 +209,9 @@ impl<S: Shape> Row<S> {
         requires at { IsAt (sizes_of S.Shape) self.now caller.old bucket }
         requires may { MayPublish (sizes_of S.Shape) caller.old.view bucket word
             (write_at ⟦<S as Shape>⟧ caller.old.view bucket event.now) }
-        ensures { Becomes (sizes_of S.Shape) caller.old
-            (view_after_write caller.old.view (write_at ⟦<S as Shape>⟧ caller.old.view bucket event.now)) caller.new }
+        ensures { HasEntered (sizes_of S.Shape) caller.old
+            (view_after_write caller.old.view (write_at ⟦<S as Shape>⟧ caller.old.view bucket event.now))
+            (write_at ⟦<S as Shape>⟧ caller.old.view bucket event.now) caller.new }
     {
         self.publish_called::<Brand>(caller, bucket, word, event);
     }
@@ -224,7 +226,7 @@ impl<S: Shape> Row<S> {
     )
         requires at { IsAt (sizes_of S.Shape) self.now caller.old bucket }
         requires may { MayPublish (sizes_of S.Shape) caller.old.view bucket word E.call }
-        ensures { Becomes (sizes_of S.Shape) caller.old (view_after_write caller.old.view E.call) caller.new }
+        ensures { HasEntered (sizes_of S.Shape) caller.old (view_after_write caller.old.view E.call) E.call caller.new }
     {
         self.publish_as::<E>(caller, bucket, word, word.linear());
     }
@@ -241,8 +243,10 @@ impl<S: Shape> Row<S> {
         requires at { IsAt (sizes_of S.Shape) self.now caller.old bucket }
         requires may { MayMark (sizes_of S.Shape) caller.old.view bucket word recycled.now.linear
             (recycled_at ⟦<S as Shape>⟧ caller.old.view bucket recycled.now (X.is_expired recycled.now.expiry.now)) }
-        ensures { Becomes (sizes_of S.Shape) caller.old (view_after_write caller.old.view
-            (recycled_at ⟦<S as Shape>⟧ caller.old.view bucket recycled.now (X.is_expired recycled.now.expiry.now))) caller.new }
+        ensures { HasEntered (sizes_of S.Shape) caller.old
+            (view_after_write caller.old.view
+            (recycled_at ⟦<S as Shape>⟧ caller.old.view bucket recycled.now (X.is_expired recycled.now.expiry.now)))
+            (recycled_at ⟦<S as Shape>⟧ caller.old.view bucket recycled.now (X.is_expired recycled.now.expiry.now)) caller.new }
     {
         self.publish_recycled_called::<Brand, X>(caller, bucket, word, recycled);
     }
@@ -257,7 +261,7 @@ impl<S: Shape> Row<S> {
     )
         requires at { IsAt (sizes_of S.Shape) self.now caller.old bucket }
         requires may { MayMark (sizes_of S.Shape) caller.old.view bucket word recycled.now.linear E.call }
-        ensures { Becomes (sizes_of S.Shape) caller.old (view_after_write caller.old.view E.call) caller.new }
+        ensures { HasEntered (sizes_of S.Shape) caller.old (view_after_write caller.old.view E.call) E.call caller.new }
     {
         self.publish_as::<E>(caller, bucket, word, recycled.linear);
     }
@@ -272,7 +276,7 @@ impl<S: Shape> Row<S> {
     )
         requires at { IsAt (sizes_of S.Shape) self.now caller.old bucket }
         requires may { MayMark (sizes_of S.Shape) caller.old.view bucket word linear E.call }
-        ensures { Becomes (sizes_of S.Shape) caller.old (view_after_write caller.old.view E.call) caller.new }
+        ensures { HasEntered (sizes_of S.Shape) caller.old (view_after_write caller.old.view E.call) E.call caller.new }
     {
         self.is_sound();
         let size = BlockSize {
@@ -298,8 +302,9 @@ impl<S: Shape> Row<S> {
         requires at { IsAt (sizes_of S.Shape) self.now caller.old bucket }
         requires may { MayReplace (sizes_of S.Shape) caller.old.view bucket word extent
             (write_at ⟦<S as Shape>⟧ caller.old.view bucket event.now) }
-        ensures { Becomes (sizes_of S.Shape) caller.old
-            (view_after_replace caller.old.view (write_at ⟦<S as Shape>⟧ caller.old.view bucket event.now)) caller.new }
+        ensures { HasEntered (sizes_of S.Shape) caller.old
+            (view_after_replace caller.old.view (write_at ⟦<S as Shape>⟧ caller.old.view bucket event.now))
+            (write_at ⟦<S as Shape>⟧ caller.old.view bucket event.now) caller.new }
     {
         self.publish_block_as::<Brand>(caller, bucket, word, extent, event);
     }
@@ -315,7 +320,7 @@ impl<S: Shape> Row<S> {
     )
         requires at { IsAt (sizes_of S.Shape) self.now caller.old bucket }
         requires may { MayReplace (sizes_of S.Shape) caller.old.view bucket word extent E.call }
-        ensures { Becomes (sizes_of S.Shape) caller.old (view_after_replace caller.old.view E.call) caller.new }
+        ensures { HasEntered (sizes_of S.Shape) caller.old (view_after_replace caller.old.view E.call) E.call caller.new }
     {
         let shared = &self.table.shared;
         let next = word.next(extent.page, extent.size);

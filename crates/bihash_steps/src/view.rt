@@ -33,6 +33,12 @@ pub struct Record {
     pub locks: u64,
 }
 
+/// One entry of the log of a table: an answered call, and the caller number that it was made under.
+pub struct Entry {
+    pub by: u64,
+    pub call: Call,
+}
+
 /// Where the block of a bucket lies: its first page (0: there is no block), and its size.
 #[derive(Clone, Copy, Debug, PartialEq, Eq)]
 pub struct Extent {
@@ -108,10 +114,12 @@ pub struct Known {
     pub writes: LinkedList<LinkedList<Write>>,
 }
 
-/// What two callers knew when they met, and their records.
+/// What two callers knew when they met, of the buckets and of the log, and their records.
 pub struct Meeting {
     pub first: Known,
     pub second: Known,
+    pub first_log: LinkedList<Entry>,
+    pub second_log: LinkedList<Entry>,
     pub first_records: LinkedList<Record>,
     pub second_records: LinkedList<Record>,
 }
@@ -126,11 +134,12 @@ pub struct Notes {
 }
 
 /// A caller: its numbers with their records, of which it acts under the first, what it knows of the
-/// buckets, the greatest caller count that it saw, whether it noted that it has every number, what it
-/// holds, and what it noted.
+/// buckets and of the log of all answered calls, the greatest caller count that it saw, whether it noted
+/// that it has every number, what it holds, and what it noted.
 pub struct View {
     pub records: LinkedList<Record>,
     pub known: Known,
+    pub log: LinkedList<Entry>,
     pub seen: u64,
     pub lone: bool,
     pub holds: Holdings,

@@ -9,7 +9,7 @@ use Rattle.bihash_steps.specs.Histories.{bounds_of, bucket_of}
 use Rattle.bihash_steps.specs.Callers.{known_at}
 use Rattle.bihash_steps.specs.Blocks.{HasPair, HoldsPair, free}
 use Rattle.bihash_steps.specs.BucketCalls.{event}
-use Rattle.bihash_steps.specs.BucketSteps.{MayPublish, call_of, map_now, with_lock, stored_in, view_after_write}
+use Rattle.bihash_steps.specs.BucketSteps.{Enters, MayPublish, call_of, map_now, with_lock, stored_in, view_after_write}
 use Rattle.bihash_steps.specs.Seats.{CallerState, with_view}
 use Rattle.bihash_steps.specs.declared.view.LockedBucket.{LockedBucket}
 use Rattle.bihash_steps.specs.declared.view.View.{View}
@@ -58,7 +58,8 @@ module _ (z : Sizes) (v : View) (b word : ℕ) (l : LockedBucket) (has : HasLock
         (key_stored z v b word l has w i vacant.inside key z.key_words h w' value refl long is)
         (value_stored z v b word l has w i vacant.inside key z.key_words h w' value refl long is))
 
-    pub filled : (u : View) → u ≡ view_after_write w' (call_of w' b 1 (event key None (Set value) (Changed None)))
+    pub filled : (u : View) → Enters z w' (call_of w' b 1 (event key None (Set value) (Changed None)))
+        (view_after_write w' (call_of w' b 1 (event key None (Set value) (Changed None)))) u
         → IsAnswered z v u (event key None (Set value) (Changed None))
     filled = published z v b word l has key long home None (Set value) w' _ filled_is
 
@@ -84,7 +85,8 @@ module _ (z : Sizes) (v : View) (b word : ℕ) (l : LockedBucket) (has : HasLock
           (key_stored z v b word l has v i pair.pair.0 key z.key_words h w' value refl long is)
           (value_stored z v b word l has v i pair.pair.0 key z.key_words h w' value refl long is))
 
-      pub overwritten : (u : View) → u ≡ view_after_write w' (call_of w' b 1 (event key (Some old) (Set value) (Changed (Some old))))
+      pub overwritten : (u : View) → Enters z w' (call_of w' b 1 (event key (Some old) (Set value) (Changed (Some old))))
+          (view_after_write w' (call_of w' b 1 (event key (Some old) (Set value) (Changed (Some old))))) u
           → IsAnswered z v u (event key (Some old) (Set value) (Changed (Some old)))
       overwritten = published z v b word l has key long home (Some old) (Set value) w' _ overwritten_is
 
@@ -102,6 +104,7 @@ module _ (z : Sizes) (v : View) (b word : ℕ) (l : LockedBucket) (has : HasLock
           (stored_placed z v b word l has v i pair.pair.0 key 0 h w' z.key_words free is (omega arith))
           key old pair (stored_here z v b word l has v i pair.pair.0 key 0 h w' z.key_words free is (omega arith)) k apart left)
 
-      pub removed : (u : View) → u ≡ view_after_write w' (call_of w' b 1 (event key (Some old) Remove (Changed (Some old))))
+      pub removed : (u : View) → Enters z w' (call_of w' b 1 (event key (Some old) Remove (Changed (Some old))))
+          (view_after_write w' (call_of w' b 1 (event key (Some old) Remove (Changed (Some old))))) u
           → IsAnswered z v u (event key (Some old) Remove (Changed (Some old)))
       removed = published z v b word l has key long home (Some old) Remove w' _ freed_is

@@ -10,13 +10,13 @@ use Rattle.bihash_steps.specs.Histories.{IsPrefix, bucket_of}
 use Rattle.bihash_steps.specs.Callers.{known_at}
 use Rattle.bihash_steps.specs.Buckets.{word_of}
 use Rattle.bihash_steps.specs.Views.{nothing_held}
-use Rattle.bihash_steps.specs.BucketSteps.{with_history, lock_counted, push_call, SeesOpen, SeesLocked}
+use Rattle.bihash_steps.specs.BucketSteps.{acting, with_history, lock_counted, push_call, SeesOpen, SeesLocked}
 use Rattle.bihash_steps.specs.declared.view.Write.{Write}
 use Rattle.bihash_steps.specs.declared.view.Record.{Record}
 use Rattle.bihash_steps.specs.declared.view.View.{View}
 use Rattle.bihash_steps.proofs.Prefixes.{prefix_refl}
 use Rattle.bihash_table.specs.Answers.{locks_of, with_locks, entry_of, own_writes, recycled_update}
-use Rattle.bihash_table.specs.Promise.{IsAnswered, IsContended, IsUpdated, IsUpdatedOver}
+use Rattle.bihash_table.specs.Promise.{IsAnswered, IsContended, IsEntered, IsUpdated, IsUpdatedOver}
 use Rattle.bihash_table.specs.inner.Locked.{IsLocked}
 use Rattle.bihash_table.proofs.Promised.{answered_as, answered_by, contended_as, contended_by}
 use Rattle.bihash_table.proofs.Released.{with_locks-locks_of}
@@ -30,6 +30,10 @@ with_one_more (r ∷ rs) = refl
 pub with_locks_twice : (m n : ℕ) (rs : List Record) → with_locks m (with_locks n rs) ≡ with_locks m rs
 with_locks_twice m n [] = refl
 with_locks_twice m n (r ∷ rs) = refl
+
+pub acting_locks : (n : ℕ) (rs : List Record) → acting (with_locks n rs) ≡ acting rs
+acting_locks n [] = refl
+acting_locks n (r ∷ rs) = refl
 
 -- ---- Histories
 
@@ -123,13 +127,18 @@ module _ (z : Sizes) (v u w : View) where
       records = push_call (entry_of z (length t.history) e t.noted) (with_locks t.locks x.records);
       holds = nothing_held;
       notes = w.notes;
+      log = w.log;
     }) s.is
         ∙ (λ i. record v {
           records = push_call (entry_of z (length t.history) e t.noted) (with_locks_twice t.locks s.locks v.records i);
           known = record v.known { writes = set-set v.known.writes b s.history t.history i };
           holds = nothing_held;
           notes = w.notes;
+          log = w.log;
         }));
+    entered = let call = entry_of z (length t.history) e t.noted in
+        subst (λ (n : ℕ). IsEntered v.log n call w.log t.history) (acting_locks s.locks v.records)
+        (subst (λ (x : View). IsEntered x.log (acting x.records) call w.log t.history) s.is t.entered);
     alone = λ lone. let few = t.alone (ahead_lone v u b s lone) in let same = ahead_few v u b s lone in
         let own : ℕ = own_writes e.reply in omega arith;
   }

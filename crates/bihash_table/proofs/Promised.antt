@@ -1,17 +1,18 @@
 -- What a call leaves of its caller as one equation of views, and field by field.
-use Rattle.std.proofs.Common.{◌≡◌, ◌≤◌, ℕ, ◌+◌, true, List, length, Option, ap}
+use Rattle.std.proofs.Common.{◌≡◌, ◌≤◌, ℕ, ◌+◌, true, List, length, Option, ap, refl}
 use Rattle.bihash_words.specs.Maps.{Event}
 use Rattle.bihash_words.specs.Sizes.{Sizes}
 use Rattle.bihash_steps.specs.Histories.{IsPrefix, bucket_of}
 use Rattle.bihash_steps.specs.Callers.{known_at}
 use Rattle.bihash_steps.specs.Views.{nothing_held}
-use Rattle.bihash_steps.specs.BucketSteps.{with_history, push_call}
+use Rattle.bihash_steps.specs.BucketSteps.{acting, with_history, push_call}
 use Rattle.bihash_steps.specs.declared.view.Write.{Write}
 use Rattle.bihash_steps.specs.declared.view.PageStore.{PageStore}
+use Rattle.bihash_steps.specs.declared.view.Entry.{Entry}
 use Rattle.bihash_steps.specs.declared.view.Record.{Record}
 use Rattle.bihash_steps.specs.declared.view.View.{View}
 use Rattle.bihash_table.specs.Answers.{entry_of, own_writes, with_locks}
-use Rattle.bihash_table.specs.Promise.{IsAnswered, IsContended}
+use Rattle.bihash_table.specs.Promise.{IsAnswered, IsContended, IsEntered}
 
 -- the call was answered, as one equation
 pub record LeavesEntry (z : Sizes) (v w : View) (e : Event) : Type 0 where
@@ -23,7 +24,9 @@ pub record LeavesEntry (z : Sizes) (v w : View) (e : Event) : Type 0 where
     records = push_call (entry_of z (length history) e noted) (with_locks locks v.records);
     holds = nothing_held;
     notes = w.notes;
+    log = w.log;
   }
+  pub entered : IsEntered v.log (acting v.records) (entry_of z (length history) e noted) w.log history
   pub alone : v.lone ≡ true → length history
       ≤ length (known_at v.known (bucket_of z e.key)) + own_writes e.reply
 
@@ -40,10 +43,11 @@ pub record LeavesNone (z : Sizes) (v w : View) (b : ℕ) : Type 0 where
   pub alone : v.lone ≡ true → length history ≤ length (known_at v.known b)
 
 -- field by field the view is this one
-one_view : (v w : View) (b : ℕ) (history : List Write) (records : List Record) → w.known ≡ (with_history v b history).known → w.records ≡ records
-    → w.seen ≡ v.seen → w.lone ≡ v.lone → w.holds ≡ nothing_held
-    → w ≡ record (with_history v b history) { records = records; holds = nothing_held; notes = w.notes }
-one_view v w b history records known recorded seen lone free = λ i. record {
+one_view : (v w : View) (b : ℕ) (history : List Write) (records : List Record) (log : List Entry) → w.known ≡ (with_history v b history).known → w.records ≡ records
+    → w.seen ≡ v.seen → w.lone ≡ v.lone → w.holds ≡ nothing_held → w.log ≡ log
+    → w ≡ record (with_history v b history) { records = records; holds = nothing_held; notes = w.notes; log = log }
+one_view v w b history records log known recorded seen lone free logged = λ i. record {
+  log = logged i;
   records = recorded i;
   known = known i;
   seen = seen i;
@@ -64,6 +68,7 @@ module _ (z : Sizes) (v w : View) where
     seen = ap (λ (u : View). u.seen) a.is;
     lone = ap (λ (u : View). u.lone) a.is;
     free = ap (λ (u : View). u.holds) a.is;
+    entered = a.entered;
     alone = a.alone;
   }
 
@@ -73,7 +78,8 @@ module _ (z : Sizes) (v w : View) where
     begins = a.begins;
     locks = a.locks;
     noted = a.noted;
-    is = one_view v w (bucket_of z e.key) a.history _ a.known a.records a.seen a.lone a.free;
+    is = one_view v w (bucket_of z e.key) a.history _ w.log a.known a.records a.seen a.lone a.free refl;
+    entered = a.entered;
     alone = a.alone;
   }
 
@@ -87,6 +93,7 @@ module _ (z : Sizes) (v w : View) where
     seen = ap (λ (u : View). u.seen) a.is;
     lone = ap (λ (u : View). u.lone) a.is;
     free = ap (λ (u : View). u.holds) a.is;
+    log = ap (λ (u : View). u.log) a.is;
     alone = a.alone;
   }
 
@@ -95,6 +102,6 @@ module _ (z : Sizes) (v w : View) where
     history = a.history;
     begins = a.begins;
     locks = a.locks;
-    is = one_view v w b a.history _ a.known a.records a.seen a.lone a.free;
+    is = one_view v w b a.history _ v.log a.known a.records a.seen a.lone a.free a.log;
     alone = a.alone;
   }

@@ -1,5 +1,5 @@
 -- A new pair that takes the place of an expired one in a full bucket, and its refusal where no pair is expired.
-use Rattle.std.proofs.Common.{◌≡◌, ◌≢◌, ◌∙◌, ◌<◌, ◌≤◌, ◌/◌, ◌==◌, ℕ, Bool, true, false, true≢false, not, ap, arith, refl, subst, sym, List, length, Option, Some, None}
+use Rattle.std.proofs.Common.{◌≡◌, ◌≢◌, ◌∙◌, ◌<◌, ◌≤◌, ◌/◌, ◌==◌, ◌++◌, ℕ, Bool, true, false, true≢false, not, ap, arith, refl, subst, sym, List, [], ◌∷◌, length, Option, Some, None}
 use Rattle.std.specs.Prelude.{◌||◌}
 use Rattle.std.proofs.lemmas.Bool.{eqb-true}
 use Rattle.std.specs.Cmp.Lexicographic.{slice_cmp}
@@ -19,9 +19,9 @@ use Rattle.bihash_words.proofs.SpareLemmas.{among_words, counted_told, none_spar
 use Rattle.bihash_plan.specs.Recycles.{IsLeastExpired, IsMarked, NoneIsExpired}
 use Rattle.bihash_plan.specs.declared.spare_place.Recycle.{Recycle}
 use Rattle.bihash_steps.specs.Blocks.{HoldsPair, IsBlockOf, places}
-use Rattle.bihash_steps.specs.BucketSteps.{MayMark, call_of, map_now, view_after_write, with_lock}
+use Rattle.bihash_steps.specs.BucketSteps.{Enters, MayMark, acting, call_of, map_now, view_after_write, with_lock}
 use Rattle.bihash_steps.specs.Callers.{IsLawfulCaller, known_at}
-use Rattle.bihash_steps.specs.Histories.{bounds_of, bucket_of}
+use Rattle.bihash_steps.specs.Histories.{bounds_of, bucket_of, write_of}
 use Rattle.bihash_steps.specs.Seats.{CallerState, with_view}
 use Rattle.bihash_steps.specs.declared.view.Extent.{Extent}
 use Rattle.bihash_steps.specs.declared.view.Holdings.{Holdings}
@@ -29,7 +29,7 @@ use Rattle.bihash_steps.specs.declared.view.LockedBucket.{LockedBucket}
 use Rattle.bihash_steps.specs.declared.view.View.{View}
 use Rattle.bihash_steps.specs.declared.view.Write.{Write}
 use Rattle.bihash_table.specs.Answers.{locks_of, recycled_update}
-use Rattle.bihash_table.specs.Promise.{IsAnswered}
+use Rattle.bihash_table.specs.Promise.{IsAnswered, IsEntered}
 use Rattle.bihash_table.specs.Tries.{FinishedOver}
 use Rattle.bihash_table.specs.inner.Locked.{HasLock, IsSpareFor, TakesPlace, UnderLock}
 use Rattle.bihash_table.specs.inner.Seen.{HasSeen, TellsLock}
@@ -42,7 +42,7 @@ use Rattle.bihash_table.proofs.Entering.{crowded_row}
 use Rattle.bihash_table.proofs.LockCounts.{took_no_lock}
 use Rattle.bihash_table.proofs.LookedAt.{pair_value}
 use Rattle.bihash_table.proofs.Released.{written_from_lock}
-use Rattle.bihash_table.proofs.SameCallers.{own_through}
+use Rattle.bihash_table.proofs.SameCallers.{own_through, view_entered, write_entered}
 use Rattle.bihash_table.proofs.Sights.{told_locked}
 use Rattle.bihash_table.proofs.Storing.{key_stored, stored_is, stored_placed, value_stored}
 
@@ -183,15 +183,17 @@ module _ (z : Sizes) (v : View) (b word : ℕ) (l : LockedBucket) (has : HasLock
         (value_stored z v b word l has w i inside key z.key_words h w' value refl long is);
   })
 
-  pub recycled : (u : View) → u ≡ view_after_write w' (call_of w' b 1 e) → IsAnswered z v u e
-  recycled u done =
-      let all : u ≡ view_after_write (with_lock v (Some (record l { now = with_value z h.now i value; stored = true }))) (call_of v b 1 e) =
-      done ∙ ap (λ (x : View). view_after_write x (call_of x b 1 e)) filled_is in
-      let here : View = view_after_write v (call_of v b 1 e) in
+  pub recycled : (u : View) → Enters z w' (call_of w' b 1 e) (view_after_write w' (call_of w' b 1 e)) u → IsAnswered z v u e
+  recycled u entered =
+      let after : View → View = λ x. record (view_after_write x (call_of x b 1 e)) { log = u.log } in
+      let all : u ≡ after (with_lock v (Some (record l { now = with_value z h.now i value; stored = true }))) = view_entered entered ∙ ap after filled_is in
+      let here : View = record (view_after_write v (call_of v b 1 e)) { log = u.log } in
       let notes = ap (λ (x : View). x.notes) all in
       written_from_lock z v u b word l e has home refl
       (all ∙ (ap (λ (h : Holdings). record here { holds = record h { bucket = None } }) has.held
       ∙ ap (λ n. record here { holds = record { bucket = None; store = None; block = None }; notes = n }) (sym notes)))
+      (subst (λ (x : View). IsEntered x.log (acting x.records) (call_of x b 1 e) u.log
+      (known_at x.known b ++ write_of (acting x.records) (call_of x b 1 e) ∷ [])) filled_is (write_entered entered refl))
 
 -- the end of a try that entered its pair so
 pub finished_recycled : {A K : Type 0} (g : Ghosts A K) (s t : CallerState) (key : K) (value : ℕ) (is_expired : ℕ → Bool)

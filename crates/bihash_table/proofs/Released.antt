@@ -15,7 +15,7 @@ use Rattle.bihash_steps.specs.declared.view.LockedBucket.{LockedBucket}
 use Rattle.bihash_steps.specs.declared.view.PageStore.{PageStore}
 use Rattle.bihash_steps.specs.declared.view.View.{View}
 use Rattle.bihash_table.specs.Answers.{entry_of, locks_of, own_writes, with_locks}
-use Rattle.bihash_table.specs.Promise.{IsAnswered}
+use Rattle.bihash_table.specs.Promise.{IsAnswered, IsEntered}
 use Rattle.bihash_table.specs.inner.Locked.{HasLock}
 use Rattle.bihash_table.proofs.Promised.{answered_by}
 
@@ -32,12 +32,14 @@ module _ (z : Sizes) (v w : View) (b word : ℕ) (l : LockedBucket) (e : Event) 
     records = push_call (record (entry_of z stamp e noted) { bucket = b }) records;
     holds = nothing_held;
     notes = w.notes;
+    log = w.log;
   }
 
   is_left : (noted : Option PageStore) (history : List Write) → IsPrefix (known_at v.known b) history
       → length history ≤ length (known_at v.known b) + own_writes e.reply
-      → w ≡ Left noted b (length history) history v.records → IsAnswered z v w e
-  is_left noted history begins few is = answered_by z v w e record {
+      → w ≡ Left noted b (length history) history v.records
+      → IsEntered v.log (acting v.records) (record (entry_of z (length history) e noted) { bucket = b }) w.log history → IsAnswered z v w e
+  is_left noted history begins few is entered = answered_by z v w e record {
     history = history;
     begins = subst (λ (c : ℕ). IsPrefix (known_at v.known c) history) (sym home) begins;
     locks = locks_of v.records;
@@ -46,13 +48,17 @@ module _ (z : Sizes) (v w : View) (b word : ℕ) (l : LockedBucket) (e : Event) 
         (sym (with_locks-locks_of v.records))
         ∙ ap (λ (c : ℕ). Left noted c (length history) history (with_locks (locks_of v.records) v.records))
         (sym home));
+    entered = subst (λ (c : ℕ). IsEntered v.log (acting v.records) (record (entry_of z (length history) e noted) { bucket = c }) w.log history)
+        (sym home) entered;
     alone = λ _. subst (λ (c : ℕ). length history ≤ length (known_at v.known c) + own_writes e.reply) (sym home) few;
   }
 
   -- the call was no write: nothing more is known
   pub answered_noting : (noted : Option PageStore)
-      → w ≡ view_after_answer v (record (call_of v b 0 e) { store = store_of e.reply noted }) → IsAnswered z v w e
-  answered_noting noted is =
+      → w ≡ record (view_after_answer v (record (call_of v b 0 e) { store = store_of e.reply noted })) { log = w.log }
+      → IsEntered v.log (acting v.records) (record (call_of v b 0 e) { store = store_of e.reply noted }) w.log (known_at v.known b)
+      → IsAnswered z v w e
+  answered_noting noted is entered =
       let c : Call = record (call_of v b 0 e) { store = store_of e.reply noted } in
       let H : List Write = known_at v.known b in
       let kept : v.known.writes ≡ set v.known.writes b H = sym (set-get_or v.known.writes b []) in
@@ -62,21 +68,25 @@ module _ (z : Sizes) (v w : View) (b word : ℕ) (l : LockedBucket) (e : Event) 
         known = record v.known { writes = writes };
         holds = record holds { bucket = None };
         notes = w.notes;
+        log = w.log;
       } in
-      let notes : w ≡ record (view_after_answer v c) { notes = w.notes } =
-      is ∙ ap (λ n. record (view_after_answer v c) { notes = n }) (sym (ap (λ (u : View). u.notes) is)) in
+      let notes : w ≡ record (view_after_answer v c) { notes = w.notes; log = w.log } =
+      is ∙ ap (λ n. record (view_after_answer v c) { notes = n; log = w.log }) (sym (ap (λ (u : View). u.notes) is)) in
       is_left noted H (record { rest = []; whole = sym (append-nil H) }) (let own : ℕ = own_writes e.reply in omega arith)
       (notes ∙ (ap (λ (n : ℕ). At n v.known.writes v.holds) stamp
       ∙ (ap (λ (ws : List (List Write)). At (length H) ws v.holds) kept
       ∙ ap (λ (h : Holdings). At (length H) (set v.known.writes b H) h) has.held)))
+      (subst (λ (n : ℕ). IsEntered v.log (acting v.records) (record (entry_of z n e noted) { bucket = b }) w.log H) stamp entered)
 
   -- the call was a write: it is known, and stands last
-  pub written_from_lock : is_changed e.reply ≡ true → w ≡ record (view_after_write v (call_of v b 1 e)) { holds = nothing_held; notes = w.notes }
+  pub written_from_lock : is_changed e.reply ≡ true → w ≡ record (view_after_write v (call_of v b 1 e)) { holds = nothing_held; notes = w.notes; log = w.log }
+      → IsEntered v.log (acting v.records) (call_of v b 1 e) w.log (known_at v.known b ++ write_of (acting v.records) (call_of v b 1 e) ∷ [])
       → IsAnswered z v w e
-  written_from_lock changes is =
+  written_from_lock changes is entered =
       let H : List Write = known_at v.known b in
       let x : Write = write_of (acting v.records) (call_of v b 1 e) in
       let stamp : length H + 1 ≡ length (H ++ x ∷ []) = sym (length-append H (x ∷ [])) in
       is_left v.notes.left (H ++ x ∷ []) (record { rest = x ∷ []; whole = refl })
       (rw changes (let long = length-append H (x ∷ []) in omega arith))
       (is ∙ ap (λ (n : ℕ). Left v.notes.left b n (H ++ x ∷ []) v.records) stamp)
+      (subst (λ (n : ℕ). IsEntered v.log (acting v.records) (record (entry_of z n e v.notes.left) { bucket = b }) w.log (H ++ x ∷ [])) stamp entered)

@@ -1,7 +1,7 @@
 -- A bucket that is given another block, or none, under both locks.
-use Rattle.std.proofs.Common.{◌≡◌, ◌≢◌, ◌∙◌, ◌<◌, ◌≤◌, ◌+◌, ◌^◌, ℕ, List, [], Option, Some, None, ap, arith, length, refl, subst, sym, ⊎_elim}
+use Rattle.std.proofs.Common.{◌≡◌, ◌≢◌, ◌∙◌, ◌<◌, ◌≤◌, ◌+◌, ◌^◌, ◌++◌, ℕ, false, List, [], ◌∷◌, Option, Some, None, ap, arith, length, refl, subst, sym, ⊎_elim}
 use Rattle.std.specs.FinMap.{get, insert, len, remove}
-use Rattle.bihash_words.specs.Maps.{Pairs, most_pairs}
+use Rattle.bihash_words.specs.Maps.{Event, Pairs, most_pairs}
 use Rattle.bihash_words.specs.Patches.{free_mark}
 use Rattle.bihash_words.specs.Sizes.{Sizes, sizes_of}
 use Rattle.bihash_words.specs.declared.block_size.BlockSize.{BlockSize}
@@ -10,13 +10,14 @@ use Rattle.bihash_words.specs.declared.patch.Change.{Change}
 use Rattle.bihash_words.specs.declared.patch.Change.TheVariants.{Set, Remove}
 use Rattle.bihash_words.specs.declared.patch.Reply.{Reply}
 use Rattle.bihash_words.specs.declared.patch.Reply.TheVariants.{Changed, NoPages}
-use Rattle.bihash_steps.specs.Histories.{IsKeyOf, bounds_of}
+use Rattle.bihash_steps.specs.Histories.{IsKeyOf, bounds_of, is_changed, write_of}
 use Rattle.bihash_steps.specs.Callers.{known_at}
 use Rattle.bihash_steps.specs.Blocks.{HasPair, HoldsPair, IsBlockOf, key_in, no_block}
 use Rattle.bihash_steps.specs.BucketCalls.{event}
-use Rattle.bihash_steps.specs.BucketSteps.{MayAnswer, view_after_answer, call_of, map_now}
+use Rattle.bihash_steps.specs.BucketSteps.{Enters, MayAnswer, acting, view_after_answer, call_of, map_now}
 use Rattle.bihash_steps.specs.StoreSteps.{LocksStore, MayReplace, TakesBlock, holding, view_after_replace, store_opened}
 use Rattle.bihash_steps.specs.Seats.{CallerState, with_view}
+use Rattle.bihash_steps.specs.declared.view.Call.{Call}
 use Rattle.bihash_steps.specs.declared.view.Extent.{Extent}
 use Rattle.bihash_steps.specs.declared.view.Holdings.{Holdings}
 use Rattle.bihash_steps.specs.declared.view.LockedBucket.{LockedBucket}
@@ -24,6 +25,7 @@ use Rattle.bihash_steps.specs.declared.view.HeldBlock.{HeldBlock}
 use Rattle.bihash_steps.specs.declared.view.LockedStore.{LockedStore}
 use Rattle.bihash_steps.specs.declared.view.PageStore.{PageStore}
 use Rattle.bihash_steps.specs.declared.view.View.{View}
+use Rattle.bihash_table.specs.Promise.{IsEntered}
 use Rattle.bihash_table.specs.inner.Copying.{HasBlock, HasStore, LacksPages, TakesPages, with_words}
 use Rattle.bihash_table.specs.inner.Locked.{HasLock}
 use Rattle.bihash_table.specs.inner.Places.{ArePlaces}
@@ -31,6 +33,7 @@ use Rattle.bihash_words.proofs.MapValues.{get_left, get_removed, same_or_other}
 use Rattle.bihash_steps.proofs.BlockLemmas.{bare_block}
 use Rattle.bihash_table.proofs.Bridge.{extent_of}
 use Rattle.bihash_table.proofs.Entering.{entering, looked_at, may_want, may_write, removing}
+use Rattle.bihash_table.proofs.SameCallers.{read_entered, write_entered}
 use Rattle.bihash_table.proofs.Stores.{has_store, has_taken, taken_block}
 
 abbrev pub locked_on : PageStore → LockedStore
@@ -176,16 +179,34 @@ ready_same g s u page log2 block ready = seen_same s u ready.is
 pub published : (s t u : CallerState) (n : LockedStore) (block : Option HeldBlock) (b : ℕ) (key : List ℕ) (found : Option ℕ)
     (change : Change)
     → t ≡ with_view s (holding s.view (Some n) block)
-    → u ≡ with_view t (view_after_replace t.view (call_of t.view b 1 (event key found change (Changed found))))
-    → u.view ≡ view_after_replace (holding s.view (Some n) block) (call_of s.view b 1 (event key found change (Changed found)))
+    → u ≡ with_view t (record (view_after_replace t.view (call_of t.view b 1 (event key found change (Changed found)))) { log = u.view.log })
+    → u.view ≡ record (view_after_replace (holding s.view (Some n) block) (call_of s.view b 1 (event key found change (Changed found)))) { log = u.view.log }
 published s t u n block b key found change ready is = ap (λ (c : CallerState). c.view) is
-    ∙ ap (λ (c : CallerState). view_after_replace c.view (call_of c.view b 1 (event key found change (Changed found)))) ready
+    ∙ ap (λ (c : CallerState). record (view_after_replace c.view (call_of c.view b 1 (event key found change (Changed found)))) { log = u.view.log }) ready
+
+-- and the log that is known then
+pub published_log : (z : Sizes) (s t u : CallerState) (n : LockedStore) (block : Option HeldBlock) (b : ℕ) (key : List ℕ)
+    (found : Option ℕ) (change : Change) → t ≡ with_view s (holding s.view (Some n) block)
+    → Enters z t.view (call_of t.view b 1 (event key found change (Changed found)))
+    (view_after_replace t.view (call_of t.view b 1 (event key found change (Changed found)))) u.view
+    → IsEntered s.view.log (acting s.view.records) (call_of s.view b 1 (event key found change (Changed found))) u.view.log
+    (known_at s.view.known b ++ write_of (acting s.view.records) (call_of s.view b 1 (event key found change (Changed found))) ∷ [])
+published_log z s t u n block b key found change ready entered =
+    subst (λ (c : CallerState). let x : Call = call_of c.view b 1 (event key found change (Changed found)) in
+    IsEntered c.view.log (acting c.view.records) x u.view.log (known_at c.view.known b ++ write_of (acting c.view.records) x ∷ []))
+    ready (write_entered entered refl)
 
 pub was_answered : (s t : CallerState) (b : ℕ) (key : List ℕ) (found : Option ℕ) (change : Change) (reply : Reply) (v : View)
-    → s.view ≡ v → t ≡ with_view s (view_after_answer s.view (call_of s.view b 0 (event key found change reply)))
-    → t.view ≡ view_after_answer v (call_of v b 0 (event key found change reply))
+    → s.view ≡ v → t ≡ with_view s (record (view_after_answer s.view (call_of s.view b 0 (event key found change reply))) { log = t.view.log })
+    → t.view ≡ record (view_after_answer v (call_of v b 0 (event key found change reply))) { log = t.view.log }
 was_answered s t b key found change reply v e is = ap (λ (c : CallerState). c.view) is
-    ∙ ap (λ (x : View). view_after_answer x (call_of x b 0 (event key found change reply))) e
+    ∙ ap (λ (x : View). record (view_after_answer x (call_of x b 0 (event key found change reply))) { log = t.view.log }) e
+
+pub answered_log : (z : Sizes) (s t : CallerState) (b : ℕ) (e : Event) (v : View) → s.view ≡ v → is_changed e.reply ≡ false
+    → Enters z s.view (call_of s.view b 0 e) (view_after_answer s.view (call_of s.view b 0 e)) t.view
+    → IsEntered v.log (acting v.records) (call_of v b 0 e) t.view.log (known_at v.known b)
+answered_log z s t b e v is reads entered =
+    subst (λ (x : View). IsEntered x.log (acting x.records) (call_of x b 0 e) t.view.log (known_at x.known b)) is (read_entered entered reads)
 
 -- ---- The last pair goes
 

@@ -9,7 +9,7 @@ use Rattle.bihash_steps.specs.Histories.{IsPrefix, IsKeyOf, bounds_of, bucket_of
 use Rattle.bihash_steps.specs.Callers.{known_at}
 use Rattle.bihash_steps.specs.Buckets.{AreReadIn, word_of}
 use Rattle.bihash_steps.specs.Views.{nothing_held, no_notes}
-use Rattle.bihash_steps.specs.BucketSteps.{with_history, push_call, map_now, with_reading, TakesLock, RestsOn, MayValidate, view_after_validate, call_of}
+use Rattle.bihash_steps.specs.BucketSteps.{Enters, acting, with_history, push_call, map_now, with_reading, TakesLock, RestsOn, MayValidate, view_after_validate, call_of}
 use Rattle.bihash_steps.specs.declared.view.Write.{Write}
 use Rattle.bihash_steps.specs.declared.view.Call.{Call}
 use Rattle.bihash_steps.specs.declared.view.Record.{Record}
@@ -19,7 +19,7 @@ use Rattle.bihash_steps.specs.declared.view.OpenBucket.{OpenBucket}
 use Rattle.bihash_steps.specs.declared.view.View.{View}
 use Rattle.bihash_steps.proofs.Prefixes.{prefix_refl}
 use Rattle.bihash_table.specs.Answers.{entry_of, locks_of, own_writes, with_locks}
-use Rattle.bihash_table.specs.Promise.{IsAnswered}
+use Rattle.bihash_table.specs.Promise.{IsAnswered, IsEntered}
 use Rattle.bihash_table.specs.inner.OpenReads.{HasOpen, IsOpened, Saw}
 use Rattle.bihash_table.specs.inner.Seen.{HasSeen, LocksSeen}
 use Rattle.bihash_table.proofs.Composed.{IsAhead}
@@ -27,6 +27,7 @@ use Rattle.bihash_table.proofs.LockCounts.{locks_pushed}
 use Rattle.bihash_table.proofs.Opened.{locked_after, reads_rest, rests_here, same_known, same_map}
 use Rattle.bihash_table.proofs.Promised.{answered_by}
 use Rattle.bihash_table.proofs.Released.{with_locks-locks_of}
+use Rattle.bihash_table.proofs.SameCallers.{read_entered, view_entered}
 use Rattle.bihash_table.proofs.Seeing.{notes_more, read_first, read_last}
 
 -- ---- More reads
@@ -141,12 +142,15 @@ module _ (z : Sizes) (y : View) (b word : ℕ) {P : Extent → List ℕ → Type
         store = refl;
       }
 
-  module _ (w : View) (is : w ≡ view_after_validate y answer_call) where
+  module _ (w : View) (entered : Enters z y answer_call (view_after_validate y answer_call) w) where
+    is : w ≡ record (view_after_validate y answer_call) { log = w.log }
+    is = view_entered entered
+
     pub answer_locks : locks_of w.records ≡ locks_of y.records
     answer_locks = locks_pushed answer_call y.records w.records (ap (λ (u : View). u.records) is)
 
-    pub answer_seen : bucket_of z e.key ≡ b → IsAnswered z y w e
-    answer_seen home =
+    pub answer_seen : bucket_of z e.key ≡ b → is_changed e.reply ≡ false → IsAnswered z y w e
+    answer_seen home reads =
         let H : List Write = known_at y.known b in
         let stamp : length H + 0 ≡ length H = omega arith in
         let notes : w.notes ≡ no_notes = ap (λ (u : View). u.notes) is in
@@ -155,6 +159,7 @@ module _ (z : Sizes) (y : View) (b word : ℕ) {P : Extent → List ℕ → Type
           known = record y.known { writes = writes };
           holds = nothing_held;
           notes = w.notes;
+          log = w.log;
         } in
         let here : w ≡ Left b (length H) (with_locks (locks_of y.records) y.records) (set y.known.writes b H)
         = is ∙ (λ i. record y {
@@ -162,12 +167,15 @@ module _ (z : Sizes) (y : View) (b word : ℕ) {P : Extent → List ℕ → Type
           known = record y.known { writes = sym (set-get_or y.known.writes b []) i };
           holds = h.seen.held i;
           notes = sym notes i;
+          log = w.log;
         }) in answered_by z y w e record {
           history = H;
           begins = subst (λ (c : ℕ). IsPrefix (known_at y.known c) H) (sym home) (prefix_refl H);
           locks = locks_of y.records;
           noted = y.notes.left;
           is = here ∙ ap (λ (c : ℕ). Left c (length H) (with_locks (locks_of y.records) y.records) (set y.known.writes c H)) (sym home);
+          entered = subst (λ (c : ℕ). IsEntered y.log (acting y.records) (record (entry_of z (length H) e y.notes.left) { bucket = c }) w.log H) (sym home)
+              (subst (λ (n : ℕ). IsEntered y.log (acting y.records) (record (entry_of z n e y.notes.left) { bucket = b }) w.log H) stamp (read_entered entered reads));
           alone = λ lone. subst (λ (c : ℕ). length H ≤ length (known_at y.known c) + own_writes e.reply) (sym home)
               (let own : ℕ = own_writes e.reply in omega arith);
         }

@@ -9,7 +9,7 @@ use Rattle.bihash_words.specs.Words.{Bucket, Fits, packed}
 use Rattle.bihash_words.specs.declared.patch.Change.{Change}
 use Rattle.bihash_words.specs.declared.patch.Reply.TheVariants.{NoPages}
 use Rattle.bihash_steps.specs.Words.{block_words, page_words}
-use Rattle.bihash_steps.specs.Histories.{bucket_of, is_changed}
+use Rattle.bihash_steps.specs.Histories.{bucket_of, is_changed, write_of}
 use Rattle.bihash_steps.specs.Callers.{IsLawfulCaller, known_at}
 use Rattle.bihash_steps.specs.Blocks.{places}
 use Rattle.bihash_steps.specs.Buckets.{word_of}
@@ -17,7 +17,7 @@ use Rattle.bihash_steps.specs.PageStores.{returned_in}
 use Rattle.bihash_steps.specs.Views.{no_notes, nothing_held}
 use Rattle.bihash_steps.specs.Seats.{CallerState, with_view}
 use Rattle.bihash_steps.specs.BucketCalls.{event}
-use Rattle.bihash_steps.specs.BucketSteps.{view_after_answer, call_of, with_call, last_call, push_call, without_lock, without_notes}
+use Rattle.bihash_steps.specs.BucketSteps.{acting, view_after_answer, view_after_write, call_of, with_call, last_call, push_call, without_lock, without_notes}
 use Rattle.bihash_steps.specs.StoreSteps.{LocksStore, TakesBlock, freed, grown, holding, old_block, relisted, view_after_replace, store_opened, unlisted}
 use Rattle.bihash_steps.specs.declared.view.Call.{Call}
 use Rattle.bihash_steps.specs.declared.view.Extent.{Extent}
@@ -27,9 +27,10 @@ use Rattle.bihash_steps.specs.declared.view.HeldBlock.{HeldBlock}
 use Rattle.bihash_steps.specs.declared.view.LockedStore.{LockedStore}
 use Rattle.bihash_steps.specs.declared.view.PageStore.{PageStore}
 use Rattle.bihash_steps.specs.declared.view.Record.{Record}
+use Rattle.bihash_steps.specs.declared.view.Entry.{Entry}
 use Rattle.bihash_steps.specs.declared.view.View.{View}
 use Rattle.bihash_table.specs.Answers.{locks_of}
-use Rattle.bihash_table.specs.Promise.{IsAnswered, IsContended}
+use Rattle.bihash_table.specs.Promise.{IsAnswered, IsContended, IsEntered}
 use Rattle.bihash_table.specs.inner.Copying.{GivenBack, HasBlock, HasStore, HoldsOld, MayGiveBack, Released, TakesPages}
 use Rattle.bihash_table.specs.inner.Locked.{HasLock}
 use Rattle.bihash_table.specs.inner.Scans.{IsWordOf}
@@ -167,7 +168,7 @@ has_store z v w none t = record {
 
 -- the block that the bucket had is held after the write
 pub holds_old : (z : Sizes) (v w : View) (b word : ℕ) (l : LockedBucket) (n : LockedStore) (block : Option HeldBlock) (c : Call)
-    → HasLock z v b word l → w ≡ view_after_replace (holding v (Some n) block) c
+    → HasLock z v b word l → w ≡ record (view_after_replace (holding v (Some n) block) c) { log = w.log }
     → HoldsOld w (record n { store = record n.store { unpublished = false } }) l.extent l.now
 holds_old z v w b word l n block c lock is = record {
   store = ap (λ (u : View). u.holds.store) is;
@@ -180,16 +181,21 @@ pub left_written : (z : Sizes) (v u w : View) (b word : ℕ) (l : LockedBucket) 
     (e : Event)
     → HasLock z v b word l → bucket_of z e.key ≡ b
     → is_changed e.reply ≡ true
-    → u ≡ view_after_replace (holding v (Some n) block) (call_of v b 1 e) → Released u w
+    → u ≡ record (view_after_replace (holding v (Some n) block) (call_of v b 1 e)) { log = u.log } → Released u w
+    → IsEntered v.log (acting v.records) (call_of v b 1 e) u.log (known_at v.known b ++ write_of (acting v.records) (call_of v b 1 e) ∷ [])
     → IsAnswered z v w e
-left_written z v u w b word l n block e lock home changes is gone =
+left_written z v u w b word l n block e lock home changes is gone entered =
     written_from_lock z v w b word l e lock home changes (gone.is
-    ∙ ap (λ (x : View). record x { holds = record nothing_held { bucket = x.holds.bucket }; notes = w.notes }) is)
+    ∙ ap (λ (x : View). record x { holds = record nothing_held { bucket = x.holds.bucket }; notes = w.notes }) is
+    ∙ ap (λ (l : List Entry). record (view_after_write v (call_of v b 1 e)) { holds = nothing_held; notes = w.notes; log = l })
+    (sym (ap (λ (x : View). x.log) gone.is)))
+    (subst (λ (l : List Entry). IsEntered v.log (acting v.records) (call_of v b 1 e) l
+    (known_at v.known b ++ write_of (acting v.records) (call_of v b 1 e) ∷ [])) (sym (ap (λ (x : View). x.log) gone.is)) entered)
 
 -- the caller is lawful still
 pub still_lawful : (z : Sizes) (u w : View) → Released u w → IsLawfulCaller z u → IsLawfulCaller z w
 still_lawful z u w gone lawful = subst (IsLawfulCaller z) (sym gone.is)
-    (record { acts = lawful.acts; numbers = lawful.numbers; lawful = lawful.lawful; lists = lawful.lists; made = lawful.made })
+    (record { acts = lawful.acts; numbers = lawful.numbers; lawful = lawful.lawful; lists = lawful.lists; made = lawful.made; logged = lawful.logged })
 
 -- ---- Without a write
 
@@ -214,13 +220,15 @@ contended z v u w b word l lock not opened =
 -- the allocation lock was taken and opened, and then the call was answered
 pub left_answered : (z : Sizes) (v w : View) (b word : ℕ) (l : LockedBucket) (store : PageStore) (e : Event)
     → HasLock z v b word l → bucket_of z e.key ≡ b
-    → w ≡ view_after_answer (looked_at v store) (call_of (looked_at v store) b 0 e)
+    → w ≡ record (view_after_answer (looked_at v store) (call_of (looked_at v store) b 0 e)) { log = w.log }
+    → IsEntered v.log (acting v.records) (call_of (looked_at v store) b 0 e) w.log (known_at v.known b)
     → IsAnswered z v w e
-left_answered z v w b word l store e lock home is = answered_noting z v w b word l e lock home (Some store)
+left_answered z v w b word l store e lock home is entered = answered_noting z v w b word l e lock home (Some store)
     (is ∙ (λ i. record (with_call v (call_of (looked_at v store) b 0 e)) {
       holds = record { bucket = None; store = (ap (λ (h : Holdings). h.store) (sym lock.held)) i; block = v.holds.block };
       notes = no_notes;
-    }))
+      log = w.log;
+    })) entered
 
 last_of : (calls : List Call) (c : Call) (o : Option Call) → last_or o (calls ++ c ∷ []) ≡ Some c
 last_of [] c o = refl
@@ -232,7 +240,7 @@ last_pushed c d (r ∷ rs) is = let same : Some c ≡ Some d = sym (last_of r.ca
 
 -- the entry of a refusal comes after all known writes, and bears what was noted
 pub bears_noted : (v w : View) (b : ℕ) (store : PageStore) (key : List ℕ) (found : Option ℕ) (change : Change) (log2 left : ℕ)
-    → w ≡ view_after_answer (looked_at v store) (call_of (looked_at v store) b 0 (event key found change (NoPages log2 left))) → Bears w b store
+    → w ≡ record (view_after_answer (looked_at v store) (call_of (looked_at v store) b 0 (event key found change (NoPages log2 left)))) { log = w.log } → Bears w b store
 bears_noted v w b store key found change log2 left is c last =
     let entry : Call = call_of (looked_at v store) b 0 (event key found change (NoPages log2 left)) in
     let same : entry ≡ c = last_pushed entry c v.records (ap (λ (u : View). last_call u.records) (sym is) ∙ last) in

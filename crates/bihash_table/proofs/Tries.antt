@@ -9,9 +9,9 @@ use Rattle.bihash_words.specs.declared.patch.Change.{Change}
 use Rattle.bihash_words.specs.declared.patch.Change.TheVariants.{Keep, Set}
 use Rattle.bihash_words.specs.declared.patch.Reply.{Reply}
 use Rattle.bihash_words.specs.declared.patch.Reply.TheVariants.{Changed, Full, Kept, NoPages, Worn}
-use Rattle.bihash_steps.specs.Histories.{bucket_of}
+use Rattle.bihash_steps.specs.Histories.{bucket_of, is_changed}
 use Rattle.bihash_steps.specs.Callers.{IsLawfulCaller, known_at}
-use Rattle.bihash_steps.specs.BucketSteps.{call_of, without_notes, view_after_validate}
+use Rattle.bihash_steps.specs.BucketSteps.{Enters, call_of, without_notes, view_after_validate}
 use Rattle.bihash_steps.specs.Seats.{CallerState, with_view}
 use Rattle.bihash_steps.specs.declared.view.Extent.{Extent}
 use Rattle.bihash_steps.specs.declared.view.View.{View}
@@ -89,14 +89,16 @@ module _ {A K : Type 0} (g : Ghosts A K) (s t : CallerState) (b : ℕ) (key : K)
 
   module _ (word : ℕ) {P : Extent → List ℕ → Type 0} (h : HasSeen (sizes_of g) s.view b word P)
       (lawful : IsLawfulCaller (sizes_of g) t.view) where
-    pub tried_valid : (reply : Reply) → t ≡ with_view s (view_after_validate s.view (call_of s.view b 0 (event (g.words_of key) found change reply)))
+    pub tried_valid : (reply : Reply) → is_changed reply ≡ false → t ≡ with_view s t.view
+        → Enters (sizes_of g) s.view (call_of s.view b 0 (event (g.words_of key) found change reply))
+        (view_after_validate s.view (call_of s.view b 0 (event (g.words_of key) found change reply))) t.view
         → ((log2 left : ℕ) → reply ≡ NoPages log2 left → ⊥) → reply ≢ Full → Tried g s t key found change (Ok reply)
-    tried_valid reply is paged roomy = let now = view_is s t _ is in let e : Event = event (g.words_of key) found change reply in record {
-      same = same_but_view s t _ is;
-      answered = answer_seen (sizes_of g) s.view b word h e t.view now home;
+    tried_valid reply reads same entered paged roomy = let e : Event = event (g.words_of key) found change reply in record {
+      same = same;
+      answered = answer_seen (sizes_of g) s.view b word h e t.view entered home reads;
       no_pages = λ log2 left short. absurd (paged log2 left short);
       room = roomy;
-      locks = took_no_lock s.view t.view (answer_locks (sizes_of g) s.view b word h e t.view now) (try_locks (Ok reply));
+      locks = took_no_lock s.view t.view (answer_locks (sizes_of g) s.view b word h e t.view entered) (try_locks (Ok reply));
       contended = tt;
       lone = λ _. refl;
       lawful = lawful;
@@ -328,20 +330,20 @@ over_locked g s u t b word key found change is_expired told taken home reply h =
 pub over_full : {A K : Type 0} (g : Ghosts A K) (s t : CallerState) (b : ℕ) (key : K) (value : ℕ) (is_expired : ℕ → Bool)
     → bucket_of (sizes_of g) (g.words_of key) ≡ b → (word : ℕ) {P : Extent → List ℕ → Type 0} (h : HasSeen (sizes_of g) s.view b word P)
     → IsLawfulCaller (sizes_of g) t.view
-    → t ≡ with_view s (view_after_validate s.view (call_of s.view b 0
-    (recycled_update (g.words_of key) None (Set value) is_expired None Full)))
+    → t ≡ with_view s t.view
+    → Enters (sizes_of g) s.view (call_of s.view b 0 (recycled_update (g.words_of key) None (Set value) is_expired None Full))
+    (view_after_validate s.view (call_of s.view b 0 (recycled_update (g.words_of key) None (Set value) is_expired None Full))) t.view
     → TriedOver g s t key None (Set value) is_expired (Ok Full)
-over_full g s t b key value is_expired home word h lawful is =
-    let now = view_is s t _ is in
+over_full g s t b key value is_expired home word h lawful same entered =
     let e : Event = recycled_update (g.words_of key) None (Set value) is_expired None Full in record {
-      same = same_but_view s t _ is;
+      same = same;
       answered = record {
         removed = None;
-        answered = answer_seen (sizes_of g) s.view b word h e t.view now home;
+        answered = answer_seen (sizes_of g) s.view b word h e t.view entered home refl;
         expired = λ gone none. absurd (let c : ⊥ = cc in c);
       };
       no_pages = λ log2 left short. absurd (let c : ⊥ = cc in c);
-      locks = took_no_lock s.view t.view (answer_locks (sizes_of g) s.view b word h e t.view now) 0;
+      locks = took_no_lock s.view t.view (answer_locks (sizes_of g) s.view b word h e t.view entered) 0;
       contended = tt;
       lone = λ _. refl;
       lawful = lawful;

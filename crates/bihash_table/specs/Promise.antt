@@ -1,18 +1,29 @@
 -- What a call of a shared table leaves of its caller: v is what the caller knew before the call, w what it
 -- knows after it. Each line is a fact about one field; docs/DEFINITIONS.md explains the words.
-use Rattle.std.specs.Prelude.{◌≡◌, ◌≤◌, ℕ, ◌+◌, Bool, true, List, length, Option, Some}
+use Rattle.std.specs.Prelude.{◌≡◌, ◌≤◌, ℕ, ◌+◌, ◌++◌, Bool, true, List, [], ◌∷◌, length, Option, Some}
 use Rattle.bihash_words.specs.Maps.{Event}
 use Rattle.bihash_words.specs.Sizes.{Sizes}
 use Rattle.bihash_words.specs.declared.patch.Change.{Change}
 use Rattle.bihash_words.specs.declared.patch.Reply.{Reply}
 use Rattle.bihash_steps.specs.Histories.{IsPrefix, bucket_of}
 use Rattle.bihash_steps.specs.Callers.{known_at}
+use Rattle.bihash_steps.specs.Logs.{Begins, writes_on}
 use Rattle.bihash_steps.specs.Views.{nothing_held}
-use Rattle.bihash_steps.specs.BucketSteps.{with_history, push_call}
+use Rattle.bihash_steps.specs.BucketSteps.{acting, with_history, push_call}
+use Rattle.bihash_steps.specs.declared.view.Call.{Call}
+use Rattle.bihash_steps.specs.declared.view.Entry.{Entry}
 use Rattle.bihash_steps.specs.declared.view.Write.{Write}
 use Rattle.bihash_steps.specs.declared.view.PageStore.{PageStore}
 use Rattle.bihash_steps.specs.declared.view.View.{View}
 use Rattle.bihash_table.specs.Answers.{entry_of, own_writes, recycled_update, update_of, with_locks}
+
+-- The call is the last entry of this log, under this number, behind all that was known of the log before. The
+-- writes on its bucket that stand in the log are this history.
+pub record IsEntered (known : List Entry) (by : ℕ) (c : Call) (log : List Entry) (history : List Write) : Type 0 where
+  pub before : List Entry
+  pub begins : Begins known before
+  pub is : log ≡ before ++ record { by = by; call = c } ∷ []
+  pub writes : writes_on c.bucket log ≡ history
 
 -- The call was answered.
 pub record IsAnswered (z : Sizes) (v w : View) (e : Event) : Type 0 where
@@ -24,6 +35,8 @@ pub record IsAnswered (z : Sizes) (v w : View) (e : Event) : Type 0 where
   pub locks : ℕ
   pub noted : Option PageStore
   pub records : w.records ≡ push_call (entry_of z (length history) e noted) (with_locks locks v.records)
+  -- the call is entered at the end of the log, where the bucket has just the writes that are known of it
+  pub entered : IsEntered v.log (acting v.records) (entry_of z (length history) e noted) w.log history
   -- the count that was seen and the note of a lone caller stay, and nothing is held
   pub seen : w.seen ≡ v.seen
   pub lone : w.lone ≡ v.lone
@@ -43,6 +56,8 @@ pub record IsContended (z : Sizes) (v w : View) (b : ℕ) : Type 0 where
   pub lone : w.lone ≡ v.lone
   pub free : w.holds ≡ nothing_held
   pub alone : v.lone ≡ true → length history ≤ length (known_at v.known b)
+  -- what is known of the log is the same
+  pub log : w.log ≡ v.log
 
 -- An update with this expiry was answered so: it may have removed the key of an expired pair for its own.
 pub record IsRecycled (z : Sizes) (v w : View) (key : List ℕ) (found : Option ℕ) (change : Change)

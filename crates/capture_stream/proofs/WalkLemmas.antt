@@ -1,5 +1,5 @@
 -- A walk over a capture: it stays amid the capture, and its end and its faults are those of the capture.
-use Rattle.std.proofs.Common.{◌≡◌, ◌≢◌, ◌∙◌, ◌≤◌, ◌<◌, ◌+◌, ◌-◌, ℕ, List, [], ◌++◌, Option, Vec, Global, add-zero, ap, append-nil, append_assoc, arith, drop, inl, inr, length, refl, subst, sym, take, true, false}
+use Rattle.std.proofs.Common.{◌≡◌, ◌≢◌, ◌∙◌, ◌≤◌, ◌<◌, ◌+◌, ◌-◌, ℕ, Bool, List, [], ◌++◌, Option, Vec, Global, add-zero, ap, append-nil, append_assoc, arith, drop, inl, inr, length, refl, subst, sym, take, true, false, true≢false}
 use Rattle.std.proofs.lemmas.List.{drop-append-le, drop-drop, length-append, length-drop, take_all}
 use Rattle.std.proofs.KnownBytes.{Consumes-nil, Consumes-trans}
 use Rattle.packet_view.specs.Captures.{AreRecords, IsEnd, IsTooLong, PacketFacts, end_of, kept_length, kept_limit}
@@ -24,7 +24,7 @@ use Rattle.capture_stream.specs.inner.Found.{HaveFound}
 use Rattle.capture_stream.specs.declared.stream.Opening.{Opening}
 use Rattle.capture_stream.specs.declared.stream.Streamed.{Streamed}
 use Rattle.capture_stream.specs.declared.stream.Walk.{Walk}
-use Rattle.capture_stream.specs.inner.Walks.{HasAdvanced, HasEnded, HasLongAhead, IsAmid, IsDrained, IsLastFault, IsWindowFault, MayAdvance, ahead_of, packets_ahead, rest_of}
+use Rattle.capture_stream.specs.inner.Walks.{HasAdvanced, HasEnded, HasLongAhead, IsAllOf, IsAmid, IsDrained, IsLastFault, IsWindowFault, MayAdvance, ahead_of, packets_ahead, rest_of}
 
 -- less than one record is left where none is too long
 pub rest_short : (order : Order) (rest : List ℕ) (stop : Stop) → Stops order rest stop → stop ≢ TooLong → length rest < 262160
@@ -140,6 +140,10 @@ more_in opening gone read within =
     ap (drop opening.from) (sym (append_assoc opening.bytes.items gone read))
     ∙ drop-append-le opening.from (opening.bytes.items ++ gone) read (omega arith)
 
+is_false : (b : Bool) → (b ≡ true → ⊥) → b ≡ false
+is_false true not = absurd (not refl)
+is_false false not = refl
+
 module _ {J : Type 0} (Became : J → List PacketFacts → J → Type 0) (first : J) (opening : Opening) (before : Option (List ℕ))
     (begun : opening.from ≤ length opening.bytes.items) where
   pub amid_may : (now : Option (List ℕ)) (walk : Walk J) → IsAmid Became first opening before now walk → MayAdvance Became walk
@@ -182,11 +186,16 @@ module _ {J : Type 0} (Became : J → List PacketFacts → J → Type 0) (first 
     consumed = amid.consumed;
     ended = amid.ended ended;
     few = let e = amid.size in let f = amid.bound in omega arith;
+    all = λ e. (amid.all e).none;
   }
 
-  pub amid_advanced : (now after : Option (List ℕ)) (old new : Walk J) → IsAmid Became first opening before now old
+  -- a walk that isn't at its end began with bytes to come
+  has_more : (now : Option (List ℕ)) (walk : Walk J) → IsAmid Became first opening before now walk → walk.ended ≡ false → opening.ended ≡ true → ⊥
+  has_more now walk amid more all = true≢false (sym (amid.all all).ended ∙ more)
+
+  pub amid_advanced : (now after : Option (List ℕ)) (old new : Walk J) → IsAmid Became first opening before now old → old.ended ≡ false
       → HasAdvanced Became old now after new → IsAmid Became first opening before after new
-  amid_advanced now after old new amid step =
+  amid_advanced now after old new amid more step =
       let packets = length-append amid.packets step.more in
       let read = length-append amid.gone step.read in
       record {
@@ -203,6 +212,7 @@ module _ {J : Type 0} (Became : J → List PacketFacts → J → Type 0) (first 
         within = step.within;
         found = step.found;
         ended = step.ended;
+        all = λ e. absurd (has_more now old amid more e);
       }
 
   pub amid_ended : (now : Option (List ℕ)) (walk : Walk J) (streamed : Streamed J) → IsAmid Became first opening before now walk
@@ -235,9 +245,9 @@ module _ {J : Type 0} (Became : J → List PacketFacts → J → Type 0) (first 
       }
   amid_last_fault now walk found amid ended h = absurd h
 
-  long_in : (now after : Option (List ℕ)) (walk : Walk J) (number : ℕ) → IsAmid Became first opening before now walk
+  long_in : (now after : Option (List ℕ)) (walk : Walk J) (number : ℕ) → IsAmid Became first opening before now walk → walk.ended ≡ false
       → HasLongAhead walk number → IsDrained walk now after → HasLongRecord opening before after number
-  long_in now after walk number amid long (gone, consumed, ended, few) =
+  long_in now after walk number amid more long (gone, consumed, ended, few) =
       let packets = length-append amid.packets long.more in
       let read = length-append amid.gone gone in
       let here : IsTooLong opening.order long.rest = subst (λ (o : Order). IsTooLong o long.rest) amid.order long.long in
@@ -247,6 +257,7 @@ module _ {J : Type 0} (Became : J → List PacketFacts → J → Type 0) (first 
           consumed = Consumes-trans before now after amid.gone gone amid.consumed consumed;
           ended = ended;
           few = let e = amid.size in omega arith;
+          all = λ e. absurd (has_more now walk amid more e);
         };
         packets = amid.packets ++ long.more;
         rest = long.rest ++ gone;
@@ -262,21 +273,25 @@ module _ {J : Type 0} (Became : J → List PacketFacts → J → Type 0) (first 
       let size = amid.size in let bound = amid.bound in
       gave_more before now after amid.gone more _ (omega arith) amid.consumed consumed
 
-  pub amid_fault : (now after : Option (List ℕ)) (walk : Walk J) (found : Fault) → IsAmid Became first opening before now walk
+  pub amid_fault : (now after : Option (List ℕ)) (walk : Walk J) (found : Fault) → IsAmid Became first opening before now walk → walk.ended ≡ false
       → IsWindowFault walk now after found → IsStreamFault opening before after found
-  amid_fault now after walk fault.Memory amid h = tt
-  amid_fault now after walk fault.Read amid h = tt
-  amid_fault now after walk fault.TooLarge amid (gone, consumed, many) =
-      let read = length-append amid.gone gone in
-      (amid.gone ++ gone, Consumes-trans before now after amid.gone gone amid.consumed consumed, let e = amid.size in omega arith)
-  amid_fault now after walk (fault.LongRecord number) amid h = long_in now after walk number amid h.0 h.1
-  amid_fault now after walk found amid h = absurd h
+  amid_fault now after walk fault.Memory amid going h = tt
+  amid_fault now after walk fault.Read amid going h = tt
+  amid_fault now after walk fault.TooLarge amid going (gone, consumed, many) =
+      let read = length-append amid.gone gone in (
+        is_false opening.ended (has_more now walk amid going),
+        amid.gone ++ gone,
+        Consumes-trans before now after amid.gone gone amid.consumed consumed,
+        let e = amid.size in omega arith,
+      )
+  amid_fault now after walk (fault.LongRecord number) amid going h = long_in now after walk number amid going h.0 h.1
+  amid_fault now after walk found amid going h = absurd h
 
 -- a walk begins amid the capture
 pub amid_begun : {J : Type 0} (Became : J → List PacketFacts → J → Type 0) (opening : Opening) (before : Option (List ℕ)) (walk : Walk J)
-    → MayStream Became walk.judges opening → HaveFound walk.order (ahead_of walk) walk.found → walk.order ≡ opening.order → walk.window ≡ opening.bytes → walk.from ≡ opening.from
-    → walk.packets ≡ 0 → walk.read ≡ length opening.bytes.items → walk.ended ≡ false → IsAmid Became walk.judges opening before before walk
-amid_begun Became opening before walk may found order window begins none read on =
+    → MayStream Became walk.judges opening before → HaveFound walk.order (ahead_of walk) walk.found → walk.order ≡ opening.order → walk.window ≡ opening.bytes → walk.from ≡ opening.from
+    → walk.packets ≡ 0 → walk.read ≡ length opening.bytes.items → walk.ended ≡ opening.ended → IsAmid Became walk.judges opening before before walk
+amid_begun Became opening before walk may found order window begins none read ended =
     let bytes = opening.bytes.items in
     let same : walk.window.items ≡ bytes = ap (λ (v : Vec ℕ Global). v.items) window in
     let ahead : records_in opening [] ≡ ahead_of walk =
@@ -293,5 +308,6 @@ amid_begun Became opening before walk may found order window begins none read on
       order = order;
       within = let within = may.within in let size = ap length same in omega arith;
       found = found;
-      ended = λ e. cc;
+      ended = λ e. may.ended (sym ended ∙ e);
+      all = λ e. record { none = refl; ended = ended ∙ e };
     }

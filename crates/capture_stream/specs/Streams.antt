@@ -1,5 +1,5 @@
 -- A capture that is judged while it is read: what was read, which packets were judged, and which faults there are.
-use Rattle.std.specs.Prelude.{◌≡◌, ◌+◌, ◌<◌, ◌≤◌, ◌++◌, ℕ, List, [], Option, drop, length, ⊤}
+use Rattle.std.specs.Prelude.{◌≡◌, ◌+◌, ◌<◌, ◌≤◌, ◌++◌, ℕ, true, false, List, [], Option, drop, length, ⊤}
 use Rattle.std.specs.Io.KnownBytes.{Consumes, IsAtEnd}
 use Rattle.packet_view.specs.Captures.{AreRecords, IsEnd, IsTooLong, PacketFacts, end_of}
 use Rattle.racl_io.specs.declared.fault.Fault.{Fault}
@@ -18,6 +18,7 @@ pub record AreAllRead (before after : Option (List ℕ)) (opening : Opening) (re
   pub consumed : Consumes before after read
   pub ended : IsAtEnd after
   pub few : length opening.bytes.items + length read ≤ most_bytes
+  pub all : opening.ended ≡ true → read ≡ []
 
 -- the source gave all its bytes, and the packets of all records were judged
 pub record HasStreamed {J : Type 0} (Became : J → List PacketFacts → J → Type 0) (judges : J) (opening : Opening) (before after : Option (List ℕ))
@@ -44,15 +45,17 @@ pub record HasLongRecord (opening : Opening) (before after : Option (List ℕ)) 
 abbrev pub IsStreamFault : Opening → Option (List ℕ) → Option (List ℕ) → Fault → Type 0
 IsStreamFault opening before after Memory = ⊤
 IsStreamFault opening before after Read = ⊤
-IsStreamFault opening before after TooLarge = (gone : List ℕ) × Consumes before after gone × (most_bytes < length opening.bytes.items + length gone)
+IsStreamFault opening before after TooLarge =
+    (opening.ended ≡ false) × (gone : List ℕ) × Consumes before after gone × (most_bytes < length opening.bytes.items + length gone)
 IsStreamFault opening before after (LongRecord number) = HasLongRecord opening before after number
 IsStreamFault opening before after fault = ⊥
 
--- where a capture may be judged from: its records begin within what was read, which isn't too much
-pub record MayStream {J : Type 0} (Became : J → List PacketFacts → J → Type 0) (judges : J) (opening : Opening) : Type 0 where
+-- where a capture may be judged from: its records begin within what was read, which isn't too much, and is all where the source has no more
+pub record MayStream {J : Type 0} (Became : J → List PacketFacts → J → Type 0) (judges : J) (opening : Opening) (before : Option (List ℕ)) : Type 0 where
   pub begun : Became judges [] judges
   pub within : opening.from ≤ length opening.bytes.items
   pub few : length opening.bytes.items ≤ most_bytes
+  pub ended : opening.ended ≡ true → IsAtEnd before
 
 -- windows get some bytes, and up to 16 MiB
 pub record IsSize (size : WindowSize) : Type 0 where

@@ -20,6 +20,8 @@ pub struct Opening {
     pub from: usize,
     /// The order of their numbers.
     pub order: Order,
+    /// Whether the source has no more.
+    pub ended: bool,
 }
 
 /// What came of a capture.
@@ -142,7 +144,7 @@ fn last_window<J: Judges + Drop>(walk: Walk<J>) -> Result<Streamed<J>, Fault>
 }
 
 /// Those who judge packets judge all of a capture, a window of this size at a time, to the end of the source, or until an
-/// input would be too long. Where there is a runtime for threads, each next window is read beside. A fault of the capture
+/// input would be too long. Nothing is read where the opening is all. Where there is a runtime for threads, each next window is read beside. A fault of the capture
 /// is answered when all was read.
 pub fn judge_stream<J: Judges + Drop, T: Threads, R: Source + Send>(
     beside: Option<&T>,
@@ -152,13 +154,18 @@ pub fn judge_stream<J: Judges + Drop, T: Threads, R: Source + Send>(
     opening: Opening,
     size: WindowSize,
 ) -> Result<Streamed<J>, Fault>
-    requires may { MayStream J.became judges opening }
+    requires may { MayStream J.became judges opening (R.bytes reader.old) }
     requires size { IsSize size }
     requires sound { R.failures reader.old < 2 ^ 64 - 1 }
     ensures streamed { let old = R.bytes reader.old in let new = R.bytes reader.new in MatchResult result (HasStreamed J.became judges opening old new) (IsStreamFault opening old new) }
     ensures within { HasReadWithin R.bytes R.failures (most_bytes + 1 - length opening.bytes.items) reader.old reader.new result }
 {
-    let Opening { bytes, from, order } = opening;
+    let Opening {
+        bytes,
+        from,
+        order,
+        ended,
+    } = opening;
     let read = bytes.len();
     let found = find_records(&bytes[from..], order);
     let mut walk = Walk {
@@ -170,7 +177,7 @@ pub fn judge_stream<J: Judges + Drop, T: Threads, R: Source + Send>(
         spare: Vec::new(alloc),
         packets: 0,
         read,
-        ended: false,
+        ended,
     };
     'windows: while !walk.ended {
         walk = next_window(beside, reader, size, walk)?;

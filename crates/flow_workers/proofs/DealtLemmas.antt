@@ -11,7 +11,7 @@ use Rattle.packet_view.proofs.FrameLemmas.{view_only, view_shown}
 use Rattle.bihash_words.specs.declared.shape.Shape.{Ghosts}
 use Rattle.packet_dealing.proofs.DealtLists.{next_there, some_left, stands_at, there_behind}
 use Rattle.packet_dealing.specs.Dealt.{AreDealt, IsDealtTo}
-use Rattle.packet_dealing.specs.declared.deals.DealtPart.{DealtPart}
+use Rattle.packet_dealing.specs.declared.dealt_part.DealtPart.{DealtPart}
 use Rattle.flow_workers.specs.declared.share.Run.{Run}
 use Rattle.flow_workers.specs.declared.share.Share.{Share}
 use Rattle.flow_workers.specs.declared.viewed_packet.ViewedPacket.{ViewedPacket}

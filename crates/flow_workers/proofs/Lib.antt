@@ -2,6 +2,7 @@ pub mod AnsweredUpdates
 pub mod DealtLemmas
 pub mod JudgedPackets
 pub mod NumberLemmas
+pub mod OwnLemmas
 pub mod PartLemmas
 pub mod PlacingLemmas
 pub mod RenewalLemmas

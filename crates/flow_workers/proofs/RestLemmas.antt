@@ -15,7 +15,7 @@ use Rattle.flow_dealing.specs.Runs.{AreJudged}
 use Rattle.packet_dealing.proofs.DealtLists.{there_behind}
 use Rattle.packet_dealing.specs.Dealt.{AreDealt, AreWorkers, IsDealtTo}
 use Rattle.packet_dealing.specs.declared.dealer.Dealer.{Dealer}
-use Rattle.packet_dealing.specs.declared.deals.DealtPart.{DealtPart}
+use Rattle.packet_dealing.specs.declared.dealt_part.DealtPart.{DealtPart}
 use Rattle.flow_workers.specs.declared.setup.Setup.{Setup}
 use Rattle.flow_workers.specs.declared.share.Run.{Run}
 use Rattle.flow_workers.specs.declared.share.Share.{Share}

@@ -1,6 +1,6 @@
 //! One part of the packets, by all workers.
 ghost use Rattle.std.specs.Prelude.{◌≡◌, ◌++◌, IfOk};
-ghost use Rattle.packet_dealing.specs.declared.deals.DealtPart.{DealtPart};
+ghost use Rattle.packet_dealing.specs.declared.dealt_part.DealtPart.{DealtPart};
 ghost use Rattle.flow_workers.specs.inner.Shares.{workers_in};
 ghost use Rattle.flow_workers.specs.inner.Together.{HaveRun};
 ghost use Rattle.flow_workers.specs.inner.Turns.{MayRun};

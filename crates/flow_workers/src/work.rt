@@ -9,7 +9,7 @@ use crate::share::{Job, Run, Share};
 use crate::viewed_packet::ViewedPacket;
 use bihash_words::Shape;
 use packet_dealing::{DealtPart, flow_in};
-use packet_view::{Packet, PacketsAhead, plain_frame, view};
+use packet_view::{Packet, plain_frame, view};
 use std::alloc::AllocError;
 use std::sync::Wait;
 
@@ -88,18 +88,12 @@ fn judge_part<'a, A: Shape, B: Shape, R: Wait, G: Gate>(
     part: &DealtPart<'a>,
     share: &mut Share<A, B>,
 ) -> Result<(), AllocError>
-    requires { MayJudgePart ⟦<A as Shape>⟧ ⟦<B as Shape>⟧ run.now first part.now share.old }
+    requires { MayJudgePart ⟦<A as Shape>⟧ ⟦<B as Shape>⟧ run.now worker first part.now share.old }
     ensures { IfOk result (λ _. HasWorkedOnPart ⟦<A as Shape>⟧ ⟦<B as Shape>⟧ run.now worker first part.now share.old share.new) }
 {
-    let mut packets = PacketsAhead::new(part.packets);
-    'part: for (k, judge) in part.workers.as_slice().iter().enumerate() {
-        let Some(packet) = packets.next() else {
-            unreachable!()
-        };
-        if *judge as usize != worker {
-            continue;
-        }
-        judge_own(run, worker, first + k, &packet, share)?;
+    let own = part.own[worker].as_slice();
+    for dealt in own {
+        judge_own(run, worker, first + dealt.at, &dealt.packet, share)?;
     }
     Ok(())
 }

@@ -1,2 +1,3 @@
 pub mod DealtLists
+pub mod HandedPackets
 pub mod PartLemmas

@@ -10,7 +10,7 @@ use Rattle.packet_view.specs.declared.packets.Packets.{Packets}
 use Rattle.bihash_words.specs.declared.shape.Shape.{Ghosts}
 use Rattle.packet_dealing.specs.Dealt.{AreDealt}
 use Rattle.packet_dealing.specs.declared.dealer.Dealer.{Dealer}
-use Rattle.packet_dealing.specs.declared.deals.DealtPart.{DealtPart}
+use Rattle.packet_dealing.specs.declared.dealt_part.DealtPart.{DealtPart}
 use Rattle.packet_dealing.specs.declared.part.Job.{Job}
 use Rattle.packet_dealing.specs.declared.part.Part.{Part}
 use Rattle.packet_dealing.specs.declared.part.Part.TheVariants.{Ahead, Over}

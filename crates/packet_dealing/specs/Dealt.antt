@@ -1,14 +1,15 @@
 -- Packets with the workers that judge them.
-use Rattle.std.specs.Prelude.{◌≡◌, ◌+◌, ◌<◌, ◌≤◌, ℕ, List, [], ◌∷◌, Some, drop, length, slice_get, slice_index}
-use Rattle.packet_view.specs.Captures.{PacketFacts}
-use Rattle.packet_view.specs.CheckedCaptures.{held}
+use Rattle.std.specs.Global.{Vec}
+use Rattle.std.specs.Prelude.{◌≡◌, ◌+◌, ◌<◌, ◌≤◌, ◌==◌, if◌then◌else◌, ℕ, List, [], ◌∷◌, Some, drop, length, map, slice_get, slice_index, slice_index_or}
+use Rattle.packet_view.specs.Captures.{PacketFacts, packet_facts}
 use Rattle.packet_view.specs.Frames.{FrameFacts, IsFrame}
 use Rattle.bihash_words.specs.Sizes.{IsSound, sizes_of}
 use Rattle.bihash_words.specs.declared.shape.Shape.{Ghosts}
 use Rattle.flow_filter.specs.OneThread.{IsFlowLayout, layout_of}
 use Rattle.flow_dealing.specs.Dealings.{flow_shown, worker_by}
 use Rattle.packet_dealing.specs.declared.dealer.Dealer.{Dealer}
-use Rattle.packet_dealing.specs.declared.deals.DealtPart.{DealtPart}
+use Rattle.packet_dealing.specs.declared.dealt_part.DealtPacket.{DealtPacket}
+use Rattle.packet_dealing.specs.declared.dealt_part.DealtPart.{DealtPart}
 
 -- the shapes are sound, and their keys are those of flows
 pub record AreShapes {A B K L : Type 0} (ga : Ghosts A K) (gb : Ghosts B L) : Type 0 where
@@ -28,11 +29,28 @@ pub record AreWorkers {A B K L : Type 0} (ga : Ghosts A K) (gb : Ghosts B L) (de
   pub each : (k : ℕ) (packet : PacketFacts) → k < length workers → slice_get packets k ≡ Some packet
       → IsDealtTo ga gb dealer (first + k) packet.frame (slice_index workers k)
 
--- the part has these packets, whose numbers begin with this one, and the workers of the first of them
+-- a packet with its place
+abbrev pub placed_facts : DealtPacket → ℕ × PacketFacts
+placed_facts dealt = (dealt.at, packet_facts dealt.packet)
+
+-- Those of the packets, each with its place, whose worker is this one. The places begin with this one.
+unfoldable pub picked : ℕ → ℕ → List ℕ → List PacketFacts → List (ℕ × PacketFacts)
+picked worker at [] packets = []
+picked worker at (w ∷ ws) [] = []
+picked worker at (w ∷ ws) (packet ∷ packets) =
+    if w == worker then (at, packet) ∷ picked worker (at + 1) ws packets else picked worker (at + 1) ws packets
+
+-- Each of so many workers has a list of the packets that are its own.
+pub record HaveOwn (count : ℕ) (part : DealtPart) (packets : List PacketFacts) : Type 0 where
+  pub lists : length part.own.items ≡ count
+  pub each : (w : ℕ) (d : Vec DealtPacket) → w < count
+      → map placed_facts (slice_index_or part.own.items w d).items ≡ picked w 0 part.workers.items packets
+
+-- the part has the workers of the first of these packets, whose numbers begin with this one, and for each worker its own
 pub record IsDealtPart {A B K L : Type 0} (ga : Ghosts A K) (gb : Ghosts B L) (dealer : Dealer) (first : ℕ)
     (part : DealtPart) (packets : List PacketFacts) : Type 0 where
-  pub of : held part.packets ≡ packets
   pub workers : AreWorkers ga gb dealer first part.workers.items packets
+  pub own : HaveOwn dealer.workers part packets
 
 -- these are all packets, whose numbers begin with this one, each with its worker
 abbrev pub AreDealt : {A B K L : Type 0} (ga : Ghosts A K) (gb : Ghosts B L) → Dealer → ℕ → List DealtPart

@@ -4,21 +4,13 @@ ghost use Rattle.packet_view.specs.CheckedCaptures.{held};
 ghost use Rattle.packet_dealing.specs.Dealt.{AreDealt, AreShapes};
 
 use crate::dealer::Dealer;
+use crate::dealt_part::DealtPart;
 use crate::parts::{parts_ahead, parts_over};
 use crate::task::run_all;
 use bihash_words::Shape;
 use packet_view::Packets;
 use std::alloc::{AllocError, Global};
 use std::thread::Threads;
-
-/// Packets that follow each other, and who judges them. It takes a byte for each packet.
-#[derive(Drop)]
-pub struct DealtPart<'a> {
-    /// The packets from the first of these on. Others may follow the last of these.
-    pub packets: Packets<'a>,
-    /// The worker that judges each of these, in their order.
-    pub workers: Vec<u8>,
-}
 
 /// The packets, whose numbers begin with this one, with the workers that judge them, in their order, in as many parts as
 /// there are workers. Each part is found by a thread of its own, or by this one where no thread can be made.

@@ -4,7 +4,7 @@ ghost use Rattle.packet_view.specs.CheckedCaptures.{held};
 ghost use Rattle.packet_dealing.specs.inner.Parts.{CanDeal, IsPartOf};
 
 use crate::dealer::dealt_to;
-use crate::deals::DealtPart;
+use crate::dealt_part::DealtPart;
 use crate::part::Job;
 use bihash_words::Shape;
 use packet_view::{Packets, PacketsAhead};
@@ -26,17 +26,14 @@ pub fn deal_part<'a, A: Shape, B: Shape>(job: Job<'a, A, B>) -> Result<DealtPart
     requires { CanDeal ⟦<A as Shape>⟧ ⟦<B as Shape>⟧ job }
     ensures { IfOk result (IsPartOf ⟦<A as Shape>⟧ ⟦<B as Shape>⟧ job.entry) }
 {
-    let front = skip(job.packets, job.first);
-    let mut workers = Vec::with_capacity(job.alloc, job.next - job.first)?;
-    let mut packets = PacketsAhead::new(front);
+    let mut part = job.part;
+    let mut packets = PacketsAhead::new(skip(job.packets, job.first));
     for at in job.first..job.next {
         let Some(packet) = packets.next() else {
             unreachable!()
         };
-        workers.push(dealt_to::<A, B>(&job.dealer, job.number + at, packet.frame) as u8)?;
+        let worker = dealt_to::<A, B>(&job.dealer, job.number + at, packet.frame);
+        part.hand(worker, packet)?;
     }
-    Ok(DealtPart {
-        packets: front,
-        workers,
-    })
+    Ok(part)
 }

@@ -1,17 +1,16 @@
 //! A part of the packets before it is dealt and after it.
 use crate::dealer::Dealer;
-use crate::deals::DealtPart;
+use crate::dealt_part::DealtPart;
 use crate::one_part::deal_part;
 use crate::task::Task;
 use bihash_words::Shape;
 use packet_view::Packets;
-use std::alloc::{AllocError, Global};
+use std::alloc::AllocError;
 use std::marker::PhantomData;
 
 /// Which of the packets are to be dealt: those from one place on, up to another.
 #[derive(Drop)]
 pub struct Job<'a, A, B> {
-    pub alloc: Global,
     pub dealer: Dealer,
     /// All packets.
     pub packets: Packets<'a>,
@@ -21,6 +20,8 @@ pub struct Job<'a, A, B> {
     pub first: usize,
     /// The place of the first one behind them.
     pub next: usize,
+    /// Where they go. It has no packet yet.
+    pub part: DealtPart<'a>,
     /// What their buckets go by.
     pub shapes: PhantomData<(A, B)>,
 }

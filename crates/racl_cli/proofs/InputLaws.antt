@@ -1,5 +1,5 @@
 -- All bytes are an input of one outcome or have one fault.
-use Rattle.std.proofs.Common.{◌≡◌, ◌<◌, ◌∙◌, ◌⊎◌, ℕ, zero, suc, Bool, true, false, List, [], ◌∷◌, ◌++◌, length, Result, Ok, Err, refl, sym, ap, ap₂, subst, inl, inr, arith}
+use Rattle.std.proofs.Common.{◌≡◌, ◌<◌, ◌≤◌, ◌∙◌, ◌⊎◌, ℕ, zero, suc, Bool, true, false, List, [], ◌∷◌, ◌++◌, length, Result, Ok, Err, refl, sym, ap, ap₂, subst, inl, inr, arith}
 use Rattle.std.proofs.lemmas.Bool.{cases_eq, cases_lt}
 use Rattle.std.proofs.lemmas.List.{length-append}
 use Rattle.hex.specs.Hex.{decode_of}
@@ -8,7 +8,7 @@ use Rattle.packet_view.specs.Bytes.{AreBytes}
 use Rattle.packet_view.specs.Captures.{End, IsCapture, PacketFacts, Truncated, Whole, end_of}
 use Rattle.packet_view.proofs.CutLemmas as captures
 use Rattle.packet_view.proofs.ReadingLemmas.{one_fault, some_reading}
-use Rattle.acl_policy.specs.Policies.{PolicyFacts}
+use Rattle.acl_policy.specs.Policies.{IsPolicyText, PolicyFacts}
 use Rattle.acl_policy.proofs.ReadingLaws as policies
 use Rattle.acl_policy.proofs.TextLaws as texts
 use Rattle.std.specs.Str.Lines.{lines}
@@ -19,11 +19,10 @@ use Rattle.racl_io.specs.declared.input.Form.{Form}
 use Rattle.racl_io.specs.declared.input.Form.TheVariants.{Binary, Hexadecimal}
 use Rattle.racl_io.specs.Faults.{IsFaultOfBytes, IsFaultOfCapture, IsFaultOfContent, IsFaultOfParts, IsInputFault, capture_fault, policy_fault}
 use Rattle.racl_io.specs.Inputs.{IsContent, IsFirstLine, IsInput, IsMarked, IsMarker, HasNoFeed, InputFacts, digits_of, joined, most_bytes, word_of}
-use Rattle.racl_cli.specs.Runs.{ByOneThread, FiltersCapture, FiltersContent, FiltersInput, HasOutcome, Outcome, flow_layout}
+use Rattle.racl_cli.specs.Runs.{ByOneThread, HasOutcome, IsRead, Outcome, flow_layout}
 use Rattle.racl_io.proofs.InputLemmas.{IsFront, front_grows, front_of_all, no_input}
 use Rattle.flow_filter.proofs.OneThreadLemmas.{one_verdicts, some_verdicts}
-use Rattle.racl_cli.proofs.OutcomeLemmas.{FiltersParts, filters_of_known_content, filters_of_known_parts, one_truncated}
-use Rattle.racl_cli.proofs.RunLemmas.{fault_of_known_content, fault_of_known_parts}
+use Rattle.racl_cli.proofs.RunLemmas.{fault_of_known_content, fault_of_known_parts, one_truncated, packets_in_capture, read_in}
 
 -- ---- bytes within bytes
 
@@ -47,27 +46,33 @@ bytes_of_capture Hexadecimal content capture fit is = (decode_of-ok (digits_of c
 
 -- ---- one outcome
 
-one_outcome_of_capture : (times : Timeouts) (policy : PolicyFacts) (capture : List ℕ) (one other : Outcome) → AreBytes capture
-    → FiltersCapture (ByOneThread times) policy capture one → FiltersCapture (ByOneThread times) policy capture other → one ≡ other
-one_outcome_of_capture times policy capture one other fit a b =
-    let both = captures.one_reading capture a.packets b.packets (end_of one.truncated) (end_of other.truncated) fit a.records b.records in
-    let verdicts = one_verdicts flow_layout times policy b.packets one.verdicts other.verdicts (subst (λ p. ByOneThread times policy p one.verdicts) both.0 a.verdicts) b.verdicts in
-    ap₂ (λ v t. let outcome : Outcome = record { verdicts = v; truncated = t } in outcome) verdicts (one_truncated one.truncated other.truncated both.1)
+-- bytes say one policy, one list of packets and one end
+pub record IsSame (policy other : PolicyFacts) (packets others : List PacketFacts) (truncated ends : Bool) : Type 0 where
+  pub policies : policy ≡ other
+  pub all : packets ≡ others
+  pub end : truncated ≡ ends
 
-one_outcome_of_parts : (times : Timeouts) (parts : InputFacts) (one other : Outcome) → AreBytes parts.content
-    → FiltersParts (ByOneThread times) parts one → FiltersParts (ByOneThread times) parts other → one ≡ other
-one_outcome_of_parts times parts one other fit a b =
-    let policy = texts.one_policy (lines parts.policy) a.policy b.policy a.says.1 b.says.1 in
-    let moved = subst (λ p. FiltersContent (ByOneThread times) p parts.form parts.content one) policy a.filters in
-    let capture = b.filters.capture in
-    one_outcome_of_capture times b.policy capture one other (bytes_of_capture parts.form parts.content capture fit b.filters.spelt)
-    (filters_of_known_content (ByOneThread times) b.policy parts.form parts.content capture one b.filters.spelt moved) b.filters.filters
+one_read : (bytes : List ℕ) (policy other : PolicyFacts) (packets others : List PacketFacts) (truncated ends : Bool) → AreBytes bytes
+    → IsRead bytes policy packets truncated → IsRead bytes other others ends → IsSame policy other packets others truncated ends
+one_read bytes policy other packets others truncated ends fit a b =
+    let parts = b.parts in
+    let first = read_in bytes parts policy packets truncated b.parted a in
+    let content = bytes_of_content bytes parts fit b.parted in
+    let both = captures.one_reading b.capture packets others (end_of truncated) (end_of ends) (bytes_of_capture parts.form parts.content b.capture content b.spelt)
+    (packets_in_capture parts policy packets truncated b.capture b.spelt first) b.records in
+    record {
+      policies = texts.one_policy (lines parts.policy) policy other first.says.1 b.says.1;
+      all = both.0;
+      end = one_truncated truncated ends both.1;
+    }
 
-pub one_outcome : (times : Timeouts) (bytes : List ℕ) (one other : Outcome) → AreBytes bytes → HasOutcome (ByOneThread times) bytes one → HasOutcome (ByOneThread times) bytes other → one ≡ other
+pub one_outcome : (times : Timeouts) (bytes : List ℕ) (one other : Outcome) → AreBytes bytes → HasOutcome times bytes one → HasOutcome times bytes other → one ≡ other
 one_outcome times bytes one other fit a b =
-    let parts = b.filters.parts in
-    one_outcome_of_parts times parts one other (bytes_of_content bytes parts fit b.filters.parted)
-    (filters_of_known_parts (ByOneThread times) bytes parts one b.filters.parted a.filters) (filters_of_known_parts (ByOneThread times) bytes parts other b.filters.parted b.filters)
+    let same = one_read bytes a.policy b.policy a.packets b.packets one.truncated other.truncated fit a.read b.read in
+    let moved : ByOneThread times b.policy b.packets one.verdicts =
+    subst (λ p. ByOneThread times p b.packets one.verdicts) same.policies (subst (λ ps. ByOneThread times a.policy ps one.verdicts) same.all a.verdicts) in
+    ap₂ (λ v t. let outcome : Outcome = record { verdicts = v; truncated = t } in outcome)
+    (one_verdicts flow_layout times b.policy b.packets one.verdicts other.verdicts moved b.verdicts) same.end
 
 -- ---- one fault
 
@@ -102,44 +107,37 @@ one_fault_of_input bytes one other fit (inr (few, of)) (inr (few', of')) = one_f
 
 -- ---- an outcome or a fault, and not both
 
-no_fault_of_content : (times : Timeouts) (policy : PolicyFacts) (form : Form) (content : List ℕ) (outcome : Outcome) (fault : Fault) → AreBytes content
-    → FiltersContent (ByOneThread times) policy form content outcome → IsFaultOfContent form content fault → ⊥
-no_fault_of_content times policy form content outcome fault fit filters of =
-    let found = fault_of_known_content form content filters.capture fault filters.spelt of in
-    captures.no_fault_too filters.capture filters.filters.packets (end_of outcome.truncated) found.0
-    (bytes_of_capture form content filters.capture fit filters.spelt) filters.filters.records found.1
+no_fault_of_parts : (bytes : List ℕ) (policy : PolicyFacts) (packets : List PacketFacts) (truncated : Bool) (fault : Fault) → AreBytes bytes
+    → (read : IsRead bytes policy packets truncated) → IsFaultOfParts read.parts fault → ⊥
+no_fault_of_parts bytes policy packets truncated fault fit read (inl (cause, is, same)) = texts.policy_or_fault read.parts.policy policy cause read.says is
+no_fault_of_parts bytes policy packets truncated fault fit read (inr (other, says, of)) =
+    let parts = read.parts in
+    let found = fault_of_known_content parts.form parts.content read.capture fault read.spelt of in
+    captures.no_fault_too read.capture packets (end_of truncated) found.0
+    (bytes_of_capture parts.form parts.content read.capture (bytes_of_content bytes parts fit read.parted) read.spelt) read.records found.1
 
-no_fault_of_parts : (times : Timeouts) (parts : InputFacts) (outcome : Outcome) (fault : Fault) → AreBytes parts.content
-    → FiltersParts (ByOneThread times) parts outcome → IsFaultOfParts parts fault → ⊥
-no_fault_of_parts times parts outcome fault fit filters (inl (cause, is, same)) = texts.policy_or_fault parts.policy filters.policy cause filters.says is
-no_fault_of_parts times parts outcome fault fit filters (inr (policy, says, of)) = no_fault_of_content times filters.policy parts.form parts.content outcome fault fit filters.filters of
-
-pub no_fault_too : (times : Timeouts) (bytes : List ℕ) (outcome : Outcome) (fault : Fault) → AreBytes bytes → HasOutcome (ByOneThread times) bytes outcome → IsInputFault bytes fault → ⊥
-no_fault_too times bytes outcome fault fit has (inl (same, many)) = let few = has.few in omega (arith, few, many)
+pub no_fault_too : (times : Timeouts) (bytes : List ℕ) (outcome : Outcome) (fault : Fault) → AreBytes bytes → HasOutcome times bytes outcome → IsInputFault bytes fault → ⊥
+no_fault_too times bytes outcome fault fit has (inl (same, many)) = let few = has.read.few in omega (arith, few, many)
 no_fault_too times bytes outcome fault fit has (inr (few, of)) =
-    let parts = has.filters.parts in
-    no_fault_of_parts times parts outcome fault (bytes_of_content bytes parts fit has.filters.parted)
-    (filters_of_known_parts (ByOneThread times) bytes parts outcome has.filters.parted has.filters) (fault_of_known_parts bytes parts fault has.filters.parted of)
+    no_fault_of_parts bytes has.policy has.packets outcome.truncated fault fit has.read
+    (fault_of_known_parts bytes has.read.parts fault has.read.parted of)
 
--- ---- verdicts on all packets
+-- ---- the packets of all captures
 
-outcome_of_capture : (times : Timeouts) (policy : PolicyFacts) (capture : List ℕ) (packets : List PacketFacts) (truncated : Bool) → IsCapture capture packets (end_of truncated)
-    → (outcome : Outcome) × FiltersCapture (ByOneThread times) policy capture outcome
-outcome_of_capture times policy capture packets truncated is =
-    let verdicts = some_verdicts flow_layout times policy packets in
-    let outcome : Outcome = record { verdicts = verdicts.0; truncated = truncated } in
-    (outcome, record { packets = packets; records = is; verdicts = verdicts.1 })
+-- a capture's packets, and how it ends
+record HasPackets (capture : List ℕ) : Type 0 where
+  pub packets : List PacketFacts
+  pub truncated : Bool
+  pub records : IsCapture capture packets (end_of truncated)
 
-outcome_at_end : (times : Timeouts) (policy : PolicyFacts) (capture : List ℕ) (packets : List PacketFacts) (end : End) → IsCapture capture packets end
-    → (outcome : Outcome) × FiltersCapture (ByOneThread times) policy capture outcome
-outcome_at_end times policy capture packets Whole is = outcome_of_capture times policy capture packets false is
-outcome_at_end times policy capture packets Truncated is = outcome_of_capture times policy capture packets true is
+packets_at_end : (capture : List ℕ) (packets : List PacketFacts) (end : End) → IsCapture capture packets end → HasPackets capture
+packets_at_end capture packets Whole is = record { packets = packets; truncated = false; records = is }
+packets_at_end capture packets Truncated is = record { packets = packets; truncated = true; records = is }
 
-outcome_or_fault_of_capture : (times : Timeouts) (policy : PolicyFacts) (capture : List ℕ)
-    → ((outcome : Outcome) × FiltersCapture (ByOneThread times) policy capture outcome) ⊎ ((fault : Fault) × IsFaultOfCapture capture fault)
-outcome_or_fault_of_capture times policy capture =
+packets_or_fault : (capture : List ℕ) → HasPackets capture ⊎ ((fault : Fault) × IsFaultOfCapture capture fault)
+packets_or_fault capture =
     elim (some_reading capture) [
-      | inl is ↦ inl (outcome_at_end times policy capture is.0 is.1 is.2)
+      | inl is ↦ inl (packets_at_end capture is.0 is.1 is.2)
       | inr found ↦ inr (capture_fault found.0, (found.0, found.1, refl))
     ]
 
@@ -154,22 +152,32 @@ capture_or_none : (form : Form) (content : List ℕ) → ((capture : List ℕ) �
 capture_or_none Binary content = inl (content, refl)
 capture_or_none Hexadecimal content = decoded content (decode_of (digits_of content)) refl
 
-outcome_or_fault_of_content : (times : Timeouts) (policy : PolicyFacts) (form : Form) (content : List ℕ)
-    → ((outcome : Outcome) × FiltersContent (ByOneThread times) policy form content outcome) ⊎ ((fault : Fault) × IsFaultOfContent form content fault)
-outcome_or_fault_of_content times policy form content =
+-- what content and parts say
+record HasContent (form : Form) (content : List ℕ) : Type 0 where
+  pub capture : List ℕ
+  pub spelt : IsContent form content capture
+  pub has : HasPackets capture
+
+content_or_fault : (form : Form) (content : List ℕ) → HasContent form content ⊎ ((fault : Fault) × IsFaultOfContent form content fault)
+content_or_fault form content =
     elim (capture_or_none form content) [
-      | inl is ↦ elim (outcome_or_fault_of_capture times policy is.0) [
-        | inl has ↦ inl (has.0, record { capture = is.0; spelt = is.1; filters = has.1 })
+      | inl is ↦ elim (packets_or_fault is.0) [
+        | inl has ↦ inl (record { capture = is.0; spelt = is.1; has = has })
         | inr found ↦ inr (found.0, inr (is.0, is.1, found.1))
       ]
       | inr none ↦ inr (Hex, inl (refl, none))
     ]
 
-outcome_or_fault_of_parts : (times : Timeouts) (parts : InputFacts) → ((outcome : Outcome) × FiltersParts (ByOneThread times) parts outcome) ⊎ ((fault : Fault) × IsFaultOfParts parts fault)
-outcome_or_fault_of_parts times parts =
+record HasParts (parts : InputFacts) : Type 0 where
+  pub policy : PolicyFacts
+  pub says : IsPolicyText parts.policy policy
+  pub content : HasContent parts.form parts.content
+
+parts_or_fault : (parts : InputFacts) → HasParts parts ⊎ ((fault : Fault) × IsFaultOfParts parts fault)
+parts_or_fault parts =
     elim (policies.some_reading parts.policy) [
-      | inl says ↦ elim (outcome_or_fault_of_content times says.0 parts.form parts.content) [
-        | inl has ↦ inl (has.0, record { policy = says.0; says = says.1; filters = has.1 })
+      | inl says ↦ elim (content_or_fault parts.form parts.content) [
+        | inl has ↦ inl (record { policy = says.0; says = says.1; content = has })
         | inr found ↦ inr (found.0, inr (says.0, says.1, found.1))
       ]
       | inr found ↦ inr (policy_fault found.0, inl (found.0, found.1, refl))
@@ -254,22 +262,46 @@ parts_after (suc fuel) bytes rest short front =
       ]
     ]
 
-outcome_or_fault_of_bytes : (times : Timeouts) (bytes : List ℕ) → ((outcome : Outcome) × FiltersInput (ByOneThread times) bytes outcome) ⊎ ((fault : Fault) × IsFaultOfBytes bytes fault)
-outcome_or_fault_of_bytes times bytes =
+outcome_of_parts : (times : Timeouts) (bytes : List ℕ) (parts : InputFacts) → length bytes ≤ most_bytes → IsInput bytes parts → HasParts parts
+    → (outcome : Outcome) × HasOutcome times bytes outcome
+outcome_of_parts times bytes parts few is has =
+    let packets = has.content.has.packets in
+    let verdicts = some_verdicts flow_layout times has.policy packets in
+    let outcome : Outcome = record { verdicts = verdicts.0; truncated = has.content.has.truncated } in (
+      outcome,
+      record {
+        policy = has.policy;
+        packets = packets;
+        read = record {
+          few = few;
+          parts = parts;
+          parted = is;
+          says = has.says;
+          capture = has.content.capture;
+          spelt = has.content.spelt;
+          records = has.content.has.records;
+        };
+        verdicts = verdicts.1;
+      },
+    )
+
+outcome_or_fault_of_bytes : (times : Timeouts) (bytes : List ℕ) → length bytes ≤ most_bytes
+    → ((outcome : Outcome) × HasOutcome times bytes outcome) ⊎ ((fault : Fault) × IsFaultOfBytes bytes fault)
+outcome_or_fault_of_bytes times bytes few =
     elim (parts_after (suc (length bytes)) bytes bytes (omega arith) (front_of_all bytes)) [
-      | inl is ↦ elim (outcome_or_fault_of_parts times is.0) [
-        | inl has ↦ inl (has.0, record { parts = is.0; parted = is.1; policy = has.1.policy; says = has.1.says; filters = has.1.filters })
+      | inl is ↦ elim (parts_or_fault is.0) [
+        | inl has ↦ inl (outcome_of_parts times bytes is.0 few is.1 has)
         | inr found ↦ inr (found.0, inr (is.0, is.1, found.1))
       ]
       | inr none ↦ inr (NoCapture, inl (refl, none))
     ]
 
-pub outcome_or_fault : (times : Timeouts) (bytes : List ℕ) → ((outcome : Outcome) × HasOutcome (ByOneThread times) bytes outcome) ⊎ ((fault : Fault) × IsInputFault bytes fault)
+pub outcome_or_fault : (times : Timeouts) (bytes : List ℕ) → ((outcome : Outcome) × HasOutcome times bytes outcome) ⊎ ((fault : Fault) × IsInputFault bytes fault)
 outcome_or_fault times bytes =
     elim (cases_lt most_bytes (length bytes)) [
       | inl many ↦ inr (TooLarge, inl (refl, many))
-      | inr few ↦ elim (outcome_or_fault_of_bytes times bytes) [
-        | inl has ↦ inl (has.0, record { few = few; filters = has.1 })
+      | inr few ↦ elim (outcome_or_fault_of_bytes times bytes few) [
+        | inl has ↦ inl has
         | inr found ↦ inr (found.0, inr (few, found.1))
       ]
     ]

@@ -1,4 +1,5 @@
 pub mod InputLaws
+pub mod OpenedLemmas
 pub mod OutcomeLemmas
 pub mod ReadLemmas
 pub mod RunLemmas

@@ -1,5 +1,6 @@
--- A fault of an input is the fault of its parts.
-use Rattle.std.proofs.Common.{◌≡◌, ◌≢◌, ◌≤◌, ◌∙◌, ◌⊎◌, ℕ, List, Option, Some, None, IfSome, length, arith, sym, ap, subst, inl, inr}
+-- What an input says, and its faults, are those of its parts.
+use Rattle.std.proofs.Common.{◌≡◌, ◌≢◌, ◌≤◌, ◌∙◌, ◌⊎◌, ℕ, Bool, true, false, List, Option, Some, None, IfSome, length, arith, refl, sym, ap, subst, inl, inr}
+use Rattle.packet_view.specs.Captures.{IsCapture, PacketFacts, end_of}
 use Rattle.acl_policy.specs.Policies.{IsPolicyFault, IsPolicyText, PolicyFacts}
 use Rattle.acl_policy.specs.declared.policy.PolicyFault.{PolicyFault}
 use Rattle.acl_policy.specs.declared.policy.PolicyFault.TheVariants as policy
@@ -10,11 +11,38 @@ use Rattle.racl_io.specs.declared.input.Form.TheVariants.{Binary, Hexadecimal}
 use Rattle.racl_io.specs.Faults.{IsSystemFault, IsFaultOfBytes, IsFaultOfCapture, IsFaultOfContent, IsFaultOfParts, IsInputFault, policy_fault}
 use Rattle.racl_io.specs.Inputs.{IsContent, IsInput, InputFacts, most_bytes}
 use Rattle.racl_io.proofs.InputLemmas.{one_input}
+use Rattle.racl_cli.specs.Runs.{IsRead}
 
 -- content stands for one capture
 pub one_content : (form : Form) (content one other : List ℕ) → IsContent form content one → IsContent form content other → one ≡ other
 one_content Binary content one other p q = p ∙ sym q
 one_content Hexadecimal content one other p q = cc
+
+-- a policy, packets and an end as these parts say them
+pub record IsReadIn (parts : InputFacts) (policy : PolicyFacts) (packets : List PacketFacts) (truncated : Bool) : Type 0 where
+  pub says : IsPolicyText parts.policy policy
+  pub capture : List ℕ
+  pub spelt : IsContent parts.form parts.content capture
+  pub records : IsCapture capture packets (end_of truncated)
+
+-- where the parts are known, the input says what they say
+pub read_in : (bytes : List ℕ) (parts : InputFacts) (policy : PolicyFacts) (packets : List PacketFacts) (truncated : Bool) → IsInput bytes parts
+    → IsRead bytes policy packets truncated → IsReadIn parts policy packets truncated
+read_in bytes parts policy packets truncated is read =
+    subst (λ p. IsReadIn p policy packets truncated) (one_input bytes read.parts parts read.parted is)
+    (record { says = read.says; capture = read.capture; spelt = read.spelt; records = read.records })
+
+-- where the capture is known too, the packets are its
+pub packets_in_capture : (parts : InputFacts) (policy : PolicyFacts) (packets : List PacketFacts) (truncated : Bool) (capture : List ℕ)
+    → IsContent parts.form parts.content capture → IsReadIn parts policy packets truncated → IsCapture capture packets (end_of truncated)
+packets_in_capture parts policy packets truncated capture spelt read =
+    subst (λ c. IsCapture c packets (end_of truncated)) (one_content parts.form parts.content read.capture capture read.spelt spelt) read.records
+
+pub one_truncated : (a b : Bool) → end_of a ≡ end_of b → a ≡ b
+one_truncated true true same = refl
+one_truncated true false same = cc
+one_truncated false true same = cc
+one_truncated false false same = refl
 
 -- where the capture is known, the content has no fault but the capture's
 pub fault_of_known_content : (form : Form) (content capture : List ℕ) (fault : Fault) → IsContent form content capture → IsFaultOfContent form content fault → IsFaultOfCapture capture fault
@@ -47,16 +75,12 @@ fault_of_right_policy parts fault refuses (inl (cause, is, same)) = absurd (refu
 fault_of_right_policy parts fault refuses (inr (right, says, of)) = of
 
 -- what was read is the input, where that is known
-pub record IsRead (known : Option (List ℕ)) (bytes : List ℕ) : Type 0 where
+pub record IsWhole (known : Option (List ℕ)) (bytes : List ℕ) : Type 0 where
   pub whole : IfSome known (λ input. bytes ≡ input)
   pub few : length bytes ≤ most_bytes
 
-pub read_bytes : (known : Option (List ℕ)) (items bytes : List ℕ) (len : ℕ) → IfSome known (λ input. items ≡ input) → bytes ≡ items → length bytes ≡ len → len ≤ most_bytes → IsRead known bytes
-read_bytes None items bytes len whole same sized few = record { whole = tt; few = subst (λ n. n ≤ most_bytes) (sym sized) few }
-read_bytes (Some input) items bytes len whole same sized few = record { whole = same ∙ whole; few = subst (λ n. n ≤ most_bytes) (sym sized) few }
-
 -- a fault of the bytes is one of the input
-pub fault_of_input : (known : Option (List ℕ)) (bytes : List ℕ) (fault : Fault) → IsRead known bytes → IsFaultOfBytes bytes fault → IfSome known (λ input. IsInputFault input fault)
+pub fault_of_input : (known : Option (List ℕ)) (bytes : List ℕ) (fault : Fault) → IsWhole known bytes → IsFaultOfBytes bytes fault → IfSome known (λ input. IsInputFault input fault)
 fault_of_input None bytes fault read of = tt
 fault_of_input (Some input) bytes fault read of = subst (λ b. IsInputFault b fault) read.whole (inr (read.few, of))
 
@@ -65,7 +89,7 @@ fault_of_few bytes fault few (inl (same, many)) = absurd (omega (arith, few, man
 fault_of_few bytes fault few (inr (fits, of)) = of
 
 -- what a fault of the bytes excludes, a fault of the input excludes
-pub excluded_by_input : (known : Option (List ℕ)) (bytes : List ℕ) (Excludes : Fault → Type 0) → IsRead known bytes
+pub excluded_by_input : (known : Option (List ℕ)) (bytes : List ℕ) (Excludes : Fault → Type 0) → IsWhole known bytes
     → ((fault : Fault) → IsFaultOfBytes bytes fault → Excludes fault) → IfSome known (λ input. (fault : Fault) → IsInputFault input fault → Excludes fault)
 excluded_by_input None bytes Excludes read excludes = tt
 excluded_by_input (Some input) bytes Excludes read excludes = λ fault of.

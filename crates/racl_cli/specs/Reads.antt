@@ -1,5 +1,7 @@
--- What is answered of an input that is read to its end, and of one whose capture is judged while it is read.
-use Rattle.std.specs.Prelude.{◌≡◌, ◌+◌, ◌<◌, ◌≤◌, ◌⊎◌, ◌++◌, ℕ, List, Option, IfSome, Result, Err, drop, length}
+-- What is answered of an input that is read, and what stands before the records of its capture.
+use Rattle.std.specs.Prelude.{◌≡◌, ◌≢◌, ◌+◌, ◌<◌, ◌≤◌, ◌⊎◌, ◌++◌, ℕ, Bool, true, is_some, List, Option, None, Some, IfSome, IfOk, IfErr, MatchResult, Result, Err, drop, length}
+use Rattle.std.specs.Global.{Vec}
+use Rattle.std.specs.Io.KnownBytes.{IsAtEnd}
 use Rattle.packet_view.specs.Captures.{AreRecords, HasHeader, IsEnd, IsHeaderFault, PacketFacts, end_of}
 use Rattle.packet_view.specs.declared.capture.CaptureFault.{CaptureFault}
 use Rattle.packet_view.specs.declared.capture.Order.{Order}
@@ -11,13 +13,37 @@ use Rattle.racl_words.specs.declared.settings.Options.{Options}
 use Rattle.racl_io.specs.declared.fault.Fault.{Fault}
 use Rattle.racl_io.specs.declared.fault.Fault.TheVariants.{Memory, Read, TooLarge}
 use Rattle.racl_io.specs.declared.input.Form.TheVariants.{Binary}
-use Rattle.racl_io.specs.Inputs.{IsInput, most_bytes}
+use Rattle.racl_io.specs.Faults.{IsFaultOfBytes, Refuses}
+use Rattle.racl_io.specs.Inputs.{IsContent, IsInput, InputFacts, most_bytes}
 use Rattle.capture_stream.specs.Streams.{AreAllRead, records_in}
 use Rattle.capture_stream.specs.declared.stream.Opening.{Opening}
-use Rattle.racl_cli.specs.declared.streaming.Opened.{Opened}
-use Rattle.racl_cli.specs.Runs.{AnswersInput, ByOneThread, ByWorkers, Outcome}
+use Rattle.racl_cli.specs.declared.opening.Opened.{Opened}
+use Rattle.racl_cli.specs.declared.streaming.Front.{Front}
+use Rattle.racl_cli.specs.Runs.{ByOneThread, ByWorkers, IsRead, Outcome}
 
--- ---- an input that is read
+-- ---- what is answered of the bytes of an input
+
+-- workers gave the verdicts on these packets, and these are the one-thread filter's where none says no-pages
+pub record IsReached (options : Options) (policy : PolicyFacts) (packets : List PacketFacts) (truncated : Bool) (outcome : Outcome) : Type 0 where
+  pub by_workers : ByWorkers options policy packets outcome.verdicts
+  pub by_one_thread : HavePages outcome.verdicts → ByOneThread options.times policy packets outcome.verdicts
+  pub ends : outcome.truncated ≡ truncated
+
+-- the bytes are an input, and its outcome is one that workers reached
+pub record IsOutcomeOf (options : Options) (bytes : List ℕ) (outcome : Outcome) : Type 0 where
+  pub policy : PolicyFacts
+  pub packets : List PacketFacts
+  pub read : IsRead bytes policy packets outcome.truncated
+  pub reached : IsReached options policy packets outcome.truncated outcome
+
+-- What is right gets an outcome that workers reached, what has a fault gets that fault, and either may be told that memory
+-- ran out.
+pub record AnswersInput (options : Options) (bytes : List ℕ) (result : Result Outcome Fault) : Type 0 where
+  pub ok : IfOk result (IsOutcomeOf options bytes)
+  pub accepts : (policy : PolicyFacts) (packets : List PacketFacts) (truncated : Bool) → IsRead bytes policy packets truncated
+      → MatchResult result (IsReached options policy packets truncated) (λ fault. fault ≡ Memory)
+  pub fault : IfErr result (λ fault. fault ≢ Memory → IsFaultOfBytes bytes fault)
+  pub refuses : (fault : Fault) → IsFaultOfBytes bytes fault → Refuses fault result
 
 -- the bytes that the source has are these, where they are known
 abbrev pub AreKnown : Option (List ℕ) → List ℕ → Type 0
@@ -40,7 +66,7 @@ abbrev pub AnswersRead : Options → List ℕ → Option (List ℕ) → Result O
 AnswersRead options front given result =
     ((fault : Fault) × (result ≡ Err fault) × IsUnread (length front) given fault) ⊎ AnswersWhole options front given result
 
--- ---- an input that is judged while it is read
+-- ---- what stands before the records
 
 -- a policy's text says this, and nothing else
 pub record IsSaid (text : List ℕ) (policy : PolicyFacts) : Type 0 where
@@ -54,22 +80,41 @@ pub record IsHeaded (order : Order) (capture : List ℕ) : Type 0 where
   pub one : (other : Order) → HasHeader other capture → other ≡ order
   pub none : (cause : CaptureFault) → IsHeaderFault capture cause → ⊥
 
--- the bytes begin with a right policy, the marker line of a binary capture, and the capture's header
+-- The records of the capture begin in the input, which has the capture as it is; or in the capture that its digits stand for.
+abbrev pub HasRecordsAt : List ℕ → InputFacts → List ℕ → ℕ → Option (Vec ℕ) → Type 0
+HasRecordsAt bytes parts capture from None = (parts.form ≡ Binary) × (from ≤ length bytes) × (drop from bytes ≡ drop 24 capture)
+HasRecordsAt bytes parts capture from (Some decoded) = (from ≡ 24) × (decoded.items ≡ capture)
+
+-- the bytes that have the records
+abbrev pub having_records : List ℕ → Option (Vec ℕ) → List ℕ
+having_records input None = input
+having_records input (Some decoded) = decoded.items
+
+-- the bytes begin with a right policy, a marker line, and the header of a capture
 pub record HasOpened (options : Options) (bytes : List ℕ) (opened : Opened) : Type 0 where
-  pub text : List ℕ
-  pub capture : List ℕ
-  pub parted : IsInput bytes (record { policy = text; form = Binary; content = capture })
-  pub policy : IsSaid text (policy_facts opened.filter.policy)
+  pub parts : InputFacts
+  pub parted : IsInput bytes parts
+  pub policy : IsSaid parts.policy (policy_facts opened.filter.policy)
   pub times : opened.filter.times ≡ options.times
+  pub capture : List ℕ
+  pub spelt : IsContent parts.form parts.content capture
   pub header : IsHeaded opened.order capture
-  pub within : opened.from ≤ length bytes
-  pub records : drop opened.from bytes ≡ drop 24 capture
+  pub records : HasRecordsAt bytes parts capture opened.from opened.decoded
+
+-- these bytes aren't too many, they are all where the source has no more, and digits are all there
+pub record MayGoOn (front : Front) (opened : Opened) (before : Option (List ℕ)) : Type 0 where
+  pub few : length front.bytes.items ≤ most_bytes
+  pub ended : front.ended ≡ true → IsAtEnd before
+  pub whole : is_some opened.decoded ≡ true → front.ended ≡ true
+
+-- ---- the records
 
 -- a filter with the lifetimes that the words ask for may judge the records of an opening within the bytes of an input
-pub record MayJudge (options : Options) (filter : Filter) (opening : Opening) : Type 0 where
+pub record MayJudge (options : Options) (filter : Filter) (opening : Opening) (before : Option (List ℕ)) : Type 0 where
   pub times : filter.times ≡ options.times
   pub within : opening.from ≤ length opening.bytes.items
   pub few : length opening.bytes.items ≤ most_bytes
+  pub ended : opening.ended ≡ true → IsAtEnd before
 
 -- the source gave all its bytes, and these are the verdicts on the packets of all records
 pub record HasJudged (options : Options) (policy : PolicyFacts) (opening : Opening) (before after : Option (List ℕ)) (outcome : Outcome) : Type 0 where
@@ -79,5 +124,4 @@ pub record HasJudged (options : Options) (policy : PolicyFacts) (opening : Openi
   pub rest : List ℕ
   pub records : AreRecords opening.order (records_in opening read) packets rest
   pub end : IsEnd opening.order rest (end_of outcome.truncated)
-  pub by_workers : ByWorkers options policy packets outcome.verdicts
-  pub by_one_thread : HavePages outcome.verdicts → ByOneThread options.times policy packets outcome.verdicts
+  pub reached : IsReached options policy packets outcome.truncated outcome

@@ -1,5 +1,5 @@
 -- What a run has filtered, from the bytes of its input.
-use Rattle.std.specs.Prelude.{◌≡◌, ◌≢◌, ◌≤◌, ℕ, Bool, List, length, Option, IfSome, IfOk, IfErr, Result, MatchResult, All}
+use Rattle.std.specs.Prelude.{◌≡◌, ◌≤◌, ℕ, Bool, List, length, Option, Some, IfSome, All}
 use Rattle.std.specs.Io.KnownBytes.{Appends}
 use Rattle.packet_view.specs.Captures.{IsCapture, PacketFacts, end_of}
 use Rattle.packet_view.specs.declared.tuple.Family.{Family}
@@ -12,13 +12,22 @@ use Rattle.flow_dealing.specs.declared.dealing.Dealing.TheVariants.{Bucket}
 use Rattle.flow_dealing.specs.Dealings.{Deal}
 use Rattle.flow_dealing.specs.Runs.{AreFew, AreJudged, HasPagesIn, HavePages}
 use Rattle.racl_words.specs.declared.settings.Options.{Options}
-use Rattle.racl_io.specs.declared.fault.Fault.{Fault}
-use Rattle.racl_io.specs.declared.fault.Fault.TheVariants.{Memory}
-use Rattle.racl_io.specs.declared.input.Form.{Form}
 use Rattle.racl_io.specs.declared.report.Totals.{Totals}
-use Rattle.racl_io.specs.Faults.{IsFaultOfBytes, IsFaultOfCapture, IsFaultOfContent, Refuses}
 use Rattle.racl_io.specs.Inputs.{IsContent, IsInput, InputFacts, most_bytes}
 use Rattle.racl_io.specs.Reports.{report_of, totals_of}
+
+-- ---- inputs
+
+-- The bytes are an input, and no more than one may have: this policy, a marker line, and a capture of these packets,
+-- which ends within a record or doesn't.
+pub record IsRead (bytes : List ℕ) (policy : PolicyFacts) (packets : List PacketFacts) (truncated : Bool) : Type 0 where
+  pub few : length bytes ≤ most_bytes
+  pub parts : InputFacts
+  pub parted : IsInput bytes parts
+  pub says : IsPolicyText parts.policy policy
+  pub capture : List ℕ
+  pub spelt : IsContent parts.form parts.content capture
+  pub records : IsCapture capture packets (end_of truncated)
 
 -- ---- verdicts
 
@@ -34,12 +43,8 @@ flow_layout = record {
 abbrev pub dealt_to : ℕ → Deal
 dealt_to workers = record { layout = flow_layout; dealing = Bucket; workers = workers }
 
--- which verdicts the packets of a capture may have under a policy
-abbrev pub Judging : Type 1
-Judging = PolicyFacts → List PacketFacts → List Verdict → Type 0
-
 -- those of the one-thread filter
-abbrev pub ByOneThread : Timeouts → Judging
+abbrev pub ByOneThread : Timeouts → PolicyFacts → List PacketFacts → List Verdict → Type 0
 ByOneThread times policy packets verdicts = AreVerdicts flow_layout times policy packets verdicts
 
 -- Those that some workers gave, and no more workers than the words ask for. No packet of a family's flows is refused
@@ -58,76 +63,32 @@ pub record Outcome : Type 0 where
   pub verdicts : List Verdict
   pub truncated : Bool
 
--- the capture of these bytes is judged so
-pub record FiltersCapture (judging : Judging) (policy : PolicyFacts) (capture : List ℕ) (outcome : Outcome) : Type 0 where
-  pub packets : List PacketFacts
-  pub records : IsCapture capture packets (end_of outcome.truncated)
-  pub verdicts : judging policy packets outcome.verdicts
-
-pub record FiltersContent (judging : Judging) (policy : PolicyFacts) (form : Form) (content : List ℕ) (outcome : Outcome) : Type 0 where
-  pub capture : List ℕ
-  pub spelt : IsContent form content capture
-  pub filters : FiltersCapture judging policy capture outcome
-
--- the input is a policy, a marker line and a capture that is judged so
-pub record FiltersInput (judging : Judging) (bytes : List ℕ) (outcome : Outcome) : Type 0 where
-  pub parts : InputFacts
-  pub parted : IsInput bytes parts
+-- the bytes are an input on which the one-thread filter comes to this outcome
+pub record HasOutcome (times : Timeouts) (bytes : List ℕ) (outcome : Outcome) : Type 0 where
   pub policy : PolicyFacts
-  pub says : IsPolicyText parts.policy policy
-  pub filters : FiltersContent judging policy parts.form parts.content outcome
-
--- the bytes are an input of this outcome, and no more than an input may have
-pub record HasOutcome (judging : Judging) (bytes : List ℕ) (outcome : Outcome) : Type 0 where
-  pub few : length bytes ≤ most_bytes
-  pub filters : FiltersInput judging bytes outcome
-
--- Workers came to the outcome. Where it says no-pages of no packet, it is that of the one-thread filter.
-pub record IsReached (options : Options) (Has : Judging → Outcome → Type 0) (outcome : Outcome) : Type 0 where
-  pub by_workers : Has (ByWorkers options) outcome
-  pub by_one_thread : HavePages outcome.verdicts → Has (ByOneThread options.times) outcome
-
--- workers came to the outcome, and it is that of the one-thread filter or says no-pages
-pub record Agrees (options : Options) (Has : Judging → Outcome → Type 0) (one_thread outcome : Outcome) : Type 0 where
-  pub by_workers : Has (ByWorkers options) outcome
-  pub same : HavePages outcome.verdicts → outcome ≡ one_thread
-
--- What is answered of something that has outcomes and faults. What is right gets an outcome, what has a fault gets that
--- fault, and either may be told that memory ran out.
-pub record IsAnswer (options : Options) (Has : Judging → Outcome → Type 0) (IsFault : Fault → Type 0) (result : Result Outcome Fault) : Type 0 where
-  pub ok : IfOk result (IsReached options Has)
-  pub accepts : (one_thread : Outcome) → Has (ByOneThread options.times) one_thread → MatchResult result (Agrees options Has one_thread) (λ fault. fault ≡ Memory)
-  pub fault : IfErr result (λ fault. fault ≢ Memory → IsFault fault)
-  pub refuses : (fault : Fault) → IsFault fault → Refuses fault result
-
--- of a capture, of the content of an input, and of all its bytes
-abbrev pub AnswersCapture : Options → PolicyFacts → List ℕ → Result Outcome Fault → Type 0
-AnswersCapture options policy capture result = IsAnswer options (λ judging. FiltersCapture judging policy capture) (IsFaultOfCapture capture) result
-
-abbrev pub AnswersContent : Options → PolicyFacts → Form → List ℕ → Result Outcome Fault → Type 0
-AnswersContent options policy form content result = IsAnswer options (λ judging. FiltersContent judging policy form content) (IsFaultOfContent form content) result
-
-abbrev pub AnswersInput : Options → List ℕ → Result Outcome Fault → Type 0
-AnswersInput options bytes result = IsAnswer options (λ judging. FiltersInput judging bytes) (IsFaultOfBytes bytes) result
+  pub packets : List PacketFacts
+  pub read : IsRead bytes policy packets outcome.truncated
+  pub verdicts : ByOneThread times policy packets outcome.verdicts
 
 -- ---- reports
 
--- after what was written before stands the report that tells the outcome, and the totals are its
-abbrev pub Reported : Outcome → Option (List ℕ) → Option (List ℕ) → Totals → Type 0
-Reported outcome old new totals =
-    Appends old new (report_of outcome.verdicts outcome.truncated) × (totals ≡ totals_of outcome.verdicts outcome.truncated)
-
--- An input was read, and the report on it was written. Where it is known which bytes the reader gives, these are the input.
+-- An input was read, workers gave these verdicts on its packets, and after what was written before stands the report that
+-- tells them. The verdicts are those of the one-thread filter where none of them says no-pages. Where it is known which
+-- bytes the reader gives, these are the input.
 pub record HasRun (options : Options) (given old new : Option (List ℕ)) (totals : Totals) : Type 0 where
   pub bytes : List ℕ
-  pub read : IfSome given (λ known. bytes ≡ known)
-  pub outcome : Outcome
-  pub reached : IsReached options (λ judging. HasOutcome judging bytes) outcome
-  pub reported : Reported outcome old new totals
+  pub known : IfSome given (λ known. bytes ≡ known)
+  pub policy : PolicyFacts
+  pub packets : List PacketFacts
+  pub truncated : Bool
+  pub read : IsRead bytes policy packets truncated
+  pub verdicts : List Verdict
+  pub by_workers : ByWorkers options policy packets verdicts
+  pub by_one_thread : HavePages verdicts → ByOneThread options.times policy packets verdicts
+  pub text : Appends old new (report_of verdicts truncated)
+  pub counted : totals ≡ totals_of verdicts truncated
 
--- what was reported is the outcome of the one-thread filter, or one of workers that says no-pages
+-- what was reported on the bytes is the outcome of the one-thread filter, or one of workers that says no-pages
 pub record HasReported (options : Options) (bytes : List ℕ) (one_thread : Outcome) (old new : Option (List ℕ)) (totals : Totals) : Type 0 where
-  pub outcome : Outcome
-  pub by_workers : HasOutcome (ByWorkers options) bytes outcome
-  pub same : HavePages outcome.verdicts → outcome ≡ one_thread
-  pub reported : Reported outcome old new totals
+  pub run : HasRun options (Some bytes) old new totals
+  pub same : HavePages run.verdicts → one_thread ≡ record { verdicts = run.verdicts; truncated = run.truncated }

@@ -1,12 +1,20 @@
 //! Workers as those who judge the packets of a capture.
-use crate::judging::OpenGate;
 use bihash_words::{ShapeV4, ShapeV6};
 use capture_stream::Judges;
-use flow_workers::Workers;
+use flow_workers::{Gate, Workers};
 use packet_view::Packets;
 use std::alloc::{AllocError, Global};
 use std::sync::Wait;
 use std::thread::Threads;
+
+/// Nothing waits before or after a packet is judged.
+pub struct OpenGate;
+
+impl Gate for OpenGate {
+    fn before(&self, _worker: usize, _packet: usize) {}
+
+    fn after(&self, _worker: usize, _packet: usize) {}
+}
 
 /// Workers, and where they get memory.
 #[derive(Drop)]

@@ -5,10 +5,9 @@
 mod crew;
 mod end_to_end;
 mod exits;
-mod host;
-mod judging;
 mod laws;
 mod message;
+mod opening;
 mod outcome;
 mod streaming;
 

@@ -1,21 +1,19 @@
-//! A large capture, which is judged while it is read.
-ghost use Rattle.std.specs.Prelude.{◌≡◌, ◌+◌, ◌-◌, ◌<◌, ◌≤◌, ◌^◌, IfErr, IfOk, IfSome, length};
+//! The records of a capture, which are judged while they are read.
+ghost use Rattle.std.specs.Prelude.{◌≡◌, ◌+◌, ◌-◌, ◌<◌, ◌≤◌, ◌^◌, IfErr, IfOk, length};
 ghost use Rattle.acl_policy.specs.Policies.{policy_facts};
 ghost use Rattle.capture_stream.specs.Streams.{IsSize, IsStreamFault};
 ghost use Rattle.racl_io.specs.Inputs.{most_bytes};
 ghost use Rattle.racl_io.specs.Transfers.{HasReadWithin};
-ghost use Rattle.racl_cli.specs.Reads.{AnswersRead, HasJudged, HasOpened, MayJudge};
+ghost use Rattle.racl_cli.specs.Reads.{AnswersRead, HasJudged, HasOpened, MayGoOn, MayJudge, having_records};
 
-use crate::crew::Crew;
-use crate::host::Host;
-use crate::judging::OpenGate;
+use crate::crew::{Crew, OpenGate};
+use crate::opening::Opened;
 use crate::outcome::Judged;
-use acl_policy::read_policy;
 use bihash_words::{ShapeV4, ShapeV6, flow_shapes_are_sound};
 use capture_stream::{Opening, Streamed, WindowSize, judge_stream};
 use flow_workers::{Dealing, Filter, Setup, Workers, create_tables};
-use packet_view::{Order, capture_header, front_records};
-use racl_io::{Fault, Form, Source, parts};
+use packet_view::front_records;
+use racl_io::{Fault, Source};
 use racl_words::Options;
 use std::alloc::Global;
 use std::sync::Wait;
@@ -59,39 +57,19 @@ fn window_size(are_several: bool) -> WindowSize
 /// How many times as many packets as stand in its front an input is expected to have that goes on after it.
 const TIMES_FRONT: usize = 16;
 
-/// What stands before the records of a binary capture.
-#[derive(Drop)]
-pub struct Opened {
-    pub filter: Filter,
-    /// The order of the capture's numbers.
-    pub order: Order,
-    /// Where the records begin.
-    pub from: usize,
-}
-
-/// What stands before the records; None where the input has a fault before them, where its capture isn't binary, or
-/// where memory is refused.
-pub fn open_input(alloc: Global, options: &Options, bytes: &[u8]) -> Option<Opened>
-    ensures { IfSome result (HasOpened options.now bytes.now) }
+// How many packets are expected, and how many workers judge them, where so many stand in the front of an input, or in all
+// of it. Few packets are one worker's.
+fn plan_for(options: &Options, ended: bool, count: usize) -> (usize, usize)
+    ensures some { 1 ≤ result.1 }
+    ensures few { result.1 ≤ options.now.workers }
 {
-    let input = parts(bytes)?;
-    let Form::Binary = input.form else {
-        return None;
-    };
-    let Ok(order) = capture_header(input.content) else {
-        return None;
-    };
-    let Ok(policy) = read_policy(alloc, input.policy) else {
-        return None;
-    };
-    Some(Opened {
-        filter: Filter {
-            policy,
-            times: options.times,
-        },
-        order,
-        from: bytes.len() - input.content.len() + 24,
-    })
+    if !ended {
+        (count.saturating_mul(TIMES_FRONT), options.workers)
+    } else if count < MANY_PACKETS {
+        (count, 1)
+    } else {
+        (count, options.workers)
+    }
 }
 
 // The verdicts on the packets of all records.
@@ -103,7 +81,7 @@ fn judge_records<'t, R: Source + Send, T: Threads + Wait + Sync>(
     filter: &'t Filter,
     opening: Opening,
 ) -> Result<Judged, Fault>
-    requires may { MayJudge options.now filter.now opening }
+    requires may { MayJudge options.now filter.now opening (R.bytes reader.old) }
     requires sound { R.failures reader.old < 2 ^ 64 - 1 }
     ensures ok { IfOk result (HasJudged options.now (policy_facts filter.now.policy) opening (R.bytes reader.old) (R.bytes reader.new)) }
     ensures fault { IfErr result (IsStreamFault opening (R.bytes reader.old) (R.bytes reader.new)) }
@@ -114,22 +92,25 @@ fn judge_records<'t, R: Source + Send, T: Threads + Wait + Sync>(
         return Err(Fault::Memory);
     };
     let front = front_records(&opening.bytes[opening.from..], opening.order);
-    let expected = front.records.count.saturating_mul(TIMES_FRONT);
-    let prepared = filter.prepare(alloc, expected)?;
+    let count = front.records.count;
+    let (expected, workers) = plan_for(options, opening.ended, count);
+    let are_several = workers > 1 && count >= MANY_PACKETS;
+    let Ok(prepared) = filter.prepare(alloc, expected) else {
+        return Err(Fault::Memory);
+    };
     let setup = Setup {
         rt,
         gate: &OpenGate,
         filter: filter.ready_with(&prepared),
         tables: &tables,
         dealing: Dealing::Bucket,
-        workers: options.workers,
+        workers,
         many: MANY_PACKETS,
     };
     let Ok(workers) = Workers::new(alloc, setup, callers) else {
         return Err(Fault::Memory);
     };
     let crew = Crew { alloc, workers };
-    let are_several = options.workers > 1 && front.records.count >= MANY_PACKETS;
     let beside = if are_several { Some(rt) } else { None };
     let size = window_size(are_several);
     let Streamed { judges, truncated } = judge_stream(beside, alloc, reader, crew, opening, size)?;
@@ -143,29 +124,51 @@ fn judge_records<'t, R: Source + Send, T: Threads + Wait + Sync>(
     })
 }
 
+/// What was read of an input.
+#[derive(Drop)]
+pub struct Front {
+    pub bytes: Vec<u8>,
+    /// Whether it is all of the input.
+    pub ended: bool,
+}
+
+// The bytes that have the records: those of the input, or the capture that its digits stand for.
+fn bytes_with_records(input: Vec<u8>, decoded: Option<Vec<u8>>) -> Vec<u8>
+    ensures { result.items ≡ having_records input.items decoded }
+{
+    match decoded {
+        Some(capture) => capture,
+        None => input,
+    }
+}
+
 /// What the packets of an input met whose front was read, up to records.
 pub fn judge_opened<R: Source + Send, T: Threads + Wait + Sync>(
-    host: &Host<'_, T>,
+    rt: &T,
+    alloc: Global,
     options: &Options,
     reader: &mut R,
-    front: Vec<u8>,
+    front: Front,
     opened: Opened,
 ) -> Result<Judged, Fault>
-    requires opened { HasOpened options.now front.items opened }
-    requires few { length front.items ≤ most_bytes }
+    requires opened { HasOpened options.now front.bytes.items opened }
+    requires goes_on { MayGoOn front opened (R.bytes reader.old) }
     requires sound { R.failures reader.old < 2 ^ 64 - 1 }
-    ensures answers { AnswersRead options.now front.items (R.bytes reader.old) result }
-    ensures within { HasReadWithin R.bytes R.failures (most_bytes + 1 - length front.items) reader.old reader.new result }
+    ensures answers { AnswersRead options.now front.bytes.items (R.bytes reader.old) result }
+    ensures within { HasReadWithin R.bytes R.failures (most_bytes + 1 - length front.bytes.items) reader.old reader.new result }
 {
     let Opened {
         filter,
         order,
         from,
+        decoded,
     } = opened;
+    let Front { bytes, ended } = front;
     let opening = Opening {
-        bytes: front,
+        bytes: bytes_with_records(bytes, decoded),
         from,
         order,
+        ended,
     };
-    judge_records(host.rt, host.alloc, options, reader, &filter, opening)
+    judge_records(rt, alloc, options, reader, &filter, opening)
 }

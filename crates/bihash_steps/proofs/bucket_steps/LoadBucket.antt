@@ -22,9 +22,9 @@ use Rattle.bihash_steps.specs.BucketSteps.{without_notes, with_history, open_on,
 use Rattle.bihash_steps.specs.declared.view.Holdings.{Holdings}
 use Rattle.bihash_steps.specs.declared.view.LockedBucket.{LockedBucket}
 use Rattle.bihash_steps.specs.declared.view.View.{View}
-use Rattle.bihash_steps.proofs.KnownLists.{lawful_here}
+use Rattle.bihash_steps.proofs.KnownLists.{lawful_here, logged_at}
 use Rattle.bihash_steps.proofs.Lists.{there, no_row}
-use Rattle.bihash_steps.proofs.CountWord.{held_still, not_lone, others_apart, stays_at}
+use Rattle.bihash_steps.proofs.CountWord.{held_still, not_lone, others_apart, stays_at, kept_log}
 use Rattle.bihash_steps.proofs.NotedViews.{unnoted_view}
 use Rattle.bihash_steps.proofs.Runs.{extent_near_end}
 use Rattle.bihash_steps.proofs.Whole.{whole_known}
@@ -150,14 +150,15 @@ module _ (z : Sizes) where
             seeing v b x,
             keeps,
             tt,
-            stays_at z s r (bucket_at z b) id v (seeing v b x) at refl good (others_apart z s r id v at),
+            stays_at z s r (bucket_at z b) id v (seeing v b x) at refl good (others_apart z s r id v at)
+                (kept_log z s r id v (seeing v b x) at refl refl),
             record {
               slots = refl;
               seen = inl seen;
               lone = λ _ _. seen;
               whole = λ lone. known_learned v b x.history (let wide = ok.informed.wide in omega arith)
                   ∙ sym (whole_known z s r id b v at lone inside);
-              lawful = lawful_here z s r (seeing v b x) acts good.numbers good.informed good.lone;
+              lawful = lawful_here z s r (seeing v b x) acts good.numbers good.informed good.lone (logged_at z s r id v at acts);
             },
           )
       go (Some j) held =
@@ -166,7 +167,8 @@ module _ (z : Sizes) where
             without_notes v,
             keeps,
             tt,
-            stays_at z s r (bucket_at z b) id v (without_notes v) at refl good (others_apart z s r id v at),
+            stays_at z s r (bucket_at z b) id v (without_notes v) at refl good (others_apart z s r id v at)
+                (kept_log z s r id v (without_notes v) at refl refl),
             record {
               slots = refl;
               seen = inr record {
@@ -179,6 +181,6 @@ module _ (z : Sizes) where
               };
               lone = λ lone none. absurd (lone_finds_none z s r b inside id j v at lone none held);
               whole = λ _. refl;
-              lawful = lawful_here z s r (without_notes v) acts good.numbers good.informed good.lone;
+              lawful = lawful_here z s r (without_notes v) acts good.numbers good.informed good.lone (logged_at z s r id v at acts);
             },
           )

@@ -17,14 +17,15 @@ use Rattle.bihash_steps.specs.Steps.{ViewOfSeat}
 use Rattle.bihash_steps.specs.BucketSteps.{without_notes, with_history, lock_counted, locked_on, locking, IsFound, TellsLock}
 use Rattle.bihash_steps.specs.declared.view.LockedBucket.{LockedBucket}
 use Rattle.bihash_steps.specs.declared.view.View.{View}
-use Rattle.bihash_steps.proofs.KnownLists.{lawful_here, lawful_set}
-use Rattle.bihash_steps.proofs.CountWord.{stays_at, others_apart}
+use Rattle.bihash_steps.proofs.KnownLists.{lawful_here, lawful_set, logged_at}
+use Rattle.bihash_steps.proofs.CountWord.{kept_log, stays_at, others_apart}
 use Rattle.bihash_steps.proofs.NotedViews.{unnoted_view}
 use Rattle.bihash_steps.proofs.Frames.{free_none, free_own}
 use Rattle.bihash_steps.proofs.Runs.{beside_bucket, block_keeps, front_still, store_still, count_still, bucket_after, bucket_inside}
 use Rattle.bihash_steps.proofs.Pushed.{counted_numbers, counted_whole, counted_number, counted_short, counted-length}
 use Rattle.bihash_steps.proofs.Whole.{whole_known}
 use Rattle.bihash_steps.proofs.Informed.{known_learned, learned_informed, counted_informed}
+use Rattle.bihash_steps.proofs.LogSteps.{set_logged, counted_calls, counted_back}
 use Rattle.bihash_steps.proofs.bucket_steps.Relocks.{relocked_rule}
 use Rattle.bihash_steps.proofs.bucket_steps.LoadBucket.{is_found}
 use Rattle.bihash_steps.proofs.bucket_steps.WordFields.{unlocked_word}
@@ -47,7 +48,9 @@ module _ (z : Sizes) where
       let bucket = r.each_bucket b inside in
       let i : ℕ = bucket_at z b in
       let l : LockedBucket = locked_on b (length x.history) x.extent x.block in
-      relocked_rule z s r b id v (lock_counted v.records) (with_history v b x.history).known (Some l) (set s.words i word') (Some id) x.dirty record {
+      relocked_rule z s r b id v (lock_counted v.records) (with_history v b x.history).known (Some l) v.log (set s.words i word') (Some id) x.dirty record {
+        logged = set_logged z r.table.openings (λ d. (r.table.bucket d).history) s.views id v (locking (with_history v b x.history) l) at r.logged refl
+            (counted_calls v.records) (λ n h. counted_back n v.records h);
         at = at;
         acts = acts;
         inside = inside;
@@ -154,7 +157,8 @@ module _ (z : Sizes) where
             keeps,
             tt,
             subst (λ (t : Bool). WordRule z (after (either t word' found) (without_notes v))) (sym (ne_eqb found word ne))
-                (stays_at z s r (bucket_at z b) id v (without_notes v) at refl good (others_apart z s r id v at)),
+                (stays_at z s r (bucket_at z b) id v (without_notes v) at refl good (others_apart z s r id v at)
+                (kept_log z s r id v (without_notes v) at refl refl)),
             record {
               slots = refl;
               taken = λ e. absurd (ne e);
@@ -163,6 +167,6 @@ module _ (z : Sizes) where
                   ∙ (subst (StandsStillIf z s.words) noted (ok.still lone) ∙ sym is)));
               rests = λ e. absurd (ne e);
               whole = λ _ e. absurd (ne e);
-              lawful = lawful_here z s r (without_notes v) acts good.numbers good.informed good.lone;
+              lawful = lawful_here z s r (without_notes v) acts good.numbers good.informed good.lone (logged_at z s r id v at acts);
             },
           )

@@ -19,7 +19,7 @@ use Rattle.bihash_steps.specs.declared.view.Holdings.{Holdings}
 use Rattle.bihash_steps.specs.declared.view.LockedBucket.{LockedBucket}
 use Rattle.bihash_steps.specs.declared.view.HeldBlock.{HeldBlock}
 use Rattle.bihash_steps.specs.declared.view.View.{View}
-use Rattle.bihash_steps.proofs.CountWord.{stays_at, others_apart}
+use Rattle.bihash_steps.proofs.CountWord.{kept_log, stays_at, others_apart}
 use Rattle.bihash_steps.proofs.Frames.{Beside, free_own, stands_beside}
 use Rattle.bihash_steps.proofs.Runs.{beside_block, stored_stands, store_still, count_still, bucket_after, page_after, word_of_block}
 use Rattle.bihash_steps.proofs.bucket_steps.Relocks.{relocked_rule}
@@ -49,7 +49,8 @@ module _ (z : Sizes) where
         v,
         keeps,
         tt,
-        stays_at z s r (page_at z page + k) id v v at refl (r.each_view id v at) (others_apart z s r id v at),
+        stays_at z s r (page_at z page + k) id v v at refl (r.each_view id v at) (others_apart z s r id v at)
+            (kept_log z s r id v v at refl refl),
         record {
           same = refl;
           value = λ l is. let one : may.lock ≡ l = cc (may.held, is) in
@@ -92,7 +93,8 @@ module _ (z : Sizes) where
         let i : ℕ = page_at z l.extent.page + k in
         let long : i < length s.words
         = let a = word_of_block z l.extent.page l.extent.size.log2 k near inside in let wide = r.wide in omega arith in
-        relocked_rule z s r l.bucket id v v.records v.known (Some (stored_in l k n)) words' (Some id) true record {
+        relocked_rule z s r l.bucket id v v.records v.known (Some (stored_in l k n)) v.log words' (Some id) true record {
+          logged = kept_log z s r id v (with_lock v (Some (stored_in l k n))) at refl refl;
           at = at;
           acts = acts;
           inside = h.inside;

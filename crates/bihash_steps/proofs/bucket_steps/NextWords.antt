@@ -5,7 +5,7 @@ use Rattle.bihash_words.specs.Sizes.{Sizes, IsSound}
 use Rattle.bihash_words.specs.Words.{Bucket, Fits, packed, version_of}
 use Rattle.bihash_steps.specs.Callers.{known_at}
 use Rattle.bihash_steps.specs.Buckets.{word_of, open_word}
-use Rattle.bihash_steps.specs.BucketSteps.{MayAnswer, MayWrite, TellsEvent, view_after_answer, push_call, MayValidate, TellsValid}
+use Rattle.bihash_steps.specs.BucketSteps.{MayAnswer, MayWrite, TellsEntry, view_after_answer, push_call, MayValidate, TellsValid}
 use Rattle.bihash_steps.specs.Steps.{ViewOfSeat}
 use Rattle.bihash_steps.specs.declared.view.Call.{Call}
 use Rattle.bihash_steps.specs.declared.view.Extent.{Extent}
@@ -38,17 +38,17 @@ module _ (z : Sizes) (v : View) (b word : ℕ) (c : Call) (may : MayWrite z v b 
 
 -- a seat counts the write
 pub counted_write : (z : Sizes) (after : View → View) (m m' : ViewOfSeat) (c : Call) (b word version numbers : ℕ) (old : Option (ℕ × ℕ))
-    → MayWrite z m.0 b word c → ((x : Bucket) → Fits x → word ≡ packed x → version ≡ x.version) → TellsEvent z after m m'
+    → MayWrite z m.0 b word c → ((x : Bucket) → Fits x → word ≡ packed x → version ≡ x.version) → TellsEntry z after c m m'
     → (after m.0).records ≡ push_call c m.0.records → IsCounted m numbers old → IsCounted m' numbers (Some (b, version + 1))
 counted_write z after m m' c b word version numbers old may read told same h =
     let is = read (word_of may.lock.extent false may.lock.version) may.fits may.stood in
     let stamp : c.stamp ≡ version + 1 = let s = may.stamp in let l = may.version in omega arith in
-    counted_call m m' c numbers b (version + 1) old (ap (λ (q : ViewOfSeat). q.1) told.seat) (ap (λ (q : ViewOfSeat). q.0.records) told.seat ∙ same)
+    counted_call m m' c numbers b (version + 1) old told.slots (ap (λ (q : View). q.records) told.entered.is ∙ same)
     may.call stamp h
 
 -- and the answer of a call that is no write
 pub counted_answer : (z : Sizes) (m m' : ViewOfSeat) (c : Call) (b word version numbers : ℕ) (old : Option (ℕ × ℕ)) → MayAnswer z m.0 b word c
-    → HasVersion m.0 → ((x : Bucket) → Fits x → word ≡ packed x → version ≡ x.version) → TellsEvent z (λ v. view_after_answer v c) m m'
+    → HasVersion m.0 → ((x : Bucket) → Fits x → word ≡ packed x → version ≡ x.version) → TellsEntry z (λ v. view_after_answer v c) c m m'
     → IsCounted m numbers old → IsCounted m' numbers (Some (b, version))
 counted_answer z m m' c b word version numbers old may has read told h =
     let lock = may.clean.lock in
@@ -56,7 +56,7 @@ counted_answer z m m' c b word version numbers old may has read told h =
     let is = read (word_of lock.extent false lock.version) known.0 may.clean.stood in
     let stamp : c.stamp ≡ version
     = may.stamp ∙ (ap (λ (n : ℕ). length (known_at m.0.known n)) (sym may.clean.bucket) ∙ (sym known.1 ∙ sym is)) in
-    counted_call m m' c numbers b version old (ap (λ (q : ViewOfSeat). q.1) told.seat) (ap (λ (q : ViewOfSeat). q.0.records) told.seat)
+    counted_call m m' c numbers b version old told.slots (ap (λ (q : View). q.records) told.entered.is)
     may.bucket stamp h
 
 -- and of one that was answered without a lock
@@ -68,5 +68,5 @@ counted_valid z m m' c b word version found numbers old may read told here h =
     let o = may.open_bucket in
     let t = told o may.noted in
     let is = read (word_of o.extent false o.version) may.fits may.stood in
-    counted_call m m' c numbers b version old t.slots (ap (λ (v : View). v.records) (t.valid (here ∙ may.stood))) may.bucket
+    counted_call m m' c numbers b version old t.slots (ap (λ (v : View). v.records) (t.valid (here ∙ may.stood)).is) may.bucket
     (let s = may.stamp in let v = may.version in omega arith) h

@@ -1,5 +1,5 @@
 -- Steps on a bucket without its lock: a load of a word of the block that was noted, and the load that finds whether the bucket's word is the one that was noted.
-use Rattle.std.proofs.Common.{◌≡◌, ◌≢◌, ℕ, zero, suc, ◌+◌, ◌<◌, ◌≤◌, false, [], ◌∷◌, length, refl, sym, ap, ◌∙◌, subst, inl, arith, Option, Some, None}
+use Rattle.std.proofs.Common.{◌≡◌, ◌≢◌, ℕ, zero, suc, ◌+◌, ◌<◌, ◌≤◌, false, [], ◌∷◌, ◌++◌, List, length, refl, sym, ap, ◌∙◌, subst, inl, arith, Option, Some, None}
 use mathlib.Core.Logic.{dite}
 use mathlib.Core.Option.{some, some-injective}
 use native.Mathlib.Decide.{ℕ_discrete}
@@ -15,15 +15,17 @@ use Rattle.bihash_steps.specs.Buckets.{BucketState, HoldsBucket, HoldsBucketIf, 
 use Rattle.bihash_steps.specs.PageStores.{all_used}
 use Rattle.bihash_steps.specs.WordRule.{IsInformed, IsView, WordRule}
 use Rattle.bihash_steps.specs.Steps.{ViewOfSeat}
-use Rattle.bihash_steps.specs.BucketSteps.{without_notes, with_reading, read_more, IsOpenWord, TellsOpenWord, MayValidate, view_after_validate, TellsValid, RestsOn, push_call, map_now}
+use Rattle.bihash_steps.specs.BucketSteps.{without_notes, with_reading, read_more, IsOpenWord, TellsOpenWord, MayValidate, view_after_validate, TellsValid, entry_of, RestsOn, push_call, map_now}
 use Rattle.bihash_steps.specs.declared.view.Call.{Call}
+use Rattle.bihash_steps.specs.declared.view.Entry.{Entry}
 use Rattle.bihash_steps.specs.declared.view.Extent.{Extent}
 use Rattle.bihash_steps.specs.declared.view.LockedBucket.{LockedBucket}
 use Rattle.bihash_steps.specs.declared.view.OpenBucket.{OpenBucket}
 use Rattle.bihash_steps.specs.declared.view.View.{View}
-use Rattle.bihash_steps.proofs.KnownLists.{lawful_here}
+use Rattle.bihash_steps.proofs.KnownLists.{lawful_here, logged_at}
 use Rattle.bihash_steps.proofs.Lists.{there, no_row}
-use Rattle.bihash_steps.proofs.CountWord.{stays_at, others_apart}
+use Rattle.bihash_steps.proofs.CountWord.{stays_at, others_apart, kept_log}
+use Rattle.bihash_steps.proofs.LogEvents.{read_rule, read_enters, read_is_logged}
 use Rattle.bihash_steps.proofs.NotedViews.{seen_view, unnoted_view}
 use Rattle.bihash_steps.proofs.Pushed.{push_numbers, push_whole, push_short, push-length, push_renumbers}
 use Rattle.bihash_steps.proofs.Whole.{prefix_whole}
@@ -136,7 +138,8 @@ module _ (z : Sizes) where
         keeps,
         tt,
         stays_at z s r (page_at z o.extent.page + k) id v (with_reading v ((k, word) ∷ [])) at refl
-            (reading_view z s r id k v o at noted inside) (others_apart z s r id v at),
+            (reading_view z s r id k v o at noted inside) (others_apart z s r id v at)
+            (kept_log z s r id v (with_reading v ((k, word) ∷ [])) at refl refl),
         refl,
       )
 
@@ -183,7 +186,13 @@ module _ (z : Sizes) where
           (may.stamp ∙ ap (λ (a : ℕ). length (known_at v.known a)) (sym may.bucket))
           (subst (λ (a : ℕ). IsAnswer z (map_now v a) (length (known_at v.known a)) c) (sym may.bucket) (may.answers reads)) ok.informed in
           let numbers = push_numbers v.seen c v.records ok.numbers in
-          let good : IsView z s.words (count_of s.words) r.table id (view_after_validate v c) = record {
+          let log : List Entry = r.logged.log ++ entry_of v c ∷ [] in
+          let after : View = record (view_after_validate v c) { log = log } in
+          let inside_c : c.bucket < buckets z = subst (λ (a : ℕ). a < buckets z) (sym may.bucket) inside in
+          let fresh_c : known_at v.known c.bucket ≡ (r.table.bucket c.bucket).history
+          = subst (λ (a : ℕ). known_at v.known a ≡ (r.table.bucket a).history) (sym may.bucket) fresh in
+          let stamp_c : c.stamp ≡ length (known_at v.known c.bucket) = may.stamp ∙ ap (λ (a : ℕ). length (known_at v.known a)) (sym may.bucket) in
+          let good : IsView z s.words (count_of s.words) r.table id after = record {
             informed = informed;
             numbers = numbers;
             seen = ok.seen;
@@ -201,18 +210,21 @@ module _ (z : Sizes) where
             left = tt;
             meeting = tt;
           } in (
-            view_after_validate v c,
+            after,
             keeps,
             tt,
-            stays_at z s r (bucket_at z b) id v (view_after_validate v c) at refl good
+            stays_at z s r (bucket_at z b) id v after at refl good
                 (λ j u ne f i k p q g. let n = push_renumbers c v.records i p g in λ e' same.
-                others_apart z s r id v at j u ne f i k n.0 q n.1 e' (n.2 ∙ same)),
+                others_apart z s r id v at j u ne f i k n.0 q n.1 e' (n.2 ∙ same))
+                (read_rule z s r id v at acts c informed inside_c fresh_c may.reads stamp_c after refl refl),
             record {
               slots = refl;
-              valid = λ _. refl;
+              valid = λ _. read_enters z s r id v at acts c informed inside_c fresh_c may.reads stamp_c (view_after_validate v c) after
+                  refl;
               not = λ ne. absurd (ne e);
               lone = λ _. e;
-              lawful = lawful_here z s r (view_after_validate v c) (let n = push-length c v.records in omega arith) numbers informed (λ lone. push_whole (count_of s.words) c v.records (ok.lone lone));
+              lawful = lawful_here z s r after (let n = push-length c v.records in omega arith) numbers informed (λ lone. push_whole (count_of s.words) c v.records (ok.lone lone))
+                  (read_is_logged z s r id v at acts c informed inside_c fresh_c may.reads stamp_c after refl refl refl);
             },
           )
 
@@ -222,13 +234,14 @@ module _ (z : Sizes) where
             without_notes v,
             keeps,
             tt,
-            stays_at z s r (bucket_at z b) id v (without_notes v) at refl good (others_apart z s r id v at),
+            stays_at z s r (bucket_at z b) id v (without_notes v) at refl good (others_apart z s r id v at)
+                (kept_log z s r id v (without_notes v) at refl refl),
             record {
               slots = refl;
               valid = λ e. absurd (ne e);
               not = λ _. refl;
               lone = λ lone. absurd (ne (ap (λ (n : ℕ). slice_index s.words (bucket_at z n)) (sym may.home)
                   ∙ (subst (StandsStillIf z s.words) may.noted (ok.still lone) ∙ sym may.stood)));
-              lawful = lawful_here z s r (without_notes v) acts ok.numbers ok.informed ok.lone;
+              lawful = lawful_here z s r (without_notes v) acts ok.numbers ok.informed ok.lone (logged_at z s r id v at acts);
             },
           )

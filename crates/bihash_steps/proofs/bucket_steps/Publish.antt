@@ -1,5 +1,5 @@
 -- The store of a bucket's next word, which opens its lock.
-use Rattle.std.proofs.Common.{◌≡◌, ◌≢◌, ℕ, zero, suc, ◌+◌, ◌<◌, ◌≤◌, Bool, false, List, [], ◌∷◌, ◌++◌, length, set, refl, sym, ap, ◌∙◌, subst, inl, arith, le_refl, length-set, length-append, get_or-set_same, Option, Some, None}
+use Rattle.std.proofs.Common.{◌≡◌, ◌≢◌, ℕ, zero, suc, ◌+◌, ◌<◌, ◌≤◌, Bool, false, List, [], ◌∷◌, ◌++◌, length, set, refl, sym, ap, ◌∙◌, subst, inl, arith, le_refl, length-set, length-append, get_or-set_same, Option, Some, None, true}
 use mathlib.Core.Logic.{dite}
 use mathlib.Core.Option.{some, some-ne-none, some-injective}
 use native.Mathlib.Decide.{ℕ_discrete}
@@ -10,7 +10,7 @@ use Rattle.bihash_words.specs.Sizes.{Sizes}
 use Rattle.bihash_words.specs.Words.{packed}
 use Rattle.bihash_words.specs.declared.patch.Reply.TheVariants.{Changed, NoPages}
 use Rattle.bihash_steps.specs.Words.{count_of, front_words, buckets, bucket_at, page_at, block_words, Stands}
-use Rattle.bihash_steps.specs.Histories.{IsWrite, after, write_of}
+use Rattle.bihash_steps.specs.Histories.{IsWrite, after, is_changed, write_of}
 use Rattle.bihash_steps.specs.Callers.{Openings, known_at, opening_in, HasNumber}
 use Rattle.bihash_steps.specs.Blocks.{IsBlockOf}
 use Rattle.bihash_steps.specs.Partition.{IsPartition, PageRun, run_of}
@@ -18,9 +18,10 @@ use Rattle.bihash_steps.specs.Buckets.{BucketState, word_of, IsBucket, HoldsBuck
 use Rattle.bihash_steps.specs.PageStores.{StoreState, IsStore, HoldsStoreIf, NotesStore, HoldsBlockIf, all_writes, all_used, runs_now}
 use Rattle.bihash_steps.specs.WordRule.{IsView, WordRule}
 use Rattle.bihash_steps.specs.Steps.{ViewOfSeat}
-use Rattle.bihash_steps.specs.BucketSteps.{acting, MayWrite, MayMark, marked, next_map, view_after_write, TellsEvent}
+use Rattle.bihash_steps.specs.BucketSteps.{acting, MayWrite, MayMark, marked, next_map, view_after_write, entry_of, Enters, TellsEntry}
 use Rattle.bihash_steps.specs.declared.view.Write.{Write}
 use Rattle.bihash_steps.specs.declared.view.Call.{Call}
+use Rattle.bihash_steps.specs.declared.view.Entry.{Entry}
 use Rattle.bihash_steps.specs.declared.view.Record.{Record}
 use Rattle.bihash_steps.specs.declared.view.Extent.{Extent}
 use Rattle.bihash_steps.specs.declared.view.LockedBucket.{LockedBucket}
@@ -33,6 +34,7 @@ use Rattle.bihash_steps.proofs.Frames.{Keeps, Undisturbed, store_keeps, store_lo
 use Rattle.bihash_steps.proofs.Runs.{beside_bucket, block_keeps, front_still, store_still, count_still, bucket_after, bucket_inside, runs_still}
 use Rattle.bihash_steps.proofs.Put.{put, put_here, put_else}
 use Rattle.bihash_steps.proofs.Pushed.{push-length, push_numbers, push_whole, push_number, push_short, acting_is}
+use Rattle.bihash_steps.proofs.LogEvents.{write_rule, write_enters}
 use Rattle.bihash_steps.proofs.bucket_steps.Written.{after_last, list_more, bearers_more, written_informed}
 
 -- the bucket after a write that gives it this block
@@ -49,8 +51,11 @@ no_shorter x x' b w e block elsewhere here d = dite (ℕ_discrete d b)
 
 module _ (z : Sizes) where
   -- the view after a write, with this of the page store and this block
-  abbrev pub written_with : View → Call → Option LockedStore → Option HeldBlock → View
-  written_with v c store block = record (view_after_write v c) { holds = record { bucket = None; store = store; block = block } }
+  abbrev pub written_with : View → Call → List Entry → Option LockedStore → Option HeldBlock → View
+  written_with v c log store block = record (view_after_write v c) {
+    holds = record { bucket = None; store = store; block = block };
+    log = log;
+  }
 
   module _ (s : State (Unit {0}) View) (r : WordRule z s) (id : ℕ) (v : View) (b word : ℕ) (c : Call) (at : get_elem? s.views id ≡ some v)
       (acts : 1 ≤ length v.records) (may : MayWrite z v b word c) where
@@ -61,6 +66,10 @@ module _ (z : Sizes) where
     pub held_bucket : HoldsBucket z s.words id (known_at v.known b) may.lock (r.table.bucket b)
     held_bucket = subst (λ (d : ℕ). HoldsBucket z s.words id (known_at v.known d) may.lock (r.table.bucket d)) may.bucket
         (subst (HoldsBucketIf z s.words r.table.bucket id v.known) may.held ok.bucket)
+
+    -- the log after the write
+    abbrev pub new_log : List Entry
+    new_log = r.logged.log ++ entry_of v c ∷ []
 
     pub bucket_in : b < buckets z
     bucket_in = subst (λ (d : ℕ). d < buckets z) may.bucket held_bucket.inside
@@ -73,7 +82,7 @@ module _ (z : Sizes) where
       pub holds : HoldsStoreIf z words' store' id store
       pub notes : NotesStore store' id store
       pub held : HoldsBlockIf z words' block
-      pub parted : IsPartition z.pages store'.store.used (runs_now x' store'.store (set s.views id (written_with v c store block)))
+      pub parted : IsPartition z.pages store'.store.used (runs_now x' store'.store (set s.views id (written_with v c new_log store block)))
 
     -- the bucket's next word n, with the block `now` at e, is stored
     module _ (n : ℕ) (e : Extent) (now : List ℕ) (store : Option LockedStore) (block : Option HeldBlock) (x' : ℕ → BucketState)
@@ -147,7 +156,7 @@ module _ (z : Sizes) where
         dirty = λ h _. absurd (omega arith);
       }
 
-      pub written_view : IsView z words' (count_of s.words) (record r.table { bucket = x'; store = store' }) id (written_with v c store block)
+      pub written_view : IsView z words' (count_of s.words) (record r.table { bucket = x'; store = store' }) id (written_with v c new_log store block)
       written_view = record {
         informed = written_informed z v b word c may r.table (record r.table { bucket = x'; store = store' }) bucket_in refl
             (λ d ne. ap (λ (y : BucketState). y.history) (elsewhere d ne)) (ap (λ (y : BucketState). y.history) here) fresh ok.numbers ok.informed;
@@ -181,8 +190,32 @@ module _ (z : Sizes) where
           no_refusal : (log2 left : ℕ) → Changed c.found ≡ NoPages log2 left → ⊥
           no_refusal log2 left f = cc
 
-      pub writes_word : WordRule z record { words = words'; homes = s.homes; views = set s.views id (written_with v c store block) }
-      writes_word = moved z s r b id v (written_with v c store block) words' x' store' record {
+      inside_c : c.bucket < buckets z
+      inside_c = subst (λ (d : ℕ). d < buckets z) (sym may.call) bucket_in
+
+      fresh_c : known_at v.known c.bucket ≡ (r.table.bucket c.bucket).history
+      fresh_c = subst (λ (d : ℕ). known_at v.known d ≡ (r.table.bucket d).history) (sym may.call) fresh
+
+      writes : is_changed c.reply ≡ true
+      writes = ap is_changed may.reply
+
+      stamp_c : c.stamp ≡ length (known_at v.known c.bucket) + 1
+      stamp_c = may.stamp ∙ ap (λ (d : ℕ). length (known_at v.known d) + 1) (sym may.call)
+
+      here_c : (x' c.bucket).history ≡ (r.table.bucket c.bucket).history ++ w ∷ []
+      here_c = subst (λ (d : ℕ). (x' d).history ≡ (r.table.bucket d).history ++ w ∷ []) (sym may.call) (ap (λ (y : BucketState). y.history) here)
+
+      elsewhere_c : (d : ℕ) → d ≢ c.bucket → (x' d).history ≡ (r.table.bucket d).history
+      elsewhere_c d ne = ap (λ (y : BucketState). y.history) (elsewhere d (λ e. ne (e ∙ sym may.call)))
+
+      -- what the write tells
+      pub written_enters : (after : View) → written_with v c new_log store block ≡ record after { log = new_log }
+          → Enters z v c after (written_with v c new_log store block)
+      written_enters after is = write_enters z s r id v at acts c (record r.table { bucket = x'; store = store' }) written_view.informed inside_c fresh_c
+          writes stamp_c here_c elsewhere_c after (written_with v c new_log store block) is
+
+      pub writes_word : WordRule z record { words = words'; homes = s.homes; views = set s.views id (written_with v c new_log store block) }
+      writes_word = moved z s r b id v (written_with v c new_log store block) words' x' store' record {
         at = at;
         acts = acts;
         wide = length-set s.words i n;
@@ -199,6 +232,8 @@ module _ (z : Sizes) where
         undisturbed = settles.undisturbed;
         view = written_view;
         numbers = λ k h. push_number k c v.records h;
+        logged = write_rule z s r id v at acts c (record r.table { bucket = x'; store = store' }) written_view.informed inside_c fresh_c writes stamp_c
+            here_c elsewhere_c (written_with v c new_log store block) refl refl;
         parted = settles.parted;
       }
         where
@@ -211,21 +246,26 @@ module _ (z : Sizes) where
   pub publishes_call : (slots id : ℕ) (m : ViewOfSeat) (b word : ℕ) (linear : Bool) (c : Call) (may : MayMark z m.0 b word linear c)
       → 1 ≤ length m.0.records
       → Allows (WordRule z) slots id m (bucket_at z b) (λ _. packed (word_of (marked may.write.lock.extent linear) false (may.write.lock.version + 1)))
-      (λ _. TellsEvent z (λ v. view_after_write v c) m)
+      (λ _. TellsEntry z (λ v. view_after_write v c) c m)
   publishes_call slots id m b word linear c may acts s r deep at fits = (
-    view_after_write v c,
+    told,
     keeps,
     tt,
     rule,
     record {
-      seat = refl;
-      lawful = lawful_set z (set s.words (bucket_at z b) n) s id v (view_after_write v c) at
+      slots = refl;
+      entered = written_enters s r id v b word c at acts may.write n e l.now v.holds.store v.holds.block x' q elsewhere here is h.size h.stands
+          may.pairs settles (view_after_write v c) refl;
+      lawful = lawful_set z (set s.words (bucket_at z b) n) s id v told at
           (let n = push-length c v.records in omega arith) rule;
     },
   )
     where
       v : View
       v = m.0
+
+      told : View
+      told = record (view_after_write v c) { log = r.logged.log ++ entry_of v c ∷ [] }
 
       q : StoreState
       q = r.table.store
@@ -289,9 +329,9 @@ module _ (z : Sizes) where
         notes = ok.only_store;
         held = block_keeps z s.words (bucket_at z b) n (let a = inside in omega arith) v.holds.block ok.block;
         parted = subst (IsPartition z.pages q.store.used)
-            (sym (runs_still r.table.bucket x' q.store q.store s.views id v (view_after_write v c) runs (λ _. refl) at refl)) r.parted;
+            (sym (runs_still r.table.bucket x' q.store q.store s.views id v told runs (λ _. refl) at refl)) r.parted;
       }
 
-      rule : WordRule z record { words = words'; homes = s.homes; views = set s.views id (view_after_write v c) }
+      rule : WordRule z record { words = words'; homes = s.homes; views = set s.views id told }
       rule = writes_word s r id v b word c at acts may.write n e l.now v.holds.store v.holds.block x' q elsewhere here is h.size h.stands
           may.pairs settles

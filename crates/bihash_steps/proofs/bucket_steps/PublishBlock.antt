@@ -1,6 +1,6 @@
 -- The store of a bucket's next word that gives it another block, or none: the old one passes to the caller.
 use native.Mathlib.Nat.{mul-add}
-use Rattle.std.proofs.Common.{◌≡◌, ◌≢◌, ℕ, zero, suc, ◌+◌, ◌*◌, ◌^◌, ◌<◌, ◌≤◌, Bool, true, false, List, [], ◌∷◌, length, set, refl, sym, ap, ◌∙◌, subst, inr, arith, length-append, mul-le-mul_left, Option, Some, None}
+use Rattle.std.proofs.Common.{◌≡◌, ◌≢◌, ℕ, zero, suc, ◌+◌, ◌*◌, ◌^◌, ◌<◌, ◌≤◌, Bool, true, false, List, [], ◌∷◌, length, set, refl, sym, ap, ◌∙◌, subst, inr, arith, length-append, mul-le-mul_left, Option, Some, None, ◌++◌}
 use mathlib.Core.Logic.{dite}
 use native.Mathlib.Decide.{ℕ_discrete}
 use Rattle.std.specs.Prelude.{slice_index}
@@ -15,7 +15,7 @@ use Rattle.bihash_steps.specs.Buckets.{BucketState, word_of, HoldsBucket}
 use Rattle.bihash_steps.specs.PageStores.{StoreState, IsStore, IsListedIf, HoldsStore, HoldsStoreIf, HoldsBlockIf, writes_in, all_writes, all_used, run_in}
 use Rattle.bihash_steps.specs.WordRule.{IsView, WordRule}
 use Rattle.bihash_steps.specs.Steps.{ViewOfSeat}
-use Rattle.bihash_steps.specs.BucketSteps.{acting, TellsEvent}
+use Rattle.bihash_steps.specs.BucketSteps.{acting, entry_of, TellsEntry}
 use Rattle.bihash_steps.specs.StoreSteps.{words_in, IsOf, MayReplace, old_block, freed, settled_in, view_after_replace}
 use Rattle.bihash_steps.specs.declared.view.Write.{Write}
 use Rattle.bihash_steps.specs.declared.view.Call.{Call}
@@ -32,7 +32,7 @@ use Rattle.bihash_steps.proofs.Runs.{front_still, store_still}
 use Rattle.bihash_steps.proofs.Exchange.{passes}
 use Rattle.bihash_steps.proofs.Put.{put, put_here, put_else}
 use Rattle.bihash_steps.proofs.Pushed.{push-length}
-use Rattle.bihash_steps.proofs.bucket_steps.Publish.{state_after, no_shorter, held_bucket, bucket_in, Settles, writes_word}
+use Rattle.bihash_steps.proofs.bucket_steps.Publish.{state_after, no_shorter, held_bucket, bucket_in, Settles, writes_word, written_enters}
 
 -- ---- One write more
 
@@ -100,21 +100,26 @@ module _ (z : Sizes) where
   pub replaces_call : (slots id : ℕ) (m : ViewOfSeat) (b word : ℕ) (extent : Extent) (c : Call) (may : MayReplace z m.0 b word extent c)
       → 1 ≤ length m.0.records
       → Allows (WordRule z) slots id m (bucket_at z b) (λ _. packed (word_of extent false (may.write.lock.version + 1)))
-      (λ _. TellsEvent z (λ v. view_after_replace v c) m)
+      (λ _. TellsEntry z (λ v. view_after_replace v c) c m)
   replaces_call slots id m b word extent c may acts s r deep at fits = (
-    view_after_replace v c,
+    told,
     keeps,
     tt,
     rule,
     record {
-      seat = refl;
-      lawful = lawful_set z (set s.words (bucket_at z b) n) s id v (view_after_replace v c) at
+      slots = refl;
+      entered = written_enters z s r id v b word c at acts may.write n extent now (settled_in v.holds.store) (freed v.holds.bucket) x' q' elsewhere
+          here is new_block.size new_block.stands may.pairs settles (view_after_replace v c) refl;
+      lawful = lawful_set z (set s.words (bucket_at z b) n) s id v told at
           (let n = push-length c v.records in omega arith) rule;
     },
   )
     where
       v : View
       v = m.0
+
+      told : View
+      told = record (view_after_replace v c) { log = r.logged.log ++ entry_of v c ∷ [] }
 
       q : StoreState
       q = r.table.store
@@ -214,12 +219,12 @@ module _ (z : Sizes) where
         notes = λ f. (record may.locked { store = settled may.locked.store }, ap settled_in may.store);
         held = subst (HoldsBlockIf z words') (sym freed_is) (freed_held words' l.extent.page l.extent.size.log2 l.now small h.size
             (front_still z s.words (bucket_at z b) n l.extent.page l.now (let a = inside in omega arith) h.stands));
-        parted = passes z.pages q.store.used r.table.bucket x' q.store q'.store s.views id v (view_after_replace v c) at b
+        parted = passes z.pages q.store.used r.table.bucket x' q.store q'.store s.views id v told at b
             (λ d ne. ap (λ (y : BucketState). y.extent) (elsewhere d ne)) (λ _. refl)
             (ap (λ (y : BucketState). run_of y.extent.page y.extent.size.log2) here ∙ new_block.run)
             (ap run_in freed_is ∙ (freed_run l.extent.page l.extent.size.log2 l.now ∙ ap (λ (y : Extent). run_of y.page y.size.log2) h.extent)) r.parted;
       }
 
-      rule : WordRule z record { words = words'; homes = s.homes; views = set s.views id (view_after_replace v c) }
+      rule : WordRule z record { words = words'; homes = s.homes; views = set s.views id told }
       rule = writes_word z s r id v b word c at acts may.write n extent now (settled_in v.holds.store) (freed v.holds.bucket) x' q' elsewhere
           here is new_block.size new_block.stands may.pairs settles

@@ -17,11 +17,14 @@ use Rattle.bihash_steps.specs.PageStores.{BearOutOfPages, IsStore, HoldsBlockIf,
 use Rattle.bihash_steps.specs.Views.{no_notes}
 use Rattle.bihash_steps.specs.WordRule.{TableState, IsInformed, IsView, WordRule}
 use Rattle.bihash_steps.specs.declared.view.Write.{Write}
+use Rattle.bihash_steps.specs.LogRule.{LogRule}
+use Rattle.bihash_steps.specs.declared.view.Entry.{Entry}
 use Rattle.bihash_steps.specs.declared.view.Record.{Record}
 use Rattle.bihash_steps.specs.declared.view.Known.{Known}
 use Rattle.bihash_steps.specs.declared.view.LockedBucket.{LockedBucket}
 use Rattle.bihash_steps.specs.declared.view.View.{View}
 use Rattle.bihash_steps.proofs.Lists.{no_row}
+use Rattle.bihash_steps.proofs.LogSteps.{histories_logged}
 use Rattle.bihash_steps.proofs.Put.{put, put_here, put_else}
 use Rattle.bihash_steps.proofs.Frames.{Grows, Keeps, Beside, Free, grows_not, store_keeps, store_lock_beside, moved}
 use Rattle.bihash_steps.proofs.Runs.{runs_still}
@@ -32,10 +35,11 @@ same_writes x x' same zero = refl
 same_writes x x' same (suc n) = λ i. same_writes x x' same n i + length (same n i)
 
 -- the caller knows this, with these records, and has this lock, or none
-abbrev pub relocking : View → List Record → Known → Option LockedBucket → View
-relocking v records known lock = record v {
+abbrev pub relocking : View → List Record → Known → Option LockedBucket → List Entry → View
+relocking v records known lock log = record v {
   records = records;
   known = known;
+  log = log;
   holds = record v.holds { bucket = lock };
   notes = no_notes;
 }
@@ -52,7 +56,7 @@ module _ (z : Sizes) where
   }
 
 module _ (z : Sizes) (s : State (Unit {0}) View) (r : WordRule z s) (b id : ℕ) (v : View) (records : List Record) (known : Known)
-    (held : Option LockedBucket) (words' : List ℕ) (lock : Option ℕ) (dirty : Bool) where
+    (held : Option LockedBucket) (log : List Entry) (words' : List ℕ) (lock : Option ℕ) (dirty : Bool) where
   -- the bucket after the step
   abbrev bucket_now : BucketState
   bucket_now = record (r.table.bucket b) { lock = lock; dirty = dirty }
@@ -90,6 +94,8 @@ module _ (z : Sizes) (s : State (Unit {0}) View) (r : WordRule z s) (b id : ℕ)
     pub other : (l : LockedBucket) → v.holds.bucket ≡ Some l → l.bucket ≡ b
     pub noted : lock ≡ Some id → (l : LockedBucket) × (held ≡ Some l) × (l.bucket ≡ b)
     pub holds : HoldsIt held
+    -- the log
+    pub logged : LogRule z r.table.openings (λ c. (r.table.bucket c).history) (set s.views id (relocking v records known held log))
 
   module _ (m : Relock) where
     abbrev buckets' : ℕ → BucketState
@@ -119,7 +125,7 @@ module _ (z : Sizes) (s : State (Unit {0}) View) (r : WordRule z s) (b id : ℕ)
         absurd (ne (sym n.2 ∙ m.other n.0 n.1)))
 
     relocked_view : IsView z words' (count_of s.words) record { openings = r.table.openings; bucket = buckets'; store = r.table.store } id
-        (relocking v records known held)
+        (relocking v records known held log)
     relocked_view = let ok = r.each_view id v m.at in record {
       informed = same_informed z r.table record { openings = r.table.openings; bucket = buckets'; store = r.table.store } known records refl
           (same_at (λ (x : BucketState). x.history) refl) m.informed;
@@ -153,8 +159,8 @@ module _ (z : Sizes) (s : State (Unit {0}) View) (r : WordRule z s) (b id : ℕ)
     }
 
     -- the rule follows such a step
-    pub relocked_rule : WordRule z record { words = words'; homes = s.homes; views = set s.views id (relocking v records known held) }
-    relocked_rule = moved z s r b id v (relocking v records known held) words' buckets' r.table.store record {
+    pub relocked_rule : WordRule z record { words = words'; homes = s.homes; views = set s.views id (relocking v records known held log) }
+    relocked_rule = moved z s r b id v (relocking v records known held log) words' buckets' r.table.store record {
       at = m.at;
       acts = m.acts;
       wide = m.wide;
@@ -181,7 +187,9 @@ module _ (z : Sizes) (s : State (Unit {0}) View) (r : WordRule z s) (b id : ℕ)
       undisturbed = inl (refl, m.front);
       view = relocked_view;
       numbers = m.same_numbers;
+      logged = histories_logged z r.table.openings (λ c. (r.table.bucket c).history) (λ c. (buckets' c).history)
+          (set s.views id (relocking v records known held log)) (same_at (λ (x : BucketState). x.history) refl) m.logged;
       parted = subst (IsPartition z.pages r.table.store.store.used) (sym (runs_still r.table.bucket buckets' r.table.store.store
-          r.table.store.store s.views id v (relocking v records known held) (same_at (λ (x : BucketState). run_of x.extent.page x.extent.size.log2) refl) (λ _. refl) m.at refl))
+          r.table.store.store s.views id v (relocking v records known held log) (same_at (λ (x : BucketState). run_of x.extent.page x.extent.size.log2) refl) (λ _. refl) m.at refl))
           r.parted;
     }

@@ -9,7 +9,7 @@ use Rattle.atomic_table.specs.Table.{State, Splits, Joins}
 use Rattle.atomic_table.proofs.Lists.{at_set}
 use Rattle.bihash_words.specs.Sizes.{Sizes}
 use Rattle.bihash_steps.specs.Words.{count_of, buckets}
-use Rattle.bihash_steps.specs.Callers.{known_at, HasNumbers, IsLawful, IsLawfulCaller, Apart, Agrees}
+use Rattle.bihash_steps.specs.Callers.{known_at, HasNumbers, IsLawful, IsLawfulCaller, Apart, Agrees, HaveOneLog}
 use Rattle.bihash_steps.specs.Buckets.{HoldsBucketIf}
 use Rattle.bihash_steps.specs.PageStores.{HoldsStoreIf, HoldsBlockIf, run_in}
 use Rattle.bihash_steps.specs.Views.{nothing_held, no_notes}
@@ -20,9 +20,12 @@ use Rattle.bihash_steps.specs.declared.view.Record.{Record}
 use Rattle.bihash_steps.specs.declared.view.Known.{Known}
 use Rattle.bihash_steps.specs.declared.view.Holdings.{Holdings}
 use Rattle.bihash_steps.specs.declared.view.View.{View}
-use Rattle.bihash_steps.proofs.Lists.{at_end, at_either, at_take, at_drop, no_row}
+use Rattle.bihash_steps.proofs.Lists.{at_end, at_either, at_take, at_drop, no_row, within}
 use Rattle.bihash_steps.proofs.Prefixes.{prefix_refl}
 use Rattle.bihash_steps.proofs.Lawful.{IsPart, first_part, other_part, part_informed, part_lawful, part_numbers, both_informed, both_numbers}
+use Rattle.bihash_steps.specs.Logs.{IsLogged}
+use Rattle.bihash_steps.proofs.LogLemmas.{begins_refl}
+use Rattle.bihash_steps.proofs.LogSteps.{cut_logged, joined_logged, one_log}
 use Rattle.bihash_steps.proofs.KnownLists.{knows_own}
 use Rattle.bihash_steps.proofs.CountWord.{moved, AllApart, apart_back, apart_set, block_set, block_more, as_view}
 
@@ -36,13 +39,14 @@ module _ (z : Sizes) where
   parts_lawful : (n : ℕ) (v : View) → 1 ≤ n → n < length v.records → IsLawfulCaller z v → IsLawfulCaller z (first_numbers n v) × IsLawfulCaller z (other_numbers n v)
       × Agrees (first_numbers n v) (other_numbers n v)
   parts_lawful n v one more law = (
-    record { acts = acts_first; numbers = numbers first; lawful = lawful first; lists = law.lists; made = λ h. absurd (true≢false (sym h)) },
-    record { acts = acts_other; numbers = numbers other; lawful = lawful other; lists = law.lists; made = λ h. absurd (true≢false (sym h)) },
+    record { acts = acts_first; numbers = numbers first; lawful = lawful first; lists = law.lists; made = λ h. absurd (true≢false (sym h)); logged = logged first },
+    record { acts = acts_other; numbers = numbers other; lawful = lawful other; lists = law.lists; made = λ h. absurd (true≢false (sym h)); logged = logged other },
     record {
       apart = cut_apart n v.seen v.records law.numbers;
       known = (refl, λ b. inl (prefix_refl (known_at v.known b)));
       own = λ b k w at by. at;
       other_own = λ b k w at by. at;
+      logs = record { one = inl (begins_refl v.log); own = λ k e f by. within v.log k e f; other_own = λ k e f by. within v.log k e f };
     },
   )
     where
@@ -57,6 +61,9 @@ module _ (z : Sizes) where
 
       lawful : {part : List Record} → IsPart part v.records → IsLawful z v.known part
       lawful {part} p = part_lawful z v.known part v.records p law.lawful
+
+      logged : {part : List Record} → IsPart part v.records → IsLogged z v.known.openings v.log part
+      logged {part} p = record { legal = law.logged.legal; calls = λ i r e. law.logged.calls (p.from i) r (p.at i r e) }
 
       acts_first : 1 ≤ length (take n v.records)
       acts_first = simp length-take (omega arith)
@@ -158,6 +165,7 @@ module _ (z : Sizes) where
             | inr p ↦ absurd (ne (o.0 ∙ sym p.0))
           ]
         ];
+        logged = cut_logged z r.table.openings (λ b. (r.table.bucket b).history) s.views id n v left right at r.logged refl refl refl refl;
         blocks = λ j. block_more views right j refl ∙ block_set s.views id v left j at refl;
       }
 
@@ -165,8 +173,9 @@ module _ (z : Sizes) where
 
   joined_view : (words : List ℕ) (count j k : ℕ) (t : TableState) (v w : View) → 1 ≤ length v.records → 1 ≤ length w.records
       → v.holds ≡ nothing_held → Apart v.records w.records
+      → HaveOneLog v.records v.log w.records w.log
       → IsView z words count t j v → IsView z words count t k w → IsView z words count t j (joining v w)
-  joined_view words count j k t v w has_one has_other free apart ok ok' = record {
+  joined_view words count j k t v w has_one has_other free apart logs ok ok' = record {
     informed = both_informed z t v.known w.known v.records w.records has_one ok.informed ok'.informed;
     numbers = both_numbers v.seen w.seen v.records w.records apart ok.numbers ok'.numbers;
     seen = let a = ok.seen in let b = ok'.seen in omega arith;
@@ -192,6 +201,7 @@ module _ (z : Sizes) where
       begin = λ b l. (ok.informed.begins b l, ok'.informed.begins b l);
       own = knows_own z t v.known w.known v.records w.records ok.informed ok'.informed;
       other_own = knows_own z t w.known v.known w.records v.records ok'.informed ok.informed;
+      logs = logs;
     };
   }
 
@@ -238,7 +248,8 @@ module _ (z : Sizes) where
       let views = set s.views id both in
       let old : get_elem? s.views other ≡ some w = elim (at_set s.views id other both w at') [ inl p ↦ absurd (ne p.0) | inr p ↦ p.1 ] in
       let apart = r.apart id other v w (λ h. ne (sym h)) at old in
-      let good = joined_view s.words count id other r.table v w has_one has_other free apart (r.each_view id v at)
+      let good = joined_view s.words count id other r.table v w has_one has_other free apart
+      (one_log r.logged.log v.log w.log v.records w.records (r.logged.each id v at) (r.logged.each other w old)) (r.each_view id v at)
       (r.each_view other w old) in
       let left = spent_view s.words count other r.table (no_lock s r other w old free') (no_store s r other w old free') in
       let others : (j : ℕ) (u : View) → j ≢ id → j ≢ other → get_elem? s.views j ≡ some u → Apart both.records u.records
@@ -270,6 +281,8 @@ module _ (z : Sizes) where
             | inr q ↦ r.apart i j a b d p.1 q.1
           ]
         ]) (λ j u n e i k p q f. absurd (some-ne-none p (sym f)));
+        logged = joined_logged z r.table.openings (λ b. (r.table.bucket b).history) s.views id other v w both (view_after_spending z) at old
+            (λ h. ne (sym h)) r.logged refl refl refl refl;
         blocks = λ j. block_set views other w (view_after_spending z) j at' (ap (λ (h : Holdings). run_in h.block) (sym free'))
             ∙ block_set s.views id v both j at refl;
       }

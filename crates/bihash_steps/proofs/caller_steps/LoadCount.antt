@@ -10,7 +10,7 @@ use Rattle.atomic_table.specs.Table.{State, Act, keeps, Valid, stepped, carried_
 use Rattle.bihash_words.specs.Sizes.{Sizes}
 use Rattle.bihash_steps.specs.Words.{count_of, buckets}
 use Rattle.bihash_steps.specs.Histories.{IsPrefix}
-use Rattle.bihash_steps.specs.Callers.{IsWhole, known_writes, known_at, opening_in, IsConsistent, HasNumbers, Apart, Agrees, KnowsOwn}
+use Rattle.bihash_steps.specs.Callers.{IsWhole, known_writes, known_at, opening_in, IsConsistent, HasNumbers, Apart, Agrees, KnowsOwn, HaveOneLog}
 use Rattle.bihash_steps.specs.Buckets.{IsBucket}
 use Rattle.bihash_steps.specs.PageStores.{BearOutOfPages, HasCall, most_used, writes_in}
 use Rattle.bihash_steps.specs.Views.{empty_record, no_notes}
@@ -24,14 +24,15 @@ use Rattle.bihash_steps.specs.declared.view.Call.{Call}
 use Rattle.bihash_steps.specs.declared.view.Record.{Record}
 use Rattle.bihash_steps.specs.declared.view.Meeting.{Meeting}
 use Rattle.bihash_steps.specs.declared.view.View.{View}
-use Rattle.bihash_steps.proofs.KnownLists.{known_bearers, lawful_here, none_past}
+use Rattle.bihash_steps.proofs.KnownLists.{known_bearers, lawful_here, lawful_set, logged_at, none_past}
 use Rattle.bihash_steps.proofs.Lists.{at_end, there}
 use Rattle.bihash_steps.proofs.Whole.{prefix_whole}
 use Rattle.bihash_steps.proofs.Prefixes.{one_begins}
 use Rattle.bihash_steps.proofs.Numbers.{few_numbers, whole_by_count}
 use Rattle.bihash_steps.proofs.Lawful.{more_informed, more_numbers, parts_apart, wider}
+use Rattle.bihash_steps.proofs.LogSteps.{numbered_logged}
 use Rattle.bihash_steps.proofs.NotedViews.{counted_view, recounted_view, unnoted_view}
-use Rattle.bihash_steps.proofs.CountWord.{SameButCount, still_lock, still_pool, still_block, one_moved, stays, some_words, others_apart, not_lone}
+use Rattle.bihash_steps.proofs.CountWord.{SameButCount, kept_log, still_lock, still_pool, still_block, one_moved, stays, some_words, others_apart, not_lone}
 
 module _ (z : Sizes) where
   -- ---- A load of the caller count
@@ -67,11 +68,12 @@ module _ (z : Sizes) where
       let count : ℕ = count_of s.words in
       let ok = r.each_view id v at in
       let good = counted s.words count r.table id v ok in
-      let lawful = lawful_here z s r (view_after_count v count) acts good.numbers good.informed good.lone in (
+      let lawful = lawful_here z s r (view_after_count v count) acts good.numbers good.informed good.lone (logged_at z s r id v at acts) in (
         view_after_count v count,
         keeps,
         tt,
-        stays z s r id v (view_after_count v count) at refl good (others_apart z s r id v at),
+        stays z s r id v (view_after_count v count) at refl good (others_apart z s r id v at)
+            (kept_log z s r id v (view_after_count v count) at refl refl),
         record {
           seat = refl;
           rises = ok.seen;
@@ -109,13 +111,13 @@ module _ (z : Sizes) where
         keeps,
         tt,
         stays z s r id v (record v { notes = no_notes }) at refl (unnoted_view z s.words (count_of s.words) r.table id v ok)
-            (others_apart z s r id v at),
+            (others_apart z s r id v at) (kept_log z s r id v (record v { notes = no_notes }) at refl refl),
         record {
           seat = refl;
           few = let l = few_numbers v.seen v.records ok.numbers in let a = ok.seen in let b = r.few_callers in omega arith;
-          lawful = lawful_here z s r (record v { notes = no_notes }) acts ok.numbers ok.informed ok.lone;
+          lawful = lawful_here z s r (record v { notes = no_notes }) acts ok.numbers ok.informed ok.lone (logged_at z s r id v at acts);
           agree = λ y e. let met : HaveMet z r.table y = subst (HaveMetIf z r.table) e ok.meeting in
-              (consistent r.table y met, met.own, met.other_own);
+              (consistent r.table y met, met.own, met.other_own, met.logs);
         },
       )
 
@@ -126,10 +128,12 @@ module _ (z : Sizes) where
     known = met.0;
     own = met.1;
     other_own = met.2;
+    logs = met.3;
   }
     where
       met : IsConsistent v.known w.known × KnowsOwn v.records v.known w.known × KnowsOwn w.records w.known v.known
-      met = told.agree (record { first = v.known; second = w.known; first_records = v.records; second_records = w.records })
+          × HaveOneLog v.records v.log w.records w.log
+      met = told.agree (record { first = v.known; second = w.known; first_log = v.log; second_log = w.log; first_records = v.records; second_records = w.records })
           (ap (λ (u : View). u.notes.meeting) is)
 
       records : m'.0.records ≡ v.records ++ w.records
@@ -185,6 +189,8 @@ module _ (z : Sizes) where
       (let e = now in omega arith) (let e = now in omega arith) refl
       (subst (λ (c : ℕ). IsView z words c r.table id (view_after_number v count)) (sym now) good)
       (λ j u ne e. ((λ lone. absurd (not_lone z s r id j v u at e ne has_one lone)), apart j u ne e))
+      (numbered_logged z r.table.openings (λ b. (r.table.bucket b).history) s.views id v (view_after_number v count) count at r.logged refl refl
+      (λ j u e. let ok = r.each_view j u e in let l = ok.seen in λ n h. let o = ok.numbers.range h.0 h.1 h.2 in let m = o.1 in let f = h.3 in omega arith))
     where
       count : ℕ
       count = count_of s.words
@@ -230,7 +236,7 @@ module _ (z : Sizes) where
           × WordRule z (stepped s 0 (either (eqb count n) (n + 1) count) id m.1 w a) × TellsNumber z n m count (w, carried_after m.1 a)
 
       taken : count ≡ n → Outcome
-      taken e = let good = numbered_view s.words s.words count r.table id v (λ i l. refl) has_one r.each_bucket ok in (
+      taken e = (
         view_after_number v count,
         keeps,
         tt,
@@ -242,8 +248,8 @@ module _ (z : Sizes) where
           not = λ ne. absurd (ne e);
           rises = ok.seen;
           few = fewer;
-          lawful = lawful_here z s r (view_after_number v count) (let n = length-append v.records (empty_record (count + 1) ∷ []) in omega arith)
-              good.numbers good.informed (λ h. absurd (true≢false (sym h)));
+          lawful = lawful_set z (set s.words 0 (count + 1)) s id v (view_after_number v count) at
+              (let n = length-append v.records (empty_record (count + 1) ∷ []) in omega arith) (taken_rule s r id v at has_one (omega arith));
         },
       )
 
@@ -253,13 +259,14 @@ module _ (z : Sizes) where
         keeps,
         tt,
         subst (λ (b : Bool). WordRule z (after (either b (n + 1) count) (recounted v count))) (sym (ne_eqb count n ne))
-            (stays z s r id v (recounted v count) at refl good (others_apart z s r id v at)),
+            (stays z s r id v (recounted v count) at refl good (others_apart z s r id v at)
+            (kept_log z s r id v (recounted v count) at refl refl)),
         record {
           slots = refl;
           taken = λ e. absurd (ne e);
           not = λ _. refl;
           rises = ok.seen;
           few = fewer;
-          lawful = lawful_here z s r (recounted v count) has_one good.numbers good.informed good.lone;
+          lawful = lawful_here z s r (recounted v count) has_one good.numbers good.informed good.lone (logged_at z s r id v at has_one);
         },
       )

@@ -13,8 +13,8 @@ use Rattle.bihash_steps.specs.WordRule.{IsView, WordRule}
 use Rattle.bihash_steps.specs.Steps.{ViewOfSeat}
 use Rattle.bihash_steps.specs.Renewals.{IsNextWord, TellsRowWord, view_after_load}
 use Rattle.bihash_steps.specs.declared.view.View.{View}
-use Rattle.bihash_steps.proofs.KnownLists.{lawful_here}
-use Rattle.bihash_steps.proofs.CountWord.{others_apart, stays_at}
+use Rattle.bihash_steps.proofs.KnownLists.{lawful_here, logged_at}
+use Rattle.bihash_steps.proofs.CountWord.{kept_log, others_apart, stays_at}
 use Rattle.bihash_steps.proofs.NotedViews.{seen_view}
 use Rattle.bihash_steps.proofs.Runs.{at_same}
 
@@ -41,7 +41,7 @@ module _ (z : Sizes) where
     rule,
     record {
       seat = refl;
-      lawful = lawful_here z s r w acts good.numbers good.informed good.lone;
+      lawful = lawful_here z s r w acts good.numbers good.informed good.lone (logged_at z s r id v seat acts);
       row = λ all. record {
         noted = refl;
         lone = may.lone;
@@ -77,4 +77,4 @@ module _ (z : Sizes) where
       } ok
 
       rule : WordRule z record { words = set s.words at word; homes = s.homes; views = set s.views id w }
-      rule = stays_at z s r at id v w seat refl good (others_apart z s r id v seat)
+      rule = stays_at z s r at id v w seat refl good (others_apart z s r id v seat) (kept_log z s r id v w seat refl refl)

@@ -22,7 +22,7 @@ use Rattle.bihash_steps.specs.declared.view.LockedStore.{LockedStore}
 use Rattle.bihash_steps.specs.declared.view.HeldBlock.{HeldBlock}
 use Rattle.bihash_steps.specs.declared.view.View.{View}
 use Rattle.bihash_steps.proofs.Lists.{no_row}
-use Rattle.bihash_steps.proofs.CountWord.{held_still, others_apart, stays_at}
+use Rattle.bihash_steps.proofs.CountWord.{held_still, others_apart, stays_at, kept_log}
 use Rattle.bihash_steps.proofs.NotedViews.{unnoted_view}
 use Rattle.bihash_steps.proofs.Frames.{Free, free_none, free_own, grows_not, keeps_refl, moved}
 use Rattle.bihash_steps.proofs.bucket_steps.Relocks.{same_informed}
@@ -105,6 +105,7 @@ module _ (z : Sizes) where
           undisturbed = inr (free, free');
           view = view_still s.words i n before (count_of s.words) r.table q id v store block left acts held noted has_block few (r.each_view id v at);
           numbers = λ k h. h;
+          logged = kept_log z s r id v (storing v store block left) at refl refl;
           parted = parted;
         }
 
@@ -113,10 +114,11 @@ module _ (z : Sizes) where
   module _ (s : State (Unit {0}) View) (r : WordRule z s) (id : ℕ) (v : View) (at : get_elem? s.views id ≡ some v) where
     pub same_rule : (i : ℕ) → WordRule z (after_store s id v i (slice_index s.words i))
     same_rule i = stays_at z s r i id v v at refl (r.each_view id v at) (others_apart z s r id v at)
+        (kept_log z s r id v v at refl refl)
 
     pub unnoted_rule : (i : ℕ) → WordRule z (after_store s id (without_notes v) i (slice_index s.words i))
     unnoted_rule i = stays_at z s r i id v (without_notes v) at refl (unnoted_view z s.words (count_of s.words) r.table id v (r.each_view id v at))
-        (others_apart z s r id v at)
+        (others_apart z s r id v at) (kept_log z s r id v (without_notes v) at refl refl)
 
     -- what a seat with the allocation lock has
     pub held_store : (n : LockedStore) → v.holds.store ≡ Some n → HoldsStore z s.words r.table.store id n

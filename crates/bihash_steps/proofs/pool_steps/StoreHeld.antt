@@ -18,7 +18,7 @@ use Rattle.bihash_steps.specs.declared.view.LockedBucket.{LockedBucket}
 use Rattle.bihash_steps.specs.declared.view.HeldBlock.{HeldBlock}
 use Rattle.bihash_steps.specs.declared.view.View.{View}
 use Rattle.bihash_steps.proofs.Lists.{no_row}
-use Rattle.bihash_steps.proofs.CountWord.{front}
+use Rattle.bihash_steps.proofs.CountWord.{front, kept_log}
 use Rattle.bihash_steps.proofs.Frames.{Beside, free_none, grows_not, keeps_refl, stands_beside, store_keeps, store_lock_beside, moved}
 use Rattle.bihash_steps.proofs.Runs.{near_end, run_word, beside_block, stored_stands, store_still, count_still, page_after, word_of_block, runs_still}
 
@@ -116,6 +116,7 @@ module _ (z : Sizes) (s : State (Unit {0}) View) (r : WordRule z s) (id : ℕ) (
         undisturbed = inl (refl, front_same);
         view = view_stored;
         numbers = λ k has_number. has_number;
+        logged = kept_log z s r id v stored at refl refl;
         parted = subst (IsPartition z.pages r.table.store.store.used)
             (sym (runs_still r.table.bucket r.table.bucket r.table.store.store r.table.store.store s.views id v stored (λ b. refl) (λ log2. refl) at
             (ap run_in (sym held)))) r.parted;

@@ -9,7 +9,7 @@ ghost use Rattle.bihash_words.specs.Words.{Fits};
 ghost use Rattle.bihash_steps.specs.Callers.{known_at};
 ghost use Rattle.bihash_steps.specs.Buckets.{word_of, open_word};
 ghost use Rattle.bihash_steps.specs.Words.{bucket_at, page_at};
-ghost use Rattle.bihash_steps.specs.BucketSteps.{TellsBucket, TellsLock, IsLockedWord, TellsLockedWord, TellsStored, IsOpenWord, TellsOpenWord, TellsValid, TellsEvent, without_lock, view_after_answer, view_after_write};
+ghost use Rattle.bihash_steps.specs.BucketSteps.{TellsBucket, TellsLock, IsLockedWord, TellsLockedWord, TellsStored, IsOpenWord, TellsOpenWord, TellsValid, TellsEntry, TellsEvent, without_lock, view_after_answer, view_after_write};
 ghost use Rattle.bihash_steps.specs.StoreSteps.{view_after_replace};
 ghost use Rattle.bihash_steps.specs.declared.view.Call.{Call};
 ghost use Rattle.bihash_steps.specs.declared.view.LockedBucket.{LockedBucket};
@@ -85,7 +85,7 @@ pub(crate) struct Answers<S, E> {
 }
 
 impl<S: Shape, E: Calling> Play<(), View> for Answers<S, E> {
-    ghost then = { λ _ me _ next. TellsEvent (sizes_of S.Shape) (λ v. view_after_answer v E.call) me next
+    ghost then = { λ _ me _ next. TellsEntry (sizes_of S.Shape) (λ v. view_after_answer v E.call) E.call me next
         × ((l : LockedBucket) → me.0.holds.bucket ≡ Some l → Fits (word_of l.extent false l.version)
         × (l.version ≡ length (known_at me.0.known l.bucket))) };
 }
@@ -96,7 +96,7 @@ pub(crate) struct Publishes<S, E> {
 }
 
 impl<S: Shape, E: Calling> Play<(), View> for Publishes<S, E> {
-    ghost then = { λ _ me _ next. TellsEvent (sizes_of S.Shape) (λ v. view_after_write v E.call) me next };
+    ghost then = { λ _ me _ next. TellsEntry (sizes_of S.Shape) (λ v. view_after_write v E.call) E.call me next };
 }
 
 /// The same, where the bucket gets another block.
@@ -105,7 +105,7 @@ pub(crate) struct Replaces<S, E> {
 }
 
 impl<S: Shape, E: Calling> Play<(), View> for Replaces<S, E> {
-    ghost then = { λ _ me _ next. TellsEvent (sizes_of S.Shape) (λ v. view_after_replace v E.call) me next };
+    ghost then = { λ _ me _ next. TellsEntry (sizes_of S.Shape) (λ v. view_after_replace v E.call) E.call me next };
 }
 
 /// A load of a word of the block that was noted of an open bucket.

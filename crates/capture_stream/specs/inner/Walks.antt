@@ -1,5 +1,5 @@
 -- A capture of which some windows were judged.
-use Rattle.std.specs.Prelude.{◌≡◌, ◌+◌, ◌<◌, ◌≤◌, ◌++◌, ℕ, true, false, List, Option, drop, length, ⊤}
+use Rattle.std.specs.Prelude.{◌≡◌, ◌+◌, ◌<◌, ◌≤◌, ◌++◌, ℕ, true, false, List, [], Option, drop, length, ⊤}
 use Rattle.std.specs.Io.KnownBytes.{Consumes, IsAtEnd}
 use Rattle.packet_view.specs.Captures.{AreRecords, IsEnd, IsTooLong, PacketFacts, end_of}
 use Rattle.packet_view.specs.RecordLists.{packets_in}
@@ -88,6 +88,11 @@ IsLastFault walk Memory = ⊤
 IsLastFault walk (LongRecord number) = HasLongAhead walk number
 IsLastFault walk fault = ⊥
 
+-- nothing was read, and nothing will be
+pub record IsAllOf {J : Type 0} (walk : Walk J) (gone : List ℕ) : Type 0 where
+  pub none : gone ≡ []
+  pub ended : walk.ended ≡ true
+
 -- all that was read after the opening is records that were judged and the bytes ahead
 pub record IsAmid {J : Type 0} (Became : J → List PacketFacts → J → Type 0) (begun : J) (opening : Opening) (before now : Option (List ℕ))
     (walk : Walk J) : Type 0 where
@@ -103,3 +108,4 @@ pub record IsAmid {J : Type 0} (Became : J → List PacketFacts → J → Type 0
   pub within : walk.from ≤ length walk.window.items
   pub found : HaveFound walk.order (ahead_of walk) walk.found
   pub ended : walk.ended ≡ true → IsAtEnd now
+  pub all : opening.ended ≡ true → IsAllOf walk gone

@@ -3,7 +3,7 @@ ghost use Rattle.std.specs.Prelude.{◌≤◌, ◌<◌, ◌+◌, ◌^◌, length
 
 use bihash_words::{ShapeV4, ShapeV6, flow_shapes_are_sound};
 use flow_dealing::Dealing;
-use packet_dealing::{Dealer, DealtPart, deal_packets, dealt_to};
+use packet_dealing::{Dealer, DealtPacket, DealtPart, deal_packets, dealt_to};
 use packet_view::{Packet, Packets};
 use std::alloc::{AllocError, Global};
 use std::process::Abort;
@@ -58,26 +58,51 @@ fn deal<'a, R: Threads + Sync>(
     deal_packets::<ShapeV4, ShapeV6, R>(rt, alloc, dealer, number, Packets::Listed(packets))
 }
 
-// These are the packets, in their order, each with its worker.
+// These are a worker's packets, of those from this place on that have these workers, and no others.
+fn expect_own<'a, R: Abort>(
+    rt: &R,
+    worker: usize,
+    own: &[DealtPacket<'a>],
+    packets: &[Packet<'a>],
+    first: usize,
+    workers: &[u8],
+) {
+    let mut left = own.iter();
+    for (at, judge) in workers.iter().enumerate() {
+        if *judge as usize != worker {
+            continue;
+        }
+        let dealt = left.next().expect(rt, "a packet");
+        assert_eq!(rt; dealt.at, at, "worker {worker}");
+        assert!(rt; first < 8 && at < 8);
+        let place = first + at;
+        assert!(rt; place < packets.len());
+        assert_eq!(rt; dealt.packet.frame, packets[place].frame, "packet {place}");
+        assert_eq!(rt; dealt.packet.moment, packets[place].moment, "packet {place}");
+    }
+    assert!(rt; left.next().is_none(), "worker {worker}");
+}
+
+// These are the packets, in their order, each with its worker, and in its list alone.
 fn expect_packets<'a, R: Abort>(
     rt: &R,
     parts: Vec<DealtPart<'a>>,
     packets: &'a [Packet<'a>],
-    workers: [u8; 7],
+    judges: [u8; 7],
 ) {
-    let mut at = 0;
+    let mut first = 0;
     for part in parts {
-        let mut front = part.packets;
-        for worker in part.workers {
-            assert!(rt; at < packets.len() && at < 7);
-            let packet = front.next().expect(rt, "a packet");
-            assert_eq!(rt; packet.frame, packets[at].frame, "packet {at}");
-            assert_eq!(rt; packet.moment, packets[at].moment, "packet {at}");
-            assert_eq!(rt; worker, workers[at], "packet {at}");
-            at += 1;
+        let count = part.workers.len();
+        assert!(rt; first < 8 && count < 8);
+        let next = first + count;
+        assert!(rt; next < 8);
+        assert_eq!(rt; part.workers.as_slice(), &judges[first..next]);
+        for (worker, own) in part.own.as_slice().iter().enumerate() {
+            expect_own(rt, worker, own.as_slice(), packets, first, part.workers.as_slice());
         }
+        first = next;
     }
-    assert_eq!(rt; at, packets.len());
+    assert_eq!(rt; first, packets.len());
 }
 
 // The buckets are 2896, 1046 and 2793 of 4096 for the flows of IPv4, and 776 of 1024 for that of IPv6.

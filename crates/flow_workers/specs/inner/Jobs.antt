@@ -10,7 +10,7 @@ use Rattle.flow_dealing.specs.Dealings.{flow_shown, worker_by}
 use Rattle.flow_dealing.specs.Views.{Views}
 use Rattle.packet_dealing.specs.Dealt.{AreDealt, IsDealtPart, IsDealtTo}
 use Rattle.packet_dealing.specs.declared.dealer.Dealer.{Dealer}
-use Rattle.packet_dealing.specs.declared.deals.DealtPart.{DealtPart}
+use Rattle.packet_dealing.specs.declared.dealt_part.DealtPart.{DealtPart}
 use Rattle.flow_workers.specs.declared.setup.Setup.{Setup}
 use Rattle.flow_workers.specs.declared.share.Job.{Job}
 use Rattle.flow_workers.specs.declared.share.Run.{Run}
@@ -84,7 +84,7 @@ pub record MayJudgeViewed {A B R G K L : Type 0} (ga : Ghosts A K) (gb : Ghosts 
   pub stands : IsViewedAt run at viewed
   pub mine : IsWorkerOf ga gb run at (frame_facts viewed.frame.now) worker
 
--- the part has the packets of the run from this place on, with the workers of the first of them
+-- the part has packets of the run from this place on, with their workers
 abbrev pub IsPartOf : {A B R G K L : Type 0} (ga : Ghosts A K) (gb : Ghosts B L) → Run A B R G K L → ℕ → DealtPart
     → Type 0
 IsPartOf ga gb run first part =
@@ -92,8 +92,9 @@ IsPartOf ga gb run first part =
 
 -- The worker, which holds nothing, may judge its own of these packets, which begin at this place of the run.
 pub record MayJudgePart {A B R G K L : Type 0} (ga : Ghosts A K) (gb : Ghosts B L) (run : Run A B R G K L)
-    (first : ℕ) (part : DealtPart) (share : Share A B K L ga gb) : Type 0 where
+    (worker first : ℕ) (part : DealtPart) (share : Share A B K L ga gb) : Type 0 where
   pub shapes : AreShapes ga gb
+  pub few : worker < run.setup.workers
   pub idle : AreIdle ga gb run.setup.tables.now share.callers
   pub fits : run.first + length (held run.packets) < 2 ^ 64
   pub of : IsPartOf ga gb run first part

@@ -6,7 +6,8 @@ use Rattle.packet_view.specs.declared.packets.Packets.{Packets}
 use Rattle.bihash_words.specs.declared.shape.Shape.{Ghosts}
 use Rattle.packet_dealing.specs.Dealt.{AreShapes, IsDealtPart}
 use Rattle.packet_dealing.specs.declared.dealer.Dealer.{Dealer}
-use Rattle.packet_dealing.specs.declared.deals.DealtPart.{DealtPart}
+use Rattle.packet_dealing.specs.inner.OwnPackets.{IsEmptyPart}
+use Rattle.packet_dealing.specs.declared.dealt_part.DealtPart.{DealtPart}
 use Rattle.packet_dealing.specs.declared.part.Job.{Job}
 use Rattle.packet_dealing.specs.declared.part.Part.{Part}
 use Rattle.packet_dealing.specs.declared.part.Part.TheVariants.{Ahead, Over}
@@ -27,6 +28,7 @@ pub record CanDeal {A B K L : Type 0} (ga : Ghosts A K) (gb : Ghosts B L) (job :
   pub forward : job.first ≤ job.next
   pub inside : job.next ≤ length (held job.packets)
   pub fits : job.number + length (held job.packets) < 2 ^ 64
+  pub empty : IsEmptyPart job.dealer.workers job.part
 
 -- These are the packets from this place on, up to that place, each with its worker. All packets' numbers begin with
 -- this one.

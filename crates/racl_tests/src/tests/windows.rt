@@ -1,5 +1,5 @@
 //! Captures that are read in parts, and packets that are counted.
-ghost use Rattle.std.specs.Prelude.{◌≡◌, ◌≤◌, None, IfOk, length};
+ghost use Rattle.std.specs.Prelude.{◌≡◌, ◌≤◌, None, IfOk, false, length};
 ghost use Rattle.racl_io.specs.Inputs.{most_bytes};
 ghost use Rattle.capture_stream.specs.Streams.{IsSize};
 
@@ -91,6 +91,7 @@ fn opened(alloc: Global, front: &[u8]) -> Result<Opening, AllocError>
     requires few { length front.now ≤ most_bytes }
     ensures within { IfOk result (λ opening. opening.from ≤ length opening.bytes.items) }
     ensures few { IfOk result (λ opening. length opening.bytes.items ≤ most_bytes) }
+    ensures more { IfOk result (λ opening. opening.ended ≡ false) }
 {
     let mut bytes = Vec::new(alloc);
     bytes.extend_from_slice(front)?;
@@ -98,6 +99,7 @@ fn opened(alloc: Global, front: &[u8]) -> Result<Opening, AllocError>
         bytes,
         from: 24,
         order: Order::Little,
+        ended: false,
     })
 }
 

@@ -1,4 +1,4 @@
-use Rattle.std.proofs.Common.{◌≡◌, ◌≢◌, ◌∙◌, ◌<◌, ◌==◌, ℕ, Bool, true, false, true≢false, ap, arith, sym, subst, List, length, get_or, Option, Some, refl}
+use Rattle.std.proofs.Common.{◌≡◌, ◌≢◌, ◌∙◌, ◌<◌, ◌+◌, ◌==◌, ℕ, Bool, true, false, true≢false, ap, arith, sym, subst, List, length, get_or, Option, Some, refl}
 use Rattle.std.proofs.lemmas.Option.{slice_get_read}
 use Rattle.std.specs.Prelude.{not}
 use Rattle.std.specs.Cmp.Lexicographic.{slice_cmp}
@@ -48,20 +48,21 @@ bounds-places-other g c =
     let h = before g.S.Shape.words_of _ c.args.places.now c.args.i c.in-Some.other _ c.in-Some.is c.requires.least in
     pair_inside h.pair
 
-pub returns-then-ne : goal.returns-then-ne
-returns-then-ne g c =
+pub returns-then-ne-clause-least : goal.returns-then-ne-clause-least
+returns-then-ne-clause-least g c =
     let words_of = g.S.Shape.words_of in
     let h = before words_of _ c.args.places.now c.args.i c.in-Some.other _ c.in-Some.is c.requires.least in
-    same_least words_of _ c.args.places.now c.args.i _ _
+    subst (IsLeastAmong words_of _ c.args.places.now (c.args.i + 1)) (sym c.in-Some.is)
+    (same_least words_of _ c.args.places.now c.args.i _ _
     (slice_get_read c.args.places.now (length c.args.places.now) c.args.i c.index-places-i.result refl c.requires.place.inside
     c.index-places-i.is) c.in-Some.other h
     (λ more. not_greater c.compare.result (sym c.ne.ensures ∙ c.if-ne.true)
     (c.compare.ensures c.requires.shape.some_word
     ∙ ap (λ key. slice_cmp nat_cmp (words_of key) (words_of c.index-places-i.result.0))
-    (its_key words_of _ c.args.places.now c.args.i c.in-Some.other h c.index-places-other.result c.index-places-other.is) ∙ more))
+    (its_key words_of _ c.args.places.now c.args.i c.in-Some.other h c.index-places-other.result c.index-places-other.is) ∙ more)))
 
-pub returns : goal.returns
-returns g c =
+pub returns-clause-least : goal.returns-clause-least
+returns-clause-least g c =
     let words_of = g.S.Shape.words_of in
     let pair = pair_here c.args.places.now c.args.i c.index-places-i.result c.requires.place.inside c.index-places-i.is
     c.if-value.false in

@@ -25,4 +25,4 @@ returns-then-not-validate g c = tried_invalid g.S.Shape _ _ _ _ _ _ (sym c.args.
 
 pub returns : goal.returns
 returns g c = tried_valid g.S.Shape _ _ _ _ _ _ (sym c.args.seen.now.site.home) _ c.requires.seen c.validate.ensures.lawful
-    c.args.reply (c.validate.ensures.valid c.if-not-validate.false) c.requires.paged c.requires.roomy
+    c.args.reply c.requires.reads c.validate.ensures.same (c.validate.ensures.valid c.if-not-validate.false) c.requires.paged c.requires.roomy

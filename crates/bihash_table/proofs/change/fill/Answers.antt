@@ -8,7 +8,7 @@ use Rattle.bihash_table.specs.Answers.{locks_of}
 use Rattle.bihash_table.proofs.Changes.{filled, may_fill, value_is_stored}
 use Rattle.bihash_table.proofs.LookedAt.{pair_value}
 use Rattle.bihash_table.proofs.LockCounts.{locks_pushed}
-use Rattle.bihash_table.proofs.SameCallers.{own_through, same_through, view_is}
+use Rattle.bihash_table.proofs.SameCallers.{entered_as, own_through, same_through}
 use Rattle.bihash_table.proofs.Storing.{holds_stored, store_told}
 use Rattle.bihash_table.proofs.Tries.{finished_write}
 use Rattle.bihash_table.proofs.change.fill.Goals as goal
@@ -58,7 +58,7 @@ returns g c =
     let k = c.store_key.ensures.stored h.lock h.has in
     let step = store_told z v site.bucket c.args.seen.now.word h.lock h.has c.store_key.new.seat.view c.args.place h.told.1.inside _ _ k
     c.store_key.new.seat c.store_word.new.seat refl _ _ c.store_word.ensures in
-    let done = c.publish.ensures.view in
+    let done = entered_as c.publish.ensures in
     finished_write g.S.Shape c.args.seat.now c.publish.new.caller site.key.now None (Set c.args.value)
     (same_through c.args.seat.now c.store_word.new.seat c.publish.new.caller _
     (same_through c.args.seat.now c.store_key.new.seat c.store_word.new.seat _ c.store_key.ensures.same step) done)
@@ -71,4 +71,4 @@ returns g c =
     h.storable c.store_key.new.seat.view k c.store_word.new.seat.view
     (value_is_stored z c.store_key.new.seat c.store_word.new.seat (record h.lock { now = k.now; stored = k.stored })
     c.args.place c.args.value c.WORDS.result c.WORDS.ensures step)
-    c.publish.new.caller.view (view_is c.store_word.new.seat c.publish.new.caller _ done))
+    c.publish.new.caller.view c.publish.ensures.entered)

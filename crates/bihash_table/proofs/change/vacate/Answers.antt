@@ -6,7 +6,7 @@ use Rattle.bihash_steps.specs.declared.view.Holdings.{Holdings}
 use Rattle.bihash_table.specs.Answers.{locks_of}
 use Rattle.bihash_table.proofs.Changes.{may_remove, removed, value_is_stored}
 use Rattle.bihash_table.proofs.LockCounts.{locks_pushed}
-use Rattle.bihash_table.proofs.SameCallers.{own_through, same_but_view, same_through, view_is}
+use Rattle.bihash_table.proofs.SameCallers.{entered_as, own_through, same_but_view, same_through}
 use Rattle.bihash_table.proofs.Storing.{holds_place}
 use Rattle.bihash_table.proofs.Tries.{finished_write}
 use Rattle.bihash_table.proofs.change.vacate.Goals as goal
@@ -41,7 +41,7 @@ returns g c =
     let site = c.args.seen.now.site in
     let h = c.requires in
     let step = c.store_word.ensures h.lock (ap (λ (k : Holdings). k.bucket) h.has.held) in
-    let done = c.publish.ensures.view in
+    let done = entered_as c.publish.ensures in
     finished_write g.S.Shape c.args.seat.now c.publish.new.caller site.key.now (Some c.args.pair.1) Remove
     (same_through c.args.seat.now c.store_word.new.seat c.publish.new.caller _ (same_but_view c.args.seat.now c.store_word.new.seat _ step) done)
     c.publish.ensures.lawful
@@ -50,4 +50,4 @@ returns g c =
     (g.S.Shape.words_of site.key.now) site.counted (sym site.home) h.unworn
     c.args.pair.0 c.args.pair.1 h.told.0 h.told.1.0 h.told.1.1 h.told.1.2 c.store_word.new.seat.view
     (value_is_stored z c.args.seat.now c.store_word.new.seat h.lock c.args.pair.0 _ c.WORDS.result c.WORDS.ensures step)
-    c.publish.new.caller.view (view_is c.store_word.new.seat c.publish.new.caller _ done))
+    c.publish.new.caller.view c.publish.ensures.entered)

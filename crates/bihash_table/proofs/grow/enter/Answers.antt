@@ -17,8 +17,8 @@ use Rattle.bihash_table.proofs.LookedAt.{pair_value}
 use Rattle.bihash_table.proofs.LockCounts.{locks_pushed}
 use Rattle.bihash_table.proofs.OpenPlaces.{some_places, word_tells}
 use Rattle.bihash_table.proofs.Planning.{is_shortage}
-use Rattle.bihash_table.proofs.Replacing.{block_held, block_of, is_ready, locked_on, looked, looked_same, may_enter, may_refuse, published, ready_same, same_through, seen_same, store_held, was_answered}
-use Rattle.bihash_table.proofs.SameCallers.{own_through}
+use Rattle.bihash_table.proofs.Replacing.{answered_log, block_held, block_of, is_ready, locked_on, looked, looked_same, may_enter, may_refuse, published, published_log, ready_same, same_through, seen_same, store_held, was_answered}
+use Rattle.bihash_table.proofs.SameCallers.{entered_as, own_through}
 use Rattle.bihash_table.proofs.Stores.{bears_noted, holds_old, left_answered, left_written, still_lawful, contended}
 use Rattle.bihash_table.proofs.Tries.{finished, finished_away, finished_write}
 use Rattle.bihash_table.proofs.grow.enter.Goals as goal
@@ -111,8 +111,8 @@ leave_store-requires g c =
     let n = locked_on ready.left in
     let block = Some (block_of c.in-Ok.page c.args.size.log2 ready.words) in
     let done = published s c.write_block.new.seat c.publish_block.new.caller n block site.bucket key None (Set c.args.value)
-    ready.is c.publish_block.ensures.view in record {
-      own = own_through c.write_block.new.seat _ _ c.publish_block.ensures.view (own_through s _ _ ready.is h.own);
+    ready.is (entered_as c.publish_block.ensures) in record {
+      own = own_through c.write_block.new.seat _ _ (entered_as c.publish_block.ensures) (own_through s _ _ ready.is h.own);
       sound = c.is_sound.ensures;
       store = record n { store = record n.store { unpublished = false } };
       extent = h.lock.extent;
@@ -134,17 +134,19 @@ returns-in-Ok g c =
     let n = locked_on ready.left in
     let block = Some (block_of c.in-Ok.page c.args.size.log2 ready.words) in
     let done = published s c.write_block.new.seat c.publish_block.new.caller n block site.bucket key None (Set c.args.value)
-    ready.is c.publish_block.ensures.view in
+    ready.is (entered_as c.publish_block.ensures) in
     finished_write g.S.Shape s c.leave_store.new.seat site.key.now None (Set c.args.value)
     (same_through s c.write_block.new.seat c.publish_block.new.caller c.leave_store.new.seat
     (ready_same g.S.Shape s c.write_block.new.seat c.in-Ok.page c.args.size.log2 c.args.block.now ready)
-    (seen_same c.write_block.new.seat c.publish_block.new.caller c.publish_block.ensures.view) c.leave_store.ensures.same)
+    (seen_same c.write_block.new.seat c.publish_block.new.caller (entered_as c.publish_block.ensures)) c.leave_store.ensures.same)
     (still_lawful z c.publish_block.new.caller.view c.leave_store.new.seat.view c.leave_store.ensures.left c.publish_block.ensures.lawful)
     (ap (λ (v : View). locks_of v.records) c.leave_store.ensures.left.is
-    ∙ (locks_pushed _ _ _ (ap (λ (s : CallerState). s.view.records) c.publish_block.ensures.view)
+    ∙ (locks_pushed _ _ _ (ap (λ (s : CallerState). s.view.records) (entered_as c.publish_block.ensures))
     ∙ ap (λ (s : CallerState). locks_of s.view.records) ready.is))
     (left_written z s.view c.publish_block.new.caller.view c.leave_store.new.seat.view site.bucket c.args.seen.now.word h.lock n block
-    (event key None (Set c.args.value) (Changed None)) h.has (sym site.home) refl done c.leave_store.ensures.left)
+    (event key None (Set c.args.value) (Changed None)) h.has (sym site.home) refl done c.leave_store.ensures.left
+    (published_log z s c.write_block.new.seat c.publish_block.new.caller n block site.bucket key None (Set c.args.value)
+    ready.is c.publish_block.ensures.entered))
 
 pub pool_unlock-requires-clause-may : goal.pool_unlock-requires-clause-may
 pool_unlock-requires-clause-may g c =
@@ -194,17 +196,19 @@ returns-in-Err g c =
     c.pool_lock.ensures.same locks c.in-Err.ensures.refused.0 c.pool_unlock.ensures in
     let reply : Reply = NoPages c.args.size.log2 c.in-Err.left in
     let refused = was_answered c.pool_unlock.new.caller c.cancel.new.caller site.bucket key None (Set c.args.value) reply
-    (looked_at s.view locks.store) opened c.cancel.ensures.view in
+    (looked_at s.view locks.store) opened (entered_as c.cancel.ensures) in
     let t = c.cancel.new.caller in
     finished g.S.Shape s t site.key.now None (Set c.args.value)
-    (seen_same c.pool_unlock.new.caller t c.cancel.ensures.view ∙ ap (λ (k : CallerState). with_view k t.view)
+    (seen_same c.pool_unlock.new.caller t (entered_as c.cancel.ensures) ∙ ap (λ (k : CallerState). with_view k t.view)
     (looked_same z s c.pool_lock.new.caller c.take_block.new.seat c.pool_unlock.new.caller c.pool_lock.ensures.same locks
     c.in-Err.ensures.refused.0 c.pool_unlock.ensures))
     c.cancel.ensures.lawful
     (locks_pushed _ s.view.records _ (ap (λ (v : View). v.records) refused))
     reply
     (left_answered z s.view t.view site.bucket c.args.seen.now.word h.lock locks.store (event key None (Set c.args.value) reply)
-    h.has (sym site.home) refused)
+    h.has (sym site.home) refused
+    (answered_log z c.pool_unlock.new.caller t site.bucket (event key None (Set c.args.value) reply)
+    (looked_at s.view locks.store) opened refl c.cancel.ensures.entered))
     (λ wanted left e.
     let size : c.args.size.log2 ≡ wanted = cc in
     let few : c.in-Err.left ≡ left = cc in

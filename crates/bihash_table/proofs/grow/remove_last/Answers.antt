@@ -10,8 +10,8 @@ use Rattle.bihash_steps.specs.BucketCalls.{event}
 use Rattle.bihash_table.specs.Answers.{locks_of}
 use Rattle.bihash_table.proofs.LockCounts.{locks_pushed}
 use Rattle.bihash_table.proofs.OpenPlaces.{word_tells}
-use Rattle.bihash_table.proofs.Replacing.{emptied, locked_on, may_empty, published, same_through, seen_same, store_only}
-use Rattle.bihash_table.proofs.SameCallers.{own_through}
+use Rattle.bihash_table.proofs.Replacing.{emptied, locked_on, may_empty, published, published_log, same_through, seen_same, store_only}
+use Rattle.bihash_table.proofs.SameCallers.{entered_as, own_through}
 use Rattle.bihash_table.proofs.Stores.{holds_old, left_written, still_lawful, contended}
 use Rattle.bihash_table.proofs.Tries.{finished_away, finished_write}
 use Rattle.bihash_table.proofs.grow.remove_last.Goals as goal
@@ -61,8 +61,8 @@ leave_store-requires g c =
     let n = locked_on locks.store in
     let done = published s c.pool_lock.new.caller c.publish_block.new.caller n None site.bucket key (Some c.args.pair.1) Remove
     (c.pool_lock.ensures.same ∙ ap (with_view s) (store_only z s.view c.pool_lock.new.caller.view site.bucket c.args.seen.now.word h.lock h.has locks))
-    c.publish_block.ensures.view in record {
-      own = own_through c.pool_lock.new.caller _ _ c.publish_block.ensures.view (own_through s _ _ c.pool_lock.ensures.same h.own);
+    (entered_as c.publish_block.ensures) in record {
+      own = own_through c.pool_lock.new.caller _ _ (entered_as c.publish_block.ensures) (own_through s _ _ c.pool_lock.ensures.same h.own);
       sound = c.is_sound.ensures;
       store = record n { store = record n.store { unpublished = false } };
       extent = h.lock.extent;
@@ -81,13 +81,16 @@ returns g c =
     let n = locked_on locks.store in
     let done = published s c.pool_lock.new.caller c.publish_block.new.caller n None site.bucket key (Some c.args.pair.1) Remove
     (c.pool_lock.ensures.same ∙ ap (with_view s) (store_only z s.view c.pool_lock.new.caller.view site.bucket c.args.seen.now.word h.lock h.has locks))
-    c.publish_block.ensures.view in
+    (entered_as c.publish_block.ensures) in
     finished_write g.S.Shape s c.leave_store.new.seat site.key.now (Some c.args.pair.1) Remove
     (same_through s c.pool_lock.new.caller c.publish_block.new.caller c.leave_store.new.seat c.pool_lock.ensures.same
-    (seen_same c.pool_lock.new.caller c.publish_block.new.caller c.publish_block.ensures.view) c.leave_store.ensures.same)
+    (seen_same c.pool_lock.new.caller c.publish_block.new.caller (entered_as c.publish_block.ensures)) c.leave_store.ensures.same)
     (still_lawful z c.publish_block.new.caller.view c.leave_store.new.seat.view c.leave_store.ensures.left c.publish_block.ensures.lawful)
     (ap (λ (v : View). locks_of v.records) c.leave_store.ensures.left.is
-    ∙ (locks_pushed _ _ _ (ap (λ (s : CallerState). s.view.records) c.publish_block.ensures.view)
+    ∙ (locks_pushed _ _ _ (ap (λ (s : CallerState). s.view.records) (entered_as c.publish_block.ensures))
     ∙ ap (λ (v : View). locks_of v.records) locks.is))
     (left_written z s.view c.publish_block.new.caller.view c.leave_store.new.seat.view site.bucket c.args.seen.now.word h.lock n None
-    (event key (Some c.args.pair.1) Remove (Changed (Some c.args.pair.1))) h.has (sym site.home) refl done c.leave_store.ensures.left)
+    (event key (Some c.args.pair.1) Remove (Changed (Some c.args.pair.1))) h.has (sym site.home) refl done c.leave_store.ensures.left
+    (published_log z s c.pool_lock.new.caller c.publish_block.new.caller n None site.bucket key (Some c.args.pair.1) Remove
+    (c.pool_lock.ensures.same ∙ ap (with_view s) (store_only z s.view c.pool_lock.new.caller.view site.bucket c.args.seen.now.word h.lock h.has locks))
+    c.publish_block.ensures.entered))

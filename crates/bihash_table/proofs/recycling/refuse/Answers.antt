@@ -29,4 +29,4 @@ returns-then-not-validate_full g c = over g.S.Shape _ _ _ _ _ _ (Err _)
 
 pub returns : goal.returns
 returns g c = over_full g.S.Shape _ _ _ _ c.args.entrant.now.value _ (sym c.args.seen.now.site.home) _ c.requires.seen
-    c.validate_full.ensures.lawful (c.validate_full.ensures.valid c.if-not-validate_full.false)
+    c.validate_full.ensures.lawful c.validate_full.ensures.same (c.validate_full.ensures.valid c.if-not-validate_full.false)

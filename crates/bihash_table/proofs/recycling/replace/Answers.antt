@@ -6,7 +6,7 @@ use Rattle.bihash_table.specs.Answers.{locks_of}
 use Rattle.bihash_table.proofs.Changes.{value_is_stored}
 use Rattle.bihash_table.proofs.LockCounts.{locks_pushed}
 use Rattle.bihash_table.proofs.Recycled.{finished_recycled, may_recycle, recycled}
-use Rattle.bihash_table.proofs.SameCallers.{own_through, same_through, view_is}
+use Rattle.bihash_table.proofs.SameCallers.{entered_as, own_through, same_through}
 use Rattle.bihash_table.proofs.Storing.{holds_stored, store_told}
 use Rattle.bihash_table.proofs.recycling.replace.Goals as goal
 
@@ -54,7 +54,7 @@ returns g c =
     let k = c.store_key.ensures.stored h.lock h.has in
     let step = store_told z v site.bucket c.args.seen.now.word h.lock h.has c.store_key.new.seat.view c.args.going.now.place h.told.2.pair.pair.0 _ _ k
     c.store_key.new.seat c.store_word.new.seat refl _ _ c.store_word.ensures in
-    let done = c.publish_recycled.ensures.view in
+    let done = entered_as c.publish_recycled.ensures in
     finished_recycled g.S.Shape c.args.seat.now c.publish_recycled.new.caller site.key.now c.args.entrant.now.value
     (g.E.Expiry.is_expired c.args.entrant.now.expiry.now) (g.S.Shape.words_of c.args.going.now.key.now)
     h.told.2.value h.told.2.expired
@@ -68,4 +68,4 @@ returns g c =
     c.args.going.now.place c.args.entrant.now.value h.told h.storable c.store_key.new.seat.view k c.store_word.new.seat.view
     (value_is_stored z c.store_key.new.seat c.store_word.new.seat (record h.lock { now = k.now; stored = k.stored })
     c.args.going.now.place c.args.entrant.now.value c.WORDS.result c.WORDS.ensures step)
-    c.publish_recycled.new.caller.view (view_is c.store_word.new.seat c.publish_recycled.new.caller _ done))
+    c.publish_recycled.new.caller.view c.publish_recycled.ensures.entered)

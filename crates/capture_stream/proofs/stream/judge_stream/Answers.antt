@@ -20,7 +20,7 @@ pub returns-in_err-walk-clause-streamed : goal.returns-in_err-walk-clause-stream
 returns-in_err-walk-clause-streamed g c =
     let p = err_from_is_err_and c.from_residual.result c.from_residual.ensures.1 in
     rw (p.1, p.2)
-    (amid_fault _ c.args.judges c.args.opening _ c.requires.may.within _ _ c.windows.walk _ c.windows.invariant.amid c.in_err-walk.ensures.walk)
+    (amid_fault _ c.args.judges c.args.opening _ c.requires.may.within _ _ c.windows.walk _ c.windows.invariant.amid c.windows-test.true c.in_err-walk.ensures.walk)
 
 pub returns-in_err-walk-clause-within : goal.returns-in_err-walk-clause-within
 returns-in_err-walk-clause-within g c =
@@ -32,7 +32,7 @@ returns-in_err-walk-clause-within g c =
 
 pub windows-preserved : goal.windows-preserved
 windows-preserved g c = record {
-  amid = amid_advanced _ c.args.judges c.args.opening _ c.requires.may.within _ _ c.windows.walk _ c.windows.invariant.amid c.in_ok-walk.ensures.walk;
+  amid = amid_advanced _ c.args.judges c.args.opening _ c.requires.may.within _ _ c.windows.walk _ c.windows.invariant.amid c.windows-test.true c.in_ok-walk.ensures.walk;
   sound = c.in_ok-walk.ensures.within.failed ∙ c.windows.invariant.sound;
 }
 

@@ -1,63 +1,45 @@
-use Rattle.std.proofs.Common.{◌≡◌, ◌≢◌, ◌∙◌, ◌+◌, ap, arith, drop, get_or, length, sym, subst}
-use Rattle.packet_view.specs.Captures.{packet_facts}
-use Rattle.packet_view.specs.CheckedCaptures.{held}
-use Rattle.packet_dealing.proofs.DealtLists.{left_behind, stands_at}
-use Rattle.flow_workers.proofs.DealtLemmas.{part_left, part_mine, worked_on, worked_past, worked_to}
+use Rattle.std.proofs.Common.{◌∙◌, ap, map}
+use Rattle.packet_dealing.specs.Dealt.{placed_facts}
+use Rattle.flow_workers.proofs.OwnLemmas.{all_left, left_next, next_fits, next_own, own_over}
 use Rattle.flow_workers.proofs.work.judge_part.Goals as goal
 
-pub unreachable-requires : goal.unreachable-requires
-unreachable-requires g c =
-    let inside = c.part-test.true in
-    let same = ap length c.as_slice-judge-items.ensures.value in
-    part_left g.A.Shape g.B.Shape c.args.run.now c.args.first c.part.k c.args.part.now c.requires.of (omega arith)
-    (◌∙◌ {a = drop (c.args.first + c.part.k) (held c.args.run.now.packets)} c.part.invariant.left
-    c.in_default.ensures.0)
+pub loop-dealt-init : goal.loop-dealt-init
+loop-dealt-init g c =
+    all_left g.A.Shape g.B.Shape c.args.run.now c.args.worker c.args.first c.args.part.now c.as_slice-own.result.now
+    c.args.share.now
+    (ap (map placed_facts) (c.as_slice-own.ensures.value ∙ ap (λ list. list.items) c.index.ensures)
+    ∙ c.requires.of.own.each c.args.worker c.index.result.now c.requires.few)
+    c.requires.idle
 
-pub part-preserved-then-judge-worker : goal.part-preserved-then-judge-worker
-part-preserved-then-judge-worker g c =
-    let taken = c.part.invariant.left ∙ c.in-Some.ensures in
-    let inside = c.part-test.true in
-    let same = c.as_slice-judge-items.ensures.value in
-    let long = ap length same in
-    record {
-      left = ap (λ n. drop n (held c.args.run.now.packets))
-          (let e : c.args.first + (c.part.k + 1) ≡ c.args.first + c.part.k + 1 = omega arith in e)
-          ∙ left_behind _ _ (c.args.first + c.part.k) _ taken;
-      worked = worked_to g.A.Shape g.B.Shape c.args.run.now c.args.worker c.args.first (c.args.first + c.part.k + 1) _ _ _
-          (omega arith)
-          (worked_on g.A.Shape g.B.Shape c.args.run.now c.args.worker c.args.first (c.args.first + c.part.k) _ _ _ _
-          c.part.invariant.worked
-          (worked_past g.A.Shape g.B.Shape c.args.run.now c.args.worker c.args.first c.part.k c.args.part.now
-          (packet_facts c.in-Some.packet) _ _ c.requires.of (omega arith) taken
-          (subst (λ ws. get_or ws c.part.k 0 ≢ c.args.worker) same c.if-judge-worker.true)
-          c.part.invariant.worked.idle));
-    }
+pub overflow_add-first : goal.overflow_add-first
+overflow_add-first g c =
+    next_fits g.A.Shape g.B.Shape c.args.run.now c.args.worker c.args.first c.args.part.now c.requires.of c.args.share.now
+    c.loop-dealt.share c.as_slice-own.result.now c.loop-dealt.dealt-index _ c.loop-dealt-test.true c.loop-dealt.invariant
+    c.requires.fits
 
 pub judge_own-requires : goal.judge_own-requires
 judge_own-requires g c =
-    let taken = c.part.invariant.left ∙ c.in-Some.ensures in
-    let inside = c.part-test.true in
-    let same = c.as_slice-judge-items.ensures.value in
-    let long = ap length same in
+    let next = next_own g.A.Shape g.B.Shape c.args.run.now c.args.worker c.args.first c.args.part.now c.requires.of
+    c.args.share.now c.loop-dealt.share c.as_slice-own.result.now c.loop-dealt.dealt-index _ c.loop-dealt-test.true
+    c.loop-dealt.invariant in
     record {
       shapes = c.requires.shapes;
-      idle = c.part.invariant.worked.idle;
+      idle = c.loop-dealt.invariant.worked.idle;
       fits = c.requires.fits;
-      there = stands_at _ _ (c.args.first + c.part.k) _ taken;
-      mine = λ seen shown. sym (ap (λ ws. get_or ws c.part.k 0) (sym same) ∙ c.if-judge-worker.false)
-          ∙ part_mine g.A.Shape g.B.Shape c.args.run.now c.args.first c.part.k c.args.part.now
-          (packet_facts c.in-Some.packet) _ c.requires.of (omega arith) taken seen shown;
+      there = next.there;
+      mine = next.mine;
     }
 
-pub part-preserved : goal.part-preserved
-part-preserved g c =
-    let taken = c.part.invariant.left ∙ c.in-Some.ensures in
-    record {
-      left = ap (λ n. drop n (held c.args.run.now.packets))
-          (let e : c.args.first + (c.part.k + 1) ≡ c.args.first + c.part.k + 1 = omega arith in e)
-          ∙ left_behind _ _ (c.args.first + c.part.k) _ taken;
-      worked = worked_to g.A.Shape g.B.Shape c.args.run.now c.args.worker c.args.first (c.args.first + c.part.k + 1) _ _ _
-          (omega arith)
-          (worked_on g.A.Shape g.B.Shape c.args.run.now c.args.worker c.args.first (c.args.first + c.part.k) _ _ _ _
-          c.part.invariant.worked c.in_ok-judge_own.ensures);
-    }
+pub loop-dealt-preserved : goal.loop-dealt-preserved
+loop-dealt-preserved g c =
+    left_next g.A.Shape g.B.Shape c.args.run.now c.args.worker c.args.first c.args.part.now _ _ _ c.args.share.now
+    c.loop-dealt.share c.judge_own.new.share
+    (next_own g.A.Shape g.B.Shape c.args.run.now c.args.worker c.args.first c.args.part.now c.requires.of
+    c.args.share.now c.loop-dealt.share c.as_slice-own.result.now c.loop-dealt.dealt-index _ c.loop-dealt-test.true
+    c.loop-dealt.invariant)
+    c.in_ok-judge_own.ensures
+
+pub returns : goal.returns
+returns g c =
+    own_over g.A.Shape g.B.Shape c.args.run.now c.args.worker c.args.first c.args.part.now c.requires.of c.args.share.now
+    c.loop-dealt.share c.as_slice-own.result.now c.loop-dealt.dealt-index c.loop-dealt-test.false c.loop-dealt.invariant

@@ -1,10 +1,7 @@
-use Rattle.std.proofs.Common.{◌≡◌, ◌+◌, drop}
-use Rattle.packet_view.specs.CheckedCaptures.{held}
-use Rattle.flow_workers.specs.inner.Jobs.{HasWorkedOn}
+use Rattle.std.proofs.Common.{drop}
+use Rattle.flow_workers.proofs.OwnLemmas.{HasLeft}
 use Rattle.flow_workers.proofs.work.judge_part.Given as goal
 
-abbrev pub invariant-part : goal.invariant-part
-invariant-part g l = record {
-  left : drop (l.first + l.k) (held l.run.packets) ≡ l.packets.left;
-  worked : HasWorkedOn g.A.Shape g.B.Shape l.run l.worker l.first (l.first + l.k) l.fn.share l.share;
-}
+abbrev pub invariant-loop-dealt : goal.invariant-loop-dealt
+invariant-loop-dealt g l =
+    HasLeft g.A.Shape g.B.Shape l.run l.worker l.first l.part (drop l.dealt-index l.own) l.fn.share l.share

@@ -23,6 +23,7 @@ judge_part-requires g c =
     let listed = ap length same in
     record {
       shapes = c.requires.shapes;
+      few = c.requires.few;
       idle = c.loop-part.invariant.worked.idle;
       fits = c.requires.fits;
       of = subst (IsPartOf g.A.Shape g.B.Shape run c.loop-part.first)

@@ -1,8 +1,9 @@
-use Rattle.std.proofs.Common.{◌≡◌, ◌∙◌, ◌+◌, ap, subst, arith, drop, length}
-use Rattle.packet_view.specs.Captures.{packet_facts}
+use Rattle.std.proofs.Common.{◌≡◌, ◌∙◌, ◌+◌, ap, subst, sym, arith, drop, length}
+use Rattle.std.proofs.lemmas.List.{length_push}
 use Rattle.packet_view.specs.CheckedCaptures.{held}
 use Rattle.packet_dealing.specs.Dealt.{IsDealtTo}
-use Rattle.packet_dealing.proofs.DealtLists.{left_behind, next_there, some_left, workers_push}
+use Rattle.packet_dealing.proofs.DealtLists.{left_behind, next_there, some_left}
+use Rattle.packet_dealing.proofs.HandedPackets.{dealt_push, none_dealt}
 use Rattle.packet_dealing.proofs.one_part.deal_part.Goals as goal
 
 pub unreachable-requires : goal.unreachable-requires
@@ -12,22 +13,34 @@ unreachable-requires g c =
     some_left (held c.args.job.packets) c.loop-at.at (omega arith)
     (c.loop-at.invariant.left ∙ c.in_default.ensures.0)
 
+pub loop-at-init : goal.loop-at-init
+loop-at-init g c =
+    let job = c.args.job in
+    let none = ap length c.requires.empty.none in
+    record {
+      count = omega arith;
+      left = ◌∙◌ {a = drop job.first (held job.packets)} (sym c.skip.ensures) (sym c.new-packets.ensures);
+      dealt = none_dealt g.A.Shape g.B.Shape job.dealer (job.number + job.first) (drop job.first (held job.packets))
+          job.part c.requires.empty;
+    }
+
 pub loop-at-preserved : goal.loop-at-preserved
 loop-at-preserved g c =
     let inv = c.loop-at.invariant in
     let job = c.args.job in
-    let workers = c.loop-at.workers.items in
+    let part = c.loop-at.part in
     let taken = inv.left ∙ c.in-Some.ensures in
     let counted = inv.count in
     record {
-      count = let longer = c.in_ok-push.ensures.len in omega arith;
+      count = let longer = ap length c.in_ok-hand.ensures.noted in
+          let one = length_push part.workers.items c.dealt_to-worker.result in omega arith;
       left = left_behind _ _ c.loop-at.at _ taken;
-      dealt = rw c.in_ok-push.ensures.items
-          (workers_push g.A.Shape g.B.Shape job.dealer (job.number + job.first) (drop job.first (held job.packets)) workers
-          c.dealt_to.result (packet_facts c.in-Some.packet) inv.dealt
-          (next_there (held job.packets) _ job.first (length workers) _
+      dealt = dealt_push g.A.Shape g.B.Shape job.dealer (job.number + job.first) (drop job.first (held job.packets)) part _
+          c.dealt_to-worker.result c.in-Some.packet c.dealt_to-worker.ensures.one inv.dealt
+          (next_there (held job.packets) _ job.first (length part.workers.items) _
           (ap (λ n. drop n (held job.packets)) counted ∙ taken))
-          (subst (λ n. IsDealtTo g.A.Shape g.B.Shape job.dealer n c.in-Some.packet.frame.now c.dealt_to.result)
-          (let e : job.number + c.loop-at.at ≡ job.number + job.first + length workers = omega arith in e)
-          c.dealt_to.ensures.dealt));
+          (subst (λ n. IsDealtTo g.A.Shape g.B.Shape job.dealer n c.in-Some.packet.frame.now c.dealt_to-worker.result)
+          (let e : job.number + c.loop-at.at ≡ job.number + job.first + length part.workers.items = omega arith in e)
+          c.dealt_to-worker.ensures.dealt)
+          c.in_ok-hand.ensures;
     }

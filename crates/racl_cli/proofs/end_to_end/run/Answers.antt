@@ -1,7 +1,7 @@
 use Rattle.std.proofs.Common.{◌∙◌, ap}
 use Rattle.std.proofs.lemmas.Result.{err_from_is_err_and}
-use Rattle.racl_cli.proofs.OutcomeLemmas.{at_outcomes, has_reported, has_run, outcome_of}
-use Rattle.racl_cli.proofs.ReadLemmas.{fault_of_right, fault_read, fault_refused, outcome_read}
+use Rattle.racl_cli.proofs.OutcomeLemmas.{has_reported, has_run, outcome_of}
+use Rattle.racl_cli.proofs.ReadLemmas.{fault_of_right, fault_read, fault_refused, known_read, outcome_read}
 use Rattle.racl_cli.proofs.RunLemmas.{excluded_by_input}
 use Rattle.racl_cli.proofs.end_to_end.run.Goals as goal
 
@@ -24,18 +24,19 @@ pub returns-clause-ok : goal.returns-clause-ok
 returns-clause-ok g c =
     let r = outcome_read c.args.options.now _ c.in_ok-judged.judged c.in_ok-judged.ensures.answers in
     let same = ap (λ verdicts. outcome_of verdicts c.judged.inside.truncated) c.deref.ensures.value ∙ c.judged.view_is in
-    has_run _ _ _ _ r.bytes c.in_ok-judged.judged c.deref.result.now c.judged.inside.truncated c.write_report.result r.read same r.answers.ok
+    has_run _ _ _ _ r.bytes c.in_ok-judged.judged c.deref.result.now c.judged.inside.truncated c.write_report.result r.whole.whole same r.answers.ok
     c.write_report.ensures.whole c.write_report.ensures.totals
 
 pub returns-clause-accepts : goal.returns-clause-accepts
 returns-clause-accepts g c =
     let r = outcome_read c.args.options.now _ c.in_ok-judged.judged c.in_ok-judged.ensures.answers in
     let same = ap (λ verdicts. outcome_of verdicts c.judged.inside.truncated) c.deref.ensures.value ∙ c.judged.view_is in
-    at_outcomes _ _ _ _ r.read (λ one_thread filters.
-    has_reported _ _ _ r.bytes one_thread c.in_ok-judged.judged c.deref.result.now c.judged.inside.truncated c.write_report.result r.read.few same
-    (r.answers.accepts one_thread filters) c.write_report.ensures.whole c.write_report.ensures.totals c.write_report.ensures.fault)
+    known_read _ _ r.bytes _ r.whole (λ one_thread has.
+    has_reported _ _ _ r.bytes one_thread c.in_ok-judged.judged c.deref.result.now c.judged.inside.truncated c.write_report.result has same
+    (r.answers.accepts has.policy has.packets one_thread.truncated has.read) c.write_report.ensures.whole c.write_report.ensures.totals
+    c.write_report.ensures.fault)
 
 pub returns-clause-refuses : goal.returns-clause-refuses
 returns-clause-refuses g c =
     let r = outcome_read c.args.options.now _ c.in_ok-judged.judged c.in_ok-judged.ensures.answers in
-    excluded_by_input _ _ _ r.read (λ fault of. absurd (r.answers.refuses fault of))
+    excluded_by_input _ _ _ r.whole (λ fault of. absurd (r.answers.refuses fault of))

@@ -1,4 +1,4 @@
-use Rattle.std.proofs.Common.{◌∙◌, Err, ap, arith, inl, refl, subst}
+use Rattle.std.proofs.Common.{◌∙◌, Err, ap, inl, refl, subst}
 use Rattle.std.proofs.lemmas.Result.{err_from_is_err_and}
 use Rattle.acl_policy.specs.Policies.{policy_facts}
 use Rattle.flow_dealing.specs.Runs.{AreJudged, HavePages}
@@ -12,9 +12,9 @@ use Rattle.racl_cli.proofs.streaming.judge_records.Goals as goal
 
 pub returns-in_err-judges-clause-within : goal.returns-in_err-judges-clause-within
 returns-in_err-judges-clause-within g c =
-    let p = err_from_is_err_and c.from_residual-in_err-judges.result c.from_residual-in_err-judges.ensures.1 in
+    let p = err_from_is_err_and c.from_residual.result c.from_residual.ensures.1 in
     let within = c.judge_stream.ensures.within in
-    within_of_err _ _ _ c.args.reader.now c.args.reader.now _ c.judge_stream.result c.from_residual-in_err-judges.result c.in_err-judges.field-0.0
+    within_of_err _ _ _ c.args.reader.now c.args.reader.now _ c.judge_stream.result c.from_residual.result c.in_err-judges.field-0.0
     within.gave refl c.in_err-judges.was (p.1 ∙ ap Err p.2) within.failed
 
 pub returns-clause-ok : goal.returns-clause-ok
@@ -24,7 +24,8 @@ returns-clause-ok g c =
     let filter = c.args.filter.now in
     let policy = policy_facts filter.policy in
     let verdicts = c.in-Ok-end.verdicts.items in
-    let judged : AreJudged (dealt_to options.workers) filter.times policy s.packets verdicts =
+    let workers = c.plan_for-expected.result.1 in
+    let judged : AreJudged (dealt_to workers) filter.times policy s.packets verdicts =
     judged_alike _ s.packets verdicts _ _ _ _ c.ready_with.ensures.times c.ready_with.ensures.policy
     (said_by _ _ _ _ s.packets verdicts (s.judged.1.setup ∙ c.in-Ok-new.ensures.by) s.judged.1.rest c.in-Ok-end.ensures) in
     record {
@@ -34,10 +35,13 @@ returns-clause-ok g c =
       rest = s.rest;
       records = s.records;
       end = s.end;
-      by_workers =
-          given_by_workers options filter.times policy s.packets verdicts options.workers c.requires.may.times options.few.0 (omega arith) judged
-          (pages_for_few _ _ _ _ _);
-      by_one_thread =
-          subst (λ times. HavePages verdicts → ByOneThread times policy s.packets verdicts) c.requires.may.times
-          (one_report _ _ _ _ _ judged (inl refl));
+      reached = record {
+        by_workers =
+            given_by_workers options filter.times policy s.packets verdicts workers c.requires.may.times c.plan_for-expected.ensures.some c.plan_for-expected.ensures.few judged
+            (pages_for_few _ _ _ _ _);
+        by_one_thread =
+            subst (λ times. HavePages verdicts → ByOneThread times policy s.packets verdicts) c.requires.may.times
+            (one_report _ _ _ _ _ judged (inl refl));
+        ends = refl;
+      };
     }

@@ -3,7 +3,7 @@ use Rattle.bihash_words.specs.Sizes.{sizes_of}
 use Rattle.bihash_steps.specs.BucketSteps.{MayMark, marked, view_after_write}
 use Rattle.bihash_steps.proofs.Addresses.{publishes_at}
 use Rattle.bihash_steps.proofs.bucket_steps.NextWords.{next_is, version_rises, counted_write}
-use Rattle.bihash_steps.proofs.SeatCounts.{can_act, of_seat}
+use Rattle.bihash_steps.proofs.SeatCounts.{entered_state, can_act, of_seat}
 use Rattle.bihash_steps.proofs.row.Row.publish_as.Goals as goal
 
 pub next-next-requires-clause-page : goal.next-next-requires-clause-page
@@ -40,3 +40,7 @@ invariant_of-caller g c =
     c.requires.may in
     counted_write (sizes_of g.S.Shape) (λ v. view_after_write v g.E.Calling.call) c.caller.inside.seat.me _ _ _ _ _ _ _ may.write c.version.ensures
     c.store.ensures.2 refl c.caller.invariant
+
+pub returns : goal.returns
+returns g c = entered_state _ (λ v. view_after_write v g.E.Calling.call) _ _ _ _ _ c.caller.inside.seat.me _ c.args.caller.now c.store.ensures.0 c.store.ensures.1
+    c.caller.view_is c.store.ensures.2

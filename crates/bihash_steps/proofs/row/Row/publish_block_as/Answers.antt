@@ -5,7 +5,7 @@ use Rattle.bihash_steps.specs.Buckets.{word_of}
 use Rattle.bihash_steps.specs.StoreSteps.{MayReplace, view_after_replace}
 use Rattle.bihash_steps.proofs.Addresses.{replaces_at}
 use Rattle.bihash_steps.proofs.bucket_steps.NextWords.{version_rises, counted_write}
-use Rattle.bihash_steps.proofs.SeatCounts.{can_act, of_seat}
+use Rattle.bihash_steps.proofs.SeatCounts.{entered_state, can_act, of_seat}
 use Rattle.bihash_steps.proofs.row.Row.publish_block_as.Goals as goal
 
 pub next-next-requires-clause-page : goal.next-next-requires-clause-page
@@ -40,3 +40,7 @@ invariant_of-caller g c =
     c.requires.may in
     counted_write (sizes_of g.S.Shape) (λ v. view_after_replace v g.E.Calling.call) c.caller.inside.seat.me _ _ _ _ _ _ _ may.write c.version.ensures
     c.store.ensures.2 refl c.caller.invariant
+
+pub returns : goal.returns
+returns g c = entered_state _ (λ v. view_after_replace v g.E.Calling.call) _ _ _ _ _ c.caller.inside.seat.me _ c.args.caller.now c.store.ensures.0 c.store.ensures.1
+    c.caller.view_is c.store.ensures.2

@@ -49,15 +49,15 @@ returns-then-validate g c =
     let read = c.find_pair-pair.ensures in
     let h = value_seen z _ _ _ key c.find_pair-pair.result found c.value_found-found.ensures (seen_first z _ _ _ _ read.saw opened.has) in
     let ahead = seen_ahead z _ _ _ _ _ opened read.saw in
-    let told = c.validate.ensures.valid c.if-validate.true in
+    let entered = c.validate.ensures.valid c.if-validate.true in
     let w = c.validate.new.caller.view in record {
       same = same_through s c.find_pair-pair.new.seat c.validate.new.caller _
-          (same_through s c.look.new.seat c.find_pair-pair.new.seat _ c.look.ensures.same read.same) told;
+          (same_through s c.look.new.seat c.find_pair-pair.new.seat _ c.look.ensures.same read.same) c.validate.ensures.same;
       answered = subst (λ k. IsAnswered z s.view w (search_of (g.S.Shape.words_of k) found)) c.of-site.ensures.key
           (ahead_answered z _ _ w site.bucket (search_of key found) (sym site.home) ahead
-          (answer_seen z _ _ _ h (search_of key found) w (ap (λ (k : CallerState). k.view) told) (sym site.home)));
+          (answer_seen z _ _ _ h (search_of key found) w entered (sym site.home) refl));
       contended = tt;
-      no_lock = answer_locks z _ _ _ h (search_of key found) _ (ap (λ (k : CallerState). k.view) told)
+      no_lock = answer_locks z _ _ _ h (search_of key found) w entered
           ∙ ap locks_of (seen_records z _ _ _ _ _ opened read.saw);
       lone = λ lone. refl;
       lawful = c.validate.ensures.lawful;

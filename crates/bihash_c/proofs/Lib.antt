@@ -1,0 +1,2 @@
+pub mod AsBox4
+pub mod AsBox6

@@ -1,0 +1,55 @@
+-- The numbers that C is told, and what they carry (the header names them).
+use Rattle.std.specs.Prelude.{ℕ, Option, Some, None, Result, Ok, Err}
+use Rattle.bihash_words.specs.declared.patch.Reply.{Reply}
+use Rattle.bihash_words.specs.declared.patch.Reply.TheVariants.{Kept, Changed, Worn, Full, NoPages}
+use Rattle.bihash_steps.specs.declared.faults.SplitFault as Split
+use Rattle.bihash_steps.specs.declared.faults.SplitFault.TheVariants as SplitFaults
+use Rattle.bihash_table.specs.declared.contended.Contended.{Contended}
+use Rattle.bihash_table.specs.declared.close_fault.CloseFault as Close
+use Rattle.bihash_table.specs.declared.close_fault.CloseFault.TheVariants as CloseFaults
+use Rattle.bihash_table.specs.declared.renew_fault.RenewFault as Renew
+use Rattle.bihash_table.specs.declared.renew_fault.RenewFault.TheVariants as RenewFaults
+use Rattle.bihash_c.specs.declared.answer.Answer.{Answer}
+use Rattle.bihash_c.specs.declared.answer.Stamp.{Stamp}
+
+-- an answer that carries no value
+abbrev pub bare : ℕ → Answer
+bare kind = record { kind = kind; value = 0; log2 = 0 }
+
+-- the one kind where there was no value, the other with the value
+abbrev pub value_told : Option ℕ → ℕ → ℕ → Answer
+value_told None none some = bare none
+value_told (Some value) none some = record { kind = some; value = value; log2 = 0 }
+
+-- the answer for what a try came to
+abbrev pub answer_of : Result Reply Contended → Answer
+answer_of (Ok (Kept found)) = value_told found 0 1
+answer_of (Ok (Changed found)) = value_told found 2 3
+answer_of (Ok (Worn found)) = value_told found 4 5
+answer_of (Ok Full) = bare 6
+answer_of (Ok (NoPages log2 left)) = record { kind = 7; value = left; log2 = log2 }
+answer_of (Err refused) = bare 8
+
+-- the same of a search
+abbrev pub search_answer_of : Result (Option ℕ) Contended → Answer
+search_answer_of (Ok found) = value_told found 0 1
+search_answer_of (Err refused) = bare 8
+
+-- the numbers of refusals: memory, numbers, contended, strangers
+abbrev pub split_number : Split.SplitFault → ℕ
+split_number SplitFaults.Memory = 9
+split_number SplitFaults.Numbers = 10
+split_number SplitFaults.Contended = 8
+
+abbrev pub close_number : Close.CloseFault → ℕ
+close_number CloseFaults.Strangers = 11
+close_number CloseFaults.Memory = 9
+
+abbrev pub renew_number : Renew.RenewFault → ℕ
+renew_number RenewFaults.Strangers = 11
+renew_number RenewFaults.Memory = 9
+
+-- a bucket and a stamp, where there is a last call
+abbrev pub stamp_told : Option (ℕ × ℕ) → Stamp
+stamp_told None = record { known = 0; bucket = 0; stamp = 0 }
+stamp_told (Some at) = record { known = 1; bucket = at.0; stamp = at.1 }

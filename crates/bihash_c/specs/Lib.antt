@@ -1,0 +1,7 @@
+pub mod Answers
+pub mod Contents
+pub mod Expiries
+pub mod Handles4
+pub mod Handles6
+pub mod Members
+pub mod Shares

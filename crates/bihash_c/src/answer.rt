@@ -1,0 +1,167 @@
+//! What C is told: one number for each answer, with all that the answer carries.
+ghost use Rattle.std.specs.Prelude.{◌≡◌};
+ghost use Rattle.bihash_c.specs.Answers.{answer_of, close_number, renew_number, search_answer_of, split_number, stamp_told, value_told};
+
+use bihash_table::{CloseFault, Contended, RenewFault, SplitFault};
+use bihash_words::Reply;
+
+/// Of a call on callers: it was done.
+pub const DONE: u32 = 0;
+
+/// Kept, and the key was absent.
+pub const ABSENT: u32 = 0;
+
+/// Kept, and `value` was found.
+pub const FOUND: u32 = 1;
+
+/// Changed, and the key was absent.
+pub const ADDED: u32 = 2;
+
+/// Changed, and `value` was found.
+pub const REPLACED: u32 = 3;
+
+/// The bucket's changes are used up, and the key was absent.
+pub const WORN: u32 = 4;
+
+/// The bucket's changes are used up, and `value` was found.
+pub const WORN_FOUND: u32 = 5;
+
+/// The bucket has no room for a new key.
+pub const FULL: u32 = 6;
+
+/// A block of `2 ^ log2` pages was wanted and is not there: `value` pages were never used.
+pub const NO_PAGES: u32 = 7;
+
+/// Another caller stood in the way.
+pub const CONTENDED: u32 = 8;
+
+/// Memory was refused.
+pub const MEMORY: u32 = 9;
+
+/// As many callers were made as a table may have.
+pub const NUMBERS: u32 = 10;
+
+/// Some caller was not joined.
+pub const STRANGERS: u32 = 11;
+
+/// The answer of a call on a key.
+#[repr(C)]
+#[derive(Clone, Copy, Debug, PartialEq, Eq)]
+pub struct Answer {
+    pub kind: u32,
+    pub value: u64,
+    pub log2: u64,
+}
+
+/// The bucket and the stamp of a call. `known` is 0 before the first.
+#[repr(C)]
+#[derive(Clone, Copy, Debug, PartialEq, Eq)]
+pub struct Stamp {
+    pub known: u32,
+    pub bucket: u64,
+    pub stamp: u64,
+}
+
+// An answer that carries no value.
+fn bare(kind: u32) -> Answer
+    ensures { result ≡ record { kind = kind; value = 0; log2 = 0 } }
+{
+    Answer {
+        kind,
+        value: 0,
+        log2: 0,
+    }
+}
+
+// The one answer where there was no value, the other where there was one.
+fn told(found: Option<u64>, none: u32, some: u32) -> Answer
+    ensures { result ≡ value_told found none some }
+{
+    match found {
+        None => bare(none),
+        Some(value) => Answer {
+            kind: some,
+            value,
+            log2: 0,
+        },
+    }
+}
+
+/// The answer for what a try came to.
+#[inline(always)]
+pub fn reply_answer(tried: Result<Reply, Contended>) -> Answer
+    ensures { result ≡ answer_of tried }
+{
+    match tried {
+        Ok(Reply::Kept(found)) => told(found, ABSENT, FOUND),
+        Ok(Reply::Changed(found)) => told(found, ADDED, REPLACED),
+        Ok(Reply::Worn(found)) => told(found, WORN, WORN_FOUND),
+        Ok(Reply::Full) => bare(FULL),
+        Ok(Reply::NoPages { log2, left }) => Answer {
+            kind: NO_PAGES,
+            value: left,
+            log2,
+        },
+        Err(Contended) => bare(CONTENDED),
+    }
+}
+
+/// The answer for what a try of a search came to.
+#[inline(always)]
+pub fn search_answer(tried: Result<Option<u64>, Contended>) -> Answer
+    ensures { result ≡ search_answer_of tried }
+{
+    match tried {
+        Ok(found) => told(found, ABSENT, FOUND),
+        Err(Contended) => bare(CONTENDED),
+    }
+}
+
+/// The number for a split that was refused.
+pub fn split_refusal(fault: SplitFault) -> u32
+    ensures { result ≡ split_number fault }
+{
+    match fault {
+        SplitFault::Memory => MEMORY,
+        SplitFault::Numbers => NUMBERS,
+        SplitFault::Contended => CONTENDED,
+    }
+}
+
+/// The number for a close that was refused.
+pub fn close_refusal(fault: CloseFault) -> u32
+    ensures { result ≡ close_number fault }
+{
+    match fault {
+        CloseFault::Strangers => STRANGERS,
+        CloseFault::Memory => MEMORY,
+    }
+}
+
+/// The number for a renewal that was refused.
+pub fn renew_refusal(fault: RenewFault) -> u32
+    ensures { result ≡ renew_number fault }
+{
+    match fault {
+        RenewFault::Strangers => STRANGERS,
+        RenewFault::Memory => MEMORY,
+    }
+}
+
+/// The bucket and the stamp, for C.
+pub fn stamp_answer(stamp: Option<(u64, u64)>) -> Stamp
+    ensures { result ≡ stamp_told stamp }
+{
+    match stamp {
+        None => Stamp {
+            known: 0,
+            bucket: 0,
+            stamp: 0,
+        },
+        Some((bucket, stamp)) => Stamp {
+            known: 1,
+            bucket,
+            stamp,
+        },
+    }
+}

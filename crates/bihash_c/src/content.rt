@@ -1,0 +1,14 @@
+//! What is behind a handle.
+use crate::member::Member;
+use bihash_words::Shape;
+
+/// What is behind a handle.
+#[derive(Drop)]
+pub enum Content<S: Shape> {
+    /// Nothing.
+    Empty,
+    /// A caller with its table.
+    Caller(Member<S>),
+    /// The pairs of a table that was closed.
+    Pairs(Vec<(S::Key, u64)>),
+}

@@ -1,0 +1,150 @@
+//! What C calls on the keys of a table of IPv6 flows: one try each.
+ghost use Rattle.std.specs.Prelude.{◌≢◌};
+ghost use Rattle.bihash_words.specs.Patches.{free_mark, set_if_absent, set_if_present};
+ghost use Rattle.bihash_words.specs.declared.patch.Change.TheVariants.{Remove, Set};
+ghost use Rattle.bihash_c.specs.Contents.{Calls, HasCaller, RecycleTold, SearchTold, UpdateTold};
+ghost use Rattle.bihash_c.specs.Expiries.{is_below};
+ghost use Rattle.bihash_c.specs.Handles6.{content_in};
+
+use crate::answer::Answer;
+use crate::handle6::Handle6;
+use crate::mask_expiry::MaskExpiry;
+use bihash_words::{Add, AddIfAbsent, Delete, Patch, Shape, ShapeV6, Touch};
+use std::alloc::Global;
+
+/// The value of the key.
+#[unsafe(no_mangle)]
+pub extern "C" fn bihash6_search(alloc: Global, handle: &mut Handle6, key: &[u64; 5]) -> Answer
+    requires { HasCaller (content_in handle.old.place) }
+    ensures { Calls (content_in handle.old.place) (content_in handle.new.place)
+        (SearchTold ⟦<ShapeV6 as Shape>⟧ key.now result) }
+{
+    let mut place = handle.take(alloc);
+    let answer = place.as_mut().content.search(key);
+    handle.put(place);
+    answer
+}
+
+/// Sets the value, whatever was found.
+#[unsafe(no_mangle)]
+pub extern "C" fn bihash6_add(
+    alloc: Global,
+    handle: &mut Handle6,
+    key: &[u64; 5],
+    value: u64,
+) -> Answer
+    requires full { HasCaller (content_in handle.old.place) }
+    requires storable { value ≢ free_mark }
+    ensures { Calls (content_in handle.old.place) (content_in handle.new.place)
+        (UpdateTold ⟦<ShapeV6 as Shape>⟧ key.now (λ _. Set value) result) }
+{
+    update(alloc, handle, key, &Add { value })
+}
+
+/// Sets the value where there is none.
+#[unsafe(no_mangle)]
+pub extern "C" fn bihash6_add_if_absent(
+    alloc: Global,
+    handle: &mut Handle6,
+    key: &[u64; 5],
+    value: u64,
+) -> Answer
+    requires full { HasCaller (content_in handle.old.place) }
+    requires storable { value ≢ free_mark }
+    ensures { Calls (content_in handle.old.place) (content_in handle.new.place)
+        (UpdateTold ⟦<ShapeV6 as Shape>⟧ key.now (set_if_absent value) result) }
+{
+    update(alloc, handle, key, &AddIfAbsent { value })
+}
+
+/// Sets the value where there is one.
+#[unsafe(no_mangle)]
+pub extern "C" fn bihash6_touch(
+    alloc: Global,
+    handle: &mut Handle6,
+    key: &[u64; 5],
+    value: u64,
+) -> Answer
+    requires full { HasCaller (content_in handle.old.place) }
+    requires storable { value ≢ free_mark }
+    ensures { Calls (content_in handle.old.place) (content_in handle.new.place)
+        (UpdateTold ⟦<ShapeV6 as Shape>⟧ key.now (set_if_present value) result) }
+{
+    update(alloc, handle, key, &Touch { value })
+}
+
+/// Removes the value.
+#[unsafe(no_mangle)]
+pub extern "C" fn bihash6_remove(alloc: Global, handle: &mut Handle6, key: &[u64; 5]) -> Answer
+    requires { HasCaller (content_in handle.old.place) }
+    ensures { Calls (content_in handle.old.place) (content_in handle.new.place)
+        (UpdateTold ⟦<ShapeV6 as Shape>⟧ key.now (λ _. Remove) result) }
+{
+    update(alloc, handle, key, &Delete)
+}
+
+/// Sets the value, whatever was found. In a full bucket it takes the place of an expired pair.
+#[unsafe(no_mangle)]
+pub extern "C" fn bihash6_add_or_recycle(
+    alloc: Global,
+    handle: &mut Handle6,
+    key: &[u64; 5],
+    value: u64,
+    expiry: &MaskExpiry,
+) -> Answer
+    requires full { HasCaller (content_in handle.old.place) }
+    requires storable { value ≢ free_mark }
+    ensures { Calls (content_in handle.old.place) (content_in handle.new.place)
+        (RecycleTold ⟦<ShapeV6 as Shape>⟧ key.now (λ _. Set value) (is_below expiry.now.mask expiry.now.least) result) }
+{
+    recycle(alloc, handle, key, &Add { value }, expiry)
+}
+
+/// Sets the value where there is none. In a full bucket it takes the place of an expired pair.
+#[unsafe(no_mangle)]
+pub extern "C" fn bihash6_add_if_absent_or_recycle(
+    alloc: Global,
+    handle: &mut Handle6,
+    key: &[u64; 5],
+    value: u64,
+    expiry: &MaskExpiry,
+) -> Answer
+    requires full { HasCaller (content_in handle.old.place) }
+    requires storable { value ≢ free_mark }
+    ensures { Calls (content_in handle.old.place) (content_in handle.new.place)
+        (RecycleTold ⟦<ShapeV6 as Shape>⟧ key.now (set_if_absent value) (is_below expiry.now.mask expiry.now.least) result) }
+{
+    recycle(alloc, handle, key, &AddIfAbsent { value }, expiry)
+}
+
+// One try of an update.
+#[inline(always)]
+fn update<P: Patch>(alloc: Global, handle: &mut Handle6, key: &[u64; 5], patch: &P) -> Answer
+    requires { HasCaller (content_in handle.old.place) }
+    ensures { Calls (content_in handle.old.place) (content_in handle.new.place)
+        (UpdateTold ⟦<ShapeV6 as Shape>⟧ key.now (P.decision patch.now) result) }
+{
+    let mut place = handle.take(alloc);
+    let answer = place.as_mut().content.update(key, patch);
+    handle.put(place);
+    answer
+}
+
+// One try of an update with an expiry.
+#[inline(always)]
+fn recycle<P: Patch>(
+    alloc: Global,
+    handle: &mut Handle6,
+    key: &[u64; 5],
+    patch: &P,
+    expiry: &MaskExpiry,
+) -> Answer
+    requires { HasCaller (content_in handle.old.place) }
+    ensures { Calls (content_in handle.old.place) (content_in handle.new.place)
+        (RecycleTold ⟦<ShapeV6 as Shape>⟧ key.now (P.decision patch.now) (is_below expiry.now.mask expiry.now.least) result) }
+{
+    let mut place = handle.take(alloc);
+    let answer = place.as_mut().content.add_or_recycle(key, patch, expiry);
+    handle.put(place);
+    answer
+}

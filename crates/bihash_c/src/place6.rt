@@ -1,0 +1,21 @@
+//! What is behind a handle of a table of IPv6 flows.
+use crate::content::Content;
+use bihash_words::ShapeV6;
+use std::alloc::Global;
+
+/// What is behind a handle of a table of IPv6 flows.
+#[derive(Drop)]
+pub struct Place6 {
+    pub content: Content<ShapeV6>,
+}
+
+impl Place6 {
+    /// A place with nothing at it. `None`: memory was refused.
+    pub(crate) fn empty(alloc: Global) -> Option<Box<Place6, Global>> {
+        let content = Content::Empty;
+        match Box::new(alloc, Place6 { content }) {
+            Ok(place) => Some(place),
+            Err(_) => None,
+        }
+    }
+}

@@ -1,0 +1,307 @@
+-- What was read of an input up to the records of its capture, and what is answered of it once these are judged.
+use Rattle.std.specs.Io.KnownBytes.{IsAtEnd}
+use Rattle.std.specs.Global.{Vec}
+use Rattle.std.proofs.Common.{◌≡◌, ◌∙◌, ◌+◌, ◌-◌, ◌≤◌, ◌⊎◌, ℕ, Bool, true, false, true≢false, List, [], ◌∷◌, ◌++◌, Option, Some, None, IfOk, IfErr, Result, Ok, Err, is_some, drop, length, append-nil, append_assoc, arith, refl, sym, ap, subst, inl, inr}
+use Rattle.std.proofs.Math.Seq.{drop-append-add}
+use Rattle.std.proofs.lemmas.List.{drop-append-le, length-append}
+use Rattle.std.proofs.lemmas.List.Filters.{length-filter_both}
+use Rattle.std.specs.Prelude.{not}
+use Rattle.hex.proofs.HexLemmas.{decode_of-ok}
+use Rattle.packet_view.specs.Captures.{AreRecords, HasHeader, IsCaptureFault, IsHeaderFault}
+use Rattle.packet_view.specs.declared.capture.CaptureFault.{CaptureFault}
+use Rattle.packet_view.specs.declared.capture.CaptureFault.TheVariants as capture
+use Rattle.packet_view.specs.declared.capture.Order.{Order}
+use Rattle.packet_view.proofs.CaptureLemmas.{IsHeaderOf, fault_of_header, long_is_wrong, long_refuses}
+use Rattle.packet_view.proofs.FrontLemmas.{behind_header_appended, header_appended}
+use Rattle.acl_policy.specs.Policies.{PolicyFacts, policy_facts}
+use Rattle.racl_words.specs.declared.settings.Options.{Options}
+use Rattle.racl_io.specs.declared.fault.Fault.{Fault}
+use Rattle.racl_io.specs.declared.fault.Fault.TheVariants.{Hex, Memory, Read, TooLarge, LongRecord}
+use Rattle.racl_io.specs.declared.input.Form.{Form}
+use Rattle.racl_io.specs.declared.input.Form.TheVariants.{Binary, Hexadecimal}
+use Rattle.racl_io.specs.Faults.{capture_fault}
+use Rattle.racl_io.specs.Inputs.{InputFacts, IsContent, IsInput, IsMarked, digits_of, is_blank, most_bytes}
+use Rattle.racl_io.specs.Transfers.{GaveAtMost, HasReadWithin}
+use Rattle.capture_stream.specs.Streams.{HasLongRecord, IsStreamFault, records_in}
+use Rattle.capture_stream.specs.declared.stream.Opening.{Opening}
+use Rattle.racl_cli.specs.Reads.{AnswersInput, AnswersRead, HasJudged, HasOpened, HasRecordsAt, IsHeaded, IsSaid, having_records}
+use Rattle.racl_cli.specs.Runs.{Outcome}
+use Rattle.racl_cli.specs.declared.opening.Opened.{Opened}
+use Rattle.racl_cli.proofs.OutcomeLemmas.{capture_answers, hex_answers, memory_answers, verdicts_answer}
+use Rattle.racl_cli.proofs.ReadLemmas.{all_known, gave_none, too_many_known}
+
+marked_appended : (capture marked more : List ℕ) → 24 ≤ length capture → IsMarked Binary capture marked → IsMarked Binary (capture ++ more) (marked ++ more)
+marked_appended capture marked more long (inl (line, marker, same)) =
+    inl (line, marker, ap (λ (b : List ℕ). b ++ more) same ∙ append_assoc line (10 ∷ capture) more)
+marked_appended capture marked more long (inr (word, empty)) = absurd (let none = ap length empty in omega (arith, long, none))
+
+-- the parts of an input whose binary capture goes on
+input_appended : (text capture bytes more : List ℕ) → 24 ≤ length capture → IsInput bytes (record { policy = text; form = Binary; content = capture })
+    → IsInput (bytes ++ more) (record { policy = text; form = Binary; content = capture ++ more })
+input_appended text capture bytes more long is = record {
+  lines = is.lines;
+  plain = is.plain;
+  policy = is.policy;
+  marked = is.marked ++ more;
+  parted = ap (λ (b : List ℕ). b ++ more) is.parted ∙ append_assoc text is.marked more;
+  content = marked_appended capture is.marked more long is.content;
+}
+
+-- the capture stands at the end of the input
+pub record StandsLast (bytes capture : List ℕ) : Type 0 where
+  pub front : List ℕ
+  pub parted : bytes ≡ front ++ capture
+
+pub capture_stands : (text capture bytes : List ℕ) → 24 ≤ length capture → IsInput bytes (record { policy = text; form = Binary; content = capture }) → StandsLast bytes capture
+capture_stands text capture bytes long is = elim is.content [
+  | inl (line, marker, same) ↦ record {
+    front = text ++ (line ++ 10 ∷ []);
+    parted = is.parted ∙ ap (λ (b : List ℕ). text ++ b) (same ∙ sym (append_assoc line (10 ∷ []) capture)) ∙ sym (append_assoc text (line ++ 10 ∷ []) capture);
+  }
+  | inr (word, empty) ↦ absurd (let none = ap length empty in omega (arith, long, none))
+]
+
+pub records_within_input : (bytes capture : List ℕ) → StandsLast bytes capture → 24 ≤ length capture → length bytes - length capture + 24 ≤ length bytes
+records_within_input bytes capture last long = let whole = ap length last.parted in let sizes = length-append last.front capture in omega arith
+
+pub records_behind_header : (bytes capture : List ℕ) → StandsLast bytes capture → drop (length bytes - length capture + 24) bytes ≡ drop 24 capture
+records_behind_header bytes capture last =
+    let whole = ap length last.parted in let sizes = length-append last.front capture in
+    let place : length bytes - length capture + 24 ≡ length last.front + 24 = omega arith in
+    ap (λ n. drop n bytes) place ∙ ap (drop (length last.front + 24)) last.parted ∙ drop-append-add last.front capture 24
+
+-- ---- a capture whose header is refused
+
+header_one : (bytes : List ℕ) (found : CaptureFault) → ((order : Order) → HasHeader order bytes → ⊥)
+    → ((cause : CaptureFault) → IsHeaderFault bytes cause → found ≡ cause) → (cause : CaptureFault) → IsCaptureFault bytes cause → found ≡ cause
+header_one bytes found none one capture.Short is = one capture.Short is
+header_one bytes found none one capture.Magic is = one capture.Magic is
+header_one bytes found none one capture.Version is = one capture.Version is
+header_one bytes found none one capture.LinkType is = one capture.LinkType is
+header_one bytes found none one (capture.LongRecord number) (order, packets, rest, right, all, long, counted) = absurd (none order right)
+header_one bytes found none one capture.Memory is = absurd is
+
+pub header_answers : (options : Options) (bytes : List ℕ) (parts : InputFacts) (policy : PolicyFacts) → IsInput bytes parts → IsSaid parts.policy policy
+    → (capture : List ℕ) → IsContent parts.form parts.content capture → (found : CaptureFault) → IsHeaderFault capture found
+    → ((order : Order) → HasHeader order capture → ⊥) → ((cause : CaptureFault) → IsHeaderFault capture cause → found ≡ cause)
+    → AnswersInput options bytes (Err (capture_fault found))
+header_answers options bytes parts policy parted said capture spelt found is none one =
+    capture_answers options bytes parts policy parted said capture spelt found (λ packets end all. none all.0 all.2)
+    (fault_of_header capture found is) (header_one capture found none one)
+
+-- digits that stand for no capture, or memory ran out
+pub digits_answer : (options : Options) (bytes : List ℕ) (parts : InputFacts) (policy : PolicyFacts) → IsInput bytes parts → IsSaid parts.policy policy
+    → parts.form ≡ Hexadecimal → (found : Fault)
+    → (found ≡ Memory) ⊎ ((found ≡ Hex) × ((capture : List ℕ) → IsContent Hexadecimal parts.content capture → ⊥))
+    → AnswersInput options bytes (Err found)
+digits_answer options bytes parts policy parted said form found (inl memory) =
+    subst (λ (e : Fault). AnswersInput options bytes (Err e)) (sym memory) (memory_answers options bytes parts policy parted said)
+digits_answer options bytes parts policy parted said form found (inr (hex, none)) =
+    subst (λ (e : Fault). AnswersInput options bytes (Err e)) (sym hex)
+    (hex_answers options bytes parts policy parted said (λ capture is. none capture (subst (λ (f : Form). IsContent f parts.content capture) form is)))
+
+-- ---- a capture with a header
+
+-- all bytes of an input with a right policy, and where the records of its capture stand
+record HasRecords (bytes : List ℕ) (policy : PolicyFacts) (order : Order) (records : List ℕ) : Type 0 where
+  pub parts : InputFacts
+  pub parted : IsInput bytes parts
+  pub said : IsSaid parts.policy policy
+  pub capture : List ℕ
+  pub spelt : IsContent parts.form parts.content capture
+  pub header : IsHeaderOf order capture
+  pub behind : records ≡ drop 24 capture
+
+header_of : (order : Order) (capture : List ℕ) → IsHeaded order capture → IsHeaderOf order capture
+header_of order capture h = record { right = h.right; one = h.one; none = h.none }
+
+abbrev as_it_is : List ℕ → List ℕ → InputFacts
+as_it_is text capture = record { policy = text; form = Binary; content = capture }
+
+-- a capture that stands in the input as it is
+in_binary : (bytes : List ℕ) (form : Form) (text content capture : List ℕ) → form ≡ Binary → IsContent form content capture
+    → IsInput bytes (record { policy = text; form = form; content = content }) → IsInput bytes (as_it_is text capture)
+in_binary bytes form text content capture same spelt is =
+    let plain : capture ≡ content = subst (λ (f : Form). IsContent f content capture) same spelt in
+    subst (λ (c : List ℕ). IsInput bytes (as_it_is text c)) (sym plain)
+    (subst (λ (f : Form). IsInput bytes (record { policy = text; form = f; content = content })) same is)
+
+-- more bytes of the input are more bytes of its capture
+records_more : (bytes read : List ℕ) (policy : PolicyFacts) (order : Order) (text capture : List ℕ) (from : ℕ) → IsInput bytes (as_it_is text capture)
+    → IsSaid text policy → IsHeaded order capture → from ≤ length bytes → drop from bytes ≡ drop 24 capture
+    → HasRecords (bytes ++ read) policy order (drop from (bytes ++ read))
+records_more bytes read policy order text capture from parted said header within behind = record {
+  parts = as_it_is text (capture ++ read);
+  parted = input_appended text capture bytes read header.right.whole parted;
+  said = said;
+  capture = capture ++ read;
+  spelt = refl;
+  header = header_appended order capture read (header_of order capture header);
+  behind = drop-append-le from bytes read within ∙ ap (λ (b : List ℕ). b ++ read) behind ∙ sym (behind_header_appended capture read header.right.whole);
+}
+
+-- What an opening of the input is made of: its bytes, or those that its digits stand for, which are all there.
+abbrev pub HasBytes : List ℕ → Option (Vec ℕ) → List ℕ → Bool → Type 0
+HasBytes front None bytes ended = bytes ≡ front
+HasBytes front (Some decoded) bytes ended = (bytes ≡ decoded.items) × (ended ≡ true)
+
+pub has_bytes : (front bytes : List ℕ) (decoded : Option (Vec ℕ)) (ended : Bool) → bytes ≡ having_records front decoded
+    → (is_some decoded ≡ true → ended ≡ true) → HasBytes front decoded bytes ended
+has_bytes front bytes None ended same whole = same
+has_bytes front bytes (Some decoded) ended same whole = (same, whole refl)
+
+records_at : (options : Options) (front bytes read : List ℕ) (opened : Opened) (ended : Bool) (decoded : Option (Vec ℕ)) → decoded ≡ opened.decoded
+    → HasOpened options front opened → HasBytes front decoded bytes ended → (ended ≡ true → read ≡ [])
+    → HasRecords (front ++ read) (policy_facts opened.filter.policy) opened.order (drop opened.from (bytes ++ read))
+records_at options front bytes read opened ended None none has same all =
+    let at : HasRecordsAt front has.parts has.capture opened.from None = subst (HasRecordsAt front has.parts has.capture opened.from) (sym none) has.records in
+    let plain = in_binary front has.parts.form has.parts.policy has.parts.content has.capture at.0 has.spelt has.parted in
+    let records = records_more front read (policy_facts opened.filter.policy) opened.order has.parts.policy has.capture opened.from plain has.policy has.header at.1 at.2 in
+    subst (λ (b : List ℕ). HasRecords (front ++ read) (policy_facts opened.filter.policy) opened.order (drop opened.from (b ++ read))) (sym same) records
+records_at options front bytes read opened ended (Some decoded) some has (same, whole) all =
+    let at : HasRecordsAt front has.parts has.capture opened.from (Some decoded) = subst (HasRecordsAt front has.parts has.capture opened.from) (sym some) has.records in
+    let none = all whole in
+    let behind : drop opened.from (bytes ++ []) ≡ drop 24 has.capture =
+    ap (drop opened.from) (append-nil bytes ∙ same ∙ at.1) ∙ ap (λ n. drop n has.capture) at.0 in
+    let records : HasRecords front (policy_facts opened.filter.policy) opened.order (drop opened.from (bytes ++ [])) = record {
+      parts = has.parts;
+      parted = has.parted;
+      said = has.policy;
+      capture = has.capture;
+      spelt = has.spelt;
+      header = header_of opened.order has.capture has.header;
+      behind = behind;
+    } in
+    subst (λ (r : List ℕ). HasRecords (front ++ r) (policy_facts opened.filter.policy) opened.order (drop opened.from (bytes ++ r))) (sym none)
+    (subst (λ (b : List ℕ). HasRecords b (policy_facts opened.filter.policy) opened.order (drop opened.from (bytes ++ []))) (sym (append-nil front)) records)
+
+-- an opening of the input stands where its records begin
+pub record IsOpeningOf (front : List ℕ) (opened : Opened) (opening : Opening) : Type 0 where
+  pub from : opening.from ≡ opened.from
+  pub order : opening.order ≡ opened.order
+  pub few : length front ≤ most_bytes
+  pub bytes : HasBytes front opened.decoded opening.bytes.items opening.ended
+
+-- all bytes of the input aren't too many where those of the opening aren't
+few_in_all : (front bytes read : List ℕ) (ended : Bool) (decoded : Option (Vec ℕ)) → HasBytes front decoded bytes ended → (ended ≡ true → read ≡ [])
+    → length front ≤ most_bytes → length bytes + length read ≤ most_bytes → length (front ++ read) ≤ most_bytes
+few_in_all front bytes read ended None same all few fits = let sizes = length-append front read in let e = ap length same in omega arith
+few_in_all front bytes read ended (Some decoded) (same, whole) all few fits =
+    let sizes = length-append front read in let none = ap length (all whole) in omega arith
+
+many_in_all : (front bytes : List ℕ) (ended : Bool) (decoded : Option (Vec ℕ)) → HasBytes front decoded bytes ended → ended ≡ false → bytes ≡ front
+many_in_all front bytes ended None same more = same
+many_in_all front bytes ended (Some decoded) (same, whole) more = absurd (true≢false (sym whole ∙ more))
+
+-- ---- sizes
+
+not_twice : (b : Bool) → b ≡ not (not b)
+not_twice true = refl
+not_twice false = refl
+
+content_short : (form : Form) (content capture : List ℕ) → IsContent form content capture → length capture ≤ length content
+content_short Binary content capture is = let e = ap length is in omega arith
+content_short Hexadecimal content capture is =
+    let twice = (decode_of-ok (digits_of content) capture is).2 in
+    let all = length-filter_both (λ b. not (is_blank b)) is_blank (λ b. not_twice (is_blank b)) content in
+    omega arith
+
+content_inside : (bytes : List ℕ) (parts : InputFacts) → IsInput bytes parts → length parts.content ≤ length bytes
+content_inside bytes parts is =
+    let whole = ap length is.parted in
+    let sizes = length-append parts.policy is.marked in
+    elim is.content [
+      | inl (line, marker, same) ↦ let marked = ap length same in let more = length-append line (10 ∷ parts.content) in omega arith
+      | inr (word, none) ↦ let empty = ap length none in omega arith
+    ]
+
+-- the records of an opening begin within its bytes, and these aren't too many
+may_at : (options : Options) (front bytes : List ℕ) (opened : Opened) (ended : Bool) (decoded : Option (Vec ℕ)) → decoded ≡ opened.decoded
+    → HasOpened options front opened → HasBytes front decoded bytes ended → length front ≤ most_bytes
+    → (opened.from ≤ length bytes) × (length bytes ≤ most_bytes)
+may_at options front bytes opened ended None none has same few =
+    let at : HasRecordsAt front has.parts has.capture opened.from None = subst (HasRecordsAt front has.parts has.capture opened.from) (sym none) has.records in
+    let within = at.1 in let e = ap length same in (omega arith, omega arith)
+may_at options front bytes opened ended (Some decoded) some has (same, whole) few =
+    let at : HasRecordsAt front has.parts has.capture opened.from (Some decoded) = subst (HasRecordsAt front has.parts has.capture opened.from) (sym some) has.records in
+    let begins = at.0 in
+    let all = ap length (same ∙ at.1) in
+    let header = has.header.right.whole in
+    let short = content_short has.parts.form has.parts.content has.capture has.spelt in
+    let inside = content_inside front has.parts has.parted in
+    (omega arith, omega arith)
+
+pub opening_may : (options : Options) (front bytes : List ℕ) (opened : Opened) (ended : Bool) → HasOpened options front opened
+    → HasBytes front opened.decoded bytes ended → length front ≤ most_bytes → (opened.from ≤ length bytes) × (length bytes ≤ most_bytes)
+opening_may options front bytes opened ended has of few = may_at options front bytes opened ended opened.decoded refl has of few
+
+-- what is read behind the bytes of an opening is read behind the input's
+pub within_front : {R X : Type 0} (left : R → Option (List ℕ)) (failures : R → ℕ) (before after : R) (front bytes : List ℕ) (ended : Bool)
+    (decoded : Option (Vec ℕ)) (result : Result X Fault) → HasBytes front decoded bytes ended → (ended ≡ true → IsAtEnd (left before))
+    → HasReadWithin left failures (most_bytes + 1 - length bytes) before after result
+    → HasReadWithin left failures (most_bytes + 1 - length front) before after result
+within_front left failures before after front bytes ended None result same at_end within = record {
+  gave = subst (λ n. GaveAtMost (left before) (left after) (most_bytes + 1 - n)) (ap length same) within.gave;
+  failed = within.failed;
+}
+within_front left failures before after front bytes ended (Some decoded) result (same, whole) at_end within = record {
+  gave = gave_none (left before) (left after) _ _ (at_end whole) within.gave;
+  failed = within.failed;
+}
+
+-- ---- what is answered
+
+module _ (options : Options) (front : List ℕ) (opened : Opened) (opening : Opening) (is : IsOpeningOf front opened opening) (has : HasOpened options front opened) where
+  stands : (read : List ℕ) → (opening.ended ≡ true → read ≡ [])
+      → HasRecords (front ++ read) (policy_facts opened.filter.policy) opening.order (records_in opening read)
+  stands read all =
+      subst (λ (o : Order). HasRecords (front ++ read) (policy_facts opened.filter.policy) o (records_in opening read)) (sym is.order)
+      (subst (λ n. HasRecords (front ++ read) (policy_facts opened.filter.policy) opened.order (drop n (opening.bytes.items ++ read))) (sym is.from)
+      (records_at options front opening.bytes.items read opened opening.ended opened.decoded refl has is.bytes all))
+
+  judged_answers : (before after : Option (List ℕ)) (outcome : Outcome) → HasJudged options (policy_facts opened.filter.policy) opening before after outcome
+      → AnswersRead options front before (Ok outcome)
+  judged_answers before after outcome judged =
+      let at = stands judged.read judged.whole.all in
+      let few = few_in_all front opening.bytes.items judged.read opening.ended opened.decoded is.bytes judged.whole.all is.few judged.whole.few in
+      let all : AreRecords opening.order (drop 24 at.capture) judged.packets judged.rest =
+      subst (λ (b : List ℕ). AreRecords opening.order b judged.packets judged.rest) at.behind judged.records in
+      inr (record {
+        read = judged.read;
+        known = all_known before after judged.read judged.whole.consumed judged.whole.ended;
+        few = few;
+        answers = verdicts_answer options (front ++ judged.read) at.parts (policy_facts opened.filter.policy) at.parted at.said at.capture at.spelt opening.order
+            at.header judged.packets judged.rest outcome few all judged.end judged.reached;
+      })
+
+  long_answers : (before after : Option (List ℕ)) (number : ℕ) → HasLongRecord opening before after number
+      → AnswersRead options front before (Err (LongRecord number))
+  long_answers before after number long =
+      let at = stands long.read long.whole.all in
+      let few = few_in_all front opening.bytes.items long.read opening.ended opened.decoded is.bytes long.whole.all is.few long.whole.few in
+      let all : AreRecords opening.order (drop 24 at.capture) long.packets long.rest =
+      subst (λ (b : List ℕ). AreRecords opening.order b long.packets long.rest) at.behind long.records in
+      inr (record {
+        read = long.read;
+        known = all_known before after long.read long.whole.consumed long.whole.ended;
+        few = few;
+        answers = capture_answers options (front ++ long.read) at.parts (policy_facts opened.filter.policy) at.parted at.said at.capture at.spelt (capture.LongRecord number)
+            (long_is_wrong opening.order at.capture at.header long.packets long.rest all long.long)
+            (opening.order, long.packets, long.rest, at.header.right, all, long.long, long.counted)
+            (λ cause of. ap capture.LongRecord long.counted ∙ sym (long_refuses opening.order at.capture at.header long.packets long.rest all long.long cause of));
+      })
+
+  fault_answers : (before after : Option (List ℕ)) (fault : Fault) → IsStreamFault opening before after fault → AnswersRead options front before (Err fault)
+  fault_answers before after Memory of = inl (Memory, refl, inl refl)
+  fault_answers before after Read of = inl (Read, refl, inr (inl refl))
+  fault_answers before after TooLarge (more, gone, consumed, many) =
+      let same = ap length (many_in_all front opening.bytes.items opening.ended opened.decoded is.bytes more) in
+      inl (TooLarge, refl, inr (inr (refl, too_many_known (length front) before after gone consumed (omega arith))))
+  fault_answers before after (LongRecord number) of = long_answers before after number of
+  fault_answers before after fault of = absurd of
+
+  pub stream_answers : (before after : Option (List ℕ)) (result : Result Outcome Fault)
+      → IfOk result (HasJudged options (policy_facts opened.filter.policy) opening before after) → IfErr result (IsStreamFault opening before after)
+      → AnswersRead options front before result
+  stream_answers before after (Ok outcome) judged fault = judged_answers before after outcome judged
+  stream_answers before after (Err found) judged fault = fault_answers before after found fault

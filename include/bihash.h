@@ -1,0 +1,283 @@
+/* A session table that many threads share without a lock round it: keys of two words (IPv4 flows, bihash4_..) or of
+   five words (IPv6 flows, bihash6_..), each with a value of 64 bits. Link libbihash_c.a, behind it liblibc_c.a (the
+   toolchain's three functions over malloc), and the C library. It needs C11, or C++.
+
+   A thread calls the table through a handle of its own, a caller: bihash4_create makes the first, bihash4_split one for
+   each other thread, bihash4_join takes one back. Each call is one try. Where another caller stood in its way it
+   answers BIHASH_CONTENDED and has done nothing: try again, as the functions at the end of this page do. A caller that
+   writes holds its bucket while it does; where the system takes the processor from it just then, others on that bucket
+   are answered CONTENDED until it goes on, so a loop may yield after some tries.
+
+   What one caller was answered, another finds: the answered calls on a key stand in one order, and a call that begins
+   after another was answered stands behind it. Calls order no other memory: what a value points to is handed on by
+   other means.
+
+   A bucket has its pairs in a block of 1, 2, 4 .. or 64 of the table's pages, of 4 places each. With keys spread at
+   random a new table of keys of two words took some 28,000 pairs until a bucket's next block wasn't there (7,000 of five
+   words), and some 12,000 where pairs came and went, since a block that was given back serves blocks of its size alone.
+   The hash has no seed: whoever chooses keys can choose their bucket.
+
+   What the library is owed, since no compiler checks it:
+   - A handle is what the last call left there. It is never copied, written or read by others, and each call has it for
+     itself: two threads never give one handle to calls at the same time. One that goes to another thread goes by the
+     start or the end of a thread, a lock, or a sequentially consistent atomic.
+   - Where a call takes a caller, the handle has one: it was made by create or split, and has not been joined, closed or
+     freed since. pair_count and pair_at take pairs, which a closed table left; free takes a caller or pairs, and
+     nothing else.
+   - Where a call takes two handles, these are two different ones, of one table.
+   - A key points to two words, or five, and a value that is set isn't BIHASH_NO_VALUE (all ones).
+   - malloc, realloc and free are those of one allocator, and no call is made from a signal handler or in the forked
+     child of a process with threads.
+   No call keeps a pointer that it was given. Only create, split, renew and close ask for memory, and adding to a table
+   does not: its words are taken when it is made. Where memory is refused nothing is lost. */
+#ifndef BIHASH_H
+#define BIHASH_H
+
+#include <stdbool.h>
+#include <stdint.h>
+
+#ifdef __cplusplus
+extern "C" {
+#endif
+
+/* A caller with its table, or the pairs of a table that was closed, or nothing. */
+typedef struct bihash4_handle {
+  void *at;
+} bihash4_handle;
+
+typedef struct bihash6_handle {
+  void *at;
+} bihash6_handle;
+
+/* A handle with nothing behind it. */
+#define BIHASH_NO_HANDLE {0}
+
+/* The value that may not be set. */
+#define BIHASH_NO_VALUE UINT64_MAX
+
+enum bihash_kind {
+  BIHASH_ABSENT = 0,     /* nothing was changed: the key has no value */
+  BIHASH_FOUND = 1,      /* nothing was changed: the key has `value` */
+  BIHASH_ADDED = 2,      /* done: the key had no value */
+  BIHASH_REPLACED = 3,   /* done: the key had `value`, and has another one now, or none */
+  BIHASH_WORN = 4,       /* not done, until a renewal: the bucket was changed 2^33 - 1 times; the key has no value */
+  BIHASH_WORN_FOUND = 5, /* the same; the key has `value` */
+  BIHASH_FULL = 6,       /* not done: the key has no value, and its bucket has no room for another key */
+  BIHASH_NO_PAGES = 7,   /* not done: the key has no value, and its bucket needs a block of 2^`log2` pages, which isn't
+                            there; `pages_left` pages were never used. A bucket gives its block back when its last pair
+                            is removed */
+  BIHASH_CONTENDED = 8,  /* nothing was done: another caller stood in the way; try again */
+  BIHASH_MEMORY = 9,     /* nothing was done: memory was refused */
+  BIHASH_NUMBERS = 10,   /* nothing was done: the table had 65,535 callers, and can have no more */
+  BIHASH_STRANGERS = 11  /* nothing was done: another caller of the table is left */
+};
+
+/* What the calls on callers answer where they are done. */
+#define BIHASH_DONE 0
+
+/* The answer of a call on a key. Where the kind says nothing of a field it is 0. */
+typedef struct bihash_answer {
+  uint32_t kind; /* an enum bihash_kind */
+  union {
+    uint64_t value;
+    uint64_t pages_left;
+  };
+  uint64_t log2;
+} bihash_answer;
+
+/* Which values count as expired: those whose bits that `mask` has are, as a number, below `least`. */
+typedef struct bihash_expiry {
+  uint64_t mask;
+  uint64_t least;
+} bihash_expiry;
+
+/* The bucket of the last answered call of a caller, and how many changes the bucket had when it was done, its own
+   included: the call that made change n has stamp n, and calls that changed nothing and have stamp n came after it. The
+   answered calls of all callers on one bucket came in the order of their stamps. A pair that takes the place of another
+   is one change. `known` is 0 where no call was answered yet. */
+typedef struct bihash_stamp {
+  uint32_t known;
+  uint64_t bucket;
+  uint64_t stamp;
+} bihash_stamp;
+
+typedef struct bihash4_pair {
+  uint64_t key[2];
+  uint64_t value;
+} bihash4_pair;
+
+typedef struct bihash6_pair {
+  uint64_t key[5];
+  uint64_t value;
+} bihash6_pair;
+
+/* ---- Callers ---- */
+
+/* A new table of 4,096 buckets of up to 256 pairs each and 65,536 places in all, with its first caller at `handle`.
+   What the handle had, if anything, is not freed. DONE, or MEMORY, which leaves the handle as it was. It keeps some
+   1.9 MB, and asks for twice that while it is made. */
+uint32_t bihash4_create(bihash4_handle *handle);
+
+/* A new caller of the table of `handle`, at `fresh`, in the same way. DONE, or MEMORY, NUMBERS or CONTENDED, which
+   leave `fresh` as it was. A table gives 65,535 numbers to callers until it is renewed, and none twice: keep callers for
+   threads to come. */
+uint32_t bihash4_split(bihash4_handle *handle, bihash4_handle *fresh);
+
+/* Ends the caller `other`, and leaves nothing behind its handle: `handle` is the caller of both from then on, with the
+   stamp that it had. */
+void bihash4_join(bihash4_handle *handle, bihash4_handle *other);
+
+/* Two callers learn of each other's calls. No other call needs this: proofs over several callers begin with it. */
+void bihash4_meet(bihash4_handle *handle, bihash4_handle *other);
+
+/* Whether every other caller of the table was joined into this one, directly or through others. */
+bool bihash4_is_lone(bihash4_handle *handle);
+
+/* The bucket and the stamp of the caller's last answered call. Calls that weren't answered CONTENDED count. */
+bihash_stamp bihash4_stamp(bihash4_handle *handle);
+
+/* ---- Keys: one try each. CONTENDED may be the answer of each, but not to a caller that create or renew made
+   or of which is_lone said so, until it is split ---- */
+
+/* ABSENT or FOUND. */
+bihash_answer bihash4_search(bihash4_handle *handle, const uint64_t key[2]);
+
+/* Sets the value, whatever was found: ADDED, REPLACED, FOUND (it was this value), WORN, WORN_FOUND, FULL or
+   NO_PAGES. */
+bihash_answer bihash4_add(bihash4_handle *handle, const uint64_t key[2], uint64_t value);
+
+/* Sets the value where there is none: ADDED, FOUND, WORN, FULL or NO_PAGES. */
+bihash_answer bihash4_add_if_absent(bihash4_handle *handle, const uint64_t key[2], uint64_t value);
+
+/* Sets the value where there is one, whatever it was: ABSENT, REPLACED, FOUND (it was this value) or WORN_FOUND. */
+bihash_answer bihash4_touch(bihash4_handle *handle, const uint64_t key[2], uint64_t value);
+
+/* Takes the value away: ABSENT, REPLACED or WORN_FOUND. */
+bihash_answer bihash4_remove(bihash4_handle *handle, const uint64_t key[2]);
+
+/* As add, but where the answer would be FULL the new pair takes the place of the expired pair of the bucket with the
+   least key (by its words, the first word first), and the answer is ADDED. FULL: no pair of the bucket is expired.
+   NO_PAGES stays an answer, and no pair goes then. Which pair went isn't told. */
+bihash_answer bihash4_add_or_recycle(bihash4_handle *handle, const uint64_t key[2], uint64_t value,
+                                     const bihash_expiry *expiry);
+
+/* As add_if_absent, in the same way. */
+bihash_answer bihash4_add_if_absent_or_recycle(bihash4_handle *handle, const uint64_t key[2], uint64_t value,
+                                               const bihash_expiry *expiry);
+
+/* ---- The end of a table. Each other caller was joined before, else STRANGERS ---- */
+
+/* Opens the table again: its pairs stay, its buckets count their changes anew, and the caller is the first of it. DONE,
+   or STRANGERS or MEMORY. It asks for three times the table's memory, so there are four of it for a while, and gives
+   that of the old one back. No call counts as answered yet. */
+uint32_t bihash4_renew(bihash4_handle *handle);
+
+/* Ends the table and its caller: the handle has its pairs then. DONE, or STRANGERS or MEMORY. It asks for the table's
+   memory once more, and for the pairs'. */
+uint32_t bihash4_close(bihash4_handle *handle);
+
+/* How many pairs a handle has whose table was closed. */
+uint64_t bihash4_pair_count(bihash4_handle *handle);
+
+/* The pair at a place, counted from 0, in the order of the keys (by their words, the first word first). False, and
+   nothing is written, behind the last. */
+bool bihash4_pair_at(bihash4_handle *handle, uint64_t at, bihash4_pair *pair);
+
+/* Lets go of what the handle has, which must be a caller or pairs, and leaves nothing behind it. A table goes with its
+   last caller. A caller that is freed and not joined is a stranger from then on: its table can't be closed or
+   renewed. */
+void bihash4_free(bihash4_handle *handle);
+
+/* ---- The same for keys of five words: 1,024 buckets, 16,384 places in all, some 0.9 MB ---- */
+
+uint32_t bihash6_create(bihash6_handle *handle);
+uint32_t bihash6_split(bihash6_handle *handle, bihash6_handle *fresh);
+void bihash6_join(bihash6_handle *handle, bihash6_handle *other);
+void bihash6_meet(bihash6_handle *handle, bihash6_handle *other);
+bool bihash6_is_lone(bihash6_handle *handle);
+bihash_stamp bihash6_stamp(bihash6_handle *handle);
+bihash_answer bihash6_search(bihash6_handle *handle, const uint64_t key[5]);
+bihash_answer bihash6_add(bihash6_handle *handle, const uint64_t key[5], uint64_t value);
+bihash_answer bihash6_add_if_absent(bihash6_handle *handle, const uint64_t key[5], uint64_t value);
+bihash_answer bihash6_touch(bihash6_handle *handle, const uint64_t key[5], uint64_t value);
+bihash_answer bihash6_remove(bihash6_handle *handle, const uint64_t key[5]);
+bihash_answer bihash6_add_or_recycle(bihash6_handle *handle, const uint64_t key[5], uint64_t value,
+                                     const bihash_expiry *expiry);
+bihash_answer bihash6_add_if_absent_or_recycle(bihash6_handle *handle, const uint64_t key[5], uint64_t value,
+                                               const bihash_expiry *expiry);
+uint32_t bihash6_renew(bihash6_handle *handle);
+uint32_t bihash6_close(bihash6_handle *handle);
+uint64_t bihash6_pair_count(bihash6_handle *handle);
+bool bihash6_pair_at(bihash6_handle *handle, uint64_t at, bihash6_pair *pair);
+void bihash6_free(bihash6_handle *handle);
+
+/* ---- Tries until one is answered: the calls on keys with `_wait` behind their names ---- */
+
+/* A pause between two tries. */
+static inline void bihash_pause(void) {
+#if defined(__x86_64__)
+  __builtin_ia32_pause();
+#endif
+}
+
+/* The expiry of values whose low 32 bits are the second of their last use: expired at `moment` are those that were not
+   used for more than `timeout` seconds. */
+static inline bihash_expiry bihash_expiry_at(uint32_t moment, uint32_t timeout) {
+  bihash_expiry expiry = {UINT32_MAX, moment > timeout ? moment - timeout : 0};
+  return expiry;
+}
+
+#define BIHASH_WAIT(call)                                                                                              \
+  bihash_answer answer = call;                                                                                         \
+  while (answer.kind == BIHASH_CONTENDED) {                                                                            \
+    bihash_pause();                                                                                                    \
+    answer = call;                                                                                                     \
+  }                                                                                                                    \
+  return answer
+
+#define BIHASH_WAITING(FAMILY, WORDS)                                                                                  \
+  static inline uint32_t FAMILY##_split_wait(FAMILY##_handle *handle, FAMILY##_handle *fresh) {                        \
+    uint32_t answer = FAMILY##_split(handle, fresh);                                                                   \
+    while (answer == BIHASH_CONTENDED) {                                                                               \
+      bihash_pause();                                                                                                  \
+      answer = FAMILY##_split(handle, fresh);                                                                          \
+    }                                                                                                                  \
+    return answer;                                                                                                     \
+  }                                                                                                                    \
+  static inline bihash_answer FAMILY##_search_wait(FAMILY##_handle *handle, const uint64_t key[WORDS]) {               \
+    BIHASH_WAIT(FAMILY##_search(handle, key));                                                                         \
+  }                                                                                                                    \
+  static inline bihash_answer FAMILY##_add_wait(FAMILY##_handle *handle, const uint64_t key[WORDS], uint64_t value) {  \
+    BIHASH_WAIT(FAMILY##_add(handle, key, value));                                                                     \
+  }                                                                                                                    \
+  static inline bihash_answer FAMILY##_add_if_absent_wait(FAMILY##_handle *handle, const uint64_t key[WORDS],          \
+                                                          uint64_t value) {                                            \
+    BIHASH_WAIT(FAMILY##_add_if_absent(handle, key, value));                                                           \
+  }                                                                                                                    \
+  static inline bihash_answer FAMILY##_touch_wait(FAMILY##_handle *handle, const uint64_t key[WORDS],                  \
+                                                  uint64_t value) {                                                    \
+    BIHASH_WAIT(FAMILY##_touch(handle, key, value));                                                                   \
+  }                                                                                                                    \
+  static inline bihash_answer FAMILY##_remove_wait(FAMILY##_handle *handle, const uint64_t key[WORDS]) {               \
+    BIHASH_WAIT(FAMILY##_remove(handle, key));                                                                         \
+  }                                                                                                                    \
+  static inline bihash_answer FAMILY##_add_or_recycle_wait(FAMILY##_handle *handle, const uint64_t key[WORDS],         \
+                                                           uint64_t value, const bihash_expiry *expiry) {              \
+    BIHASH_WAIT(FAMILY##_add_or_recycle(handle, key, value, expiry));                                                  \
+  }                                                                                                                    \
+  static inline bihash_answer FAMILY##_add_if_absent_or_recycle_wait(                                                  \
+      FAMILY##_handle *handle, const uint64_t key[WORDS], uint64_t value, const bihash_expiry *expiry) {               \
+    BIHASH_WAIT(FAMILY##_add_if_absent_or_recycle(handle, key, value, expiry));                                        \
+  }
+
+BIHASH_WAITING(bihash4, 2)
+BIHASH_WAITING(bihash6, 5)
+
+#undef BIHASH_WAITING
+#undef BIHASH_WAIT
+
+#ifdef __cplusplus
+}
+#endif
+
+#endif
