@@ -78,7 +78,11 @@ fn expect_own<'a, R: Abort>(
         let place = first + at;
         assert!(rt; place < packets.len());
         assert_eq!(rt; dealt.packet.frame, packets[place].frame, "packet {place}");
-        assert_eq!(rt; dealt.packet.moment, packets[place].moment, "packet {place}");
+        assert_eq!(rt;
+            dealt.packet.moment,
+            packets[place].moment,
+            "packet {place}"
+        );
     }
     assert!(rt; left.next().is_none(), "worker {worker}");
 }
@@ -98,7 +102,14 @@ fn expect_packets<'a, R: Abort>(
         assert!(rt; next < 8);
         assert_eq!(rt; part.workers.as_slice(), &judges[first..next]);
         for (worker, own) in part.own.as_slice().iter().enumerate() {
-            expect_own(rt, worker, own.as_slice(), packets, first, part.workers.as_slice());
+            expect_own(
+                rt,
+                worker,
+                own.as_slice(),
+                packets,
+                first,
+                part.workers.as_slice(),
+            );
         }
         first = next;
     }
