@@ -1,39 +1,31 @@
 -- The calls of two callers that agree, in one order.
-use Rattle.std.proofs.Common.{◌≡◌, ◌≢◌, ◌⊎◌, ◌∙◌, ◌+◌, ◌<◌, ℕ, List, ◌++◌, length, ap, arith, sym, subst, inl, inr}
+use Rattle.std.proofs.Common.{◌≡◌, ◌∙◌, ◌+◌, ◌<◌, ℕ, List, ◌++◌, ap, sym, subst, inl, inr}
 use mathlib.Core.Option.{some}
 use lib.ListN.{get_elem?}
 use Rattle.bihash_words.specs.Maps.{Pairs}
 use Rattle.bihash_words.specs.Sizes.{Sizes}
 use Rattle.bihash_steps.specs.Words.{buckets}
 use Rattle.bihash_steps.specs.Histories.{IsLegal, IsWriteList}
-use Rattle.bihash_steps.specs.Callers.{Agrees, HasWrite, IsLawfulCaller, Rises, known_at, opening_at}
+use Rattle.bihash_steps.specs.Callers.{Agrees, AreOneList, HasWrite, IsLawfulCaller, known_at, opening_at}
+use Rattle.bihash_steps.specs.Logs.{IsLog, writes_on}
 use Rattle.bihash_steps.specs.declared.view.Write.{Write}
 use Rattle.bihash_steps.specs.declared.view.Call.{Call}
+use Rattle.bihash_steps.specs.declared.view.Entry.{Entry}
+use Rattle.bihash_steps.specs.declared.view.Openings.{Openings}
 use Rattle.bihash_steps.specs.declared.view.Record.{Record}
 use Rattle.bihash_steps.specs.declared.view.View.{View}
 use Rattle.bihash_steps.proofs.Lists.{at_either}
 use Rattle.bihash_laws.specs.Runs.{IsCommonHistory}
 use Rattle.bihash_laws.specs.Serializations.{IsCommonSerialization, Operation}
 use Rattle.bihash_laws.proofs.CommonHistories.{common_history}
-use Rattle.bihash_laws.proofs.Serializing.{AreLawful, serialized, operations}
-use Rattle.bihash_laws.proofs.Operations.{BearOnce}
+use Rattle.bihash_laws.specs.Orders.{IsCommonLog}
+use Rattle.bihash_laws.proofs.LogOrders.{common_log}
+use Rattle.bihash_laws.proofs.Serializing.{AreLogged, serialized, operations}
 
 -- what holds of each element of two lists holds of each of both
 in_both : {A : Type 0} (P : A → Type 0) (xs ys : List A) → ((i : ℕ) (x : A) → get_elem? xs i ≡ some x → P x)
     → ((i : ℕ) (x : A) → get_elem? ys i ≡ some x → P x) → (i : ℕ) (x : A) → get_elem? (xs ++ ys) i ≡ some x → P x
 in_both P xs ys first second i x at = elim (at_either xs ys i x at) [ inl h ↦ first i x h | inr h ↦ second h.0 x h.2 ]
-
--- callers that are apart bear no number twice
-once_both : (rs qs : List Record) → BearOnce rs → BearOnce qs
-    → ((i k : ℕ) (r q : Record) → get_elem? rs i ≡ some r → get_elem? qs k ≡ some q → r.number ≢ q.number) → BearOnce (rs ++ qs)
-once_both rs qs first second apart i k r q other at_i at_k = go (at_either rs qs i r at_i) (at_either rs qs k q at_k)
-  where
-    go : (get_elem? rs i ≡ some r) ⊎ ((n : ℕ) × (i ≡ length rs + n) × (get_elem? qs n ≡ some r))
-        → (get_elem? rs k ≡ some q) ⊎ ((n : ℕ) × (k ≡ length rs + n) × (get_elem? qs n ≡ some q)) → r.number ≢ q.number
-    go (inl a) (inl b) = first i k r q other a b
-    go (inl a) (inr b) = apart i b.0 r q a b.2
-    go (inr a) (inl b) = λ same. apart k a.0 q r b a.2 (sym same)
-    go (inr a) (inr b) = second a.0 b.0 r q (λ same. other (let p = a.1 in let s = b.1 in omega arith)) a.2 b.2
 
 module _ (z : Sizes) (v w : View) (b : ℕ) (one : IsLawfulCaller z v) (two : IsLawfulCaller z w) (agree : Agrees v w)
     (inside : b < buckets z) where
@@ -64,26 +56,47 @@ module _ (z : Sizes) (v w : View) (b : ℕ) (one : IsLawfulCaller z v) (two : Is
       | inr is ↦ sym (ap (λ (l : List Write). get_elem? l n) is) ∙ at
     ]) by
 
-    both_lawful : AreLawful z b (opening_at v.known b) H (v.records ++ w.records)
-    both_lawful = record {
-      legal = λ i k r c at at_k home. in_both
-          (λ (r : Record). (k : ℕ) (c : Call) → get_elem? r.calls k ≡ some c → c.bucket ≡ b → IsLegal z (opening_at v.known b) H r.number c)
-          v.records w.records (λ j q at_j n d. common.legal j n q d at_j) (λ j q at_j n d. common.other_legal j n q d at_j) i r at k c at_k home;
-      rises = in_both (λ (r : Record). Rises r.calls) v.records w.records one.lawful.rises two.lawful.rises;
-      own = λ i n r x at at_n by. in_both
-          (λ (r : Record). (n : ℕ) (x : Write) → get_elem? H n ≡ some x → x.by ≡ r.number → HasWrite r.calls b (n + 1))
-          v.records w.records (λ j q at_j m y. own j m q y at_j) (λ j q at_j m y. other_own j m q y at_j) i r at n x at_n by;
-      once = once_both v.records w.records one.numbers.once two.numbers.once agree.apart;
-      steps = λ n x at. (its_writes.each n x at).changes;
-    }
+    -- the log that has the calls of both, and what it has of the bucket
+    module _ (log : List Entry) (all : IsCommonLog z v w log) where
+      legal : IsLog z v.known.openings log
+      legal = elim all.known [
+        | inl is ↦ subst (IsLog z v.known.openings) (sym is) one.logged.legal
+        | inr is ↦ subst (IsLog z v.known.openings) (sym is) (subst (λ (o : Openings). IsLog z o w.log) (sym agree.known.0) two.logged.legal)
+      ]
+
+      matches : AreOneList (writes_on b log) H
+      matches = elim all.known [
+        | inl is ↦ subst (λ (l : List Entry). AreOneList (writes_on b l) H) (sym is) (elim common.known [
+          | inl same ↦ subst (AreOneList (writes_on b v.log)) (sym same) (one.matches b)
+          | inr same ↦ subst (AreOneList (writes_on b v.log)) (sym same) (agree.other_matches b)
+        ])
+        | inr is ↦ subst (λ (l : List Entry). AreOneList (writes_on b l) H) (sym is) (elim common.known [
+          | inl same ↦ subst (AreOneList (writes_on b w.log)) (sym same) (agree.matches b)
+          | inr same ↦ subst (AreOneList (writes_on b w.log)) (sym same) (two.matches b)
+        ])
+      ]
+
+      both_logged : AreLogged z v.known.openings b log H (v.records ++ w.records)
+      both_logged = record {
+        legal = λ i k r c at at_k home. in_both
+            (λ (r : Record). (k : ℕ) (c : Call) → get_elem? r.calls k ≡ some c → c.bucket ≡ b → IsLegal z (opening_at v.known b) H r.number c)
+            v.records w.records (λ j q at_j n d. common.legal j n q d at_j) (λ j q at_j n d. common.other_legal j n q d at_j) i r at k c at_k home;
+        own = λ i n r x at at_n by. in_both
+            (λ (r : Record). (n : ℕ) (x : Write) → get_elem? H n ≡ some x → x.by ≡ r.number → HasWrite r.calls b (n + 1))
+            v.records w.records (λ j q at_j m y. own j m q y at_j) (λ j q at_j m y. other_own j m q y at_j) i r at n x at_n by;
+        calls = all.order.order;
+        is_log = legal;
+        matches = matches;
+        steps = λ n x at. (its_writes.each n x at).changes;
+      }
 
   pub common_order_at : (history : List Write) × (operations : List Operation) × IsCommonSerialization z b v w history operations
-  common_order_at = let h = common_history z v w one two agree b in (
+  common_order_at = let h = common_history z v w one two agree b in let log = common_log z v w one two agree in (
     h.0,
-    operations z b (opening_at v.known b) h.0 (v.records ++ w.records),
+    operations z v.known.openings b log.0 h.0 (v.records ++ w.records),
     record {
       common = h.1;
-      serial = serialized z b (opening_at v.known b) h.0 (v.records ++ w.records) (both_lawful h.0 h.1);
+      serial = serialized z v.known.openings b log.0 h.0 (v.records ++ w.records) (both_logged h.0 h.1 log.0 log.1);
     },
   )
 

@@ -3,9 +3,7 @@ pub mod CommonHistories
 pub mod CommonSerializations
 pub mod ExpiredPairs
 pub mod LogOrders
+pub mod LoggedCalls
 pub mod MapSteps
-pub mod Moments
 pub mod OneWriter
-pub mod Operations
-pub mod OwnCalls
 pub mod Serializing

@@ -25,7 +25,7 @@ use Rattle.bihash_laws.specs.Serializations.{AreStamped}
 use Rattle.bihash_laws.proofs.MapSteps.{after_next, no_more, one_more, step_changes, step_leaves}
 
 -- the last element of a list
-last_at : {A : Type 0} (xs : List A) (x : A) → get_elem? (xs ++ x ∷ []) (length xs) ≡ some x
+pub last_at : {A : Type 0} (xs : List A) (x : A) → get_elem? (xs ++ x ∷ []) (length xs) ≡ some x
 last_at xs x = let last : length xs ≡ length xs + 0 = omega arith in ap (get_elem? (xs ++ x ∷ [])) last ∙ at_after xs (x ∷ []) 0 x refl
 
 -- ---- The calls on one bucket
@@ -85,7 +85,7 @@ module _ (z : Sizes) (openings : Openings) (b : ℕ) where
       → writes_on b (before ++ e ∷ []) ≡ writes_on b before ++ more
   one_entry before e more own = writes_on-append b before (e ∷ []) ∙ ap (λ (h : List Write). writes_on b before ++ h) own
 
-  follows_here : (before : List Entry) (e : Entry) → e.call.bucket ≡ b → Follows z openings before e
+  pub follows_here : (before : List Entry) (e : Entry) → e.call.bucket ≡ b → Follows z openings before e
       → (e.call.stamp ≡ length (writes_on b (before ++ e ∷ []))) × IsLegal z (opening_in openings b) (writes_on b (before ++ e ∷ [])) e.by e.call
   follows_here before e home f = subst
       (λ (d : ℕ). (e.call.stamp ≡ length (writes_on d (before ++ e ∷ []))) × IsLegal z (opening_in openings d) (writes_on d (before ++ e ∷ [])) e.by e.call)

@@ -1,233 +1,435 @@
--- The calls of lawful records in one order: after each write what was read there, record by record.
-use Rattle.std.proofs.Common.{◌≡◌, ◌⊎◌, ◌∙◌, ◌+◌, ◌*◌, ◌<◌, ◌≤◌, ℕ, suc, Bool, true, false, cond, true≢false, List, [], ◌∷◌, ◌++◌, length, map, ap, arith, refl, sym, subst, inl, inr}
+-- The calls on a bucket in one order: that of the log as far as the known writes go, and behind it the writes that are
+-- known beyond the log.
+use Rattle.std.proofs.Common.{◌≡◌, ◌≢◌, ◌⊎◌, ◌∙◌, ◌+◌, ◌<◌, ◌≤◌, ℕ, zero, suc, Bool, true, false, cond, eqb, None, List, [], ◌∷◌, ◌++◌, length, map, ap, append-nil, append_assoc, arith, length-append, refl, sym, subst, inl, inr}
 use Rattle.std.specs.List.{All, filter}
+use Rattle.std.specs.FinMap.{get}
 use Rattle.std.proofs.lemmas.Bool.Decides.{eqb_tells}
-use Rattle.std.proofs.lemmas.List.Elements.{All-cons, All-head, All-nil, All-tail, All-weaker}
-use lib.Dec.{eqb}
-use mathlib.Core.Option.{some}
+use Rattle.std.proofs.lemmas.List.Elements.{All-cons, All-nil, All-weaker}
+use mathlib.Core.Option.{some, some-ne-none, some-injective}
 use lib.ListN.{get_elem?}
 use Rattle.bihash_words.specs.Maps.{Pairs, IsEvent, written}
 use Rattle.bihash_words.specs.Sizes.{Sizes}
+use Rattle.bihash_words.specs.declared.patch.Reply.TheVariants.{Changed}
 use Rattle.bihash_steps.specs.Words.{buckets}
 use Rattle.bihash_steps.specs.Histories.{IsAnswer, IsLegal, after, bounds_of, event_of, event_of_write, is_changed, write_of}
-use Rattle.bihash_steps.specs.Callers.{HasMade, HasMadeAll, HasNumber, HasWrite, IsLawfulCaller, IsWhole, Rises, known_at, opening_at}
+use Rattle.bihash_steps.specs.Callers.{AreOneList, HasMade, HasMadeAll, HasNumber, HasWrite, IsLawfulCaller, IsWhole, known_at, opening_at, opening_in}
+use Rattle.bihash_steps.specs.Logs as logs
+use Rattle.bihash_steps.specs.Logs.{FollowEach, Follows, IsLog, call_if, writes_on}
 use Rattle.bihash_steps.specs.Steps.{HaveBearers}
 use Rattle.bihash_steps.specs.declared.view.Write.{Write}
 use Rattle.bihash_steps.specs.declared.view.Call.{Call}
+use Rattle.bihash_steps.specs.declared.view.Entry.{Entry}
+use Rattle.bihash_steps.specs.declared.view.Openings.{Openings}
 use Rattle.bihash_steps.specs.declared.view.Record.{Record}
 use Rattle.bihash_steps.specs.declared.view.View.{View}
+use Rattle.bihash_steps.proofs.Lists.{at_after}
+use Rattle.bihash_steps.proofs.LogLemmas.{writes_on-append}
+use Rattle.bihash_steps.proofs.Prefixes.{after_longer}
 use Rattle.bihash_laws.specs.Runs.{AreLegal, IsRun, calls_on, writes_after}
 use Rattle.bihash_laws.specs.Serializations.{AreStamped, IsCalled, IsSerialization, Operation, calls_by, calls_in, writes_in}
-use Rattle.bihash_laws.proofs.MapSteps.{after_next, no_more, step_leaves}
-use Rattle.bihash_laws.proofs.Moments.{at_moment, by_moments, from_moment}
-use Rattle.bihash_laws.proofs.OwnCalls.{AreCalls, Kind, call_of, elsewhere, have_moments, in_order, is_call_of, kind, moment, none_later, own_write, read, write}
-use Rattle.bihash_laws.proofs.Operations.{BearOnce, calls_by-append, calls_by-cons, calls_by-operations_at, operation, operations_at, operations_each}
+use Rattle.bihash_laws.proofs.LogOrders.{follows_here}
+use Rattle.bihash_laws.proofs.LoggedCalls.{called_in, entry_of_call, more_else, more_here, more_read, none_on, on_if-else, on_if-here, stamped}
+use Rattle.bihash_laws.proofs.MapSteps.{after_next, no_more, one_more, step_changes, step_leaves}
 
--- Records whose calls on bucket b are lawful on this history, each write of which is a step.
-pub record AreLawful (z : Sizes) (b : ℕ) (opening : Pairs) (H : List Write) (records : List Record) : Type 0 where
-  pub legal : AreLegal z b opening H records
-  pub rises : (i : ℕ) (r : Record) → get_elem? records i ≡ some r → Rises r.calls
+-- ---- Whose a number is
+
+abbrev pub is_own : List Record → ℕ → Bool
+is_own [] n = false
+is_own (r ∷ rs) n = cond (eqb r.number n) true (is_own rs n)
+
+data Owned (rs : List Record) (n : ℕ) : Type 0 where
+  owned : is_own rs n ≡ true → HasNumber rs n → Owned rs n
+  strange : is_own rs n ≡ false → ((i : ℕ) (r : Record) → get_elem? rs i ≡ some r → r.number ≢ n) → Owned rs n
+
+own_tells : (rs : List Record) (n : ℕ) → Owned rs n
+own_tells [] n = strange refl (λ i r at. absurd (some-ne-none r (sym at)))
+own_tells (r ∷ rs) n = elim (eqb_tells r.number n) [
+  | inl (test, is) ↦ owned (ap (λ (t : Bool). cond t true (is_own rs n)) test) (0, r, refl, is)
+  | inr (test, is_not) ↦ go (own_tells rs n) (ap (λ (t : Bool). cond t true (is_own rs n)) test) is_not
+]
+  where
+    neither : r.number ≢ n → ((i : ℕ) (q : Record) → get_elem? rs i ≡ some q → q.number ≢ n) → (i : ℕ) (q : Record)
+        → get_elem? (r ∷ rs) i ≡ some q → q.number ≢ n
+    neither first others zero q at h = first (ap (λ (x : Record). x.number) (some-injective r q at) ∙ h)
+    neither first others (suc i) q at h = others i q at h
+
+    go : Owned rs n → is_own (r ∷ rs) n ≡ is_own rs n → r.number ≢ n → Owned (r ∷ rs) n
+    go (owned here_it has) same first = owned (same ∙ here_it) (suc has.0, has.1, has.2, has.3)
+    go (strange not_it none) same first = strange (same ∙ not_it) (neither first none)
+
+-- ---- Operations
+
+abbrev pub operation : ℕ → Call → Operation
+operation by c = record { by = by; call = c }
+
+one_call : (t : Operation) (us : List Operation) (s : Bool) → calls_in (cond s (t ∷ us) us) ≡ call_if s t.call (calls_in us)
+one_call t us true = refl
+one_call t us false = refl
+
+calls_by-cons : (number : ℕ) (t : Operation) (us : List Operation) → calls_by number (t ∷ us) ≡ call_if (eqb t.by number) t.call (calls_by number us)
+calls_by-cons number t us = one_call t (filter (λ t. eqb t.by number) us) (eqb t.by number)
+
+-- the call that made write n + 1 of bucket b, at the map m
+abbrev pub call_of : ℕ → ℕ → Pairs → Write → Call
+call_of b n m w = record {
+  bucket = b;
+  stamp = n + 1;
+  key = w.key;
+  found = get m w.key;
+  change = w.change;
+  reply = Changed (get m w.key);
+  recycling = w.recycling;
+  store = None;
+}
+
+abbrev pub cases : {A : Type 0} → Bool → Bool → A → A → A → A
+cases false changed elsewhere wrote read = elsewhere
+cases true true elsewhere wrote read = wrote
+cases true false elsewhere wrote read = read
+
+one_tail : (x y : Write) (xs ys : List Write) → AreOneList (x ∷ xs) (y ∷ ys) → (x ≡ y) × AreOneList xs ys
+one_tail x y xs ys (inl p) = let h : y ∷ ys ≡ x ∷ (xs ++ p.rest) = p.whole in let head : x ≡ y = cc in let tail : ys ≡ xs ++ p.rest = cc in
+    (head, inl record { rest = p.rest; whole = tail })
+one_tail x y xs ys (inr p) = let h : x ∷ xs ≡ y ∷ (ys ++ p.rest) = p.whole in let head : x ≡ y = cc in let tail : xs ≡ ys ++ p.rest = cc in
+    (head, inr record { rest = p.rest; whole = tail })
+
+-- Records whose calls on bucket b are legal on this history and stand in this log, which matches the history.
+pub record AreLogged (z : Sizes) (openings : Openings) (b : ℕ) (log : List Entry) (H : List Write) (records : List Record) : Type 0 where
+  pub legal : AreLegal z b (opening_in openings b) H records
   pub own : (i n : ℕ) (r : Record) (w : Write) → get_elem? records i ≡ some r → get_elem? H n ≡ some w → w.by ≡ r.number
       → HasWrite r.calls b (n + 1)
-  pub once : BearOnce records
-  pub steps : (n : ℕ) (w : Write) → get_elem? H n ≡ some w → IsEvent (bounds_of z) (after opening H n) n (event_of_write (after opening H n) w)
-      (written (after opening H n) w.key w.change w.recycling)
+  pub calls : (i : ℕ) (r : Record) → get_elem? records i ≡ some r → logs.calls_by r.number log ≡ r.calls
+  pub is_log : IsLog z openings log
+  pub matches : AreOneList (writes_on b log) H
+  pub steps : (n : ℕ) (w : Write) → get_elem? H n ≡ some w
+      → IsEvent (bounds_of z) (after (opening_in openings b) H n) n (event_of_write (after (opening_in openings b) H n) w)
+      (written (after (opening_in openings b) H n) w.key w.change w.recycling)
 
-module _ (z : Sizes) (b : ℕ) (opening : Pairs) (H : List Write) (records : List Record) where
-  -- ---- The operations
+module _ (z : Sizes) (openings : Openings) (b : ℕ) (log : List Entry) (H : List Write) (records : List Record) where
+  abbrev pub map_at : ℕ → Pairs
+  map_at n = after (opening_in openings b) H n
 
-  -- each of these writes, which follow n others, with what was read after it
-  abbrev pub writes_and_reads : ℕ → Pairs → List Write → List Operation
-  writes_and_reads n m [] = []
-  writes_and_reads n m (w ∷ ws) = operation w.by (call_of b n m w)
-      ∷ (operations_at b (2 * (n + 1) + 1) records ++ writes_and_reads (n + 1) (written m w.key w.change w.recycling) ws)
+  -- the writes that are known beyond the log, which follow n others
+  abbrev pub unlogged : ℕ → List Write → List Operation
+  unlogged n [] = []
+  unlogged n (w ∷ ws) = operation w.by (call_of b n (map_at n) w) ∷ unlogged (n + 1) ws
+
+  abbrev pub as_known : Entry → List Write → (List Write → List Operation) → List Operation
+  as_known e [] then = []
+  as_known e (w ∷ ws) then = operation e.by e.call ∷ then ws
+
+  -- of these entries, which follow n writes, those on the bucket that are writes or the records' own, up to these writes
+  abbrev pub picked : ℕ → List Write → List Entry → List Operation
+  picked n ws [] = unlogged n ws
+  picked n ws (e ∷ es) = cases (eqb e.call.bucket b) (is_changed e.call.reply) (picked n ws es) (as_known e ws (λ l. picked (n + 1) l es))
+      (cond (is_own records e.by) (operation e.by e.call ∷ picked n ws es) (picked n ws es))
 
   abbrev pub operations : List Operation
-  operations = operations_at b 1 records ++ writes_and_reads 0 opening H
+  operations = picked 0 H log
 
-  -- these writes are what is left of the history after n writes, that left the map m
-  record AreLeft (n : ℕ) (m : Pairs) (ws : List Write) : Type 0 where
-    map : m ≡ after opening H n
-    count : n + length ws ≡ length H
-    each : (k : ℕ) (w : Write) → get_elem? ws k ≡ some w → get_elem? H (n + k) ≡ some w
+  -- the entries that are left of the log, and the writes that are left of the history
+  record Stands (before es : List Entry) (n : ℕ) (ws : List Write) : Type 0 where
+    of : log ≡ before ++ es
+    count : n ≡ length (writes_on b before)
+    whole : H ≡ writes_on b before ++ ws
+    follows : FollowEach z openings before es
+    one : AreOneList (writes_on b es) ws
 
-  first : (n : ℕ) (m : Pairs) (w : Write) (ws : List Write) → AreLeft n m (w ∷ ws) → get_elem? H n ≡ some w
-  first n m w ws left = let zeroth : n ≡ n + 0 = omega arith in ap (get_elem? H) zeroth ∙ left.each 0 w refl
+  next_of : (before es : List Entry) (e : Entry) → log ≡ before ++ e ∷ es → log ≡ (before ++ e ∷ []) ++ es
+  next_of before es e of = of ∙ sym (append_assoc before (e ∷ []) es)
 
-  next : (n : ℕ) (m : Pairs) (w : Write) (ws : List Write) → AreLeft n m (w ∷ ws) → AreLeft (n + 1) (written m w.key w.change w.recycling) ws
-  next n m w ws left = record {
-    map = ap (λ (p : Pairs). written p w.key w.change w.recycling) left.map ∙ sym (after_next opening H n w (first n m w ws left));
-    count = let all = left.count in omega arith;
-    each = λ k x at. let place : n + 1 + k ≡ n + suc k = omega arith in ap (get_elem? H) place ∙ left.each (suc k) x at;
-  }
+  -- an entry that is no write of the bucket
+  no_write : (before es : List Entry) (e : Entry) (n : ℕ) (ws : List Write) → ((l : List Entry) → writes_on b (e ∷ l) ≡ writes_on b l)
+      → Stands before (e ∷ es) n ws → Stands (before ++ e ∷ []) es n ws
+  no_write before es e n ws none s =
+      let same : writes_on b (before ++ e ∷ []) ≡ writes_on b before = writes_on-append b before (e ∷ [])
+      ∙ (ap (λ (l : List Write). writes_on b before ++ l) (none []) ∙ append-nil (writes_on b before)) in record {
+        of = next_of before es e s.of;
+        count = s.count ∙ ap length (sym same);
+        whole = s.whole ∙ ap (λ (l : List Write). l ++ ws) (sym same);
+        follows = s.follows.1;
+        one = subst (λ (l : List Write). AreOneList l ws) (none es) s.one;
+      }
+
+  -- an entry that is the next write of the bucket
+  its_write : (e : Entry) (es : List Entry) (w : Write) (l : List Write) → eqb e.call.bucket b ≡ true → is_changed e.call.reply ≡ true
+      → AreOneList (writes_on b (e ∷ es)) (w ∷ l) → (write_of e.by e.call ≡ w) × AreOneList (writes_on b es) l
+  its_write e es w l test wrote one = one_tail (write_of e.by e.call) w (writes_on b es) l
+      (subst (λ (k : List Write). AreOneList k (w ∷ l)) (more_here b e es wrote test) one)
+
+  a_write : (before es : List Entry) (e : Entry) (n : ℕ) (w : Write) (l : List Write) → eqb e.call.bucket b ≡ true → is_changed e.call.reply ≡ true
+      → Stands before (e ∷ es) n (w ∷ l) → Stands (before ++ e ∷ []) es (n + 1) l
+  a_write before es e n w l test wrote s =
+      let more : writes_on b (before ++ e ∷ []) ≡ writes_on b before ++ write_of e.by e.call ∷ [] = writes_on-append b before (e ∷ [])
+      ∙ ap (λ (k : List Write). writes_on b before ++ k) (more_here b e [] wrote test) in
+      let long = ap length more in
+      let size = length-append (writes_on b before) (write_of e.by e.call ∷ []) in
+      let count = s.count in
+      let tail = its_write e es w l test wrote s.one in record {
+        of = next_of before es e s.of;
+        count = omega arith;
+        whole = s.whole ∙ (ap (λ (x : Write). writes_on b before ++ x ∷ l) (sym tail.0)
+            ∙ (sym (append_assoc (writes_on b before) (write_of e.by e.call ∷ []) l) ∙ ap (λ (k : List Write). k ++ l) (sym more)));
+        follows = s.follows.1;
+        one = tail.1;
+      }
+
+  -- the place of a write
+  first_left : (before es : List Entry) (n : ℕ) (w : Write) (ws : List Write) → Stands before es n (w ∷ ws) → get_elem? H n ≡ some w
+  first_left before es n w ws s = ap (λ (l : List Write). get_elem? l n) s.whole
+      ∙ (ap (get_elem? (writes_on b before ++ w ∷ ws)) (let c = s.count in let d : n ≡ length (writes_on b before) + 0 = omega arith in d)
+      ∙ at_after (writes_on b before) (w ∷ ws) 0 w refl)
+
+  all_known : (before es : List Entry) (n : ℕ) → Stands before es n [] → n ≡ length H
+  all_known before es n s = s.count ∙ ap length (sym (s.whole ∙ append-nil (writes_on b before)))
+
+  -- what an entry of the bucket is that follows those before it
+  record IsNext (before : List Entry) (e : Entry) : Type 0 where
+    stamp : e.call.stamp ≡ length (writes_on b (before ++ e ∷ []))
+    legal : IsLegal z (opening_in openings b) (writes_on b (before ++ e ∷ [])) e.by e.call
+
+  next_here : (before es : List Entry) (e : Entry) (n : ℕ) (ws : List Write) → e.call.bucket ≡ b → Stands before (e ∷ es) n ws → IsNext before e
+  next_here before es e n ws home s = let f = follows_here z openings b before e home s.follows.0 in record { stamp = f.0; legal = f.1 }
 
   -- ---- They are a run
 
   abbrev pub IsHere : Operation → Type 0
   IsHere t = t.call.bucket ≡ b
 
-  -- a operation that is a record's or a write of the history
+  -- an operation that is a record's or a write of the history
   abbrev pub IsOurs : Operation → Type 0
   IsOurs t = HasNumber records t.by ⊎ ((is_changed t.call.reply ≡ true) × (n : ℕ) × (get_elem? H n ≡ some (write_of t.by t.call)))
 
-  record IsReadAt (n : ℕ) (t : Operation) : Type 0 where
-    kept : is_changed t.call.reply ≡ false
-    answer : IsAnswer z (after opening H n) n t.call
-    stamp : t.call.stamp ≡ n
-    home : t.call.bucket ≡ b
-    ours : HasNumber records t.by
-
-  -- what is to be shown of the operations after n writes that left the map m
-  pub record AreGood (n : ℕ) (m : Pairs) (ws : List Write) (ts : List Operation) : Type 0 where
-    pub run : IsRun z m n (calls_in ts) (after opening H (length H)) (length H)
+  -- what is to be shown of the operations after n writes
+  pub record AreGood (n : ℕ) (ws : List Write) (ts : List Operation) : Type 0 where
+    pub run : IsRun z (map_at n) n (calls_in ts) (map_at (length H)) (length H)
     pub writes : writes_in ts ≡ ws
     pub stamps : AreStamped n (calls_in ts)
     pub home : All IsHere ts
     pub ours : All IsOurs ts
 
-  one_read : (n : ℕ) (m : Pairs) (ws : List Write) (t : Operation) (ts : List Operation) → m ≡ after opening H n → IsReadAt n t
-      → AreGood n m ws ts → AreGood n m ws (t ∷ ts)
-  one_read n m ws t ts is reads good = record {
-    run = (
-      answer.0,
-      answer.1,
-      subst (λ (p : Pairs). IsRun z p (writes_after n t.call) (calls_in ts) last (length H)) (sym leaves)
-          (subst (λ (k : ℕ). IsRun z m k (calls_in ts) last (length H)) (sym count) good.run),
-    );
-    writes = ap (λ (s : Bool). map (λ (x : Operation). write_of x.by x.call) (cond s (t ∷ W) W)) reads.kept ∙ good.writes;
-    stamps = (reads.stamp ∙ sym count, subst (λ (k : ℕ). AreStamped k (calls_in ts)) (sym count) good.stamps);
-    home = All-cons IsHere t ts reads.home good.home;
-    ours = All-cons IsOurs t ts (inl reads.ours) good.ours;
-  }
-    where
-      last : Pairs
-      last = after opening H (length H)
+  none_good : (n : ℕ) → n ≡ length H → AreGood n [] []
+  none_good n all = record { run = (ap map_at all, all); writes = refl; stamps = tt; home = All-nil IsHere; ours = All-nil IsOurs }
 
-      W : List Operation
-      W = filter (λ x. is_changed x.call.reply) ts
+  read_good : (n : ℕ) (ws : List Write) (t : Operation) (ts : List Operation) → is_changed t.call.reply ≡ false → IsAnswer z (map_at n) n t.call
+      → t.call.stamp ≡ n → t.call.bucket ≡ b → HasNumber records t.by → AreGood n ws ts → AreGood n ws (t ∷ ts)
+  read_good n ws t ts kept answer stamp home ours good =
+      let leaves : answer.0 ≡ map_at n = step_leaves (bounds_of z) (map_at n) answer.0 n (event_of t.call) answer.1 kept in
+      let count : writes_after n t.call ≡ n = no_more t.call.reply n kept in
+      let W : List Operation = filter (λ x. is_changed x.call.reply) ts in record {
+        run = (
+          answer.0,
+          answer.1,
+          subst (λ (q : Pairs × ℕ). IsRun z q.0 q.1 (calls_in ts) (map_at (length H)) (length H)) (λ i. (sym leaves i, sym count i)) good.run,
+        );
+        writes = ap (λ (s : Bool). map (λ (x : Operation). write_of x.by x.call) (cond s (t ∷ W) W)) kept ∙ good.writes;
+        stamps = (stamp ∙ sym count, subst (λ (k : ℕ). AreStamped k (calls_in ts)) (sym count) good.stamps);
+        home = All-cons IsHere t ts home good.home;
+        ours = All-cons IsOurs t ts (inl ours) good.ours;
+      }
 
-      answer : IsAnswer z m n t.call
-      answer = subst (λ p. IsAnswer z p n t.call) (sym is) reads.answer
+  write_good : (n : ℕ) (w : Write) (ws : List Write) (t : Operation) (ts : List Operation) → is_changed t.call.reply ≡ true
+      → IsAnswer z (map_at n) n t.call → t.call.stamp ≡ n + 1 → t.call.bucket ≡ b → write_of t.by t.call ≡ w → get_elem? H n ≡ some w
+      → AreGood (n + 1) ws ts → AreGood n (w ∷ ws) (t ∷ ts)
+  write_good n w ws t ts wrote answer stamp home is at good =
+      let there : get_elem? H n ≡ some (write_of t.by t.call) = at ∙ ap some (sym is) in
+      let leaves : answer.0 ≡ map_at (n + 1) = step_changes (bounds_of z) (map_at n) answer.0 n (event_of t.call) answer.1 wrote
+      ∙ sym (after_next (opening_in openings b) H n (write_of t.by t.call) there) in
+      let count : writes_after n t.call ≡ n + 1 = one_more t.call.reply n wrote in
+      let W : List Operation = filter (λ x. is_changed x.call.reply) ts in record {
+        run = (
+          answer.0,
+          answer.1,
+          subst (λ (q : Pairs × ℕ). IsRun z q.0 q.1 (calls_in ts) (map_at (length H)) (length H)) (λ i. (sym leaves i, sym count i)) good.run,
+        );
+        writes = ap (λ (s : Bool). map (λ (x : Operation). write_of x.by x.call) (cond s (t ∷ W) W)) wrote ∙ (λ i. is i ∷ good.writes i);
+        stamps = (stamp ∙ sym count, subst (λ (k : ℕ). AreStamped k (calls_in ts)) (sym count) good.stamps);
+        home = All-cons IsHere t ts home good.home;
+        ours = All-cons IsOurs t ts (inr (wrote, n, there)) good.ours;
+      }
 
-      leaves : answer.0 ≡ m
-      leaves = step_leaves (bounds_of z) m answer.0 n (event_of t.call) answer.1 reads.kept
+  module _ (law : AreLogged z openings b log H records) where
+    unlogged_good : (K : List Write) (n : ℕ) (ws : List Write) → H ≡ K ++ ws → n ≡ length K → AreGood n ws (unlogged n ws)
+    unlogged_good K n [] whole count = none_good n (count ∙ ap length (sym (whole ∙ append-nil K)))
+    unlogged_good K n (w ∷ ws) whole count =
+        let at : get_elem? H n ≡ some w = ap (λ (l : List Write). get_elem? l n) whole
+        ∙ (ap (get_elem? (K ++ w ∷ ws)) (let d : n ≡ length K + 0 = omega arith in d) ∙ at_after K (w ∷ ws) 0 w refl) in
+        let long = length-append K (w ∷ []) in
+        write_good n w ws (operation w.by (call_of b n (map_at n) w)) (unlogged (n + 1) ws) refl
+        (written (map_at n) w.key w.change w.recycling, law.steps n w at) refl refl refl at
+        (unlogged_good (K ++ w ∷ []) (n + 1) ws (whole ∙ sym (append_assoc K (w ∷ []) ws)) (omega arith))
 
-      count : writes_after n t.call ≡ n
-      count = no_more t.call.reply n reads.kept
+    abbrev Again : List Entry → Entry → List Entry → Type 0
+    Again before e es = (m : ℕ) (l : List Write) → Stands (before ++ e ∷ []) es m l → AreGood m l (picked m l es)
 
-  reads_good : (n : ℕ) (m : Pairs) (ws : List Write) (ts us : List Operation) → m ≡ after opening H n → All (IsReadAt n) ts
-      → AreGood n m ws us → AreGood n m ws (ts ++ us)
-  reads_good n m ws [] us is reads good = good
-  reads_good n m ws (t ∷ ts) us is reads good = one_read n m ws t (ts ++ us) is (All-head (IsReadAt n) t ts reads)
-      (reads_good n m ws ts us is (All-tail (IsReadAt n) t ts reads) good)
-
-  module _ (law : AreLawful z b opening H records) where
-    reads_at : (n : ℕ) → All (IsReadAt n) (operations_at b (2 * n + 1) records)
-    reads_at n = operations_each (IsReadAt n) b (2 * n + 1) records (λ i j r c at_i at_j test.
-        go i j r c at_i at_j (elim (eqb_tells (moment b c) (2 * n + 1)) [
-          | inl (same, h) ↦ h
-          | inr (other, h) ↦ absurd (true≢false (sym test ∙ other))
-        ]) (kind b c))
+    good : (before es : List Entry) (n : ℕ) (ws : List Write) → Stands before es n ws → AreGood n ws (picked n ws es)
+    good before [] n ws s = unlogged_good (writes_on b before) n ws s.whole s.count
+    good before (e ∷ es) n ws s = let again : Again before e es = λ m l st. good (before ++ e ∷ []) es m l st in elim (eqb_tells e.call.bucket b) [
+      | inl (test, home) ↦ subst (λ (t : Bool). AreGood n ws (cases t (is_changed e.call.reply) beside wrote_it read_it)) (sym test)
+          (here again test home (is_changed e.call.reply) refl)
+      | inr (test, other) ↦ subst (λ (t : Bool). AreGood n ws (cases t (is_changed e.call.reply) beside wrote_it read_it)) (sym test)
+          (again n ws (no_write before es e n ws (λ l. more_else b e l test) s))
+    ]
       where
-        go : (i j : ℕ) (r : Record) (c : Call) → get_elem? records i ≡ some r → get_elem? r.calls j ≡ some c
-            → moment b c ≡ 2 * n + 1 → Kind b c → IsReadAt n (operation r.number c)
-        go i j r c at_i at_j is (elsewhere other its) = absurd (omega arith)
-        go i j r c at_i at_j is (write home wrote its) = absurd (omega arith)
-        go i j r c at_i at_j is (read home kept its) = let stamp : c.stamp ≡ n = omega arith in record {
-          kept = kept;
-          answer = subst (λ p. IsAnswer z (after opening H p) p c) stamp ((law.legal i j r c at_i at_j home).other kept);
-          stamp = stamp;
-          home = home;
-          ours = (i, r, at_i, refl);
-        }
+        beside : List Operation
+        beside = picked n ws es
 
-    one_write : (n : ℕ) (m : Pairs) (w : Write) (ws : List Write) (ts : List Operation) → m ≡ after opening H n → get_elem? H n ≡ some w
-        → AreGood (n + 1) (written m w.key w.change w.recycling) ws ts → AreGood n m (w ∷ ws) (operation w.by (call_of b n m w) ∷ ts)
-    one_write n m w ws ts is at good = record {
-      run = (
-        written m w.key w.change w.recycling,
-        subst (λ (p : Pairs). IsEvent (bounds_of z) p n (event_of_write p w) (written p w.key w.change w.recycling)) (sym is) (law.steps n w at),
-        good.run,
-      );
-      writes = ap (λ (x : List Write). w ∷ x) good.writes;
-      stamps = (refl, good.stamps);
-      home = All-cons IsHere (operation w.by (call_of b n m w)) ts refl good.home;
-      ours = All-cons IsOurs (operation w.by (call_of b n m w)) ts (inr (refl, n, at)) good.ours;
-    }
+        wrote_it : List Operation
+        wrote_it = as_known e ws (λ l. picked (n + 1) l es)
 
-    rest_good : (n : ℕ) (m : Pairs) (ws : List Write) → AreLeft n m ws → AreGood n m ws (writes_and_reads n m ws)
-    rest_good n m [] left = let all : n ≡ length H = let c = left.count in omega arith in record {
-      run = (left.map ∙ ap (after opening H) all, all);
-      writes = refl;
-      stamps = tt;
-      home = All-nil IsHere;
-      ours = All-nil IsOurs;
-    }
-    rest_good n m (w ∷ ws) left = let then = next n m w ws left in let p : Pairs = written m w.key w.change w.recycling in
-        one_write n m w ws (operations_at b (2 * (n + 1) + 1) records ++ writes_and_reads (n + 1) p ws) left.map (first n m w ws left)
-        (reads_good (n + 1) p ws (operations_at b (2 * (n + 1) + 1) records) (writes_and_reads (n + 1) p ws) then.map (reads_at (n + 1))
-        (rest_good (n + 1) p ws then))
+        read_it : List Operation
+        read_it = cond (is_own records e.by) (operation e.by e.call ∷ picked n ws es) (picked n ws es)
 
-    all_left : AreLeft 0 opening H
-    all_left = record {
-      map = refl;
-      count = omega arith;
-      each = λ k w at. let place : 0 + k ≡ k = omega arith in ap (get_elem? H) place ∙ at;
-    }
+        written_here : Again before e es → (test : eqb e.call.bucket b ≡ true) → e.call.bucket ≡ b → is_changed e.call.reply ≡ true → (l : List Write)
+            → Stands before (e ∷ es) n l → AreGood n l (as_known e l (λ l. picked (n + 1) l es))
+        written_here again test home wrote [] st = none_good n (all_known before (e ∷ es) n st)
+        written_here again test home wrote (w ∷ l) st =
+            let next = next_here before es e n (w ∷ l) home st in
+            let then = a_write before es e n w l test wrote st in
+            let stamp : e.call.stamp ≡ n + 1 = next.stamp ∙ sym then.count in
+            let o = next.legal.write wrote in
+            let place : o.0 ≡ n = let told = o.1 in omega arith in
+            let known : map_at n ≡ after (opening_in openings b) (writes_on b (before ++ e ∷ [])) n
+            = after_longer (opening_in openings b) (writes_on b (before ++ e ∷ [])) H n (record { rest = l; whole = then.whole })
+            (let count = then.count in omega arith) in
+            let answer : IsAnswer z (map_at n) n e.call = subst (λ (m : Pairs). IsAnswer z m n e.call) (sym known)
+            (subst (λ p. IsAnswer z (after (opening_in openings b) (writes_on b (before ++ e ∷ [])) p) p e.call) place o.3) in
+            write_good n w l (operation e.by e.call) (picked (n + 1) l es) wrote answer stamp home (its_write e es w l test wrote st.one).0
+            (first_left before (e ∷ es) n w l st) (again (n + 1) l then)
 
-    pub all_good : AreGood 0 opening H operations
-    all_good = reads_good 0 opening H (operations_at b 1 records) (writes_and_reads 0 opening H) refl (reads_at 0) (rest_good 0 opening H all_left)
+        a_read : Again before e es → (test : eqb e.call.bucket b ≡ true) → e.call.bucket ≡ b → is_changed e.call.reply ≡ false → Owned records e.by → AreGood n ws read_it
+        a_read again test home kept (strange not_it none) = subst (λ (t : Bool). AreGood n ws (cond t (operation e.by e.call ∷ picked n ws es) (picked n ws es)))
+            (sym not_it) (again n ws (no_write before es e n ws (λ l. more_read b e l kept) s))
+        a_read again test home kept (owned here_it has) =
+            let next = next_here before es e n ws home s in
+            let then = no_write before es e n ws (λ l. more_read b e l kept) s in
+            let stamp : e.call.stamp ≡ n = next.stamp ∙ sym then.count in
+            let known : map_at n ≡ after (opening_in openings b) (writes_on b (before ++ e ∷ [])) n
+            = after_longer (opening_in openings b) (writes_on b (before ++ e ∷ [])) H n (record { rest = ws; whole = then.whole })
+            (let c = then.count in omega arith) in
+            let answer : IsAnswer z (map_at n) n e.call = subst (λ (m : Pairs). IsAnswer z m n e.call) (sym known)
+            (subst (λ p. IsAnswer z (after (opening_in openings b) (writes_on b (before ++ e ∷ [])) p) p e.call) stamp (next.legal.other kept)) in
+            subst (λ (t : Bool). AreGood n ws (cond t (operation e.by e.call ∷ picked n ws es) (picked n ws es))) (sym here_it)
+            (read_good n ws (operation e.by e.call) (picked n ws es) kept answer stamp home has (again n ws then))
+
+        here : Again before e es → (test : eqb e.call.bucket b ≡ true) → e.call.bucket ≡ b → (t : Bool) → is_changed e.call.reply ≡ t
+            → AreGood n ws (cases true t beside wrote_it read_it)
+        here again test home true wrote = written_here again test home wrote ws s
+        here again test home false kept = a_read again test home kept (own_tells records e.by)
+
+    all_stand : Stands [] log 0 H
+    all_stand = record { of = refl; count = refl; whole = refl; follows = law.is_log; one = law.matches }
+
+    pub all_good : AreGood 0 H operations
+    all_good = good [] log 0 H all_stand
 
     -- ---- Each record has its calls
 
-    calls_of : (i : ℕ) (r : Record) → get_elem? records i ≡ some r → AreCalls z b opening H r.number r.calls
-    calls_of i r at = record {
-      legal = λ k c at_k home. law.legal i k r c at at_k home;
-      rises = law.rises i r at;
-      own = λ n w at_n mine. law.own i n r w at at_n mine;
-    }
-
     module _ (i : ℕ) (r : Record) (at : get_elem? records i ≡ some r) where
-      abbrev at_it : ℕ → List Call
-      at_it k = at_moment (moment b) k r.calls
+      abbrev its : List Entry → List Call
+      its es = calls_on b (logs.calls_by r.number es)
 
-      abbrev from_it : ℕ → List Call
-      from_it k = from_moment (moment b) k r.calls
+      -- no call of it has a stamp above the known writes
+      few : (k : ℕ) (x : Entry) → get_elem? log k ≡ some x → x.by ≡ r.number → x.call.bucket ≡ b → x.call.stamp ≤ length H
+      few k x there by home = let h = called_in r.number k log x there by in
+          (law.legal i h.0 r x.call at (ap (λ (cs : List Call). get_elem? cs h.0) (sym (law.calls i r at)) ∙ h.1) home).seen
 
-      parts : (k : ℕ) → 1 ≤ k → from_it k ≡ at_it k ++ from_it (k + 1)
-      parts k more = by_moments (moment b) k r.calls more (in_order z b opening H r.number r.calls (calls_of i r at))
+      -- the log has each write of it that is known
+      reached : (n : ℕ) (w : Write) → get_elem? H n ≡ some w → w.by ≡ r.number → n + 1 ≤ length (writes_on b log)
+      reached n w there by =
+          let h = law.own i n r w at there by in
+          let x = entry_of_call r.number h.0 log h.1 (ap (λ (cs : List Call). get_elem? cs h.0) (law.calls i r at) ∙ h.2) in
+          let most = (stamped z openings [] log law.is_log x.place x.entry x.at).most in
+          let home : x.entry.call.bucket ≡ b = ap (λ (c : Call). c.bucket) x.is ∙ h.3 in
+          let stamp : x.entry.call.stamp ≡ n + 1 = ap (λ (c : Call). c.stamp) x.is ∙ h.5 in
+          let same = ap (λ (d : ℕ). length (writes_on d log)) home in omega arith
 
-      its_rest : (n : ℕ) (m : Pairs) (ws : List Write) → AreLeft n m ws → calls_by r.number (writes_and_reads n m ws) ≡ from_it (2 * n + 2)
-      its_rest n m [] left = let all : 2 * length H + 2 ≡ 2 * n + 2 = let c = left.count in omega arith in
-          sym (ap from_it (sym all) ∙ none_later z b opening H r.number r.calls (calls_of i r at))
-      its_rest n m (w ∷ ws) left =
-          let then = next n m w ws left in let p : Pairs = written m w.key w.change w.recycling in
-          let reads : List Operation = operations_at b (2 * (n + 1) + 1) records in let others : List Operation = writes_and_reads (n + 1) p ws in
-          let here : cond (eqb w.by r.number) (call_of b n m w ∷ []) [] ≡ at_it (2 * n + 2) =
-          ap (λ (q : Pairs). cond (eqb w.by r.number) (call_of b n q w ∷ []) []) left.map
-          ∙ sym (own_write z b opening H r.number r.calls (calls_of i r at) n w (first n m w ws left)) in
-          let three : 2 * (n + 1) + 1 ≡ 2 * n + 2 + 1 = omega arith in
-          let four : 2 * (n + 1) + 2 ≡ 2 * n + 2 + 1 + 1 = omega arith in
-          calls_by-cons r.number (operation w.by (call_of b n m w)) (reads ++ others)
-          ∙ (ap (λ (cs : List Call). cond (eqb w.by r.number) (call_of b n m w ∷ []) [] ++ cs) (calls_by-append r.number reads others)
-          ∙ ((λ j. here j ++ ((calls_by-operations_at b (2 * (n + 1) + 1) records i r law.once at ∙ ap at_it three) j
-          ++ (its_rest (n + 1) p ws then ∙ ap from_it four) j))
-          ∙ sym (parts (2 * n + 2) (omega arith) ∙ ap (λ (cs : List Call). at_it (2 * n + 2) ++ cs) (parts (2 * n + 2 + 1) (omega arith)))))
+      none_unlogged : (n : ℕ) (ws : List Write) → ((k : ℕ) (w : Write) → get_elem? ws k ≡ some w → w.by ≢ r.number) → calls_by r.number (unlogged n ws) ≡ []
+      none_unlogged n [] none = refl
+      none_unlogged n (w ∷ ws) none = calls_by-cons r.number (operation w.by (call_of b n (map_at n) w)) (unlogged (n + 1) ws)
+          ∙ (elim (eqb_tells w.by r.number) [
+            | inl (test, is) ↦ absurd (none 0 w refl is)
+            | inr (test, is_not) ↦ ap (λ (t : Bool). call_if t (call_of b n (map_at n) w) (calls_by r.number (unlogged (n + 1) ws))) test
+          ] ∙ none_unlogged (n + 1) ws (λ k x there. none (suc k) x there))
 
-      pub its_calls : calls_by r.number operations ≡ calls_on b r.calls
-      its_calls = calls_by-append r.number (operations_at b 1 records) (writes_and_reads 0 opening H)
-          ∙ ((λ j. calls_by-operations_at b 1 records i r law.once at j ++ its_rest 0 opening H all_left j)
-          ∙ sym (have_moments z b opening H r.number r.calls (calls_of i r at) ∙ parts 1 (omega arith)))
+      abbrev Finds : List Entry → Entry → List Entry → Type 0
+      Finds before e es = (m : ℕ) (l : List Write) → Stands (before ++ e ∷ []) es m l → calls_by r.number (picked m l es) ≡ its es
+
+      its_calls : (before es : List Entry) (n : ℕ) (ws : List Write) → Stands before es n ws → calls_by r.number (picked n ws es) ≡ its es
+      its_calls before [] n ws s = none_unlogged n ws (λ k w there by.
+          let all : length (writes_on b log) ≡ n = ap (λ (l : List Entry). length (writes_on b l)) (s.of ∙ append-nil before) ∙ sym s.count in
+          let far = reached (length (writes_on b before) + k) w (ap (λ (l : List Write). get_elem? l (length (writes_on b before) + k)) s.whole
+          ∙ at_after (writes_on b before) ws k w there) by in
+          let count = s.count in omega arith)
+      its_calls before (e ∷ es) n ws s = let again : Finds before e es = λ m l st. its_calls (before ++ e ∷ []) es m l st in elim (eqb_tells e.call.bucket b) [
+        | inl (test, home) ↦ ap (λ (t : Bool). calls_by r.number (cases t (is_changed e.call.reply) beside wrote_it read_it)) test
+            ∙ here again test home (is_changed e.call.reply) refl
+        | inr (test, other) ↦ ap (λ (t : Bool). calls_by r.number (cases t (is_changed e.call.reply) beside wrote_it read_it)) test
+            ∙ (again n ws (no_write before es e n ws (λ l. more_else b e l test) s)
+            ∙ sym (on_if-else b (eqb e.by r.number) e.call (logs.calls_by r.number es) test))
+      ]
+        where
+          beside : List Operation
+          beside = picked n ws es
+
+          wrote_it : List Operation
+          wrote_it = as_known e ws (λ l. picked (n + 1) l es)
+
+          read_it : List Operation
+          read_it = cond (is_own records e.by) (operation e.by e.call ∷ picked n ws es) (picked n ws es)
+
+          -- an entry that is picked
+          one : (test : eqb e.call.bucket b ≡ true) (ts : List Operation) → calls_by r.number ts ≡ its es
+              → calls_by r.number (operation e.by e.call ∷ ts) ≡ its (e ∷ es)
+          one test ts rest = calls_by-cons r.number (operation e.by e.call) ts
+              ∙ (ap (call_if (eqb e.by r.number) e.call) rest ∙ sym (on_if-here b (eqb e.by r.number) e.call (logs.calls_by r.number es) test))
+
+          written_here : Finds before e es → (test : eqb e.call.bucket b ≡ true) → e.call.bucket ≡ b → is_changed e.call.reply ≡ true → (l : List Write) → Stands before (e ∷ es) n l
+              → calls_by r.number (as_known e l (λ l. picked (n + 1) l es)) ≡ its (e ∷ es)
+          written_here again test home wrote [] st = sym (none_on b r.number (e ∷ es) (λ k x there by on.
+              let all = all_known before (e ∷ es) n st in
+              let more : length (writes_on b (before ++ e ∷ [])) ≡ length (writes_on b before) + 1 = ap length (writes_on-append b before (e ∷ [])
+              ∙ ap (λ (l : List Write). writes_on b before ++ l) (more_here b e [] wrote test))
+              ∙ length-append (writes_on b before) (write_of e.by e.call ∷ []) in
+              let count = st.count in
+              let seen = few (length before + k) x (ap (λ (l : List Entry). get_elem? l (length before + k)) st.of ∙ at_after before (e ∷ es) k x there) by on in
+              let least = above st home k x there on in omega arith))
+            where
+              -- the entries from here on have higher stamps
+              above : Stands before (e ∷ es) n [] → e.call.bucket ≡ b → (k : ℕ) (x : Entry) → get_elem? (e ∷ es) k ≡ some x → x.call.bucket ≡ b
+                  → length (writes_on b (before ++ e ∷ [])) ≤ x.call.stamp
+              above st home zero x there on = let is = some-injective e x there in
+                  let stamp = (next_here before es e n [] home st).stamp in
+                  let same = ap (λ (y : Entry). y.call.stamp) is in omega arith
+              above st home (suc k) x there on = let least = (stamped z openings (before ++ e ∷ []) es st.follows.1 k x there).least in
+                  let same = ap (λ (d : ℕ). length (writes_on d (before ++ e ∷ []))) on in omega arith
+          written_here again test home wrote (w ∷ l) st = one test (picked (n + 1) l es) (again (n + 1) l (a_write before es e n w l test wrote st))
+
+          a_read : Finds before e es → (test : eqb e.call.bucket b ≡ true) → is_changed e.call.reply ≡ false → Owned records e.by → calls_by r.number read_it ≡ its (e ∷ es)
+          a_read again test kept (owned here_it has) = ap (λ (t : Bool). calls_by r.number (cond t (operation e.by e.call ∷ picked n ws es) (picked n ws es))) here_it
+              ∙ one test (picked n ws es) (again n ws (no_write before es e n ws (λ l. more_read b e l kept) s))
+          a_read again test kept (strange not_it none) = ap (λ (t : Bool). calls_by r.number (cond t (operation e.by e.call ∷ picked n ws es) (picked n ws es))) not_it
+              ∙ (again n ws (no_write before es e n ws (λ l. more_read b e l kept) s)
+              ∙ elim (eqb_tells e.by r.number) [
+                | inl (mine, is) ↦ absurd (none i r at (sym is))
+                | inr (other, is_not) ↦ sym (on_if-here b (eqb e.by r.number) e.call (logs.calls_by r.number es) test
+                    ∙ ap (λ (t : Bool). call_if t e.call (its es)) other)
+              ])
+
+          here : Finds before e es → (test : eqb e.call.bucket b ≡ true) → e.call.bucket ≡ b → (t : Bool) → is_changed e.call.reply ≡ t
+              → calls_by r.number (cases true t beside wrote_it read_it) ≡ its (e ∷ es)
+          here again test home true wrote = written_here again test home wrote ws s
+          here again test home false kept = a_read again test kept (own_tells records e.by)
 
     -- ---- The order
 
-    pub serialized : IsSerialization z b opening H records operations
+    pub serialized : IsSerialization z b (opening_in openings b) H records operations
     serialized = record {
       run = all_good.run;
       writes = all_good.writes;
       stamps = all_good.stamps;
       home = all_good.home;
-      order = its_calls;
+      order = λ i r at. its_calls i r at [] log 0 H all_stand ∙ ap (calls_on b) (law.calls i r at);
       others = All-weaker IsOurs (λ t. HasNumber records t.by ⊎ (is_changed t.call.reply ≡ true))
           (λ t ours. elim ours [ inl own ↦ inl own | inr other ↦ inr other.0 ]) operations all_good.ours;
     }
@@ -240,39 +442,41 @@ module _ (z : Sizes) (b : ℕ) (opening : Pairs) (H : List Write) (records : Lis
 -- ---- One caller
 
 module _ (z : Sizes) (v : View) (b : ℕ) (caller : IsLawfulCaller z v) (inside : b < buckets z) where
-  abbrev opening : Pairs
-  opening = opening_at v.known b
-
-  abbrev H : List Write
-  H = known_at v.known b
-
   legal_there : AreLegal z b (opening_at v.known b) (known_at v.known b) v.records
   legal_there i k r c at_i at_k home = subst (λ (n : ℕ). IsLegal z (opening_at v.known n) (known_at v.known n) r.number c) home
       (caller.lawful.legal i k r c at_i at_k)
 
-  lawful_there : AreLawful z b (opening_at v.known b) (known_at v.known b) v.records
-  lawful_there = record {
+  logged_there : AreLogged z v.known.openings b v.log (known_at v.known b) v.records
+  logged_there = record {
     legal = legal_there;
-    rises = caller.lawful.rises;
     own = λ i n r w at_i at_n mine. caller.lawful.own i b n r w at_i inside at_n mine;
-    once = caller.numbers.once;
+    calls = caller.logged.calls;
+    is_log = caller.logged.legal;
+    matches = caller.matches b;
     steps = λ n w at. ((caller.lists b inside).each n w at).changes;
   }
 
   pub one_order_at : (operations : List Operation) × IsSerialization z b (opening_at v.known b) (known_at v.known b) v.records operations
-  one_order_at = (operations z b opening H v.records, serialized z b opening H v.records lawful_there)
+  one_order_at = (
+    operations z v.known.openings b v.log (known_at v.known b) v.records,
+    serialized z v.known.openings b v.log (known_at v.known b) v.records logged_there,
+  )
 
   pub whole_order_at : HasMade v.records (known_at v.known b)
       → (operations : List Operation) × IsSerialization z b (opening_at v.known b) (known_at v.known b) v.records operations
       × All (λ t. HasNumber v.records t.by) operations
-  whole_order_at made =
-      (operations z b opening H v.records, serialized z b opening H v.records lawful_there, none_else z b opening H v.records lawful_there made)
+  whole_order_at made = (
+    operations z v.known.openings b v.log (known_at v.known b) v.records,
+    serialized z v.known.openings b v.log (known_at v.known b) v.records logged_there,
+    none_else z v.known.openings b v.log (known_at v.known b) v.records logged_there made,
+  )
 
   -- a write of one of its records is a call of it, at its stamp
   pub called_at : (n : ℕ) (w : Write) → get_elem? (known_at v.known b) n ≡ some w → HasNumber v.records w.by → IsCalled b n w v.records
   called_at n w at by =
       let h = caller.lawful.own by.0 b n by.1 w by.2 inside at (sym by.3) in
-      let legal = legal_there by.0 h.0 by.1 h.1 by.2 h.2 h.3 in
+      let o = (legal_there by.0 h.0 by.1 h.1 by.2 h.2 h.3).write h.4 in
+      let place : o.0 ≡ n = let stamp = h.5 in let told = o.1 in omega arith in
       record {
         at = by.0;
         record_at = by.1;
@@ -283,7 +487,7 @@ module _ (z : Sizes) (v : View) (b : ℕ) (caller : IsLawfulCaller z v) (inside 
         bucket = h.3;
         changed = h.4;
         stamp = h.5;
-        write = (is_call_of z b opening H by.1.number h.1 n w legal h.3 h.4 h.5 at).0;
+        write = some-injective w (write_of by.1.number h.1) (sym at ∙ (ap (get_elem? (known_at v.known b)) (sym place) ∙ o.2));
       }
 
 pub one_order : (z : Sizes) (v : View) (b : ℕ) → IsLawfulCaller z v → b < buckets z

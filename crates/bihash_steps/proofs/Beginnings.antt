@@ -1,5 +1,5 @@
 -- The rule holds of a row in which no write was made since it began.
-use Rattle.std.proofs.Common.{◌≡◌, ℕ, zero, suc, ◌<◌, ◌≤◌, false, List, [], ◌∷◌, ◌++◌, length, refl, sym, ap, ◌∙◌, subst, inr, arith, le_refl, Some, None}
+use Rattle.std.proofs.Common.{◌≡◌, ℕ, zero, suc, ◌<◌, ◌≤◌, false, List, [], ◌∷◌, ◌++◌, length, refl, sym, ap, ◌∙◌, subst, inr, arith, inl, le_refl, Some, None}
 use mathlib.Core.Option.{some, some-ne-none, some-injective}
 use lib.ListN.{get_elem?, get_or-replicate}
 use Rattle.std.specs.FinMap.{get}
@@ -59,6 +59,7 @@ module _ (z : Sizes) (openings : Openings) where
     lists = λ b l. subst (IsWriteList z b (opening_in openings b)) (sym (none_known b l)) (no_writes home b l);
     made = λ _ b l n w f. absurd (some-ne-none w (sym (ap (λ (h : List Write). get_elem? h n) (sym (none_known b l)) ∙ f)));
     logged = record { legal = tt; calls = λ i q e. ap (λ (x : Record). x.calls) (one_record i q e).1 };
+    matches = λ b. inl record { rest = known_at (opening_view z openings).known b; whole = refl };
   }
 
   -- a bucket in which no write was made: where its block lies, and the words of the block

@@ -225,6 +225,8 @@ module _ (z : Sizes) (s : State (Unit {0}) View) (r : WordRule z s) (b id : ℕ)
     own = h.own;
     other_own = h.other_own;
     logs = h.logs;
+    matches = h.matches;
+    other_matches = h.other_matches;
   }
 
   -- another bucket

@@ -1,5 +1,5 @@
 -- What a view knows of a bucket is a write list, and has each write under its numbers that another view knows.
-use Rattle.std.proofs.Common.{◌≡◌, ℕ, zero, suc, ◌∙◌, ◌<◌, ◌≤◌, true, List, [], ◌∷◌, length, get_or, set, ap, arith, refl, subst, sym}
+use Rattle.std.proofs.Common.{◌≡◌, ℕ, zero, suc, ◌∙◌, ◌<◌, ◌≤◌, true, List, [], ◌∷◌, length, get_or, set, ap, arith, inr, refl, subst, sym}
 use mathlib.Core.Logic.{dite}
 use native.Mathlib.Decide.{dec_lt}
 use mathlib.Core.Option.{some, some-ne-none}
@@ -9,17 +9,18 @@ use Rattle.bihash_words.specs.Maps.{Pairs}
 use Rattle.bihash_words.specs.Sizes.{Sizes}
 use Rattle.bihash_steps.specs.Words.{buckets, count_of}
 use Rattle.bihash_steps.specs.Histories.{IsPrefix, IsWrite, IsWriteList}
-use Rattle.bihash_steps.specs.Callers.{HasNumbers, IsLawfulCaller, IsWhole, KnowsOwn, Openings, known_at, opening_at, opening_in}
-use Rattle.bihash_steps.specs.Logs.{IsLogged}
+use Rattle.bihash_steps.specs.Callers.{HasNumbers, IsLawfulCaller, IsWhole, KnowsOwn, MatchesLog, Openings, known_at, opening_at, opening_in}
+use Rattle.bihash_steps.specs.Logs.{IsLogged, writes_on}
 use Rattle.bihash_steps.specs.WordRule.{IsInformed, TableState, WordRule}
+use Rattle.bihash_steps.specs.declared.view.Entry.{Entry}
 use Rattle.bihash_steps.specs.declared.view.Write.{Write}
 use Rattle.bihash_steps.specs.declared.view.Record.{Record}
 use Rattle.bihash_steps.specs.declared.view.Known.{Known}
 use Rattle.bihash_steps.specs.declared.view.View.{View}
 use Rattle.atomic_table.proofs.Lists.{set_here}
 use Rattle.bihash_steps.proofs.Lists.{within}
-use Rattle.bihash_steps.proofs.LogSteps.{is_logged}
-use Rattle.bihash_steps.proofs.Prefixes.{after_longer, prefix_at, prefix_below, prefix_length}
+use Rattle.bihash_steps.proofs.LogSteps.{is_logged, log_begins}
+use Rattle.bihash_steps.proofs.Prefixes.{after_longer, one_begins, prefix_at, prefix_below, prefix_length}
 
 -- the beginning of a write list is one
 pub prefix_list : (z : Sizes) (b : ℕ) (opening : Pairs) (K H : List Write) → IsPrefix K H → IsWriteList z b opening H
@@ -58,24 +59,39 @@ knows_own z t known other records others ok ok' b n x at by = dite (dec_lt b (bu
     (λ out. let none = none_past other.writes b (let wide = ok'.wide in omega arith) in
     absurd (some-ne-none x (sym (ap (λ (xs : List Write). get_elem? xs n) (sym none) ∙ at))))
 
+-- each history begins with what the log has
+abbrev pub BeginsEach : Sizes → TableState → List Entry → Type 0
+BeginsEach z t log = (b : ℕ) → b < buckets z → IsPrefix (writes_on b log) (t.bucket b).history
+
+-- what a view knows of the log matches what it, or another, knows of the buckets
+pub matches_log : (z : Sizes) (t : TableState) (known : Known) (records : List Record) (log : List Entry) → IsInformed z t known records
+    → BeginsEach z t log → MatchesLog known log
+matches_log z t known records log ok begins b = dite (dec_lt b (buckets z))
+    (λ inside. one_begins (writes_on b log) (known_at known b) (t.bucket b).history (begins b inside) (ok.begins b inside))
+    (λ out. inr (subst (λ (xs : List Write). IsPrefix xs (writes_on b log)) (sym (none_past known.writes b (let wide = ok.wide in omega arith)))
+    record { rest = writes_on b log; whole = refl }))
+
 -- a view that is informed of the table is a lawful caller's
 pub lawful_here : (z : Sizes) (s : State (Unit {0}) View) (r : WordRule z s) (v : View) → 1 ≤ length v.records → HasNumbers v.seen v.records
     → IsInformed z r.table v.known v.records → (v.lone ≡ true → IsWhole v.records (count_of s.words))
-    → IsLogged z v.known.openings v.log v.records → IsLawfulCaller z v
+    → IsLogged z v.known.openings v.log v.records × BeginsEach z r.table v.log → IsLawfulCaller z v
 lawful_here z s r v acts numbers ok whole logged = record {
   acts = acts;
   numbers = numbers;
   lawful = ok.lawful;
   lists = λ b inside. known_list z s r b inside v.known v.records ok acts;
   made = λ lone b inside n w at. let by = known_bearers z s r b inside v.known v.records ok n w at in whole lone w.by by.0 by.1;
-  logged = logged;
+  logged = logged.0;
+  matches = matches_log z r.table v.known v.records v.log ok logged.1;
 }
 
 -- what the view of a seat knows of the log is a log
 pub logged_at : (z : Sizes) (s : State (Unit {0}) View) (r : WordRule z s) (id : ℕ) (v : View) → get_elem? s.views id ≡ some v
-    → 1 ≤ length v.records → IsLogged z v.known.openings v.log v.records
-logged_at z s r id v at acts = is_logged z r.table.openings (λ b. (r.table.bucket b).history) s.views id v r.logged at
-    ((r.each_view id v at).informed.opening acts)
+    → 1 ≤ length v.records → IsLogged z v.known.openings v.log v.records × BeginsEach z r.table v.log
+logged_at z s r id v at acts = (
+  is_logged z r.table.openings (λ b. (r.table.bucket b).history) s.views id v r.logged at ((r.each_view id v at).informed.opening acts),
+  log_begins z r.table.openings (λ b. (r.table.bucket b).history) s.views id v r.logged at,
+)
 
 -- the caller of each view that has a number is lawful
 pub lawful_at : (z : Sizes) (s : State (Unit {0}) View) → WordRule z s → (id : ℕ) (v : View) → get_elem? s.views id ≡ some v

@@ -24,7 +24,8 @@ use Rattle.bihash_steps.proofs.Lists.{at_after, within}
 use Rattle.bihash_steps.proofs.Informed.{known_learned}
 use Rattle.bihash_steps.proofs.CountWord.{others_apart}
 use Rattle.bihash_steps.proofs.LogLemmas.{writes_on-append, read_writes, write_here, write_else}
-use Rattle.bihash_steps.proofs.LogSteps.{answered_logged, is_logged}
+use Rattle.bihash_steps.proofs.KnownLists.{BeginsEach}
+use Rattle.bihash_steps.proofs.LogSteps.{answered_logged, is_logged, log_begins}
 
 -- what holds of each call of the records holds of the one that was pushed
 last_pushed : (P : ℕ → Call → Type 0) (c : Call) (rs : List Record) → 1 ≤ length rs
@@ -104,9 +105,12 @@ module _ (z : Sizes) (s : State (Unit {0}) View) (r : WordRule z s) (id : ℕ) (
     read_rule w log pushed = read_logged w log pushed follows_read reads
 
     pub read_is_logged : (w : View) → w.log ≡ log_after → w.records ≡ push_call c v.records → w.known.openings ≡ v.known.openings
-        → IsLogged z w.known.openings w.log w.records
-    read_is_logged w log pushed openings =
-        set_is_logged (λ b. (r.table.bucket b).history) w (read_rule w log pushed) (openings ∙ known_openings)
+        → IsLogged z w.known.openings w.log w.records × BeginsEach z r.table w.log
+    read_is_logged w log pushed openings = (
+      set_is_logged (λ b. (r.table.bucket b).history) w (read_rule w log pushed) (openings ∙ known_openings),
+      log_begins z r.table.openings (λ b. (r.table.bucket b).history) (set s.views id w) id w (read_rule w log pushed)
+          (set_here s.views id w (within s.views id v at)),
+    )
 
     pub read_enters : (after w : View) → w ≡ record after { log = log_after } → Enters z v c after w
     read_enters after w is = enters_log after w is now_read

@@ -8,6 +8,7 @@ use Rattle.std.proofs.lemmas.List.{take-append-drop}
 use Rattle.atomic_table.proofs.Lists.{at_last, at_set, at_longer, set_here, set_else}
 use Rattle.bihash_words.specs.Sizes.{Sizes}
 use Rattle.bihash_steps.specs.Words.{buckets}
+use Rattle.bihash_steps.specs.Histories.{IsPrefix}
 use Rattle.bihash_steps.specs.Callers.{Openings, HasNumber, HasNumbers, HaveOneLog, Apart}
 use Rattle.bihash_steps.specs.Logs.{calls_by, writes_on, Begins, Follows, IsLog, IsLogged}
 use Rattle.bihash_steps.specs.LogRule.{KnowsLog, IsHeld, LogRule}
@@ -239,6 +240,14 @@ module _ (z : Sizes) (openings : Openings) (history : ℕ → List Write) where
       rest i q e = none_by q.number ok.begins.rest (λ k x f by.
           let reached = ok.own i (length v.log + k) q x e (ap (λ (l : List Entry). get_elem? l (length v.log + k)) ok.begins.whole
           ∙ at_after v.log ok.begins.rest k x f) by in omega arith)
+
+  -- each history begins with what a view that was informed of the log knows of it
+  pub log_begins : (views : List View) (id : ℕ) (v : View) → LogRule z openings history views → get_elem? views id ≡ some v
+      → (b : ℕ) → b < buckets z → IsPrefix (writes_on b v.log) (history b)
+  log_begins views id v r at b inside = let begins = (r.each id v at).begins in record {
+    rest = writes_on b begins.rest;
+    whole = sym (r.writes b inside) ∙ (ap (writes_on b) begins.whole ∙ writes_on-append b v.log begins.rest);
+  }
 
   -- ---- Seats that are cut and joined
 

@@ -7,7 +7,7 @@ use Rattle.bihash_words.specs.Sizes.{Sizes}
 use Rattle.bihash_steps.specs.Words.{buckets}
 use Rattle.bihash_steps.specs.Histories.{Begins, IsLegal, IsPrefix, IsWriteList, is_changed}
 pub use Rattle.bihash_steps.specs.Histories.{opening_in}
-use Rattle.bihash_steps.specs.Logs.{IsLogged}
+use Rattle.bihash_steps.specs.Logs.{IsLogged, writes_on}
 use Rattle.bihash_steps.specs.declared.view.Write.{Write}
 use Rattle.bihash_steps.specs.declared.view.Call.{Call}
 use Rattle.bihash_steps.specs.declared.view.Entry.{Entry}
@@ -23,6 +23,14 @@ opening_at known b = opening_in known.openings b
 -- what is known of the writes of bucket b
 abbrev pub known_at : Known → ℕ → List Write
 known_at known b = slice_index_or known.writes b []
+
+-- of two lists of writes the one begins the other
+abbrev pub AreOneList : List Write → List Write → Type 0
+AreOneList H K = IsPrefix H K ⊎ IsPrefix K H
+
+-- of each bucket the log has a beginning of the writes that are known, or begins with them
+abbrev pub MatchesLog : Known → List Entry → Type 0
+MatchesLog known log = (b : ℕ) → AreOneList (writes_on b log) (known_at known b)
 
 -- d may come after c in one record: on one bucket no stamp falls, and that of a write is greater than
 -- all before it
@@ -67,7 +75,7 @@ abbrev pub HasMadeAll : Sizes → View → Type 0
 HasMadeAll z v = (b : ℕ) → b < buckets z → HasMade v.records (known_at v.known b)
 
 -- A lawful caller. It has a number, what it knows of a bucket is a write list, and a lone caller made each
--- of these writes. What it knows of the log is a log that has its calls.
+-- of these writes. What it knows of the log is a log that has its calls, and matches what it knows of the buckets.
 pub record IsLawfulCaller (z : Sizes) (v : View) : Type 0 where
   pub acts : 1 ≤ length v.records
   pub numbers : HasNumbers v.seen v.records
@@ -75,6 +83,7 @@ pub record IsLawfulCaller (z : Sizes) (v : View) : Type 0 where
   pub lists : (b : ℕ) → b < buckets z → IsWriteList z b (opening_at v.known b) (known_at v.known b)
   pub made : v.lone ≡ true → HasMadeAll z v
   pub logged : IsLogged z v.known.openings v.log v.records
+  pub matches : MatchesLog v.known v.log
 
 -- a whole caller has every number up to the caller count
 abbrev pub IsWhole : List Record → ℕ → Type 0
@@ -87,8 +96,7 @@ Apart records others = (i k : ℕ) (r q : Record) → get_elem? records i ≡ so
 
 -- what is known of one table: the same beginnings, and of each bucket the one list begins the other
 abbrev pub IsConsistent : Known → Known → Type 0
-IsConsistent k m = (k.openings ≡ m.openings)
-    × ((b : ℕ) → IsPrefix (known_at k b) (known_at m b) ⊎ IsPrefix (known_at m b) (known_at k b))
+IsConsistent k m = (k.openings ≡ m.openings) × ((b : ℕ) → AreOneList (known_at k b) (known_at m b))
 
 -- whatever another knows of the writes under a number of these records is known here
 abbrev pub KnowsOwn : List Record → Known → Known → Type 0
@@ -103,13 +111,16 @@ pub record HaveOneLog (records : List Record) (log : List Entry) (others : List 
   pub other_own : (k : ℕ) (e : Entry) → get_elem? log k ≡ some e → HasNumber others e.by → k < length other
 
 -- Two callers agree: they share no number, of each bucket and of the log the one knows a beginning of what the
--- other knows, and neither lacks a write or an entry of its own that the other knows.
+-- other knows, what each knows of the log matches what the other knows of the buckets, and neither lacks a write or
+-- an entry of its own that the other knows.
 pub record Agrees (v w : View) : Type 0 where
   pub apart : Apart v.records w.records
   pub known : IsConsistent v.known w.known
   pub own : KnowsOwn v.records v.known w.known
   pub other_own : KnowsOwn w.records w.known v.known
   pub logs : HaveOneLog v.records v.log w.records w.log
+  pub matches : MatchesLog v.known w.log
+  pub other_matches : MatchesLog w.known v.log
 
 -- how many writes are known of the first n buckets
 abbrev pub known_writes : Known → ℕ → ℕ

@@ -5,7 +5,7 @@ use mathlib.Core.Option.{some}
 use Rattle.atomic_table.specs.Table.{Me}
 use Rattle.bihash_words.specs.Sizes.{Sizes}
 use Rattle.bihash_steps.specs.Words.{buckets}
-use Rattle.bihash_steps.specs.Callers.{HasMadeAll, HaveOneLog, IsConsistent, IsLawfulCaller, IsWhole, KnowsOwn, known_at, known_writes}
+use Rattle.bihash_steps.specs.Callers.{HasMadeAll, HaveOneLog, MatchesLog, IsConsistent, IsLawfulCaller, IsWhole, KnowsOwn, known_at, known_writes}
 use Rattle.bihash_steps.specs.PageStores.{BearOutOfPages, most_used}
 use Rattle.bihash_steps.specs.Views.{empty_record, nothing_known, nothing_held, no_notes}
 use Rattle.bihash_steps.specs.declared.view.Write.{Write}
@@ -161,3 +161,4 @@ pub record TellsAgreement (z : Sizes) (m m' : ViewOfSeat) : Type 0 where
   pub agree : (y : Meeting) → m.0.notes.meeting ≡ Some y → IsConsistent y.first y.second
       × KnowsOwn y.first_records y.first y.second × KnowsOwn y.second_records y.second y.first
       × HaveOneLog y.first_records y.first_log y.second_records y.second_log
+      × MatchesLog y.first y.second_log × MatchesLog y.second y.first_log

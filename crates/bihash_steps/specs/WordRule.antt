@@ -7,7 +7,7 @@ use Rattle.atomic_table.specs.Table.{State}
 use Rattle.bihash_words.specs.Sizes.{Sizes, IsSound}
 use Rattle.bihash_steps.specs.Words.{count_of, buckets, all_words, Stands}
 use Rattle.bihash_steps.specs.Histories.{IsPrefix}
-use Rattle.bihash_steps.specs.Callers.{Openings, known_at, opening_in, IsLawful, HasNumbers, IsWhole, Apart, HaveOneLog, KnowsOwn}
+use Rattle.bihash_steps.specs.Callers.{Openings, known_at, opening_in, IsLawful, HasNumbers, IsWhole, Apart, HaveOneLog, MatchesLog, KnowsOwn}
 use Rattle.bihash_steps.specs.Blocks.{no_block}
 use Rattle.bihash_steps.specs.Partition.{IsPartition}
 use Rattle.bihash_steps.specs.Buckets.{BucketState, IsBucket, HoldsBucketIf, NotesLocks, IsOpenIf, StandsStillIf}
@@ -48,6 +48,8 @@ pub record HaveMet (z : Sizes) (t : TableState) (m : Meeting) : Type 0 where
   pub own : KnowsOwn m.first_records m.first m.second
   pub other_own : KnowsOwn m.second_records m.second m.first
   pub logs : HaveOneLog m.first_records m.first_log m.second_records m.second_log
+  pub matches : MatchesLog m.first m.second_log
+  pub other_matches : MatchesLog m.second m.first_log
 
 abbrev pub HaveMetIf : Sizes → TableState → Option Meeting → Type 0
 HaveMetIf z t None = Unit {0}

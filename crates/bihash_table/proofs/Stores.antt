@@ -195,7 +195,7 @@ left_written z v u w b word l n block e lock home changes is gone entered =
 -- the caller is lawful still
 pub still_lawful : (z : Sizes) (u w : View) → Released u w → IsLawfulCaller z u → IsLawfulCaller z w
 still_lawful z u w gone lawful = subst (IsLawfulCaller z) (sym gone.is)
-    (record { acts = lawful.acts; numbers = lawful.numbers; lawful = lawful.lawful; lists = lawful.lists; made = lawful.made; logged = lawful.logged })
+    (record { acts = lawful.acts; numbers = lawful.numbers; lawful = lawful.lawful; lists = lawful.lists; made = lawful.made; logged = lawful.logged; matches = lawful.matches })
 
 -- ---- Without a write
 

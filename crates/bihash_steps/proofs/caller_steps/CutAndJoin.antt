@@ -25,8 +25,8 @@ use Rattle.bihash_steps.proofs.Prefixes.{prefix_refl}
 use Rattle.bihash_steps.proofs.Lawful.{IsPart, first_part, other_part, part_informed, part_lawful, part_numbers, both_informed, both_numbers}
 use Rattle.bihash_steps.specs.Logs.{IsLogged}
 use Rattle.bihash_steps.proofs.LogLemmas.{begins_refl}
-use Rattle.bihash_steps.proofs.LogSteps.{cut_logged, joined_logged, one_log}
-use Rattle.bihash_steps.proofs.KnownLists.{knows_own}
+use Rattle.bihash_steps.proofs.LogSteps.{cut_logged, joined_logged, log_begins, one_log}
+use Rattle.bihash_steps.proofs.KnownLists.{BeginsEach, knows_own, matches_log}
 use Rattle.bihash_steps.proofs.CountWord.{moved, AllApart, apart_back, apart_set, block_set, block_more, as_view}
 
 module _ (z : Sizes) where
@@ -39,14 +39,16 @@ module _ (z : Sizes) where
   parts_lawful : (n : ℕ) (v : View) → 1 ≤ n → n < length v.records → IsLawfulCaller z v → IsLawfulCaller z (first_numbers n v) × IsLawfulCaller z (other_numbers n v)
       × Agrees (first_numbers n v) (other_numbers n v)
   parts_lawful n v one more law = (
-    record { acts = acts_first; numbers = numbers first; lawful = lawful first; lists = law.lists; made = λ h. absurd (true≢false (sym h)); logged = logged first },
-    record { acts = acts_other; numbers = numbers other; lawful = lawful other; lists = law.lists; made = λ h. absurd (true≢false (sym h)); logged = logged other },
+    record { acts = acts_first; numbers = numbers first; lawful = lawful first; lists = law.lists; made = λ h. absurd (true≢false (sym h)); logged = logged first; matches = law.matches },
+    record { acts = acts_other; numbers = numbers other; lawful = lawful other; lists = law.lists; made = λ h. absurd (true≢false (sym h)); logged = logged other; matches = law.matches },
     record {
       apart = cut_apart n v.seen v.records law.numbers;
       known = (refl, λ b. inl (prefix_refl (known_at v.known b)));
       own = λ b k w at by. at;
       other_own = λ b k w at by. at;
       logs = record { one = inl (begins_refl v.log); own = λ k e f by. within v.log k e f; other_own = λ k e f by. within v.log k e f };
+      matches = law.matches;
+      other_matches = law.matches;
     },
   )
     where
@@ -173,9 +175,9 @@ module _ (z : Sizes) where
 
   joined_view : (words : List ℕ) (count j k : ℕ) (t : TableState) (v w : View) → 1 ≤ length v.records → 1 ≤ length w.records
       → v.holds ≡ nothing_held → Apart v.records w.records
-      → HaveOneLog v.records v.log w.records w.log
+      → HaveOneLog v.records v.log w.records w.log → BeginsEach z t v.log → BeginsEach z t w.log
       → IsView z words count t j v → IsView z words count t k w → IsView z words count t j (joining v w)
-  joined_view words count j k t v w has_one has_other free apart logs ok ok' = record {
+  joined_view words count j k t v w has_one has_other free apart logs begins begins' ok ok' = record {
     informed = both_informed z t v.known w.known v.records w.records has_one ok.informed ok'.informed;
     numbers = both_numbers v.seen w.seen v.records w.records apart ok.numbers ok'.numbers;
     seen = let a = ok.seen in let b = ok'.seen in omega arith;
@@ -202,6 +204,8 @@ module _ (z : Sizes) where
       own = knows_own z t v.known w.known v.records w.records ok.informed ok'.informed;
       other_own = knows_own z t w.known v.known w.records v.records ok'.informed ok.informed;
       logs = logs;
+      matches = matches_log z t v.known v.records w.log ok.informed begins';
+      other_matches = matches_log z t w.known w.records v.log ok'.informed begins;
     };
   }
 
@@ -249,7 +253,9 @@ module _ (z : Sizes) where
       let old : get_elem? s.views other ≡ some w = elim (at_set s.views id other both w at') [ inl p ↦ absurd (ne p.0) | inr p ↦ p.1 ] in
       let apart = r.apart id other v w (λ h. ne (sym h)) at old in
       let good = joined_view s.words count id other r.table v w has_one has_other free apart
-      (one_log r.logged.log v.log w.log v.records w.records (r.logged.each id v at) (r.logged.each other w old)) (r.each_view id v at)
+      (one_log r.logged.log v.log w.log v.records w.records (r.logged.each id v at) (r.logged.each other w old))
+      (log_begins z r.table.openings (λ b. (r.table.bucket b).history) s.views id v r.logged at)
+      (log_begins z r.table.openings (λ b. (r.table.bucket b).history) s.views other w r.logged old) (r.each_view id v at)
       (r.each_view other w old) in
       let left = spent_view s.words count other r.table (no_lock s r other w old free') (no_store s r other w old free') in
       let others : (j : ℕ) (u : View) → j ≢ id → j ≢ other → get_elem? s.views j ≡ some u → Apart both.records u.records

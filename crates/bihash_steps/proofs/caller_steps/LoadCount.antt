@@ -10,7 +10,7 @@ use Rattle.atomic_table.specs.Table.{State, Act, keeps, Valid, stepped, carried_
 use Rattle.bihash_words.specs.Sizes.{Sizes}
 use Rattle.bihash_steps.specs.Words.{count_of, buckets}
 use Rattle.bihash_steps.specs.Histories.{IsPrefix}
-use Rattle.bihash_steps.specs.Callers.{IsWhole, known_writes, known_at, opening_in, IsConsistent, HasNumbers, Apart, Agrees, KnowsOwn, HaveOneLog}
+use Rattle.bihash_steps.specs.Callers.{IsWhole, known_writes, known_at, opening_in, IsConsistent, HasNumbers, Apart, Agrees, KnowsOwn, HaveOneLog, MatchesLog}
 use Rattle.bihash_steps.specs.Buckets.{IsBucket}
 use Rattle.bihash_steps.specs.PageStores.{BearOutOfPages, HasCall, most_used, writes_in}
 use Rattle.bihash_steps.specs.Views.{empty_record, no_notes}
@@ -117,7 +117,7 @@ module _ (z : Sizes) where
           few = let l = few_numbers v.seen v.records ok.numbers in let a = ok.seen in let b = r.few_callers in omega arith;
           lawful = lawful_here z s r (record v { notes = no_notes }) acts ok.numbers ok.informed ok.lone (logged_at z s r id v at acts);
           agree = λ y e. let met : HaveMet z r.table y = subst (HaveMetIf z r.table) e ok.meeting in
-              (consistent r.table y met, met.own, met.other_own, met.logs);
+              (consistent r.table y met, met.own, met.other_own, met.logs, met.matches, met.other_matches);
         },
       )
 
@@ -129,10 +129,12 @@ module _ (z : Sizes) where
     own = met.1;
     other_own = met.2;
     logs = met.3;
+    matches = met.4;
+    other_matches = met.5;
   }
     where
       met : IsConsistent v.known w.known × KnowsOwn v.records v.known w.known × KnowsOwn w.records w.known v.known
-          × HaveOneLog v.records v.log w.records w.log
+          × HaveOneLog v.records v.log w.records w.log × MatchesLog v.known w.log × MatchesLog w.known v.log
       met = told.agree (record { first = v.known; second = w.known; first_log = v.log; second_log = w.log; first_records = v.records; second_records = w.records })
           (ap (λ (u : View). u.notes.meeting) is)
 
