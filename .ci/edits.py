@@ -11,8 +11,6 @@ so has one that is refused only because a proof names what it took away, since t
 """
 import collections
 import concurrent.futures
-import importlib.machinery
-import importlib.util
 import os
 import re
 import shutil
@@ -20,7 +18,9 @@ import subprocess
 import sys
 import tempfile
 
-TOP = os.path.dirname(os.path.dirname(os.path.abspath(__file__)))
+sys.dont_write_bytecode = True
+import kit
+
 EDITS = "edits"
 # The memory that a check is expected to take, in bytes.
 MEMORY_OF_A_CHECK = 2_500_000_000
@@ -37,16 +37,6 @@ SEARCHED = re.compile(r"^(?:fn|impl|trait) (\S+): .*(`\w+` did not prove `[^`]*`
 # What is said of a proof that names what isn't there any more.
 NAMES_ALONE = re.compile(r"has no field|is not in scope|has no `|was not admitted|\(nearest: ")
 UNREAD = re.compile(r"^(?:\./)?(?:src|specs)/\S+:\d+:\d+: error.*|^error(?:\[.*|:.*)", re.M)
-
-
-def toolchain():
-    """The toolchain's own command as a module, for the words that it gives its checker."""
-    path = os.path.realpath(shutil.which("rt"))
-    loader = importlib.machinery.SourceFileLoader("rt", path)
-    module = importlib.util.module_from_spec(importlib.util.spec_from_loader("rt", loader))
-    sys.dont_write_bytecode = True
-    loader.exec_module(module)
-    return module
 
 
 def module_of(inside):
@@ -219,10 +209,9 @@ def at_once():
 
 
 def main():
-    rt, known = toolchain(), {}
-    os.chdir(TOP)
-    crates = [rt.rtlib.Crate(folder, TOP, known) for folder in rt.rtlib.listed(TOP)]
-    trials = [Trial(rt, it, sys.argv[2:]) for it in crates if not sys.argv[1:] or it.name == sys.argv[1]]
+    rt = kit.toolchain()
+    os.chdir(kit.TOP)
+    trials = [Trial(rt, it, sys.argv[2:]) for it in kit.crates(rt) if not sys.argv[1:] or it.name == sys.argv[1]]
     length = lambda it: sum(map(os.path.getsize, rt.rtlib.files_of(it.crate.folder)))
     trials = sorted((it for it in trials if it.edits), key=length, reverse=True)
     passed = failed = 0
