@@ -1,5 +1,5 @@
 //! Lines of a report that are made while those before them are written.
-ghost use Rattle.std.specs.Prelude.{◌-◌, ◌+◌, ◌<◌, ◌≤◌, ◌^◌, All, IfOk};
+ghost use Rattle.std.specs.Prelude.{◌-◌, ◌+◌, ◌<◌, ◌≤◌, ◌^◌, All, IfOk, length};
 ghost use Rattle.racl_io.specs.inner.Lines.{HasMade, HasRoom, HasWritten, MayMake};
 
 use crate::device::Sink;
@@ -15,9 +15,6 @@ use std::thread::{Threads, join_mut};
 /// The most bytes of a line.
 const LINE_BYTES: usize = 72;
 
-/// The most lines that are made apart.
-pub const MOST_LINES: usize = 4_194_304;
-
 /// Room for lines that are made apart.
 #[derive(Drop)]
 pub struct Lines {
@@ -30,7 +27,7 @@ pub struct Lines {
 impl Lines {
     /// Room for so many lines, which is touched only where lines come.
     fn new(alloc: Global, count: usize) -> Result<Lines, AllocError>
-        requires { count ≤ 4194304 }
+        requires { count ≤ 131072 }
         ensures { IfOk result HasRoom }
     {
         Ok(Lines {
@@ -43,7 +40,7 @@ impl Lines {
     /// Room for the last of so many lines. A part is written after those before it, so there is more time to make it:
     /// each has two fifths of what the parts after it leave, and about a fifth of all lines come before the parts.
     pub fn parts(alloc: Global, lines: usize) -> Result<[Lines; 3], AllocError>
-        requires { lines ≤ 4194304 }
+        requires { lines ≤ 131072 }
         ensures { IfOk result (All HasRoom) }
     {
         let last = lines / 5 * 2;
@@ -78,36 +75,39 @@ fn make_lines(lines: &mut Lines, others: usize, verdicts: &[Verdict]) -> u64
     passed
 }
 
-/// Writes the lines of all packets, and answers how many of them pass. The last lines are made in the parts, as many as
-/// have room there: each part in a thread of its own, or in this one where none can be made, while the lines before it
-/// are made and written.
+/// Writes the lines of the packets behind so many others, and answers how many of them pass. The last lines are made in
+/// the parts, as many as have room there: each part in a thread of its own, or in this one where none can be made, while
+/// the lines before it are made and written.
 pub fn write_beside<W: Sink, T: Threads>(
     rt: &T,
     writer: &mut W,
     piece: &mut Piece,
     parts: &mut [Lines],
+    others: usize,
     verdicts: &[Verdict],
 ) -> Result<u64, Fault>
     requires room { All HasRoom parts.old }
     requires sound { W.failures writer.old < 2 ^ 64 - 1 }
-    ensures { HasWritten W.bytes W.failures writer.old writer.new verdicts.now result }
+    requires fits { others + length verdicts.now < 2 ^ 64 }
+    ensures { HasWritten W.bytes W.failures writer.old writer.new others verdicts.now result }
 {
     let Some((lines, earlier)) = parts.split_last_mut() else {
-        return write_lines(writer, piece, verdicts);
+        return write_lines(writer, piece, others, verdicts);
     };
-    let (front, others) = verdicts.split_at(verdicts.len().saturating_sub(lines.count));
-    let before = front.len();
+    let (front, last) = verdicts.split_at(verdicts.len().saturating_sub(lines.count));
+    let before = others + front.len();
     let (more, written) = join_mut(
         rt,
         &mut ||
-            requires { MayMake lines.now before others.now }
-            ensures { HasMade lines.exit.now before others.entry.now result }
-        { make_lines(lines, before, others) },
+            requires { MayMake lines.now before last.now }
+            ensures { HasMade lines.exit.now before last.entry.now result }
+        { make_lines(lines, before, last) },
         &mut ||
             requires room { All HasRoom earlier.now }
             requires sound { W.failures writer.now < 2 ^ 64 - 1 }
-            ensures { HasWritten W.bytes W.failures writer.entry.now writer.exit.now front.entry.now result }
-        { write_beside(rt, writer, piece, earlier, front) },
+            requires fits { others + length front.now < 2 ^ 64 }
+            ensures { HasWritten W.bytes W.failures writer.entry.now writer.exit.now others front.entry.now result }
+        { write_beside(rt, writer, piece, earlier, others, front) },
     );
     let passed = written?;
     write_all(writer, &lines.text)?;

@@ -6,7 +6,7 @@ ghost use Rattle.racl_io.specs.Reports.{text_of, line_of, lines_from, report_of,
 ghost use Rattle.racl_io.specs.inner.Lines.{HasWritten};
 ghost use Rattle.racl_io.specs.declared.fault.Fault.TheVariants.{Memory, Write};
 
-use crate::beside::{Lines, MOST_LINES, write_beside};
+use crate::beside::{Lines, write_beside};
 use crate::device::Sink;
 use crate::fault::Fault;
 use crate::numeral::{Counter, Numeral};
@@ -21,6 +21,9 @@ pub const LINES: usize = 3600;
 
 /// From how many packets on it pays to make lines in several threads.
 const FEW_LINES: usize = 262_144;
+
+/// How many lines are made by several threads at once: so many that these pay, and so few that their text is short.
+const BATCH_LINES: usize = 131_072;
 
 /// How many packets were judged, and what became of them.
 #[derive(Clone, Copy, Debug, PartialEq, Eq)]
@@ -110,16 +113,18 @@ pub fn push_lines(piece: &mut Piece, number: &mut Counter, verdicts: &[Verdict])
     passed
 }
 
-/// Writes the lines of all packets, and answers how many of them pass.
+/// Writes the lines of the packets behind so many others, and answers how many of them pass.
 pub fn write_lines<W: Sink>(
     writer: &mut W,
     piece: &mut Piece,
+    others: usize,
     verdicts: &[Verdict],
 ) -> Result<u64, Fault>
-    requires { W.failures writer.old < 2 ^ 64 - 1 }
-    ensures { HasWritten W.bytes W.failures writer.old writer.new verdicts.now result }
+    requires sound { W.failures writer.old < 2 ^ 64 - 1 }
+    requires fits { others + length verdicts.now < 2 ^ 64 }
+    ensures { HasWritten W.bytes W.failures writer.old writer.new others verdicts.now result }
 {
-    let mut number = Counter::at(0);
+    let mut number = Counter::at(others as u64);
     let mut passed = 0;
     let mut rest = verdicts;
     while !rest.is_empty() {
@@ -132,8 +137,28 @@ pub fn write_lines<W: Sink>(
     Ok(passed)
 }
 
-// Writes the lines of all packets. Where they are many and threads can be made, few of them are made in this one:
-// writing takes it nearly as long as making them all would.
+// Writes the lines of a batch of packets behind so many others. Where there is memory, few of them are made in this
+// thread: writing takes it nearly as long as making them all would.
+fn write_batch<W: Sink, T: Threads>(
+    rt: &T,
+    alloc: Global,
+    writer: &mut W,
+    piece: &mut Piece,
+    others: usize,
+    verdicts: &[Verdict],
+) -> Result<u64, Fault>
+    requires few { length verdicts.now ≤ 131072 }
+    requires sound { W.failures writer.old < 2 ^ 64 - 1 }
+    requires fits { others + length verdicts.now < 2 ^ 64 }
+    ensures { HasWritten W.bytes W.failures writer.old writer.new others verdicts.now result }
+{
+    match Lines::parts(alloc, verdicts.len()) {
+        Ok(mut parts) => write_beside(rt, writer, piece, &mut parts, others, verdicts),
+        Err(_) => write_lines(writer, piece, others, verdicts),
+    }
+}
+
+// Writes the lines of all packets, by several threads where they are many and threads can be made.
 fn write_packets<W: Sink, T: Threads>(
     beside: Option<&T>,
     alloc: Global,
@@ -142,18 +167,24 @@ fn write_packets<W: Sink, T: Threads>(
     verdicts: &[Verdict],
 ) -> Result<u64, Fault>
     requires { W.failures writer.old < 2 ^ 64 - 1 }
-    ensures { HasWritten W.bytes W.failures writer.old writer.new verdicts.now result }
+    ensures { HasWritten W.bytes W.failures writer.old writer.new 0 verdicts.now result }
 {
     let Some(rt) = beside else {
-        return write_lines(writer, piece, verdicts);
+        return write_lines(writer, piece, 0, verdicts);
     };
-    if verdicts.len() < FEW_LINES || verdicts.len() > MOST_LINES {
-        return write_lines(writer, piece, verdicts);
+    if verdicts.len() < FEW_LINES {
+        return write_lines(writer, piece, 0, verdicts);
     }
-    let Ok(mut parts) = Lines::parts(alloc, verdicts.len()) else {
-        return write_lines(writer, piece, verdicts);
-    };
-    write_beside(rt, writer, piece, &mut parts, verdicts)
+    let mut passed = 0;
+    let mut others = 0;
+    let mut rest = verdicts;
+    'batches: while !rest.is_empty() {
+        let (batch, behind) = rest.split_at(rest.len().min(BATCH_LINES));
+        passed += write_batch(rt, alloc, writer, piece, others, batch)?;
+        others += batch.len();
+        rest = behind;
+    }
+    Ok(passed)
 }
 
 fn push_end(piece: &mut Piece, totals: &Totals)
@@ -176,8 +207,8 @@ fn push_end(piece: &mut Piece, totals: &Totals)
 }
 
 /// Writes the report of the verdicts in the order of their packets, in pieces whose room is asked for before the first
-/// of them is written. Where they are many and threads can be made `beside` this one, the last lines are made in three
-/// of these while the first are written.
+/// of them is written. Where they are many and threads can be made `beside` this one, the last lines of each batch are
+/// made in three of these while its first are written.
 pub fn write_report<W: Sink, T: Threads>(
     beside: Option<&T>,
     alloc: Global,

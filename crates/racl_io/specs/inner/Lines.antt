@@ -19,10 +19,11 @@ MayMake lines others verdicts = HasRoom lines × (length verdicts ≤ lines.coun
 abbrev pub HasMade : Lines → ℕ → List Verdict → ℕ → Type 0
 HasMade lines others verdicts passing = (lines.text.items ≡ lines_from (others + 1) verdicts) × (passing ≡ passed verdicts)
 
--- a sink got the lines of all packets, of which so many pass, or it failed once more
-abbrev pub HasWritten : {W : Type 0} → (W → Option (List ℕ)) → (W → ℕ) → W → W → List Verdict → Result ℕ Fault → Type 0
-HasWritten bytes failures old new verdicts result =
-    OnOk result (Appends (bytes old) (bytes new) (lines_from 1 verdicts))
+-- a sink got the lines of all these packets, which come behind so many others, and of which so many pass, or it failed
+-- once more
+abbrev pub HasWritten : {W : Type 0} → (W → Option (List ℕ)) → (W → ℕ) → W → W → ℕ → List Verdict → Result ℕ Fault → Type 0
+HasWritten bytes failures old new others verdicts result =
+    OnOk result (Appends (bytes old) (bytes new) (lines_from (others + 1) verdicts))
     × IfOk result (λ n. n ≡ passed verdicts)
     × OnOk result (failures new ≡ failures old)
     × OnErr result (failures new ≡ failures old + 1)
