@@ -102,24 +102,3 @@ fn pieces(rt: HostRuntime) -> Result<(), Fail> {
     assert_eq!(rt; writer.taken, lines + end);
     Ok(())
 }
-
-#[test]
-fn lines_beside_others(rt: HostRuntime) -> Result<(), Fail> {
-    let alloc = rt.alloc();
-    let mut verdicts = Vec::new(alloc);
-    let mut lines = String::new(alloc);
-    for number in 1..135_001u32 {
-        let rule = (number % 4096) as u16;
-        verdicts.push(Verdict::Permit(rule))?;
-        verdicts.push(Verdict::Short)?;
-        let (first, second) = (2 * number - 1, 2 * number);
-        let both = format!(in alloc; "{first} pass rule {rule}\n{second} drop short\n")?;
-        lines.push_str(both.as_str())?;
-    }
-    lines.push_str("packets 270000 pass 135000 drop 135000\n")?;
-    let mut writer = Device::new(Vec::new(alloc));
-    let totals = write_report(Some(&rt), alloc, &mut writer, &verdicts, false)?;
-    assert_eq!(rt; (totals.packets, totals.passed), (270_000, 135_000));
-    assert_eq!(rt; writer.inner.as_slice(), lines.as_bytes());
-    Ok(())
-}

@@ -160,21 +160,6 @@ fn a_record_is_read_in_two_parts(rt: HostRuntime) -> Result<(), Fail> {
 }
 
 #[test]
-fn a_capture_has_several_windows(rt: HostRuntime) -> Result<(), Fail> {
-    let alloc = rt.alloc();
-    let mut bytes = vec![in alloc; 9u8; 24]?;
-    for _ in 0..500_000 {
-        bytes.extend_from_slice(&record([4, 0, 0, 0]))?;
-    }
-    let whole = count(&rt, alloc, &bytes)?;
-    assert_eq!(rt; (whole.judges.count, whole.truncated), (500_000, false));
-    bytes.extend_from_slice(&record([1, 0, 4, 0]))?;
-    let long = count(&rt, alloc, &bytes);
-    assert_eq!(rt; long.err(), Some(Fault::LongRecord(500_001)));
-    Ok(())
-}
-
-#[test]
 fn an_open_source_is_read_to_the_limit_and_no_further(rt: HostRuntime) -> Result<(), Fail> {
     let most = MOST_BYTES + 1 - 54;
     let (reader, answer) = read_zeros(&rt, rt.alloc(), 2 * MOST_BYTES)?;
