@@ -130,7 +130,6 @@ fn failing_reads(rt: HostRuntime) {
         let mut writer = trickling(alloc, usize::MAX);
         let outcome = run(&rt, alloc, &DEFAULTS, &mut reader, &mut writer);
         assert_eq!(rt; outcome, Err(Fault::Read), "after {reads} reads");
-        assert_eq!(rt; status(&outcome), 4);
         assert_eq!(rt; reader.failures, 1, "after {reads} reads");
         assert_eq!(rt; writer.taken.len(), 0, "after {reads} reads");
     }
@@ -144,10 +143,8 @@ fn failing_writes(rt: HostRuntime) {
         let mut writer = trickling(alloc, writes);
         let outcome = run(&rt, alloc, &DEFAULTS, &mut reader, &mut writer);
         assert_eq!(rt; outcome, Err(Fault::Write), "after {writes} writes");
-        assert_eq!(rt; status(&outcome), 4);
         assert_eq!(rt; writer.failures, 1, "after {writes} writes");
-        assert_eq!(rt; writer.taken.len(), writes);
-        assert!(rt; FIRST_REPORT.as_bytes().starts_with(&writer.taken));
+        assert_eq!(rt; writer.taken.as_slice(), &FIRST_REPORT.as_bytes()[..writes]);
     }
 }
 
