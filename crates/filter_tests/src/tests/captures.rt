@@ -77,11 +77,8 @@ fn reads_the_packets_of_a_capture(rt: HostRuntime) -> Result<(), Fail> {
 fn takes_the_packets_of_a_capture_where_they_stand(rt: HostRuntime) -> Result<(), Fail> {
     let checked = check_capture(&LITTLE[..197])?;
     assert!(rt; checked.truncated);
-    let mut records = checked.records;
-    assert_eq!(rt; records.count(), 2);
-    for moment in [Some(100), Some(105), None] {
-        assert_eq!(rt; records.next().map(|packet| packet.moment), moment);
-    }
+    let records = Packets::Standing(checked.records);
+    assert_eq!(rt; front_of(records), (2, Some(100), 1));
     Ok(())
 }
 

@@ -3,7 +3,7 @@ ghost use Rattle.std.specs.Prelude.{◌≤◌, ◌<◌, ◌+◌, ◌^◌, length
 
 use bihash_words::{ShapeV4, ShapeV6, flow_shapes_are_sound};
 use flow_dealing::Dealing;
-use packet_dealing::{Dealer, DealtPart, deal_packets, dealt_to};
+use packet_dealing::{Dealer, DealtPacket, DealtPart, deal_packets, dealt_to};
 use packet_view::{Packet, Packets};
 use std::alloc::{AllocError, Global};
 use std::process::Abort;
@@ -58,47 +58,67 @@ fn deal<'a, R: Threads + Sync>(
     deal_packets::<ShapeV4, ShapeV6, R>(rt, alloc, dealer, number, Packets::Listed(packets))
 }
 
-// The packets with these places, from 1 and as digits, are this worker's, in this order, and no others.
+// These are a worker's packets, of those from this place on that have these workers, and no others.
 fn expect_own<'a, R: Abort>(
     rt: &R,
-    parts: &[DealtPart<'a>],
-    packets: &[Packet<'a>],
     worker: usize,
-    places: u64,
+    own: &[DealtPacket<'a>],
+    packets: &[Packet<'a>],
+    first: usize,
+    workers: &[u8],
 ) {
-    let mut first = 1usize;
-    let mut seen = 0u64;
-    for part in parts {
-        if let Some(own) = part.own.get(worker) {
-            for dealt in own.as_slice() {
-                let place = first.wrapping_add(dealt.at);
-                seen = seen.wrapping_mul(10).wrapping_add(place as u64);
-                let (moment, frame) = match packets.get(place.wrapping_sub(1)) {
-                    Some(packet) => (packet.moment, packet.frame),
-                    None => (0, [].as_slice()),
-                };
-                assert_eq!(rt; dealt.packet.frame, frame, "packet {place}");
-                assert_eq!(rt; dealt.packet.moment, moment, "packet {place}");
-            }
+    let mut left = own.iter();
+    for (at, judge) in workers.iter().enumerate() {
+        if *judge as usize != worker {
+            continue;
         }
-        first = first.wrapping_add(part.workers.len());
+        let dealt = left.next().expect(rt, "a packet");
+        assert_eq!(rt; dealt.at, at, "worker {worker}");
+        assert!(rt; first < 8 && at < 8);
+        let place = first + at;
+        assert!(rt; place < packets.len());
+        assert_eq!(rt; dealt.packet.frame, packets[place].frame, "packet {place}");
+        assert_eq!(rt;
+            dealt.packet.moment,
+            packets[place].moment,
+            "packet {place}"
+        );
     }
-    assert_eq!(rt; seen, places, "worker {worker}");
+    assert!(rt; left.next().is_none(), "worker {worker}");
 }
 
-// The worker of each packet.
-fn judges(alloc: Global, parts: &[DealtPart<'_>]) -> Result<Vec<u8>, AllocError> {
-    let mut all = Vec::new(alloc);
+// These are the packets, in their order, each with its worker, and in its list alone.
+fn expect_packets<'a, R: Abort>(
+    rt: &R,
+    parts: Vec<DealtPart<'a>>,
+    packets: &'a [Packet<'a>],
+    judges: [u8; 7],
+) {
+    let mut first = 0;
     for part in parts {
-        all.extend_from_slice(&part.workers)?;
+        let count = part.workers.len();
+        assert!(rt; first < 8 && count < 8);
+        let next = first + count;
+        assert!(rt; next < 8);
+        assert_eq!(rt; part.workers.as_slice(), &judges[first..next]);
+        for (worker, own) in part.own.as_slice().iter().enumerate() {
+            expect_own(
+                rt,
+                worker,
+                own.as_slice(),
+                packets,
+                first,
+                part.workers.as_slice(),
+            );
+        }
+        first = next;
     }
-    Ok(all)
+    assert_eq!(rt; first, packets.len());
 }
 
 // The buckets are 2896, 1046 and 2793 of 4096 for the flows of IPv4, and 776 of 1024 for that of IPv6.
 #[test]
 fn deals_packets_of_several_flows(rt: HostRuntime) -> Result<(), Fail> {
-    let alloc = rt.alloc();
     let frames = [
         four(17, 1, 2, [0x03, 0xe8, 0, 53]),
         four(6, 1, 3, [0x03, 0xe8, 0, 80]),
@@ -115,24 +135,12 @@ fn deals_packets_of_several_flows(rt: HostRuntime) -> Result<(), Fail> {
         seen(107, &frames[3]),
         seen(120, &frames[4]),
     ];
-    let parts = deal(&rt, alloc, Dealing::Bucket, 3, 0, &packets)?;
+    let parts = deal(&rt, rt.alloc(), Dealing::Bucket, 3, 0, &packets)?;
     assert_eq!(rt; parts.len(), 3);
-    assert_eq!(rt;
-        judges(alloc, &parts)?.as_slice(),
-        [1, 2, 1, 0, 2, 2, 0].as_slice()
-    );
-    for (worker, places) in [47, 13, 256].iter().enumerate() {
-        expect_own(&rt, &parts, &packets, worker, *places);
-    }
-    let parts = deal(&rt, alloc, Dealing::Round, 2, 5, &packets)?;
+    expect_packets(&rt, parts, &packets, [1, 2, 1, 0, 2, 2, 0]);
+    let parts = deal(&rt, rt.alloc(), Dealing::Round, 2, 5, &packets)?;
     assert_eq!(rt; parts.len(), 2);
-    assert_eq!(rt;
-        judges(alloc, &parts)?.as_slice(),
-        [1, 0, 1, 0, 1, 0, 1].as_slice()
-    );
-    for (worker, places) in [246, 1357].iter().enumerate() {
-        expect_own(&rt, &parts, &packets, worker, *places);
-    }
+    expect_packets(&rt, parts, &packets, [1, 0, 1, 0, 1, 0, 1]);
     Ok(())
 }
 
