@@ -4,6 +4,5 @@ mod devices;
 mod parts;
 mod reports;
 mod runs;
-mod texts;
 mod windows;
 mod words;

@@ -1,7 +1,7 @@
-//! Captures byte by byte, with the packets that the format gives them.
+//! Captures byte by byte, with the packets that the format gives them, of which `checks/rows/captures.txt` has more.
 use super::frames::UDP;
 use packet_view::{
-    CaptureFault, Order, Packet, Packets, PacketsAhead, Piece, Stop, capture_header, check_capture,
+    Order, Packet, Packets, PacketsAhead, Piece, Stop, capture_header, check_capture,
     front_records, next_record, read_capture,
 };
 use std::test::Fail;
@@ -33,40 +33,9 @@ const BIG: [u8; 82] = [
 ];
 
 #[test]
-fn reads_both_orders_and_both_magic_numbers(rt: HostRuntime) {
-    let mut little = LITTLE;
-    let mut big = BIG;
-    assert_eq!(rt; capture_header(&little), Ok(Order::Little), "microseconds");
-    assert_eq!(rt; capture_header(&big), Ok(Order::Big), "nanoseconds");
-    [little[0], little[1]] = [0x4d, 0x3c];
-    [big[2], big[3]] = [0xc3, 0xd4];
-    assert_eq!(rt; capture_header(&little), Ok(Order::Little), "nanoseconds");
-    assert_eq!(rt; capture_header(&big), Ok(Order::Big), "microseconds");
-}
-
-#[test]
-fn answers_the_first_fault_of_a_header(rt: HostRuntime) {
-    let mut newer = LITTLE;
-    newer[4] = 3;
-    let mut foreign = LITTLE;
-    foreign[20] = 113;
-    let mut both = foreign;
-    both[4] = 3;
-    let mut upper_half = LITTLE;
-    upper_half[22] = 1;
-    let pcapng = [
-        0x0a, 0x0d, 0x0d, 0x0a, 0, 0, 0, 0, 0, 0, 0, 0, 0, 0, 0, 0, 0, 0, 0, 0, 0, 0, 0, 0,
-    ];
-    assert_eq!(rt; capture_header(&LITTLE[..23]), Err(CaptureFault::Short));
-    assert_eq!(rt; capture_header(&pcapng), Err(CaptureFault::Magic));
-    assert_eq!(rt; capture_header(&newer), Err(CaptureFault::Version));
-    assert_eq!(rt; capture_header(&foreign), Err(CaptureFault::LinkType));
-    assert_eq!(rt; capture_header(&both), Err(CaptureFault::Version));
-    assert_eq!(rt;
-        capture_header(&upper_half),
-        Ok(Order::Little),
-        "the upper half of the link field"
-    );
+fn reads_both_orders(rt: HostRuntime) {
+    assert_eq!(rt; capture_header(&LITTLE), Ok(Order::Little));
+    assert_eq!(rt; capture_header(&BIG), Ok(Order::Big));
 }
 
 #[test]
@@ -80,72 +49,27 @@ fn finds_the_next_record(rt: HostRuntime) {
         assert!(rt; false, "a whole record");
         return;
     };
-    assert_eq!(rt; moment, 100);
+    assert_eq!(rt; (moment, rest.len()), (100, 116));
     assert_eq!(rt; frame, UDP.as_slice());
-    assert_eq!(rt; rest, &LITTLE[82..]);
-
-    let mut long = LITTLE;
-    [long[32], long[33], long[34]] = [0x01, 0x00, 0x04];
-    assert!(rt; matches!(next_record(&LITTLE[198..], Order::Little), Piece::End));
-    assert!(rt;
-        matches!(
-            next_record(&LITTLE[24..39], Order::Little),
-            Piece::Truncated
-        )
-    );
-    assert!(rt;
-        matches!(
-            next_record(&LITTLE[24..81], Order::Little),
-            Piece::Truncated
-        )
-    );
-    assert!(rt;
-        matches!(next_record(&long[24..], Order::Little), Piece::TooLong),
-        "262145 bytes"
-    );
-    assert!(rt;
-        matches!(next_record(&LITTLE[24..], Order::Big), Piece::TooLong),
-        "the other order"
-    );
 }
 
 /// The third record begins at 140.
 #[test]
 fn finds_the_whole_records_at_the_front(rt: HostRuntime) {
     let front = front_records(&LITTLE[24..145], Order::Little);
-    let mut records = front.records;
-    assert_eq!(rt; records.count(), 2);
-    for moment in [100u32, 105] {
-        assert_eq!(rt; records.next().map(|packet| packet.moment), Some(moment));
-    }
-    assert_eq!(rt; front.rest, &LITTLE[140..145]);
+    assert_eq!(rt; (front.records.count(), front.rest.len()), (2, 5));
     assert_eq!(rt; front.stop, Stop::Truncated);
-}
-
-/// Each cut of the three records: they end at 82, 140 and 198.
-#[test]
-fn reads_a_capture_cut_anywhere(rt: HostRuntime) -> Result<(), Fail> {
-    for kept in 24..199usize {
-        let capture = read_capture(rt.alloc(), &LITTLE[..kept])?;
-        let whole = kept == 24 || kept == 82 || kept == 140 || kept == 198;
-        assert_eq!(rt; capture.packets.len(), (kept - 24) / 58, "kept {kept}");
-        assert_eq!(rt; capture.truncated, !whole, "kept {kept}");
-    }
-    Ok(())
+    assert_eq!(rt;
+        front_of(Packets::Standing(front.records)),
+        (2, Some(100), 1)
+    );
 }
 
 #[test]
 fn reads_the_packets_of_a_capture(rt: HostRuntime) -> Result<(), Fail> {
-    let capture = read_capture(rt.alloc(), &LITTLE)?;
-    assert_eq!(rt; capture.packets.len(), 3);
-    for (packet, moment) in capture.packets.iter().zip([100u32, 105, 106]) {
-        assert_eq!(rt; packet.moment, moment);
-        assert_eq!(rt; packet.frame.len(), 42);
-    }
-    let big = read_capture(rt.alloc(), &BIG)?;
-    assert_eq!(rt; big.packets.len(), 1);
-    assert_eq!(rt; big.packets[0].moment, 100);
-    assert_eq!(rt; big.packets[0].frame, UDP.as_slice());
+    let capture = read_capture(rt.alloc(), &BIG)?;
+    assert!(rt; !capture.truncated);
+    assert_eq!(rt; front_of_list(&capture.packets), (1, Some(100), 0));
     Ok(())
 }
 
@@ -153,31 +77,8 @@ fn reads_the_packets_of_a_capture(rt: HostRuntime) -> Result<(), Fail> {
 fn takes_the_packets_of_a_capture_where_they_stand(rt: HostRuntime) -> Result<(), Fail> {
     let checked = check_capture(&LITTLE[..197])?;
     assert!(rt; checked.truncated);
-    let mut records = checked.records;
-    assert_eq!(rt; records.count(), 2);
-    for moment in [100u32, 105] {
-        let first = records.next();
-        assert_eq!(rt; first.map(|packet| packet.moment), Some(moment));
-        assert_eq!(rt; first.map(|packet| packet.frame.len()), Some(42));
-    }
-    assert_eq!(rt; records.count(), 0);
-    assert!(rt; records.next().is_none());
-
-    let big = check_capture(&BIG)?;
-    assert!(rt; !big.truncated);
-    assert_eq!(rt; front_of(Packets::Standing(big.records)), (1, Some(100), 0));
-    let mut records = big.records;
-    assert_eq!(rt;
-        records.next().map(|packet| packet.frame),
-        Some(UDP.as_slice())
-    );
-
-    let mut third = LITTLE;
-    [third[148], third[149], third[150]] = [0x01, 0x00, 0x04];
-    assert_eq!(rt;
-        check_capture(&third).err(),
-        Some(CaptureFault::LongRecord(3))
-    );
+    let records = Packets::Standing(checked.records);
+    assert_eq!(rt; front_of(records), (2, Some(100), 1));
     Ok(())
 }
 
@@ -190,22 +91,6 @@ fn front_of(mut packets: Packets<'_>) -> (usize, Option<u32>, usize) {
 
 fn front_of_list<'a>(packets: &'a [Packet<'a>]) -> (usize, Option<u32>, usize) {
     front_of(Packets::Listed(packets))
-}
-
-#[test]
-fn takes_listed_packets(rt: HostRuntime) {
-    let listed = [
-        Packet {
-            moment: 100,
-            frame: &UDP,
-        },
-        Packet {
-            moment: 105,
-            frame: &UDP,
-        },
-    ];
-    assert_eq!(rt; front_of_list(&listed), (2, Some(100), 1));
-    assert_eq!(rt; front_of_list(&listed[2..]), (0, None, 0));
 }
 
 // How many bytes the frame of this number has: every tenth is longer than the others.
@@ -251,31 +136,5 @@ fn takes_packets_that_are_found_ahead(rt: HostRuntime) -> Result<(), Fail> {
     assert!(rt; are_numbered(PacketsAhead::new(Packets::Standing(checked.records))));
     let capture = read_capture(rt.alloc(), &bytes)?;
     assert!(rt; are_listed_by_number(&capture.packets));
-    Ok(())
-}
-
-#[test]
-fn answers_the_fault_of_a_capture(rt: HostRuntime) -> Result<(), Fail> {
-    let mut first = LITTLE;
-    [first[32], first[33], first[34]] = [0x01, 0x00, 0x04];
-    let mut greatest = LITTLE;
-    [greatest[32], greatest[33], greatest[34], greatest[35]] = [0xff, 0xff, 0xff, 0xff];
-    let mut third = LITTLE;
-    [third[148], third[149], third[150]] = [0x01, 0x00, 0x04];
-    for (bytes, want) in [
-        (&LITTLE[..23], CaptureFault::Short),
-        (first.as_slice(), CaptureFault::LongRecord(1)),
-        (greatest.as_slice(), CaptureFault::LongRecord(1)),
-        (third.as_slice(), CaptureFault::LongRecord(3)),
-    ] {
-        assert_eq!(rt; read_capture(rt.alloc(), bytes).err(), Some(want));
-    }
-
-    // 262144 bytes may be kept, and ten of them are there.
-    let mut limit = LITTLE;
-    [limit[32], limit[33], limit[34]] = [0x00, 0x00, 0x04];
-    let capture = read_capture(rt.alloc(), &limit[..50])?;
-    assert!(rt; capture.packets.is_empty());
-    assert!(rt; capture.truncated);
     Ok(())
 }

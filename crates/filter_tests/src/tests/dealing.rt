@@ -31,13 +31,11 @@ fn packets_are_dealt_in_turn(rt: HostRuntime) {
 #[test]
 fn packets_of_a_flow_are_dealt_by_bucket(rt: HostRuntime) {
     assert_eq!(rt; worker_in(Dealing::Bucket, None), 0);
-    assert_eq!(rt; worker_in(Dealing::Bucket, flow(FlowKey::Four([0, 0]))), 0);
-    assert_eq!(rt;
-        worker_in(Dealing::Bucket, flow(FlowKey::Four([0, STEP]))),
-        3503 % 5
-    );
-    assert_eq!(rt;
-        worker_in(Dealing::Bucket, flow(FlowKey::Six([0, 0, 0, 0, STEP]))),
-        431 % 5
-    );
+    for (key, bucket) in [
+        (FlowKey::Four([0, 0]), 0),
+        (FlowKey::Four([0, STEP]), 3503),
+        (FlowKey::Six([0, 0, 0, 0, STEP]), 431),
+    ] {
+        assert_eq!(rt; worker_in(Dealing::Bucket, flow(key)), bucket % 5);
+    }
 }

@@ -24,23 +24,14 @@ fn tuple(proto: u8, fields: Fields) -> Tuple
 }
 
 #[test]
-fn each_direction_has_its_rules(rt: HostRuntime) -> Result<(), Fail> {
-    let text = b"mac 02:00:00:0a:0b:ff\n\
-        in permit ipv4 any any udp\n\
-        out deny ipv4 any any tcp\n\
-        out permit+reflect ipv4 any any udp\n";
+fn a_filter_is_ready(rt: HostRuntime) -> Result<(), Fail> {
     let filter = Filter {
-        policy: read_policy(rt.alloc(), text)?,
+        policy: read_policy(rt.alloc(), b"mac 02:00:00:0a:0b:ff\n")?,
         times: TIMES,
     };
     let ready = filter.ready();
     assert_eq!(rt; ready.own, Some(Mac([2, 0, 0, 10, 11, 255])));
     assert_eq!(rt; ready.times.transient, 120);
-    let udp = tuple(17, Fields::Ports { from: 80, to: 1000 });
-    let inbound = ready.rules_of(Direction::Inbound);
-    let outbound = ready.rules_of(Direction::Outbound);
-    assert_eq!(rt; inbound.first_match(&udp), Some((0, Action::Permit)));
-    assert_eq!(rt; outbound.first_match(&udp), Some((1, Action::Reflect)));
     Ok(())
 }
 
@@ -61,32 +52,26 @@ fn prepared_rules_decide_as_the_listed_ones(rt: HostRuntime) -> Result<(), Fail>
         policy: read_policy(rt.alloc(), text.as_slice())?,
         times: TIMES,
     };
-    let prepared = filter.prepare(rt.alloc(), 10_000)?;
-    assert!(rt; prepared.inbound.is_some());
-    assert!(rt; prepared.outbound.is_none());
+    let prepared = filter.prepare(rt.alloc(), 10_000).expect(&rt, "memory");
+    assert!(rt; prepared.inbound.is_some() && prepared.outbound.is_none());
     let udp = tuple(17, Fields::Ports { from: 80, to: 1000 });
-    let listed = filter.ready().rules_of(Direction::Inbound);
-    assert_eq!(rt; listed.first_match(&udp), Some((70, Action::Permit)));
-    let ready = filter.ready_with(&prepared);
-    let indexed = ready.rules_of(Direction::Inbound);
-    assert_eq!(rt; indexed.first_match(&udp), Some((70, Action::Permit)));
-    let outbound = ready.rules_of(Direction::Outbound);
-    assert_eq!(rt; outbound.first_match(&udp), None);
+    for ready in [filter.ready(), filter.ready_with(&prepared)] {
+        let inbound = ready.rules_of(Direction::Inbound);
+        assert_eq!(rt; inbound.first_match(&udp), Some((70, Action::Permit)));
+    }
     Ok(())
 }
 
 #[test]
 fn rules_are_numbered_from_1(rt: HostRuntime) {
     assert_eq!(rt; verdict_of_rules(None), Verdict::ByDefault);
-    assert_eq!(rt; verdict_of_rules(Some((0, Action::Deny))), Verdict::Deny(1));
-    assert_eq!(rt;
-        verdict_of_rules(Some((4, Action::Permit))),
-        Verdict::Permit(5)
-    );
-    assert_eq!(rt;
-        verdict_of_rules(Some((9, Action::Reflect))),
-        Verdict::Permit(10)
-    );
+    for (number, action, verdict) in [
+        (0, Action::Deny, Verdict::Deny(1)),
+        (4, Action::Permit, Verdict::Permit(5)),
+        (9, Action::Reflect, Verdict::Permit(10)),
+    ] {
+        assert_eq!(rt; verdict_of_rules(Some((number, action))), verdict);
+    }
 }
 
 #[test]

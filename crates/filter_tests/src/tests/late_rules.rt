@@ -87,57 +87,65 @@ fn packet_of_a_live_session_asks_no_rules(rt: HostRuntime) {
 }
 
 #[test]
-fn rules_are_asked_where_the_session_has_expired(rt: HostRuntime) {
+fn rules_are_asked_where_no_session_lives(rt: HostRuntime) {
     let found = Some(LAST_AT_1000);
-    assert_eq!(rt;
-        udp_outcome(Action::Deny, 1601, Reply::Changed(found), found),
-        Some(Outcome {
-            change: Change::Remove,
-            asked: true,
-            verdict: Verdict::Deny(1),
-        })
-    );
-}
-
-#[test]
-fn reflecting_rule_enters_a_session(rt: HostRuntime) {
-    assert_eq!(rt;
-        udp_outcome(Action::Reflect, 7, Reply::Changed(None), None),
-        Some(Outcome {
-            change: Change::Set(7),
-            asked: true,
-            verdict: Verdict::Reflect(1),
-        })
-    );
-}
-
-#[test]
-fn reflecting_rule_without_place_drops(rt: HostRuntime) {
-    let refused = [
-        (Reply::Worn(None), Verdict::Worn),
-        (Reply::Full, Verdict::Full),
-        (Reply::NoPages { log2: 1, left: 1 }, Verdict::NoPages),
-    ];
-    for (reply, verdict) in refused {
+    for (action, moment, reply, found, change, verdict) in [
+        (
+            Action::Deny,
+            1601,
+            Reply::Changed(found),
+            found,
+            Change::Remove,
+            Verdict::Deny(1),
+        ),
+        (
+            Action::Reflect,
+            7,
+            Reply::Changed(None),
+            None,
+            Change::Set(7),
+            Verdict::Reflect(1),
+        ),
+        (
+            Action::Reflect,
+            7,
+            Reply::Worn(None),
+            None,
+            Change::Set(7),
+            Verdict::Worn,
+        ),
+        (
+            Action::Reflect,
+            7,
+            Reply::Full,
+            None,
+            Change::Set(7),
+            Verdict::Full,
+        ),
+        (
+            Action::Reflect,
+            7,
+            Reply::NoPages { log2: 1, left: 1 },
+            None,
+            Change::Set(7),
+            Verdict::NoPages,
+        ),
+        (
+            Action::Permit,
+            7,
+            Reply::Kept(None),
+            None,
+            Change::Keep,
+            Verdict::Permit(1),
+        ),
+    ] {
         assert_eq!(rt;
-            udp_outcome(Action::Reflect, 7, reply, None),
+            udp_outcome(action, moment, reply, found),
             Some(Outcome {
-                change: Change::Set(7),
+                change,
                 asked: true,
                 verdict,
             })
         );
     }
-}
-
-#[test]
-fn permitted_packet_starts_no_session(rt: HostRuntime) {
-    assert_eq!(rt;
-        udp_outcome(Action::Permit, 7, Reply::Kept(None), None),
-        Some(Outcome {
-            change: Change::Keep,
-            asked: true,
-            verdict: Verdict::Permit(1),
-        })
-    );
 }

@@ -73,18 +73,16 @@ fn expect_own<'a, R: Abort>(
             continue;
         }
         let dealt = left.next().expect(rt, "a packet");
-        assert_eq!(rt; dealt.at, at, "worker {worker}");
         assert!(rt; first < 8 && at < 8);
         let place = first + at;
         assert!(rt; place < packets.len());
-        assert_eq!(rt; dealt.packet.frame, packets[place].frame, "packet {place}");
+        let packet = packets[place];
         assert_eq!(rt;
-            dealt.packet.moment,
-            packets[place].moment,
-            "packet {place}"
+            (dealt.at, dealt.packet.moment, dealt.packet.frame),
+            (at, packet.moment, packet.frame)
         );
     }
-    assert!(rt; left.next().is_none(), "worker {worker}");
+    assert!(rt; left.next().is_none());
 }
 
 // These are the packets, in their order, each with its worker, and in its list alone.

@@ -62,20 +62,6 @@ impl Gate for Meeting {
     }
 }
 
-/// Holds no packet.
-#[derive(Drop)]
-struct Open;
-
-impl Gate for Open {
-    fn before(&self, worker: usize, packet: usize) {
-        let _ = (worker, packet);
-    }
-
-    fn after(&self, worker: usize, packet: usize) {
-        let _ = (worker, packet);
-    }
-}
-
 /// Counts, in a byte for each of the packets 0 to 3, how often it came to the gate and how often it left it.
 #[derive(Drop)]
 struct Counts {
@@ -145,7 +131,9 @@ fn verdicts_on_parts<R: Threads + Wait + Sync, G: Gate + Sync>(
     requires few { length first.now + length second.now ≤ 4 }
 {
     flow_shapes_are_sound();
-    let (tables, callers) = create_tables::<ShapeV4, ShapeV6>(alloc)?;
+    let Ok((tables, callers)) = create_tables::<ShapeV4, ShapeV6>(alloc) else {
+        return Err(RunFault::Memory);
+    };
     let setup = Setup {
         rt,
         gate,
@@ -167,7 +155,7 @@ fn verdicts_on_parts<R: Threads + Wait + Sync, G: Gate + Sync>(
     twice.end(alloc)
 }
 
-// A request, its answer, and an answer that nobody asked for.
+// Worker 1 sees the answer before worker 0 sees the request.
 #[test]
 fn workers(rt: HostRuntime) -> Result<(), Fail> {
     let alloc = rt.alloc();
@@ -187,12 +175,6 @@ fn workers(rt: HostRuntime) -> Result<(), Fail> {
             frame: &frames[2],
         },
     ];
-    let wanted = [Verdict::Reflect(1), Verdict::Session, Verdict::ByDefault];
-    for count in [1, 2, 16] {
-        let found = verdicts(&rt, alloc, &filter, &packets, count, &Open, Dealing::Bucket)?;
-        assert_eq!(rt; found.as_slice(), wanted.as_slice(), "{count} workers");
-    }
-    // Worker 1 sees the answer before worker 0 sees the request.
     let gate = Meeting::new(true);
     let found = verdicts(&rt, alloc, &filter, &packets, 2, &gate, Dealing::Round)?;
     assert!(rt; !gate.gave_up.load(Ordering::SeqCst));
@@ -201,30 +183,12 @@ fn workers(rt: HostRuntime) -> Result<(), Fail> {
     Ok(())
 }
 
-// Two workers are inside their packets at once.
+// Two workers are inside their packets at once: a frame of another type goes to worker 0, and a request from port 1001,
+// whose bucket is odd, to worker 1.
 #[test]
 fn both_before(rt: HostRuntime) -> Result<(), Fail> {
     let alloc = rt.alloc();
     let filter = filter_of(alloc, NAMES)?;
-    let frames = [request(2), answer(2), answer(3)];
-    let packets = [
-        Packet {
-            moment: 100,
-            frame: &frames[0],
-        },
-        Packet {
-            moment: 105,
-            frame: &frames[1],
-        },
-        Packet {
-            moment: 106,
-            frame: &frames[2],
-        },
-    ];
-    let gate = Meeting::new(false);
-    verdicts(&rt, alloc, &filter, &packets, 2, &gate, Dealing::Round)?;
-    assert!(rt; !gate.gave_up.load(Ordering::SeqCst));
-    // A frame of another type goes to worker 0, and a request from port 1001, whose bucket is odd, to worker 1.
     let foreign = [2, 0, 0, 0, 0, 2, 2, 0, 0, 0, 0, 1, 8, 6];
     let mut odd = request(2);
     odd[35] = 0xe9;
@@ -238,46 +202,12 @@ fn both_before(rt: HostRuntime) -> Result<(), Fail> {
             frame: &odd,
         },
     ];
-    let gate = Meeting::new(false);
-    let found = verdicts(&rt, alloc, &filter, &packets, 2, &gate, Dealing::Bucket)?;
-    assert!(rt; !gate.gave_up.load(Ordering::SeqCst));
     let wanted = [Verdict::NotIp, Verdict::Reflect(1)];
-    assert_eq!(rt; found.as_slice(), wanted.as_slice());
-    Ok(())
-}
-
-// Four hundred packets of a hundred flows, each request with its answer, twice: dealt by bucket, the verdicts are
-// those of one worker.
-#[test]
-fn many_flows(rt: HostRuntime) -> Result<(), Fail> {
-    let alloc = rt.alloc();
-    let filter = filter_of(alloc, NAMES)?;
-    let mut frames = Vec::with_capacity(alloc, 400)?;
-    for i in 0..400u32 {
-        let server = (i / 2 % 100) as u8;
-        frames.push(if i % 2 == 0 {
-            request(server)
-        } else {
-            answer(server)
-        })?;
-    }
-    let mut packets = Vec::with_capacity(alloc, 400)?;
-    for frame in frames.as_slice() {
-        packets.push(Packet { moment: 100, frame })?;
-    }
-    let alone = verdicts(&rt, alloc, &filter, &packets, 1, &Open, Dealing::Bucket)?;
-    assert_eq!(rt; alone.len(), 400);
-    for (i, verdict) in alone.as_slice().iter().enumerate() {
-        let wanted = if i < 200 && i % 2 == 0 {
-            Verdict::Reflect(1)
-        } else {
-            Verdict::Session
-        };
-        assert_eq!(rt; *verdict, wanted, "packet {i}");
-    }
-    for count in [2, 3, 16] {
-        let found = verdicts(&rt, alloc, &filter, &packets, count, &Open, Dealing::Bucket)?;
-        assert_eq!(rt; found.as_slice(), alone.as_slice(), "{count} workers");
+    for dealing in [Dealing::Round, Dealing::Bucket] {
+        let gate = Meeting::new(false);
+        let found = verdicts(&rt, alloc, &filter, &packets, 2, &gate, dealing)?;
+        assert!(rt; !gate.gave_up.load(Ordering::SeqCst));
+        assert_eq!(rt; found.as_slice(), wanted.as_slice());
     }
     Ok(())
 }

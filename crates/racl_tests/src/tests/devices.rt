@@ -1,5 +1,6 @@
 //! Input up to so many bytes, and input that nothing is kept of.
-ghost use Rattle.std.specs.Prelude.{◌≤◌, None, IfOk};
+ghost use Rattle.std.specs.Prelude.{◌≤◌, ◌+◌, None, IfOk};
+ghost use Rattle.racl_io.specs.Inputs.{most_bytes};
 
 use racl_io::{Device, DeviceFault, Fault, MOST_BYTES, Source, drain, read_until, write_all};
 use std::io;
@@ -88,20 +89,39 @@ fn an_interrupted_device_is_asked_again(rt: HostRuntime) -> Result<(), Fail> {
     Ok(())
 }
 
+// Whether these bytes ended before there were so many, and how many of them are left. `None`: a fault.
+fn read_from(bytes: &[u8], all: &mut Vec<u8>, least: usize) -> Option<(bool, usize)>
+    requires few { least ≤ most_bytes + 1 }
+{
+    let mut reader = Device::new(bytes);
+    match read_until(&mut reader, all, least) {
+        Ok(ended) => Some((ended, reader.inner.len())),
+        Err(_) => None,
+    }
+}
+
 #[test]
 fn reads_until_there_are_enough_bytes(rt: HostRuntime) -> Result<(), Fail> {
-    let alloc = rt.alloc();
-    let bytes = vec![in alloc; 5u8; 200_000]?;
-    let mut reader = Device::new(bytes.as_slice());
-    let mut all = Vec::new(alloc);
-    all.push(4)?;
-    assert!(rt; !read_until(&mut reader, &mut all, 70_000)?);
-    assert_eq!(rt; (all.len(), reader.inner.len()), (70_000, 130_001));
-    assert!(rt; !read_until(&mut reader, &mut all, 70_000)?);
-    assert_eq!(rt; (all.len(), reader.inner.len()), (70_000, 130_001));
-    assert!(rt; read_until(&mut reader, &mut all, 200_002)?);
+    let bytes = vec![in rt.alloc(); 5u8; 200_000]?;
+    let mut all = vec![in rt.alloc(); 4u8; 1]?;
+    assert_eq!(rt; read_from(&bytes, &mut all, 70_000), Some((false, 130_001)));
+    assert_eq!(rt; read_from(&bytes, &mut all, 70_000), Some((false, 200_000)));
+    assert_eq!(rt; read_from(&bytes, &mut all, 280_000), Some((true, 0)));
+    assert_eq!(rt; all.len(), 270_000);
     assert_eq!(rt; all[0], 4);
-    assert_eq!(rt; &all[1..], bytes.as_slice());
+    assert_eq!(rt; &all[70_000..], bytes.as_slice());
+    Ok(())
+}
+
+#[test]
+fn a_buffer_with_room_does_not_grow(rt: HostRuntime) -> Result<(), Fail> {
+    let bytes = vec![in rt.alloc(); 5u8; 2_000_000]?;
+    let mut all = Vec::with_capacity(rt.alloc(), 1_800_000)?;
+    assert_eq!(rt;
+        read_from(&bytes, &mut all, 1_800_000),
+        Some((false, 200_000))
+    );
+    assert_eq!(rt; all.capacity(), 1_800_000);
     Ok(())
 }
 
@@ -119,17 +139,6 @@ fn a_read_may_be_short_or_fail(rt: HostRuntime) -> Result<(), Fail> {
         Some(Fault::Read)
     );
     assert_eq!(rt; (all.len(), reader.failures), (17, 1));
-    Ok(())
-}
-
-#[test]
-fn a_buffer_with_room_does_not_grow(rt: HostRuntime) -> Result<(), Fail> {
-    let alloc = rt.alloc();
-    let bytes = vec![in alloc; 5u8; 2_000_000]?;
-    let mut reader = Device::new(bytes.as_slice());
-    let mut all = Vec::with_capacity(alloc, 1_800_000)?;
-    assert!(rt; !read_until(&mut reader, &mut all, 1_800_000)?);
-    assert_eq!(rt; all.capacity(), 1_800_000);
     Ok(())
 }
 

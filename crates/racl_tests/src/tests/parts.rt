@@ -4,16 +4,11 @@ use racl_io::{Fault, Form, decoded, parts};
 use std::test::Fail;
 
 #[test]
-fn an_input_has_three_parts(rt: HostRuntime) -> Result<(), Fail> {
-    let input = parts(b"# one\nhex\nd4 c3\n").ok_or("no marker line")?;
+fn an_input_has_three_parts(rt: HostRuntime) {
+    let input = parts(b"# one\nhex\nd4 c3\n").expect(&rt, "a marker line");
     assert_eq!(rt; input.policy, b"# one\n".as_slice());
     assert_eq!(rt; input.form, Form::Hexadecimal);
     assert_eq!(rt; input.content, b"d4 c3\n".as_slice());
-    let input = parts(b"pcap\r\nhex\n").ok_or("no marker line")?;
-    assert_eq!(rt; input.policy, b"".as_slice());
-    assert_eq!(rt; input.form, Form::Binary);
-    assert_eq!(rt; input.content, b"hex\n".as_slice());
-    Ok(())
 }
 
 #[test]

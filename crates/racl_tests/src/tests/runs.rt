@@ -1,11 +1,43 @@
-//! Whole inputs through the program, with reports computed by hand from the rules.
+//! A whole input through the program, with devices that are slow or fail.
+use racl_cli::Options;
+use session_state::Timeouts;
 
-mod captures;
-mod faults;
-mod frames;
-mod inputs;
-mod policies;
-mod records;
 mod transfers;
-mod verdicts;
-mod workers;
+
+/// A whole input: a request, its answer, and an answer that nobody asked for.
+const FIRST_PATH: &str = "\
+mac 02:00:00:00:00:01
+out permit+reflect ipv4 10.0.0.1 any udp dport 53
+hex
+d4c3b2a102000400000000000000000000000400 01000000
+64000000 00000000 2a000000 2a000000
+020000000002 020000000001 0800
+4500001c 00000000 40110000 0a000001 0a000002
+03e8 0035 0008 0000
+69000000 00000000 2a000000 2a000000
+020000000001 020000000002 0800
+4500001c 00000000 40110000 0a000002 0a000001
+0035 03e8 0008 0000
+6a000000 00000000 2a000000 2a000000
+020000000001 020000000002 0800
+4500001c 00000000 40110000 0a000003 0a000001
+0035 03e8 0008 0000
+";
+
+/// The report on it.
+const FIRST_REPORT: &str = "\
+1 pass rule 1 reflect
+2 pass session
+3 drop default
+packets 3 pass 2 drop 1
+";
+
+/// The options where no word sets one.
+const DEFAULTS: Options = Options {
+    workers: 1,
+    times: Timeouts {
+        established: 86400,
+        transient: 120,
+        udp: 600,
+    },
+};

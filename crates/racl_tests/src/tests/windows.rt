@@ -3,7 +3,7 @@ ghost use Rattle.std.specs.Prelude.{◌≡◌, ◌≤◌, None, IfOk, false, len
 ghost use Rattle.racl_io.specs.Inputs.{most_bytes};
 ghost use Rattle.capture_stream.specs.Streams.{IsSize};
 
-use capture_stream::{Judges, Opening, Streamed, WindowSize, judge_stream};
+use capture_stream::{Judges, Opening, WindowSize, judge_stream};
 use packet_view::{Order, Packets};
 use racl_io::{Device, DeviceFault, Fault, MOST_BYTES, Source};
 use std::alloc::{AllocError, Global};
@@ -103,13 +103,14 @@ fn opened(alloc: Global, front: &[u8]) -> Result<Opening, AllocError>
     })
 }
 
-// The first 54 bytes are read before all others, and then windows of this size.
+// How many packets were judged, and whether the capture was cut. The first 54 bytes are read before all others, and then
+// windows of this size.
 fn count_in<T: Threads>(
     beside: Option<&T>,
     alloc: Global,
     capture: &[u8],
     size: WindowSize,
-) -> Result<Streamed<Counter>, Fault>
+) -> Result<(usize, bool), Fault>
     requires { IsSize size }
 {
     if capture.len() < 54 {
@@ -118,10 +119,13 @@ fn count_in<T: Threads>(
     let opening = opened(alloc, &capture[..54])?;
     let mut reader = Device::new(&capture[54..]);
     let counter = Counter { count: 0 };
-    judge_stream(beside, alloc, &mut reader, counter, opening, size)
+    match judge_stream(beside, alloc, &mut reader, counter, opening, size) {
+        Ok(whole) => Ok((whole.judges.count, whole.truncated)),
+        Err(fault) => Err(fault),
+    }
 }
 
-fn count<T: Threads>(rt: &T, alloc: Global, capture: &[u8]) -> Result<Streamed<Counter>, Fault> {
+fn count<T: Threads>(rt: &T, alloc: Global, capture: &[u8]) -> Result<(usize, bool), Fault> {
     count_in(Some(rt), alloc, capture, GROWING)
 }
 
@@ -132,7 +136,7 @@ fn count_small<T: Threads>(
     capture: &[u8],
     bytes: usize,
     is_beside: bool,
-) -> Result<Streamed<Counter>, Fault> {
+) -> Result<(usize, bool), Fault> {
     let beside = if is_beside { Some(rt) } else { None };
     count_in(beside, alloc, capture, windows_of(bytes))
 }
@@ -144,33 +148,14 @@ fn a_record_is_read_in_two_parts(rt: HostRuntime) -> Result<(), Fail> {
     for _ in 0..3 {
         bytes.extend_from_slice(&record([4, 0, 0, 0]))?;
     }
-    let whole = count(&rt, alloc, &bytes)?;
-    assert_eq!(rt; (whole.judges.count, whole.truncated), (3, false));
+    assert_eq!(rt; count(&rt, alloc, &bytes), Ok((3, false)));
     bytes.extend_from_slice(&record([1, 0, 4, 0]))?;
     bytes.extend_from_slice(&record([4, 0, 0, 0]))?;
-    let long = count(&rt, alloc, &bytes);
-    assert_eq!(rt; long.err(), Some(Fault::LongRecord(4)));
-    bytes.truncate(83);
-    let cut = count(&rt, alloc, &bytes)?;
-    assert_eq!(rt; (cut.judges.count, cut.truncated), (2, true));
-    bytes.truncate(54);
-    let first = count(&rt, alloc, &bytes)?;
-    assert_eq!(rt; (first.judges.count, first.truncated), (1, true));
-    Ok(())
-}
-
-#[test]
-fn a_capture_has_several_windows(rt: HostRuntime) -> Result<(), Fail> {
-    let alloc = rt.alloc();
-    let mut bytes = vec![in alloc; 9u8; 24]?;
-    for _ in 0..500_000 {
-        bytes.extend_from_slice(&record([4, 0, 0, 0]))?;
+    assert_eq!(rt; count(&rt, alloc, &bytes), Err(Fault::LongRecord(4)));
+    for (length, counted) in [(83, (2, true)), (54, (1, true))] {
+        bytes.truncate(length);
+        assert_eq!(rt; count(&rt, alloc, &bytes), Ok(counted));
     }
-    let whole = count(&rt, alloc, &bytes)?;
-    assert_eq!(rt; (whole.judges.count, whole.truncated), (500_000, false));
-    bytes.extend_from_slice(&record([1, 0, 4, 0]))?;
-    let long = count(&rt, alloc, &bytes);
-    assert_eq!(rt; long.err(), Some(Fault::LongRecord(500_001)));
     Ok(())
 }
 
@@ -206,14 +191,10 @@ fn records_lie_across_the_edges_of_windows(rt: HostRuntime) -> Result<(), Fail> 
     long.extend_from_slice(&record([1, 0, 4, 0]))?;
     for is_beside in [false, true] {
         for size in 1..=41 {
-            let whole = count_small(&rt, alloc, &bytes, size, is_beside)?;
-            assert_eq!(rt;
-                (whole.judges.count, whole.truncated),
-                (6, false),
-                "windows of {size}"
-            );
-            let fault = count_small(&rt, alloc, &long, size, is_beside).err();
-            assert_eq!(rt; fault, Some(Fault::LongRecord(7)), "windows of {size}");
+            let whole = count_small(&rt, alloc, &bytes, size, is_beside);
+            assert_eq!(rt; whole, Ok((6, false)), "windows of {size}");
+            let fault = count_small(&rt, alloc, &long, size, is_beside);
+            assert_eq!(rt; fault, Err(Fault::LongRecord(7)), "windows of {size}");
         }
     }
     Ok(())
@@ -229,15 +210,11 @@ fn a_capture_is_cut_in_any_window(rt: HostRuntime) -> Result<(), Fail> {
     }
     for length in 54..=144usize {
         let cut = &bytes[..length.min(bytes.len())];
-        let found = count_small(&rt, alloc, cut, 7, false)?;
+        let found = count_small(&rt, alloc, cut, 7, false);
         // A record has 20 bytes.
         let behind_header = length.saturating_sub(24);
         let wanted = (behind_header / 20, behind_header % 20 != 0);
-        assert_eq!(rt;
-            (found.judges.count, found.truncated),
-            wanted,
-            "{length} bytes"
-        );
+        assert_eq!(rt; found, Ok(wanted), "{length} bytes");
     }
     Ok(())
 }

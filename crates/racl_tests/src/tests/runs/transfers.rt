@@ -1,10 +1,9 @@
-//! Devices that move a byte at a time, devices that fail, and inputs of the greatest size.
+//! Devices that move a byte at a time, and devices that fail.
 ghost use Rattle.std.specs.Prelude.{◌≡◌, None};
 
-use super::captures::{FIRST_PATH, FIRST_REPORT, defaults};
-use racl_cli::{Device, DeviceFault, Fault, Sink, Source, run, status};
+use super::{DEFAULTS, FIRST_PATH, FIRST_REPORT};
+use racl_cli::{Device, DeviceFault, Fault, Sink, Source, Totals, run, status};
 use std::alloc::Global;
-use std::test::Fail;
 
 /// Gives one byte a read. Once it has made its reads it fails, and then goes on.
 #[derive(Drop)]
@@ -89,7 +88,24 @@ fn trickling(alloc: Global, writes: usize) -> Trickle
 }
 
 #[test]
-fn one_byte_at_a_time(rt: HostRuntime) -> Result<(), Fail> {
+fn first_path(rt: HostRuntime) {
+    let alloc = rt.alloc();
+    let mut reader = Device::new(FIRST_PATH.as_bytes());
+    let mut writer = Device::new(Vec::new(alloc));
+    let outcome = run(&rt, alloc, &DEFAULTS, &mut reader, &mut writer);
+    let totals = Totals {
+        packets: 3,
+        passed: 2,
+        dropped: 1,
+        truncated: false,
+    };
+    assert_eq!(rt; outcome, Ok(totals));
+    assert_eq!(rt; status(&outcome), 0);
+    assert_eq!(rt; writer.inner.as_slice(), FIRST_REPORT.as_bytes());
+}
+
+#[test]
+fn one_byte_at_a_time(rt: HostRuntime) {
     let alloc = rt.alloc();
     let mut reader = Drip {
         rest: FIRST_PATH.as_bytes(),
@@ -97,10 +113,9 @@ fn one_byte_at_a_time(rt: HostRuntime) -> Result<(), Fail> {
         failures: 0,
     };
     let mut writer = trickling(alloc, usize::MAX);
-    let outcome = run(&rt, alloc, &defaults(1), &mut reader, &mut writer);
+    let outcome = run(&rt, alloc, &DEFAULTS, &mut reader, &mut writer);
     assert_eq!(rt; status(&outcome), 0);
     assert_eq!(rt; writer.taken.as_slice(), FIRST_REPORT.as_bytes());
-    Ok(())
 }
 
 #[test]
@@ -113,9 +128,8 @@ fn failing_reads(rt: HostRuntime) {
             failures: 0,
         };
         let mut writer = trickling(alloc, usize::MAX);
-        let outcome = run(&rt, alloc, &defaults(1), &mut reader, &mut writer);
+        let outcome = run(&rt, alloc, &DEFAULTS, &mut reader, &mut writer);
         assert_eq!(rt; outcome, Err(Fault::Read), "after {reads} reads");
-        assert_eq!(rt; status(&outcome), 4);
         assert_eq!(rt; reader.failures, 1, "after {reads} reads");
         assert_eq!(rt; writer.taken.len(), 0, "after {reads} reads");
     }
@@ -127,12 +141,10 @@ fn failing_writes(rt: HostRuntime) {
     for writes in 0..FIRST_REPORT.len() {
         let mut reader = Device::new(FIRST_PATH.as_bytes());
         let mut writer = trickling(alloc, writes);
-        let outcome = run(&rt, alloc, &defaults(1), &mut reader, &mut writer);
+        let outcome = run(&rt, alloc, &DEFAULTS, &mut reader, &mut writer);
         assert_eq!(rt; outcome, Err(Fault::Write), "after {writes} writes");
-        assert_eq!(rt; status(&outcome), 4);
         assert_eq!(rt; writer.failures, 1, "after {writes} writes");
-        assert_eq!(rt; writer.taken.len(), writes);
-        assert!(rt; FIRST_REPORT.as_bytes().starts_with(&writer.taken));
+        assert_eq!(rt; writer.taken.as_slice(), &FIRST_REPORT.as_bytes()[..writes]);
     }
 }
 
@@ -140,40 +152,7 @@ fn failing_writes(rt: HostRuntime) {
 fn a_write_of_nothing_is_a_failed_one(rt: HostRuntime) {
     let mut reader = Device::new(FIRST_PATH.as_bytes());
     let mut writer = Stopped { failures: 0 };
-    let outcome = run(&rt, rt.alloc(), &defaults(1), &mut reader, &mut writer);
+    let outcome = run(&rt, rt.alloc(), &DEFAULTS, &mut reader, &mut writer);
     assert_eq!(rt; outcome, Err(Fault::Write));
     assert_eq!(rt; writer.failures, 1);
-}
-
-/// Gives so many spaces.
-#[derive(Drop)]
-struct Spaces {
-    left: usize,
-}
-
-impl Source for Spaces {
-    ghost bytes = { λ _. None };
-
-    ghost failures = { λ _. 0 };
-
-    fn read(&mut self, buf: &mut [u8]) -> Result<usize, DeviceFault> {
-        let count = self.left.min(buf.len());
-        buf[..count].fill(b' ');
-        self.left -= count;
-        Ok(count)
-    }
-}
-
-#[test]
-fn input_limit(rt: HostRuntime) {
-    let alloc = rt.alloc();
-    for (left, fault) in [
-        (67_108_864, Fault::NoCapture),
-        (67_108_865, Fault::TooLarge),
-    ] {
-        let mut writer = trickling(alloc, usize::MAX);
-        let outcome = run(&rt, alloc, &defaults(1), &mut Spaces { left }, &mut writer);
-        assert_eq!(rt; outcome, Err(fault), "with {left} bytes");
-        assert_eq!(rt; writer.taken.len(), 0);
-    }
 }

@@ -14,12 +14,12 @@ judge-requires-2-after_bounds g c κs lives =
     let may : CanJudge c.in-Ok-judge.once (Listed c.args.second) =
     record {
       packets = held (Listed c.args.first);
-      rest = c.in-Ok-judge.ensures.rest [] c.in-Ok.ensures.rest;
+      rest = c.in-Ok-judge.ensures.rest [] c.in-Ok-new.ensures.rest;
       fits = omega arith;
     } in may
 
 pub end-requires : goal.end-requires
 end-requires g c = (
   _,
-  c.in-Ok-judge-2.ensures.rest (held (Listed c.args.first)) (c.in-Ok-judge.ensures.rest [] c.in-Ok.ensures.rest),
+  c.in-Ok-judge-2.ensures.rest (held (Listed c.args.first)) (c.in-Ok-judge.ensures.rest [] c.in-Ok-new.ensures.rest),
 )
