@@ -1,6 +1,6 @@
-// Four threads share one table of each family. Each adds its own keys, adds keys that all add, finds, touches and
+// Four threads share one table of each family and size. Each adds its own keys, adds keys that all add, finds, touches and
 // removes some; callers meet, and the pairs of the closed table are looked at one by one. What came of it is written in
-// a line a family; ends with 0 where all is right.
+// a line a table; ends with 0 where all is right.
 #include "bihash.h"
 #include <pthread.h>
 #include <stdio.h>
@@ -103,13 +103,13 @@ static uint64_t own_key(int number, int i) { return 100000 + (uint64_t)number * 
         return count;                                                                                                  \
     }                                                                                                                  \
                                                                                                                        \
-    static int F##_run(void) {                                                                                         \
+    static int F##_run(uint32_t (*create)(F##_handle *)) {                                                             \
         struct F##_worker workers[THREADS];                                                                            \
         pthread_t threads[THREADS];                                                                                    \
         F##_handle first;                                                                                              \
         long added = 0;                                                                                                \
         memset(workers, 0, sizeof workers);                                                                            \
-        if (F##_create(&first)) return 2;                                                                              \
+        if (create(&first)) return 2;                                                                                  \
         if (!F##_is_lone(&first) || F##_stamp(&first).known) return 3;                                                 \
         for (int t = 0; t < THREADS; t++) {                                                                            \
             workers[t].number = t;                                                                                     \
@@ -144,7 +144,9 @@ FAMILY(bihash4, 2)
 FAMILY(bihash6, 5)
 
 int main(void) {
-    int four = bihash4_run(), six = bihash6_run();
-    if (four || six || wrong) fprintf(stderr, "ended at %d and %d with %ld wrong answers\n", four, six, wrong);
-    return four || six || wrong;
+    int ends[] = {bihash4_run(bihash4_create), bihash6_run(bihash6_create), bihash4_run(bihash4_create_large),
+                  bihash6_run(bihash6_create_large)};
+    for (int i = 0; i < 4; i++)
+        if (ends[i]) wrong_answer("table", (uint64_t)i, (uint32_t)ends[i]);
+    return wrong != 0;
 }

@@ -14,21 +14,21 @@
 
    A bucket has its pairs in a block of 1, 2, 4 .. or 64 of the table's pages, of 4 places each. With keys spread at
    random a new table of keys of two words took some 28,000 pairs until a bucket's next block wasn't there (7,000 of five
-   words), and some 12,000 where pairs came and went, since a block that was given back serves blocks of its size alone.
-   The hash has no seed: whoever chooses keys can choose their bucket.
+   words; a large table 453,000 of either), and some 12,000 where pairs came and went, since a block that was given back
+   serves blocks of its size alone. The hash has no seed: whoever chooses keys can choose their bucket.
 
    What the library is owed, since no compiler checks it:
    - A handle is what the last call left there. It is never copied, written or read by others, and each call has it for
      itself: two threads never give one handle to calls at the same time. One that goes to another thread goes by the
      start or the end of a thread, a lock, or a sequentially consistent atomic.
-   - Where a call takes a caller, the handle has one: it was made by create or split, and has not been joined, closed or
+   - Where a call takes a caller, the handle has one: it was made by create, create_large or split, and has not been joined, closed or
      freed since. pair_count and pair_at take pairs, which a closed table left; free takes a caller or pairs, and
      nothing else.
    - Where a call takes two handles, these are two different ones, of one table.
    - A key points to two words, or five, and a value that is set isn't BIHASH_NO_VALUE (all ones).
    - malloc, realloc and free are those of one allocator, and no call is made from a signal handler or in the forked
      child of a process with threads.
-   No call keeps a pointer that it was given. Only create, split, renew and close ask for memory, and adding to a table
+   No call keeps a pointer that it was given. Only create, create_large, split, renew and close ask for memory, and adding to a table
    does not: its words are taken when it is made. Where memory is refused nothing is lost. */
 #ifndef BIHASH_H
 #define BIHASH_H
@@ -118,6 +118,10 @@ typedef struct bihash6_pair {
    1.9 MB, and asks for twice that while it is made. */
 uint32_t bihash4_create(bihash4_handle *handle);
 
+/* The same of a large table: 65,536 buckets of up to 256 pairs each, 1,048,576 places in all, and some 30 MB. All calls
+   are the same on it. */
+uint32_t bihash4_create_large(bihash4_handle *handle);
+
 /* A new caller of the table of `handle`, at `fresh`, in the same way. DONE, or MEMORY, NUMBERS or CONTENDED, which
    leave `fresh` as it was. A table gives 65,535 numbers to callers until it is renewed, and none twice: keep callers for
    threads to come. */
@@ -188,9 +192,11 @@ bool bihash4_pair_at(bihash4_handle *handle, uint64_t at, bihash4_pair *pair);
    renewed. */
 void bihash4_free(bihash4_handle *handle);
 
-/* ---- The same for keys of five words: 1,024 buckets, 16,384 places in all, some 0.9 MB ---- */
+/* ---- The same for keys of five words: 1,024 buckets, 16,384 places in all, some 0.9 MB; a large table has as many of
+   both as one for keys of two words, and some 55 MB ---- */
 
 uint32_t bihash6_create(bihash6_handle *handle);
+uint32_t bihash6_create_large(bihash6_handle *handle);
 uint32_t bihash6_split(bihash6_handle *handle, bihash6_handle *fresh);
 void bihash6_join(bihash6_handle *handle, bihash6_handle *other);
 void bihash6_meet(bihash6_handle *handle, bihash6_handle *other);

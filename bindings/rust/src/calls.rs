@@ -117,6 +117,7 @@ mod sealed {
 
 declared! {
     create, bihash4_create, bihash6_create, (), u32;
+    create_large, bihash4_create_large, bihash6_create_large, (), u32;
     split, bihash4_split, bihash6_split, (other: &mut Handle<Self>), u32;
     join, bihash4_join, bihash6_join, (other: &mut Handle<Self>), ();
     meet, bihash4_meet, bihash6_meet, (other: &mut Handle<Self>), ();

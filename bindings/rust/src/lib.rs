@@ -248,8 +248,17 @@ impl<F: Family> Caller<F> {
 impl<F: Family> Table<F> {
     /// A new table.
     pub fn new() -> Result<Table<F>, Fault> {
+        Table::made(F::create)
+    }
+
+    /// A new large table: 65,536 buckets, 1,048,576 places in all.
+    pub fn large() -> Result<Table<F>, Fault> {
+        Table::made(F::create_large)
+    }
+
+    fn made(create: unsafe fn(&mut Handle<F>) -> u32) -> Result<Table<F>, Fault> {
         let mut handle = Handle::none();
-        done(unsafe { F::create(&mut handle) })?;
+        done(unsafe { create(&mut handle) })?;
         Ok(Table { caller: Caller::of(handle, TABLES.fetch_add(1, Ordering::Relaxed)) })
     }
 

@@ -5,11 +5,11 @@ use std::thread;
 const THREADS: u64 = 4;
 const KEYS: u64 = 500;
 
-fn four_threads<F: Family>(key: fn(u64) -> F::Key)
+fn four_threads<F: Family>(made: Result<Table<F>, Fault>, key: fn(u64) -> F::Key)
 where
     F::Key: Send + PartialEq + std::fmt::Debug,
 {
-    let mut table = Table::<F>::new().unwrap();
+    let mut table = made.unwrap();
     let callers: Vec<_> = (0..THREADS).map(|_| table.split().unwrap()).collect();
     assert!(!table.is_lone());
     let added = thread::scope(|scope| {
@@ -45,8 +45,10 @@ where
 
 #[test]
 fn four_threads_share_a_table() {
-    four_threads::<V4>(|it| [it, 7]);
-    four_threads::<V6>(|it| [it, 1, 2, 3, 4]);
+    four_threads::<V4>(Table::new(), |it| [it, 7]);
+    four_threads::<V6>(Table::new(), |it| [it, 1, 2, 3, 4]);
+    four_threads::<V4>(Table::large(), |it| [it, 7]);
+    four_threads::<V6>(Table::large(), |it| [it, 1, 2, 3, 4]);
 }
 
 #[test]

@@ -78,10 +78,6 @@ abbrev pub IsDivided : {A K : Type 0} → Sizes → Content A K → Content A K 
 IsDivided z (Caller s) (Caller t) (Caller u) = IsSplit z s t u
 IsDivided z x y new = ⊥
 
--- a table was made, or memory was refused
-abbrev pub CreateTold : {A K : Type 0} → Sizes → (before after : Content A K) → ℕ → Type 0
-CreateTold z before after answer = ((answer ≡ 0) × IsFirst z after) ⊎ ((answer ≡ 9) × (after ≡ before))
-
 -- a split was done, or refused for this reason, and then there is no new caller
 abbrev pub SplitTold : {A K : Type 0} → Sizes → (x y before new : Content A K) → ℕ → Type 0
 SplitTold z x y before new answer = ((answer ≡ 0) × IsDivided z x y new)
@@ -131,8 +127,3 @@ PairTold (Pairs ps) at found = found ≡ slice_get ps.items at
 abbrev pub IsGiven : {K : Type 0} → Option (K × ℕ) → (before after : K × ℕ) → Bool → Type 0
 IsGiven None before after given = (given ≡ false) × (after ≡ before)
 IsGiven (Some pair) before after given = (given ≡ true) × (after ≡ pair)
-
-pub record GivesPair {A K : Type 0} (x : Content A K) (at : ℕ) (before after : K × ℕ) (given : Bool) : Type 0 where
-  pub found : Option (K × ℕ)
-  pub told : PairTold x at found
-  pub pair : IsGiven found before after given

@@ -6,8 +6,9 @@ use Rattle.std.specs.Box.Ownership.{box_owns}
 use Rattle.std.specs.Global.{Global}
 use Rattle.std_heap.specs.contracts.GlobalAllocator.TheImpl.{ghosts}
 use Rattle.bihash_words.specs.declared.flow_shapes.ShapeV4.{ShapeV4}
-use Rattle.bihash_c.specs.declared.content.Content.{Content}
-use Rattle.bihash_c.specs.declared.content.Content.TheVariants.{Empty}
+use Rattle.large_shapes.specs.declared.shapes.LargeV4.{LargeV4}
+use Rattle.bihash_c.specs.EitherSizes.{nothing}
+use Rattle.bihash_c.specs.declared.either_size.EitherSize.{EitherSize}
 use Rattle.bihash_c.specs.declared.place4.Place4.{Place4}
 use Rattle.bihash_c.specs.contracts.place4.Place4.{the_row}
 
@@ -21,6 +22,6 @@ HasPlace None = ⊥
 HasPlace (Some x) = Unit {0}
 
 -- what is behind the handle
-abbrev pub content_in : Option Place4 → Content ShapeV4 (List ℕ)
-content_in None = Empty
+abbrev pub content_in : Option Place4 → EitherSize ShapeV4 LargeV4 (List ℕ)
+content_in None = nothing
 content_in (Some x) = x.content

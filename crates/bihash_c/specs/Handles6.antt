@@ -6,8 +6,9 @@ use Rattle.std.specs.Box.Ownership.{box_owns}
 use Rattle.std.specs.Global.{Global}
 use Rattle.std_heap.specs.contracts.GlobalAllocator.TheImpl.{ghosts}
 use Rattle.bihash_words.specs.declared.flow_shapes.ShapeV6.{ShapeV6}
-use Rattle.bihash_c.specs.declared.content.Content.{Content}
-use Rattle.bihash_c.specs.declared.content.Content.TheVariants.{Empty}
+use Rattle.large_shapes.specs.declared.shapes.LargeV6.{LargeV6}
+use Rattle.bihash_c.specs.EitherSizes.{nothing}
+use Rattle.bihash_c.specs.declared.either_size.EitherSize.{EitherSize}
 use Rattle.bihash_c.specs.declared.place6.Place6.{Place6}
 use Rattle.bihash_c.specs.contracts.place6.Place6.{the_row}
 
@@ -21,6 +22,6 @@ HasPlace None = ⊥
 HasPlace (Some x) = Unit {0}
 
 -- what is behind the handle
-abbrev pub content_in : Option Place6 → Content ShapeV6 (List ℕ)
-content_in None = Empty
+abbrev pub content_in : Option Place6 → EitherSize ShapeV6 LargeV6 (List ℕ)
+content_in None = nothing
 content_in (Some x) = x.content

@@ -1,5 +1,6 @@
 pub mod Answers
 pub mod Contents
+pub mod EitherSizes
 pub mod Expiries
 pub mod Handles4
 pub mod Handles6

@@ -2,27 +2,51 @@
 ghost use Rattle.std.specs.Prelude.{◌≡◌};
 ghost use Rattle.bihash_words.specs.Sizes.{sizes_of};
 ghost use Rattle.bihash_table.specs.Calls.{TellsLone};
-ghost use Rattle.bihash_c.specs.Contents.{AreOfOneTable, Calls, CloseTold, CountTold, CreateTold, GivesPair, HasCaller, HasPairs, JoinTold, MeetTold, RenewTold, SplitTold, StampTold};
+ghost use Rattle.bihash_c.specs.Contents.{IsFirst};
+ghost use Rattle.bihash_c.specs.EitherSizes.{AreOfOneTable, Calls, CloseTold, CountTold, CreateTold, GivesPair, HasCaller, HasPairs, JoinTold, MeetTold, OfLarge, OfSmall, RenewTold, SplitTold, StampTold, nothing};
 ghost use Rattle.bihash_c.specs.Handles4.{HasPlace, content_in};
-ghost use Rattle.bihash_c.specs.declared.content.Content.TheVariants.{Empty};
 
 use crate::answer::{DONE, MEMORY, Stamp};
 use crate::content::Content;
+use crate::either_size::EitherSize;
 use crate::handle4::Handle4;
 use crate::pair4::Pair4;
 use crate::place4::Place4;
 use bihash_words::{Shape, ShapeV4, flow_shapes_are_sound};
+use large_shapes::{LargeV4, large_shapes_are_sound};
 use std::alloc::Global;
 
-/// A new table with its first caller.
+/// A new small table with its first caller.
 #[unsafe(no_mangle)]
 pub extern "C" fn bihash4_create(alloc: Global, handle: &mut Handle4) -> u32
-    ensures { CreateTold (sizes_of ⟦<ShapeV4 as Shape>⟧) (content_in handle.old.place) (content_in handle.new.place) result }
+    ensures { CreateTold (OfSmall (IsFirst (sizes_of ⟦<ShapeV4 as Shape>⟧))) (content_in handle.old.place)
+        (content_in handle.new.place) result }
 {
     flow_shapes_are_sound();
     let Some(content) = Content::first(alloc) else {
         return MEMORY;
     };
+    let content = EitherSize::Small(content);
+    match Box::new(alloc, Place4 { content }) {
+        Ok(place) => {
+            handle.put(place);
+            DONE
+        }
+        Err(_) => MEMORY,
+    }
+}
+
+/// A new large table with its first caller.
+#[unsafe(no_mangle)]
+pub extern "C" fn bihash4_create_large(alloc: Global, handle: &mut Handle4) -> u32
+    ensures { CreateTold (OfLarge (IsFirst (sizes_of ⟦<LargeV4 as Shape>⟧))) (content_in handle.old.place)
+        (content_in handle.new.place) result }
+{
+    large_shapes_are_sound();
+    let Some(content) = Content::first(alloc) else {
+        return MEMORY;
+    };
+    let content = EitherSize::Large(content);
     match Box::new(alloc, Place4 { content }) {
         Ok(place) => {
             handle.put(place);
@@ -36,14 +60,14 @@ pub extern "C" fn bihash4_create(alloc: Global, handle: &mut Handle4) -> u32
 #[unsafe(no_mangle)]
 pub extern "C" fn bihash4_split(alloc: Global, handle: &mut Handle4, fresh: &mut Handle4) -> u32
     requires { HasCaller (content_in handle.old.place) }
-    ensures { SplitTold (sizes_of ⟦<ShapeV4 as Shape>⟧) (content_in handle.old.place) (content_in handle.new.place)
-        (content_in fresh.old.place) (content_in fresh.new.place) result }
+    ensures { SplitTold (sizes_of ⟦<ShapeV4 as Shape>⟧) (sizes_of ⟦<LargeV4 as Shape>⟧) (content_in handle.old.place)
+        (content_in handle.new.place) (content_in fresh.old.place) (content_in fresh.new.place) result }
 {
     let Some(mut new) = Place4::empty(alloc) else {
         return MEMORY;
     };
     let mut place = handle.take(alloc);
-    let other: &mut Content<ShapeV4> = &mut new.as_mut().content;
+    let other: &mut EitherSize<ShapeV4, LargeV4> = &mut new.as_mut().content;
     let answer = place.as_mut().content.split(alloc, other);
     handle.put(place);
     if answer == DONE {
@@ -56,9 +80,9 @@ pub extern "C" fn bihash4_split(alloc: Global, handle: &mut Handle4, fresh: &mut
 #[unsafe(no_mangle)]
 pub extern "C" fn bihash4_join(alloc: Global, handle: &mut Handle4, other: &mut Handle4)
     requires { AreOfOneTable (content_in handle.old.place) (content_in other.old.place) }
-    ensures joined { JoinTold (sizes_of ⟦<ShapeV4 as Shape>⟧) (content_in handle.old.place) (content_in other.old.place)
-        (content_in handle.new.place) }
-    ensures gone { content_in other.new.place ≡ Empty }
+    ensures joined { JoinTold (sizes_of ⟦<ShapeV4 as Shape>⟧) (sizes_of ⟦<LargeV4 as Shape>⟧) (content_in handle.old.place)
+        (content_in other.old.place) (content_in handle.new.place) }
+    ensures gone { content_in other.new.place ≡ nothing }
 {
     let mut place = handle.take(alloc);
     let other = Box::into_inner(other.take(alloc));
@@ -70,8 +94,8 @@ pub extern "C" fn bihash4_join(alloc: Global, handle: &mut Handle4, other: &mut 
 #[unsafe(no_mangle)]
 pub extern "C" fn bihash4_meet(alloc: Global, handle: &mut Handle4, other: &mut Handle4)
     requires { AreOfOneTable (content_in handle.old.place) (content_in other.old.place) }
-    ensures { MeetTold (sizes_of ⟦<ShapeV4 as Shape>⟧) (content_in handle.old.place) (content_in other.old.place)
-        (content_in handle.new.place) (content_in other.new.place) }
+    ensures { MeetTold (sizes_of ⟦<ShapeV4 as Shape>⟧) (sizes_of ⟦<LargeV4 as Shape>⟧) (content_in handle.old.place)
+        (content_in other.old.place) (content_in handle.new.place) (content_in other.new.place) }
 {
     let mut place = handle.take(alloc);
     let mut met = other.take(alloc);
@@ -85,7 +109,8 @@ pub extern "C" fn bihash4_meet(alloc: Global, handle: &mut Handle4, other: &mut 
 pub extern "C" fn bihash4_is_lone(alloc: Global, handle: &mut Handle4) -> bool
     requires { HasCaller (content_in handle.old.place) }
     ensures { Calls (content_in handle.old.place) (content_in handle.new.place)
-        (λ s t. TellsLone (sizes_of ⟦<ShapeV4 as Shape>⟧) s t result) }
+        (λ s t. TellsLone (sizes_of ⟦<ShapeV4 as Shape>⟧) s t result)
+        (λ s t. TellsLone (sizes_of ⟦<LargeV4 as Shape>⟧) s t result) }
 {
     let mut place = handle.take(alloc);
     let is_lone = place.as_mut().content.is_lone();
@@ -110,7 +135,8 @@ pub extern "C" fn bihash4_stamp(alloc: Global, handle: &mut Handle4) -> Stamp
 #[unsafe(no_mangle)]
 pub extern "C" fn bihash4_renew(alloc: Global, handle: &mut Handle4) -> u32
     requires { HasCaller (content_in handle.old.place) }
-    ensures { RenewTold (sizes_of ⟦<ShapeV4 as Shape>⟧) (content_in handle.old.place) (content_in handle.new.place) result }
+    ensures { RenewTold (sizes_of ⟦<ShapeV4 as Shape>⟧) (sizes_of ⟦<LargeV4 as Shape>⟧) (content_in handle.old.place)
+        (content_in handle.new.place) result }
 {
     let mut place = handle.take(alloc);
     let answer = place.as_mut().content.renew(alloc);
@@ -122,7 +148,8 @@ pub extern "C" fn bihash4_renew(alloc: Global, handle: &mut Handle4) -> u32
 #[unsafe(no_mangle)]
 pub extern "C" fn bihash4_close(alloc: Global, handle: &mut Handle4) -> u32
     requires { HasCaller (content_in handle.old.place) }
-    ensures { CloseTold ⟦<ShapeV4 as Shape>⟧ (content_in handle.old.place) (content_in handle.new.place) result }
+    ensures { CloseTold ⟦<ShapeV4 as Shape>⟧ ⟦<LargeV4 as Shape>⟧ (content_in handle.old.place)
+        (content_in handle.new.place) result }
 {
     let mut place = handle.take(alloc);
     let answer = place.as_mut().content.close(alloc);
@@ -165,7 +192,7 @@ pub extern "C" fn bihash4_pair_at(
 #[unsafe(no_mangle)]
 pub extern "C" fn bihash4_free(alloc: Global, handle: &mut Handle4)
     requires { HasPlace handle.old.place }
-    ensures { content_in handle.new.place ≡ Empty }
+    ensures { content_in handle.new.place ≡ nothing }
 {
     drop(handle.take(alloc));
 }

@@ -2,7 +2,8 @@
 ghost use Rattle.std.specs.Prelude.{◌≢◌};
 ghost use Rattle.bihash_words.specs.Patches.{free_mark, set_if_absent, set_if_present};
 ghost use Rattle.bihash_words.specs.declared.patch.Change.TheVariants.{Remove, Set};
-ghost use Rattle.bihash_c.specs.Contents.{Calls, HasCaller, RecycleTold, SearchTold, UpdateTold};
+ghost use Rattle.bihash_c.specs.Contents.{RecycleTold, SearchTold, UpdateTold};
+ghost use Rattle.bihash_c.specs.EitherSizes.{Calls, HasCaller};
 ghost use Rattle.bihash_c.specs.Expiries.{is_below};
 ghost use Rattle.bihash_c.specs.Handles4.{content_in};
 
@@ -10,6 +11,7 @@ use crate::answer::Answer;
 use crate::handle4::Handle4;
 use crate::mask_expiry::MaskExpiry;
 use bihash_words::{Add, AddIfAbsent, Delete, Patch, Shape, ShapeV4, Touch};
+use large_shapes::LargeV4;
 use std::alloc::Global;
 
 /// The value of the key.
@@ -17,7 +19,8 @@ use std::alloc::Global;
 pub extern "C" fn bihash4_search(alloc: Global, handle: &mut Handle4, key: &[u64; 2]) -> Answer
     requires { HasCaller (content_in handle.old.place) }
     ensures { Calls (content_in handle.old.place) (content_in handle.new.place)
-        (SearchTold ⟦<ShapeV4 as Shape>⟧ key.now result) }
+        (SearchTold ⟦<ShapeV4 as Shape>⟧ key.now result)
+        (SearchTold ⟦<LargeV4 as Shape>⟧ key.now result) }
 {
     let mut place = handle.take(alloc);
     let answer = place.as_mut().content.search(key);
@@ -36,7 +39,8 @@ pub extern "C" fn bihash4_add(
     requires full { HasCaller (content_in handle.old.place) }
     requires storable { value ≢ free_mark }
     ensures { Calls (content_in handle.old.place) (content_in handle.new.place)
-        (UpdateTold ⟦<ShapeV4 as Shape>⟧ key.now (λ _. Set value) result) }
+        (UpdateTold ⟦<ShapeV4 as Shape>⟧ key.now (λ _. Set value) result)
+        (UpdateTold ⟦<LargeV4 as Shape>⟧ key.now (λ _. Set value) result) }
 {
     update(alloc, handle, key, &Add { value })
 }
@@ -52,7 +56,8 @@ pub extern "C" fn bihash4_add_if_absent(
     requires full { HasCaller (content_in handle.old.place) }
     requires storable { value ≢ free_mark }
     ensures { Calls (content_in handle.old.place) (content_in handle.new.place)
-        (UpdateTold ⟦<ShapeV4 as Shape>⟧ key.now (set_if_absent value) result) }
+        (UpdateTold ⟦<ShapeV4 as Shape>⟧ key.now (set_if_absent value) result)
+        (UpdateTold ⟦<LargeV4 as Shape>⟧ key.now (set_if_absent value) result) }
 {
     update(alloc, handle, key, &AddIfAbsent { value })
 }
@@ -68,7 +73,8 @@ pub extern "C" fn bihash4_touch(
     requires full { HasCaller (content_in handle.old.place) }
     requires storable { value ≢ free_mark }
     ensures { Calls (content_in handle.old.place) (content_in handle.new.place)
-        (UpdateTold ⟦<ShapeV4 as Shape>⟧ key.now (set_if_present value) result) }
+        (UpdateTold ⟦<ShapeV4 as Shape>⟧ key.now (set_if_present value) result)
+        (UpdateTold ⟦<LargeV4 as Shape>⟧ key.now (set_if_present value) result) }
 {
     update(alloc, handle, key, &Touch { value })
 }
@@ -78,7 +84,8 @@ pub extern "C" fn bihash4_touch(
 pub extern "C" fn bihash4_remove(alloc: Global, handle: &mut Handle4, key: &[u64; 2]) -> Answer
     requires { HasCaller (content_in handle.old.place) }
     ensures { Calls (content_in handle.old.place) (content_in handle.new.place)
-        (UpdateTold ⟦<ShapeV4 as Shape>⟧ key.now (λ _. Remove) result) }
+        (UpdateTold ⟦<ShapeV4 as Shape>⟧ key.now (λ _. Remove) result)
+        (UpdateTold ⟦<LargeV4 as Shape>⟧ key.now (λ _. Remove) result) }
 {
     update(alloc, handle, key, &Delete)
 }
@@ -95,7 +102,8 @@ pub extern "C" fn bihash4_add_or_recycle(
     requires full { HasCaller (content_in handle.old.place) }
     requires storable { value ≢ free_mark }
     ensures { Calls (content_in handle.old.place) (content_in handle.new.place)
-        (RecycleTold ⟦<ShapeV4 as Shape>⟧ key.now (λ _. Set value) (is_below expiry.now.mask expiry.now.least) result) }
+        (RecycleTold ⟦<ShapeV4 as Shape>⟧ key.now (λ _. Set value) (is_below expiry.now.mask expiry.now.least) result)
+        (RecycleTold ⟦<LargeV4 as Shape>⟧ key.now (λ _. Set value) (is_below expiry.now.mask expiry.now.least) result) }
 {
     recycle(alloc, handle, key, &Add { value }, expiry)
 }
@@ -112,7 +120,8 @@ pub extern "C" fn bihash4_add_if_absent_or_recycle(
     requires full { HasCaller (content_in handle.old.place) }
     requires storable { value ≢ free_mark }
     ensures { Calls (content_in handle.old.place) (content_in handle.new.place)
-        (RecycleTold ⟦<ShapeV4 as Shape>⟧ key.now (set_if_absent value) (is_below expiry.now.mask expiry.now.least) result) }
+        (RecycleTold ⟦<ShapeV4 as Shape>⟧ key.now (set_if_absent value) (is_below expiry.now.mask expiry.now.least) result)
+        (RecycleTold ⟦<LargeV4 as Shape>⟧ key.now (set_if_absent value) (is_below expiry.now.mask expiry.now.least) result) }
 {
     recycle(alloc, handle, key, &AddIfAbsent { value }, expiry)
 }
@@ -122,7 +131,8 @@ pub extern "C" fn bihash4_add_if_absent_or_recycle(
 fn update<P: Patch>(alloc: Global, handle: &mut Handle4, key: &[u64; 2], patch: &P) -> Answer
     requires { HasCaller (content_in handle.old.place) }
     ensures { Calls (content_in handle.old.place) (content_in handle.new.place)
-        (UpdateTold ⟦<ShapeV4 as Shape>⟧ key.now (P.decision patch.now) result) }
+        (UpdateTold ⟦<ShapeV4 as Shape>⟧ key.now (P.decision patch.now) result)
+        (UpdateTold ⟦<LargeV4 as Shape>⟧ key.now (P.decision patch.now) result) }
 {
     let mut place = handle.take(alloc);
     let answer = place.as_mut().content.update(key, patch);
@@ -141,7 +151,8 @@ fn recycle<P: Patch>(
 ) -> Answer
     requires { HasCaller (content_in handle.old.place) }
     ensures { Calls (content_in handle.old.place) (content_in handle.new.place)
-        (RecycleTold ⟦<ShapeV4 as Shape>⟧ key.now (P.decision patch.now) (is_below expiry.now.mask expiry.now.least) result) }
+        (RecycleTold ⟦<ShapeV4 as Shape>⟧ key.now (P.decision patch.now) (is_below expiry.now.mask expiry.now.least) result)
+        (RecycleTold ⟦<LargeV4 as Shape>⟧ key.now (P.decision patch.now) (is_below expiry.now.mask expiry.now.least) result) }
 {
     let mut place = handle.take(alloc);
     let answer = place.as_mut().content.add_or_recycle(key, patch, expiry);

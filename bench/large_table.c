@@ -1,0 +1,165 @@
+// Searches in a table of many pairs with keys of two words, for bench/measure_large: in a large table of the library for C,
+// or with PEER_RTE in DPDK's rte_hash, with PEER_LFHT in liburcu's cds_lfht. It enters the pairs that it is told to, as
+// many as the table takes, and writes lines: the pairs, what was searched, the threads, the calls of each, the
+// microseconds that they took, and how many found a value.
+#include <pthread.h>
+#include <stdint.h>
+#include <stdio.h>
+#include <stdlib.h>
+#include <time.h>
+
+enum { THREADS = 4, CALLS = 2000000 };
+static const uint64_t ABSENT = UINT64_C(1) << 40;
+
+#if defined(PEER_RTE)
+
+#include <rte_eal.h>
+#include <rte_hash.h>
+#include <rte_hash_crc.h>
+
+static struct rte_hash *table;
+
+static int make(uint64_t pairs) {
+    char *words[] = {"large_table", "--no-huge", "--no-pci", "--no-telemetry", "--log-level=1", "-m", "1024", "-l", "0"};
+    struct rte_hash_parameters how = {.name = "large", .entries = (uint32_t)(pairs * 2), .key_len = 16,
+                                      .hash_func = rte_hash_crc, .extra_flag = RTE_HASH_EXTRA_FLAGS_RW_CONCURRENCY_LF};
+    return rte_eal_init(9, words) < 0 || !(table = rte_hash_create(&how));
+}
+static int split(int thread) { return (void)thread, 0; }
+static void begin(void) {}
+static void end(void) {}
+static int enter(const uint64_t *key, uint64_t value) {
+    return rte_hash_add_key_data(table, key, (void *)(uintptr_t)value) == 0;
+}
+static inline int search(int thread, const uint64_t *key) {
+    void *value;
+    return (void)thread, rte_hash_lookup_data(table, key, &value) >= 0;
+}
+
+#elif defined(PEER_LFHT)
+
+#define URCU_INLINE_SMALL_FUNCTIONS
+#include <urcu-qsbr.h>
+#include <urcu/rculfhash.h>
+
+struct pair {
+    struct cds_lfht_node node;
+    uint64_t key[2], value;
+};
+static struct cds_lfht *table;
+
+static uint64_t mix(uint64_t z) {
+    z = (z ^ z >> 30) * UINT64_C(0xbf58476d1ce4e5b9);
+    z = (z ^ z >> 27) * UINT64_C(0x94d049bb133111eb);
+    return z ^ z >> 31;
+}
+static unsigned long hash_of(const uint64_t *key) { return mix(mix(key[0]) ^ key[1]); }
+static int is_pair(struct cds_lfht_node *node, const void *given) {
+    const uint64_t *key = given;
+    struct pair *pair = caa_container_of(node, struct pair, node);
+    return pair->key[0] == key[0] && pair->key[1] == key[1];
+}
+static void begin(void) { rcu_register_thread(); }
+static void end(void) { rcu_unregister_thread(); }
+static int make(uint64_t pairs) {
+    unsigned long buckets = 1;
+    while (buckets < pairs) buckets *= 2;
+    begin();
+    table = cds_lfht_new(buckets, 1, 0, CDS_LFHT_AUTO_RESIZE, NULL);
+    return !table;
+}
+static int split(int thread) { return (void)thread, 0; }
+static int enter(const uint64_t *key, uint64_t value) {
+    struct pair *pair = malloc(sizeof *pair);
+    if (!pair) return 0;
+    *pair = (struct pair){.key = {key[0], key[1]}, .value = value};
+    return cds_lfht_add_unique(table, hash_of(key), is_pair, key, &pair->node) == &pair->node;
+}
+static inline int search(int thread, const uint64_t *key) {
+    struct cds_lfht_iter found;
+    cds_lfht_lookup(table, hash_of(key), is_pair, key, &found);
+    rcu_quiescent_state();
+    return (void)thread, cds_lfht_iter_get_node(&found) != NULL;
+}
+
+#else
+
+#include "bihash.h"
+
+static bihash4_handle callers[THREADS];
+
+static int make(uint64_t pairs) { return (void)pairs, bihash4_create_large(&callers[0]) != BIHASH_DONE; }
+static int split(int thread) { return bihash4_split_wait(&callers[0], &callers[thread]) != BIHASH_DONE; }
+static void begin(void) {}
+static void end(void) {}
+static int enter(const uint64_t *key, uint64_t value) {
+    return bihash4_add_wait(&callers[0], key, value).kind == BIHASH_ADDED;
+}
+static inline int search(int thread, const uint64_t *key) {
+    return bihash4_search_wait(&callers[thread], key).kind == BIHASH_FOUND;
+}
+
+#endif
+
+static void numbered(uint64_t number, uint64_t key[2]) {
+    key[0] = number * UINT64_C(0x9e3779b97f4a7c15);
+    key[1] = number;
+}
+
+static uint64_t microseconds(void) {
+    struct timespec now;
+    clock_gettime(CLOCK_MONOTONIC, &now);
+    return (uint64_t)now.tv_sec * 1000000 + (uint64_t)now.tv_nsec / 1000;
+}
+
+struct share {
+    int thread;
+    uint64_t from, pairs, calls, found;
+};
+
+static void work(struct share *share) {
+    uint64_t random = (uint64_t)share->thread, key[2];
+    share->found = 0;
+    for (uint64_t i = 0; i < share->calls; i++) {
+        random = random * UINT64_C(6364136223846793005) + UINT64_C(1442695040888963407);
+        numbered(share->from + (((random >> 33) * share->pairs) >> 31), key);
+        share->found += (uint64_t)search(share->thread, key);
+    }
+}
+
+static void *run(void *share) {
+    begin();
+    work(share);
+    end();
+    return NULL;
+}
+
+static int line(uint64_t pairs, int threads, const char *what, uint64_t from) {
+    pthread_t running[THREADS];
+    struct share shares[THREADS];
+    uint64_t calls = CALLS / (uint64_t)threads, found = 0, start = microseconds();
+    for (int i = 0; i < threads; i++) {
+        shares[i] = (struct share){.thread = i, .from = from, .pairs = pairs, .calls = calls};
+        if (i && pthread_create(&running[i], NULL, run, &shares[i])) return 1;
+    }
+    work(&shares[0]);
+    for (int i = 1; i < threads; i++) pthread_join(running[i], NULL);
+    for (int i = 0; i < threads; i++) found += shares[i].found;
+    printf("%llu %s %d %llu %llu %llu\n", (unsigned long long)pairs, what, threads, (unsigned long long)calls,
+           (unsigned long long)(microseconds() - start), (unsigned long long)found);
+    return 0;
+}
+
+int main(int count, char **words) {
+    uint64_t wanted = count == 2 ? strtoull(words[1], NULL, 10) : 0, entered = 0, key[2];
+    if (!wanted || make(wanted)) return 1;
+    for (int i = 1; i < THREADS; i++)
+        if (split(i)) return 1;
+    for (; entered < wanted; entered++) {
+        numbered(entered, key);
+        if (!enter(key, entered + 1)) break;
+    }
+    for (int threads = 1; threads <= THREADS; threads += THREADS - 1)
+        if (line(entered, threads, "hit", 0) || line(entered, threads, "absent", ABSENT)) return 1;
+    return 0;
+}

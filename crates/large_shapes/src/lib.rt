@@ -1,0 +1,9 @@
+//! Larger tables of flows: the keys of `ShapeV4` and `ShapeV6`, sixteen times as many buckets of IPv4 flows, and sixty-four times
+//! as many of IPv6 flows.
+#![tactic(auto)]
+
+mod laws;
+mod shapes;
+
+pub use laws::{large_shapes_are_sound, large_shapes_have_their_sizes};
+pub use shapes::{LargeV4, LargeV6};
