@@ -112,7 +112,7 @@ fn finds_the_next_record(rt: HostRuntime) {
 /// The third record begins at 140.
 #[test]
 fn finds_the_whole_records_at_the_front(rt: HostRuntime) {
-    let front = front_records(&LITTLE[24..145], Order::Little);
+    let front = front_records(&LITTLE[24..145], Order::Little, 0);
     let mut records = front.records;
     assert_eq!(rt; records.count(), 2);
     for moment in [100u32, 105] {
@@ -126,7 +126,7 @@ fn finds_the_whole_records_at_the_front(rt: HostRuntime) {
 #[test]
 fn reads_a_capture_cut_anywhere(rt: HostRuntime) -> Result<(), Fail> {
     for kept in 24..199usize {
-        let capture = read_capture(rt.alloc(), &LITTLE[..kept])?;
+        let capture = read_capture(rt.alloc(), &LITTLE[..kept], 0)?;
         let whole = kept == 24 || kept == 82 || kept == 140 || kept == 198;
         assert_eq!(rt; capture.packets.len(), (kept - 24) / 58, "kept {kept}");
         assert_eq!(rt; capture.truncated, !whole, "kept {kept}");
@@ -136,13 +136,13 @@ fn reads_a_capture_cut_anywhere(rt: HostRuntime) -> Result<(), Fail> {
 
 #[test]
 fn reads_the_packets_of_a_capture(rt: HostRuntime) -> Result<(), Fail> {
-    let capture = read_capture(rt.alloc(), &LITTLE)?;
+    let capture = read_capture(rt.alloc(), &LITTLE, 0)?;
     assert_eq!(rt; capture.packets.len(), 3);
     for (packet, moment) in capture.packets.iter().zip([100u32, 105, 106]) {
         assert_eq!(rt; packet.moment, moment);
         assert_eq!(rt; packet.frame.len(), 42);
     }
-    let big = read_capture(rt.alloc(), &BIG)?;
+    let big = read_capture(rt.alloc(), &BIG, 0)?;
     assert_eq!(rt; big.packets.len(), 1);
     assert_eq!(rt; big.packets[0].moment, 100);
     assert_eq!(rt; big.packets[0].frame, UDP.as_slice());
@@ -151,7 +151,7 @@ fn reads_the_packets_of_a_capture(rt: HostRuntime) -> Result<(), Fail> {
 
 #[test]
 fn takes_the_packets_of_a_capture_where_they_stand(rt: HostRuntime) -> Result<(), Fail> {
-    let checked = check_capture(&LITTLE[..197])?;
+    let checked = check_capture(&LITTLE[..197], 0)?;
     assert!(rt; checked.truncated);
     let mut records = checked.records;
     assert_eq!(rt; records.count(), 2);
@@ -163,7 +163,7 @@ fn takes_the_packets_of_a_capture_where_they_stand(rt: HostRuntime) -> Result<()
     assert_eq!(rt; records.count(), 0);
     assert!(rt; records.next().is_none());
 
-    let big = check_capture(&BIG)?;
+    let big = check_capture(&BIG, 0)?;
     assert!(rt; !big.truncated);
     assert_eq!(rt; front_of(Packets::Standing(big.records)), (1, Some(100), 0));
     let mut records = big.records;
@@ -175,7 +175,7 @@ fn takes_the_packets_of_a_capture_where_they_stand(rt: HostRuntime) -> Result<()
     let mut third = LITTLE;
     [third[148], third[149], third[150]] = [0x01, 0x00, 0x04];
     assert_eq!(rt;
-        check_capture(&third).err(),
+        check_capture(&third, 0).err(),
         Some(CaptureFault::LongRecord(3))
     );
     Ok(())
@@ -196,10 +196,12 @@ fn front_of_list<'a>(packets: &'a [Packet<'a>]) -> (usize, Option<u32>, usize) {
 fn takes_listed_packets(rt: HostRuntime) {
     let listed = [
         Packet {
+            interface: 0,
             moment: 100,
             frame: &UDP,
         },
         Packet {
+            interface: 0,
             moment: 105,
             frame: &UDP,
         },
@@ -245,11 +247,11 @@ fn takes_packets_that_are_found_ahead(rt: HostRuntime) -> Result<(), Fail> {
             bytes.push(number)?;
         }
     }
-    let checked = check_capture(&bytes)?;
+    let checked = check_capture(&bytes, 0)?;
     assert_eq!(rt; checked.records.count(), 150);
     assert!(rt; !checked.truncated);
     assert!(rt; are_numbered(PacketsAhead::new(Packets::Standing(checked.records))));
-    let capture = read_capture(rt.alloc(), &bytes)?;
+    let capture = read_capture(rt.alloc(), &bytes, 0)?;
     assert!(rt; are_listed_by_number(&capture.packets));
     Ok(())
 }
@@ -268,13 +270,13 @@ fn answers_the_fault_of_a_capture(rt: HostRuntime) -> Result<(), Fail> {
         (greatest.as_slice(), CaptureFault::LongRecord(1)),
         (third.as_slice(), CaptureFault::LongRecord(3)),
     ] {
-        assert_eq!(rt; read_capture(rt.alloc(), bytes).err(), Some(want));
+        assert_eq!(rt; read_capture(rt.alloc(), bytes, 0).err(), Some(want));
     }
 
     // 262144 bytes may be kept, and ten of them are there.
     let mut limit = LITTLE;
     [limit[32], limit[33], limit[34]] = [0x00, 0x00, 0x04];
-    let capture = read_capture(rt.alloc(), &limit[..50])?;
+    let capture = read_capture(rt.alloc(), &limit[..50], 0)?;
     assert!(rt; capture.packets.is_empty());
     assert!(rt; capture.truncated);
     Ok(())

@@ -14,6 +14,7 @@ pub const UDP: [u8; 42] = [
 
 /// The view of `UDP` as an outgoing frame.
 const UDP_TUPLE: Tuple = Tuple {
+    interface: 0,
     family: Family::V4,
     source: 0x0a00_0001,
     dest: 0x0a00_0002,
@@ -29,6 +30,7 @@ const TCP: [u8; 54] = [
 ];
 
 const TCP_TUPLE: Tuple = Tuple {
+    interface: 0,
     family: Family::V4,
     source: 0x0a00_0001,
     dest: 0x0a00_0002,
@@ -40,12 +42,39 @@ const TCP_TUPLE: Tuple = Tuple {
     },
 };
 
+/// An interface has its own address, and its number stands in the five-tuple.
+#[test]
+fn sees_a_packet_at_its_interface(rt: HostRuntime) {
+    let there = Tuple {
+        interface: 255,
+        family: Family::V4,
+        source: 0x0a00_0001,
+        dest: 0x0a00_0002,
+        proto: 17,
+        fields: Fields::Ports { from: 1000, to: 53 },
+    };
+    assert_eq!(rt; view(&UDP, 255, OWN), Frame::Ip(Direction::Outbound, there));
+    assert_eq!(rt;
+        plain_frame(&UDP, 255, None),
+        Some(Frame::Ip(Direction::Inbound, there))
+    );
+}
+
 #[test]
 fn sees_a_packet_by_its_way(rt: HostRuntime) {
     let other = Some(Mac([2, 0, 0, 0, 0, 2]));
-    assert_eq!(rt; view(&UDP, OWN), Frame::Ip(Direction::Outbound, UDP_TUPLE));
-    assert_eq!(rt; view(&UDP, other), Frame::Ip(Direction::Inbound, UDP_TUPLE));
-    assert_eq!(rt; view(&UDP, None), Frame::Ip(Direction::Inbound, UDP_TUPLE));
+    assert_eq!(rt;
+        view(&UDP, 0, OWN),
+        Frame::Ip(Direction::Outbound, UDP_TUPLE)
+    );
+    assert_eq!(rt;
+        view(&UDP, 0, other),
+        Frame::Ip(Direction::Inbound, UDP_TUPLE)
+    );
+    assert_eq!(rt;
+        view(&UDP, 0, None),
+        Frame::Ip(Direction::Inbound, UDP_TUPLE)
+    );
 }
 
 /// The kept bytes of a frame: the Ethernet and IPv4 headers end at 34, the ports at 38.
@@ -57,24 +86,27 @@ fn sees_a_frame_that_is_kept_short(rt: HostRuntime) {
             34..38 => Frame::Short,
             _ => Frame::Ip(Direction::Outbound, UDP_TUPLE),
         };
-        assert_eq!(rt; view(&UDP[..kept], OWN), want, "kept {kept}");
+        assert_eq!(rt; view(&UDP[..kept], 0, OWN), want, "kept {kept}");
     }
 }
 
 #[test]
 fn sees_frames_cut_and_foreign(rt: HostRuntime) {
     let arp = [2, 0, 0, 0, 0, 0x02, 2, 0, 0, 0, 0, 0x01, 0x08, 0x06];
-    assert_eq!(rt; view(&TCP[..47], OWN), Frame::Short, "13 bytes of TCP");
-    assert_eq!(rt; view(&TCP[..30], OWN), Frame::Malformed);
-    assert_eq!(rt; view(&arp, OWN), Frame::NotIp);
-    assert_eq!(rt; view(&arp[..13], OWN), Frame::Malformed);
+    assert_eq!(rt; view(&TCP[..47], 0, OWN), Frame::Short, "13 bytes of TCP");
+    assert_eq!(rt; view(&TCP[..30], 0, OWN), Frame::Malformed);
+    assert_eq!(rt; view(&arp, 0, OWN), Frame::NotIp);
+    assert_eq!(rt; view(&arp[..13], 0, OWN), Frame::Malformed);
 }
 
 #[test]
 fn reads_tcp_and_icmp(rt: HostRuntime) {
-    assert_eq!(rt; view(&TCP, OWN), Frame::Ip(Direction::Outbound, TCP_TUPLE));
     assert_eq!(rt;
-        view(&TCP[..48], OWN),
+        view(&TCP, 0, OWN),
+        Frame::Ip(Direction::Outbound, TCP_TUPLE)
+    );
+    assert_eq!(rt;
+        view(&TCP[..48], 0, OWN),
         Frame::Ip(Direction::Outbound, TCP_TUPLE),
         "14 bytes of TCP"
     );
@@ -85,25 +117,30 @@ fn reads_tcp_and_icmp(rt: HostRuntime) {
         0x08, 0x00, 0, 0, 0, 1, 0, 1, // an echo request
     ];
     let request = Tuple {
+        interface: 0,
         family: Family::V4,
         source: 0x0a00_0002,
         dest: 0x0a00_0001,
         proto: 1,
         fields: Fields::Icmp { kind: 8, code: 0 },
     };
-    assert_eq!(rt; view(&echo, OWN), Frame::Ip(Direction::Inbound, request));
+    assert_eq!(rt; view(&echo, 0, OWN), Frame::Ip(Direction::Inbound, request));
 
     // The number of ICMPv6 is no ICMP in IPv4.
     let mut foreign = echo;
     foreign[23] = 58;
     let other = Tuple {
+        interface: 0,
         family: Family::V4,
         source: 0x0a00_0002,
         dest: 0x0a00_0001,
         proto: 58,
         fields: Fields::Absent,
     };
-    assert_eq!(rt; view(&foreign, OWN), Frame::Ip(Direction::Inbound, other));
+    assert_eq!(rt;
+        view(&foreign, 0, OWN),
+        Frame::Ip(Direction::Inbound, other)
+    );
 }
 
 #[test]
@@ -134,14 +171,14 @@ fn reads_plain_frames(rt: HostRuntime) {
 #[test]
 fn sees_plain_frames(rt: HostRuntime) {
     assert_eq!(rt;
-        plain_frame(&UDP, OWN),
+        plain_frame(&UDP, 0, OWN),
         Some(Frame::Ip(Direction::Outbound, UDP_TUPLE))
     );
     assert_eq!(rt;
-        plain_frame(&TCP, None),
+        plain_frame(&TCP, 0, None),
         Some(Frame::Ip(Direction::Inbound, TCP_TUPLE))
     );
-    assert_eq!(rt; plain_frame(&TCP[..47], None), None);
+    assert_eq!(rt; plain_frame(&TCP[..47], 0, None), None);
 }
 
 #[test]
@@ -162,12 +199,12 @@ fn skips_two_tags(rt: HostRuntime) {
         2, 0, 0, 0, 0, 0x02, 2, 0, 0, 0, 0, 0x01, 0x81, 0x00, 0x00, 0x01,
     ];
     assert_eq!(rt;
-        view(&tagged, OWN),
+        view(&tagged, 0, OWN),
         Frame::Ip(Direction::Outbound, UDP_TUPLE)
     );
     assert_eq!(rt; plain(&tagged), None);
-    assert_eq!(rt; view(&third_tag, OWN), Frame::NotIp);
-    assert_eq!(rt; view(&cut, OWN), Frame::Malformed);
+    assert_eq!(rt; view(&third_tag, 0, OWN), Frame::NotIp);
+    assert_eq!(rt; view(&cut, 0, OWN), Frame::Malformed);
 }
 
 #[test]
@@ -175,7 +212,7 @@ fn reads_ipv4_lengths_and_options(rt: HostRuntime) {
     let mut offloaded = UDP;
     offloaded[17] = 0;
     assert_eq!(rt;
-        view(&offloaded, OWN),
+        view(&offloaded, 0, OWN),
         Frame::Ip(Direction::Outbound, UDP_TUPLE),
         "total length 0"
     );
@@ -183,7 +220,7 @@ fn reads_ipv4_lengths_and_options(rt: HostRuntime) {
     let mut below_header = UDP;
     below_header[17] = 0x13;
     assert_eq!(rt;
-        view(&below_header, OWN),
+        view(&below_header, 0, OWN),
         Frame::Malformed,
         "total length 19"
     );
@@ -191,7 +228,7 @@ fn reads_ipv4_lengths_and_options(rt: HostRuntime) {
     let mut two_bytes = UDP;
     two_bytes[17] = 0x16;
     assert_eq!(rt;
-        view(&two_bytes, OWN),
+        view(&two_bytes, 0, OWN),
         Frame::Short,
         "two bytes of UDP before the packet's end"
     );
@@ -203,7 +240,7 @@ fn reads_ipv4_lengths_and_options(rt: HostRuntime) {
         0x03, 0xe8, 0x00, 0x35, 0x00, 0x08, 0, 0, // UDP
     ];
     assert_eq!(rt;
-        view(&options, OWN),
+        view(&options, 0, OWN),
         Frame::Ip(Direction::Outbound, UDP_TUPLE)
     );
     assert_eq!(rt; plain(&options), None);
@@ -211,6 +248,7 @@ fn reads_ipv4_lengths_and_options(rt: HostRuntime) {
     let mut later = UDP;
     later[21] = 1;
     let fragment = Tuple {
+        interface: 0,
         family: Family::V4,
         source: 0x0a00_0001,
         dest: 0x0a00_0002,
@@ -218,7 +256,7 @@ fn reads_ipv4_lengths_and_options(rt: HostRuntime) {
         fields: Fields::Absent,
     };
     assert_eq!(rt;
-        view(&later, OWN),
+        view(&later, 0, OWN),
         Frame::Ip(Direction::Outbound, fragment),
         "offset 1"
     );
@@ -227,6 +265,7 @@ fn reads_ipv4_lengths_and_options(rt: HostRuntime) {
 
 /// From 2001:db8::1 to 2001:db8::2.
 const IPV6_UDP: Tuple = Tuple {
+    interface: 0,
     family: Family::V6,
     source: 0x2001_0db8_0000_0000_0000_0000_0000_0001,
     dest: 0x2001_0db8_0000_0000_0000_0000_0000_0002,
@@ -256,16 +295,23 @@ fn reads_ipv6_fragments(rt: HostRuntime) {
         0, 0, 0, 0, 0, 0, 0, 0, // its bytes
     ];
     let fragment = Tuple {
+        interface: 0,
         family: Family::V6,
         source: 0x2001_0db8_0000_0000_0000_0000_0000_0001,
         dest: 0x2001_0db8_0000_0000_0000_0000_0000_0002,
         proto: 17,
         fields: Fields::Absent,
     };
-    assert_eq!(rt; view(&first, OWN), Frame::Ip(Direction::Outbound, IPV6_UDP));
-    assert_eq!(rt; view(&later, OWN), Frame::Ip(Direction::Outbound, fragment));
     assert_eq!(rt;
-        view(&later[..66], OWN),
+        view(&first, 0, OWN),
+        Frame::Ip(Direction::Outbound, IPV6_UDP)
+    );
+    assert_eq!(rt;
+        view(&later, 0, OWN),
+        Frame::Ip(Direction::Outbound, fragment)
+    );
+    assert_eq!(rt;
+        view(&later[..66], 0, OWN),
         Frame::Malformed,
         "the fragment header is cut"
     );
@@ -304,6 +350,9 @@ fn skips_eight_ipv6_headers(rt: HostRuntime) {
         0x11, 0, 0, 0, 0, 0, 0, 0, // destination options, the ninth header
         0x03, 0xe8, 0, 0x35, 0, 0x08, 0, 0, // UDP
     ];
-    assert_eq!(rt; view(&eight, OWN), Frame::Ip(Direction::Outbound, IPV6_UDP));
-    assert_eq!(rt; view(&nine, OWN), Frame::Malformed);
+    assert_eq!(rt;
+        view(&eight, 0, OWN),
+        Frame::Ip(Direction::Outbound, IPV6_UDP)
+    );
+    assert_eq!(rt; view(&nine, 0, OWN), Frame::Malformed);
 }

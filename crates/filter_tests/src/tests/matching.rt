@@ -26,6 +26,7 @@ pub fn rule(
 
 fn tcp(flags: u8) -> Tuple {
     Tuple {
+        interface: 0,
         family: Family::V4,
         source: 0x0a000002,
         dest: 0x0a000001,
@@ -40,6 +41,7 @@ fn tcp(flags: u8) -> Tuple {
 
 pub fn udp(from: u16, to: u16) -> Tuple {
     Tuple {
+        interface: 0,
         family: Family::V4,
         source: 0x0a000002,
         dest: 0x0a000001,
@@ -50,6 +52,7 @@ pub fn udp(from: u16, to: u16) -> Tuple {
 
 pub fn later_fragment(proto: u8) -> Tuple {
     Tuple {
+        interface: 0,
         family: Family::V4,
         source: 0x0a000002,
         dest: 0x0a000001,
@@ -101,6 +104,7 @@ fn types_and_codes(rt: HostRuntime) {
     let echo = rule(Action::Permit, 1, (8, 8), (0, 3), (0, 0));
     for (kind, code, permitted) in [(8, 0, true), (8, 3, true), (8, 4, false), (0, 0, false)] {
         let tuple = Tuple {
+            interface: 0,
             family: Family::V4,
             source: 0,
             dest: 0,
@@ -145,6 +149,7 @@ fn prefixes_of_ipv4(rt: HostRuntime) {
             mask: 0,
         };
         let tuple = Tuple {
+            interface: 0,
             family: Family::V4,
             source: u128::from(source),
             dest: 0,
@@ -178,6 +183,7 @@ fn prefixes_of_ipv6(rt: HostRuntime) {
             mask: 0,
         };
         let tuple = Tuple {
+            interface: 0,
             family: Family::V6,
             source: 5,
             dest,
@@ -211,6 +217,7 @@ fn first_of_several(rt: HostRuntime) {
     );
     assert_eq!(rt; first_match(&[], &udp(1, 1)), None);
     let other = Tuple {
+        interface: 0,
         family: Family::V6,
         source: 1,
         dest: 2,

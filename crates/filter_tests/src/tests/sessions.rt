@@ -20,6 +20,7 @@ const ACK: u8 = 16;
 
 fn udp(source: u32, from: u16, dest: u32, to: u16) -> Tuple {
     Tuple {
+        interface: 0,
         family: Family::V4,
         source: u128::from(source),
         dest: u128::from(dest),
@@ -30,6 +31,7 @@ fn udp(source: u32, from: u16, dest: u32, to: u16) -> Tuple {
 
 fn tcp(source: u32, from: u16, dest: u32, to: u16, flags: u8) -> Tuple {
     Tuple {
+        interface: 0,
         family: Family::V4,
         source: u128::from(source),
         dest: u128::from(dest),
@@ -40,6 +42,7 @@ fn tcp(source: u32, from: u16, dest: u32, to: u16, flags: u8) -> Tuple {
 
 fn icmp(source: u32, dest: u32, kind: u8) -> Tuple {
     Tuple {
+        interface: 0,
         family: Family::V4,
         source: u128::from(source),
         dest: u128::from(dest),
@@ -99,6 +102,33 @@ fn keys_of_udp_and_tcp(rt: HostRuntime) {
     );
 }
 
+/// The same flow at another interface has another key, and both its directions have that one.
+#[test]
+fn interface_in_the_key(rt: HostRuntime) {
+    let key = 0x0a00_0001_0a00_0002;
+    let mut asked = udp(NET + 1, 1000, NET + 2, 53);
+    asked.interface = 2;
+    assert_eq!(rt; orient(&asked), four(key, 0x03e8_0035_1100_0002, 0, true));
+    let mut answered = udp(NET + 2, 53, NET + 1, 1000);
+    answered.interface = 2;
+    assert_eq!(rt;
+        orient(&answered),
+        four(key, 0x03e8_0035_1100_0002, 1, true)
+    );
+    let plain = PlainPacket {
+        source: NET + 1,
+        dest: NET + 2,
+        from: 1000,
+        to: 53,
+        proto: 17,
+        flags: 0,
+    };
+    assert_eq!(rt;
+        Some(plain_flow(plain, 255)),
+        four(key, 0x03e8_0035_1100_00ff, 0, true)
+    );
+}
+
 #[test]
 fn flows_of_plain_packets(rt: HostRuntime) {
     let key = 0x0a00_0001_0a00_0002;
@@ -111,7 +141,7 @@ fn flows_of_plain_packets(rt: HostRuntime) {
         flags: 0,
     };
     assert_eq!(rt;
-        Some(plain_flow(asked)),
+        Some(plain_flow(asked, 0)),
         four(key, 0x03e8_0035_1100_0000, 0, true)
     );
     let sent = PlainPacket {
@@ -123,7 +153,7 @@ fn flows_of_plain_packets(rt: HostRuntime) {
         flags: 0x18,
     };
     assert_eq!(rt;
-        Some(plain_flow(sent)),
+        Some(plain_flow(sent, 0)),
         four(key, 0x03e8_0050_0600_0000, 1, true)
     );
 }
@@ -162,6 +192,7 @@ fn no_part_in_sessions(rt: HostRuntime) {
     assert_eq!(rt; orient(&icmp(NET + 1, NET + 2, 128)), None);
     assert_eq!(rt; orient(&icmp(NET + 1, NET + 2, 129)), None);
     let fragment = Tuple {
+        interface: 0,
         family: Family::V4,
         source: 0x0a00_0001,
         dest: 0x0a00_0002,
@@ -177,6 +208,7 @@ fn keys_of_ipv6(rt: HostRuntime) {
     let lesser = 0x2001_0db8_0000_0000_0000_0000_0000_0001u128;
     let greater = 0x2001_0db8_0000_0000_0000_0000_0000_0002u128;
     let asked = Tuple {
+        interface: 0,
         family: Family::V6,
         source: greater,
         dest: lesser,
@@ -199,6 +231,7 @@ fn keys_of_ipv6(rt: HostRuntime) {
         })
     );
     let reply = Tuple {
+        interface: 0,
         family: Family::V6,
         source: lesser,
         dest: greater,

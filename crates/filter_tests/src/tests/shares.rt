@@ -34,7 +34,11 @@ fn four(proto: u8, from: u8, to: u8, ports: [u8; 4]) -> [u8; 54] {
 }
 
 fn seen<'a>(moment: u32, frame: &'a [u8]) -> Packet<'a> {
-    Packet { moment, frame }
+    Packet {
+        interface: 0,
+        moment,
+        frame,
+    }
 }
 
 fn deal<'a, R: Threads + Sync>(
@@ -50,11 +54,7 @@ fn deal<'a, R: Threads + Sync>(
     requires fits { number + length packets.now < 2 ^ 64 }
 {
     flow_shapes_are_sound();
-    let dealer = Dealer {
-        own: None,
-        dealing,
-        workers,
-    };
+    let dealer = Dealer { dealing, workers };
     deal_packets::<ShapeV4, ShapeV6, R>(rt, alloc, dealer, number, Packets::Listed(packets))
 }
 
@@ -78,7 +78,11 @@ fn expect_own<'a, R: Abort>(
         let place = first + at;
         assert!(rt; place < packets.len());
         assert_eq!(rt; dealt.packet.frame, packets[place].frame, "packet {place}");
-        assert_eq!(rt; dealt.packet.moment, packets[place].moment, "packet {place}");
+        assert_eq!(rt;
+            dealt.packet.moment,
+            packets[place].moment,
+            "packet {place}"
+        );
     }
     assert!(rt; left.next().is_none(), "worker {worker}");
 }
@@ -98,7 +102,14 @@ fn expect_packets<'a, R: Abort>(
         assert!(rt; next < 8);
         assert_eq!(rt; part.workers.as_slice(), &judges[first..next]);
         for (worker, own) in part.own.as_slice().iter().enumerate() {
-            expect_own(rt, worker, own.as_slice(), packets, first, part.workers.as_slice());
+            expect_own(
+                rt,
+                worker,
+                own.as_slice(),
+                packets,
+                first,
+                part.workers.as_slice(),
+            );
         }
         first = next;
     }
@@ -137,12 +148,20 @@ fn deals_packets_of_several_flows(rt: HostRuntime) -> Result<(), Fail> {
 fn one_packet_has_its_worker(rt: HostRuntime) {
     flow_shapes_are_sound();
     let dealer = Dealer {
-        own: None,
         dealing: Dealing::Bucket,
         workers: 3,
     };
     let request = four(17, 1, 2, [0x03, 0xe8, 0, 53]);
-    assert_eq!(rt; dealt_to::<ShapeV4, ShapeV6>(&dealer, 9, &request), 1);
-    assert_eq!(rt; dealt_to::<ShapeV4, ShapeV6>(&dealer, 9, &ARP), 0);
-    assert_eq!(rt; dealt_to::<ShapeV4, ShapeV6>(&dealer, 9, &SIX), 2);
+    assert_eq!(rt;
+        dealt_to::<ShapeV4, ShapeV6>(&dealer, 9, &seen(100, &request)),
+        1
+    );
+    assert_eq!(rt;
+        dealt_to::<ShapeV4, ShapeV6>(&dealer, 9, &seen(100, &ARP)),
+        0
+    );
+    assert_eq!(rt;
+        dealt_to::<ShapeV4, ShapeV6>(&dealer, 9, &seen(100, &SIX)),
+        2
+    );
 }

@@ -54,6 +54,7 @@ fn ask_all<A: Shape, B: Shape, R: Abort>(
     for (moment, server, verdict) in rows {
         let frame = request(*server);
         let packet = Packet {
+            interface: 0,
             moment: *moment,
             frame: &frame,
         };
@@ -78,6 +79,7 @@ fn hear<A: Shape, B: Shape, R: Abort>(
     let (moment, server, verdict) = row;
     let frame = answer(server);
     let packet = Packet {
+        interface: 0,
         moment,
         frame: &frame,
     };
@@ -262,14 +264,17 @@ fn both_families(rt: HostRuntime) -> Result<(), Fail> {
     let callers = &mut callers;
     let (four, six, answer) = (request(2), over_six(true), over_six(false));
     let four = Packet {
+        interface: 0,
         moment: 100,
         frame: &four,
     };
     let six = Packet {
+        interface: 0,
         moment: 100,
         frame: &six,
     };
     let answer = Packet {
+        interface: 0,
         moment: 100,
         frame: &answer,
     };

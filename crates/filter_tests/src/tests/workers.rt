@@ -175,14 +175,17 @@ fn workers(rt: HostRuntime) -> Result<(), Fail> {
     let frames = [request(2), answer(2), answer(3)];
     let packets = [
         Packet {
+            interface: 0,
             moment: 100,
             frame: &frames[0],
         },
         Packet {
+            interface: 0,
             moment: 105,
             frame: &frames[1],
         },
         Packet {
+            interface: 0,
             moment: 106,
             frame: &frames[2],
         },
@@ -209,14 +212,17 @@ fn both_before(rt: HostRuntime) -> Result<(), Fail> {
     let frames = [request(2), answer(2), answer(3)];
     let packets = [
         Packet {
+            interface: 0,
             moment: 100,
             frame: &frames[0],
         },
         Packet {
+            interface: 0,
             moment: 105,
             frame: &frames[1],
         },
         Packet {
+            interface: 0,
             moment: 106,
             frame: &frames[2],
         },
@@ -230,10 +236,12 @@ fn both_before(rt: HostRuntime) -> Result<(), Fail> {
     odd[35] = 0xe9;
     let packets = [
         Packet {
+            interface: 0,
             moment: 100,
             frame: &foreign,
         },
         Packet {
+            interface: 0,
             moment: 100,
             frame: &odd,
         },
@@ -263,7 +271,11 @@ fn many_flows(rt: HostRuntime) -> Result<(), Fail> {
     }
     let mut packets = Vec::with_capacity(alloc, 400)?;
     for frame in frames.as_slice() {
-        packets.push(Packet { moment: 100, frame })?;
+        packets.push(Packet {
+            interface: 0,
+            moment: 100,
+            frame,
+        })?;
     }
     let alone = verdicts(&rt, alloc, &filter, &packets, 1, &Open, Dealing::Bucket)?;
     assert_eq!(rt; alone.len(), 400);
@@ -290,20 +302,24 @@ fn packets_of_parts_are_numbered_on(rt: HostRuntime) -> Result<(), Fail> {
     let frames = [request(2), answer(3), answer(2), request(3)];
     let first = [
         Packet {
+            interface: 0,
             moment: 100,
             frame: &frames[0],
         },
         Packet {
+            interface: 0,
             moment: 100,
             frame: &frames[1],
         },
     ];
     let second = [
         Packet {
+            interface: 0,
             moment: 101,
             frame: &frames[2],
         },
         Packet {
+            interface: 0,
             moment: 101,
             frame: &frames[3],
         },

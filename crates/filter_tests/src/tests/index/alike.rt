@@ -45,6 +45,7 @@ fn tuple(family: Family, source: u32, dest: u32, number: usize) -> Option<Tuple>
     let (source, dest) = (u128::from(source), u128::from(dest));
     match fields {
         Fields::Absent => Some(Tuple {
+            interface: 0,
             family,
             source,
             dest,
@@ -52,6 +53,7 @@ fn tuple(family: Family, source: u32, dest: u32, number: usize) -> Option<Tuple>
             fields,
         }),
         Fields::Tcp { .. } => Some(Tuple {
+            interface: 0,
             family,
             source,
             dest,
@@ -59,6 +61,7 @@ fn tuple(family: Family, source: u32, dest: u32, number: usize) -> Option<Tuple>
             fields,
         }),
         Fields::Ports { .. } => Some(Tuple {
+            interface: 0,
             family,
             source,
             dest,
@@ -67,6 +70,7 @@ fn tuple(family: Family, source: u32, dest: u32, number: usize) -> Option<Tuple>
         }),
         Fields::Icmp { .. } => match family {
             Family::V4 => Some(Tuple {
+                interface: 0,
                 family: Family::V4,
                 source,
                 dest,
