@@ -1,10 +1,10 @@
 -- A walk over a capture: it stays amid the capture, and its end and its faults are those of the capture.
 use Rattle.std.proofs.Common.{◌≡◌, ◌≢◌, ◌∙◌, ◌≤◌, ◌<◌, ◌+◌, ◌-◌, ℕ, Bool, List, [], ◌++◌, Option, Vec, Global, add-zero, ap, append-nil, append_assoc, arith, drop, inl, inr, length, refl, subst, sym, take, true, false, true≢false}
-use Rattle.std.proofs.lemmas.List.{drop-append-le, drop-drop, length-append, length-drop, take_all}
+use Rattle.std.proofs.lemmas.List.{drop-append-le, drop-drop, length-append, length-drop, length-map, map-append, take_all}
 use Rattle.std.proofs.KnownBytes.{Consumes-nil, Consumes-trans}
-use Rattle.packet_view.specs.Captures.{AreRecords, IsEnd, IsTooLong, PacketFacts, end_of, kept_length, kept_limit}
+use Rattle.packet_view.specs.Captures.{AreRecords, IsEnd, IsTooLong, PacketFacts, RecordFacts, end_of, kept_length, kept_limit, packet_at, packets_at}
 use Rattle.packet_view.specs.Fronts.{Stops}
-use Rattle.packet_view.specs.CheckedCaptures.{packets_of}
+use Rattle.packet_view.specs.CheckedCaptures.{records_of}
 use Rattle.packet_view.specs.declared.capture.Order.{Order}
 use Rattle.packet_view.specs.declared.front.Stop.{Stop}
 use Rattle.packet_view.specs.declared.front.Stop.TheVariants.{End, TooLong, Truncated}
@@ -24,7 +24,7 @@ use Rattle.capture_stream.specs.inner.Found.{HaveFound}
 use Rattle.capture_stream.specs.declared.stream.Opening.{Opening}
 use Rattle.capture_stream.specs.declared.stream.Streamed.{Streamed}
 use Rattle.capture_stream.specs.declared.stream.Walk.{Walk}
-use Rattle.capture_stream.specs.inner.Walks.{HasAdvanced, HasEnded, HasLongAhead, IsAllOf, IsAmid, IsDrained, IsLastFault, IsWindowFault, MayAdvance, ahead_of, packets_ahead, rest_of}
+use Rattle.capture_stream.specs.inner.Walks.{HasAdvanced, HasEnded, HasLongAhead, IsAllOf, IsAmid, IsDrained, IsLastFault, IsWindowFault, MayAdvance, ahead_of, records_ahead, rest_of}
 
 -- less than one record is left where none is too long
 pub rest_short : (order : Order) (rest : List ℕ) (stop : Stop) → Stops order rest stop → stop ≢ TooLong → length rest < 262160
@@ -62,27 +62,29 @@ rest_length walk found =
 pub front_few : {J : Type 0} (Became : J → List PacketFacts → J → Type 0) (walk : Walk J) → MayAdvance Became walk
     → walk.packets + walk.found.count ≤ most_bytes
 front_few Became walk may =
-    let within = records_within walk.order (ahead_of walk) (packets_ahead walk) (rest_of walk) may.found.records in
+    let within = records_within walk.order (ahead_of walk) (records_ahead walk) (rest_of walk) may.found.records in
     let count = packets_count walk.order walk.found.count (ahead_of walk) in
     let few = may.few in
     let bound = may.bound in
     omega arith
 
 pub front_follow : {J : Type 0} (Became : J → List PacketFacts → J → Type 0) (walk : Walk J) (records : Records) → MayAdvance Became walk
-    → packets_of records ≡ packets_ahead walk → CanFollow Became walk.judges (Standing records)
+    → records_of records ≡ records_ahead walk → CanFollow Became walk.judges (Standing records)
 front_follow Became walk records may same =
     let count = packets_count walk.order walk.found.count (ahead_of walk) in
     let size = ap length same in
     let few = front_few Became walk may in
     let before = may.count in
-    record { begun = may.begun; packets = may.packets; stand = may.stand; fits = omega arith }
+    let earlier = length-map may.packets (packet_at 0) in
+    let later = length-map (records_of records) (packet_at records.interface) in
+    record { begun = may.begun; packets = packets_at 0 may.packets; stand = may.stand; fits = omega arith }
 
 pub front_long : {J : Type 0} (walk : Walk J) → HaveFound walk.order (ahead_of walk) walk.found → walk.found.stop ≡ TooLong
     → HasLongAhead walk (walk.packets + walk.found.count + 1)
 front_long walk found stop =
     let count = packets_count walk.order walk.found.count (ahead_of walk) in
     record {
-      more = packets_ahead walk;
+      more = records_ahead walk;
       rest = rest_of walk;
       records = found.records;
       long = subst (Stops walk.order (rest_of walk)) stop found.stop;
@@ -92,7 +94,7 @@ front_long walk found stop =
 -- the next window is what is left of this one, and what was read behind it
 pub front_advanced : {J : Type 0} (Became : J → List PacketFacts → J → Type 0) (old : Walk J) (before after : Option (List ℕ))
     (cleared front : List ℕ) (new : Walk J) → HaveFound old.order (ahead_of old) old.found
-    → HaveFollowed Became old.judges (packets_ahead old) new.judges
+    → HaveFollowed Became old.judges (packets_at 0 (records_ahead old)) new.judges
     → (least : ℕ) → old.found.behind < least → HasRead before after front new.window.items least new.ended → cleared ≡ [] → front ≡ cleared ++ rest_of old
     → HaveFound old.order new.window.items new.found
     → new.packets ≡ old.packets + old.found.count → new.read ≡ old.read + (length new.window.items - old.found.behind) → new.read ≤ most_bytes
@@ -107,7 +109,7 @@ front_advanced Became old before after cleared front new all judged least more h
     let fronts : length front ≡ length rest = ap length same in
     let whole : ahead_of new ≡ new.window.items = ap (λ n. drop n new.window.items) begins in
     record {
-      more = packets_ahead old;
+      more = records_ahead old;
       rest = rest;
       read = has_read.read;
       records = all.records;
@@ -162,8 +164,14 @@ module _ {J : Type 0} (Became : J → List PacketFacts → J → Type 0) (first 
         bound = amid.bound;
       }
 
+  -- packets that follow others are those of the records that follow theirs
+  followed : (packets more : List RecordFacts) (judges : J) → Became first (packets_at 0 packets ++ packets_at 0 more) judges
+      → Became first (packets_at 0 (packets ++ more)) judges
+  followed packets more judges =
+      subst (λ (ps : List PacketFacts). Became first ps judges) (sym (map-append (packet_at 0) packets more))
+
   -- the records in all that was read: those before, and those of the front of what was ahead, with more read behind
-  joined : (now : Option (List ℕ)) (walk : Walk J) (amid : IsAmid Became first opening before now walk) (more : List PacketFacts) (rest read : List ℕ)
+  joined : (now : Option (List ℕ)) (walk : Walk J) (amid : IsAmid Became first opening before now walk) (more : List RecordFacts) (rest read : List ℕ)
       → AreRecords walk.order (ahead_of walk) more rest
       → AreRecords opening.order (records_in opening (amid.gone ++ read)) (amid.packets ++ more) (rest ++ read)
   joined now walk amid more rest read records =
@@ -174,7 +182,7 @@ module _ {J : Type 0} (Became : J → List PacketFacts → J → Type 0) (first 
       subst (λ (b : List ℕ). AreRecords order b (amid.packets ++ more) (rest ++ read)) (sym (more_in opening amid.gone read begun))
       (records_joined order (records_in opening amid.gone ++ read) amid.packets more (ahead_of walk ++ read) (rest ++ read) old new)
 
-  joined_last : (now : Option (List ℕ)) (walk : Walk J) (amid : IsAmid Became first opening before now walk) (more : List PacketFacts) (rest : List ℕ)
+  joined_last : (now : Option (List ℕ)) (walk : Walk J) (amid : IsAmid Became first opening before now walk) (more : List RecordFacts) (rest : List ℕ)
       → AreRecords walk.order (ahead_of walk) more rest → AreRecords opening.order (records_in opening amid.gone) (amid.packets ++ more) rest
   joined_last now walk amid more rest records =
       records_joined opening.order (records_in opening amid.gone) amid.packets more (ahead_of walk) rest amid.records
@@ -204,7 +212,7 @@ module _ {J : Type 0} (Became : J → List PacketFacts → J → Type 0) (first 
         packets = amid.packets ++ step.more;
         records = subst (AreRecords opening.order (records_in opening (amid.gone ++ step.read)) (amid.packets ++ step.more)) (sym step.ahead)
             (joined now old amid step.more step.rest step.read step.records);
-        stand = step.judged first amid.packets amid.stand;
+        stand = followed amid.packets step.more new.judges (step.judged first (packets_at 0 amid.packets) amid.stand);
         count = let e = amid.count in let f = step.count in omega arith;
         size = let e = amid.size in let f = step.size in omega arith;
         bound = step.bound;
@@ -227,7 +235,7 @@ module _ {J : Type 0} (Became : J → List PacketFacts → J → Type 0) (first 
         rest = end.rest;
         records = joined_last now walk amid end.more end.rest end.records;
         end = subst (λ (o : Order). IsEnd o end.rest (end_of streamed.truncated)) amid.order end.end;
-        judged = end.judged first amid.packets amid.stand;
+        judged = followed amid.packets end.more streamed.judges (end.judged first (packets_at 0 amid.packets) amid.stand);
       }
 
   pub amid_last_fault : (now : Option (List ℕ)) (walk : Walk J) (found : Fault) → IsAmid Became first opening before now walk

@@ -1,7 +1,7 @@
 -- A capture that is judged while it is read: what was read, which packets were judged, and which faults there are.
 use Rattle.std.specs.Prelude.{◌≡◌, ◌+◌, ◌<◌, ◌≤◌, ◌++◌, ℕ, true, false, List, [], Option, drop, length, ⊤}
 use Rattle.std.specs.Io.KnownBytes.{Consumes, IsAtEnd}
-use Rattle.packet_view.specs.Captures.{AreRecords, IsEnd, IsTooLong, PacketFacts, end_of}
+use Rattle.packet_view.specs.Captures.{AreRecords, IsEnd, IsTooLong, PacketFacts, RecordFacts, end_of, packets_at}
 use Rattle.racl_io.specs.declared.fault.Fault.{Fault}
 use Rattle.racl_io.specs.declared.fault.Fault.TheVariants.{LongRecord, Memory, Read, TooLarge}
 use Rattle.racl_io.specs.Inputs.{most_bytes}
@@ -20,22 +20,22 @@ pub record AreAllRead (before after : Option (List ℕ)) (opening : Opening) (re
   pub few : length opening.bytes.items + length read ≤ most_bytes
   pub all : opening.ended ≡ true → read ≡ []
 
--- the source gave all its bytes, and the packets of all records were judged
+-- the source gave all its bytes, and the packets of all records were judged as those of interface 0
 pub record HasStreamed {J : Type 0} (Became : J → List PacketFacts → J → Type 0) (judges : J) (opening : Opening) (before after : Option (List ℕ))
     (streamed : Streamed J) : Type 0 where
   pub read : List ℕ
   pub whole : AreAllRead before after opening read
-  pub packets : List PacketFacts
+  pub packets : List RecordFacts
   pub rest : List ℕ
   pub records : AreRecords opening.order (records_in opening read) packets rest
   pub end : IsEnd opening.order rest (end_of streamed.truncated)
-  pub judged : Became judges packets streamed.judges
+  pub judged : Became judges (packets_at 0 packets) streamed.judges
 
 -- the source gave all its bytes, and the record of this number, counted from 1, is the first that is too long
 pub record HasLongRecord (opening : Opening) (before after : Option (List ℕ)) (number : ℕ) : Type 0 where
   pub read : List ℕ
   pub whole : AreAllRead before after opening read
-  pub packets : List PacketFacts
+  pub packets : List RecordFacts
   pub rest : List ℕ
   pub records : AreRecords opening.order (records_in opening read) packets rest
   pub long : IsTooLong opening.order rest

@@ -91,6 +91,7 @@ fn next_window<J: Judges + Drop, T: Threads, R: Source + Send>(
     let records = Records {
         bytes: &window[from..],
         order,
+        interface: 0,
         count,
     };
     let more = size.beside(read).min(MOST_BYTES + 1 - read);
@@ -137,6 +138,7 @@ fn last_window<J: Judges + Drop>(walk: Walk<J>) -> Result<Streamed<J>, Fault>
     let records = Records {
         bytes: &window[from..],
         order,
+        interface: 0,
         count: found.count,
     };
     let judges = judges.judge(Packets::Standing(records))?;

@@ -82,7 +82,7 @@ pub fn find_records(bytes: &[u8], order: Order) -> Found
         records,
         rest,
         stop,
-    } = front_records(bytes, order);
+    } = front_records(bytes, order, 0);
     Found {
         count: records.count,
         behind: rest.len(),

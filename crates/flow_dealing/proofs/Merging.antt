@@ -9,9 +9,9 @@ use lib.ListN.{get_elem?}
 use mathlib.Core.Option.{some, some-ne-none, some-injective}
 use Rattle.packet_view.specs.Captures.{PacketFacts}
 use Rattle.packet_view.specs.Frames as frames
+use Rattle.packet_view.specs.Interfaces.{Interface}
 use Rattle.packet_view.specs.inner.FrameSteps.{view_of}
 use Rattle.packet_view.specs.declared.tuple.Family.{Family}
-use Rattle.packet_view.specs.declared.tuple.Mac.{Mac}
 use Rattle.packet_view.proofs.FrameLemmas.{view_shown}
 use Rattle.acl_policy.specs.Policies.{PolicyFacts}
 use Rattle.bihash_words.specs.Maps.{Event}
@@ -210,7 +210,7 @@ module _ (d : Deal) (times : Timeouts) (policy : PolicyFacts) (packets : List Pa
   next_placed at x xs here more (suc k) i stands = let e : at + 1 + k ≡ at + suc k = omega arith in more k i stands ∙ e
 
   pub merge : (at : ℕ) (ps : List PacketFacts) (views : List frames.FrameFacts) (trace : ℕ → List Item) → 0 < d.workers
-      → AreViews policy.own ps views
+      → AreViews policy ps views
       → ((k : ℕ) → slice_get packets (at + k) ≡ slice_get ps k)
       → ((w : ℕ) → w < d.workers → IsLeft w at views (trace w)) → AreMerged at ps trace
   merge at [] [] trace some_worker seen same left = record {
@@ -260,9 +260,11 @@ module _ (d : Deal) (times : Timeouts) (policy : PolicyFacts) (packets : List Pa
 -- ---- All workers
 
 -- each packet's frame turns out to be something
-pub all_views : (own : Option Mac) (ps : List PacketFacts) → (views : List frames.FrameFacts) × AreViews own ps views
-all_views own [] = ([], tt)
-all_views own (p ∷ ps) = let vs = all_views own ps in (view_of p.frame own ∷ vs.0, (view_shown p.frame own, vs.1))
+pub all_views : (policy : PolicyFacts) (ps : List PacketFacts) → (views : List frames.FrameFacts) × AreViews policy ps views
+all_views policy [] = ([], tt)
+all_views policy (p ∷ ps) =
+    let at : Interface = record { number = p.interface; own = policy.own } in
+    let vs = all_views policy ps in (view_of p.frame at ∷ vs.0, (view_shown p.frame at, vs.1))
 
 abbrev trace_or : List (List Item) → ℕ → List Item
 trace_or [] w = []
@@ -313,7 +315,7 @@ pub judge_each_packet : (d : Deal) (times : Timeouts) (policy : PolicyFacts) (pa
     → ((family : Family) → AreGathered d times family traces (view_in v family))
     → ArePlaced times packets traces verdicts → AreJudged d times policy packets verdicts
 judge_each_packet d times policy packets traces v verdicts some_worker are gathered placed =
-    let vs = all_views policy.own packets in
+    let vs = all_views policy packets in
     let m = merge d times policy packets verdicts 0 packets vs.0 (trace_or traces) some_worker vs.1
     (λ k. ap (slice_get packets) (let e : 0 + k ≡ k = omega arith in e))
     (λ w few. let t = there traces w (let count = are.count in omega arith) in let is = are.each w t.0 t.1 in

@@ -5,8 +5,6 @@ use lib.ListN.{get_elem?}
 use mathlib.Core.Option.{some}
 use Rattle.packet_view.specs.Captures.{PacketFacts}
 use Rattle.packet_view.specs.Frames as frames
-use Rattle.packet_view.specs.Frames.{IsFrame}
-use Rattle.packet_view.specs.declared.tuple.Mac.{Mac}
 use Rattle.packet_view.specs.declared.tuple.Family.{Family}
 use Rattle.acl_policy.specs.Policies.{PolicyFacts}
 use Rattle.bihash_words.specs.Sizes.{Sizes}
@@ -19,7 +17,7 @@ use Rattle.bihash_steps.specs.declared.view.Record.{Record}
 use Rattle.bihash_steps.specs.declared.view.View.{View}
 use Rattle.session_state.specs.declared.timeouts.Timeouts.{Timeouts}
 use Rattle.flow_filter.specs.declared.verdict.Verdict.{Verdict}
-use Rattle.flow_filter.specs.Readings.{IsReading, Reading}
+use Rattle.flow_filter.specs.Readings.{IsReading, IsSeen, Reading}
 use Rattle.flow_filter.specs.Updates.{Update, update_of}
 use Rattle.flow_filter.specs.Judged.{IsAsked, Judged, verdict_on}
 use Rattle.flow_filter.specs.OneThread.{Layout, family_of, home_of, same_family, sizes_in}
@@ -68,8 +66,8 @@ calls_in times family [] = []
 calls_in times family (i ∷ is) = call_in family (update_of times i.reading) i.call (calls_in times family is)
 
 -- what each packet's frame turns out to be
-abbrev pub AreViews : Option Mac → List PacketFacts → List frames.FrameFacts → Type 0
-AreViews own packets views = AllZip (λ packet view. IsFrame packet.frame own view) packets views
+abbrev pub AreViews : PolicyFacts → List PacketFacts → List frames.FrameFacts → Type 0
+AreViews policy packets views = AllZip (IsSeen policy) packets views
 
 -- the numbers of a worker's packets, from a number on
 unfoldable pub numbers_from : Deal → ℕ → ℕ → List frames.FrameFacts → List ℕ
@@ -86,7 +84,7 @@ pub record IsTrace (d : Deal) (times : Timeouts) (worker : ℕ) (policy : Policy
     (trace : List Item) : Type 0 where
   pub items : All (IsItem d.layout times) trace
   pub of : All (IsItemOf d worker policy packets) trace
-  pub dealt : (views : List frames.FrameFacts) → AreViews policy.own packets views
+  pub dealt : (views : List frames.FrameFacts) → AreViews policy packets views
       → numbers_of trace ≡ numbers_from d worker 0 views
 
 -- the record has the calls of this trace

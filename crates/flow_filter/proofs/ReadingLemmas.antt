@@ -1,6 +1,8 @@
 -- A packet has one reading.
-use Rattle.std.proofs.Common.{◌≡◌, ◌∙◌, ℕ, List, [], ◌∷◌, refl, sym, ap, ap₂, subst}
+use Rattle.std.proofs.Common.{◌≡◌, ◌∙◌, ℕ, Option, List, [], ◌∷◌, refl, sym, ap, ap₂, subst}
 use Rattle.packet_view.specs.Captures.{PacketFacts}
+use Rattle.packet_view.specs.Interfaces.{Interface}
+use Rattle.packet_view.specs.declared.tuple.Mac.{Mac}
 use Rattle.packet_view.specs.Frames as frames
 use Rattle.packet_view.specs.Frames.{FrameFacts}
 use Rattle.packet_view.specs.inner.FrameSteps.{view_of}
@@ -20,11 +22,15 @@ some_reading_of policy moment (frames.Ip direction tuple) =
     let (ruling, decides) = some_ruling_of (rules_of direction policy) tuple in
     (Ruled moment tuple ruling, (ruling, decides, refl))
 
+abbrev at_own : PacketFacts → Option Mac → Interface
+at_own packet own = record { number = packet.interface; own = own }
+
 -- each packet has a reading
 pub some_reading : (policy : PolicyFacts) (packet : PacketFacts) → (reading : Reading) × IsReading policy packet reading
 some_reading policy packet =
-    let (reading, of) = some_reading_of policy packet.moment (view_of packet.frame policy.own) in
-    (reading, (view_of packet.frame policy.own, view_shown packet.frame policy.own, of))
+    let at = at_own packet policy.own in
+    let (reading, of) = some_reading_of policy packet.moment (view_of packet.frame at) in
+    (reading, (view_of packet.frame at, view_shown packet.frame at, of))
 
 one_reading_of : (policy : PolicyFacts) (moment : ℕ) (view : FrameFacts) (a b : Reading)
     → IsReadingOf policy moment view a → IsReadingOf policy moment view b → a ≡ b
@@ -40,8 +46,8 @@ one_reading_of policy moment (frames.Ip direction tuple) a b (ruling, decides, o
 pub one_reading : (policy : PolicyFacts) (packet : PacketFacts) (a b : Reading) → IsReading policy packet a
     → IsReading policy packet b → a ≡ b
 one_reading policy packet a b (view, shown, of) (other, shown', of') =
-    let same : view ≡ other =
-    view_only packet.frame policy.own view shown ∙ sym (view_only packet.frame policy.own other shown') in
+    let at = at_own packet policy.own in
+    let same : view ≡ other = view_only packet.frame at view shown ∙ sym (view_only packet.frame at other shown') in
     one_reading_of policy packet.moment view a b of (subst (λ v. IsReadingOf policy packet.moment v b) (sym same) of')
 
 pub some_readings : (policy : PolicyFacts) (packets : List PacketFacts)

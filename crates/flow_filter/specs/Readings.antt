@@ -4,6 +4,7 @@ use Rattle.std.specs.List.{AllZip}
 use Rattle.packet_view.specs.Captures.{PacketFacts}
 use Rattle.packet_view.specs.Frames as frames
 use Rattle.packet_view.specs.Frames.{IsFrame, FrameFacts}
+use Rattle.packet_view.specs.declared.tuple.Mac.{Mac}
 use Rattle.packet_view.specs.Tuples.{TupleFacts}
 use Rattle.acl_policy.specs.declared.rule.Action.{Action}
 use Rattle.acl_policy.specs.Matching.{IsRuling}
@@ -29,9 +30,17 @@ IsReadingOf policy moment frames.Short reading = reading ≡ Framed verdict.Shor
 IsReadingOf policy moment (frames.Ip direction tuple) reading =
     (ruling : Ruling) × IsRuling (rules_of direction policy) tuple ruling × (reading ≡ Ruled moment tuple ruling)
 
+-- what a packet's frame is at its interface, which has this own address
+abbrev pub IsSeenAt : Option Mac → PacketFacts → FrameFacts → Type 0
+IsSeenAt own packet view = IsFrame packet.frame (record { number = packet.interface; own = own }) view
+
+-- the own address is the one that the policy names
+abbrev pub IsSeen : PolicyFacts → PacketFacts → FrameFacts → Type 0
+IsSeen policy packet view = IsSeenAt policy.own packet view
+
 abbrev pub IsReading : PolicyFacts → PacketFacts → Reading → Type 0
 IsReading policy packet reading =
-    (view : FrameFacts) × IsFrame packet.frame policy.own view × IsReadingOf policy packet.moment view reading
+    (view : FrameFacts) × IsSeen policy packet view × IsReadingOf policy packet.moment view reading
 
 -- each packet has its reading
 abbrev pub AreReadings : PolicyFacts → List PacketFacts → List Reading → Type 0

@@ -25,6 +25,7 @@ pub fn copied(tuple: &Tuple) -> Tuple
     ensures { tuple_facts result ≡ tuple_facts tuple.now }
 {
     Tuple {
+        interface: tuple.interface,
         family: tuple.family,
         source: tuple.source,
         dest: tuple.dest,

@@ -5,10 +5,12 @@ use Rattle.std.proofs.lemmas.List.{drop_all, drop_more, length-drop}
 use Rattle.std.proofs.lemmas.Option.{slice_get_within}
 use Rattle.packet_view.specs.Captures.{PacketFacts}
 use Rattle.packet_view.specs.CheckedCaptures.{held}
-use Rattle.packet_view.specs.Frames.{FrameFacts, IsFrame, frame_facts}
+use Rattle.packet_view.specs.Frames.{FrameFacts, frame_facts}
+use Rattle.packet_view.specs.Interfaces.{Interface}
 use Rattle.packet_view.specs.inner.FrameSteps.{view_of}
 use Rattle.packet_view.proofs.FrameLemmas.{view_only, view_shown}
 use Rattle.bihash_words.specs.declared.shape.Shape.{Ghosts}
+use Rattle.flow_filter.specs.Readings.{IsSeenAt}
 use Rattle.packet_dealing.proofs.DealtLists.{next_there, some_left, stands_at, there_behind}
 use Rattle.packet_dealing.specs.Dealt.{AreDealt, IsDealtTo}
 use Rattle.packet_dealing.specs.declared.dealt_part.DealtPart.{DealtPart}
@@ -53,10 +55,10 @@ module _ {A B R G K L : Type 0} (ga : Ghosts A K) (gb : Ghosts B L) (run : Run A
   pub part_mine : (first k : ℕ) (part : DealtPart) (packet : PacketFacts) (behind : List PacketFacts)
       → IsPartOf ga gb run first part → k < length part.workers.items
       → drop (first + k) (held run.packets) ≡ packet ∷ behind
-      → IsDealtTo ga gb (dealer_of run.setup) (run.first + (first + k)) packet.frame
+      → IsDealtTo ga gb (dealer_of run.setup) (run.first + (first + k)) packet
       (slice_index part.workers.items k)
   part_mine first k part packet behind is below here =
-      subst (λ n. IsDealtTo ga gb (dealer_of run.setup) n packet.frame (slice_index part.workers.items k))
+      subst (λ n. IsDealtTo ga gb (dealer_of run.setup) n packet (slice_index part.workers.items k))
       (let e : run.first + first + k ≡ run.first + (first + k) = omega arith in e)
       (is.workers.each k packet below (next_there (held run.packets) behind first k packet here))
 
@@ -64,15 +66,15 @@ module _ {A B R G K L : Type 0} (ga : Ghosts A K) (gb : Ghosts B L) (run : Run A
   pub may_judge_viewed : (worker at : ℕ) (packet : PacketFacts) (viewed : ViewedPacket) (frame : FrameFacts)
       (share : Share A B K L ga gb) → MayJudge ga gb run worker at packet share
       → IsViewed run.setup.filter.own packet viewed → frame ≡ frame_facts viewed.frame.now
-      → IsFrame packet.frame run.setup.filter.own frame
-      → ((other : FrameFacts) → IsFrame packet.frame run.setup.filter.own other → other ≡ frame)
+      → IsSeenAt run.setup.filter.own packet frame
+      → ((other : FrameFacts) → IsSeenAt run.setup.filter.own packet other → other ≡ frame)
       → MayJudgeViewed ga gb run worker at viewed share
   may_judge_viewed worker at packet viewed frame share may seen same shown only = record {
     shapes = may.shapes;
     idle = may.idle;
     fits = may.fits;
     stands = record { packet = packet; there = may.there; seen = seen; only = λ other is. only other is ∙ same };
-    mine = subst (λ f. IsWorkerOf ga gb run at f worker) same (may.mine frame shown);
+    mine = subst (λ f. IsWorkerOf ga gb run at f worker) same (may.mine run.setup.filter.own frame shown);
   }
 
   pub worked_none : (w at : ℕ) (share : Share A B K L ga gb) → AreIdle ga gb run.setup.tables.now share.callers
@@ -94,20 +96,20 @@ module _ {A B R G K L : Type 0} (ga : Ghosts A K) (gb : Ghosts B L) (run : Run A
   -- the worker passes by a packet of another
   pub passed_by : (w at other : ℕ) (packet : PacketFacts) (share : Share A B K L ga gb)
       → slice_get (held run.packets) at ≡ Some packet
-      → IsDealtTo ga gb (dealer_of run.setup) (run.first + at) packet.frame other → other ≢ w
+      → IsDealtTo ga gb (dealer_of run.setup) (run.first + at) packet other → other ≢ w
       → AreIdle ga gb run.setup.tables.now share.callers → HasWorkedOn ga gb run w at (at + 1) share share
   passed_by w at other packet share there dealt differ idle =
-      let own = run.setup.filter.own in
+      let at_own : Interface = record { number = packet.interface; own = run.setup.filter.own } in
       record {
         idle = idle;
         work = λ all among v done. one_more _ w run.first at v _ _
-            (work_passed _ _ _ _ _ _ packet (view_of packet.frame own)
+            (work_passed _ _ _ _ _ _ packet (view_of packet.frame at_own)
             (record {
               stands = stands_among all among at packet there;
-              shown = view_shown packet.frame own;
-              only = view_only packet.frame own;
+              shown = view_shown packet.frame at_own;
+              only = view_only packet.frame at_own;
             })
-            (λ same. differ (dealt _ (view_shown packet.frame own) ∙ same))
+            (λ same. differ (dealt run.setup.filter.own _ (view_shown packet.frame at_own) ∙ same))
             done);
       }
 

@@ -34,7 +34,7 @@ pub record IsNext {A B R G K L : Type 0} (ga : Ghosts A K) (gb : Ghosts B L) (ru
     (old new : Share A B K L ga gb) : Type 0 where
   pub inside : at < length part.workers.items
   pub there : slice_get (held run.packets) (first + at) ≡ Some packet
-  pub mine : IsDealtTo ga gb (dealer_of run.setup) (run.first + (first + at)) packet.frame w
+  pub mine : IsDealtTo ga gb (dealer_of run.setup) (run.first + (first + at)) packet w
   pub own : left ≡ picked w (at + 1) (drop (at + 1) part.workers.items) (drop (first + (at + 1)) (held run.packets))
   pub worked : HasWorkedOn ga gb run w first (first + at) old new
 
@@ -74,7 +74,7 @@ module _ {A B R G K L : Type 0} (ga : Ghosts A K) (gb : Ghosts B L) (run : Run A
       record {
         inside = inside;
         there = stands_at (held run.packets) ps (first + k) packet here;
-        mine = subst (IsDealtTo ga gb (dealer_of run.setup) (run.first + (first + k)) packet.frame)
+        mine = subst (IsDealtTo ga gb (dealer_of run.setup) (run.first + (first + k)) packet)
             (front_is part.workers.items ws k x 0 at ∙ mine) (part_mine ga gb run first k part packet ps is inside here);
         own = ap (λ qs. picked w (k + 1) ws qs) (sym (one_behind k packet ps here))
             ∙ ap (λ vs. picked w (k + 1) vs (drop (first + (k + 1)) (held run.packets)))

@@ -10,6 +10,7 @@ use lib.ListN.{get_elem?}
 use mathlib.Core.Option.{some, some-ne-none, some-injective}
 use Rattle.packet_view.specs.Captures.{PacketFacts}
 use Rattle.packet_view.specs.Frames as frames
+use Rattle.packet_view.specs.Interfaces.{Interface}
 use Rattle.packet_view.specs.inner.FrameSteps.{view_of}
 use Rattle.packet_view.proofs.FrameLemmas.{view_only, view_shown}
 use Rattle.bihash_words.specs.declared.shape.Shape.{Ghosts}
@@ -224,13 +225,13 @@ module _ (run : RunFacts) (traces : List (List Item)) (all : List (Vec Verdict))
       s : (said : Vec Verdict) × (get_elem? all w ≡ some said) × AreSaid run t.0 said.items
       s = zip_back (λ trace (said : Vec Verdict). AreSaid run trace said.items) traces all w t.0 are.said t.1
 
-      behind : (v : ℕ) (views : List frames.FrameFacts) → AreViews run.policy.own run.packets views
+      behind : (v : ℕ) (views : List frames.FrameFacts) → AreViews run.policy run.packets views
           → numbers_from run.deal v at (drop at views) ≡ numbers_behind run w v at views
       behind v views these = numbers_at run v at packet view is views these (w == v)
           (ap (λ k. k == v) (sym mine))
 
-      vs : (views : List frames.FrameFacts) × AreViews run.policy.own run.packets views
-      vs = all_views run.policy.own run.packets
+      vs : (views : List frames.FrameFacts) × AreViews run.policy run.packets views
+      vs = all_views run.policy run.packets
 
       left : drop n (numbers_of t.0) ≡ at ∷ numbers_from run.deal w (at + 1) (drop (at + 1) vs.0)
       left = before.left w t.0 t.1 vs.0 vs.1 ∙ (behind w vs.0 vs.1
@@ -260,7 +261,7 @@ module _ (run : RunFacts) (traces : List (List Item)) (all : List (Vec Verdict))
   all_placed placed before count = record {
     count = count;
     each = λ w trace traced k i stands.
-        let vs = all_views run.policy.own run.packets in
+        let vs = all_views run.policy run.packets in
         let views = zip_count _ run.packets vs.0 vs.1 in
         let at = length placed.verdicts.items in
         let none : drop (slice_index placed.next w) (numbers_of trace) ≡ [] =
@@ -278,7 +279,7 @@ module _ (run : RunFacts) (traces : List (List Item)) (all : List (Vec Verdict))
       let t =
       zip_there (λ trace (k : Vec Verdict). AreSaid run trace k.items) traces all 0 said are.said
       (ap (λ ss. get_elem? ss 0) one) in
-      let vs = all_views run.policy.own run.packets in
+      let vs = all_views run.policy run.packets in
       let numbers = (are.traced.each 0 t.0 t.1).dealt vs.0 vs.1 in
       record {
         count =
@@ -303,23 +304,23 @@ pub part_next : (run : RunFacts) (traces : List (List Item)) (all : List (Vec Ve
 part_next run traces all workers old placed k w may count below this before =
     let at = length old.verdicts.items + k in
     let inside : at < length run.packets = let i = may.judges.inside in omega arith in
-    let packet = get_or run.packets at (record { moment = 0; frame = [] }) in
-    let stands = slice_get-get_or run.packets at (record { moment = 0; frame = [] }) inside in
-    let own = run.policy.own in
-    next_is run traces all may.told placed before w packet (view_of packet.frame own)
+    let packet : PacketFacts = get_or run.packets at (record { interface = 0; moment = 0; frame = [] }) in
+    let stands = slice_get-get_or run.packets at (record { interface = 0; moment = 0; frame = [] }) inside in
+    let at_own : Interface = record { number = packet.interface; own = run.policy.own } in
+    next_is run traces all may.told placed before w packet (view_of packet.frame at_own)
     (record {
       stands = ap (slice_get run.packets) count ∙ stands;
-      shown = view_shown packet.frame own;
-      only = view_only packet.frame own;
+      shown = view_shown packet.frame at_own;
+      only = view_only packet.frame at_own;
     })
-    (this ∙ (may.judges.each k packet (view_of packet.frame own) below stands (view_shown packet.frame own)
-    ∙ ap (λ n. worker_of run.deal n (flow_shown (view_of packet.frame own))) (sym count)))
+    (this ∙ (may.judges.each k packet (view_of packet.frame at_own) below stands (view_shown packet.frame at_own)
+    ∙ ap (λ n. worker_of run.deal n (flow_shown (view_of packet.frame at_own))) (sym count)))
 
 -- ---- The workers of all packets
 
 -- what the packets of a run are dealt by
 abbrev pub dealer_by : RunFacts → Dealer
-dealer_by run = record { own = run.policy.own; dealing = run.deal.dealing; workers = run.deal.workers }
+dealer_by run = record { dealing = run.deal.dealing; workers = run.deal.workers }
 
 pub all_judges : {A B K L : Type 0} (ga : Ghosts A K) (gb : Ghosts B L) (run : RunFacts)
     → run.deal.layout ≡ layout_of ga gb → (workers : List ℕ) → length workers ≡ length run.packets
@@ -328,7 +329,7 @@ all_judges ga gb run layout workers count are = record {
   are = record {
     inside = omega arith;
     each = λ k packet view below at shown. are.each k packet below
-        (ap (slice_get run.packets) (let e : k ≡ 0 + k = omega arith in e) ∙ at) view shown
+        (ap (slice_get run.packets) (let e : k ≡ 0 + k = omega arith in e) ∙ at) run.policy.own view shown
         ∙ ap (λ l. worker_by run.deal.dealing l run.deal.workers (0 + k) (flow_shown view)) (sym layout);
   };
   all = count;

@@ -51,15 +51,15 @@ module _ {A B K L : Type 0} (ga : Ghosts A K) (gb : Ghosts B L) (dealer : Dealer
         let i = front.inside in let j = behind.inside in let n = length-append workers more in
         let m = length-drop (length workers) packets in omega arith;
     each = λ k packet below there. elim (split k (length workers)) [
-      | inl before ↦ subst (IsDealtTo ga gb dealer (first + k) packet.frame)
+      | inl before ↦ subst (IsDealtTo ga gb dealer (first + k) packet)
           (sym (get_or_append_left workers more 0 k before)) (front.each k packet before there)
       | inr after ↦
           let n = length-append workers more in
           let other = k - length workers in
           let same : length workers + other ≡ k = omega arith in
-          subst (λ m. IsDealtTo ga gb dealer m packet.frame (slice_index (workers ++ more) k))
+          subst (λ m. IsDealtTo ga gb dealer m packet (slice_index (workers ++ more) k))
           (let e : first + length workers + other ≡ first + k = omega arith in e)
-          (subst (IsDealtTo ga gb dealer (first + length workers + other) packet.frame)
+          (subst (IsDealtTo ga gb dealer (first + length workers + other) packet)
           (sym (get_or-append_right workers more (length workers) k 0 refl after))
           (behind.each other packet (omega arith)
           (there_behind packets (length workers) other ∙ (ap (slice_get packets) same ∙ there))))

@@ -5,7 +5,7 @@ use Rattle.std.specs.List.{last_or}
 use Rattle.packet_view.specs.Captures.{PacketFacts}
 use Rattle.packet_view.specs.Frames as frames
 use Rattle.packet_view.specs.Frames.{FrameFacts, frame_facts}
-use Rattle.packet_view.specs.declared.tuple.Mac.{Mac}
+use Rattle.acl_policy.specs.Policies.{PolicyFacts}
 use Rattle.acl_policy.specs.declared.rule.Action.{Action}
 use Rattle.acl_policy.specs.declared.rule.Action.TheVariants.{Deny, Permit, Reflect}
 use Rattle.bihash_words.specs.declared.patch.Reply.{Reply}
@@ -122,12 +122,12 @@ pub flow_reply : (l : Layout) (took : View → View → Reply → Type 0) (key :
 flow_reply l took (Four key) e v w entered four six = last_reply l.four v.four w.four e entered.0 four
 flow_reply l took (Six key) e v w entered four six = last_reply l.six v.six w.six e entered.0 six
 
-pub short_packet : {A B K L : Type 0} (ga : Ghosts A K) (gb : Ghosts B L) (own : Option Mac) (times : Timeouts)
+pub short_packet : {A B K L : Type 0} (ga : Ghosts A K) (gb : Ghosts B L) (policy : PolicyFacts) (times : Timeouts)
     (s : PacketFacts) (p : ViewedPacket) (ruling : Ruling) (u : Update) (w : Views) (r : Reply) (found : Option ℕ)
-    → IsViewed own s p → update_of times (reading_in p ruling) ≡ Some u
+    → IsViewed policy.own s p → update_of times (reading_in p ruling) ≡ Some u
     → IsFlowReply u.key w r → ((log2 left : ℕ) → r ≡ reply.NoPages log2 left → IsFlowOutOfPages ga gb u.key w log2 left)
-    → verdict_of u.patch ruling found r ≡ verdict.NoPages → IsPacketOutOfPages ga gb own s w
-short_packet ga gb own times s p ruling u w r found seen asks replied short e =
+    → verdict_of u.patch ruling found r ≡ verdict.NoPages → IsPacketOutOfPages ga gb policy s w
+short_packet ga gb policy times s p ruling u w r found seen asks replied short e =
     let told = told_no_pages u.patch ruling found r e in
     let flow = flow_updated times p.moment (frame_facts p.frame.now) ruling u asks in
     record {

@@ -48,7 +48,7 @@ module _ {A B R G K L : Type 0} (ga : Ghosts A K) (gb : Ghosts B L) (run : Run A
   -- a packet's worker judges it, and the others pass by it
   pub next_worked : (at worker : ℕ) (packet : PacketFacts) (old : List (Share A B K L ga gb))
       (before share : Share A B K L ga gb) → all_idle old → slice_get (held run.packets) at ≡ Some packet
-      → IsDealtTo ga gb (dealer_of run.setup) (run.first + at) packet.frame worker → worker < length old
+      → IsDealtTo ga gb (dealer_of run.setup) (run.first + at) packet worker → worker < length old
       → get_or old worker before ≡ before → HasWorkedOn ga gb run worker at (at + 1) before share
       → HaveWorkedOn run at (at + 1) old (set old worker share)
   next_worked at worker packet old before share idle there dealt one is worked = record {
@@ -79,13 +79,13 @@ module _ {A B K L : Type 0} (ga : Ghosts A K) (gb : Ghosts B L) (dealer : Dealer
 
   pub noted_push : (taken worker : ℕ) (packet : PacketFacts) (old new longer : List ℕ)
       → HaveNotedSome ga gb dealer first packets taken old new → slice_get packets taken ≡ Some packet
-      → IsDealtTo ga gb dealer (first + taken) packet.frame worker → longer ≡ new ++ worker ∷ []
+      → IsDealtTo ga gb dealer (first + taken) packet worker → longer ≡ new ++ worker ∷ []
       → HaveNotedSome ga gb dealer first packets (taken + 1) old longer
   noted_push taken worker packet old new longer before there dealt is = record {
     workers = before.workers ++ worker ∷ [];
     noted = is ∙ (ap (λ ws. ws ++ worker ∷ []) before.noted ∙ append_assoc old before.workers (worker ∷ []));
     are = workers_push ga gb dealer first packets before.workers worker packet before.are
         (ap (slice_get packets) before.many ∙ there)
-        (subst (λ n. IsDealtTo ga gb dealer (first + n) packet.frame worker) (sym before.many) dealt);
+        (subst (λ n. IsDealtTo ga gb dealer (first + n) packet worker) (sym before.many) dealt);
     many = length_push before.workers worker ∙ ap (λ n. n + 1) before.many;
   }

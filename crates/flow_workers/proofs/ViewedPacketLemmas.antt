@@ -62,7 +62,7 @@ told_answered ga gb took filter packet ruling tables old new u reply verdict rul
       answered _ took filter.times (policy_in filter) s packet ruling _ _ verdict u reply
       (record { seen = seen; ruled = ruled }) asks told.entered said;
   no_pages = λ s seen none.
-      short_packet ga gb _ filter.times s packet ruling u _ reply (found_by reply) seen asks
+      short_packet ga gb (policy_in filter) filter.times s packet ruling u _ reply (found_by reply) seen asks
       (flow_reply _ took u.key _ _ _ told.entered.1 told.idle.lawful.0.acts told.idle.lawful.1.acts)
       told.no_pages (sym said ∙ none);
   wanted = told.wanted;

@@ -6,8 +6,6 @@ use Rattle.std.proofs.lemmas.List.Elements.{All-nil, All-push}
 use Rattle.std.proofs.lemmas.List.{map-append}
 use Rattle.packet_view.specs.Captures.{PacketFacts}
 use Rattle.packet_view.specs.Frames as frames
-use Rattle.packet_view.specs.Frames.{IsFrame}
-use Rattle.packet_view.specs.declared.tuple.Mac.{Mac}
 use Rattle.packet_view.specs.declared.tuple.Family.{Family}
 use Rattle.packet_view.specs.declared.tuple.Family.TheVariants.{V4, V6}
 use Rattle.acl_policy.specs.Policies.{PolicyFacts}
@@ -26,7 +24,7 @@ use Rattle.session_state.specs.declared.flow.FlowKey.{FlowKey}
 use Rattle.session_state.specs.declared.flow.FlowKey.TheVariants.{Four, Six}
 use Rattle.session_state.specs.declared.timeouts.Timeouts.{Timeouts}
 use Rattle.flow_filter.specs.declared.verdict.Verdict.{Verdict}
-use Rattle.flow_filter.specs.Readings.{IsReading, IsReadingOf, Reading}
+use Rattle.flow_filter.specs.Readings.{IsReading, IsReadingOf, IsSeen, Reading}
 use Rattle.flow_filter.specs.Updates.{Update, update_of, words_of}
 use Rattle.flow_filter.specs.Judged.{IsAskedBy, verdict_on}
 use Rattle.flow_filter.specs.OneThread.{Layout, family_of, home_of, same_family}
@@ -154,24 +152,24 @@ unfolding numbers_from
 no_numbers d w at = refl
 
 -- the view at a place
-view_there : (own : Option Mac) (packets : List PacketFacts) (views : List frames.FrameFacts) (at : ℕ)
-    (packet : PacketFacts) (this : frames.FrameFacts) → AreViews own packets views
-    → slice_get packets at ≡ Some packet → ((other : frames.FrameFacts) → IsFrame packet.frame own other → other ≡ this)
+view_there : (policy : PolicyFacts) (packets : List PacketFacts) (views : List frames.FrameFacts) (at : ℕ)
+    (packet : PacketFacts) (this : frames.FrameFacts) → AreViews policy packets views
+    → slice_get packets at ≡ Some packet → ((other : frames.FrameFacts) → IsSeen policy packet other → other ≡ this)
     → drop at views ≡ this ∷ drop (suc at) views
-view_there own [] [] at packet this all stands only = let f : ⊥ = cc in absurd f
-view_there own [] (view ∷ views) at packet this all stands only = absurd all
-view_there own (p ∷ ps) [] at packet this all stands only = absurd all
-view_there own (p ∷ ps) (view ∷ views) zero packet this all stands only =
+view_there policy [] [] at packet this all stands only = let f : ⊥ = cc in absurd f
+view_there policy [] (view ∷ views) at packet this all stands only = absurd all
+view_there policy (p ∷ ps) [] at packet this all stands only = absurd all
+view_there policy (p ∷ ps) (view ∷ views) zero packet this all stands only =
     ap (λ x. x ∷ views) (only view
-    (subst (λ (q : PacketFacts). IsFrame q.frame own view) (let e : p ≡ packet = cc in e) all.0))
-view_there own (p ∷ ps) (view ∷ views) (suc at) packet this all stands only =
-    view_there own ps views at packet this all.1 stands only
+    (subst (λ (q : PacketFacts). IsSeen policy q view) (let e : p ≡ packet = cc in e) all.0))
+view_there policy (p ∷ ps) (view ∷ views) (suc at) packet this all stands only =
+    view_there policy ps views at packet this all.1 stands only
 
-view_at : (own : Option Mac) (packets : List PacketFacts) (views : List frames.FrameFacts) (at : ℕ)
-    (packet : PacketFacts) (this : frames.FrameFacts) → AreViews own packets views
-    → slice_get packets at ≡ Some packet → ((other : frames.FrameFacts) → IsFrame packet.frame own other → other ≡ this)
+view_at : (policy : PolicyFacts) (packets : List PacketFacts) (views : List frames.FrameFacts) (at : ℕ)
+    (packet : PacketFacts) (this : frames.FrameFacts) → AreViews policy packets views
+    → slice_get packets at ≡ Some packet → ((other : frames.FrameFacts) → IsSeen policy packet other → other ≡ this)
     → drop at views ≡ this ∷ drop (at + 1) views
-view_at own packets views at packet this all stands only = view_there own packets views at packet this all stands only
+view_at policy packets views at packet this all stands only = view_there policy packets views at packet this all stands only
     ∙ ap (λ k. this ∷ drop k views) (sym (add-one at))
 
 -- ---- A worker's packet, and another's
@@ -186,8 +184,8 @@ flow_of_reading policy moment (frames.Ip direction tuple) reading is = ap flow_i
 -- what is known of the packet at a place, and of its frame
 pub record IsAt (run : RunFacts) (at : ℕ) (packet : PacketFacts) (view : frames.FrameFacts) : Type 0 where
   pub stands : slice_get run.packets at ≡ Some packet
-  pub shown : IsFrame packet.frame run.policy.own view
-  pub only : (other : frames.FrameFacts) → IsFrame packet.frame run.policy.own other → other ≡ view
+  pub shown : IsSeen run.policy packet view
+  pub only : (other : frames.FrameFacts) → IsSeen run.policy packet other → other ≡ view
 
 -- the flow that a packet's reading has is the one that its frame shows
 pub flow_at : (run : RunFacts) (at : ℕ) (packet : PacketFacts) (view : frames.FrameFacts) (reading : Reading)
@@ -210,12 +208,12 @@ work_none run w v = record {
 -- the numbers from a packet on, where its view is known
 pub numbers_at : (run : RunFacts) (w at : ℕ) (packet : PacketFacts) (view : frames.FrameFacts) → IsAt run at packet view
     → (views : List frames.FrameFacts)
-    → AreViews run.policy.own run.packets views → (t : Bool) → (worker_of run.deal at (flow_shown view) == w) ≡ t
+    → AreViews run.policy run.packets views → (t : Bool) → (worker_of run.deal at (flow_shown view) == w) ≡ t
     → numbers_from run.deal w at (drop at views)
     ≡ cond t (at ∷ numbers_from run.deal w (at + 1) (drop (at + 1) views))
     (numbers_from run.deal w (at + 1) (drop (at + 1) views))
 numbers_at run w at packet view is views all t test =
-    ap (numbers_from run.deal w at) (view_at run.policy.own run.packets views at packet view all is.stands is.only)
+    ap (numbers_from run.deal w at) (view_at run.policy run.packets views at packet view all is.stands is.only)
     ∙ (numbers_cons run.deal w at view (drop (at + 1) views)
     ∙ ap (λ b. cond b (at ∷ numbers_from run.deal w (at + 1) (drop (at + 1) views))
     (numbers_from run.deal w (at + 1) (drop (at + 1) views))) test)
@@ -319,21 +317,21 @@ nothing_left [] (suc at) none = refl
 nothing_left (x ∷ xs) at none = absurd (let f : ⊥ = cc in f)
 
 -- after all packets nothing is left to look at
-no_views : (own : Option Mac) (packets : List PacketFacts) (views : List frames.FrameFacts) (at : ℕ)
-    → AreViews own packets views → drop at packets ≡ [] → drop at views ≡ []
-no_views own [] [] at all none = nothing_left [] at refl
-no_views own [] (view ∷ views) at all none = absurd all
-no_views own (p ∷ ps) [] at all none = absurd all
-no_views own (p ∷ ps) (view ∷ views) zero all none = absurd (let f : ⊥ = cc in f)
-no_views own (p ∷ ps) (view ∷ views) (suc at) all none = no_views own ps views at all.1 none
+no_views : (policy : PolicyFacts) (packets : List PacketFacts) (views : List frames.FrameFacts) (at : ℕ)
+    → AreViews policy packets views → drop at packets ≡ [] → drop at views ≡ []
+no_views policy [] [] at all none = nothing_left [] at refl
+no_views policy [] (view ∷ views) at all none = absurd all
+no_views policy (p ∷ ps) [] at all none = absurd all
+no_views policy (p ∷ ps) (view ∷ views) zero all none = absurd (let f : ⊥ = cc in f)
+no_views policy (p ∷ ps) (view ∷ views) (suc at) all none = no_views policy ps views at all.1 none
 
 all_looked_at : (run : RunFacts) (w at : ℕ) (v u : Views) (verdicts : List Verdict)
     → drop at run.packets ≡ []
     → (work : IsWorkUntil run w at v u verdicts) (views : List frames.FrameFacts)
-    → AreViews run.policy.own run.packets views → numbers_of work.trace ≡ numbers_from run.deal w 0 views
+    → AreViews run.policy run.packets views → numbers_of work.trace ≡ numbers_from run.deal w 0 views
 all_looked_at run w at v u verdicts none work views all =
     sym (ap (λ vs. numbers_of work.trace ++ numbers_from run.deal w at vs)
-    (no_views run.policy.own run.packets views at all none)
+    (no_views run.policy run.packets views at all none)
     ∙ (ap (λ ns. numbers_of work.trace ++ ns) (no_numbers run.deal w at) ∙ append-nil (numbers_of work.trace)))
     ∙ work.dealt views all
 

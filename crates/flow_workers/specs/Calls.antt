@@ -41,4 +41,4 @@ pub record TellsVerdictTry {A B K L : Type 0} {ga : Ghosts A K} {gb : Ghosts B L
   pub refused : IfErr r (λ _.
       HasNoVerdict ga gb filter.times (policy_facts filter.policy) (packet_facts packet) old new)
   pub lone : old.four.seat.view.lone ≡ true → old.six.seat.view.lone ≡ true → is_ok r ≡ true
-  pub settled : HasNoFlow (policy_facts filter.policy).own (packet_facts packet) → is_ok r ≡ true
+  pub settled : HasNoFlow (policy_facts filter.policy) (packet_facts packet) → is_ok r ≡ true

@@ -1,8 +1,8 @@
 -- Why a verdict of no pages was right.
-use Rattle.std.specs.Prelude.{◌≡◌, ℕ, Option, Some}
+use Rattle.std.specs.Prelude.{◌≡◌, ℕ, Some}
 use Rattle.packet_view.specs.Captures.{PacketFacts}
-use Rattle.packet_view.specs.Frames.{IsFrame, FrameFacts}
-use Rattle.packet_view.specs.declared.tuple.Mac.{Mac}
+use Rattle.packet_view.specs.Frames.{FrameFacts}
+use Rattle.acl_policy.specs.Policies.{PolicyFacts}
 use Rattle.bihash_words.specs.Sizes.{bucket_of, sizes_of}
 use Rattle.bihash_words.specs.declared.patch.Reply.{Reply}
 use Rattle.bihash_words.specs.declared.patch.Reply.TheVariants.{NoPages}
@@ -14,6 +14,7 @@ use Rattle.bihash_table.specs.OutOfPages.{IsOutOfPages}
 use Rattle.session_state.specs.declared.flow.Flow.{Flow}
 use Rattle.session_state.specs.declared.flow.FlowKey.{FlowKey}
 use Rattle.session_state.specs.declared.flow.FlowKey.TheVariants.{Four, Six}
+use Rattle.flow_filter.specs.Readings.{IsSeen}
 use Rattle.flow_dealing.specs.Dealings.{flow_shown}
 use Rattle.flow_dealing.specs.Views.{Views}
 
@@ -34,10 +35,10 @@ IsFlowReply (Four key) w reply = HasLastReply w.four reply
 IsFlowReply (Six key) w reply = HasLastReply w.six reply
 
 -- the packet's flow found too few pages in its family's table, as its entry says
-pub record IsPacketOutOfPages {A B K L : Type 0} (ga : Ghosts A K) (gb : Ghosts B L) (own : Option Mac)
+pub record IsPacketOutOfPages {A B K L : Type 0} (ga : Ghosts A K) (gb : Ghosts B L) (policy : PolicyFacts)
     (packet : PacketFacts) (w : Views) : Type 0 where
   pub view : FrameFacts
-  pub framed : IsFrame packet.frame own view
+  pub framed : IsSeen policy packet view
   pub flow : Flow
   pub shown : flow_shown view ≡ Some flow
   pub log2 : ℕ

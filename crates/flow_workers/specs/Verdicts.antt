@@ -1,8 +1,7 @@
 -- The verdict of one packet, said of the callers that asked for it.
-use Rattle.std.specs.Prelude.{◌≡◌, Option, None}
+use Rattle.std.specs.Prelude.{◌≡◌, None}
 use Rattle.packet_view.specs.Captures.{PacketFacts}
-use Rattle.packet_view.specs.Frames.{IsFrame, FrameFacts}
-use Rattle.packet_view.specs.declared.tuple.Mac.{Mac}
+use Rattle.packet_view.specs.Frames.{FrameFacts}
 use Rattle.acl_policy.specs.Policies.{PolicyFacts}
 use Rattle.bihash_words.specs.declared.patch.Reply.{Reply}
 use Rattle.bihash_words.specs.declared.shape.Shape.{Ghosts}
@@ -11,6 +10,7 @@ use Rattle.session_state.specs.declared.timeouts.Timeouts.{Timeouts}
 use Rattle.flow_filter.specs.declared.verdict.Verdict.{Verdict}
 use Rattle.flow_filter.specs.declared.verdict.Verdict.TheVariants.{NoPages}
 use Rattle.flow_filter.specs.OneThread.{layout_of}
+use Rattle.flow_filter.specs.Readings.{IsSeen}
 use Rattle.flow_dealing.specs.Dealings.{flow_shown}
 use Rattle.flow_workers.specs.declared.tables.Callers.{Callers}
 use Rattle.flow_workers.specs.Callers.{views_of}
@@ -30,13 +30,13 @@ HasNoVerdict ga gb times policy s old new =
     IsRefused (layout_of ga gb) times policy s (views_of ga gb old) (views_of ga gb new)
 
 -- the packet takes no part in sessions
-pub record HasNoFlow (own : Option Mac) (packet : PacketFacts) : Type 0 where
+pub record HasNoFlow (policy : PolicyFacts) (packet : PacketFacts) : Type 0 where
   pub view : FrameFacts
-  pub framed : IsFrame packet.frame own view
+  pub framed : IsSeen policy packet view
   pub shown : flow_shown view ≡ None
 
 -- no pages are said where there were too few
 abbrev pub ShowsOutOfPages : {A B K L : Type 0} (ga : Ghosts A K) (gb : Ghosts B L) → PolicyFacts → PacketFacts
     → Callers A B K L ga gb → Verdict → Type 0
 ShowsOutOfPages ga gb policy s new verdict =
-    verdict ≡ NoPages → IsPacketOutOfPages ga gb policy.own s (views_of ga gb new)
+    verdict ≡ NoPages → IsPacketOutOfPages ga gb policy s (views_of ga gb new)

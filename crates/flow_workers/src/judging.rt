@@ -101,7 +101,7 @@ pub fn judge<A: Shape, B: Shape, R: Wait>(
     ensures { TellsVerdict filter.now packet.now tables.now callers.old callers.new result }
 {
     let filter = filter.ready();
-    let frame = view(packet.frame, filter.own);
+    let frame = view(packet.frame, packet.interface, filter.own);
     let flow = flow_in(&frame);
     let packet = ViewedPacket::new(packet, &frame, &flow);
     judge_viewed(rt, &filter, tables, callers, &packet)
@@ -118,7 +118,7 @@ pub fn try_judge<A: Shape, B: Shape>(
     ensures { TellsVerdictTry filter.now packet.now tables.now callers.old callers.new result }
 {
     let filter = filter.ready();
-    let frame = view(packet.frame, filter.own);
+    let frame = view(packet.frame, packet.interface, filter.own);
     let flow = flow_in(&frame);
     let packet = ViewedPacket::new(packet, &frame, &flow);
     try_judge_as::<A, B, Brand>(&filter, tables, callers, &packet)

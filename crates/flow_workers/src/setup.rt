@@ -37,7 +37,6 @@ impl<'t, A: Shape, B: Shape, R: Wait, G: Gate> Setup<'t, A, B, R, G> {
         ensures { result ≡ dealer_of self.now }
     {
         Dealer {
-            own: self.filter.own,
             dealing: self.dealing,
             workers: self.workers,
         }

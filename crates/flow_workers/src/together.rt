@@ -16,21 +16,21 @@ use packet_view::{Packet, PacketsAhead};
 use std::alloc::AllocError;
 use std::sync::Wait;
 
-// The worker of the packet with this number and frame. One that is alone needs no look.
+// The worker of the packet with this number. One that is alone needs no look.
 #[inline(always)]
 fn worker_for<A: Shape, B: Shape, R: Wait, G: Gate>(
     setup: &Setup<'_, A, B, R, G>,
     number: usize,
-    frame: &[u8],
+    packet: &Packet<'_>,
 ) -> usize
     requires { MayChoose ⟦<A as Shape>⟧ ⟦<B as Shape>⟧ setup.now }
-    ensures dealt { IsDealtTo ⟦<A as Shape>⟧ ⟦<B as Shape>⟧ (dealer_of setup.now) number frame.now result }
+    ensures dealt { IsDealtTo ⟦<A as Shape>⟧ ⟦<B as Shape>⟧ (dealer_of setup.now) number (packet_facts packet.now) result }
     ensures one { result < setup.now.workers }
 {
     if setup.is_alone() {
         0
     } else {
-        dealt_to::<A, B>(&setup.dealer(), number, frame)
+        dealt_to::<A, B>(&setup.dealer(), number, packet)
     }
 }
 
@@ -45,7 +45,7 @@ fn judge_next<A: Shape, B: Shape, R: Wait, G: Gate>(
     requires { MayJudgeNext ⟦<A as Shape>⟧ ⟦<B as Shape>⟧ run.now at (packet_facts packet.now) shares.old.items }
     ensures { IfOk result (HasJudgedNext ⟦<A as Shape>⟧ ⟦<B as Shape>⟧ run.now at (packet_facts packet.now) shares.old.items shares.new.items) }
 {
-    let worker = worker_for(&run.setup, run.first + at, packet.frame);
+    let worker = worker_for(&run.setup, run.first + at, packet);
     judge_own(run, worker, at, packet, &mut shares[worker])?;
     Ok(worker)
 }

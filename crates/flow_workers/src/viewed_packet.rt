@@ -22,8 +22,9 @@ pub struct ViewedPacket<'a> {
 impl<'a> ViewedPacket<'a> {
     ghost use Rattle.std.specs.Prelude.{Option};
     ghost use Rattle.packet_view.specs.Captures.{packet_facts};
-    ghost use Rattle.packet_view.specs.Frames.{IsFrame, frame_facts};
+    ghost use Rattle.packet_view.specs.Frames.{frame_facts};
     ghost use Rattle.packet_view.specs.declared.tuple.Mac.{Mac};
+    ghost use Rattle.flow_filter.specs.Readings.{IsSeenAt};
     ghost use Rattle.flow_dealing.specs.Dealings.{flow_shown};
     ghost use Rattle.flow_workers.specs.inner.ViewedPackets.{IsViewed};
 
@@ -31,7 +32,7 @@ impl<'a> ViewedPacket<'a> {
     pub fn new(packet: &Packet<'_>, frame: &'a Frame, flow: &'a Option<Flow>) -> ViewedPacket<'a>
         requires shown { flow.now ≡ flow_shown (frame_facts frame.now) }
         requires side { ForSome flow.now (λ f. f.side < 2) }
-        ensures seen { (own : Option Mac) → IsFrame packet.now.frame.now own (frame_facts frame.now)
+        ensures seen { (own : Option Mac) → IsSeenAt own (packet_facts packet.now) (frame_facts frame.now)
             → IsViewed own (packet_facts packet.now) result }
         ensures frame { result.frame.now ≡ frame.now }
     {

@@ -53,7 +53,7 @@ fn judge_own_slowly<A: Shape, B: Shape, R: Wait, G: Gate>(
     requires { MayJudge ⟦<A as Shape>⟧ ⟦<B as Shape>⟧ run.now worker at (packet_facts packet.now) share.old }
     ensures { IfOk result (λ _. HasWorkedOn ⟦<A as Shape>⟧ ⟦<B as Shape>⟧ run.now worker at (at + 1) share.old share.new) }
 {
-    let frame = view(packet.frame, run.setup.filter.own);
+    let frame = view(packet.frame, packet.interface, run.setup.filter.own);
     let flow = flow_in(&frame);
     let viewed = ViewedPacket::new(packet, &frame, &flow);
     judge_own_viewed(run, worker, at, &viewed, share)
@@ -72,7 +72,7 @@ pub fn judge_own<A: Shape, B: Shape, R: Wait, G: Gate>(
     requires { MayJudge ⟦<A as Shape>⟧ ⟦<B as Shape>⟧ run.now worker at (packet_facts packet.now) share.old }
     ensures { IfOk result (λ _. HasWorkedOn ⟦<A as Shape>⟧ ⟦<B as Shape>⟧ run.now worker at (at + 1) share.old share.new) }
 {
-    let Some(frame) = plain_frame(packet.frame, run.setup.filter.own) else {
+    let Some(frame) = plain_frame(packet.frame, packet.interface, run.setup.filter.own) else {
         return judge_own_slowly(run, worker, at, packet, share);
     };
     let flow = flow_in(&frame);

@@ -68,7 +68,7 @@ module _ {A B K L : Type 0} (ga : Ghosts A K) (gb : Ghosts B L) (dealer : Dealer
     (packets : List PacketFacts) where
   pub workers_push : (workers : List ℕ) (w : ℕ) (packet : PacketFacts) → AreWorkers ga gb dealer first workers packets
       → slice_get packets (length workers) ≡ Some packet
-      → IsDealtTo ga gb dealer (first + length workers) packet.frame w
+      → IsDealtTo ga gb dealer (first + length workers) packet w
       → AreWorkers ga gb dealer first (workers ++ w ∷ []) packets
   workers_push workers w packet old there one = record {
     inside = let l = length_push workers w in let i = slice_get_within packets (length workers) packet there in
@@ -77,13 +77,13 @@ module _ {A B K L : Type 0} (ga : Ghosts A K) (gb : Ghosts B L) (dealer : Dealer
       | inl (test, last) ↦
           let same : packet ≡ other =
           let t = sym there ∙ (ap (slice_get packets) (sym last) ∙ at) in cc in
-          subst (λ n. IsDealtTo ga gb dealer (first + k) other.frame n)
+          subst (λ n. IsDealtTo ga gb dealer (first + k) other n)
           (sym (get_or_push workers w 0 k (sym last)))
-          (subst (λ (p : PacketFacts). IsDealtTo ga gb dealer (first + k) p.frame w) same
-          (subst (λ n. IsDealtTo ga gb dealer (first + n) packet.frame w) (sym last) one))
+          (subst (λ (p : PacketFacts). IsDealtTo ga gb dealer (first + k) p w) same
+          (subst (λ n. IsDealtTo ga gb dealer (first + n) packet w) (sym last) one))
       | inr (test, earlier) ↦
           let before : k < length workers = let l = length_push workers w in omega arith in
-          subst (λ n. IsDealtTo ga gb dealer (first + k) other.frame n)
+          subst (λ n. IsDealtTo ga gb dealer (first + k) other n)
           (sym (get_or_append_left workers (w ∷ []) 0 k before)) (old.each k other before at)
     ];
   }

@@ -152,7 +152,7 @@ module _ {A B K L : Type 0} (ga : Ghosts A K) (gb : Ghosts B L) (dealer : Dealer
   pub dealt_push : (old new : DealtPart) (worker : ℕ) (packet : Packet) → worker < dealer.workers
       → IsDealtPart ga gb dealer first old packets
       → slice_get packets (length old.workers.items) ≡ Some (packet_facts packet)
-      → IsDealtTo ga gb dealer (first + length old.workers.items) packet.frame.now worker
+      → IsDealtTo ga gb dealer (first + length old.workers.items) (packet_facts packet) worker
       → HasHanded old worker packet new → IsDealtPart ga gb dealer first new packets
   dealt_push old new worker packet one before there dealt did = record {
     workers = subst (λ ws. AreWorkers ga gb dealer first ws packets) (sym did.noted)

@@ -1,3 +1,4 @@
 pub mod DealtLists
 pub mod HandedPackets
+pub mod OwnAddresses
 pub mod PartLemmas

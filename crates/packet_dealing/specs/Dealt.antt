@@ -1,11 +1,13 @@
 -- Packets with the workers that judge them.
 use Rattle.std.specs.Global.{Vec}
-use Rattle.std.specs.Prelude.{◌≡◌, ◌+◌, ◌<◌, ◌≤◌, ◌==◌, if◌then◌else◌, ℕ, List, [], ◌∷◌, Some, drop, length, map, slice_get, slice_index, slice_index_or}
+use Rattle.std.specs.Prelude.{◌≡◌, ◌+◌, ◌<◌, ◌≤◌, ◌==◌, if◌then◌else◌, ℕ, List, [], ◌∷◌, Option, Some, drop, length, map, slice_get, slice_index, slice_index_or}
 use Rattle.packet_view.specs.Captures.{PacketFacts, packet_facts}
-use Rattle.packet_view.specs.Frames.{FrameFacts, IsFrame}
+use Rattle.packet_view.specs.Frames.{FrameFacts}
+use Rattle.packet_view.specs.declared.tuple.Mac.{Mac}
 use Rattle.bihash_words.specs.Sizes.{IsSound, sizes_of}
 use Rattle.bihash_words.specs.declared.shape.Shape.{Ghosts}
 use Rattle.flow_filter.specs.OneThread.{IsFlowLayout, layout_of}
+use Rattle.flow_filter.specs.Readings.{IsSeenAt}
 use Rattle.flow_dealing.specs.Dealings.{flow_shown, worker_by}
 use Rattle.packet_dealing.specs.declared.dealer.Dealer.{Dealer}
 use Rattle.packet_dealing.specs.declared.dealt_part.DealtPacket.{DealtPacket}
@@ -17,9 +19,9 @@ pub record AreShapes {A B K L : Type 0} (ga : Ghosts A K) (gb : Ghosts B L) : Ty
   pub six : IsSound (sizes_of gb)
   pub keys : IsFlowLayout (layout_of ga gb)
 
--- the worker that judges the packet with this number, from 0, and this frame
-abbrev pub IsDealtTo : {A B K L : Type 0} (ga : Ghosts A K) (gb : Ghosts B L) → Dealer → ℕ → List ℕ → ℕ → Type 0
-IsDealtTo ga gb dealer number frame worker = (seen : FrameFacts) → IsFrame frame dealer.own seen
+-- the worker that judges the packet with this number, from 0, whatever the own address of its interface
+abbrev pub IsDealtTo : {A B K L : Type 0} (ga : Ghosts A K) (gb : Ghosts B L) → Dealer → ℕ → PacketFacts → ℕ → Type 0
+IsDealtTo ga gb dealer number packet worker = (own : Option Mac) (seen : FrameFacts) → IsSeenAt own packet seen
     → worker ≡ worker_by dealer.dealing (layout_of ga gb) dealer.workers number (flow_shown seen)
 
 -- these are the workers of the first of the packets, whose numbers begin with this one
@@ -27,7 +29,7 @@ pub record AreWorkers {A B K L : Type 0} (ga : Ghosts A K) (gb : Ghosts B L) (de
     (workers : List ℕ) (packets : List PacketFacts) : Type 0 where
   pub inside : length workers ≤ length packets
   pub each : (k : ℕ) (packet : PacketFacts) → k < length workers → slice_get packets k ≡ Some packet
-      → IsDealtTo ga gb dealer (first + k) packet.frame (slice_index workers k)
+      → IsDealtTo ga gb dealer (first + k) packet (slice_index workers k)
 
 -- a packet with its place
 abbrev pub placed_facts : DealtPacket → ℕ × PacketFacts

@@ -1,20 +1,19 @@
-//! Who judges a packet, by its frame.
+//! Who judges a packet, by its flow.
 ghost use Rattle.std.specs.Prelude.{◌≡◌, ◌<◌};
 ghost use Rattle.std.specs.Option.{ForSome};
+ghost use Rattle.packet_view.specs.Captures.{packet_facts};
 ghost use Rattle.packet_view.specs.Frames.{frame_facts};
 ghost use Rattle.flow_dealing.specs.Dealings.{flow_shown};
 ghost use Rattle.packet_dealing.specs.Dealt.{AreShapes, IsDealtTo};
 
 use bihash_words::Shape;
 use flow_dealing::{Dealing, worker_of};
-use packet_view::{Frame, Mac, plain, view};
+use packet_view::{Frame, Packet, plain, view};
 use session_state::{Flow, orient, plain_flow};
 
 /// What packets are dealt by.
 #[derive(Clone, Copy, Debug)]
 pub struct Dealer {
-    /// The own address of the interface.
-    pub own: Option<Mac>,
     pub dealing: Dealing,
     pub workers: usize,
 }
@@ -31,31 +30,31 @@ pub fn flow_in(frame: &Frame) -> Option<Flow>
     }
 }
 
-// Who judges the packet with this number, by the view of its frame. Few frames aren't plain, and the path of the
-// others is shorter without this.
+// Who judges the packet with this number, by the view of its frame at any own address. Few frames aren't plain, and the
+// path of the others is shorter without this.
 #[inline(never)]
-fn dealt_by_view<A: Shape, B: Shape>(dealer: &Dealer, number: usize, frame: &[u8]) -> usize
+fn dealt_by_view<A: Shape, B: Shape>(dealer: &Dealer, number: usize, packet: &Packet<'_>) -> usize
     requires shapes { AreShapes ⟦<A as Shape>⟧ ⟦<B as Shape>⟧ }
     requires some { 0 < dealer.now.workers }
-    ensures dealt { IsDealtTo ⟦<A as Shape>⟧ ⟦<B as Shape>⟧ dealer.now number frame.now result }
+    ensures dealt { IsDealtTo ⟦<A as Shape>⟧ ⟦<B as Shape>⟧ dealer.now number (packet_facts packet.now) result }
     ensures one { result < dealer.now.workers }
 {
-    let flow = flow_in(&view(frame, dealer.own));
+    let flow = flow_in(&view(packet.frame, packet.interface, None));
     worker_of::<A, B>(dealer.dealing, dealer.workers, number, flow)
 }
 
-/// Who judges the packet with this number, from 0, and this frame. A plain frame isn't viewed for it.
-pub fn dealt_to<A: Shape, B: Shape>(dealer: &Dealer, number: usize, frame: &[u8]) -> usize
+/// Who judges the packet with this number, from 0. A plain frame isn't viewed for it.
+pub fn dealt_to<A: Shape, B: Shape>(dealer: &Dealer, number: usize, packet: &Packet<'_>) -> usize
     requires shapes { AreShapes ⟦<A as Shape>⟧ ⟦<B as Shape>⟧ }
     requires some { 0 < dealer.now.workers }
-    ensures dealt { IsDealtTo ⟦<A as Shape>⟧ ⟦<B as Shape>⟧ dealer.now number frame.now result }
+    ensures dealt { IsDealtTo ⟦<A as Shape>⟧ ⟦<B as Shape>⟧ dealer.now number (packet_facts packet.now) result }
     ensures one { result < dealer.now.workers }
 {
-    match plain(frame) {
-        Some(packet) => {
-            let flow = Some(plain_flow(packet));
+    match plain(packet.frame) {
+        Some(said) => {
+            let flow = Some(plain_flow(said, packet.interface));
             worker_of::<A, B>(dealer.dealing, dealer.workers, number, flow)
         }
-        None => dealt_by_view::<A, B>(dealer, number, frame),
+        None => dealt_by_view::<A, B>(dealer, number, packet),
     }
 }

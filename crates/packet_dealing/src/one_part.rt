@@ -32,7 +32,7 @@ pub fn deal_part<'a, A: Shape, B: Shape>(job: Job<'a, A, B>) -> Result<DealtPart
         let Some(packet) = packets.next() else {
             unreachable!()
         };
-        let worker = dealt_to::<A, B>(&job.dealer, job.number + at, packet.frame);
+        let worker = dealt_to::<A, B>(&job.dealer, job.number + at, &packet);
         part.hand(worker, packet)?;
     }
     Ok(part)

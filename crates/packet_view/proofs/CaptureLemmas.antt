@@ -5,8 +5,8 @@ use Rattle.packet_view.specs.declared.capture.Order.{Order}
 use Rattle.packet_view.specs.declared.capture.CheckedCapture.{CheckedCapture}
 use Rattle.packet_view.specs.declared.capture.CaptureFault.{CaptureFault}
 use Rattle.packet_view.specs.declared.capture.CaptureFault.TheVariants as fault
-use Rattle.packet_view.specs.CheckedCaptures.{packets_of}
-use Rattle.packet_view.specs.Captures.{AreRecords, End, HasHeader, HasRecord, IsCapture, IsCaptureFault, IsEnd, IsHeaderFault, IsTooLong, PieceFacts, Nothing, Cut, TooLong, PacketFacts, Truncated, Whole, end_of}
+use Rattle.packet_view.specs.CheckedCaptures.{records_of}
+use Rattle.packet_view.specs.Captures.{AreRecords, End, HasHeader, HasRecord, IsCapture, IsCaptureFault, IsEnd, IsHeaderFault, IsTooLong, PieceFacts, Nothing, Cut, TooLong, PacketFacts, RecordFacts, Truncated, Whole, end_of, packets_at}
 use Rattle.packet_view.specs.inner.RecordSteps.{Checks, part_of}
 use Rattle.packet_view.proofs.RecordLemmas.{IsStop, HasNoRecord, part_only, records_once}
 
@@ -56,7 +56,7 @@ pub record IsHeaderOf (order : Order) (bytes : List ℕ) : Type 0 where
 
 module _ (order : Order) (bytes : List ℕ) (header : IsHeaderOf order bytes) where
   pub checks_ok : (result : Result CheckedCapture CaptureFault) → Checks order (drop 24 bytes) result
-      → IfOk result (λ checked. IsCapture bytes (packets_of checked.records) (end_of checked.truncated))
+      → IfOk result (λ checked. IsCapture bytes (records_of checked.records) (end_of checked.truncated))
   checks_ok (Ok checked) (rest, all, end) = (order, rest, header.right, all, end)
   checks_ok (Err found) h = tt
 
@@ -70,8 +70,8 @@ module _ (order : Order) (bytes : List ℕ) (header : IsHeaderOf order bytes) wh
   checks_fault (Err fault.LinkType) h = absurd h
 
   -- whole records and their end are all that a capture says
-  pub ended_accepts : (packets : List PacketFacts) (rest : List ℕ) (end : End) → AreRecords order (drop 24 bytes) packets rest → IsEnd order rest end
-      → (others : List PacketFacts) (last : End) → IsCapture bytes others last → (packets ≡ others) × (end ≡ last)
+  pub ended_accepts : (packets : List RecordFacts) (rest : List ℕ) (end : End) → AreRecords order (drop 24 bytes) packets rest → IsEnd order rest end
+      → (others : List RecordFacts) (last : End) → IsCapture bytes others last → (packets ≡ others) × (end ≡ last)
   ended_accepts packets rest end all stop others last (other, left, right, same, ends) =
       let e = header.one other right in
       let all_too : AreRecords order (drop 24 bytes) others left = rw (← e) same in
@@ -80,8 +80,8 @@ module _ (order : Order) (bytes : List ℕ) (header : IsHeaderOf order bytes) wh
       (once.0, same_end order left end last (rw (← once.1) stop) ends_too)
 
   -- before a record that is too long, whole records are no capture
-  pub long_is_wrong : (packets : List PacketFacts) (rest : List ℕ) → AreRecords order (drop 24 bytes) packets rest → IsTooLong order rest
-      → (others : List PacketFacts) (end : End) → IsCapture bytes others end → ⊥
+  pub long_is_wrong : (packets : List RecordFacts) (rest : List ℕ) → AreRecords order (drop 24 bytes) packets rest → IsTooLong order rest
+      → (others : List RecordFacts) (end : End) → IsCapture bytes others end → ⊥
   long_is_wrong packets rest all long others end (other, left, right, same, stop) =
       let e = header.one other right in
       let all_too : AreRecords order (drop 24 bytes) others left = rw (← e) same in
@@ -90,7 +90,7 @@ module _ (order : Order) (bytes : List ℕ) (header : IsHeaderOf order bytes) wh
       not_both order left end stop_too (rw (← once.1) long)
 
   -- whole records and their end have no fault
-  pub ended_is_right : (packets : List PacketFacts) (rest : List ℕ) (end : End) → AreRecords order (drop 24 bytes) packets rest → IsEnd order rest end
+  pub ended_is_right : (packets : List RecordFacts) (rest : List ℕ) (end : End) → AreRecords order (drop 24 bytes) packets rest → IsEnd order rest end
       → (found : CaptureFault) → IsCaptureFault bytes found → ⊥
   ended_is_right packets rest end all stop (fault.LongRecord number) (other, others, left, right, same, long, count) =
       let e = header.one other right in
@@ -102,23 +102,23 @@ module _ (order : Order) (bytes : List ℕ) (header : IsHeaderOf order bytes) wh
   ended_is_right packets rest end all stop fault.Memory h = h
 
   -- the fault of whole records before a record that is too long is that record
-  pub long_refuses : (packets : List PacketFacts) (rest : List ℕ) → AreRecords order (drop 24 bytes) packets rest → IsTooLong order rest
+  pub long_refuses : (packets : List RecordFacts) (rest : List ℕ) → AreRecords order (drop 24 bytes) packets rest → IsTooLong order rest
       → (found : CaptureFault) → IsCaptureFault bytes found → found ≡ fault.LongRecord (length packets + 1)
   long_refuses packets rest all long (fault.LongRecord number) (other, others, left, right, same, long_other, count) =
       let e = header.one other right in
       let all_too : AreRecords order (drop 24 bytes) others left = rw (← e) same in
       let long_too : IsTooLong order left = rw (← e) long_other in
       let once = records_once order (drop 24 bytes) packets others rest left all (long_stops order rest long) all_too (long_stops order left long_too) in
-      ap fault.LongRecord (count ∙ ap (λ (ps : List PacketFacts). length ps + 1) (sym once.0))
+      ap fault.LongRecord (count ∙ ap (λ (ps : List RecordFacts). length ps + 1) (sym once.0))
   long_refuses packets rest all long fault.Short h = absurd (header.none fault.Short h)
   long_refuses packets rest all long fault.Magic h = absurd (header.none fault.Magic h)
   long_refuses packets rest all long fault.Version h = absurd (header.none fault.Version h)
   long_refuses packets rest all long fault.LinkType h = absurd (header.none fault.LinkType h)
   long_refuses packets rest all long fault.Memory h = absurd h
 
-  pub checks_accepts : (result : Result CheckedCapture CaptureFault) → Checks order (drop 24 bytes) result → (packets : List PacketFacts) (end : End) → IsCapture bytes packets end
-      → MatchResult result (λ checked. (packets_of checked.records ≡ packets) × (end_of checked.truncated ≡ end)) (λ _. ⊥)
-  checks_accepts (Ok checked) (rest, all, stop) packets end is = ended_accepts (packets_of checked.records) rest (end_of checked.truncated) all stop packets end is
+  pub checks_accepts : (result : Result CheckedCapture CaptureFault) → Checks order (drop 24 bytes) result → (packets : List RecordFacts) (end : End) → IsCapture bytes packets end
+      → MatchResult result (λ checked. (records_of checked.records ≡ packets) × (end_of checked.truncated ≡ end)) (λ _. ⊥)
+  checks_accepts (Ok checked) (rest, all, stop) packets end is = ended_accepts (records_of checked.records) rest (end_of checked.truncated) all stop packets end is
   checks_accepts (Err (fault.LongRecord number)) (packets, rest, all, long, count) others end is = long_is_wrong packets rest all long others end is
   checks_accepts (Err fault.Memory) h packets end is = h
   checks_accepts (Err fault.Short) h packets end is = h
@@ -128,7 +128,7 @@ module _ (order : Order) (bytes : List ℕ) (header : IsHeaderOf order bytes) wh
 
   pub checks_refuses : (result : Result CheckedCapture CaptureFault) → Checks order (drop 24 bytes) result → (found : CaptureFault) → IsCaptureFault bytes found
       → result ≡ Err found
-  checks_refuses (Ok checked) (rest, all, stop) found is = absurd (ended_is_right (packets_of checked.records) rest (end_of checked.truncated) all stop found is)
+  checks_refuses (Ok checked) (rest, all, stop) found is = absurd (ended_is_right (records_of checked.records) rest (end_of checked.truncated) all stop found is)
   checks_refuses (Err (fault.LongRecord number)) (packets, rest, all, long, count) found is =
       ap Err (ap fault.LongRecord count ∙ sym (long_refuses packets rest all long found is))
   checks_refuses (Err fault.Memory) h found is = absurd h
@@ -138,8 +138,8 @@ module _ (order : Order) (bytes : List ℕ) (header : IsHeaderOf order bytes) wh
   checks_refuses (Err fault.LinkType) h found is = absurd h
 
 -- a capture of a packet has a record
-pub has_record : (bytes : List ℕ) (packets : List PacketFacts) (end : End) (before behind : List PacketFacts) (packet : PacketFacts) → IsCapture bytes packets end
-    → before ++ packet ∷ behind ≡ packets → HasRecord bytes
-has_record bytes [] end [] behind packet is e = absurd (let f : ⊥ = cc in f)
-has_record bytes [] end (x ∷ xs) behind packet is e = absurd (let f : ⊥ = cc in f)
-has_record bytes (first ∷ packets) end before behind packet (order, rest, header, (others, one, all), stop) e = (order, first, others, header, one)
+pub has_record : (bytes : List ℕ) (number : ℕ) (records : List RecordFacts) (end : End) (before behind : List PacketFacts) (packet : PacketFacts)
+    → IsCapture bytes records end → before ++ packet ∷ behind ≡ packets_at number records → HasRecord bytes
+has_record bytes number [] end [] behind packet is e = absurd (let f : ⊥ = cc in f)
+has_record bytes number [] end (x ∷ xs) behind packet is e = absurd (let f : ⊥ = cc in f)
+has_record bytes number (first ∷ records) end before behind packet (order, rest, header, (others, one, all), stop) e = (order, first, others, header, one)

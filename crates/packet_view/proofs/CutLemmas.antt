@@ -9,7 +9,7 @@ use Rattle.packet_view.specs.declared.capture.CaptureFault.TheVariants as fault
 use Rattle.packet_view.specs.declared.capture.Order.{Order}
 use Rattle.packet_view.specs.declared.capture.Order.TheVariants.{Little, Big}
 use Rattle.packet_view.specs.Bytes.{AreBytes}
-use Rattle.packet_view.specs.Captures.{AreRecords, End, HasHeader, HasMagic, IsCapture, IsCaptureFault, IsEnd, IsHeaderFault, IsRecord, PacketFacts, Truncated, Whole, kept_length, kept_limit, link_type, version}
+use Rattle.packet_view.specs.Captures.{AreRecords, End, HasHeader, HasMagic, IsCapture, IsCaptureFault, IsEnd, IsHeaderFault, IsRecord, RecordFacts, Truncated, Whole, kept_length, kept_limit, link_type, version}
 use Rattle.packet_view.proofs.CaptureLemmas.{IsHeaderOf, ended_accepts, ended_is_right}
 use Rattle.packet_view.proofs.FrontLemmas.{HaveOneHead, head_appended, header_too}
 use Rattle.packet_view.proofs.RecordLemmas.{number_from-append, number_from-take}
@@ -44,12 +44,12 @@ header_of bytes fits order header = record {
   none = no_fault bytes fits order header;
 }
 
-pub one_reading : (bytes : List ℕ) (packets others : List PacketFacts) (end other : End) → AreBytes bytes → IsCapture bytes packets end → IsCapture bytes others other
+pub one_reading : (bytes : List ℕ) (packets others : List RecordFacts) (end other : End) → AreBytes bytes → IsCapture bytes packets end → IsCapture bytes others other
     → (packets ≡ others) × (end ≡ other)
 one_reading bytes packets others end other fits (order, rest, header, all, stop) is =
     ended_accepts order bytes (header_of bytes fits order header) packets rest end all stop others other is
 
-pub no_fault_too : (bytes : List ℕ) (packets : List PacketFacts) (end : End) (found : CaptureFault) → AreBytes bytes → IsCapture bytes packets end
+pub no_fault_too : (bytes : List ℕ) (packets : List RecordFacts) (end : End) (found : CaptureFault) → AreBytes bytes → IsCapture bytes packets end
     → IsCaptureFault bytes found → ⊥
 no_fault_too bytes packets end found fits (order, rest, header, all, stop) is =
     ended_is_right order bytes (header_of bytes fits order header) packets rest end all stop found is
@@ -99,7 +99,7 @@ cut_after header frame others kept more sixteen is =
     ap (λ (bytes : List ℕ). take kept bytes) (sym (append_assoc header frame others)) ∙ ap (λ (n : ℕ). take n ((header ++ frame) ++ others)) size
     ∙ take-append-add (header ++ frame) others more ∙ append_assoc header frame (take more others)
 
-cut_records : (order : Order) (packets : List PacketFacts) (bytes rest : List ℕ) (end : End) (kept : ℕ) → AreRecords order bytes packets rest → IsEnd order rest end
+cut_records : (order : Order) (packets : List RecordFacts) (bytes rest : List ℕ) (end : End) (kept : ℕ) → AreRecords order bytes packets rest → IsEnd order rest end
     → (count : ℕ) × (left : List ℕ) × (last : End) × AreRecords order (take kept bytes) (take count packets) left × IsEnd order left last
 cut_records order [] bytes rest end kept all stop =
     let cut = any_cut_end order rest end kept stop in
@@ -127,7 +127,7 @@ header_stays order bytes kept header long within =
     header_too bytes (take kept bytes)
     (subst (λ (b : List ℕ). HaveOneHead b (take kept bytes)) (take-append-drop kept bytes) (head_appended (take kept bytes) (drop kept bytes) front)) order header
 
-within_bytes : (bytes : List ℕ) (packets : List PacketFacts) (end : End) (kept : ℕ) → IsCapture bytes packets end → 24 ≤ kept → kept ≤ length bytes
+within_bytes : (bytes : List ℕ) (packets : List RecordFacts) (end : End) (kept : ℕ) → IsCapture bytes packets end → 24 ≤ kept → kept ≤ length bytes
     → (count : ℕ) × (last : End) × IsCapture (take kept bytes) (take count packets) last
 within_bytes bytes packets end kept (order, rest, header, all, stop) long within =
     let cut = cut_records order packets (drop 24 bytes) rest end (kept - 24) all stop in
@@ -136,7 +136,7 @@ within_bytes bytes packets end kept (order, rest, header, all, stop) long within
     let records = subst (λ (b : List ℕ). AreRecords order b (take cut.0 packets) cut.1) (sym behind) cut.3 in
     (cut.0, cut.2, (order, cut.1, header_stays order bytes kept header long within, records, cut.4))
 
-pub cut_capture : (bytes : List ℕ) (packets : List PacketFacts) (end : End) (kept : ℕ) → IsCapture bytes packets end → 24 ≤ kept
+pub cut_capture : (bytes : List ℕ) (packets : List RecordFacts) (end : End) (kept : ℕ) → IsCapture bytes packets end → 24 ≤ kept
     → (count : ℕ) × (last : End) × IsCapture (take kept bytes) (take count packets) last
 cut_capture bytes packets end kept h long =
     elim (cases_lt kept (length bytes)) [

@@ -4,22 +4,22 @@ use Rattle.std.proofs.lemmas.List.{drop-append-le, length-append}
 use Rattle.packet_view.specs.declared.capture.CaptureFault.{CaptureFault}
 use Rattle.packet_view.specs.declared.capture.CaptureFault.TheVariants as fault
 use Rattle.packet_view.specs.declared.capture.Order.{Order}
-use Rattle.packet_view.specs.Captures.{AreRecords, HasHeader, HasMagic, IsHeaderFault, IsPiece, PacketFacts, Record, number_from}
+use Rattle.packet_view.specs.Captures.{AreRecords, HasHeader, HasMagic, IsHeaderFault, IsPiece, RecordFacts, Record, number_from}
 use Rattle.packet_view.proofs.CaptureLemmas.{IsHeaderOf}
 use Rattle.packet_view.proofs.RecordLemmas.{number_from-append}
 
-pub records_joined : (order : Order) (bytes : List ℕ) (xs ys : List PacketFacts) (rest end : List ℕ) → AreRecords order bytes xs rest → AreRecords order rest ys end
+pub records_joined : (order : Order) (bytes : List ℕ) (xs ys : List RecordFacts) (rest end : List ℕ) → AreRecords order bytes xs rest → AreRecords order rest ys end
     → AreRecords order bytes (xs ++ ys) end
 records_joined order bytes [] ys rest end all more = subst (λ (b : List ℕ). AreRecords order b ys end) (sym all) more
 records_joined order bytes (x ∷ xs) ys rest end (others, one, all) more = (others, one, records_joined order others xs ys rest end all more)
 
-piece_appended : (order : Order) (bytes more : List ℕ) (packet : PacketFacts) (rest : List ℕ) → IsPiece order bytes (Record packet rest)
+piece_appended : (order : Order) (bytes more : List ℕ) (packet : RecordFacts) (rest : List ℕ) → IsPiece order bytes (Record packet rest)
     → IsPiece order (bytes ++ more) (Record packet (rest ++ more))
 piece_appended order bytes more packet rest (header, spelt, r) =
     let behind = append_assoc packet.frame rest more in
     (header, ap (λ (b : List ℕ). b ++ more) spelt ∙ append_assoc header (packet.frame ++ rest) more ∙ ap (λ (b : List ℕ). header ++ b) behind, r)
 
-pub records_appended : (order : Order) (bytes more : List ℕ) (xs : List PacketFacts) (rest : List ℕ) → AreRecords order bytes xs rest
+pub records_appended : (order : Order) (bytes more : List ℕ) (xs : List RecordFacts) (rest : List ℕ) → AreRecords order bytes xs rest
     → AreRecords order (bytes ++ more) xs (rest ++ more)
 records_appended order bytes more [] rest all = ap (λ (b : List ℕ). b ++ more) all
 records_appended order bytes more (x ∷ xs) rest (others, one, all) =

@@ -10,17 +10,17 @@ use Rattle.packet_view.specs.declared.tuple.Direction.{Direction}
 use Rattle.packet_view.specs.declared.tuple.Family.TheVariants.{V4}
 use Rattle.packet_view.specs.declared.tuple.Fields.{Fields}
 use Rattle.packet_view.specs.declared.tuple.Fields.TheVariants.{Absent, Icmp, Ports, Tcp}
-use Rattle.packet_view.specs.declared.tuple.Mac.{Mac}
 use Rattle.packet_view.specs.declared.plain_packet.PlainPacket.{PlainPacket}
 use Rattle.packet_view.specs.Bytes.{number_from}
 use Rattle.packet_view.specs.Frames.{FrameFacts, Ip, IsFrame}
+use Rattle.packet_view.specs.Interfaces.{Interface}
 use Rattle.packet_view.specs.Ipv4.{Carries, HasHeader, HasPayload, header_length, protocol, total_length}
 use Rattle.packet_view.specs.Ipv4 as header
 use Rattle.packet_view.specs.Packets.{Payload, extent}
 use Rattle.packet_view.specs.PlainFrames.{ArePortsOf, IsPlain, IsTupleOf}
 use Rattle.packet_view.specs.Transport.{HasFields}
 use Rattle.packet_view.specs.Tuples.{TupleFacts}
-use Rattle.packet_view.specs.inner.FrameSteps.{after_tag, content_of, direction_of, view_of, view_of_content, view_of_packet, with_fields}
+use Rattle.packet_view.specs.inner.FrameSteps.{after_tag, content_of, direction_of, view_of, view_of_content, view_of_packet, way_of, with_fields}
 use Rattle.packet_view.proofs.FrameLemmas.{read, tuple_view, view_shown}
 use Rattle.packet_view.proofs.Ipv4Lemmas.{carries_only, payload_shown, total_cases}
 use Rattle.packet_view.proofs.PacketLemmas.{number_from-append}
@@ -83,22 +83,22 @@ untagged frame long kind =
     ∙ ap (λ n. option_and_then (λ (c : ℕ × List ℕ). after_tag c.0 c.1) (after_tag n (drop 14 frame))) kind
 
 -- the five-tuple of an IPv4 packet
-abbrev tuple_of : List ℕ → ℕ → Fields → TupleFacts
-tuple_of bytes proto fields =
-    record { family = V4; source = header.source bytes; dest = header.dest bytes; proto = proto; fields = fields }
+abbrev tuple_of : ℕ → List ℕ → ℕ → Fields → TupleFacts
+tuple_of number bytes proto fields =
+    record { interface = number; family = V4; source = header.source bytes; dest = header.dest bytes; proto = proto; fields = fields }
 
 -- an untagged frame of IPv4 is its packet
-carried : (frame : List ℕ) (own : Option Mac) (proto : ℕ) (payload : List ℕ) (fields : Fields)
+carried : (frame : List ℕ) (at : Interface) (proto : ℕ) (payload : List ℕ) (fields : Fields)
     → content_of frame ≡ Some (0x0800, drop 14 frame) → Carries (drop 14 frame) (Payload proto payload)
     → HasFields V4 proto payload fields
-    → IsFrame frame own (Ip (direction_of frame own) (tuple_of (drop 14 frame) proto fields))
-carried frame own proto payload fields content carries has =
-    let way = direction_of frame own in
+    → IsFrame frame at (Ip (direction_of frame at.own) (tuple_of at.number (drop 14 frame) proto fields))
+carried frame at proto payload fields content carries has =
+    let way = way_of frame at in
     let upper = Payload proto payload in
-    subst (λ (view : FrameFacts). IsFrame frame own view)
-    (ap (view_of_content frame own) content ∙ ap (view_of_packet way) (carries_only (drop 14 frame) upper carries)
+    subst (λ (view : FrameFacts). IsFrame frame at view)
+    (ap (view_of_content frame at) content ∙ ap (view_of_packet way) (carries_only (drop 14 frame) upper carries)
     ∙ ap (with_fields way (read V4 (drop 14 frame) upper) proto) (fields_only V4 proto payload fields has))
-    (view_shown frame own)
+    (view_shown frame at)
 
 -- a total length up to which the header is there
 holds_header : (total there : ℕ) → 20 ≤ extent total there → (total ≡ 0) ⊎ (20 ≤ total)
@@ -185,14 +185,14 @@ module _ (frame : List ℕ) (packet : PlainPacket) (h : IsRead frame packet) whe
       ∙ ap (λ (n : ℕ). slice_index (bytes_of frame) (n + 13)) header_is
       ∙ get_or-drop 14 frame 33 0 ∙ sym flags
 
-  of_fields : (own : Option Mac) (fields : Fields)
+  of_fields : (at : Interface) (fields : Fields)
       → HasFields V4 (protocol (bytes_of frame)) (payload_of (bytes_of frame)) fields → ArePortsOf packet fields
-      → (way : Direction) × (tuple : TupleFacts) × IsFrame frame own (Ip way tuple) × IsTupleOf packet tuple
-  of_fields own fields has ports =
+      → (way : Direction) × (tuple : TupleFacts) × IsFrame frame at (Ip way tuple) × IsTupleOf packet tuple
+  of_fields at fields has ports =
       let content = untagged frame (omega (arith, h.long)) (sym (in_frame frame 12 2) ∙ h.kind) in (
-        direction_of frame own,
-        tuple_of (bytes_of frame) (protocol (bytes_of frame)) fields,
-        carried frame own (protocol (bytes_of frame)) (payload_of (bytes_of frame)) fields content carries has,
+        direction_of frame at.own,
+        tuple_of at.number (bytes_of frame) (protocol (bytes_of frame)) fields,
+        carried frame at (protocol (bytes_of frame)) (payload_of (bytes_of frame)) fields content carries has,
         record {
           family = refl;
           source = sym (h.source ∙ in_packet frame 12 4);
@@ -203,14 +203,14 @@ module _ (frame : List ℕ) (packet : PlainPacket) (h : IsRead frame packet) whe
       )
 
   pub is_plain : IsPlain frame packet
-  is_plain = λ own. elim h.fields [
+  is_plain = λ at. elim h.fields [
     | inl (tcp, long, flags) ↦
         let enough_of_tcp : 14 ≤ length (payload_of (bytes_of frame)) = omega (arith, payload_size, long) in
-        of_fields own (Tcp packet.from packet.to (slice_index (payload_of (bytes_of frame)) 13))
+        of_fields at (Tcp packet.from packet.to (slice_index (payload_of (bytes_of frame)) 13))
         (sym proto_is ∙ tcp, enough_of_tcp, from_is, to_is, refl) (tcp, refl, refl, flags_is enough_of_tcp flags)
     | inr (udp, long, none) ↦
         let enough_of_udp : 4 ≤ length (payload_of (bytes_of frame)) = omega (arith, payload_size, long) in
-        of_fields own (Ports packet.from packet.to)
+        of_fields at (Ports packet.from packet.to)
         (sym proto_is ∙ udp, enough_of_udp, from_is, to_is) (udp, refl, refl, none)
   ]
 
@@ -230,25 +230,25 @@ fields_one packet (Tcp from to flags) (Tcp first last more) (_, a, b, c) (_, d, 
     let one : ◌≡◌ {A = Fields} (Tcp from to flags) (Tcp first last more) = cc in
     one
 
--- a plain packet says one five-tuple
-tuple_one : (packet : PlainPacket) (tuple other : TupleFacts) → IsTupleOf packet tuple → IsTupleOf packet other
-    → tuple ≡ other
-tuple_one packet tuple other is are =
+-- a plain packet says one five-tuple at one interface
+tuple_one : (packet : PlainPacket) (tuple other : TupleFacts) → tuple.interface ≡ other.interface
+    → IsTupleOf packet tuple → IsTupleOf packet other → tuple ≡ other
+tuple_one packet tuple other interface is are =
     let fields = fields_one packet tuple.fields other.fields is.ports are.ports in
     let family = is.family ∙ sym are.family in
     let source = is.source ∙ sym are.source in
     let dest = is.dest ∙ sym are.dest in
     let proto = is.proto ∙ sym are.proto in
     let parts : ◌≡◌ {A = TupleFacts}
-    (record { family = tuple.family; source = tuple.source; dest = tuple.dest; proto = tuple.proto; fields = tuple.fields })
-    (record { family = other.family; source = other.source; dest = other.dest; proto = other.proto; fields = other.fields }) =
+    (record { interface = tuple.interface; family = tuple.family; source = tuple.source; dest = tuple.dest; proto = tuple.proto; fields = tuple.fields })
+    (record { interface = other.interface; family = other.family; source = other.source; dest = other.dest; proto = other.proto; fields = other.fields }) =
     cc in
     parts
 
 -- so it is what the frame turns out to be
-pub plain_view : (frame : List ℕ) (own : Option Mac) (packet : PlainPacket) (tuple : TupleFacts) → IsPlain frame packet
-    → IsTupleOf packet tuple → view_of frame own ≡ Ip (direction_of frame own) tuple
-plain_view frame own packet tuple plain is =
-    let (way, other, (source, bytes, ethernet, goes, of), are) = plain own in
-    tuple_view frame source own bytes other ethernet of
-    ∙ ap (Ip (direction_of frame own)) (tuple_one packet other tuple are is)
+pub plain_view : (frame : List ℕ) (at : Interface) (packet : PlainPacket) (tuple : TupleFacts) → IsPlain frame packet
+    → tuple.interface ≡ at.number → IsTupleOf packet tuple → view_of frame at ≡ Ip (direction_of frame at.own) tuple
+plain_view frame at packet tuple plain number is =
+    let (way, other, (source, bytes, ethernet, goes, of), are) = plain at in
+    tuple_view frame source at bytes other ethernet of
+    ∙ ap (Ip (direction_of frame at.own)) (tuple_one packet other tuple (of.0 ∙ sym number) are is)

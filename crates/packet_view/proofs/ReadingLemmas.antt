@@ -7,7 +7,7 @@ use Rattle.packet_view.specs.declared.capture.CaptureFault.TheVariants as fault
 use Rattle.packet_view.specs.declared.capture.Order.{Order}
 use Rattle.packet_view.specs.declared.capture.Order.TheVariants.{Little, Big}
 use Rattle.packet_view.specs.Bytes.{AreBytes}
-use Rattle.packet_view.specs.Captures.{AreRecords, Cut, End, HasHeader, HasMagic, IsCapture, IsCaptureFault, IsEnd, IsHeaderFault, IsPiece, IsTooLong, Nothing, PieceFacts, Record, PacketFacts, TooLong, Truncated, Whole, link_type, number_from, version}
+use Rattle.packet_view.specs.Captures.{AreRecords, Cut, End, HasHeader, HasMagic, IsCapture, IsCaptureFault, IsEnd, IsHeaderFault, IsPiece, IsTooLong, Nothing, PieceFacts, Record, RecordFacts, TooLong, Truncated, Whole, link_type, number_from, version}
 use Rattle.packet_view.specs.inner.RecordSteps.{part_of}
 use Rattle.packet_view.proofs.CaptureLemmas.{fault_of_header, long_refuses}
 use Rattle.packet_view.proofs.CutLemmas.{header_of, no_fault, one_order}
@@ -56,7 +56,7 @@ header_or_fault bytes =
 
 -- whole records, and after them the end or a record that is too long
 pub record Records (order : Order) (bytes : List ℕ) : Type 0 where
-  pub packets : List PacketFacts
+  pub packets : List RecordFacts
   pub rest : List ℕ
   pub all : AreRecords order bytes packets rest
   pub stop : ((end : End) × IsEnd order rest end) ⊎ IsTooLong order rest
@@ -80,7 +80,7 @@ records_within (suc most) order bytes few =
 pub records_of : (order : Order) (bytes : List ℕ) → Records order bytes
 records_of order bytes = records_within (length bytes + 1) order bytes (omega arith)
 
-pub some_reading : (bytes : List ℕ) → ((packets : List PacketFacts) × (end : End) × IsCapture bytes packets end) ⊎ ((found : CaptureFault) × IsCaptureFault bytes found)
+pub some_reading : (bytes : List ℕ) → ((packets : List RecordFacts) × (end : End) × IsCapture bytes packets end) ⊎ ((found : CaptureFault) × IsCaptureFault bytes found)
 some_reading bytes =
     elim (header_or_fault bytes) [
       | inl header ↦

@@ -7,8 +7,8 @@ use Rattle.std.proofs.lemmas.Bool.Decides.{nat_tests}
 use Rattle.byteorder.specs.Numbers.{big_from-append, little_from-append}
 use Rattle.packet_view.specs.declared.capture.Order.{Order}
 use Rattle.packet_view.specs.declared.capture.Order.TheVariants.{Little, Big}
-use Rattle.packet_view.specs.Captures.{AreRecords, IsPiece, IsRecord, PieceFacts, Record, Nothing, Cut, TooLong, PacketFacts, kept_length, kept_limit, number_from}
-use Rattle.packet_view.specs.RecordLists.{front_packet, record_length}
+use Rattle.packet_view.specs.Captures.{AreRecords, IsPiece, IsRecord, PieceFacts, Record, Nothing, Cut, TooLong, RecordFacts, kept_length, kept_limit, number_from}
+use Rattle.packet_view.specs.RecordLists.{front_record, record_length}
 use Rattle.packet_view.specs.inner.RecordSteps.{part_of}
 
 -- a number lies in the front that holds its bytes
@@ -29,12 +29,12 @@ number_from-take order place width n bytes h long =
 
 -- a record that is whole is found
 found : (order : Order) (bytes : List ℕ) → 16 ≤ length bytes → kept_length order bytes ≤ kept_limit → 16 + kept_length order bytes ≤ length bytes
-    → part_of order bytes ≡ Record (front_packet order bytes) (drop (record_length order bytes) bytes)
+    → part_of order bytes ≡ Record (front_record order bytes) (drop (record_length order bytes) bytes)
 found order bytes long limit fits = grind (arith, nat_tests)
 
 -- the record at the front of the bytes is this, and these are the bytes after it
-pub record IsFront (order : Order) (bytes : List ℕ) (packet : PacketFacts) (rest : List ℕ) : Type 0 where
-  pub packet-is : packet ≡ front_packet order bytes
+pub record IsFront (order : Order) (bytes : List ℕ) (packet : RecordFacts) (rest : List ℕ) : Type 0 where
+  pub packet-is : packet ≡ front_record order bytes
   pub rest-is : rest ≡ drop (record_length order bytes) bytes
   pub size : length bytes ≡ record_length order bytes + length rest
 
@@ -52,16 +52,16 @@ spelt_front order header frame rest moment r =
     sym (drop-drop (kept_length order bytes) 16 bytes) ∙ ap (drop (kept_length order bytes)) behind ∙ drop_at frame rest (kept_length order bytes) (sym kept) in
     record { packet-is = cc; rest-is = sym left; size = omega arith }
 
-pub part_front : (order : Order) (bytes : List ℕ) (packet : PacketFacts) (rest : List ℕ) → IsPiece order bytes (Record packet rest) → IsFront order bytes packet rest
+pub part_front : (order : Order) (bytes : List ℕ) (packet : RecordFacts) (rest : List ℕ) → IsPiece order bytes (Record packet rest) → IsFront order bytes packet rest
 part_front order bytes packet rest (header, spelt, r) =
     subst (λ (b : List ℕ). IsFront order b packet rest) (sym spelt) (spelt_front order header packet.frame rest packet.moment r)
 
-record_is_found : (order : Order) (bytes : List ℕ) (packet : PacketFacts) (rest : List ℕ) → IsPiece order bytes (Record packet rest) → Record packet rest ≡ part_of order bytes
+record_is_found : (order : Order) (bytes : List ℕ) (packet : RecordFacts) (rest : List ℕ) → IsPiece order bytes (Record packet rest) → Record packet rest ≡ part_of order bytes
 record_is_found order bytes packet rest is =
     let front = part_front order bytes packet rest is in
     let packet-is = front.packet-is in
     let rest-is = front.rest-is in
-    let kept : length packet.frame ≡ kept_length order bytes = ap (λ (p : PacketFacts). length p.frame) packet-is ∙ length-take-le (kept_length order bytes) (drop 16 bytes) (let d = length-drop 16 bytes in let s = front.size in omega arith) in
+    let kept : length packet.frame ≡ kept_length order bytes = ap (λ (p : RecordFacts). length p.frame) packet-is ∙ length-take-le (kept_length order bytes) (drop 16 bytes) (let d = length-drop 16 bytes in let s = front.size in omega arith) in
     let limit = is.2.limit in
     let is_found = found order bytes (omega (arith, front.size)) (omega arith) (omega (arith, front.size)) in
     cc
@@ -98,7 +98,7 @@ spelt : (order : Order) (bytes : List ℕ) (kept : ℕ) → bytes ≡ take 16 by
 spelt order bytes kept = rw (← drop-drop kept 16 bytes, take-append-drop, take-append-drop) refl
 
 record_shown : (order : Order) (bytes : List ℕ) → 16 ≤ length bytes → kept_length order bytes ≤ kept_limit → 16 + kept_length order bytes ≤ length bytes
-    → IsPiece order bytes (Record (front_packet order bytes) (drop (record_length order bytes) bytes))
+    → IsPiece order bytes (Record (front_record order bytes) (drop (record_length order bytes) bytes))
 record_shown order bytes long limit fits = (
   take 16 bytes,
   spelt order bytes (kept_length order bytes),
@@ -132,11 +132,11 @@ IsStop TooLong = Unit {0}
 pub record HasNoRecord (order : Order) (rest : List ℕ) : Type 0 where
   pub stops : IsStop (part_of order rest)
 
-stops_none : (order : Order) (bytes others : List ℕ) (packet : PacketFacts) → IsPiece order bytes (Record packet others) → HasNoRecord order bytes → ⊥
+stops_none : (order : Order) (bytes others : List ℕ) (packet : RecordFacts) → IsPiece order bytes (Record packet others) → HasNoRecord order bytes → ⊥
 stops_none order bytes others packet h stop = subst IsStop (sym (part_only order bytes (Record packet others) h)) stop.stops
 
 -- bytes are records in one way up to where no further one stands
-pub records_once : (order : Order) (bytes : List ℕ) (packets others : List PacketFacts) (rest left : List ℕ) → AreRecords order bytes packets rest → HasNoRecord order rest
+pub records_once : (order : Order) (bytes : List ℕ) (packets others : List RecordFacts) (rest left : List ℕ) → AreRecords order bytes packets rest → HasNoRecord order rest
     → AreRecords order bytes others left → HasNoRecord order left → (packets ≡ others) × (rest ≡ left)
 records_once order bytes [] [] rest left all stop same end = (refl, sym all ∙ same)
 records_once order bytes [] (other ∷ others) rest left all stop (behind, one, same) end =

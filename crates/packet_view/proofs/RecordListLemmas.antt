@@ -3,18 +3,18 @@ use Rattle.std.proofs.Common.{◌≡◌, ◌≢◌, ◌≤◌, ◌+◌, ◌++◌
 use Rattle.std.proofs.Common.{ap, ap₂, refl, subst, sym, arith}
 use Rattle.std.proofs.lemmas.List.{drop-drop, length-append, length-drop}
 use Rattle.packet_view.specs.declared.capture.Order.{Order}
-use Rattle.packet_view.specs.Captures.{AreRecords, IsPiece, PacketFacts, Record}
-use Rattle.packet_view.specs.RecordLists.{bytes_of, front_packet, packets_in, record_length}
+use Rattle.packet_view.specs.Captures.{AreRecords, IsPiece, RecordFacts, Record}
+use Rattle.packet_view.specs.RecordLists.{bytes_of, front_record, records_from, record_length}
 use Rattle.packet_view.proofs.FrontLemmas.{records_joined}
 use Rattle.packet_view.proofs.RecordLemmas.{part_front}
 
-pub packets_count : (order : Order) (n : ℕ) (bytes : List ℕ) → n ≡ length (packets_in order n bytes)
+pub packets_count : (order : Order) (n : ℕ) (bytes : List ℕ) → n ≡ length (records_from order n bytes)
 packets_count order zero bytes = refl
 packets_count order (suc n) bytes = let more = packets_count order n (drop (record_length order bytes) bytes) in omega arith
 
 -- where some records are left, they are the one at the front and those after it
 pub front_packets : (order : Order) (n : ℕ) (bytes : List ℕ) → n ≢ 0
-    → packets_in order n bytes ≡ front_packet order bytes ∷ packets_in order (n - 1) (drop (record_length order bytes) bytes)
+    → records_from order n bytes ≡ front_record order bytes ∷ records_from order (n - 1) (drop (record_length order bytes) bytes)
 front_packets order zero bytes some = absurd (some refl)
 front_packets order (suc n) bytes some = let e : suc n - 1 ≡ n = omega arith in rw e refl
 
@@ -31,8 +31,8 @@ others_whole order n bytes some whole =
     omega arith
 
 -- whole records are those that are at the front of the bytes, and they have all bytes but the rest
-pub records_listed : (order : Order) (bytes : List ℕ) (packets : List PacketFacts) (rest : List ℕ) → AreRecords order bytes packets rest
-    → (packets ≡ packets_in order (length packets) bytes) × (bytes_of order (length packets) bytes + length rest ≡ length bytes)
+pub records_listed : (order : Order) (bytes : List ℕ) (packets : List RecordFacts) (rest : List ℕ) → AreRecords order bytes packets rest
+    → (packets ≡ records_from order (length packets) bytes) × (bytes_of order (length packets) bytes + length rest ≡ length bytes)
 records_listed order bytes [] rest all = (refl, let same : length bytes ≡ length rest = ap length all in omega arith)
 records_listed order bytes (packet ∷ packets) rest (others, one, all) =
     let front = part_front order bytes packet others one in
@@ -41,12 +41,12 @@ records_listed order bytes (packet ∷ packets) rest (others, one, all) =
     let same = more.0 in
     let count : bytes_of order (length packets) (drop (record_length order bytes) bytes) + length rest ≡ length others =
     ap (λ (b : List ℕ). bytes_of order (length packets) b + length rest) (sym front.rest-is) ∙ more.1 in (
-      ap₂ (λ p (ps : List PacketFacts). p ∷ ps) front.packet-is (more.0 ∙ ap (packets_in order (length packets)) front.rest-is),
+      ap₂ (λ p (ps : List RecordFacts). p ∷ ps) front.packet-is (more.0 ∙ ap (records_from order (length packets)) front.rest-is),
       omega arith,
     )
 
 -- and behind these bytes is the rest
-pub records_behind : (order : Order) (bytes : List ℕ) (packets : List PacketFacts) (rest : List ℕ) → AreRecords order bytes packets rest
+pub records_behind : (order : Order) (bytes : List ℕ) (packets : List RecordFacts) (rest : List ℕ) → AreRecords order bytes packets rest
     → rest ≡ drop (bytes_of order (length packets) bytes) bytes
 records_behind order bytes [] rest all = sym all
 records_behind order bytes (packet ∷ packets) rest (others, one, all) =
@@ -61,7 +61,7 @@ pub records_few : (order : Order) (n : ℕ) (bytes : List ℕ) → n ≤ bytes_o
 records_few order zero bytes = omega arith
 records_few order (suc n) bytes = let more = records_few order n (drop (record_length order bytes) bytes) in omega arith
 
-pub records_within : (order : Order) (bytes : List ℕ) (packets : List PacketFacts) (rest : List ℕ) → AreRecords order bytes packets rest
+pub records_within : (order : Order) (bytes : List ℕ) (packets : List RecordFacts) (rest : List ℕ) → AreRecords order bytes packets rest
     → length packets + length rest ≤ length bytes
 records_within order bytes packets rest all =
     let listed = records_listed order bytes packets rest all in
@@ -72,9 +72,9 @@ records_within order bytes packets rest all =
 -- so many records stand before the rest
 abbrev pub AreBefore : Order → List ℕ → List ℕ → ℕ → Type 0
 AreBefore order bytes rest count =
-    (packets : List PacketFacts) × AreRecords order bytes packets rest × (length packets ≡ count)
+    (packets : List RecordFacts) × AreRecords order bytes packets rest × (length packets ≡ count)
 
-pub before_more : (order : Order) (packet : PacketFacts) (others bytes rest : List ℕ) (count : ℕ)
+pub before_more : (order : Order) (packet : RecordFacts) (others bytes rest : List ℕ) (count : ℕ)
     → AreBefore order bytes rest count → IsPiece order rest (Record packet others)
     → AreBefore order bytes others (count + 1)
 before_more order packet others bytes rest count (packets, all, length-is) one =
@@ -88,7 +88,7 @@ before_few order bytes rest count (packets, all, length-is) =
 
 -- so many records are at the front, and behind their bytes is the rest
 pub record AreListed (order : Order) (bytes rest : List ℕ) (count : ℕ) : Type 0 where
-  pub records : AreRecords order bytes (packets_in order count bytes) rest
+  pub records : AreRecords order bytes (records_from order count bytes) rest
   pub size : bytes_of order count bytes + length rest ≡ length bytes
   pub after : rest ≡ drop (bytes_of order count bytes) bytes
 
@@ -96,7 +96,7 @@ pub before_listed : (order : Order) (bytes rest : List ℕ) (count : ℕ) → Ar
 before_listed order bytes rest count (packets, all, length-is) =
     let listed = records_listed order bytes packets rest all in
     subst (AreListed order bytes rest) length-is record {
-      records = subst (λ (ps : List PacketFacts). AreRecords order bytes ps rest) listed.0 all;
+      records = subst (λ (ps : List RecordFacts). AreRecords order bytes ps rest) listed.0 all;
       size = listed.1;
       after = records_behind order bytes packets rest all;
     }

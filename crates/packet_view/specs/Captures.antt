@@ -1,5 +1,5 @@
 -- Captures: a header of 24 bytes, and records one after another (the classic pcap format).
-use Rattle.std.specs.Prelude.{◌≡◌, ◌≢◌, ◌≤◌, ◌<◌, ◌⊎◌, ℕ, ◌+◌, ◌%◌, ◌^◌, Bool, true, false, List, [], ◌∷◌, ◌++◌, length, drop, Option, Some, None}
+use Rattle.std.specs.Prelude.{◌≡◌, ◌≢◌, ◌≤◌, ◌<◌, ◌⊎◌, ℕ, ◌+◌, ◌%◌, ◌^◌, Bool, true, false, List, [], ◌∷◌, ◌++◌, length, drop, map, Option, Some, None}
 use Rattle.byteorder.specs.Endian.{big_number, little_number}
 use Rattle.packet_view.specs.declared.capture.Order.{Order}
 use Rattle.packet_view.specs.declared.capture.Order.TheVariants.{Little, Big}
@@ -9,13 +9,26 @@ use Rattle.packet_view.specs.declared.capture.Piece.TheVariants as piece
 use Rattle.packet_view.specs.declared.capture.CaptureFault.{CaptureFault}
 use Rattle.packet_view.specs.declared.capture.CaptureFault.TheVariants as fault
 
+-- what a record of a capture says
+pub record RecordFacts : Type 0 where
+  pub moment : ℕ
+  pub frame : List ℕ
+
 -- a packet without where its bytes lie
 pub record PacketFacts : Type 0 where
+  pub interface : ℕ
   pub moment : ℕ
   pub frame : List ℕ
 
 abbrev pub packet_facts : Packet → PacketFacts
-packet_facts packet = record { moment = packet.moment; frame = packet.frame.now }
+packet_facts packet = record { interface = packet.interface; moment = packet.moment; frame = packet.frame.now }
+
+-- the packet of a record whose capture was taken at the interface with this number
+abbrev pub packet_at : ℕ → RecordFacts → PacketFacts
+packet_at number seen = record { interface = number; moment = seen.moment; frame = seen.frame }
+
+abbrev pub packets_at : ℕ → List RecordFacts → List PacketFacts
+packets_at number records = map (packet_at number) records
 
 -- one packet was taken from these packets, and these are left; none is taken only where there is none
 abbrev pub Takes : List PacketFacts → Option Packet → List PacketFacts → Type 0
@@ -65,7 +78,7 @@ abbrev pub kept_limit : ℕ
 kept_limit = 262144
 
 -- one record's header: it says the moment and the frame's length
-pub record IsRecord (order : Order) (header : List ℕ) (packet : PacketFacts) : Type 0 where
+pub record IsRecord (order : Order) (header : List ℕ) (packet : RecordFacts) : Type 0 where
   pub sixteen : length header ≡ 16
   pub moment : packet.moment ≡ number_from order 0 4 header
   pub kept : length packet.frame ≡ kept_length order header
@@ -83,7 +96,7 @@ IsCut order bytes =
 
 -- what is at the front of the bytes
 pub data PieceFacts : Type 0 where
-  Record : PacketFacts → List ℕ → PieceFacts
+  Record : RecordFacts → List ℕ → PieceFacts
   Nothing : PieceFacts
   Cut : PieceFacts
   TooLong : PieceFacts
@@ -102,14 +115,14 @@ IsPiece order bytes Cut = IsCut order bytes
 IsPiece order bytes TooLong = IsTooLong order bytes
 
 -- the bytes are the records of these packets, one after another, and then the rest
-abbrev pub AreRecords : Order → List ℕ → List PacketFacts → List ℕ → Type 0
+abbrev pub AreRecords : Order → List ℕ → List RecordFacts → List ℕ → Type 0
 AreRecords order bytes [] rest = bytes ≡ rest
 AreRecords order bytes (packet ∷ packets) rest =
     (others : List ℕ) × IsPiece order bytes (Record packet others) × AreRecords order others packets rest
 
 -- after a header the bytes go on with a whole record
 abbrev pub HasRecord : List ℕ → Type 0
-HasRecord bytes = (order : Order) × (packet : PacketFacts) × (rest : List ℕ) × HasHeader order bytes × IsPiece order (drop 24 bytes) (Record packet rest)
+HasRecord bytes = (order : Order) × (packet : RecordFacts) × (rest : List ℕ) × HasHeader order bytes × IsPiece order (drop 24 bytes) (Record packet rest)
 
 -- what is left after the whole records
 abbrev pub IsEnd : Order → List ℕ → End → Type 0
@@ -117,9 +130,14 @@ IsEnd order rest Whole = rest ≡ []
 IsEnd order rest Truncated = IsCut order rest
 
 -- all the bytes are a capture of these packets with this end
-abbrev pub IsCapture : List ℕ → List PacketFacts → End → Type 0
+abbrev pub IsCapture : List ℕ → List RecordFacts → End → Type 0
 IsCapture bytes packets end =
     (order : Order) × (rest : List ℕ) × HasHeader order bytes × AreRecords order (drop 24 bytes) packets rest × IsEnd order rest end
+
+-- all the bytes are a capture that was taken at the interface with this number, of these packets
+abbrev pub IsCaptureAt : ℕ → List ℕ → List PacketFacts → End → Type 0
+IsCaptureAt number bytes packets end =
+    (records : List RecordFacts) × IsCapture bytes records end × (packets ≡ packets_at number records)
 
 -- the fault is in the header, and no earlier one does
 abbrev pub IsHeaderFault : List ℕ → CaptureFault → Type 0
@@ -134,6 +152,6 @@ IsHeaderFault bytes fault.Memory = ⊥
 -- the fault is in the capture, and no earlier one does; records are counted from 1
 abbrev pub IsCaptureFault : List ℕ → CaptureFault → Type 0
 IsCaptureFault bytes (fault.LongRecord number) =
-    (order : Order) × (packets : List PacketFacts) × (rest : List ℕ) × HasHeader order bytes × AreRecords order (drop 24 bytes) packets rest
+    (order : Order) × (packets : List RecordFacts) × (rest : List ℕ) × HasHeader order bytes × AreRecords order (drop 24 bytes) packets rest
     × IsTooLong order rest × (number ≡ length packets + 1)
 IsCaptureFault bytes header_fault = IsHeaderFault bytes header_fault

@@ -1,14 +1,18 @@
 -- Packets that are taken one by one: from the records of a capture that was checked, or from a list.
 use Rattle.std.specs.Prelude.{ℕ, List, map}
-use Rattle.packet_view.specs.Captures.{PacketFacts, packet_facts}
-use Rattle.packet_view.specs.RecordLists.{packets_in}
+use Rattle.packet_view.specs.Captures.{PacketFacts, RecordFacts, packet_facts, packets_at}
+use Rattle.packet_view.specs.RecordLists.{records_from}
 use Rattle.packet_view.specs.declared.packets.Packets.{Packets}
 use Rattle.packet_view.specs.declared.packets.Packets.TheVariants.{Listed, Standing}
 use Rattle.packet_view.specs.declared.records.Records.{Records}
 
--- the packets of the records that are left
+-- the records that are left
+abbrev pub records_of : Records → List RecordFacts
+records_of records = records_from records.order records.count records.bytes.now
+
+-- their packets
 abbrev pub packets_of : Records → List PacketFacts
-packets_of records = packets_in records.order records.count records.bytes.now
+packets_of records = packets_at records.interface (records_of records)
 
 -- the packets that are left
 abbrev pub held : Packets → List PacketFacts

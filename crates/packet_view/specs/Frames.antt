@@ -9,6 +9,7 @@ use Rattle.packet_view.specs.declared.tuple.Mac.{Mac}
 use Rattle.packet_view.specs.declared.frame.Frame.{Frame}
 use Rattle.packet_view.specs.declared.frame.Frame.TheVariants as frame
 use Rattle.packet_view.specs.Ethernet.{IsEthernet, IsCut}
+use Rattle.packet_view.specs.Interfaces.{Interface}
 use Rattle.packet_view.specs.Ipv4 as ipv4
 use Rattle.packet_view.specs.Ipv6 as ipv6
 use Rattle.packet_view.specs.Packets.{Upper, LaterFragment, Payload}
@@ -55,26 +56,27 @@ HasDirection source own Outbound = own ≡ Some (record { 0 = source })
 HasDirection source own Inbound = own ≢ Some (record { 0 = source })
 
 -- a fragment other than the first has no fields, whatever its bytes
-abbrev pub IsTuple : List ℕ → TupleFacts → Type 0
-IsTuple packet tuple =
-    (tuple.source ≡ source_of tuple.family packet) × (tuple.dest ≡ dest_of tuple.family packet)
+abbrev pub IsTuple : ℕ → List ℕ → TupleFacts → Type 0
+IsTuple number packet tuple =
+    (tuple.interface ≡ number) × (tuple.source ≡ source_of tuple.family packet) × (tuple.dest ≡ dest_of tuple.family packet)
     × ((Carries tuple.family packet (LaterFragment tuple.proto) × (tuple.fields ≡ Absent))
     ⊎ ((payload : List ℕ) × Carries tuple.family packet (Payload tuple.proto payload) × HasFields tuple.family tuple.proto payload tuple.fields))
 
 -- The cases, each by the bytes alone: another type, headers cut or wrong, a payload that ends before the protocol's
--- fields, and a packet with its way and five-tuple.
-abbrev pub IsFrame : List ℕ → Option Mac → FrameFacts → Type 0
-IsFrame frame own NotIp =
+-- fields, and a packet with its way and five-tuple. That packet is of the interface where its frame was seen.
+abbrev pub IsFrame : List ℕ → Interface → FrameFacts → Type 0
+IsFrame frame at NotIp =
     (source : List ℕ) × (kind : ℕ) × (content : List ℕ) × IsEthernet frame source kind content
     × (kind ≢ ether_type V4) × (kind ≢ ether_type V6)
-IsFrame frame own Malformed =
+IsFrame frame at Malformed =
     IsCut frame
     ⊎ ((source : List ℕ) × (family : Family) × (packet : List ℕ) × IsEthernet frame source (ether_type family) packet × IsMalformed family packet)
-IsFrame frame own Short =
+IsFrame frame at Short =
     (source : List ℕ) × (family : Family) × (packet : List ℕ) × IsEthernet frame source (ether_type family) packet
     × (proto : ℕ) × (payload : List ℕ) × Carries family packet (Payload proto payload) × IsShort family proto payload
-IsFrame frame own (Ip direction tuple) =
-    (source packet : List ℕ) × IsEthernet frame source (ether_type tuple.family) packet × HasDirection source own direction × IsTuple packet tuple
+IsFrame frame at (Ip direction tuple) =
+    (source packet : List ℕ) × IsEthernet frame source (ether_type tuple.family) packet × HasDirection source at.own direction
+    × IsTuple at.number packet tuple
 
 -- the packet declares its length, and ends there within its bytes
 abbrev pub EndsWithin : Family → List ℕ → Type 0

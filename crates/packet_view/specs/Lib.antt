@@ -5,6 +5,7 @@ pub mod CheckedCaptures
 pub mod Ethernet
 pub mod Frames
 pub mod Fronts
+pub mod Interfaces
 pub mod Ipv4
 pub mod Ipv6
 pub mod Packets

@@ -1,12 +1,12 @@
 -- What a plain frame's packet says, by what the frame turns out to be (RFC 791, RFC 9293, RFC 768).
-use Rattle.std.specs.Prelude.{◌≡◌, ◌⊎◌, ℕ, List, Option}
+use Rattle.std.specs.Prelude.{◌≡◌, ◌⊎◌, ℕ, List}
 use Rattle.packet_view.specs.declared.tuple.Direction.{Direction}
 use Rattle.packet_view.specs.declared.tuple.Family.TheVariants.{V4}
 use Rattle.packet_view.specs.declared.tuple.Fields.{Fields}
 use Rattle.packet_view.specs.declared.tuple.Fields.TheVariants.{Absent, Ports, Tcp, Icmp}
-use Rattle.packet_view.specs.declared.tuple.Mac.{Mac}
 use Rattle.packet_view.specs.declared.plain_packet.PlainPacket.{PlainPacket}
 use Rattle.packet_view.specs.Frames.{IsFrame, Ip}
+use Rattle.packet_view.specs.Interfaces.{Interface}
 use Rattle.packet_view.specs.Tuples.{TupleFacts}
 
 -- a packet of TCP, or one of UDP, which has no flags
@@ -32,5 +32,5 @@ pub record IsTupleOf (packet : PlainPacket) (tuple : TupleFacts) : Type 0 where
 -- at every interface the frame is a packet of such a five-tuple
 abbrev pub IsPlain : List ℕ → PlainPacket → Type 0
 IsPlain frame packet =
-    (own : Option Mac)
-    → (way : Direction) × (tuple : TupleFacts) × IsFrame frame own (Ip way tuple) × IsTupleOf packet tuple
+    (at : Interface)
+    → (way : Direction) × (tuple : TupleFacts) × IsFrame frame at (Ip way tuple) × IsTupleOf packet tuple

@@ -5,6 +5,7 @@ use Rattle.packet_view.specs.declared.tuple.Fields.{Fields}
 use Rattle.packet_view.specs.declared.tuple.Tuple.{Tuple}
 
 pub record TupleFacts : Type 0 where
+  pub interface : ℕ
   pub family : Family
   pub source : ℕ
   pub dest : ℕ
@@ -13,4 +14,5 @@ pub record TupleFacts : Type 0 where
 
 -- what a tuple says
 abbrev pub tuple_facts : Tuple → TupleFacts
-tuple_facts t = record { family = t.family; source = t.source; dest = t.dest; proto = t.proto; fields = t.fields }
+tuple_facts t =
+    record { interface = t.interface; family = t.family; source = t.source; dest = t.dest; proto = t.proto; fields = t.fields }

@@ -37,6 +37,7 @@ impl<'a> PacketsAhead<'a> {
         ensures { result.left ≡ held packets.entry }
     {
         let unused = Packet {
+            interface: 0,
             moment: 0,
             frame: &[],
         };

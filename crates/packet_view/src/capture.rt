@@ -6,17 +6,19 @@ ghost use Rattle.packet_view.specs.Captures.{
   HasMagic,
   HasRecord,
   IsCapture,
+  IsCaptureAt,
   IsCaptureFault,
   IsHeaderFault,
   IsPiece,
   PieceFacts,
   PacketFacts,
+  RecordFacts,
   end_of,
   number_from,
   piece_facts,
   packet_facts,
 };
-ghost use Rattle.packet_view.specs.CheckedCaptures.{packets_of};
+ghost use Rattle.packet_view.specs.CheckedCaptures.{records_of};
 ghost use Rattle.packet_view.specs.inner.RecordSteps.{Checks, part_of};
 ghost use Rattle.packet_view.specs.declared.capture.CaptureFault.{CaptureFault};
 ghost use Rattle.packet_view.specs.declared.capture.CaptureFault.TheVariants.{Memory};
@@ -37,9 +39,10 @@ pub enum Order {
     Big,
 }
 
-/// A frame, and the whole seconds at which it was seen.
+/// A frame, the number of the interface where it was seen, and the whole seconds at which it was.
 #[derive(Clone, Copy, Debug)]
 pub struct Packet<'a> {
+    pub interface: u8,
     pub moment: u32,
     pub frame: &'a [u8],
 }
@@ -205,10 +208,15 @@ pub fn next_record(rest: &[u8], order: Order) -> Piece<'_>
 }
 
 /// The records after a header.
-fn check_records(bytes: &[u8], order: Order) -> Result<CheckedCapture<'_>, CaptureFault>
-    ensures { Checks order bytes.now result }
+fn check_records(
+    bytes: &[u8],
+    order: Order,
+    interface: u8,
+) -> Result<CheckedCapture<'_>, CaptureFault>
+    ensures checks { Checks order bytes.now result }
+    ensures at { IfOk result (λ checked. checked.records.interface ≡ interface) }
 {
-    let Front { records, stop, .. } = front_records(bytes, order);
+    let Front { records, stop, .. } = front_records(bytes, order, interface);
     let truncated = match stop {
         Stop::End => false,
         Stop::Truncated => true,
@@ -217,24 +225,31 @@ fn check_records(bytes: &[u8], order: Order) -> Result<CheckedCapture<'_>, Captu
     Ok(CheckedCapture { records, truncated })
 }
 
-/// The records of a capture, each of which was looked at. No memory is asked for.
-pub fn check_capture(bytes: &[u8]) -> Result<CheckedCapture<'_>, CaptureFault>
-    ensures ok { IfOk result (λ checked. IsCapture bytes.now (packets_of checked.records) (end_of checked.truncated)) }
+/// The records of a capture that was taken at the interface with this number, each of which was looked at. No memory
+/// is asked for.
+pub fn check_capture(bytes: &[u8], interface: u8) -> Result<CheckedCapture<'_>, CaptureFault>
+    ensures ok { IfOk result (λ checked. IsCapture bytes.now (records_of checked.records) (end_of checked.truncated)) }
+    ensures at { IfOk result (λ checked. checked.records.interface ≡ interface) }
     ensures fault { IfErr result (IsCaptureFault bytes.now) }
-    ensures accepts { (packets : List PacketFacts) (end : End) → IsCapture bytes.now packets end →
-        MatchResult result (λ checked. (packets_of checked.records ≡ packets) × (end_of checked.truncated ≡ end)) (λ _. ⊥) }
+    ensures accepts { (records : List RecordFacts) (end : End) → IsCapture bytes.now records end →
+        MatchResult result (λ checked. (records_of checked.records ≡ records) × (end_of checked.truncated ≡ end)) (λ _. ⊥) }
     ensures refuses { (fault : CaptureFault) → IsCaptureFault bytes.now fault → result ≡ Err fault }
 {
     let order = capture_header(bytes)?;
-    check_records(&bytes[24..], order)
+    check_records(&bytes[24..], order, interface)
 }
 
-/// The packets of a capture. Memory is answered where a growth was refused, and none is asked for before a whole record.
-pub fn read_capture<'a>(alloc: Global, bytes: &'a [u8]) -> Result<Capture<'a>, CaptureFault>
-    ensures ok { IfOk result (λ capture. IsCapture bytes.entry.now (map packet_facts capture.packets.items) (end_of capture.truncated)) }
+/// The packets of a capture that was taken at the interface with this number. Memory is answered where a growth was
+/// refused, and none is asked for before a whole record.
+pub fn read_capture<'a>(
+    alloc: Global,
+    bytes: &'a [u8],
+    interface: u8,
+) -> Result<Capture<'a>, CaptureFault>
+    ensures ok { IfOk result (λ capture. IsCaptureAt interface bytes.entry.now (map packet_facts capture.packets.items) (end_of capture.truncated)) }
     ensures fault { IfErr result (λ fault. fault ≢ Memory → IsCaptureFault bytes.entry.now fault) }
     ensures memory { IfErr result (λ fault. fault ≡ Memory → HasRecord bytes.entry.now) }
-    ensures accepts { (packets : List PacketFacts) (end : End) → IsCapture bytes.entry.now packets end →
+    ensures accepts { (packets : List PacketFacts) (end : End) → IsCaptureAt interface bytes.entry.now packets end →
         MatchResult result (λ capture. (map packet_facts capture.packets.items ≡ packets) × (end_of capture.truncated ≡ end)) (λ fault. fault ≡ Memory) }
     ensures refuses { (fault : CaptureFault) → IsCaptureFault bytes.entry.now fault →
         MatchResult result (λ capture. ⊥) (λ found. (found ≡ fault) ⊎ (found ≡ Memory)) }
@@ -242,7 +257,7 @@ pub fn read_capture<'a>(alloc: Global, bytes: &'a [u8]) -> Result<Capture<'a>, C
     let CheckedCapture {
         mut records,
         truncated,
-    } = check_capture(bytes)?;
+    } = check_capture(bytes, interface)?;
     let mut packets = Vec::new(alloc);
     'packets: while let Some(packet) = records.next() {
         packets.push(packet)?;

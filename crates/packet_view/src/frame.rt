@@ -2,6 +2,7 @@
 ghost use Rattle.std.specs.Prelude.{◌≡◌, ◌≤◌, ◌<◌, ℕ, IfSome, length, slice_index};
 ghost use Rattle.packet_view.specs.Bytes.{number_from};
 ghost use Rattle.packet_view.specs.Frames.{IsFrame, FrameFacts, frame_facts};
+ghost use Rattle.packet_view.specs.Interfaces.{Interface};
 ghost use Rattle.packet_view.specs.inner.FrameSteps.{direction_of, packets, view_of, view_of_packet};
 
 use crate::packet::{IpPacket, Upper};
@@ -50,10 +51,11 @@ fn direction(frame: &[u8], own: Option<Mac>) -> Direction
     }
 }
 
-/// What a frame that goes this way is by its packet, None where that is malformed.
+/// What a frame that goes this way at the interface with this number is by its packet, None where that is malformed.
 #[inline]
-fn frame_of(direction: Direction, packet: Option<IpPacket<'_>>) -> Frame
-    ensures { frame_facts result ≡ view_of_packet direction (packets packet.entry) }
+fn frame_of(interface: u8, direction: Direction, packet: Option<IpPacket<'_>>) -> Frame
+    ensures { frame_facts result
+        ≡ view_of_packet (record { number = interface; direction = direction }) (packets packet.entry) }
 {
     let Some(packet) = packet else {
         return Frame::Malformed;
@@ -70,6 +72,7 @@ fn frame_of(direction: Direction, packet: Option<IpPacket<'_>>) -> Frame
     Frame::Ip(
         direction,
         Tuple {
+            interface,
             family: packet.family,
             source: packet.source,
             dest: packet.dest,
@@ -81,8 +84,8 @@ fn frame_of(direction: Direction, packet: Option<IpPacket<'_>>) -> Frame
 
 /// The layers, one above the other. Few frames aren't plain, and the path of the others is shorter without this.
 #[inline(never)]
-fn read(frame: &[u8], own: Option<Mac>) -> Frame
-    ensures { frame_facts result ≡ view_of frame.now own }
+fn read(frame: &[u8], interface: u8, own: Option<Mac>) -> Frame
+    ensures { frame_facts result ≡ view_of frame.now (record { number = interface; own = own }) }
 {
     let Some((kind, content)) = ethernet::content(frame) else {
         return Frame::Malformed;
@@ -92,32 +95,33 @@ fn read(frame: &[u8], own: Option<Mac>) -> Frame
         0x86dd => ipv6::packet(content),
         _ => return Frame::NotIp,
     };
-    frame_of(direction(frame, own), packet)
+    frame_of(interface, direction(frame, own), packet)
 }
 
-/// What a plain frame is at the interface with this address; whoever judges many packets asks this first.
+/// What a plain frame is at the interface with this number and own address; whoever judges many packets asks this first.
 ///
 /// `None` says nothing of the frame: `view` tells what it is.
 #[inline(always)]
-pub fn plain_frame(frame: &[u8], own: Option<Mac>) -> Option<Frame>
-    ensures shown { IfSome result (λ seen. IsFrame frame.now own (frame_facts seen)) }
-    ensures only { IfSome result (λ seen. (other : FrameFacts) → IsFrame frame.now own other → other ≡ frame_facts seen) }
+pub fn plain_frame(frame: &[u8], interface: u8, own: Option<Mac>) -> Option<Frame>
+    ensures shown { IfSome result (λ seen. IsFrame frame.now (record { number = interface; own = own }) (frame_facts seen)) }
+    ensures only { IfSome result (λ seen. (other : FrameFacts) → IsFrame frame.now (record { number = interface; own = own }) other → other ≡ frame_facts seen) }
 {
     let packet = plain(frame)?;
-    Some(Frame::Ip(direction(frame, own), packet.tuple()))
+    Some(Frame::Ip(direction(frame, own), packet.tuple(interface)))
 }
 
-/// What a frame is at the interface with this address: from that address it goes out, from every other it comes in.
+/// What a frame is at the interface with this number and own address: from that address it goes out, from every other
+/// it comes in.
 ///
 /// Up to two VLAN tags are skipped, and up to eight IPv6 extension headers. A packet ends where its total or payload
 /// length says, or with the frame. A length of 0, as captures show of offloaded packets, says nothing.
 #[inline(always)]
-pub fn view(frame: &[u8], own: Option<Mac>) -> Frame
-    ensures shown { IsFrame frame.now own (frame_facts result) }
-    ensures only { (other : FrameFacts) → IsFrame frame.now own other → other ≡ frame_facts result }
+pub fn view(frame: &[u8], interface: u8, own: Option<Mac>) -> Frame
+    ensures shown { IsFrame frame.now (record { number = interface; own = own }) (frame_facts result) }
+    ensures only { (other : FrameFacts) → IsFrame frame.now (record { number = interface; own = own }) other → other ≡ frame_facts result }
 {
-    match plain_frame(frame, own) {
+    match plain_frame(frame, interface, own) {
         Some(seen) => seen,
-        None => read(frame, own),
+        None => read(frame, interface, own),
     }
 }

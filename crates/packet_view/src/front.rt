@@ -1,9 +1,9 @@
 //! The whole records at the front of some bytes.
 ghost use Rattle.std.specs.Prelude.{◌≡◌, ◌≤◌, IfSome};
 ghost use Rattle.packet_view.specs.Captures.{AreRecords, Record};
-ghost use Rattle.packet_view.specs.CheckedCaptures.{packets_of};
+ghost use Rattle.packet_view.specs.CheckedCaptures.{records_of};
 ghost use Rattle.packet_view.specs.Fronts.{IsSplit, Stops};
-ghost use Rattle.packet_view.specs.RecordLists.{front_packet};
+ghost use Rattle.packet_view.specs.RecordLists.{front_record};
 ghost use Rattle.packet_view.specs.inner.RecordSteps.{part_of};
 
 use crate::capture::{Order, Piece, next_record, u32_in};
@@ -34,7 +34,7 @@ pub struct Front<'a> {
 #[inline(always)]
 fn behind_alike(rest: &[u8], order: Order, likely: usize) -> Option<&[u8]>
     requires { likely ≤ 262144 }
-    ensures { IfSome result (λ behind. part_of order rest.now ≡ Record (front_packet order rest.now) behind.now) }
+    ensures { IfSome result (λ behind. part_of order rest.now ≡ Record (front_record order rest.now) behind.now) }
 {
     if rest.len() < 16 || rest.len() - 16 < likely {
         return None;
@@ -45,11 +45,13 @@ fn behind_alike(rest: &[u8], order: Order, likely: usize) -> Option<&[u8]>
     Some(&rest[16 + likely..])
 }
 
-/// The records in this order that stand whole at the front of the bytes. No memory is asked for.
-pub fn front_records(bytes: &[u8], order: Order) -> Front<'_>
-    ensures records { AreRecords order bytes.now (packets_of result.records) result.rest.now }
+/// The records in this order that stand whole at the front of the bytes, of a capture that was taken at the interface
+/// with this number. No memory is asked for.
+pub fn front_records(bytes: &[u8], order: Order, interface: u8) -> Front<'_>
+    ensures records { AreRecords order bytes.now (records_of result.records) result.rest.now }
     ensures stop { Stops order result.rest.now result.stop }
     ensures split { IsSplit order bytes.now result }
+    ensures at { result.records.interface ≡ interface }
 {
     let mut rest = bytes;
     let mut count = 0;
@@ -79,6 +81,7 @@ pub fn front_records(bytes: &[u8], order: Order) -> Front<'_>
         let records = Records {
             bytes,
             order,
+            interface,
             count,
         };
         return Front {

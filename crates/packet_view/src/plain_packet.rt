@@ -19,14 +19,16 @@ pub struct PlainPacket {
 }
 
 impl PlainPacket {
+    ghost use Rattle.std.specs.Prelude.{◌≡◌};
     ghost use Rattle.packet_view.specs.PlainFrames.{IsTcpOrUdp, IsTupleOf};
     ghost use Rattle.packet_view.specs.Tuples.{tuple_facts};
 
-    /// The five-tuple that says this.
+    /// The five-tuple that says this of a packet at the interface with this number.
     #[inline(always)]
-    pub(crate) fn tuple(self) -> Tuple
+    pub(crate) fn tuple(self, interface: u8) -> Tuple
         requires { IsTcpOrUdp self }
-        ensures { IsTupleOf self (tuple_facts result) }
+        ensures says { IsTupleOf self (tuple_facts result) }
+        ensures at { result.interface ≡ interface }
     {
         let (from, to) = (self.from, self.to);
         let fields = if self.proto == 6 {
@@ -39,6 +41,7 @@ impl PlainPacket {
             Fields::Ports { from, to }
         };
         Tuple {
+            interface,
             family: Family::V4,
             source: u128::from(self.source),
             dest: u128::from(self.dest),

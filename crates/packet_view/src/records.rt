@@ -1,7 +1,7 @@
 //! The records of a capture, taken one by one where they stand.
 ghost use Rattle.std.specs.Prelude.{◌≡◌, ◌≤◌, length, drop};
-ghost use Rattle.packet_view.specs.Captures.{kept_length, packet_facts};
-ghost use Rattle.packet_view.specs.RecordLists.{bytes_of, front_packet, record_length};
+ghost use Rattle.packet_view.specs.Captures.{kept_length, packet_at, packet_facts};
+ghost use Rattle.packet_view.specs.RecordLists.{bytes_of, front_record, record_length};
 
 use crate::capture::{Order, Packet, u32_in};
 
@@ -16,13 +16,14 @@ fn kept_in(bytes: &[u8], order: Order) -> usize
 
 // The packet of the record at the front, which is whole and keeps so many bytes, and the bytes after it.
 #[inline(always)]
-fn front_of<'a>(bytes: &'a [u8], order: Order, kept: usize) -> (Packet<'a>, &'a [u8])
+fn front_of<'a>(bytes: &'a [u8], order: Order, interface: u8, kept: usize) -> (Packet<'a>, &'a [u8])
     requires whole { record_length order bytes.now ≤ length bytes.now }
     requires kept { kept ≡ kept_length order bytes.now }
-    ensures packet { packet_facts result.0 ≡ front_packet order bytes.now }
+    ensures packet { packet_facts result.0 ≡ packet_at interface (front_record order bytes.now) }
     ensures behind { result.1.now ≡ drop (record_length order bytes.now) bytes.now }
 {
     let packet = Packet {
+        interface,
         moment: u32_in(order, bytes),
         frame: &bytes[16..16 + kept],
     };
@@ -37,6 +38,8 @@ pub(crate) const AHEAD: usize = 64;
 pub struct Records<'a> {
     pub bytes: &'a [u8],
     pub order: Order,
+    /// The number of the interface where the capture was taken.
+    pub interface: u8,
     /// How many records are left.
     pub count: usize,
     pub ghost whole: { bytes_of order count bytes.now ≤ length bytes.now },
@@ -115,7 +118,7 @@ impl<'a> Records<'a> {
         requires kept { kept ≡ kept_length self.old.order self.old.bytes.now }
         ensures { packets_of self.old ≡ packet_facts result ∷ packets_of self.new }
     {
-        let (packet, behind) = front_of(self.bytes, self.order, kept);
+        let (packet, behind) = front_of(self.bytes, self.order, self.interface, kept);
         self.bytes = behind;
         self.count -= 1;
         packet

@@ -38,6 +38,8 @@ pub struct Mac(pub [u8; 6]);
 /// An IPv4 address is below 2 to the power 32, and the fields are of the protocol and the family.
 #[derive(Clone, Copy, Debug, PartialEq, Eq)]
 pub struct Tuple {
+    /// The number of the interface where the packet was seen.
+    pub interface: u8,
     pub family: Family,
     pub source: u128,
     pub dest: u128,

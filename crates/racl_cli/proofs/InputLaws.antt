@@ -5,7 +5,7 @@ use Rattle.std.proofs.lemmas.List.{length-append}
 use Rattle.hex.specs.Hex.{decode_of}
 use Rattle.hex.proofs.HexLemmas.{decode_of-ok}
 use Rattle.packet_view.specs.Bytes.{AreBytes}
-use Rattle.packet_view.specs.Captures.{End, IsCapture, PacketFacts, Truncated, Whole, end_of}
+use Rattle.packet_view.specs.Captures.{End, IsCapture, IsCaptureAt, PacketFacts, RecordFacts, Truncated, Whole, end_of, packets_at}
 use Rattle.packet_view.proofs.CutLemmas as captures
 use Rattle.packet_view.proofs.ReadingLemmas.{one_fault, some_reading}
 use Rattle.acl_policy.specs.Policies.{IsPolicyText, PolicyFacts}
@@ -58,11 +58,12 @@ one_read bytes policy other packets others truncated ends fit a b =
     let parts = b.parts in
     let first = read_in bytes parts policy packets truncated b.parted a in
     let content = bytes_of_content bytes parts fit b.parted in
-    let both = captures.one_reading b.capture packets others (end_of truncated) (end_of ends) (bytes_of_capture parts.form parts.content b.capture content b.spelt)
-    (packets_in_capture parts policy packets truncated b.capture b.spelt first) b.records in
+    let seen = packets_in_capture parts policy packets truncated b.capture b.spelt first in
+    let both = captures.one_reading b.capture seen.0 b.records.0 (end_of truncated) (end_of ends) (bytes_of_capture parts.form parts.content b.capture content b.spelt)
+    seen.1 b.records.1 in
     record {
       policies = texts.one_policy (lines parts.policy) policy other first.says.1 b.says.1;
-      all = both.0;
+      all = seen.2 ∙ (ap (packets_at 0) both.0 ∙ sym b.records.2);
       end = one_truncated truncated ends both.1;
     }
 
@@ -113,8 +114,8 @@ no_fault_of_parts bytes policy packets truncated fault fit read (inl (cause, is,
 no_fault_of_parts bytes policy packets truncated fault fit read (inr (other, says, of)) =
     let parts = read.parts in
     let found = fault_of_known_content parts.form parts.content read.capture fault read.spelt of in
-    captures.no_fault_too read.capture packets (end_of truncated) found.0
-    (bytes_of_capture parts.form parts.content read.capture (bytes_of_content bytes parts fit read.parted) read.spelt) read.records found.1
+    captures.no_fault_too read.capture read.records.0 (end_of truncated) found.0
+    (bytes_of_capture parts.form parts.content read.capture (bytes_of_content bytes parts fit read.parted) read.spelt) read.records.1 found.1
 
 pub no_fault_too : (times : Timeouts) (bytes : List ℕ) (outcome : Outcome) (fault : Fault) → AreBytes bytes → HasOutcome times bytes outcome → IsInputFault bytes fault → ⊥
 no_fault_too times bytes outcome fault fit has (inl (same, many)) = let few = has.read.few in omega (arith, few, many)
@@ -128,11 +129,11 @@ no_fault_too times bytes outcome fault fit has (inr (few, of)) =
 record HasPackets (capture : List ℕ) : Type 0 where
   pub packets : List PacketFacts
   pub truncated : Bool
-  pub records : IsCapture capture packets (end_of truncated)
+  pub records : IsCaptureAt 0 capture packets (end_of truncated)
 
-packets_at_end : (capture : List ℕ) (packets : List PacketFacts) (end : End) → IsCapture capture packets end → HasPackets capture
-packets_at_end capture packets Whole is = record { packets = packets; truncated = false; records = is }
-packets_at_end capture packets Truncated is = record { packets = packets; truncated = true; records = is }
+packets_at_end : (capture : List ℕ) (records : List RecordFacts) (end : End) → IsCapture capture records end → HasPackets capture
+packets_at_end capture records Whole is = record { packets = packets_at 0 records; truncated = false; records = (records, is, refl) }
+packets_at_end capture records Truncated is = record { packets = packets_at 0 records; truncated = true; records = (records, is, refl) }
 
 packets_or_fault : (capture : List ℕ) → HasPackets capture ⊎ ((fault : Fault) × IsFaultOfCapture capture fault)
 packets_or_fault capture =

@@ -1,7 +1,7 @@
 -- What is answered of an input, and the report on it.
 use Rattle.std.specs.Io.KnownBytes.{Appends}
 use Rattle.std.proofs.Common.{◌≡◌, ◌≢◌, ◌∙◌, ◌≤◌, ◌⊎◌, All, ℕ, Bool, List, drop, length, Option, Result, Ok, Err, IfOk, IfErr, OnOk, MatchResult, IfSome, refl, sym, ap, ap₂, subst, inl, inr}
-use Rattle.packet_view.specs.Captures.{End, AreRecords, IsCapture, IsCaptureFault, IsEnd, PacketFacts, end_of}
+use Rattle.packet_view.specs.Captures.{End, AreRecords, IsCapture, IsCaptureFault, IsEnd, PacketFacts, RecordFacts, end_of, packets_at}
 use Rattle.packet_view.specs.declared.capture.CaptureFault.{CaptureFault}
 use Rattle.packet_view.specs.declared.capture.Order.{Order}
 use Rattle.packet_view.specs.declared.tuple.Family.{Family}
@@ -86,13 +86,14 @@ module _ (options : Options) (bytes : List ℕ) (parts : InputFacts) (policy : P
 
   module _ (capture : List ℕ) (spelt : IsContent parts.form parts.content capture) where
     -- its capture is refused
-    pub capture_answers : (found : CaptureFault) → ((packets : List PacketFacts) (end : End) → IsCapture capture packets end → ⊥)
+    pub capture_answers : (found : CaptureFault) → ((packets : List RecordFacts) (end : End) → IsCapture capture packets end → ⊥)
         → IsCaptureFault capture found → ((cause : CaptureFault) → IsCaptureFault capture cause → found ≡ cause)
         → AnswersInput options bytes (Err (capture_fault found))
     capture_answers found none is one = record {
       ok = tt;
-      accepts = λ policy packets truncated read. absurd (none packets (end_of truncated)
-          (packets_in_capture parts policy packets truncated capture spelt (read_in bytes parts policy packets truncated parted read)));
+      accepts = λ policy packets truncated read.
+          let at = packets_in_capture parts policy packets truncated capture spelt (read_in bytes parts policy packets truncated parted read) in
+          absurd (none at.0 (end_of truncated) at.1);
       fault = λ differs. inr (parts, parted, inr (policy, said.says, inr (capture, spelt, (found, is, refl))));
       refuses = λ fault of.
           let cause = fault_of_known_content parts.form parts.content capture fault spelt (known_fault fault of) in
@@ -100,22 +101,22 @@ module _ (options : Options) (bytes : List ℕ) (parts : InputFacts) (policy : P
     }
 
     -- the packets of its capture were judged
-    pub verdicts_answer : (order : Order) (header : IsHeaderOf order capture) (packets : List PacketFacts) (rest : List ℕ) (outcome : Outcome) → length bytes ≤ most_bytes
-        → AreRecords order (drop 24 capture) packets rest → IsEnd order rest (end_of outcome.truncated) → IsReached options policy packets outcome.truncated outcome
+    pub verdicts_answer : (order : Order) (header : IsHeaderOf order capture) (packets : List RecordFacts) (rest : List ℕ) (outcome : Outcome) → length bytes ≤ most_bytes
+        → AreRecords order (drop 24 capture) packets rest → IsEnd order rest (end_of outcome.truncated) → IsReached options policy (packets_at 0 packets) outcome.truncated outcome
         → AnswersInput options bytes (Ok outcome)
     verdicts_answer order header packets rest outcome few all end reached = record {
       ok = record {
         policy = policy;
-        packets = packets;
-        read = record { few = few; parts = parts; parted = parted; says = said.says; capture = capture; spelt = spelt; records = (order, rest, header.right, all, end) };
+        packets = packets_at 0 packets;
+        read = record { few = few; parts = parts; parted = parted; says = said.says; capture = capture; spelt = spelt; records = (packets, (order, rest, header.right, all, end), refl) };
         reached = reached;
       };
       accepts = λ other others truncated read.
           let is = read_in bytes parts other others truncated parted read in
-          let same = ended_accepts order capture header packets rest (end_of outcome.truncated) all end others (end_of truncated)
-          (packets_in_capture parts other others truncated capture spelt is) in
+          let at = packets_in_capture parts other others truncated capture spelt is in
+          let same = ended_accepts order capture header packets rest (end_of outcome.truncated) all end at.0 (end_of truncated) at.1 in
           subst (λ p. IsReached options p others truncated outcome) (said.one other is.says)
-          (subst (λ ps. IsReached options policy ps truncated outcome) same.0
+          (subst (λ ps. IsReached options policy ps truncated outcome) (ap (packets_at 0) same.0 ∙ sym at.2)
           (record { by_workers = reached.by_workers; by_one_thread = reached.by_one_thread; ends = one_truncated outcome.truncated truncated same.1 }));
       fault = tt;
       refuses = λ fault of.

@@ -1,6 +1,6 @@
 -- What an input says, and its faults, are those of its parts.
 use Rattle.std.proofs.Common.{◌≡◌, ◌≢◌, ◌≤◌, ◌∙◌, ◌⊎◌, ℕ, Bool, true, false, List, Option, Some, None, IfSome, length, arith, refl, sym, ap, subst, inl, inr}
-use Rattle.packet_view.specs.Captures.{IsCapture, PacketFacts, end_of}
+use Rattle.packet_view.specs.Captures.{IsCaptureAt, PacketFacts, end_of}
 use Rattle.acl_policy.specs.Policies.{IsPolicyFault, IsPolicyText, PolicyFacts}
 use Rattle.acl_policy.specs.declared.policy.PolicyFault.{PolicyFault}
 use Rattle.acl_policy.specs.declared.policy.PolicyFault.TheVariants as policy
@@ -23,7 +23,7 @@ pub record IsReadIn (parts : InputFacts) (policy : PolicyFacts) (packets : List 
   pub says : IsPolicyText parts.policy policy
   pub capture : List ℕ
   pub spelt : IsContent parts.form parts.content capture
-  pub records : IsCapture capture packets (end_of truncated)
+  pub records : IsCaptureAt 0 capture packets (end_of truncated)
 
 -- where the parts are known, the input says what they say
 pub read_in : (bytes : List ℕ) (parts : InputFacts) (policy : PolicyFacts) (packets : List PacketFacts) (truncated : Bool) → IsInput bytes parts
@@ -34,9 +34,9 @@ read_in bytes parts policy packets truncated is read =
 
 -- where the capture is known too, the packets are its
 pub packets_in_capture : (parts : InputFacts) (policy : PolicyFacts) (packets : List PacketFacts) (truncated : Bool) (capture : List ℕ)
-    → IsContent parts.form parts.content capture → IsReadIn parts policy packets truncated → IsCapture capture packets (end_of truncated)
+    → IsContent parts.form parts.content capture → IsReadIn parts policy packets truncated → IsCaptureAt 0 capture packets (end_of truncated)
 packets_in_capture parts policy packets truncated capture spelt read =
-    subst (λ c. IsCapture c packets (end_of truncated)) (one_content parts.form parts.content read.capture capture read.spelt spelt) read.records
+    subst (λ c. IsCaptureAt 0 c packets (end_of truncated)) (one_content parts.form parts.content read.capture capture read.spelt spelt) read.records
 
 pub one_truncated : (a b : Bool) → end_of a ≡ end_of b → a ≡ b
 one_truncated true true same = refl

@@ -2,7 +2,7 @@
 use Rattle.std.specs.Prelude.{◌≡◌, ◌≢◌, ◌+◌, ◌<◌, ◌≤◌, ◌⊎◌, ◌++◌, ℕ, Bool, true, is_some, List, Option, None, Some, IfSome, IfOk, IfErr, MatchResult, Result, Err, drop, length}
 use Rattle.std.specs.Global.{Vec}
 use Rattle.std.specs.Io.KnownBytes.{IsAtEnd}
-use Rattle.packet_view.specs.Captures.{AreRecords, HasHeader, IsEnd, IsHeaderFault, PacketFacts, end_of}
+use Rattle.packet_view.specs.Captures.{AreRecords, HasHeader, IsEnd, IsHeaderFault, PacketFacts, RecordFacts, end_of, packets_at}
 use Rattle.packet_view.specs.declared.capture.CaptureFault.{CaptureFault}
 use Rattle.packet_view.specs.declared.capture.Order.{Order}
 use Rattle.acl_policy.specs.Policies.{IsPolicyFault, IsPolicyText, PolicyFacts, policy_facts}
@@ -120,8 +120,8 @@ pub record MayJudge (options : Options) (filter : Filter) (opening : Opening) (b
 pub record HasJudged (options : Options) (policy : PolicyFacts) (opening : Opening) (before after : Option (List ℕ)) (outcome : Outcome) : Type 0 where
   pub read : List ℕ
   pub whole : AreAllRead before after opening read
-  pub packets : List PacketFacts
+  pub packets : List RecordFacts
   pub rest : List ℕ
   pub records : AreRecords opening.order (records_in opening read) packets rest
   pub end : IsEnd opening.order rest (end_of outcome.truncated)
-  pub reached : IsReached options policy packets outcome.truncated outcome
+  pub reached : IsReached options policy (packets_at 0 packets) outcome.truncated outcome

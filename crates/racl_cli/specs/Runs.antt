@@ -1,7 +1,7 @@
 -- What a run has filtered, from the bytes of its input.
 use Rattle.std.specs.Prelude.{◌≡◌, ◌≤◌, ℕ, Bool, List, length, Option, Some, IfSome, All}
 use Rattle.std.specs.Io.KnownBytes.{Appends}
-use Rattle.packet_view.specs.Captures.{IsCapture, PacketFacts, end_of}
+use Rattle.packet_view.specs.Captures.{IsCaptureAt, PacketFacts, end_of}
 use Rattle.packet_view.specs.declared.tuple.Family.{Family}
 use Rattle.acl_policy.specs.Policies.{IsPolicyText, PolicyFacts}
 use Rattle.bihash_words.specs.Hash.{hash_of}
@@ -18,8 +18,8 @@ use Rattle.racl_io.specs.Reports.{report_of, totals_of}
 
 -- ---- inputs
 
--- The bytes are an input, and no more than one may have: this policy, a marker line, and a capture of these packets,
--- which ends within a record or doesn't.
+-- The bytes are an input, and no more than one may have: this policy, a marker line, and a capture of these packets, which
+-- were seen at interface 0. It ends within a record or doesn't.
 pub record IsRead (bytes : List ℕ) (policy : PolicyFacts) (packets : List PacketFacts) (truncated : Bool) : Type 0 where
   pub few : length bytes ≤ most_bytes
   pub parts : InputFacts
@@ -27,7 +27,7 @@ pub record IsRead (bytes : List ℕ) (policy : PolicyFacts) (packets : List Pack
   pub says : IsPolicyText parts.policy policy
   pub capture : List ℕ
   pub spelt : IsContent parts.form parts.content capture
-  pub records : IsCapture capture packets (end_of truncated)
+  pub records : IsCaptureAt 0 capture packets (end_of truncated)
 
 -- ---- verdicts
 

@@ -91,7 +91,7 @@ fn judge_records<'t, R: Source + Send, T: Threads + Wait + Sync>(
     let Ok((tables, callers)) = create_tables::<ShapeV4, ShapeV6>(alloc) else {
         return Err(Fault::Memory);
     };
-    let front = front_records(&opening.bytes[opening.from..], opening.order);
+    let front = front_records(&opening.bytes[opening.from..], opening.order, 0);
     let count = front.records.count;
     let (expected, workers) = plan_for(options, opening.ended, count);
     let are_several = workers > 1 && count >= MANY_PACKETS;

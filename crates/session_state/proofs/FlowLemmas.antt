@@ -19,17 +19,17 @@ types_differ V4 same = omega (arith, same)
 types_differ V6 same = omega (arith, same)
 
 -- a packet of these parts
-abbrev pub packet_of : Family → ℕ → ℕ → ℕ → Fields → TupleFacts
-packet_of family source dest proto fields =
-    record { family = family; source = source; dest = dest; proto = proto; fields = fields }
+abbrev pub packet_of : ℕ → Family → ℕ → ℕ → ℕ → Fields → TupleFacts
+packet_of number family source dest proto fields =
+    record { interface = number; family = family; source = source; dest = dest; proto = proto; fields = fields }
 
 abbrev icmp_of_type : ℕ → ℕ → Fields
 icmp_of_type code kind = Icmp kind code
 
 -- an ICMP packet is an echo reply by its type
-reply_kind : (family : Family) (source dest proto kind code : ℕ)
-    → IsEchoReply (packet_of family source dest proto (Icmp kind code)) → kind ≡ reply_type family
-reply_kind family source dest proto kind code (other, same) = cc
+reply_kind : (number : ℕ) (family : Family) (source dest proto kind code : ℕ)
+    → IsEchoReply (packet_of number family source dest proto (Icmp kind code)) → kind ≡ reply_type family
+reply_kind number family source dest proto kind code (other, same) = cc
 
 -- an oriented packet has the flow that the definition names
 oriented_is_flow : (packet : TupleFacts) (first second : End) (starts : Bool)
@@ -71,14 +71,14 @@ ordered_is_flow packet stands no_reply =
     ] refl
 
 -- the flow of an echo is the one that the definition names
-echo_is_flow : (family : Family) (source dest proto kind code : ℕ) (flow : Flow)
-    → echo_flow (packet_of family source dest proto (Icmp kind code)) kind ≡ Some flow
-    → IsFlow (packet_of family source dest proto (Icmp kind code)) flow
-echo_is_flow family source dest proto kind code flow same =
-    let packet = packet_of family source dest proto (Icmp kind code) in
+echo_is_flow : (number : ℕ) (family : Family) (source dest proto kind code : ℕ) (flow : Flow)
+    → echo_flow (packet_of number family source dest proto (Icmp kind code)) kind ≡ Some flow
+    → IsFlow (packet_of number family source dest proto (Icmp kind code)) flow
+echo_is_flow number family source dest proto kind code flow same =
+    let packet = packet_of number family source dest proto (Icmp kind code) in
     let from = sender_of packet in
     let to = receiver_of packet in
-    let kind_of = reply_kind family source dest proto kind code in
+    let kind_of = reply_kind number family source dest proto kind code in
     elim (eqb_tells kind (request_type family)) [
       | inl (test, is_request) ↦
           subst (IsFlow packet) (same_Some _ _ (rw test at same))
@@ -93,22 +93,22 @@ echo_is_flow family source dest proto kind code flow same =
       ]
     ]
 
-found_at : (family : Family) (source dest proto : ℕ) (fields : Fields) (flow : Flow)
-    → flow_of (packet_of family source dest proto fields) ≡ Some flow
-    → IsFlow (packet_of family source dest proto fields) flow
-found_at family source dest proto Absent flow same = cc
-found_at family source dest proto (Ports from to) flow same =
-    let packet = packet_of family source dest proto (Ports from to) in
+found_at : (number : ℕ) (family : Family) (source dest proto : ℕ) (fields : Fields) (flow : Flow)
+    → flow_of (packet_of number family source dest proto fields) ≡ Some flow
+    → IsFlow (packet_of number family source dest proto fields) flow
+found_at number family source dest proto Absent flow same = cc
+found_at number family source dest proto (Ports from to) flow same =
+    let packet = packet_of number family source dest proto (Ports from to) in
     subst (IsFlow packet) (same_Some _ _ same) (ordered_is_flow packet (λ first second h. h) (λ h. cc))
-found_at family source dest proto (Tcp from to flags) flow same =
-    let packet = packet_of family source dest proto (Tcp from to flags) in
+found_at number family source dest proto (Tcp from to flags) flow same =
+    let packet = packet_of number family source dest proto (Tcp from to flags) in
     subst (IsFlow packet) (same_Some _ _ same) (ordered_is_flow packet (λ first second h. h) (λ h. cc))
-found_at family source dest proto (Icmp kind code) flow same =
-    echo_is_flow family source dest proto kind code flow same
+found_at number family source dest proto (Icmp kind code) flow same =
+    echo_is_flow number family source dest proto kind code flow same
 
 -- the flow that is computed is the packet's
 pub found : (packet : TupleFacts) (flow : Flow) → flow_of packet ≡ Some flow → IsFlow packet flow
-found packet flow = found_at packet.family packet.source packet.dest packet.proto packet.fields flow
+found packet flow = found_at packet.interface packet.family packet.source packet.dest packet.proto packet.fields flow
 
 same_flow : (one other : Flow) → one.key ≡ other.key → one.side ≡ other.side → one.starts ≡ other.starts
     → one ≡ other
@@ -158,19 +158,19 @@ only_ordered packet flow h (inr (is_first, is_second, most)) starts =
     ] in
     swapped ∙ only_oriented packet flow h to from true is_first is_second starts
 
-only_at : (family : Family) (source dest proto : ℕ) (fields : Fields) (flow : Flow)
-    → IsFlow (packet_of family source dest proto fields) flow
-    → flow_of (packet_of family source dest proto fields) ≡ Some flow
-only_at family source dest proto Absent flow h = absurd h.ends
-only_at family source dest proto (Ports from to) flow h =
-    let packet = packet_of family source dest proto (Ports from to) in
+only_at : (number : ℕ) (family : Family) (source dest proto : ℕ) (fields : Fields) (flow : Flow)
+    → IsFlow (packet_of number family source dest proto fields) flow
+    → flow_of (packet_of number family source dest proto fields) ≡ Some flow
+only_at number family source dest proto Absent flow h = absurd h.ends
+only_at number family source dest proto (Ports from to) flow h =
+    let packet = packet_of number family source dest proto (Ports from to) in
     ap Some (only_ordered packet flow h h.ends (h.other (λ (code, same). cc)))
-only_at family source dest proto (Tcp from to flags) flow h =
-    let packet = packet_of family source dest proto (Tcp from to flags) in
+only_at number family source dest proto (Tcp from to flags) flow h =
+    let packet = packet_of number family source dest proto (Tcp from to flags) in
     ap Some (only_ordered packet flow h h.ends (h.other (λ (code, same). cc)))
-only_at family source dest proto (Icmp kind code) flow h =
-    let packet = packet_of family source dest proto (Icmp kind code) in
-    let kind_of = reply_kind family source dest proto kind code in
+only_at number family source dest proto (Icmp kind code) flow h =
+    let packet = packet_of number family source dest proto (Icmp kind code) in
+    let kind_of = reply_kind number family source dest proto kind code in
     elim h.ends [
       | inl (is_request, is_first, is_second) ↦
           let starts = h.other (λ reply. types_differ family (sym (kind_of reply) ∙ is_request)) in
@@ -182,7 +182,7 @@ only_at family source dest proto (Icmp kind code) flow h =
 
 -- a packet has no other flow than the one that is computed
 pub only : (packet : TupleFacts) (flow : Flow) → IsFlow packet flow → flow_of packet ≡ Some flow
-only packet flow = only_at packet.family packet.source packet.dest packet.proto packet.fields flow
+only packet flow = only_at packet.interface packet.family packet.source packet.dest packet.proto packet.fields flow
 
 -- both ways
 pub flow_told : (packet : TupleFacts) (flow : Flow) → (flow_of packet ≡ Some flow) ↔ IsFlow packet flow

@@ -27,16 +27,16 @@ pub record IsEchoBetween (packet : TupleFacts) (first second : End) : Type 0 whe
   pub first_port : first.port ≡ 0
   pub second_port : second.port ≡ 0
 
-kind_at : (family : Family) (source dest proto : ℕ) (fields : Fields) (first second : End)
-    → (let packet = packet_of family source dest proto fields in StandAs packet fields first second
+kind_at : (number : ℕ) (family : Family) (source dest proto : ℕ) (fields : Fields) (first second : End)
+    → (let packet = packet_of number family source dest proto fields in StandAs packet fields first second
     → IsTrue (fields_suit family proto fields)
     → IsExchange packet first second ⊎ IsEchoBetween packet first second)
-kind_at family source dest proto Absent first second ends suit = absurd ends
-kind_at family source dest proto (Ports from to) first second ends suit =
+kind_at number family source dest proto Absent first second ends suit = absurd ends
+kind_at number family source dest proto (Ports from to) first second ends suit =
     inl (record { ports = tt; proto = inr (grind (arith, suit)); order = ends })
-kind_at family source dest proto (Tcp from to flags) first second ends suit =
+kind_at number family source dest proto (Tcp from to flags) first second ends suit =
     inl (record { ports = tt; proto = inl (grind (arith, suit)); order = ends })
-kind_at family source dest proto (Icmp kind code) first second (inl (is_request, is_first, is_second)) suit =
+kind_at number family source dest proto (Icmp kind code) first second (inl (is_request, is_first, is_second)) suit =
     inr (record {
       proto = grind (arith, suit);
       echo = inl (
@@ -47,7 +47,7 @@ kind_at family source dest proto (Icmp kind code) first second (inl (is_request,
       first_port = ap (λ e. e.port) is_first;
       second_port = ap (λ e. e.port) is_second;
     })
-kind_at family source dest proto (Icmp kind code) first second (inr (is_reply, is_first, is_second)) suit =
+kind_at number family source dest proto (Icmp kind code) first second (inr (is_reply, is_first, is_second)) suit =
     inr (record {
       proto = grind (arith, suit);
       echo = inr (
@@ -63,7 +63,7 @@ kind_at family source dest proto (Icmp kind code) first second (inr (is_reply, i
 kind_of : (packet : TupleFacts) (flow : Flow) (h : IsFlow packet flow) → IsTuple packet
     → IsExchange packet h.first h.second ⊎ IsEchoBetween packet h.first h.second
 kind_of packet flow h tuple =
-    kind_at packet.family packet.source packet.dest packet.proto packet.fields h.first h.second h.ends tuple.suit
+    kind_at packet.interface packet.family packet.source packet.dest packet.proto packet.fields h.first h.second h.ends tuple.suit
 
 -- both ends of a flow are the sender's and the receiver's
 abbrev pub AreEnds : TupleFacts → End → End → Type 0
@@ -87,14 +87,14 @@ are_ends packet flow h = are_ends_at packet packet.fields h.first h.second h.end
 -- what the key of a packet's flow is made of
 abbrev parts : (packet : TupleFacts) (flow : Flow) → IsFlow packet flow → Parts
 parts packet flow h =
-    record { family = packet.family; first = h.first; second = h.second; proto = packet.proto }
+    record { family = packet.family; first = h.first; second = h.second; proto = packet.proto; number = packet.interface }
 
 -- the parts fit, since the ends are those of the packet
 parts_fit : (packet : TupleFacts) (flow : Flow) (h : IsFlow packet flow) → IsTuple packet
     → PartsFit (parts packet flow h)
 parts_fit packet flow h tuple =
     let Fit : End → End → Type 0 = λ first second.
-    PartsFit (record { family = packet.family; first = first; second = second; proto = packet.proto }) in
+    PartsFit (record { family = packet.family; first = first; second = second; proto = packet.proto; number = packet.interface }) in
     elim (are_ends packet flow h) [
       | inl (is_first, is_second) ↦
           subst (λ e. Fit e h.second) (sym is_first) (subst (Fit (sender_of packet)) (sym is_second) (record {
@@ -103,6 +103,7 @@ parts_fit packet flow h tuple =
             second_address = tuple.dest;
             second_port = tuple.dest_port;
             proto = tuple.proto;
+            number = tuple.interface;
           }))
       | inr (is_first, is_second) ↦
           subst (λ e. Fit e h.second) (sym is_first) (subst (Fit (receiver_of packet)) (sym is_second) (record {
@@ -111,6 +112,7 @@ parts_fit packet flow h tuple =
             second_address = tuple.source;
             second_port = tuple.source_port;
             proto = tuple.proto;
+            number = tuple.interface;
           }))
     ]
 
@@ -178,17 +180,17 @@ echo_once packet r a r' a' (inr (reply, source, dest)) (inl (request', source', 
 -- the keys of two packets of one flow are made of the same
 pub parts_of_flow : (a b : TupleFacts) (f g : Flow) (x : AreFlows a b f g) → SameFlow a b
     → parts a f x.one ≡ parts b g x.other
-parts_of_flow a b f g x (families, inl exchange) =
+parts_of_flow a b f g x (numbers, families, inl exchange) =
     elim (kind_of a f x.one x.one_tuple) [
       | inl one ↦ elim (kind_of b g x.other x.other_tuple) [
         | inl other ↦
             let ends = stand_alike a b _ _ _ _ exchange.ends one.order other.order in
-            same_parts _ _ families ends.0 ends.1 exchange.proto
+            same_parts _ _ families ends.0 ends.1 exchange.proto numbers
         | inr other ↦ absurd (no_echo b _ _ exchange.other_ports other.echo)
       ]
       | inr one ↦ absurd (no_echo a _ _ exchange.one_ports one.echo)
     ]
-parts_of_flow a b f g x (families, inr (requester, answerer, echo, other_echo)) =
+parts_of_flow a b f g x (numbers, families, inr (requester, answerer, echo, other_echo)) =
     elim (kind_of a f x.one x.one_tuple) [
       | inl one ↦ absurd (no_echo a requester answerer one.ports echo)
       | inr one ↦ elim (kind_of b g x.other x.other_tuple) [
@@ -199,7 +201,7 @@ parts_of_flow a b f g x (families, inr (requester, answerer, echo, other_echo)) 
             same_parts _ _ families
             (same_end x.one.first x.other.first (asked.0 ∙ sym other_asked.0) (one.first_port ∙ sym other.first_port))
             (same_end x.one.second x.other.second (asked.1 ∙ sym other_asked.1) (one.second_port ∙ sym other.second_port))
-            (one.proto ∙ ap icmp_of families ∙ sym other.proto)
+            (one.proto ∙ ap icmp_of families ∙ sym other.proto) numbers
       ]
     ]
 
@@ -211,6 +213,7 @@ key_of_same_flow a b f g x same = x.one.key ∙ ap key_of_parts (parts_of_flow a
 pub same_flow_of_key : (a b : TupleFacts) (f g : Flow) → AreFlows a b f g → f.key ≡ g.key → SameFlow a b
 same_flow_of_key a b f g x same =
     let made = parts_of_key a b f g x same in
+    let numbers : a.interface ≡ b.interface = ap (λ p. p.number) made in
     let families : a.family ≡ b.family = ap (λ p. p.family) made in
     let firsts : x.one.first ≡ x.other.first = ap (λ p. p.first) made in
     let seconds : x.one.second ≡ x.other.second = ap (λ p. p.second) made in
@@ -219,7 +222,7 @@ same_flow_of_key a b f g x same =
       | inl one ↦ elim (kind_of b g x.other x.other_tuple) [
         | inl other ↦
             let ends = same_ends a b _ _ _ _ firsts seconds one.order other.order in
-            (families, inl (record { one_ports = one.ports; other_ports = other.ports; proto = protos; ends = ends }))
+            (numbers, families, inl (record { one_ports = one.ports; other_ports = other.ports; proto = protos; ends = ends }))
         | inr other ↦ absurd (no_icmp b.family a.proto one.proto (protos ∙ other.proto))
       ]
       | inr one ↦ elim (kind_of b g x.other x.other_tuple) [
@@ -228,7 +231,7 @@ same_flow_of_key a b f g x same =
             let other_echo : IsEcho b x.one.first.address x.one.second.address =
             subst (λ r. IsEcho b r x.one.second.address) (sym (ap (λ e. e.address) firsts))
             (subst (IsEcho b x.other.first.address) (sym (ap (λ e. e.address) seconds)) other.echo) in
-            (families, inr (x.one.first.address, x.one.second.address, one.echo, other_echo))
+            (numbers, families, inr (x.one.first.address, x.one.second.address, one.echo, other_echo))
       ]
     ]
 
@@ -250,38 +253,38 @@ echo_takes_part packet requester answerer (inr ((code, reply), source, dest)) =
 
 -- packets of one flow take part in sessions
 pub take_part : (a b : TupleFacts) → SameFlow a b → IsSome (flow_of a) × IsSome (flow_of b)
-take_part a b (families, inl exchange) =
+take_part a b (numbers, families, inl exchange) =
     (ports_take_part a a.fields refl exchange.one_ports, ports_take_part b b.fields refl exchange.other_ports)
-take_part a b (families, inr (requester, answerer, echo, other_echo)) =
+take_part a b (numbers, families, inr (requester, answerer, echo, other_echo)) =
     (echo_takes_part a requester answerer echo, echo_takes_part b requester answerer other_echo)
 
-answers_at : (family : Family) (source dest proto : ℕ) (fields : Fields)
-    (family' : Family) (source' dest' proto' : ℕ) (fields' : Fields)
-    → family' ≡ family → proto' ≡ proto → source' ≡ dest → dest' ≡ source
-    → (let a = packet_of family source dest proto fields in let b = packet_of family' source' dest' proto' fields' in
+answers_at : (number : ℕ) (family : Family) (source dest proto : ℕ) (fields : Fields)
+    (number' : ℕ) (family' : Family) (source' dest' proto' : ℕ) (fields' : Fields)
+    → number' ≡ number → family' ≡ family → proto' ≡ proto → source' ≡ dest → dest' ≡ source
+    → (let a = packet_of number family source dest proto fields in let b = packet_of number' family' source' dest' proto' fields' in
     AnswerFields a fields b fields' → SameFlow a b)
-answers_at family source dest proto (Ports from to) family' source' dest' proto' (Ports from' to')
-    families protos sources dests (from_is, to_is) =
+answers_at number family source dest proto (Ports from to) number' family' source' dest' proto' (Ports from' to')
+    numbers families protos sources dests (from_is, to_is) =
     let ends = inr (same_end _ _ (sym dests) (sym to_is), same_end _ _ (sym sources) (sym from_is)) in
-    (sym families, inl (record { one_ports = tt; other_ports = tt; proto = sym protos; ends = ends }))
-answers_at family source dest proto (Tcp from to flags) family' source' dest' proto' (Tcp from' to' flags')
-    families protos sources dests (from_is, to_is) =
+    (sym numbers, sym families, inl (record { one_ports = tt; other_ports = tt; proto = sym protos; ends = ends }))
+answers_at number family source dest proto (Tcp from to flags) number' family' source' dest' proto' (Tcp from' to' flags')
+    numbers families protos sources dests (from_is, to_is) =
     let ends = inr (same_end _ _ (sym dests) (sym to_is), same_end _ _ (sym sources) (sym from_is)) in
-    (sym families, inl (record { one_ports = tt; other_ports = tt; proto = sym protos; ends = ends }))
-answers_at family source dest proto (Icmp kind code) family' source' dest' proto' (Icmp kind' code')
-    families protos sources dests (inl (request, reply)) =
-    (sym families, inr (source, dest, inl (request, refl, refl), inr (reply, sources, dests)))
-answers_at family source dest proto (Icmp kind code) family' source' dest' proto' (Icmp kind' code')
-    families protos sources dests (inr (reply, request)) =
-    (sym families, inr (dest, source, inr (reply, refl, refl), inl (request, sources, dests)))
-answers_at family source dest proto fields family' source' dest' proto' fields' families protos sources dests none =
+    (sym numbers, sym families, inl (record { one_ports = tt; other_ports = tt; proto = sym protos; ends = ends }))
+answers_at number family source dest proto (Icmp kind code) number' family' source' dest' proto' (Icmp kind' code')
+    numbers families protos sources dests (inl (request, reply)) =
+    (sym numbers, sym families, inr (source, dest, inl (request, refl, refl), inr (reply, sources, dests)))
+answers_at number family source dest proto (Icmp kind code) number' family' source' dest' proto' (Icmp kind' code')
+    numbers families protos sources dests (inr (reply, request)) =
+    (sym numbers, sym families, inr (dest, source, inr (reply, refl, refl), inl (request, sources, dests)))
+answers_at number family source dest proto fields number' family' source' dest' proto' fields' numbers families protos sources dests none =
     absurd none
 
 -- what answers a packet is of its flow
 pub answer_is_same_flow : (a b : TupleFacts) → IsAnswer a b → SameFlow a b
 answer_is_same_flow a b answer =
-    answers_at a.family a.source a.dest a.proto a.fields b.family b.source b.dest b.proto b.fields
-    answer.family answer.proto answer.source answer.dest answer.fields
+    answers_at a.interface a.family a.source a.dest a.proto a.fields b.interface b.family b.source b.dest b.proto b.fields
+    answer.interface answer.family answer.proto answer.source answer.dest answer.fields
 
 -- a packet and its answer have one key
 pub key_of_answer : (a b : TupleFacts) (f g : Flow) → AreFlows a b f g → IsAnswer a b → f.key ≡ g.key

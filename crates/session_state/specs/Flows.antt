@@ -52,16 +52,17 @@ abbrev pub Precedes : End → End → Type 0
 Precedes one other = (one.address < other.address) ⊎ ((one.address ≡ other.address) × (one.port < other.port))
 
 -- the last word of a key: the first end's port from bit 48, the other's from bit 32, the protocol from
--- bit 24
-abbrev pub ports_word : End → End → ℕ → ℕ
-ports_word first second proto = first.port * 2 ^ 48 + second.port * 2 ^ 32 + proto * 2 ^ 24
+-- bit 24, the interface's number in the lowest bits
+abbrev pub ports_word : End → End → ℕ → ℕ → ℕ
+ports_word first second proto number = first.port * 2 ^ 48 + second.port * 2 ^ 32 + proto * 2 ^ 24 + number
 
--- the key of a flow between two ends
-abbrev pub key_of : Family → End → End → ℕ → FlowKey
-key_of V4 first second proto = Four ((first.address * 2 ^ 32 + second.address) ∷ ports_word first second proto ∷ [])
-key_of V6 first second proto =
+-- the key of a flow between two ends, at the interface with this number
+abbrev pub key_of : Family → End → End → ℕ → ℕ → FlowKey
+key_of V4 first second proto number =
+    Four ((first.address * 2 ^ 32 + second.address) ∷ ports_word first second proto number ∷ [])
+key_of V6 first second proto number =
     Six ((first.address / 2 ^ 64) ∷ (first.address % 2 ^ 64) ∷ (second.address / 2 ^ 64) ∷ (second.address % 2 ^ 64)
-    ∷ ports_word first second proto ∷ [])
+    ∷ ports_word first second proto number ∷ [])
 
 -- both ends in an order in which the lesser one stands first
 abbrev pub LesserFirst : End → End → End → End → Type 0
@@ -84,7 +85,7 @@ pub record IsFlow (packet : TupleFacts) (flow : Flow) : Type 0 where
   pub first : End
   pub second : End
   pub ends : StandAs packet packet.fields first second
-  pub key : flow.key ≡ key_of packet.family first second packet.proto
+  pub key : flow.key ≡ key_of packet.family first second packet.proto packet.interface
   pub first_side : sender_of packet ≡ first → flow.side ≡ 0
   pub second_side : sender_of packet ≢ first → flow.side ≡ 1
   pub reply : IsEchoReply packet → flow.starts ≡ false
@@ -100,7 +101,7 @@ side_of first sender = if (sender.address == first.address) && (sender.port == f
 abbrev pub oriented : TupleFacts → End → End → Bool → Flow
 oriented packet first second starts =
     record {
-      key = key_of packet.family first second packet.proto;
+      key = key_of packet.family first second packet.proto packet.interface;
       side = side_of first (sender_of packet);
       starts = starts;
     }
@@ -114,11 +115,12 @@ stands_first one other =
 abbrev pub end_of_number : ℕ → End
 end_of_number n = record { address = n / 2 ^ 16; port = n % 2 ^ 16 }
 
--- the flow of an IPv4 packet with ports whose ends these numbers stand for: the lesser number stands first
-abbrev pub flow_by_number : ℕ → ℕ → ℕ → Flow
-flow_by_number proto from to =
+-- the flow of an IPv4 packet with ports whose ends these numbers stand for, at an interface: the lesser number stands
+-- first
+abbrev pub flow_by_number : ℕ → ℕ → ℕ → ℕ → Flow
+flow_by_number proto interface from to =
     record {
-      key = key_of V4 (end_of_number (min from to)) (end_of_number (max from to)) proto;
+      key = key_of V4 (end_of_number (min from to)) (end_of_number (max from to)) proto interface;
       side = if nat_lt to from then 1 else 0;
       starts = true;
     }

@@ -9,6 +9,7 @@ use Rattle.session_state.specs.Flows.{IsEchoReply, IsEchoRequest, IsFlow, dest_p
 
 -- what the type of a five-tuple and the widths of its numbers keep
 pub record IsTuple (packet : TupleFacts) : Type 0 where
+  pub interface : packet.interface < 2 ^ 8
   pub source : packet.source < address_limit packet.family
   pub dest : packet.dest < address_limit packet.family
   pub proto : packet.proto < 2 ^ 8
@@ -53,9 +54,10 @@ IsEcho packet requester answerer =
 abbrev pub SameEcho : TupleFacts → TupleFacts → Type 0
 SameEcho a b = (requester answerer : ℕ) × IsEcho a requester answerer × IsEcho b requester answerer
 
--- a TCP or UDP flow is a protocol and two ends in no order, an echo flow a requester and an answerer
+-- a TCP or UDP flow is a protocol and two ends in no order, an echo flow a requester and an answerer; either is of one
+-- interface
 abbrev pub SameFlow : TupleFacts → TupleFacts → Type 0
-SameFlow a b = (a.family ≡ b.family) × (SameExchange a b ⊎ SameEcho a b)
+SameFlow a b = (a.interface ≡ b.interface) × (a.family ≡ b.family) × (SameExchange a b ⊎ SameEcho a b)
 
 -- the fields of packets of which the second goes back where the first came from
 abbrev pub AnswerFields : TupleFacts → Fields → TupleFacts → Fields → Type 0
@@ -67,6 +69,7 @@ AnswerFields a _ b _ = ⊥
 
 -- the second packet goes the other way of the first one's flow
 pub record IsAnswer (a b : TupleFacts) : Type 0 where
+  pub interface : b.interface ≡ a.interface
   pub family : b.family ≡ a.family
   pub proto : b.proto ≡ a.proto
   pub source : b.source ≡ a.dest

@@ -11,7 +11,7 @@ ghost use Rattle.session_state.specs.Flows.{IsFlow, echo_flow, end_of_number, fl
 use crate::end::{End, is_first, receiver, sender};
 use packet_view::{Family, Fields, PlainPacket, Tuple};
 
-/// What names a flow in its family's table: addresses, ports and protocol of both ends.
+/// What names a flow in its family's table: the interface, and addresses, ports and protocol of both ends.
 #[derive(Clone, Copy, Debug, PartialEq, Eq)]
 pub enum FlowKey {
     /// Of IPv4.
@@ -49,21 +49,27 @@ fn reply_type(family: Family) -> u8
 }
 
 // The last word of a key.
-fn ports_word(first: u64, second: u64, proto: u8) -> u64
+fn ports_word(first: u64, second: u64, proto: u8, interface: u8) -> u64
     requires first { first < 2 ^ 16 }
     requires second { second < 2 ^ 16 }
-    ensures { result ≡ first * 2 ^ 48 + second * 2 ^ 32 + proto * 2 ^ 24 }
+    ensures { result ≡ first * 2 ^ 48 + second * 2 ^ 32 + proto * 2 ^ 24 + interface }
 {
-    (first << 48) + (second << 32) + (u64::from(proto) << 24)
+    (first << 48) + (second << 32) + (u64::from(proto) << 24) + u64::from(interface)
 }
 
-fn key(family: Family, first: End, second: End, proto: u8) -> FlowKey
-    requires first { first.address < address_limit family }
-    requires second { second.address < address_limit family }
-    ensures { result ≡ key_of family first second proto }
+// The key of a packet's flow, whose ends stand in this order.
+fn key(tuple: &Tuple, first: End, second: End) -> FlowKey
+    requires first { first.address < address_limit tuple.now.family }
+    requires second { second.address < address_limit tuple.now.family }
+    ensures { result ≡ key_of tuple.now.family first second tuple.now.proto tuple.now.interface }
 {
-    let ports = ports_word(u64::from(first.port), u64::from(second.port), proto);
-    match family {
+    let ports = ports_word(
+        u64::from(first.port),
+        u64::from(second.port),
+        tuple.proto,
+        tuple.interface,
+    );
+    match tuple.family {
         Family::V4 => FlowKey::Four([((first.address << 32) + second.address) as u64, ports]),
         Family::V6 => FlowKey::Six([
             (first.address >> 64) as u64,
@@ -81,7 +87,7 @@ fn oriented(tuple: &Tuple, first: End, second: End, starts: bool) -> Flow
     ensures { result ≡ Flows.oriented (tuple_facts tuple.now) first second starts }
 {
     Flow {
-        key: key(tuple.family, first, second, tuple.proto),
+        key: key(tuple, first, second),
         side: u8::from(sender(tuple) != first),
         starts,
     }
@@ -96,23 +102,23 @@ fn number(end: End) -> u64
     ((end.address as u64) << 16) + u64::from(end.port)
 }
 
-fn key_by_number(first: u64, second: u64, proto: u8) -> FlowKey
+fn key_by_number(first: u64, second: u64, proto: u8, interface: u8) -> FlowKey
     requires first { first < 2 ^ 48 }
     requires second { second < 2 ^ 48 }
-    ensures { result ≡ key_of V4 (end_of_number first) (end_of_number second) proto }
+    ensures { result ≡ key_of V4 (end_of_number first) (end_of_number second) proto interface }
 {
-    let ports = ports_word(first % (1 << 16), second % (1 << 16), proto);
+    let ports = ports_word(first % (1 << 16), second % (1 << 16), proto, interface);
     FlowKey::Four([((first >> 16) << 32) + (second >> 16), ports])
 }
 
 // Which end stands first is as good as random, so no branch depends on it.
-fn flow_by_number(from: u64, to: u64, proto: u8) -> Flow
+fn flow_by_number(from: u64, to: u64, proto: u8, interface: u8) -> Flow
     requires from { from < 2 ^ 48 }
     requires to { to < 2 ^ 48 }
-    ensures { result ≡ Flows.flow_by_number proto from to }
+    ensures { result ≡ Flows.flow_by_number proto interface from to }
 {
     Flow {
-        key: key_by_number(from.min(to), from.max(to), proto),
+        key: key_by_number(from.min(to), from.max(to), proto, interface),
         side: u8::from(to < from),
         starts: true,
     }
@@ -122,7 +128,12 @@ fn by_order(tuple: &Tuple) -> Flow
     ensures { result ≡ flow_by_order (tuple_facts tuple.now) }
 {
     match tuple.family {
-        Family::V4 => flow_by_number(number(sender(tuple)), number(receiver(tuple)), tuple.proto),
+        Family::V4 => flow_by_number(
+            number(sender(tuple)),
+            number(receiver(tuple)),
+            tuple.proto,
+            tuple.interface,
+        ),
         Family::V6 => by_ends(tuple),
     }
 }
@@ -171,10 +182,12 @@ pub fn orient(tuple: &Tuple) -> Option<Flow>
     }
 }
 
-/// The flow of a plain packet: what `orient` answers of each five-tuple that says the same.
+/// The flow of a plain packet at the interface with this number: what `orient` answers of each five-tuple that says the
+/// same.
 #[inline(always)]
-pub fn plain_flow(packet: PlainPacket) -> Flow
-    ensures value { (tuple : TupleFacts) → IsTupleOf packet tuple → flow_of tuple ≡ Some result }
+pub fn plain_flow(packet: PlainPacket, interface: u8) -> Flow
+    ensures value { (tuple : TupleFacts) → tuple.interface ≡ interface → IsTupleOf packet tuple
+        → flow_of tuple ≡ Some result }
     ensures side { result.side < 2 }
 {
     let from = End {
@@ -185,5 +198,5 @@ pub fn plain_flow(packet: PlainPacket) -> Flow
         address: u128::from(packet.dest),
         port: packet.to,
     };
-    flow_by_number(number(from), number(to), packet.proto)
+    flow_by_number(number(from), number(to), packet.proto, interface)
 }

@@ -1,8 +1,8 @@
 -- A capture of which some windows were judged.
 use Rattle.std.specs.Prelude.{◌≡◌, ◌+◌, ◌<◌, ◌≤◌, ◌++◌, ℕ, true, false, List, [], Option, drop, length, ⊤}
 use Rattle.std.specs.Io.KnownBytes.{Consumes, IsAtEnd}
-use Rattle.packet_view.specs.Captures.{AreRecords, IsEnd, IsTooLong, PacketFacts, end_of}
-use Rattle.packet_view.specs.RecordLists.{packets_in}
+use Rattle.packet_view.specs.Captures.{AreRecords, IsEnd, IsTooLong, PacketFacts, RecordFacts, end_of, packets_at}
+use Rattle.packet_view.specs.RecordLists.{records_from}
 use Rattle.racl_io.specs.declared.fault.Fault.{Fault}
 use Rattle.racl_io.specs.declared.fault.Fault.TheVariants.{LongRecord, Memory, Read, TooLarge}
 use Rattle.racl_io.specs.Inputs.{most_bytes}
@@ -17,9 +17,9 @@ use Rattle.capture_stream.specs.declared.stream.Walk.{Walk}
 abbrev pub ahead_of : {J : Type 0} → Walk J → List ℕ
 ahead_of walk = drop walk.from walk.window.items
 
--- the packets of the whole records there, and the bytes behind them
-abbrev pub packets_ahead : {J : Type 0} → Walk J → List PacketFacts
-packets_ahead walk = packets_in walk.order walk.found.count (ahead_of walk)
+-- the whole records there, and the bytes behind them
+abbrev pub records_ahead : {J : Type 0} → Walk J → List RecordFacts
+records_ahead walk = records_from walk.order walk.found.count (ahead_of walk)
 
 abbrev pub rest_of : {J : Type 0} → Walk J → List ℕ
 rest_of walk = behind_of (ahead_of walk) walk.found
@@ -27,8 +27,8 @@ rest_of walk = behind_of (ahead_of walk) walk.found
 -- where a walk may go on from: the records ahead are found, and no more packets were judged than bytes were read before those ahead
 pub record MayAdvance {J : Type 0} (Became : J → List PacketFacts → J → Type 0) (walk : Walk J) : Type 0 where
   pub begun : J
-  pub packets : List PacketFacts
-  pub stand : Became begun packets walk.judges
+  pub packets : List RecordFacts
+  pub stand : Became begun (packets_at 0 packets) walk.judges
   pub count : walk.packets ≡ length packets
   pub within : walk.from ≤ length walk.window.items
   pub found : HaveFound walk.order (ahead_of walk) walk.found
@@ -38,11 +38,11 @@ pub record MayAdvance {J : Type 0} (Became : J → List PacketFacts → J → Ty
 -- the packets of the whole records ahead were judged, and what was read stands behind the rest
 pub record HasAdvanced {J : Type 0} (Became : J → List PacketFacts → J → Type 0) (old : Walk J) (before after : Option (List ℕ))
     (new : Walk J) : Type 0 where
-  pub more : List PacketFacts
+  pub more : List RecordFacts
   pub rest : List ℕ
   pub read : List ℕ
   pub records : AreRecords old.order (ahead_of old) more rest
-  pub judged : HaveFollowed Became old.judges more new.judges
+  pub judged : HaveFollowed Became old.judges (packets_at 0 more) new.judges
   pub count : new.packets ≡ old.packets + length more
   pub consumed : Consumes before after read
   pub ahead : ahead_of new ≡ rest ++ read
@@ -56,15 +56,15 @@ pub record HasAdvanced {J : Type 0} (Became : J → List PacketFacts → J → T
 
 -- the packets of all records ahead were judged
 pub record HasEnded {J : Type 0} (Became : J → List PacketFacts → J → Type 0) (walk : Walk J) (streamed : Streamed J) : Type 0 where
-  pub more : List PacketFacts
+  pub more : List RecordFacts
   pub rest : List ℕ
   pub records : AreRecords walk.order (ahead_of walk) more rest
   pub end : IsEnd walk.order rest (end_of streamed.truncated)
-  pub judged : HaveFollowed Became walk.judges more streamed.judges
+  pub judged : HaveFollowed Became walk.judges (packets_at 0 more) streamed.judges
 
 -- ahead the record of this number, counted from the capture's first, is the first that is too long
 pub record HasLongAhead {J : Type 0} (walk : Walk J) (number : ℕ) : Type 0 where
-  pub more : List PacketFacts
+  pub more : List RecordFacts
   pub rest : List ℕ
   pub records : AreRecords walk.order (ahead_of walk) more rest
   pub long : IsTooLong walk.order rest
@@ -98,9 +98,9 @@ pub record IsAmid {J : Type 0} (Became : J → List PacketFacts → J → Type 0
     (walk : Walk J) : Type 0 where
   pub gone : List ℕ
   pub consumed : Consumes before now gone
-  pub packets : List PacketFacts
+  pub packets : List RecordFacts
   pub records : AreRecords opening.order (records_in opening gone) packets (ahead_of walk)
-  pub stand : Became begun packets walk.judges
+  pub stand : Became begun (packets_at 0 packets) walk.judges
   pub count : walk.packets ≡ length packets
   pub size : walk.read ≡ length opening.bytes.items + length gone
   pub bound : walk.read ≤ most_bytes

@@ -56,7 +56,7 @@ fn finds_the_next_record(rt: HostRuntime) {
 /// The third record begins at 140.
 #[test]
 fn finds_the_whole_records_at_the_front(rt: HostRuntime) {
-    let front = front_records(&LITTLE[24..145], Order::Little);
+    let front = front_records(&LITTLE[24..145], Order::Little, 0);
     assert_eq!(rt; (front.records.count(), front.rest.len()), (2, 5));
     assert_eq!(rt; front.stop, Stop::Truncated);
     assert_eq!(rt;
@@ -67,7 +67,7 @@ fn finds_the_whole_records_at_the_front(rt: HostRuntime) {
 
 #[test]
 fn reads_the_packets_of_a_capture(rt: HostRuntime) -> Result<(), Fail> {
-    let capture = read_capture(rt.alloc(), &BIG)?;
+    let capture = read_capture(rt.alloc(), &BIG, 0)?;
     assert!(rt; !capture.truncated);
     assert_eq!(rt; front_of_list(&capture.packets), (1, Some(100), 0));
     Ok(())
@@ -75,7 +75,7 @@ fn reads_the_packets_of_a_capture(rt: HostRuntime) -> Result<(), Fail> {
 
 #[test]
 fn takes_the_packets_of_a_capture_where_they_stand(rt: HostRuntime) -> Result<(), Fail> {
-    let checked = check_capture(&LITTLE[..197])?;
+    let checked = check_capture(&LITTLE[..197], 0)?;
     assert!(rt; checked.truncated);
     let records = Packets::Standing(checked.records);
     assert_eq!(rt; front_of(records), (2, Some(100), 1));
@@ -130,11 +130,11 @@ fn takes_packets_that_are_found_ahead(rt: HostRuntime) -> Result<(), Fail> {
             bytes.push(number)?;
         }
     }
-    let checked = check_capture(&bytes)?;
+    let checked = check_capture(&bytes, 0)?;
     assert_eq!(rt; checked.records.count(), 150);
     assert!(rt; !checked.truncated);
     assert!(rt; are_numbered(PacketsAhead::new(Packets::Standing(checked.records))));
-    let capture = read_capture(rt.alloc(), &bytes)?;
+    let capture = read_capture(rt.alloc(), &bytes, 0)?;
     assert!(rt; are_listed_by_number(&capture.packets));
     Ok(())
 }

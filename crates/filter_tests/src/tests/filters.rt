@@ -15,6 +15,7 @@ fn tuple(proto: u8, fields: Fields) -> Tuple
     requires fits { IsTrue (fields_suit Family.V4 proto fields) }
 {
     Tuple {
+        interface: 0,
         family: Family::V4,
         source: 0x0a000002,
         dest: 0x0a000001,

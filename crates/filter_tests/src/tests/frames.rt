@@ -14,6 +14,7 @@ pub const UDP: [u8; 42] = [
 
 /// The view of `UDP` as an outgoing frame.
 const UDP_TUPLE: Tuple = Tuple {
+    interface: 0,
     family: Family::V4,
     source: 0x0a00_0001,
     dest: 0x0a00_0002,
@@ -31,9 +32,27 @@ const TCP: [u8; 54] = [
 #[test]
 fn sees_a_packet_by_its_way(rt: HostRuntime) {
     let other = Some(Mac([2, 0, 0, 0, 0, 2]));
-    assert_eq!(rt; view(&UDP, OWN), Frame::Ip(Direction::Outbound, UDP_TUPLE));
-    assert_eq!(rt; view(&UDP, other), Frame::Ip(Direction::Inbound, UDP_TUPLE));
-    assert_eq!(rt; view(&UDP, None), Frame::Ip(Direction::Inbound, UDP_TUPLE));
+    assert_eq!(rt;
+        view(&UDP, 0, OWN),
+        Frame::Ip(Direction::Outbound, UDP_TUPLE)
+    );
+    assert_eq!(rt;
+        view(&UDP, 0, other),
+        Frame::Ip(Direction::Inbound, UDP_TUPLE)
+    );
+    assert_eq!(rt;
+        view(&UDP, 0, None),
+        Frame::Ip(Direction::Inbound, UDP_TUPLE)
+    );
+    let there = Tuple {
+        interface: 255,
+        family: Family::V4,
+        source: 0x0a00_0001,
+        dest: 0x0a00_0002,
+        proto: 17,
+        fields: Fields::Ports { from: 1000, to: 53 },
+    };
+    assert_eq!(rt; view(&UDP, 255, OWN), Frame::Ip(Direction::Outbound, there));
 }
 
 #[test]
@@ -95,8 +114,8 @@ fn other_frames_are_not_plain(rt: HostRuntime) {
 #[test]
 fn sees_plain_frames(rt: HostRuntime) {
     assert_eq!(rt;
-        plain_frame(&UDP, OWN),
+        plain_frame(&UDP, 0, OWN),
         Some(Frame::Ip(Direction::Outbound, UDP_TUPLE))
     );
-    assert_eq!(rt; plain_frame(&TCP[..47], None), None);
+    assert_eq!(rt; plain_frame(&TCP[..47], 0, None), None);
 }

@@ -26,6 +26,7 @@ pub fn rule(
 
 fn tcp(flags: u8) -> Tuple {
     Tuple {
+        interface: 0,
         family: Family::V4,
         source: 0x0a000002,
         dest: 0x0a000001,
@@ -40,6 +41,7 @@ fn tcp(flags: u8) -> Tuple {
 
 pub fn udp(from: u16, to: u16) -> Tuple {
     Tuple {
+        interface: 0,
         family: Family::V4,
         source: 0x0a000002,
         dest: 0x0a000001,
@@ -50,6 +52,7 @@ pub fn udp(from: u16, to: u16) -> Tuple {
 
 pub fn later_fragment(proto: u8) -> Tuple {
     Tuple {
+        interface: 0,
         family: Family::V4,
         source: 0x0a000002,
         dest: 0x0a000001,

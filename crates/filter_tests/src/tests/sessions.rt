@@ -21,6 +21,7 @@ const ACK: u8 = 16;
 
 fn udp(source: u32, from: u16, dest: u32, to: u16) -> Tuple {
     Tuple {
+        interface: 0,
         family: Family::V4,
         source: u128::from(source),
         dest: u128::from(dest),
@@ -31,6 +32,7 @@ fn udp(source: u32, from: u16, dest: u32, to: u16) -> Tuple {
 
 fn tcp(source: u32, from: u16, dest: u32, to: u16, flags: u8) -> Tuple {
     Tuple {
+        interface: 0,
         family: Family::V4,
         source: u128::from(source),
         dest: u128::from(dest),
@@ -41,6 +43,7 @@ fn tcp(source: u32, from: u16, dest: u32, to: u16, flags: u8) -> Tuple {
 
 fn icmp(source: u32, dest: u32, kind: u8) -> Tuple {
     Tuple {
+        interface: 0,
         family: Family::V4,
         source: u128::from(source),
         dest: u128::from(dest),
@@ -119,24 +122,44 @@ fn keys_of_one_address(rt: HostRuntime) {
 #[test]
 fn flows_of_plain_packets(rt: HostRuntime) {
     let key = 0x0a00_0001_0a00_0002;
-    let asked = plain_flow(PlainPacket {
-        source: NET + 1,
-        dest: NET + 2,
-        from: 1000,
-        to: 53,
-        proto: 17,
-        flags: 0,
-    });
-    assert_eq!(rt; Some(asked), four(key, 0x03e8_0035_1100_0000, 0, true));
-    let sent = plain_flow(PlainPacket {
-        source: NET + 2,
-        dest: NET + 1,
-        from: 80,
-        to: 1000,
-        proto: 6,
-        flags: 0x18,
-    });
+    let asked = plain_flow(
+        PlainPacket {
+            source: NET + 1,
+            dest: NET + 2,
+            from: 1000,
+            to: 53,
+            proto: 17,
+            flags: 0,
+        },
+        255,
+    );
+    assert_eq!(rt; Some(asked), four(key, 0x03e8_0035_1100_00ff, 0, true));
+    let sent = plain_flow(
+        PlainPacket {
+            source: NET + 2,
+            dest: NET + 1,
+            from: 80,
+            to: 1000,
+            proto: 6,
+            flags: 0x18,
+        },
+        0,
+    );
     assert_eq!(rt; Some(sent), four(key, 0x03e8_0050_0600_0000, 1, true));
+}
+
+// The same flow at another interface has another key, and both its directions have that one.
+#[test]
+fn interface_in_the_key(rt: HostRuntime) {
+    let key = 0x0a00_0001_0a00_0002;
+    let mut asked = udp(NET + 1, 1000, NET + 2, 53);
+    asked.interface = 2;
+    let asked = orient(&asked);
+    assert_eq!(rt; asked, four(key, 0x03e8_0035_1100_0002, 0, true));
+    let mut answered = udp(NET + 2, 53, NET + 1, 1000);
+    answered.interface = 2;
+    let answered = orient(&answered);
+    assert_eq!(rt; answered, four(key, 0x03e8_0035_1100_0002, 1, true));
 }
 
 #[test]
@@ -155,6 +178,7 @@ fn keys_of_ipv6(rt: HostRuntime) {
     let lesser = 0x2001_0db8_0000_0000_0000_0000_0000_0001u128;
     let greater = 0x2001_0db8_0000_0000_0000_0000_0000_0002u128;
     let asked = orient(&Tuple {
+        interface: 0,
         family: Family::V6,
         source: greater,
         dest: lesser,
@@ -163,6 +187,7 @@ fn keys_of_ipv6(rt: HostRuntime) {
     });
     assert_eq!(rt; asked, six(1, 2, 0x0035_03e8_1100_0000, true));
     let reply = orient(&Tuple {
+        interface: 0,
         family: Family::V6,
         source: lesser,
         dest: greater,

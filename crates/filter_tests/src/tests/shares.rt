@@ -34,7 +34,11 @@ fn four(proto: u8, from: u8, to: u8, ports: [u8; 4]) -> [u8; 54] {
 }
 
 fn seen<'a>(moment: u32, frame: &'a [u8]) -> Packet<'a> {
-    Packet { moment, frame }
+    Packet {
+        interface: 0,
+        moment,
+        frame,
+    }
 }
 
 fn deal<'a, R: Threads + Sync>(
@@ -50,11 +54,7 @@ fn deal<'a, R: Threads + Sync>(
     requires fits { number + length packets.now < 2 ^ 64 }
 {
     flow_shapes_are_sound();
-    let dealer = Dealer {
-        own: None,
-        dealing,
-        workers,
-    };
+    let dealer = Dealer { dealing, workers };
     deal_packets::<ShapeV4, ShapeV6, R>(rt, alloc, dealer, number, Packets::Listed(packets))
 }
 
@@ -146,12 +146,12 @@ fn deals_packets_of_several_flows(rt: HostRuntime) -> Result<(), Fail> {
 fn one_packet_has_its_worker(rt: HostRuntime) {
     flow_shapes_are_sound();
     let dealer = Dealer {
-        own: None,
         dealing: Dealing::Bucket,
         workers: 3,
     };
     let request = four(17, 1, 2, [0x03, 0xe8, 0, 53]);
-    assert_eq!(rt; dealt_to::<ShapeV4, ShapeV6>(&dealer, 9, &request), 1);
-    assert_eq!(rt; dealt_to::<ShapeV4, ShapeV6>(&dealer, 9, &ARP), 0);
-    assert_eq!(rt; dealt_to::<ShapeV4, ShapeV6>(&dealer, 9, &SIX), 2);
+    let (first, second, third) = (seen(100, &request), seen(100, &ARP), seen(100, &SIX));
+    assert_eq!(rt; dealt_to::<ShapeV4, ShapeV6>(&dealer, 9, &first), 1);
+    assert_eq!(rt; dealt_to::<ShapeV4, ShapeV6>(&dealer, 9, &second), 0);
+    assert_eq!(rt; dealt_to::<ShapeV4, ShapeV6>(&dealer, 9, &third), 2);
 }

@@ -60,6 +60,7 @@ fn first_wrong<A: Shape, B: Shape>(
             request(server)
         };
         let packet = Packet {
+            interface: 0,
             moment,
             frame: &frame,
         };
@@ -115,7 +116,11 @@ fn judged<A: Shape, R: Wait>(rt: &R, alloc: Global, frame: &[u8]) -> Option<Verd
     let Ok((tables, mut callers)) = create_tables::<A, ShapeV6>(alloc) else {
         return None;
     };
-    let packet = Packet { moment: 100, frame };
+    let packet = Packet {
+        interface: 0,
+        moment: 100,
+        frame,
+    };
     Some(judge(rt, &filter, &tables, &mut callers, &packet))
 }
 

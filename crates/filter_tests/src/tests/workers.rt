@@ -163,14 +163,17 @@ fn workers(rt: HostRuntime) -> Result<(), Fail> {
     let frames = [request(2), answer(2), answer(3)];
     let packets = [
         Packet {
+            interface: 0,
             moment: 100,
             frame: &frames[0],
         },
         Packet {
+            interface: 0,
             moment: 105,
             frame: &frames[1],
         },
         Packet {
+            interface: 0,
             moment: 106,
             frame: &frames[2],
         },
@@ -194,10 +197,12 @@ fn both_before(rt: HostRuntime) -> Result<(), Fail> {
     odd[35] = 0xe9;
     let packets = [
         Packet {
+            interface: 0,
             moment: 100,
             frame: &foreign,
         },
         Packet {
+            interface: 0,
             moment: 100,
             frame: &odd,
         },
@@ -220,20 +225,24 @@ fn packets_of_parts_are_numbered_on(rt: HostRuntime) -> Result<(), Fail> {
     let frames = [request(2), answer(3), answer(2), request(3)];
     let first = [
         Packet {
+            interface: 0,
             moment: 100,
             frame: &frames[0],
         },
         Packet {
+            interface: 0,
             moment: 100,
             frame: &frames[1],
         },
     ];
     let second = [
         Packet {
+            interface: 0,
             moment: 101,
             frame: &frames[2],
         },
         Packet {
+            interface: 0,
             moment: 101,
             frame: &frames[3],
         },

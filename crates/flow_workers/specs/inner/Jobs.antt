@@ -2,10 +2,11 @@
 use Rattle.std.specs.Prelude.{◌≡◌, ◌<◌, ◌+◌, ◌++◌, ◌^◌, ℕ, List, Some, drop, length, slice_get}
 use Rattle.packet_view.specs.Captures.{PacketFacts}
 use Rattle.packet_view.specs.CheckedCaptures.{held}
-use Rattle.packet_view.specs.Frames.{FrameFacts, IsFrame, frame_facts}
+use Rattle.packet_view.specs.Frames.{FrameFacts, frame_facts}
 use Rattle.bihash_words.specs.declared.shape.Shape.{Ghosts}
 use Rattle.flow_filter.specs.Filters.{policy_in}
 use Rattle.flow_filter.specs.OneThread.{layout_of}
+use Rattle.flow_filter.specs.Readings.{IsSeenAt}
 use Rattle.flow_dealing.specs.Dealings.{flow_shown, worker_by}
 use Rattle.flow_dealing.specs.Views.{Views}
 use Rattle.packet_dealing.specs.Dealt.{AreDealt, IsDealtPart, IsDealtTo}
@@ -32,7 +33,7 @@ run_facts ga gb setup all = record {
 
 -- what packets are dealt by
 abbrev pub dealer_of : {A B R G K L : Type 0} → Setup A B R G K L → Dealer
-dealer_of setup = record { own = setup.filter.own; dealing = setup.dealing; workers = setup.workers }
+dealer_of setup = record { dealing = setup.dealing; workers = setup.workers }
 
 -- the packets of the run stand among all packets, from the run's first number on
 pub record StandAmong {A B R G K L : Type 0} (run : Run A B R G K L) (all : List PacketFacts) : Type 0 where
@@ -60,14 +61,14 @@ pub record MayJudge {A B R G K L : Type 0} (ga : Ghosts A K) (gb : Ghosts B L) (
   pub idle : AreIdle ga gb run.setup.tables.now share.callers
   pub fits : run.first + length (held run.packets) < 2 ^ 64
   pub there : slice_get (held run.packets) at ≡ Some packet
-  pub mine : IsDealtTo ga gb (dealer_of run.setup) (run.first + at) packet.frame worker
+  pub mine : IsDealtTo ga gb (dealer_of run.setup) (run.first + at) packet worker
 
 -- the packet at this place of the run was viewed so, and its frame is nothing else
 pub record IsViewedAt {A B R G K L : Type 0} (run : Run A B R G K L) (at : ℕ) (viewed : ViewedPacket) : Type 0 where
   pub packet : PacketFacts
   pub there : slice_get (held run.packets) at ≡ Some packet
   pub seen : IsViewed run.setup.filter.own packet viewed
-  pub only : (other : FrameFacts) → IsFrame packet.frame run.setup.filter.own other → other ≡ frame_facts viewed.frame.now
+  pub only : (other : FrameFacts) → IsSeenAt run.setup.filter.own packet other → other ≡ frame_facts viewed.frame.now
 
 -- the worker of the packet at this place, whose frame turned out to be this
 abbrev pub IsWorkerOf : {A B R G K L : Type 0} (ga : Ghosts A K) (gb : Ghosts B L) → Run A B R G K L → ℕ → FrameFacts

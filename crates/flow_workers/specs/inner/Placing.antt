@@ -6,7 +6,7 @@ use lib.ListN.{get_elem?}
 use mathlib.Core.Option.{some}
 use Rattle.packet_view.specs.Captures.{PacketFacts}
 use Rattle.packet_view.specs.Frames as frames
-use Rattle.packet_view.specs.Frames.{IsFrame}
+use Rattle.flow_filter.specs.Readings.{IsSeen}
 use Rattle.flow_filter.specs.declared.verdict.Verdict.{Verdict}
 use Rattle.flow_dealing.specs.Dealings.{flow_shown, worker_of}
 use Rattle.flow_dealing.specs.Traces.{ArePlaced, AreTraces, AreViews, Item, numbers_from, numbers_of, verdict_in}
@@ -17,7 +17,7 @@ use Rattle.flow_workers.specs.inner.Work.{AreSaid, RunFacts}
 pub record AreJudges (run : RunFacts) (first : ℕ) (workers : List ℕ) : Type 0 where
   pub inside : first + length workers ≤ length run.packets
   pub each : (k : ℕ) (packet : PacketFacts) (view : frames.FrameFacts) → k < length workers
-      → slice_get run.packets (first + k) ≡ Some packet → IsFrame packet.frame run.policy.own view
+      → slice_get run.packets (first + k) ≡ Some packet → IsSeen run.policy packet view
       → slice_index workers k ≡ worker_of run.deal (first + k) (flow_shown view)
 
 -- these are the workers of all packets
@@ -51,7 +51,7 @@ AreInOrder all workers verdicts = (run : RunFacts) (traces : List (List Item)) �
 pub record ArePlacedBefore (run : RunFacts) (traces : List (List Item)) (placed : Placed) : Type 0 where
   pub room : length placed.next ≡ 16
   pub left : (w : ℕ) (trace : List Item) → get_elem? traces w ≡ some trace
-      → (views : List frames.FrameFacts) → AreViews run.policy.own run.packets views
+      → (views : List frames.FrameFacts) → AreViews run.policy run.packets views
       → drop (slice_index placed.next w) (numbers_of trace)
       ≡ numbers_from run.deal w (length placed.verdicts.items) (drop (length placed.verdicts.items) views)
   pub each : (w : ℕ) (trace : List Item) → get_elem? traces w ≡ some trace → (k : ℕ) (i : Item)
@@ -91,7 +91,7 @@ pub record IsNext (run : RunFacts) (traces : List (List Item)) (all : List (Vec 
   pub at : get_elem? trace (slice_index placed.next w) ≡ some item
   pub verdict : get_elem? said.items (slice_index placed.next w) ≡ some (verdict_in run.times item)
   pub number : item.packet ≡ length placed.verdicts.items
-  pub behind : (v : ℕ) (views : List frames.FrameFacts) → AreViews run.policy.own run.packets views
+  pub behind : (v : ℕ) (views : List frames.FrameFacts) → AreViews run.policy run.packets views
       → numbers_from run.deal v (length placed.verdicts.items) (drop (length placed.verdicts.items) views)
       ≡ numbers_behind run w v (length placed.verdicts.items) views
 

@@ -31,7 +31,7 @@ pub record MayJudgeNext {A B R G K L : Type 0} (ga : Ghosts A K) (gb : Ghosts B 
 pub record HasJudgedNext {A B R G K L : Type 0} (ga : Ghosts A K) (gb : Ghosts B L) (run : Run A B R G K L) (at : ℕ)
     (packet : PacketFacts) (old new : List (Share A B K L ga gb)) (worker : ℕ) : Type 0 where
   pub worked : HaveWorkedOn run at (at + 1) old new
-  pub dealt : IsDealtTo ga gb (dealer_of run.setup) (run.first + at) packet.frame worker
+  pub dealt : IsDealtTo ga gb (dealer_of run.setup) (run.first + at) packet worker
   pub one : worker < run.setup.workers
 
 -- the workers of so many of these packets, whose numbers begin with this one, were noted after others

@@ -1,7 +1,7 @@
 -- What viewing a packet tells of it, and what judging it then tells of its callers.
 use Rattle.std.specs.Prelude.{◌≡◌, true, Option, None, Result, IfOk, IfErr, is_ok}
 use Rattle.packet_view.specs.Captures.{PacketFacts}
-use Rattle.packet_view.specs.Frames.{IsFrame, frame_facts}
+use Rattle.packet_view.specs.Frames.{frame_facts}
 use Rattle.packet_view.specs.declared.tuple.Mac.{Mac}
 use Rattle.bihash_words.specs.declared.patch.Reply.{Reply}
 use Rattle.bihash_words.specs.declared.shape.Shape.{Ghosts}
@@ -11,6 +11,7 @@ use Rattle.flow_filter.specs.Filters.{policy_in}
 use Rattle.flow_filter.specs.declared.filter.ReadyFilter.{ReadyFilter}
 use Rattle.flow_filter.specs.declared.verdict.Verdict.{Verdict}
 use Rattle.flow_filter.specs.OneThread.{layout_of}
+use Rattle.flow_filter.specs.Readings.{IsSeenAt}
 use Rattle.flow_dealing.specs.Dealings.{flow_shown}
 use Rattle.flow_workers.specs.declared.tables.Callers.{Callers}
 use Rattle.flow_workers.specs.declared.tables.Tables.{Tables}
@@ -20,9 +21,9 @@ use Rattle.flow_workers.specs.Judging.{TookByOneTry}
 use Rattle.flow_workers.specs.Verdicts.{HasNoVerdict, HasVerdict, ShowsOutOfPages}
 use Rattle.flow_workers.specs.inner.Wanted.{KeepWanted}
 
--- the packet is this at the interface with this address
+-- the packet is this where its interface has this address
 abbrev pub IsViewed : Option Mac → PacketFacts → ViewedPacket → Type 0
-IsViewed own packet v = (packet.moment ≡ v.moment) × IsFrame packet.frame own (frame_facts v.frame.now)
+IsViewed own packet v = (packet.moment ≡ v.moment) × IsSeenAt own packet (frame_facts v.frame.now)
 
 -- the verdict on each packet that was viewed so (`TellsVerdict` says it of one), by a call that took locks as
 -- `took` says

@@ -37,7 +37,7 @@ pub record IsWorkUntil (run : RunFacts) (worker at : ℕ) (v w : Views)
   pub trace : List Item
   pub items : All (IsItem run.deal.layout run.times) trace
   pub of : All (IsItemOf run.deal worker run.policy run.packets) trace
-  pub dealt : (views : List frames.FrameFacts) → AreViews run.policy.own run.packets views
+  pub dealt : (views : List frames.FrameFacts) → AreViews run.policy run.packets views
       → numbers_of trace ++ numbers_from run.deal worker at (drop at views) ≡ numbers_from run.deal worker 0 views
   pub four : Continues v.four w.four (calls_in run.times V4 trace)
   pub six : Continues v.six w.six (calls_in run.times V6 trace)

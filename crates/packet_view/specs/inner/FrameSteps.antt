@@ -18,6 +18,7 @@ use Rattle.packet_view.specs.Addresses.{icmp_of}
 use Rattle.packet_view.specs.Bytes.{number_from}
 use Rattle.packet_view.specs.Ethernet.{is_tag_type}
 use Rattle.packet_view.specs.Frames.{FrameFacts, NotIp, Malformed, Short, Ip}
+use Rattle.packet_view.specs.Interfaces.{Interface}
 use Rattle.packet_view.specs.Ipv4 as ipv4
 use Rattle.packet_view.specs.Ipv6 as ipv6
 use Rattle.packet_view.specs.Packets as carried
@@ -122,28 +123,43 @@ fields_of family proto payload =
     then (if nat_lt (length payload) 2 then None else Some (Icmp (slice_index payload 0) (slice_index payload 1)))
     else Some Absent))
 
-abbrev pub with_fields : Direction → IpPacketFacts → ℕ → Option Fields → FrameFacts
-with_fields direction packet proto None = Short
-with_fields direction packet proto (Some fields) =
-    Ip direction (record { family = packet.family; source = packet.source; dest = packet.dest; proto = proto; fields = fields })
+-- which way a packet goes, at the interface with this number
+pub record Way : Type 0 where
+  pub number : ℕ
+  pub direction : Direction
 
-abbrev pub view_of_upper : Direction → IpPacketFacts → carried.Upper → FrameFacts
-view_of_upper direction packet (carried.LaterFragment proto) = with_fields direction packet proto (Some Absent)
-view_of_upper direction packet (carried.Payload proto payload) = with_fields direction packet proto (fields_of packet.family proto payload)
+abbrev pub with_fields : Way → IpPacketFacts → ℕ → Option Fields → FrameFacts
+with_fields way packet proto None = Short
+with_fields way packet proto (Some fields) =
+    Ip way.direction (record {
+      interface = way.number;
+      family = packet.family;
+      source = packet.source;
+      dest = packet.dest;
+      proto = proto;
+      fields = fields;
+    })
 
-abbrev pub view_of_packet : Direction → Option IpPacketFacts → FrameFacts
-view_of_packet direction None = Malformed
-view_of_packet direction (Some packet) = view_of_upper direction packet packet.upper
+abbrev pub view_of_upper : Way → IpPacketFacts → carried.Upper → FrameFacts
+view_of_upper way packet (carried.LaterFragment proto) = with_fields way packet proto (Some Absent)
+view_of_upper way packet (carried.Payload proto payload) = with_fields way packet proto (fields_of packet.family proto payload)
+
+abbrev pub view_of_packet : Way → Option IpPacketFacts → FrameFacts
+view_of_packet way None = Malformed
+view_of_packet way (Some packet) = view_of_upper way packet packet.upper
 
 abbrev pub direction_of : List ℕ → Option Mac → Direction
 direction_of frame None = Inbound
 direction_of frame (Some mac) = if bytes_eq (slice_range frame 6 12) mac.0 then Outbound else Inbound
 
-abbrev pub view_of_content : List ℕ → Option Mac → Option (ℕ × List ℕ) → FrameFacts
-view_of_content frame own None = Malformed
-view_of_content frame own (Some content) =
-    if content.0 == 0x0800 then view_of_packet (direction_of frame own) (packet_of_v4 content.1)
-    else (if content.0 == 0x86dd then view_of_packet (direction_of frame own) (packet_of_v6 content.1) else NotIp)
+abbrev pub way_of : List ℕ → Interface → Way
+way_of frame at = record { number = at.number; direction = direction_of frame at.own }
 
-abbrev pub view_of : List ℕ → Option Mac → FrameFacts
-view_of frame own = view_of_content frame own (content_of frame)
+abbrev pub view_of_content : List ℕ → Interface → Option (ℕ × List ℕ) → FrameFacts
+view_of_content frame at None = Malformed
+view_of_content frame at (Some content) =
+    if content.0 == 0x0800 then view_of_packet (way_of frame at) (packet_of_v4 content.1)
+    else (if content.0 == 0x86dd then view_of_packet (way_of frame at) (packet_of_v6 content.1) else NotIp)
+
+abbrev pub view_of : List ℕ → Interface → FrameFacts
+view_of frame at = view_of_content frame at (content_of frame)

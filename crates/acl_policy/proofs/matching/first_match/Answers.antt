@@ -14,7 +14,7 @@ returns-then-is_match c =
     let here = slice_get-rule_facts _ c.loop-i.i rule (slice_get_read _ (length c.args.rules.now) c.loop-i.i _ refl (omega arith) c.index-rules-i.is) in
     let decides : Decides (map rule_facts c.args.rules.now) (tuple_facts c.args.tuple.now) c.loop-i.i rule.action =
     (rule_facts rule, here, c.is_match.ensures.0 c.if-is_match.true, refl, λ k other. c.loop-i.invariant k other) in
-    record { decided = decides; only = λ other. one_ruling _ _ (Some (c.loop-i.i, rule.action)) other decides }
+    record { decided = decides; only = λ other. one_ruling _ (tuple_facts c.args.tuple.now) (Some (c.loop-i.i, rule.action)) other decides }
 
 pub loop-i-preserved : goal.loop-i-preserved
 loop-i-preserved c =
@@ -32,4 +32,4 @@ pub returns : goal.returns
 returns c =
     let none : DecidesByDefault (map rule_facts c.args.rules.now) (tuple_facts c.args.tuple.now) =
     λ k other read. c.loop-i.invariant k other (let within : k < length (map rule_facts c.args.rules.now) = slice_get_within _ _ _ read in omega (arith, length-map c.args.rules.now rule_facts)) read in
-    record { decided = none; only = λ other. one_ruling _ _ None other none }
+    record { decided = none; only = λ other. one_ruling _ (tuple_facts c.args.tuple.now) None other none }

@@ -1,5 +1,5 @@
 use Rattle.std.proofs.Common.{ap, arith}
-use Rattle.packet_view.specs.RecordLists.{packets_in}
+use Rattle.packet_view.specs.RecordLists.{records_from}
 use Rattle.capture_stream.proofs.WalkLemmas.{front_few, front_follow, front_long, part_from}
 use Rattle.capture_stream.proofs.stream.last_window.Goals as goal
 
@@ -16,4 +16,4 @@ pub judge-requires : goal.judge-requires
 judge-requires g c =
     let walk = c.args.walk in
     let ahead = part_from c.deref.result.now walk.window.items walk.from c.deref.ensures.value in
-    front_follow _ walk _ c.requires.may (ap (packets_in walk.order walk.found.count) ahead)
+    front_follow _ walk _ c.requires.may (ap (records_from walk.order walk.found.count) ahead)

@@ -1,5 +1,6 @@
 use Rattle.std.proofs.Common.{◌≡◌, ◌≤◌, ◌+◌, ◌-◌, ◌++◌, ◌∙◌, ap, arith, length, refl, rules, vec_len}
-use Rattle.packet_view.specs.RecordLists.{packets_in}
+use Rattle.packet_view.specs.Captures.{packets_at}
+use Rattle.packet_view.specs.RecordLists.{records_from}
 use Rattle.racl_io.specs.Inputs.{most_bytes}
 use Rattle.racl_io.specs.Transfers.{HasRead}
 use Rattle.capture_stream.specs.Judging.{HaveFollowed}
@@ -20,7 +21,7 @@ pub judge_and_read-judged-requires-clause-can : goal.judge_and_read-judged-requi
 judge_and_read-judged-requires-clause-can g c κs within =
     let walk = c.args.walk in
     let ahead = part_from c.deref-2.result.now walk.window.items walk.from c.deref-2.ensures.value in
-    front_follow _ walk _ c.requires.may (ap (packets_in walk.order walk.found.count) ahead)
+    front_follow _ walk _ c.requires.may (ap (records_from walk.order walk.found.count) ahead)
 
 pub overflow_add-result-2 : goal.overflow_add-result-2
 overflow_add-result-2 g c = let few = front_few _ c.args.walk c.requires.may in omega arith
@@ -43,7 +44,7 @@ returns-clause-walk g c =
     let has_read : HasRead before after spare new.items least c.in_ok-found.field-0.ended = search rules in
     let found : HaveFound old.order new.items c.in_ok-found.field-0.found = search rules in
     let ahead = part_from c.deref-2.result.now old.window.items old.from c.deref-2.ensures.value in
-    let judged : HaveFollowed g.J.Judges.became old.judges (packets_in old.order old.found.count _) c.in_ok-judges.judges = search rules in
+    let judged : HaveFollowed g.J.Judges.became old.judges (packets_at 0 (records_from old.order old.found.count _)) c.in_ok-judges.judges = search rules in
     let len : c.len-2.result ≡ vec_len new = c.len-2.ensures in
     let full : vec_len new ≡ length new.items = new.ok.0 in
     let size : old.read + (c.len-2.result - behind) ≡ old.read + (length new.items - behind) = omega arith in

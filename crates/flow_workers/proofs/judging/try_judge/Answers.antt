@@ -1,9 +1,10 @@
 -- The packet is the one that was viewed, and the filter at hand is that of the call.
 use Rattle.std.proofs.Common.{◌∙◌, ap, subst, sym}
 use Rattle.packet_view.specs.Captures.{packet_facts}
-use Rattle.packet_view.specs.Frames.{IsFrame, frame_facts}
+use Rattle.packet_view.specs.Frames.{frame_facts}
 use Rattle.acl_policy.specs.Policies.{PolicyFacts}
 use Rattle.flow_filter.specs.Filters.{policy_in}
+use Rattle.flow_filter.specs.Readings.{IsSeenAt}
 use Rattle.flow_dealing.specs.Dealings.{flow_shown}
 use Rattle.flow_workers.specs.Judging.{TookByOneTry}
 use Rattle.flow_workers.specs.Verdicts.{HasNoVerdict, HasVerdict, ShowsOutOfPages}
@@ -38,7 +39,7 @@ returns g c =
       lone = tells.lone;
       settled = λ has.
           let own = ap (λ (p : PolicyFacts). p.own) (sym c.ready-filter.ensures.policy) in
-          let framed = subst (λ o. IsFrame c.args.packet.now.frame.now o has.view) own has.framed in
+          let framed = subst (λ o. IsSeenAt o packet has.view) own has.framed in
           tells.settled (ap (λ f. flow_shown (frame_facts f)) c.new-packet.ensures.frame
           ∙ (ap flow_shown (sym (c.view-frame.ensures.only has.view framed)) ∙ has.shown));
     }

@@ -1,5 +1,6 @@
 use Rattle.std.proofs.Common.{◌≡◌, ◌∙◌, ◌+◌, ap, subst, sym, arith, drop, length}
 use Rattle.std.proofs.lemmas.List.{length_push}
+use Rattle.packet_view.specs.Captures.{packet_facts}
 use Rattle.packet_view.specs.CheckedCaptures.{held}
 use Rattle.packet_dealing.specs.Dealt.{IsDealtTo}
 use Rattle.packet_dealing.proofs.DealtLists.{left_behind, next_there, some_left}
@@ -39,7 +40,7 @@ loop-at-preserved g c =
           c.dealt_to-worker.result c.in-Some.packet c.dealt_to-worker.ensures.one inv.dealt
           (next_there (held job.packets) _ job.first (length part.workers.items) _
           (ap (λ n. drop n (held job.packets)) counted ∙ taken))
-          (subst (λ n. IsDealtTo g.A.Shape g.B.Shape job.dealer n c.in-Some.packet.frame.now c.dealt_to-worker.result)
+          (subst (λ n. IsDealtTo g.A.Shape g.B.Shape job.dealer n (packet_facts c.in-Some.packet) c.dealt_to-worker.result)
           (let e : job.number + c.loop-at.at ≡ job.number + job.first + length part.workers.items = omega arith in e)
           c.dealt_to-worker.ensures.dealt)
           c.in_ok-hand.ensures;

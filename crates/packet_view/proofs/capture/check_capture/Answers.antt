@@ -13,7 +13,7 @@ header c = record {
 }
 
 checks : (c : After-check_records) → Checks c.in_ok-order.order (drop 24 c.args.bytes.now) c.check_records.result
-checks c = subst (λ (bytes : List ℕ). Checks c.in_ok-order.order bytes c.check_records.result) (take_rest c.args.bytes.now 24) c.check_records.ensures
+checks c = subst (λ (bytes : List ℕ). Checks c.in_ok-order.order bytes c.check_records.result) (take_rest c.args.bytes.now 24) c.check_records.ensures.checks
 
 pub returns-clause-ok : goal.returns-clause-ok
 returns-clause-ok c = checks_ok c.in_ok-order.order c.args.bytes.now (header c) c.check_records.result (checks c)

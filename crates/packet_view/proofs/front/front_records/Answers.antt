@@ -1,7 +1,7 @@
 use Rattle.std.proofs.Common.{◌≡◌, ◌∙◌, ◌-◌, [], ap, arith, drop, length, lit≤, refl, subst, sym}
-use Rattle.packet_view.specs.Captures.{IsPiece, PacketFacts}
+use Rattle.packet_view.specs.Captures.{IsPiece, RecordFacts}
 use Rattle.packet_view.specs.Fronts.{Stops}
-use Rattle.packet_view.specs.RecordLists.{bytes_of, front_packet}
+use Rattle.packet_view.specs.RecordLists.{bytes_of, front_record}
 use Rattle.packet_view.proofs.RecordLemmas.{part_shown}
 use Rattle.packet_view.proofs.RecordListLemmas.{before_few, before_listed, before_more}
 use Rattle.packet_view.proofs.front.front_records.Goals as goal
@@ -19,7 +19,7 @@ pub records-preserved-in-Some : goal.records-preserved-in-Some
 records-preserved-in-Some c =
     let rest = c.records.rest.now in
     let front = subst (IsPiece c.args.order rest) c.in-Some.ensures (part_shown c.args.order rest) in (
-      before_more c.args.order (front_packet c.args.order rest) c.in-Some.behind.now c.args.bytes.now rest
+      before_more c.args.order (front_record c.args.order rest) c.in-Some.behind.now c.args.bytes.now rest
           c.records.count c.records.invariant.0 front,
       c.records.invariant.1,
     )
@@ -31,7 +31,7 @@ overflow_add-count-in-Whole c =
 
 pub records-preserved : goal.records-preserved
 records-preserved c =
-    let packet : PacketFacts = record { moment = c.in-Whole.moment; frame = c.in-Whole.frame.now } in (
+    let packet : RecordFacts = record { moment = c.in-Whole.moment; frame = c.in-Whole.frame.now } in (
       before_more c.args.order packet c.in-Whole.behind.now c.args.bytes.now c.records.rest.now c.records.count
           c.records.invariant.0 c.in-Whole.ensures.shown,
       c.in-Whole.ensures.shown.2.limit,

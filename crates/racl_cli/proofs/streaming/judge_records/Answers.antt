@@ -1,5 +1,6 @@
 use Rattle.std.proofs.Common.{◌∙◌, Err, ap, inl, refl, subst}
 use Rattle.std.proofs.lemmas.Result.{err_from_is_err_and}
+use Rattle.packet_view.specs.Captures.{packets_at}
 use Rattle.acl_policy.specs.Policies.{policy_facts}
 use Rattle.flow_dealing.specs.Runs.{AreJudged, HavePages}
 use Rattle.flow_dealing.proofs.FewPackets.{pages_for_few}
@@ -25,9 +26,9 @@ returns-clause-ok g c =
     let policy = policy_facts filter.policy in
     let verdicts = c.in-Ok-end.verdicts.items in
     let workers = c.plan_for-expected.result.1 in
-    let judged : AreJudged (dealt_to workers) filter.times policy s.packets verdicts =
-    judged_alike _ s.packets verdicts _ _ _ _ c.ready_with.ensures.times c.ready_with.ensures.policy
-    (said_by _ _ _ _ s.packets verdicts (s.judged.1.setup ∙ c.in-Ok-new.ensures.by) s.judged.1.rest c.in-Ok-end.ensures) in
+    let judged : AreJudged (dealt_to workers) filter.times policy (packets_at 0 s.packets) verdicts =
+    judged_alike _ (packets_at 0 s.packets) verdicts _ _ _ _ c.ready_with.ensures.times c.ready_with.ensures.policy
+    (said_by _ _ _ _ (packets_at 0 s.packets) verdicts (s.judged.1.setup ∙ c.in-Ok-new.ensures.by) s.judged.1.rest c.in-Ok-end.ensures) in
     record {
       read = s.read;
       whole = s.whole;
@@ -37,10 +38,10 @@ returns-clause-ok g c =
       end = s.end;
       reached = record {
         by_workers =
-            given_by_workers options filter.times policy s.packets verdicts workers c.requires.may.times c.plan_for-expected.ensures.some c.plan_for-expected.ensures.few judged
+            given_by_workers options filter.times policy (packets_at 0 s.packets) verdicts workers c.requires.may.times c.plan_for-expected.ensures.some c.plan_for-expected.ensures.few judged
             (pages_for_few _ _ _ _ _);
         by_one_thread =
-            subst (λ times. HavePages verdicts → ByOneThread times policy s.packets verdicts) c.requires.may.times
+            subst (λ times. HavePages verdicts → ByOneThread times policy (packets_at 0 s.packets) verdicts) c.requires.may.times
             (one_report _ _ _ _ _ judged (inl refl));
         ends = refl;
       };

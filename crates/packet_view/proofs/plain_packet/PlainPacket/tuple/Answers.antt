@@ -3,8 +3,8 @@ use Rattle.packet_view.specs.PlainFrames.{ArePortsOf}
 use Rattle.packet_view.proofs.plain_packet.PlainPacket.tuple.Goals as goal
 use Rattle.packet_view.proofs.plain_packet.PlainPacket.tuple.Goals.{else-self-eq6, then-self-eq6}
 
-pub returns : goal.returns
-returns c = record {
+pub returns-clause-says : goal.returns-clause-says
+returns-clause-says c = record {
   family = refl;
   source = c.from.ensures;
   dest = c.from-2.ensures;

@@ -1,3 +1,5 @@
+use Rattle.std.proofs.Common.{ap}
+use Rattle.packet_view.specs.Captures.{packets_at}
 use Rattle.packet_view.proofs.RecordListLemmas.{front_packets, others_whole}
 use Rattle.packet_view.proofs.records.Records.take.Goals as goal
 
@@ -13,4 +15,4 @@ pub returns : goal.returns
 returns c =
     let before = c.args.self.now in
     rw (c.front_of.ensures.packet, c.front_of.ensures.behind)
-    (front_packets before.order before.count before.bytes.now c.requires.some)
+    (ap (packets_at before.interface) (front_packets before.order before.count before.bytes.now c.requires.some))
