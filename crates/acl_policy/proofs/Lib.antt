@@ -15,6 +15,8 @@ pub mod RangeLaws
 pub mod ReadingLaws
 pub mod RulingLaws
 pub mod RulingLemmas
+pub mod SectionLaws
+pub mod SectionLemmas
 pub mod TextLaws
 pub mod TrafficLaws
 pub mod WordLemmas

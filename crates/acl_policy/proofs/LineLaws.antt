@@ -1,22 +1,24 @@
 -- A line is read as the grammar says.
-use Rattle.std.proofs.Common.{◌≡◌, ℕ, false, List, [], ◌∷◌, Some, None, refl, sym, ap, ◌∙◌, subst, inl, inr}
+use Rattle.std.proofs.Common.{◌≡◌, ℕ, ◌==◌, false, List, [], ◌∷◌, Some, None, refl, sym, ap, ◌∙◌, subst, inl, inr}
 use Rattle.std.specs.Prelude.{codes}
 use Rattle.std.specs.Str.{bytes_eq}
+use Rattle.std.proofs.lemmas.Bool.{both_ways, eq-eqb, ne_eqb}
 use Rattle.packet_view.specs.declared.tuple.Direction.{Direction}
 use Rattle.packet_view.specs.declared.tuple.Direction.TheVariants.{Inbound, Outbound}
 use Rattle.packet_view.specs.declared.tuple.Family.{Family}
 use Rattle.packet_view.specs.declared.tuple.Family.TheVariants.{V4, V6}
 use Rattle.acl_policy.specs.declared.rule.Action.{Action}
 use Rattle.acl_policy.specs.declared.rule.Action.TheVariants.{Deny, Permit, Reflect}
-use Rattle.acl_policy.specs.Lines.{Blank, IsLine, LineFacts, Own, Ruled, Say, action_word, direction_word, family_word, traffic_of}
+use Rattle.acl_policy.specs.Lines.{Begins, Blank, IsInterface, IsLine, LineFacts, Own, Ruled, Say, action_word, direction_word, family_word, traffic_of}
 use Rattle.acl_policy.specs.inner.Reading.{next_in}
-use Rattle.acl_policy.specs.inner.Reading.Lines.{action_in, direction_in, ends_in, family_in, head_in, line_in, own_line_in, rule_line_in, said_in}
+use Rattle.acl_policy.specs.inner.Reading.Lines.{action_in, direction_in, ends_in, family_in, head_in, heading_in, interface_in, line_in, own_line_in, rule_line_in, said_in}
 use Rattle.acl_policy.specs.inner.Reading.Prefixes.{mac_in, prefix_in}
-use Rattle.acl_policy.specs.inner.Reading.Traffic.{traffic_in}
+use Rattle.acl_policy.specs.inner.Reading.Traffic.{number_up_to_in, traffic_in}
 use Rattle.acl_policy.specs.Words.{without_comment, words_of}
 use Rattle.acl_policy.proofs.OptionLemmas.{bind_some, bytes_eq-true, chosen, if_last-some, next_in-some, same_some}
 use Rattle.acl_policy.proofs.PieceLaws.{mac_in-complete, mac_in-sound}
 use Rattle.acl_policy.proofs.PrefixLaws.{prefix_in-complete, prefix_in-sound}
+use Rattle.acl_policy.proofs.RangeLaws.{number_up_to-complete, number_up_to-sound}
 use Rattle.acl_policy.proofs.TrafficLaws.{traffic_in-complete, traffic_in-sound}
 
 direction_in-sound : (word : List ℕ) (direction : Direction) → direction_in word ≡ Some direction → word ≡ direction_word direction
@@ -129,31 +131,69 @@ own_line_in-sound words reading found =
       mac_in-sound one.0.0 mac.0 mac.1,
     )
 
+interface_in-sound : (word : List ℕ) (number : ℕ) → interface_in word ≡ Some number → IsInterface word number
+unfolding interface_in
+interface_in-sound word number found =
+    let read = bind_some (number_up_to_in 255 word) _ number found in
+    let is = number_up_to-sound 255 word read.0 read.1 in
+    elim (chosen (read.0 == 0) None (Some read.0) (Some number) read.2) [
+      | inl zero ↦ let never = zero.1 in absurd (cc)
+      | inr some ↦
+          let same = same_some read.0 number some.1 in
+          subst (IsInterface word) same (is.0, is.1, λ zero. both_ways (read.0 == 0) some.0 (eq-eqb read.0 0 zero))
+    ]
+
+interface_in-complete : (word : List ℕ) (number : ℕ) → IsInterface word number → interface_in word ≡ Some number
+unfolding interface_in
+interface_in-complete word number (spelt, few, some) =
+    rw (number_up_to-complete 255 word number spelt few, ne_eqb number 0 some) refl
+
+heading_in-sound : (words : List (List ℕ)) (reading : LineFacts) → heading_in words ≡ Some reading → Say (codes "interface" ∷ words) reading
+unfolding heading_in
+heading_in-sound words reading found =
+    let one = bind_some (next_in words) _ reading found in
+    let number = bind_some (interface_in one.0.0) _ reading one.2 in
+    let last = if_last-some (Begins number.0) reading one.0.1 number.2 in
+    subst (Say (codes "interface" ∷ words)) last.1 (
+      one.0.0,
+      ap (λ (ws : List (List ℕ)). codes "interface" ∷ ws) (next_is words one.0 one.1 ∙ ap (λ (ws : List (List ℕ)). one.0.0 ∷ ws) last.0),
+      interface_in-sound one.0.0 number.0 number.1,
+    )
+
 said_in-sound : (words : List (List ℕ)) (reading : LineFacts) → said_in words ≡ Some reading → Say words reading
 unfolding said_in
 said_in-sound [] reading found = subst (Say []) (same_some Blank reading found) refl
-said_in-sound (word ∷ words) reading found = elim (chosen (bytes_eq word (codes "mac")) (own_line_in words) (rule_line_in (word ∷ words)) (Some reading) found) [
+said_in-sound (word ∷ words) reading found = elim (chosen (bytes_eq word (codes "mac")) (own_line_in words) _ (Some reading) found) [
   | inl own ↦ subst (λ (w : List ℕ). Say (w ∷ words) reading) (sym (bytes_eq-true word (codes "mac") own.0)) (own_line_in-sound words reading own.1)
-  | inr rule ↦ rule_line_in-sound (word ∷ words) reading rule.1
+  | inr rest ↦ elim (chosen (bytes_eq word (codes "interface")) (heading_in words) (rule_line_in (word ∷ words)) (Some reading) rest.1) [
+    | inl begins ↦ subst (λ (w : List ℕ). Say (w ∷ words) reading) (sym (bytes_eq-true word (codes "interface") begins.0)) (heading_in-sound words reading begins.1)
+    | inr rule ↦ rule_line_in-sound (word ∷ words) reading rule.1
+  ]
 ]
 
 pub line_in-sound : (line : List ℕ) (reading : LineFacts) → line_in line ≡ Some reading → IsLine line reading
 unfolding line_in
 line_in-sound line reading found = said_in-sound (words_of (without_comment line)) reading found
 
--- the word of a direction is not "mac"
+-- the word of a direction is not "mac", nor "interface"
 direction_no_mac : (direction : Direction) → bytes_eq (direction_word direction) (codes "mac") ≡ false
 direction_no_mac Inbound = refl
 direction_no_mac Outbound = refl
 
+direction_no_interface : (direction : Direction) → bytes_eq (direction_word direction) (codes "interface") ≡ false
+direction_no_interface Inbound = refl
+direction_no_interface Outbound = refl
+
 said_in-complete : (words : List (List ℕ)) (reading : LineFacts) → Say words reading → said_in words ≡ Some reading
-unfolding said_in own_line_in rule_line_in ends_in
+unfolding said_in own_line_in heading_in rule_line_in ends_in
 said_in-complete words Blank says = ap said_in says
+said_in-complete words (Begins number) (digits, split, is) = ap said_in split ∙ rw (interface_in-complete digits number is) refl
 said_in-complete words (Own mac) (address, split, is) = ap said_in split ∙ rw (mac_in-complete address mac is) refl
 said_in-complete words (Ruled direction rule) (source, dest, rest, split, is_source, is_dest, traffic) =
     ap said_in split
     ∙ rw (
       direction_no_mac direction,
+      direction_no_interface direction,
       head_in-complete direction rule.action rule.family (source ∷ dest ∷ rest),
       prefix_in-complete rule.family source rule.source is_source,
       prefix_in-complete rule.family dest rule.dest is_dest,

@@ -11,12 +11,13 @@ use Rattle.packet_view.specs.declared.tuple.Direction.TheVariants.{Inbound, Outb
 use Rattle.packet_view.specs.declared.tuple.Mac.{Mac}
 use Rattle.acl_policy.specs.declared.policy.PolicyFault.{PolicyFault}
 use Rattle.acl_policy.specs.declared.policy.PolicyFault.TheVariants.{Memory, NotUtf8, BadLine, TooMany}
-use Rattle.acl_policy.specs.Lines.{Blank, IsLine, LineFacts, Own, Ruled}
-use Rattle.acl_policy.specs.Policies.{AreLines, HasRule, IsOnly, IsSurplus, IsWrong, PolicyFacts, AreLinesOf, own_in, rule_in, rules_of}
+use Rattle.acl_policy.specs.Lines.{Begins, Blank, IsLine, LineFacts, Own, Ruled}
+use Rattle.acl_policy.specs.Policies.{AreLines, IsOnly, IsSurplus, IsWrong, PolicyFacts, AreLinesOf, SayPolicy, SectionFacts, begun_in, empty_section, numbers_of, own_in, rule_in, rules_of}
 use Rattle.acl_policy.specs.inner.Reading.Lines.{line_in}
-use Rattle.acl_policy.specs.inner.Reading.Policies.{Fails, HasRoom, LinesFail, line_added, rule_added, with_inbound, with_outbound}
+use Rattle.acl_policy.specs.inner.Reading.Policies.{DraftFacts, Fails, LinesFail, is_among, line_added, policy_so_far, rule_added, with_inbound, with_outbound}
 use Rattle.acl_policy.specs.Rules.{RuleFacts, most_rules}
 use Rattle.acl_policy.proofs.LineLaws.{line_in-complete, line_in-sound}
+use Rattle.acl_policy.proofs.SectionLemmas.{among_false, among_true, begun_after, grown, last_says}
 
 AreLines-push : (texts : List (List ℕ)) (readings : List LineFacts) (line : List ℕ) (reading : LineFacts)
     → AreLines texts readings → IsLine line reading → AreLines (texts ++ line ∷ []) (readings ++ reading ∷ [])
@@ -32,18 +33,27 @@ more_rules : (direction : Direction) (rules : List RuleFacts) (readings : List L
 more_rules direction rules readings reading are =
     ap (λ (rs : List RuleFacts). rs ++ cons_option (rule_in direction reading) []) are ∙ sym (filter_map-append (rule_in direction) readings (reading ∷ []))
 
--- One line more, with what it says of the policy.
-AreLinesOf-push : (texts : List (List ℕ)) (line : List ℕ) (reading : LineFacts) (policy next : PolicyFacts) → (reads : AreLinesOf texts policy) → IsLine line reading
-    → IsOnly (filter_map own_in (reads.readings ++ reading ∷ [])) next.own
-    → next.inbound ≡ policy.inbound ++ cons_option (rule_in Inbound reading) []
-    → next.outbound ≡ policy.outbound ++ cons_option (rule_in Outbound reading) []
+-- a line that begins no section leaves one section
+still_one : (readings : List LineFacts) (reading : LineFacts) → begun_in reading ≡ None
+    → filter_map begun_in readings ≡ [] → filter_map begun_in (readings ++ reading ∷ []) ≡ []
+still_one readings reading none one =
+    filter_map-append begun_in readings (reading ∷ [])
+    ∙ ap (λ (ns : List ℕ). ns ++ cons_option (begun_in reading) []) one
+    ∙ ap (λ (n : Option ℕ). cons_option n []) none
+
+-- One line more, with what it says of the section.
+AreLinesOf-push : (texts : List (List ℕ)) (line : List ℕ) (reading : LineFacts) (section next : SectionFacts) → (reads : AreLinesOf texts section) → IsLine line reading
+    → begun_in reading ≡ None → IsOnly (filter_map own_in (reads.readings ++ reading ∷ [])) next.own
+    → next.inbound ≡ section.inbound ++ cons_option (rule_in Inbound reading) []
+    → next.outbound ≡ section.outbound ++ cons_option (rule_in Outbound reading) []
     → length next.inbound ≤ most_rules → length next.outbound ≤ most_rules → AreLinesOf (texts ++ line ∷ []) next
-AreLinesOf-push texts line reading policy next reads is own inbound outbound inbound_fits outbound_fits = record {
+AreLinesOf-push texts line reading section next reads is none own inbound outbound inbound_fits outbound_fits = record {
   readings = reads.readings ++ reading ∷ [];
   lines = AreLines-push texts reads.readings line reading reads.lines is;
+  one = still_one reads.readings reading none reads.one;
   own = own;
-  inbound = inbound ∙ more_rules Inbound policy.inbound reads.readings reading reads.inbound;
-  outbound = outbound ∙ more_rules Outbound policy.outbound reads.readings reading reads.outbound;
+  inbound = inbound ∙ more_rules Inbound section.inbound reads.readings reading reads.inbound;
+  outbound = outbound ∙ more_rules Outbound section.outbound reads.readings reading reads.outbound;
   inbound_fits = inbound_fits;
   outbound_fits = outbound_fits;
 }
@@ -88,117 +98,142 @@ rule_added-err number rules rule fault added = elim (cases_Bool (nat_le most_rul
       absurd (cc)
 ]
 
-with_inbound-ok : (policy next : PolicyFacts) (rules : Result (List RuleFacts) PolicyFault) → with_inbound policy rules ≡ Ok next
-    → (inbound : List RuleFacts) × (rules ≡ Ok inbound) × (next ≡ record policy { inbound = inbound })
-with_inbound-ok policy next (Ok inbound) added = (inbound, refl, cc)
-with_inbound-ok policy next (Err fault) added = absurd (cc)
+with_inbound-ok : (draft next : DraftFacts) (rules : Result (List RuleFacts) PolicyFault) → with_inbound draft rules ≡ Ok next
+    → (inbound : List RuleFacts) × (rules ≡ Ok inbound) × (next ≡ record { done = draft.done; current = record draft.current { inbound = inbound } })
+with_inbound-ok draft next (Ok inbound) added = (inbound, refl, cc)
+with_inbound-ok draft next (Err fault) added = absurd (cc)
 
-with_outbound-ok : (policy next : PolicyFacts) (rules : Result (List RuleFacts) PolicyFault) → with_outbound policy rules ≡ Ok next
-    → (outbound : List RuleFacts) × (rules ≡ Ok outbound) × (next ≡ record policy { outbound = outbound })
-with_outbound-ok policy next (Ok outbound) added = (outbound, refl, cc)
-with_outbound-ok policy next (Err fault) added = absurd (cc)
+with_outbound-ok : (draft next : DraftFacts) (rules : Result (List RuleFacts) PolicyFault) → with_outbound draft rules ≡ Ok next
+    → (outbound : List RuleFacts) × (rules ≡ Ok outbound) × (next ≡ record { done = draft.done; current = record draft.current { outbound = outbound } })
+with_outbound-ok draft next (Ok outbound) added = (outbound, refl, cc)
+with_outbound-ok draft next (Err fault) added = absurd (cc)
 
-with_inbound-err : (policy : PolicyFacts) (rules : Result (List RuleFacts) PolicyFault) (fault : PolicyFault) → with_inbound policy rules ≡ Err fault → rules ≡ Err fault
-with_inbound-err policy (Ok inbound) fault added = absurd (cc)
-with_inbound-err policy (Err other) fault added = cc
+with_inbound-err : (draft : DraftFacts) (rules : Result (List RuleFacts) PolicyFault) (fault : PolicyFault) → with_inbound draft rules ≡ Err fault → rules ≡ Err fault
+with_inbound-err draft (Ok inbound) fault added = absurd (cc)
+with_inbound-err draft (Err other) fault added = cc
 
-with_outbound-err : (policy : PolicyFacts) (rules : Result (List RuleFacts) PolicyFault) (fault : PolicyFault) → with_outbound policy rules ≡ Err fault → rules ≡ Err fault
-with_outbound-err policy (Ok outbound) fault added = absurd (cc)
-with_outbound-err policy (Err other) fault added = cc
+with_outbound-err : (draft : DraftFacts) (rules : Result (List RuleFacts) PolicyFault) (fault : PolicyFault) → with_outbound draft rules ≡ Err fault → rules ≡ Err fault
+with_outbound-err draft (Ok outbound) fault added = absurd (cc)
+with_outbound-err draft (Err other) fault added = cc
 
 -- What is added to the policy of some lines is what one line more says.
-line_added-ok : (number : ℕ) (texts : List (List ℕ)) (line : List ℕ) (policy next : PolicyFacts) (said : Option LineFacts)
-    → line_in line ≡ said → AreLinesOf texts policy → line_added number policy said ≡ Ok next → AreLinesOf (texts ++ line ∷ []) next
-line_added-ok number texts line policy next None found reads added = absurd (cc)
-line_added-ok number texts line policy next (Some Blank) found reads added =
-    let same : policy ≡ next = cc in
-    subst (λ (p : PolicyFacts). AreLinesOf (texts ++ line ∷ []) p) same
-    (AreLinesOf-push texts line Blank policy policy reads (line_in-sound line Blank found) (same_own policy.own reads.readings Blank refl reads.own)
-    (sym (append-nil policy.inbound)) (sym (append-nil policy.outbound)) reads.inbound_fits reads.outbound_fits)
-line_added-ok number texts line policy next (Some (Own mac)) found reads added = elim (cases_Bool (is_some policy.own)) [
-  | inl second ↦
-      let fault : line_added number policy (Some (Own mac)) ≡ Err (BadLine number) = rw second refl in
-      absurd (cc)
-  | inr none ↦
-      let named : line_added number policy (Some (Own mac)) ≡ Ok (record policy { own = Some mac }) = rw none refl in
-      let same : record policy { own = Some mac } ≡ next = cc in
-      subst (λ (p : PolicyFacts). AreLinesOf (texts ++ line ∷ []) p) same
-      (AreLinesOf-push texts line (Own mac) policy (record policy { own = Some mac }) reads (line_in-sound line (Own mac) found) (first_own policy.own reads.readings mac none reads.own)
-      (sym (append-nil policy.inbound)) (sym (append-nil policy.outbound)) reads.inbound_fits reads.outbound_fits)
-]
-line_added-ok number texts line policy next (Some (Ruled Inbound rule)) found reads added =
-    let more = with_inbound-ok policy next (rule_added number policy.inbound rule) added in
-    let rules = rule_added-ok number policy.inbound more.0 rule more.1 in
-    subst (λ (p : PolicyFacts). AreLinesOf (texts ++ line ∷ []) p) (sym more.2)
-    (AreLinesOf-push texts line (Ruled Inbound rule) policy (record policy { inbound = more.0 }) reads (line_in-sound line (Ruled Inbound rule) found)
-    (same_own policy.own reads.readings (Ruled Inbound rule) refl reads.own) rules.0 (sym (append-nil policy.outbound)) rules.1 reads.outbound_fits)
-line_added-ok number texts line policy next (Some (Ruled Outbound rule)) found reads added =
-    let more = with_outbound-ok policy next (rule_added number policy.outbound rule) added in
-    let rules = rule_added-ok number policy.outbound more.0 rule more.1 in
-    subst (λ (p : PolicyFacts). AreLinesOf (texts ++ line ∷ []) p) (sym more.2)
-    (AreLinesOf-push texts line (Ruled Outbound rule) policy (record policy { outbound = more.0 }) reads (line_in-sound line (Ruled Outbound rule) found)
-    (same_own policy.own reads.readings (Ruled Outbound rule) refl reads.own) (sym (append-nil policy.inbound)) rules.0 reads.inbound_fits rules.1)
+line_added-ok : (number : ℕ) (texts : List (List ℕ)) (line : List ℕ) (draft next : DraftFacts) (said : Option LineFacts)
+    → line_in line ≡ said → SayPolicy texts (policy_so_far draft) → line_added number draft said ≡ Ok next
+    → SayPolicy (texts ++ line ∷ []) (policy_so_far next)
+line_added-ok number texts line draft next None found reads added = absurd (cc)
+line_added-ok number texts line draft next (Some Blank) found reads added =
+    let section = draft.current in
+    let same : draft ≡ next = cc in
+    subst (λ (d : DraftFacts). SayPolicy (texts ++ line ∷ []) (policy_so_far d)) same
+    (grown texts line draft.done section section refl
+    (λ ls of. AreLinesOf-push ls line Blank section section of (line_in-sound line Blank found) refl (same_own section.own of.readings Blank refl of.own)
+    (sym (append-nil section.inbound)) (sym (append-nil section.outbound)) of.inbound_fits of.outbound_fits) reads)
+line_added-ok number texts line draft next (Some (Begins interface)) found reads added =
+    let sections = (policy_so_far draft).sections in
+    elim (cases_Bool (is_among interface (numbers_of sections))) [
+      | inl second ↦
+          let fault : line_added number draft (Some (Begins interface)) ≡ Err (BadLine number) = rw second refl in
+          absurd (cc)
+      | inr first ↦
+          let begun : line_added number draft (Some (Begins interface)) ≡ Ok (record { done = sections; current = empty_section interface }) = rw first refl in
+          let same : record { done = sections; current = empty_section interface } ≡ next = cc in
+          subst (λ (d : DraftFacts). SayPolicy (texts ++ line ∷ []) (policy_so_far d)) same
+          (begun_after texts line sections interface (line_in-sound line (Begins interface) found) (among_false interface (numbers_of sections) first) reads)
+    ]
+line_added-ok number texts line draft next (Some (Own mac)) found reads added =
+    let section = draft.current in
+    let named : SectionFacts = record section { own = Some mac } in
+    elim (cases_Bool (is_some section.own)) [
+      | inl second ↦
+          let fault : line_added number draft (Some (Own mac)) ≡ Err (BadLine number) = rw second refl in
+          absurd (cc)
+      | inr none ↦
+          let is_named : line_added number draft (Some (Own mac)) ≡ Ok (record { done = draft.done; current = named }) = rw none refl in
+          let same : record { done = draft.done; current = named } ≡ next = cc in
+          subst (λ (d : DraftFacts). SayPolicy (texts ++ line ∷ []) (policy_so_far d)) same
+          (grown texts line draft.done section named refl
+          (λ ls of. AreLinesOf-push ls line (Own mac) section named of (line_in-sound line (Own mac) found) refl (first_own section.own of.readings mac none of.own)
+          (sym (append-nil section.inbound)) (sym (append-nil section.outbound)) of.inbound_fits of.outbound_fits) reads)
+    ]
+line_added-ok number texts line draft next (Some (Ruled Inbound rule)) found reads added =
+    let section = draft.current in
+    let more = with_inbound-ok draft next (rule_added number section.inbound rule) added in
+    let rules = rule_added-ok number section.inbound more.0 rule more.1 in
+    subst (λ (d : DraftFacts). SayPolicy (texts ++ line ∷ []) (policy_so_far d)) (sym more.2)
+    (grown texts line draft.done section (record section { inbound = more.0 }) refl
+    (λ ls of. AreLinesOf-push ls line (Ruled Inbound rule) section (record section { inbound = more.0 }) of (line_in-sound line (Ruled Inbound rule) found) refl
+    (same_own section.own of.readings (Ruled Inbound rule) refl of.own) rules.0 (sym (append-nil section.outbound)) rules.1 of.outbound_fits) reads)
+line_added-ok number texts line draft next (Some (Ruled Outbound rule)) found reads added =
+    let section = draft.current in
+    let more = with_outbound-ok draft next (rule_added number section.outbound rule) added in
+    let rules = rule_added-ok number section.outbound more.0 rule more.1 in
+    subst (λ (d : DraftFacts). SayPolicy (texts ++ line ∷ []) (policy_so_far d)) (sym more.2)
+    (grown texts line draft.done section (record section { outbound = more.0 }) refl
+    (λ ls of. AreLinesOf-push ls line (Ruled Outbound rule) section (record section { outbound = more.0 }) of (line_in-sound line (Ruled Outbound rule) found) refl
+    (same_own section.own of.readings (Ruled Outbound rule) refl of.own) (sym (append-nil section.inbound)) rules.0 of.inbound_fits rules.1) reads)
 
-pub AreLinesOf-line_added : (number : ℕ) (texts : List (List ℕ)) (line : List ℕ) (policy next : PolicyFacts)
-    → AreLinesOf texts policy → line_added number policy (line_in line) ≡ Ok next → AreLinesOf (texts ++ line ∷ []) next
-AreLinesOf-line_added number texts line policy next reads added = line_added-ok number texts line policy next (line_in line) refl reads added
+pub SayPolicy-line_added : (number : ℕ) (texts : List (List ℕ)) (line : List ℕ) (draft next : DraftFacts)
+    → SayPolicy texts (policy_so_far draft) → line_added number draft (line_in line) ≡ Ok next → SayPolicy (texts ++ line ∷ []) (policy_so_far next)
+SayPolicy-line_added number texts line draft next reads added = line_added-ok number texts line draft next (line_in line) refl reads added
 
 -- the fault of a line after a policy
 abbrev pub IsFaultAt : PolicyFault → PolicyFacts → List ℕ → ℕ → Type 0
 IsFaultAt fault policy line number = ((fault ≡ BadLine number) × IsWrong policy line) ⊎ ((fault ≡ TooMany number) × IsSurplus policy line)
 
-full : (texts : List (List ℕ)) (policy : PolicyFacts) → AreLinesOf texts policy → (direction : Direction) → most_rules ≤ length (rules_of direction policy)
-    → length (rules_of direction policy) ≡ most_rules
-full texts policy reads Inbound many = le_antisymm reads.inbound_fits many
-full texts policy reads Outbound many = le_antisymm reads.outbound_fits many
+full : (lines : List (List ℕ)) (section : SectionFacts) → AreLinesOf lines section → (direction : Direction) → most_rules ≤ length (rules_of direction section)
+    → length (rules_of direction section) ≡ most_rules
+full lines section of Inbound many = le_antisymm of.inbound_fits many
+full lines section of Outbound many = le_antisymm of.outbound_fits many
 
-pub line_added-err : (number : ℕ) (texts : List (List ℕ)) (line : List ℕ) (policy : PolicyFacts) (fault : PolicyFault) (said : Option LineFacts)
-    → line_in line ≡ said → AreLinesOf texts policy → line_added number policy said ≡ Err fault → IsFaultAt fault policy line number
-line_added-err number texts line policy fault None found reads added =
+pub line_added-err : (number : ℕ) (texts : List (List ℕ)) (line : List ℕ) (draft : DraftFacts) (fault : PolicyFault) (said : Option LineFacts)
+    → line_in line ≡ said → SayPolicy texts (policy_so_far draft) → line_added number draft said ≡ Err fault → IsFaultAt fault (policy_so_far draft) line number
+line_added-err number texts line draft fault None found reads added =
     inl (cc, inl (λ reading is. let other = line_in-complete line reading is in cc))
-line_added-err number texts line policy fault (Some Blank) found reads added = absurd (cc)
-line_added-err number texts line policy fault (Some (Own mac)) found reads added = elim (cases_Bool (is_some policy.own)) [
+line_added-err number texts line draft fault (Some Blank) found reads added = absurd (cc)
+line_added-err number texts line draft fault (Some (Begins interface)) found reads added =
+    let sections = (policy_so_far draft).sections in
+    elim (cases_Bool (is_among interface (numbers_of sections))) [
+      | inl second ↦
+          let wrong : line_added number draft (Some (Begins interface)) ≡ Err (BadLine number) = rw second refl in
+          inl (cc, inr (inr (interface, line_in-sound line (Begins interface) found, among_true interface (numbers_of sections) second)))
+      | inr first ↦
+          let begun : line_added number draft (Some (Begins interface)) ≡ Ok (record { done = sections; current = empty_section interface }) = rw first refl in
+          absurd (cc)
+    ]
+line_added-err number texts line draft fault (Some (Own mac)) found reads added = elim (cases_Bool (is_some draft.current.own)) [
   | inl second ↦
-      let wrong : line_added number policy (Some (Own mac)) ≡ Err (BadLine number) = rw second refl in
-      inl (cc, inr (mac, line_in-sound line (Own mac) found, second))
+      let wrong : line_added number draft (Some (Own mac)) ≡ Err (BadLine number) = rw second refl in
+      inl (cc, inr (inl (mac, draft.current, line_in-sound line (Own mac) found, (draft.done, refl), second)))
   | inr none ↦
-      let named : line_added number policy (Some (Own mac)) ≡ Ok (record policy { own = Some mac }) = rw none refl in
+      let named : line_added number draft (Some (Own mac)) ≡ Ok (record { done = draft.done; current = record draft.current { own = Some mac } }) = rw none refl in
       absurd (cc)
 ]
-line_added-err number texts line policy fault (Some (Ruled Inbound rule)) found reads added =
-    let many = rule_added-err number policy.inbound rule fault (with_inbound-err policy (rule_added number policy.inbound rule) fault added) in
-    inr (many.0, (Inbound, rule, line_in-sound line (Ruled Inbound rule) found, full texts policy reads Inbound many.1))
-line_added-err number texts line policy fault (Some (Ruled Outbound rule)) found reads added =
-    let many = rule_added-err number policy.outbound rule fault (with_outbound-err policy (rule_added number policy.outbound rule) fault added) in
-    inr (many.0, (Outbound, rule, line_in-sound line (Ruled Outbound rule) found, full texts policy reads Outbound many.1))
+line_added-err number texts line draft fault (Some (Ruled Inbound rule)) found reads added =
+    let many = rule_added-err number draft.current.inbound rule fault (with_inbound-err draft (rule_added number draft.current.inbound rule) fault added) in
+    let (lines, of) = last_says texts draft.done draft.current reads in
+    inr (many.0, (Inbound, rule, draft.current, line_in-sound line (Ruled Inbound rule) found, (draft.done, refl), full lines draft.current of Inbound many.1))
+line_added-err number texts line draft fault (Some (Ruled Outbound rule)) found reads added =
+    let many = rule_added-err number draft.current.outbound rule fault (with_outbound-err draft (rule_added number draft.current.outbound rule) fault added) in
+    let (lines, of) = last_says texts draft.done draft.current reads in
+    inr (many.0, (Outbound, rule, draft.current, line_in-sound line (Ruled Outbound rule) found, (draft.done, refl), full lines draft.current of Outbound many.1))
 
 LinesFail_from : (texts before after : List (List ℕ)) (line : List ℕ) (policy : PolicyFacts) (fault : PolicyFault) (number : ℕ)
-    → texts ≡ before ++ line ∷ after → number ≡ length before + 1 → AreLinesOf before policy → IsFaultAt fault policy line number → LinesFail texts fault
+    → texts ≡ before ++ line ∷ after → number ≡ length before + 1 → SayPolicy before policy → IsFaultAt fault policy line number → LinesFail texts fault
 LinesFail_from texts before after line policy fault number split counted reads (inl wrong) =
     subst (λ (f : PolicyFault). LinesFail texts f) (sym wrong.0) (before, line, after, policy, split, counted, reads, wrong.1)
 LinesFail_from texts before after line policy fault number split counted reads (inr surplus) =
     subst (λ (f : PolicyFault). LinesFail texts f) (sym surplus.0) (before, line, after, policy, split, counted, reads, surplus.1)
 
--- a line for whose rule there is room
-HasRule-from_room : (texts before after : List (List ℕ)) (line : List ℕ) (policy : PolicyFacts) (said : Option LineFacts)
-    → line_in line ≡ said → texts ≡ before ++ line ∷ after → AreLinesOf before policy → HasRoom policy said → HasRule texts
-HasRule-from_room texts before after line policy None found split reads room = absurd room
-HasRule-from_room texts before after line policy (Some Blank) found split reads room = absurd room
-HasRule-from_room texts before after line policy (Some (Own mac)) found split reads room = absurd room
-HasRule-from_room texts before after line policy (Some (Ruled direction rule)) found split reads room =
-    (before, line, after, policy, direction, rule, split, reads, line_in-sound line (Ruled direction rule) found, room)
-
-pub LinesFail-line_added : (texts before after : List (List ℕ)) (line : List ℕ) (policy : PolicyFacts) (fault : PolicyFault) (number : ℕ)
-    → texts ≡ before ++ line ∷ after → number ≡ length before + 1 → AreLinesOf before policy
-    → Fails (HasRoom policy (line_in line)) (line_added number policy (line_in line)) fault → LinesFail texts fault
-LinesFail-line_added texts before after line policy Memory number split counted reads fails =
-    HasRule-from_room texts before after line policy (line_in line) refl split reads fails
-LinesFail-line_added texts before after line policy NotUtf8 number split counted reads fails =
-    LinesFail_from texts before after line policy NotUtf8 number split counted reads (line_added-err number before line policy NotUtf8 (line_in line) refl reads fails)
-LinesFail-line_added texts before after line policy (BadLine n) number split counted reads fails =
-    LinesFail_from texts before after line policy (BadLine n) number split counted reads (line_added-err number before line policy (BadLine n) (line_in line) refl reads fails)
-LinesFail-line_added texts before after line policy (TooMany n) number split counted reads fails =
-    LinesFail_from texts before after line policy (TooMany n) number split counted reads (line_added-err number before line policy (TooMany n) (line_in line) refl reads fails)
+pub LinesFail-line_added : (texts before after : List (List ℕ)) (line : List ℕ) (draft : DraftFacts) (fault : PolicyFault) (number : ℕ)
+    → texts ≡ before ++ line ∷ after → number ≡ length before + 1 → SayPolicy before (policy_so_far draft)
+    → Fails (line_added number draft (line_in line)) fault → LinesFail texts fault
+LinesFail-line_added texts before after line draft Memory number split counted reads fails = tt
+LinesFail-line_added texts before after line draft NotUtf8 number split counted reads fails =
+    LinesFail_from texts before after line (policy_so_far draft) NotUtf8 number split counted reads (line_added-err number before line draft NotUtf8 (line_in line) refl reads fails)
+LinesFail-line_added texts before after line draft (BadLine n) number split counted reads fails =
+    LinesFail_from texts before after line (policy_so_far draft) (BadLine n) number split counted reads (line_added-err number before line draft (BadLine n) (line_in line) refl reads fails)
+LinesFail-line_added texts before after line draft (TooMany n) number split counted reads fails =
+    LinesFail_from texts before after line (policy_so_far draft) (TooMany n) number split counted reads (line_added-err number before line draft (TooMany n) (line_in line) refl reads fails)
 
 -- the same at a place among the lines of a text
 line_at : (texts : List (List ℕ)) (k : ℕ) (line : List ℕ) → k < length texts → line ≡ get_or texts k line
@@ -211,13 +246,13 @@ line_at texts k line within read =
     let short : k ≤ length texts = omega arith in
     (more, whole ∙ split, length-take-le k texts short)
 
-pub AreLinesOf-take : (number : ℕ) (texts : List (List ℕ)) (k : ℕ) (line : List ℕ) (policy next : PolicyFacts) → k < length texts → line ≡ get_or texts k line
-    → AreLinesOf (take k texts) policy → line_added number policy (line_in line) ≡ Ok next → AreLinesOf (take (k + 1) texts) next
-AreLinesOf-take number texts k line policy next within read reads added =
-    subst (λ (ls : List (List ℕ)). AreLinesOf ls next) (sym (line_at texts k line within read).0) (AreLinesOf-line_added number (take k texts) line policy next reads added)
+pub SayPolicy-take : (number : ℕ) (texts : List (List ℕ)) (k : ℕ) (line : List ℕ) (draft next : DraftFacts) → k < length texts → line ≡ get_or texts k line
+    → SayPolicy (take k texts) (policy_so_far draft) → line_added number draft (line_in line) ≡ Ok next → SayPolicy (take (k + 1) texts) (policy_so_far next)
+SayPolicy-take number texts k line draft next within read reads added =
+    subst (λ (ls : List (List ℕ)). SayPolicy ls (policy_so_far next)) (sym (line_at texts k line within read).0) (SayPolicy-line_added number (take k texts) line draft next reads added)
 
-pub LinesFail-take : (number : ℕ) (texts : List (List ℕ)) (k : ℕ) (line : List ℕ) (policy : PolicyFacts) (fault : PolicyFault) → k < length texts → line ≡ get_or texts k line
-    → number ≡ k + 1 → AreLinesOf (take k texts) policy → Fails (HasRoom policy (line_in line)) (line_added number policy (line_in line)) fault → LinesFail texts fault
-LinesFail-take number texts k line policy fault within read counted reads fails =
+pub LinesFail-take : (number : ℕ) (texts : List (List ℕ)) (k : ℕ) (line : List ℕ) (draft : DraftFacts) (fault : PolicyFault) → k < length texts → line ≡ get_or texts k line
+    → number ≡ k + 1 → SayPolicy (take k texts) (policy_so_far draft) → Fails (line_added number draft (line_in line)) fault → LinesFail texts fault
+LinesFail-take number texts k line draft fault within read counted reads fails =
     let place = line_at texts k line within read in
-    LinesFail-line_added texts (take k texts) (drop (k + 1) texts) line policy fault number place.1 (counted ∙ ap (λ (n : ℕ). n + 1) (sym place.2)) reads fails
+    LinesFail-line_added texts (take k texts) (drop (k + 1) texts) line draft fault number place.1 (counted ∙ ap (λ (n : ℕ). n + 1) (sym place.2)) reads fails

@@ -1,5 +1,5 @@
 -- What a line says, by cases on its words, in this project's policy grammar.
-use Rattle.std.specs.Prelude.{◌≡◌, ℕ, List, [], ◌∷◌, codes}
+use Rattle.std.specs.Prelude.{◌≡◌, ◌≢◌, ◌≤◌, ℕ, List, [], ◌∷◌, codes}
 use Rattle.packet_view.specs.declared.tuple.Direction.{Direction}
 use Rattle.packet_view.specs.declared.tuple.Direction.TheVariants.{Inbound, Outbound}
 use Rattle.packet_view.specs.declared.tuple.Family.{Family}
@@ -8,14 +8,16 @@ use Rattle.packet_view.specs.declared.tuple.Mac.{Mac}
 use Rattle.acl_policy.specs.declared.rule.Action.{Action}
 use Rattle.acl_policy.specs.declared.rule.Action.TheVariants.{Deny, Permit, Reflect}
 use Rattle.acl_policy.specs.declared.traffic.Traffic.{Traffic}
+use Rattle.acl_policy.specs.Numerals.{IsNumber}
 use Rattle.acl_policy.specs.Prefixes.{IsMac, IsPrefix}
 use Rattle.acl_policy.specs.Rules.{RuleFacts}
 use Rattle.acl_policy.specs.Traffic.{IsTraffic}
 use Rattle.acl_policy.specs.Words.{without_comment, words_of}
 
--- a line without words, the own address, or a rule of a direction
+-- a line without words, the beginning of an interface's section, the own address, or a rule of a direction
 pub data LineFacts : Type 0 where
   Blank : LineFacts
+  Begins : ℕ → LineFacts
   Own : Mac → LineFacts
   Ruled : Direction → RuleFacts → LineFacts
 
@@ -43,9 +45,14 @@ IsRule words direction rule =
     × (words ≡ direction_word direction ∷ action_word rule.action ∷ family_word rule.family ∷ source ∷ dest ∷ rest)
     × IsPrefix rule.family source rule.source × IsPrefix rule.family dest rule.dest × IsTraffic rule.family rest (traffic_of rule)
 
+-- The number of an interface whose section begins: one to five digits, and not 0.
+abbrev pub IsInterface : List ℕ → ℕ → Type 0
+IsInterface word number = IsNumber word number × (number ≤ 255) × (number ≢ 0)
+
 -- These words say this.
 abbrev pub Say : List (List ℕ) → LineFacts → Type 0
 Say words Blank = words ≡ []
+Say words (Begins number) = (digits : List ℕ) × (words ≡ codes "interface" ∷ digits ∷ []) × IsInterface digits number
 Say words (Own mac) = (address : List ℕ) × (words ≡ codes "mac" ∷ address ∷ []) × IsMac address mac
 Say words (Ruled direction rule) = IsRule words direction rule
 

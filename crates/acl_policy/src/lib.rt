@@ -2,6 +2,7 @@
 #![tactic(auto)]
 
 mod address;
+mod draft;
 mod family;
 mod laws;
 mod line;
@@ -14,13 +15,15 @@ mod prefix;
 mod reading;
 mod rule;
 mod ruling_laws;
+mod sections;
 mod traffic;
 mod words;
 
 pub use family::width_of;
 pub use laws::one_reading;
 pub use matching::{first_match, is_match};
-pub use policy::{Policy, PolicyFault};
+pub use numeral::octet_of;
+pub use policy::{Policy, PolicyFault, Section};
 pub use reading::read_policy;
 pub use rule::{Action, Rule};
 pub use ruling_laws::rules_decide_each_packet;

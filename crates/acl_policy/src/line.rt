@@ -1,21 +1,24 @@
 //! What a line of a policy says.
 ghost use Rattle.std.specs.Prelude.{◌≡◌, ◌≤◌, ◌<◌, IfSome, option_map};
-ghost use Rattle.acl_policy.specs.inner.Reading.Lines.{action_in, direction_in, ends_in, family_in, head_in, line_facts, line_in, own_line_in, rule_line_in};
+ghost use Rattle.acl_policy.specs.inner.Reading.Lines.{action_in, direction_in, ends_in, family_in, head_in, heading_in, interface_in, line_facts, line_in, own_line_in, rule_line_in};
 ghost use Rattle.acl_policy.specs.Widths.{width};
 ghost use Rattle.acl_policy.specs.Words.{words_of};
 ghost use Rattle.packet_view.specs.Addresses.{address_limit};
 
 use crate::mac::mac_of;
+use crate::parts::number_up_to;
 use crate::prefix::prefix_of;
 use crate::rule::{Action, Rule};
 use crate::traffic::traffic_of;
 use crate::words::{before_comment, is_end, next_word};
 use packet_view::{Direction, Family, Mac};
 
-/// What a line says: nothing, the own address of the interface, or a rule of a direction.
+/// What a line says: nothing, the beginning of an interface's section, the interface's own address, or a rule of a
+/// direction.
 #[derive(Clone, Copy)]
 pub enum Line {
     Blank,
+    Begins(u8),
     Own(Mac),
     Ruled(Direction, Rule),
 }
@@ -120,6 +123,31 @@ fn own_line_of(text: &[u8]) -> Option<Line>
     }
 }
 
+/// The number of an interface whose section begins.
+#[tactic(auto, unfolding(crate::specs::inner::Reading::Lines::interface_in))]
+fn interface_of(word: &[u8]) -> Option<u8>
+    ensures { result ≡ interface_in word.now }
+{
+    let number = number_up_to(word, u16::from(u8::MAX))?;
+    if number == 0 {
+        return None;
+    }
+    Some(number as u8)
+}
+
+#[tactic(auto, unfolding(crate::specs::inner::Reading::Lines::heading_in))]
+fn heading_of(text: &[u8]) -> Option<Line>
+    ensures { option_map line_facts result ≡ heading_in (words_of text.now) }
+{
+    let (word, text) = next_word(text)?;
+    let interface = interface_of(word)?;
+    if is_end(text) {
+        Some(Line::Begins(interface))
+    } else {
+        None
+    }
+}
+
 /// What a line says. `None`: it is of no form.
 #[tactic(auto, unfolding(crate::specs::inner::Reading::Lines::line_in, crate::specs::inner::Reading::Lines::said_in))]
 pub fn line_of(line: &[u8]) -> Option<Line>
@@ -131,6 +159,8 @@ pub fn line_of(line: &[u8]) -> Option<Line>
     };
     if word == b"mac".as_slice() {
         own_line_of(rest)
+    } else if word == b"interface".as_slice() {
+        heading_of(rest)
     } else {
         rule_line_of(text)
     }

@@ -7,14 +7,22 @@ use packet_view::Mac;
 use std::alloc::AllocFailed;
 use thiserror::Error;
 
-/// The own address of the interface, and the rules of each direction in their order.
+/// What a policy says of one interface: its own address, and the rules of each direction in their order.
 #[derive(Debug, Drop)]
-pub struct Policy {
+pub struct Section {
+    /// The number of the interface.
+    pub interface: u8,
     pub own: Option<Mac>,
     pub inbound: Vec<Rule>,
     pub outbound: Vec<Rule>,
     pub ghost few_inbound: { length inbound.items ≤ most_rules },
     pub ghost few_outbound: { length outbound.items ≤ most_rules },
+}
+
+/// What a policy says of each interface that it names, and of interface 0.
+#[derive(Debug, Drop)]
+pub struct Policy {
+    pub sections: Vec<Section>,
 }
 
 /// Why a text is no policy. Lines are counted from 1.

@@ -1,15 +1,17 @@
 //! The policy that a text says.
-ghost use Rattle.std.specs.Prelude.{◌≡◌, ◌≢◌, ◌≤◌, ◌<◌, ◌⊎◌, IfOk, IfErr, MatchResult, OnOk, length, map};
+ghost use Rattle.std.specs.Prelude.{◌≡◌, ◌≢◌, ◌≤◌, ◌⊎◌, IfOk, IfErr, MatchResult, OnOk, length, map};
 ghost use Rattle.std.specs.Str.{IsUtf8};
 ghost use Rattle.std.specs.Str.Lines.{lines};
-ghost use Rattle.acl_policy.specs.Policies.{HasRule, IsPolicyFault, IsPolicyText, PolicyFacts, AreLinesOf, policy_facts};
+ghost use Rattle.acl_policy.specs.Policies.{IsPolicyFault, IsPolicyText, PolicyFacts, SayPolicy, numbers_of, policy_facts, section_facts};
 ghost use Rattle.acl_policy.specs.inner.Reading.Lines.{line_in};
-ghost use Rattle.acl_policy.specs.inner.Reading.Policies.{Fails, HasRoom, LinesFail, line_added, rule_added};
+ghost use Rattle.acl_policy.specs.inner.Reading.Policies.{Fails, LinesFail, draft_facts, is_among, line_added, policy_so_far, rule_added};
 ghost use Rattle.acl_policy.specs.Rules.{most_rules, rule_facts};
 
+use crate::draft::Draft;
 use crate::line::{Line, line_of};
-use crate::policy::{Policy, PolicyFault};
+use crate::policy::{Policy, PolicyFault, Section};
 use crate::rule::Rule;
+use crate::sections::empty;
 use packet_view::Direction;
 use std::alloc::Global;
 
@@ -22,8 +24,7 @@ fn add_rule(rules: &mut Vec<Rule>, rule: Rule, number: u64) -> Result<(), Policy
     ensures ok { OnOk result (rule_added number (map rule_facts rules.old.items) (rule_facts rule)
         ≡ Ok (map rule_facts rules.new.items)) }
     ensures fault { IfErr result
-        (Fails (length (map rule_facts rules.old.items) < most_rules)
-        (rule_added number (map rule_facts rules.old.items) (rule_facts rule))) }
+        (Fails (rule_added number (map rule_facts rules.old.items) (rule_facts rule))) }
     ensures few { length rules.old.items ≤ most_rules → length rules.new.items ≤ most_rules }
 {
     if rules.len() >= MOST_RULES {
@@ -33,46 +34,88 @@ fn add_rule(rules: &mut Vec<Rule>, rule: Rule, number: u64) -> Result<(), Policy
     Ok(())
 }
 
-/// Adds what a line says to the policy of the lines before it. `number` is the line's.
-fn add_line(policy: &mut Policy, line: &[u8], number: u64) -> Result<(), PolicyFault>
-    ensures ok { OnOk result (line_added number (policy_facts policy.old) (line_in line.now)
-        ≡ Ok (policy_facts policy.new)) }
-    ensures fault { IfErr result
-        (Fails (HasRoom (policy_facts policy.old) (line_in line.now))
-        (line_added number (policy_facts policy.old) (line_in line.now))) }
+// Whether one of the sections is of this interface.
+fn has_section(sections: &[Section], interface: u8) -> bool
+    ensures { result ≡ is_among interface (numbers_of (map section_facts sections.now)) }
 {
+    let mut rest = sections;
+    'sections: while !rest.is_empty() {
+        if interface == rest[0].interface {
+            return true;
+        }
+        rest = &rest[1..];
+    }
+    false
+}
+
+// Whether a section so far is of this interface.
+fn has_begun(draft: &Draft, interface: u8) -> bool
+    ensures { result ≡ is_among interface (numbers_of (policy_so_far (draft_facts draft.now)).sections) }
+{
+    has_section(draft.done.as_slice(), interface) || interface == draft.current.interface
+}
+
+/// The policy of the lines so far with what the next one says. `number` is that line's.
+fn add_line(
+    alloc: Global,
+    draft: Draft,
+    line: &[u8],
+    number: u64,
+) -> Result<Draft, PolicyFault>
+    ensures ok { IfOk result (λ added. line_added number (draft_facts draft) (line_in line.now)
+        ≡ Ok (draft_facts added)) }
+    ensures fault { IfErr result (Fails (line_added number (draft_facts draft) (line_in line.now))) }
+{
+    let mut next = draft;
     match line_of(line) {
-        None => Err(PolicyFault::BadLine(number)),
-        Some(Line::Blank) => Ok(()),
-        Some(Line::Own(mac)) => {
-            if policy.own.is_some() {
+        None => return Err(PolicyFault::BadLine(number)),
+        Some(Line::Blank) => {}
+        Some(Line::Begins(interface)) => {
+            if has_begun(&next, interface) {
                 return Err(PolicyFault::BadLine(number));
             }
-            policy.own = Some(mac);
-            Ok(())
+            let Draft { mut done, current } = next;
+            done.push(current)?;
+            return Ok(Draft {
+                done,
+                current: empty(alloc, interface),
+            });
         }
-        Some(Line::Ruled(Direction::Inbound, rule)) => add_rule(&mut policy.inbound, rule, number),
+        Some(Line::Own(mac)) => {
+            if next.current.own.is_some() {
+                return Err(PolicyFault::BadLine(number));
+            }
+            next.current.own = Some(mac);
+        }
+        Some(Line::Ruled(Direction::Inbound, rule)) => {
+            add_rule(&mut next.current.inbound, rule, number)?;
+        }
         Some(Line::Ruled(Direction::Outbound, rule)) => {
-            add_rule(&mut policy.outbound, rule, number)
+            add_rule(&mut next.current.outbound, rule, number)?;
         }
     }
+    Ok(next)
 }
 
 fn read_lines(alloc: Global, text: &str) -> Result<Policy, PolicyFault>
-    ensures ok { IfOk result (λ policy. AreLinesOf (lines text.now) (policy_facts policy)) }
+    ensures ok { IfOk result (λ policy. SayPolicy (lines text.now) (policy_facts policy)) }
     ensures fault { IfErr result (LinesFail (lines text.now)) }
 {
-    let mut policy = Policy {
-        own: None,
-        inbound: Vec::new(alloc),
-        outbound: Vec::new(alloc),
+    let mut draft = Draft {
+        done: Vec::new(alloc),
+        current: empty(alloc, 0),
     };
     let mut number = 0;
     for line in text.lines() {
         number += 1;
-        add_line(&mut policy, line.as_bytes(), number)?;
+        draft = add_line(alloc, draft, line.as_bytes(), number)?;
     }
-    Ok(policy)
+    let Draft {
+        done: mut sections,
+        current,
+    } = draft;
+    sections.push(current)?;
+    Ok(Policy { sections })
 }
 
 /// Reads a policy from its text.
@@ -83,9 +126,8 @@ pub fn read_policy(alloc: Global, text: &[u8]) -> Result<Policy, PolicyFault>
     ensures ok { IfOk result (λ policy. IsPolicyText text.now (policy_facts policy)) }
     ensures fault { IfErr result (λ fault. fault ≢ PolicyFault.Memory → IsPolicyFault text.now fault) }
 
-    // Memory is asked for rules alone, so no other text is refused for want of it.
-    ensures memory { IfErr result (λ fault. fault ≡ PolicyFault.Memory
-        → IsUtf8 text.now × HasRule (lines text.now)) }
+    // Memory is asked for sections and rules alone, so no other text is refused for want of it.
+    ensures memory { IfErr result (λ fault. fault ≡ PolicyFault.Memory → IsUtf8 text.now) }
 
     // A text of a policy is refused only where memory ran out, and a text with a fault for that fault
     // or that memory ran out.

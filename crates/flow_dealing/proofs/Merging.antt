@@ -13,7 +13,7 @@ use Rattle.packet_view.specs.Interfaces.{Interface}
 use Rattle.packet_view.specs.inner.FrameSteps.{view_of}
 use Rattle.packet_view.specs.declared.tuple.Family.{Family}
 use Rattle.packet_view.proofs.FrameLemmas.{view_shown}
-use Rattle.acl_policy.specs.Policies.{PolicyFacts}
+use Rattle.acl_policy.specs.Policies.{PolicyFacts, section_of}
 use Rattle.bihash_words.specs.Maps.{Event}
 use Rattle.bihash_steps.specs.Histories.{event_of}
 use Rattle.bihash_steps.specs.declared.view.Call.{Call}
@@ -263,7 +263,7 @@ module _ (d : Deal) (times : Timeouts) (policy : PolicyFacts) (packets : List Pa
 pub all_views : (policy : PolicyFacts) (ps : List PacketFacts) → (views : List frames.FrameFacts) × AreViews policy ps views
 all_views policy [] = ([], tt)
 all_views policy (p ∷ ps) =
-    let at : Interface = record { number = p.interface; own = policy.own } in
+    let at : Interface = record { number = p.interface; own = (section_of p.interface policy).own } in
     let vs = all_views policy ps in (view_of p.frame at ∷ vs.0, (view_shown p.frame at, vs.1))
 
 abbrev trace_or : List (List Item) → ℕ → List Item

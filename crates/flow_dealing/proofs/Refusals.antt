@@ -7,7 +7,7 @@ use lib.ListN.{get_elem?}
 use mathlib.Core.Option.{some}
 use Rattle.packet_view.specs.Captures.{PacketFacts}
 use Rattle.packet_view.specs.Frames as frames
-use Rattle.acl_policy.specs.Policies.{PolicyFacts}
+use Rattle.acl_policy.specs.Policies.{PolicyFacts, section_of}
 use Rattle.acl_policy.specs.declared.rule.Action.{Action}
 use Rattle.acl_policy.specs.declared.rule.Action.TheVariants as action
 use Rattle.bihash_words.specs.Maps.{Answers, Bounds, NoRoom, NewKey, Event, WornOut, Pairs, OldKey, effect_of, most_pairs, case_with}
@@ -213,7 +213,7 @@ paged_is_told times policy packet j read paged = go read.0 read.2
     ruled (Some u) ruling None has e = rules_say_other ruling e
     ruled (Some u) ruling (Some x) has e = verdict_says_other u.patch ruling x.found x.reply (has x refl) e
 
-    go : (view : frames.FrameFacts) → IsReadingOf policy packet.moment view j.reading
+    go : (view : frames.FrameFacts) → IsReadingOf (section_of packet.interface policy) packet.moment view j.reading
         → verdict_on times j ≢ verdict.NoPages
     go frames.NotIp is =
         subst (λ (r : Reading). verdict_with times r j.event ≢ verdict.NoPages) (sym is) (λ e. let f : ⊥ = cc in f)

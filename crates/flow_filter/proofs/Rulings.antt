@@ -2,7 +2,7 @@
 use Rattle.std.proofs.Common.{◌≡◌, Some, ap}
 use Rattle.std.specs.Prelude.{option_map}
 use Rattle.packet_view.specs.Tuples.{tuple_facts}
-use Rattle.acl_policy.specs.Policies.{PolicyFacts, rules_of}
+use Rattle.acl_policy.specs.Policies.{SectionFacts, rules_of}
 use Rattle.acl_policy.proofs.RulingLaws.{some_ruling_of}
 use Rattle.bihash_words.specs.Maps.{Event}
 use Rattle.session_state.specs.declared.timeouts.Timeouts.{Timeouts}
@@ -13,9 +13,9 @@ use Rattle.flow_filter.specs.Readings.{Ruling}
 use Rattle.flow_filter.specs.Updates.{update_in, update_of}
 use Rattle.flow_filter.specs.Verdicts.{verdict_of}
 
--- a policy says something of each packet
-pub some_ruling : (policy : PolicyFacts) (p : PacketFlow) → (ruling : Ruling) × IsRulingOn policy p ruling
-some_ruling policy p = some_ruling_of (rules_of p.direction policy) (tuple_facts p.tuple.now)
+-- the rules of an interface say something of each packet
+pub some_ruling : (section : SectionFacts) (p : PacketFlow) → (ruling : Ruling) × IsRulingOn section p ruling
+some_ruling section p = some_ruling_of (rules_of p.direction section) (tuple_facts p.tuple.now)
 
 -- the update of a packet with a flow
 pub update_is : (times : Timeouts) (p : PacketFlow) (ruling : Ruling)

@@ -8,6 +8,7 @@ pub mod PacketFlows
 pub mod Passing
 pub mod PreparedRules
 pub mod Readings
+pub mod ReadyFilters
 pub mod RuleSearches
 pub mod Rulesets
 pub mod Updates

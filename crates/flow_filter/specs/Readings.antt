@@ -8,7 +8,7 @@ use Rattle.packet_view.specs.declared.tuple.Mac.{Mac}
 use Rattle.packet_view.specs.Tuples.{TupleFacts}
 use Rattle.acl_policy.specs.declared.rule.Action.{Action}
 use Rattle.acl_policy.specs.Matching.{IsRuling}
-use Rattle.acl_policy.specs.Policies.{PolicyFacts, rules_of}
+use Rattle.acl_policy.specs.Policies.{PolicyFacts, SectionFacts, rules_of, section_of}
 use Rattle.flow_filter.specs.declared.verdict.Verdict.{Verdict}
 use Rattle.flow_filter.specs.declared.verdict.Verdict.TheVariants as verdict
 
@@ -23,24 +23,25 @@ pub data Reading : Type 0 where
   Ruled : ℕ → TupleFacts → Ruling → Reading
 
 -- the reading of a packet whose frame turns out to be this
-abbrev pub IsReadingOf : PolicyFacts → ℕ → FrameFacts → Reading → Type 0
-IsReadingOf policy moment frames.NotIp reading = reading ≡ Framed verdict.NotIp
-IsReadingOf policy moment frames.Malformed reading = reading ≡ Framed verdict.Malformed
-IsReadingOf policy moment frames.Short reading = reading ≡ Framed verdict.Short
-IsReadingOf policy moment (frames.Ip direction tuple) reading =
-    (ruling : Ruling) × IsRuling (rules_of direction policy) tuple ruling × (reading ≡ Ruled moment tuple ruling)
+abbrev pub IsReadingOf : SectionFacts → ℕ → FrameFacts → Reading → Type 0
+IsReadingOf section moment frames.NotIp reading = reading ≡ Framed verdict.NotIp
+IsReadingOf section moment frames.Malformed reading = reading ≡ Framed verdict.Malformed
+IsReadingOf section moment frames.Short reading = reading ≡ Framed verdict.Short
+IsReadingOf section moment (frames.Ip direction tuple) reading =
+    (ruling : Ruling) × IsRuling (rules_of direction section) tuple ruling × (reading ≡ Ruled moment tuple ruling)
 
 -- what a packet's frame is at its interface, which has this own address
 abbrev pub IsSeenAt : Option Mac → PacketFacts → FrameFacts → Type 0
 IsSeenAt own packet view = IsFrame packet.frame (record { number = packet.interface; own = own }) view
 
--- the own address is the one that the policy names
+-- the own address is the one that the policy names for that interface
 abbrev pub IsSeen : PolicyFacts → PacketFacts → FrameFacts → Type 0
-IsSeen policy packet view = IsSeenAt policy.own packet view
+IsSeen policy packet view = IsSeenAt (section_of packet.interface policy).own packet view
 
+-- each packet goes by the section of its interface
 abbrev pub IsReading : PolicyFacts → PacketFacts → Reading → Type 0
 IsReading policy packet reading =
-    (view : FrameFacts) × IsSeen policy packet view × IsReadingOf policy packet.moment view reading
+    (view : FrameFacts) × IsSeen policy packet view × IsReadingOf (section_of packet.interface policy) packet.moment view reading
 
 -- each packet has its reading
 abbrev pub AreReadings : PolicyFacts → List PacketFacts → List Reading → Type 0

@@ -6,7 +6,7 @@ ghost use Rattle.acl_policy.specs.Matching.{IsRuling};
 ghost use Rattle.acl_policy.specs.Rules.{most_rules};
 ghost use Rattle.flow_filter.specs.Liveness.{IsForeseen};
 ghost use Rattle.flow_filter.specs.Readings.{Ruling};
-ghost use Rattle.flow_filter.specs.Filters.{policy_in};
+ghost use Rattle.flow_filter.specs.Filters.{section_in};
 ghost use Rattle.flow_filter.specs.PacketFlows.{IsRulingOn};
 ghost use Rattle.flow_filter.specs.Rulesets.{rules_in};
 
@@ -78,7 +78,7 @@ pub struct LazyPatch<'a, D: HasReading> {
     decided: Cell<Option<Decided<D>>>,
     seen: Cell<Option<Seen<D>>>,
     ghost lives: { IsForeseen filter.now.times packet.moment D.is_live },
-    ghost said: { (d : Ruling) → IsRulingOn (policy_in filter.now) packet d → d ≡ D.ruling },
+    ghost said: { (d : Ruling) → IsRulingOn (section_in filter.now) packet d → d ≡ D.ruling },
 }
 
 impl<'a, D: HasReading> LazyPatch<'a, D> {
@@ -92,7 +92,7 @@ impl<'a, D: HasReading> LazyPatch<'a, D> {
 
     #[inline]
     pub fn new(filter: &'a ReadyFilter<'a>, packet: PacketFlow<'a>) -> LazyPatch<'a, D>
-        requires ruling { IsRulingOn (policy_in filter.now) packet D.ruling }
+        requires ruling { IsRulingOn (section_in filter.now) packet D.ruling }
         requires lives { IsForeseen filter.now.times packet.moment D.is_live }
         ensures { facts_of ⟦<D as HasReading>⟧ result ≡ (update_by filter.now.times packet.entry D.ruling).patch }
     {

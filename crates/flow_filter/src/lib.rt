@@ -8,6 +8,8 @@ mod laws;
 mod lazy_patch;
 mod packet_flow;
 mod prepared_rules;
+mod ready;
+mod ready_filters;
 mod rule_search;
 mod ruleset;
 mod update;
@@ -23,6 +25,7 @@ pub use laws::{
 pub use lazy_patch::{HasReading, LazyPatch};
 pub use packet_flow::{PacketFlow, copied};
 pub use prepared_rules::PreparedRules;
+pub use ready_filters::ReadyFilters;
 pub use rule_search::RuleSearch;
 pub use ruleset::Ruleset;
 pub use verdict::Verdict;

@@ -9,18 +9,25 @@ use Rattle.packet_view.specs.Frames.{FrameFacts, frame_facts}
 use Rattle.packet_view.specs.Interfaces.{Interface}
 use Rattle.packet_view.specs.inner.FrameSteps.{view_of}
 use Rattle.packet_view.proofs.FrameLemmas.{view_only, view_shown}
+use Rattle.acl_policy.specs.Policies.{SectionFacts, section_of}
+use Rattle.bihash_table.specs.Tries.{TookByTries}
 use Rattle.bihash_words.specs.declared.shape.Shape.{Ghosts}
 use Rattle.flow_filter.specs.Readings.{IsSeenAt}
+use Rattle.flow_filter.specs.ReadyFilters.{IsReadyAt}
+use Rattle.flow_filter.specs.declared.filter.ReadyFilter.{ReadyFilter}
+use Rattle.flow_filter.specs.declared.verdict.Verdict.{Verdict}
 use Rattle.packet_dealing.proofs.DealtLists.{next_there, some_left, stands_at, there_behind}
 use Rattle.packet_dealing.specs.Dealt.{AreDealt, IsDealtTo}
 use Rattle.packet_dealing.specs.declared.dealt_part.DealtPart.{DealtPart}
 use Rattle.flow_workers.specs.declared.share.Run.{Run}
 use Rattle.flow_workers.specs.declared.share.Share.{Share}
+use Rattle.flow_workers.specs.declared.tables.Callers.{Callers}
 use Rattle.flow_workers.specs.declared.viewed_packet.ViewedPacket.{ViewedPacket}
 use Rattle.flow_workers.specs.Callers.{AreIdle}
-use Rattle.flow_workers.specs.inner.Jobs.{AreDealtFrom, HasWorkedOn, IsPartOf, IsWorkerOf, MayJudge, MayJudgeViewed, StandAmong, dealer_of}
-use Rattle.flow_workers.specs.inner.ViewedPackets.{IsViewed}
-use Rattle.flow_workers.proofs.WorkSteps.{one_more, work_passed}
+use Rattle.flow_workers.specs.Verdicts.{HasVerdict}
+use Rattle.flow_workers.specs.inner.Jobs.{AreDealtFrom, HasWorkedOn, IsPartOf, IsViewedAt, IsWorkerOf, MayJudge, MayJudgeViewed, StandAmong, dealer_of, policy_of, run_facts}
+use Rattle.flow_workers.specs.inner.ViewedPackets.{IsViewed, TellsViewed}
+use Rattle.flow_workers.proofs.WorkSteps.{IsAt, one_more, work_passed}
 
 pub front_only : {X : Type 0} (xs ys : List X) (k : ℕ) → k < length xs → slice_get (xs ++ ys) k ≡ slice_get xs k
 front_only [] ys k inside = absurd (omega arith)
@@ -63,19 +70,47 @@ module _ {A B R G K L : Type 0} (ga : Ghosts A K) (gb : Ghosts B L) (run : Run A
       (is.workers.each k packet below (next_there (held run.packets) behind first k packet here))
 
   -- a packet that turned out to be this may be judged as it was viewed
-  pub may_judge_viewed : (worker at : ℕ) (packet : PacketFacts) (viewed : ViewedPacket) (frame : FrameFacts)
-      (share : Share A B K L ga gb) → MayJudge ga gb run worker at packet share
-      → IsViewed run.setup.filter.own packet viewed → frame ≡ frame_facts viewed.frame.now
-      → IsSeenAt run.setup.filter.own packet frame
-      → ((other : FrameFacts) → IsSeenAt run.setup.filter.own packet other → other ≡ frame)
-      → MayJudgeViewed ga gb run worker at viewed share
-  may_judge_viewed worker at packet viewed frame share may seen same shown only = record {
+  pub may_judge_viewed : (worker at : ℕ) (packet : PacketFacts) (filter : ReadyFilter) (viewed : ViewedPacket)
+      (frame : FrameFacts) (share : Share A B K L ga gb) → MayJudge ga gb run worker at packet share
+      → IsReadyAt (policy_of run.setup) run.setup.filter.now.times packet.interface filter
+      → IsViewed filter.own packet viewed → frame ≡ frame_facts viewed.frame.now → IsSeenAt filter.own packet frame
+      → ((other : FrameFacts) → IsSeenAt filter.own packet other → other ≡ frame)
+      → MayJudgeViewed ga gb run worker at filter viewed share
+  may_judge_viewed worker at packet filter viewed frame share may ready seen same shown only = record {
     shapes = may.shapes;
     idle = may.idle;
     fits = may.fits;
-    stands = record { packet = packet; there = may.there; seen = seen; only = λ other is. only other is ∙ same };
-    mine = subst (λ f. IsWorkerOf ga gb run at f worker) same (may.mine run.setup.filter.own frame shown);
+    stands = record {
+      packet = packet;
+      there = may.there;
+      ready = ready;
+      seen = seen;
+      only = λ other is. only other is ∙ same;
+    };
+    mine = subst (λ f. IsWorkerOf ga gb run at f worker) same (may.mine filter.own frame shown);
   }
+
+  -- it is that packet among all, by what the policy says of its interface
+  pub viewed_among : (all : List PacketFacts) → StandAmong run all → (at : ℕ) (filter : ReadyFilter)
+      (viewed : ViewedPacket) (stands : IsViewedAt run at filter viewed)
+      → IsAt (run_facts ga gb run.setup all) (run.first + at) stands.packet (frame_facts viewed.frame.now)
+  viewed_among all among at filter viewed stands = record {
+    stands = stands_among all among at stands.packet stands.there;
+    shown = subst (λ (section : SectionFacts). IsSeenAt section.own stands.packet (frame_facts viewed.frame.now))
+        stands.ready.section stands.seen.1;
+    only = subst (λ (section : SectionFacts). (other : FrameFacts) → IsSeenAt section.own stands.packet other
+        → other ≡ frame_facts viewed.frame.now) stands.ready.section stands.only;
+  }
+
+  -- and is judged by the policy
+  pub judged_among : (at : ℕ) (filter : ReadyFilter) (viewed : ViewedPacket)
+      (stands : IsViewedAt run at filter viewed) (old new : Callers A B K L ga gb) (verdict : Verdict)
+      → TellsViewed TookByTries filter viewed run.setup.tables.now old new verdict
+      → HasVerdict ga gb TookByTries run.setup.filter.now.times (policy_of run.setup) stands.packet old new verdict
+  judged_among at filter viewed stands old new verdict tells =
+      subst (λ times. HasVerdict ga gb TookByTries times (policy_of run.setup) stands.packet old new verdict)
+      stands.ready.lives (tells.judged (policy_of run.setup) stands.packet
+      (record { section = stands.ready.section; seen = stands.seen }))
 
   pub worked_none : (w at : ℕ) (share : Share A B K L ga gb) → AreIdle ga gb run.setup.tables.now share.callers
       → HasWorkedOn ga gb run w at at share share
@@ -99,7 +134,8 @@ module _ {A B R G K L : Type 0} (ga : Ghosts A K) (gb : Ghosts B L) (run : Run A
       → IsDealtTo ga gb (dealer_of run.setup) (run.first + at) packet other → other ≢ w
       → AreIdle ga gb run.setup.tables.now share.callers → HasWorkedOn ga gb run w at (at + 1) share share
   passed_by w at other packet share there dealt differ idle =
-      let at_own : Interface = record { number = packet.interface; own = run.setup.filter.own } in
+      let own = (section_of packet.interface (policy_of run.setup)).own in
+      let at_own : Interface = record { number = packet.interface; own = own } in
       record {
         idle = idle;
         work = λ all among v done. one_more _ w run.first at v _ _
@@ -109,7 +145,7 @@ module _ {A B R G K L : Type 0} (ga : Ghosts A K) (gb : Ghosts B L) (run : Run A
               shown = view_shown packet.frame at_own;
               only = view_only packet.frame at_own;
             })
-            (λ same. differ (dealt run.setup.filter.own _ (view_shown packet.frame at_own) ∙ same))
+            (λ same. differ (dealt own _ (view_shown packet.frame at_own) ∙ same))
             done);
       }
 

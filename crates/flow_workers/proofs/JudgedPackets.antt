@@ -5,7 +5,7 @@ use Rattle.std.specs.Prelude.{option_map}
 use Rattle.packet_view.specs.Captures.{PacketFacts}
 use Rattle.packet_view.specs.Frames as frames
 use Rattle.packet_view.specs.Frames.{FrameFacts, frame_facts}
-use Rattle.acl_policy.specs.Policies.{PolicyFacts, rules_of}
+use Rattle.acl_policy.specs.Policies.{PolicyFacts, SectionFacts, rules_of, section_of}
 use Rattle.acl_policy.proofs.RulingLaws.{some_ruling_of}
 use Rattle.bihash_words.specs.Expiries.{expired_words}
 use Rattle.bihash_words.specs.Maps.{Event, HasExpiry, asked, found_by}
@@ -16,7 +16,9 @@ use Rattle.session_state.specs.declared.flow.Flow.{Flow}
 use Rattle.session_state.specs.Decisions.{decision_of}
 use Rattle.session_state.specs.Flows.{flow_of}
 use Rattle.session_state.specs.Sessions.{is_expired_at}
+use Rattle.flow_filter.specs.declared.filter.ReadyFilter.{ReadyFilter}
 use Rattle.flow_filter.specs.declared.verdict.Verdict.{Verdict}
+use Rattle.flow_filter.specs.Filters.{section_in}
 use Rattle.flow_filter.specs.Readings.{IsReading, IsReadingOf, Reading, Ruling}
 use Rattle.flow_filter.specs.Updates.{Update, update_in, update_of, words_of}
 use Rattle.flow_filter.specs.Verdicts.{verdict_of}
@@ -27,37 +29,40 @@ use Rattle.flow_workers.specs.declared.viewed_packet.ViewedPacket.{ViewedPacket}
 use Rattle.flow_workers.specs.Judging.{IsAway, IsEnteredBy, IsJudged, IsRefused}
 use Rattle.flow_workers.specs.inner.Preparing.{IsFrameRuling, reading_with}
 use Rattle.flow_workers.specs.inner.Updates.{IsToldFlow, told}
-use Rattle.flow_workers.specs.inner.ViewedPackets.{IsViewed}
+use Rattle.flow_workers.specs.inner.ViewedPackets.{IsViewed, IsViewedBy}
 
 -- what the rules say of a packet, where they are asked
-abbrev pub ruling_on : PolicyFacts → FrameFacts → Ruling
-ruling_on policy frames.NotIp = None
-ruling_on policy frames.Malformed = None
-ruling_on policy frames.Short = None
-ruling_on policy (frames.Ip direction tuple) = (some_ruling_of (rules_of direction policy) tuple).0
+abbrev pub ruling_on : SectionFacts → FrameFacts → Ruling
+ruling_on section frames.NotIp = None
+ruling_on section frames.Malformed = None
+ruling_on section frames.Short = None
+ruling_on section (frames.Ip direction tuple) = (some_ruling_of (rules_of direction section) tuple).0
 
-pub is_ruling : (policy : PolicyFacts) (view : FrameFacts) → IsFrameRuling policy view (ruling_on policy view)
-is_ruling policy frames.NotIp = tt
-is_ruling policy frames.Malformed = tt
-is_ruling policy frames.Short = tt
-is_ruling policy (frames.Ip direction tuple) = (some_ruling_of (rules_of direction policy) tuple).1
+pub is_ruling : (section : SectionFacts) (view : FrameFacts) → IsFrameRuling section view (ruling_on section view)
+is_ruling section frames.NotIp = tt
+is_ruling section frames.Malformed = tt
+is_ruling section frames.Short = tt
+is_ruling section (frames.Ip direction tuple) = (some_ruling_of (rules_of direction section) tuple).1
 
-reading_of : (policy : PolicyFacts) (moment : ℕ) (view : FrameFacts) (ruling : Ruling)
-    → IsFrameRuling policy view ruling → IsReadingOf policy moment view (reading_with moment view ruling)
-reading_of policy moment frames.NotIp ruling is = refl
-reading_of policy moment frames.Malformed ruling is = refl
-reading_of policy moment frames.Short ruling is = refl
-reading_of policy moment (frames.Ip direction tuple) ruling is = (ruling, is, refl)
+reading_of : (section : SectionFacts) (moment : ℕ) (view : FrameFacts) (ruling : Ruling)
+    → IsFrameRuling section view ruling → IsReadingOf section moment view (reading_with moment view ruling)
+reading_of section moment frames.NotIp ruling is = refl
+reading_of section moment frames.Malformed ruling is = refl
+reading_of section moment frames.Short ruling is = refl
+reading_of section moment (frames.Ip direction tuple) ruling is = (ruling, is, refl)
 
--- what is said of a filter at hand is said of the filter that it was made of
-pub of_filter : (P : Timeouts → PolicyFacts → Type 0) {t u : Timeouts} {p q : PolicyFacts} → t ≡ u → p ≡ q → P t p
-    → P u q
-of_filter P {t} {u} {p} {q} times policy is = subst (λ other. P other q) times (subst (P t) policy is)
-
--- a packet that was viewed, under what the rules say of it
+-- a packet that was viewed, under what the rules of its interface say of it
 pub record IsRuled (policy : PolicyFacts) (s : PacketFacts) (p : ViewedPacket) (ruling : Ruling) : Type 0 where
-  pub seen : IsViewed policy.own s p
-  pub ruled : IsFrameRuling policy (frame_facts p.frame.now) ruling
+  pub seen : IsViewed (section_of s.interface policy).own s p
+  pub ruled : IsFrameRuling (section_of s.interface policy) (frame_facts p.frame.now) ruling
+
+pub ruled_by : (filter : ReadyFilter) (policy : PolicyFacts) (s : PacketFacts) (p : ViewedPacket) (ruling : Ruling)
+    → IsViewedBy policy filter s p → IsFrameRuling (section_in filter) (frame_facts p.frame.now) ruling
+    → IsRuled policy s p ruling
+ruled_by filter policy s p ruling by ruled = record {
+  seen = subst (λ (section : SectionFacts). IsViewed section.own s p) by.section by.seen;
+  ruled = subst (λ (section : SectionFacts). IsFrameRuling section (frame_facts p.frame.now) ruling) by.section ruled;
+}
 
 abbrev pub reading_in : ViewedPacket → Ruling → Reading
 reading_in p ruling = reading_with p.moment (frame_facts p.frame.now) ruling
@@ -67,8 +72,9 @@ reads : (policy : PolicyFacts) (s : PacketFacts) (p : ViewedPacket) (ruling : Ru
 reads policy s p ruling is = (
   frame_facts p.frame.now,
   is.seen.1,
-  subst (λ moment. IsReadingOf policy moment (frame_facts p.frame.now) (reading_in p ruling)) (sym is.seen.0)
-      (reading_of policy p.moment (frame_facts p.frame.now) ruling is.ruled),
+  subst (λ moment. IsReadingOf (section_of s.interface policy) moment (frame_facts p.frame.now) (reading_in p ruling))
+      (sym is.seen.0)
+      (reading_of (section_of s.interface policy) p.moment (frame_facts p.frame.now) ruling is.ruled),
 )
 
 pub settled : (l : Layout) (took : View → View → Reply → Type 0) (times : Timeouts) (policy : PolicyFacts)

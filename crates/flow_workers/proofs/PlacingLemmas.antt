@@ -306,7 +306,7 @@ part_next run traces all workers old placed k w may count below this before =
     let inside : at < length run.packets = let i = may.judges.inside in omega arith in
     let packet : PacketFacts = get_or run.packets at (record { interface = 0; moment = 0; frame = [] }) in
     let stands = slice_get-get_or run.packets at (record { interface = 0; moment = 0; frame = [] }) inside in
-    let at_own : Interface = record { number = packet.interface; own = run.policy.own } in
+    let at_own : Interface = record { number = packet.interface; own = (section_of packet.interface run.policy).own } in
     next_is run traces all may.told placed before w packet (view_of packet.frame at_own)
     (record {
       stands = ap (slice_get run.packets) count ∙ stands;
@@ -329,7 +329,7 @@ all_judges ga gb run layout workers count are = record {
   are = record {
     inside = omega arith;
     each = λ k packet view below at shown. are.each k packet below
-        (ap (slice_get run.packets) (let e : k ≡ 0 + k = omega arith in e) ∙ at) run.policy.own view shown
+        (ap (slice_get run.packets) (let e : k ≡ 0 + k = omega arith in e) ∙ at) (section_of packet.interface run.policy).own view shown
         ∙ ap (λ l. worker_by run.deal.dealing l run.deal.workers (0 + k) (flow_shown view)) (sym layout);
   };
   all = count;

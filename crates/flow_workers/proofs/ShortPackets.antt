@@ -5,7 +5,7 @@ use Rattle.std.specs.List.{last_or}
 use Rattle.packet_view.specs.Captures.{PacketFacts}
 use Rattle.packet_view.specs.Frames as frames
 use Rattle.packet_view.specs.Frames.{FrameFacts, frame_facts}
-use Rattle.acl_policy.specs.Policies.{PolicyFacts}
+use Rattle.acl_policy.specs.Policies.{PolicyFacts, section_of}
 use Rattle.acl_policy.specs.declared.rule.Action.{Action}
 use Rattle.acl_policy.specs.declared.rule.Action.TheVariants.{Deny, Permit, Reflect}
 use Rattle.bihash_words.specs.declared.patch.Reply.{Reply}
@@ -124,7 +124,7 @@ flow_reply l took (Six key) e v w entered four six = last_reply l.six v.six w.si
 
 pub short_packet : {A B K L : Type 0} (ga : Ghosts A K) (gb : Ghosts B L) (policy : PolicyFacts) (times : Timeouts)
     (s : PacketFacts) (p : ViewedPacket) (ruling : Ruling) (u : Update) (w : Views) (r : Reply) (found : Option ℕ)
-    → IsViewed policy.own s p → update_of times (reading_in p ruling) ≡ Some u
+    → IsViewed (section_of s.interface policy).own s p → update_of times (reading_in p ruling) ≡ Some u
     → IsFlowReply u.key w r → ((log2 left : ℕ) → r ≡ reply.NoPages log2 left → IsFlowOutOfPages ga gb u.key w log2 left)
     → verdict_of u.patch ruling found r ≡ verdict.NoPages → IsPacketOutOfPages ga gb policy s w
 short_packet ga gb policy times s p ruling u w r found seen asks replied short e =

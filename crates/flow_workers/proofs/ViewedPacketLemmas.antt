@@ -11,7 +11,7 @@ use Rattle.session_state.specs.Sessions.{is_expired_at}
 use Rattle.session_state.specs.declared.flow.FlowKey.{FlowKey}
 use Rattle.flow_filter.specs.declared.filter.ReadyFilter.{ReadyFilter}
 use Rattle.flow_filter.specs.declared.verdict.Verdict.{Verdict}
-use Rattle.flow_filter.specs.Filters.{policy_in}
+use Rattle.flow_filter.specs.Filters.{section_in}
 use Rattle.flow_filter.specs.Judged.{verdict_with}
 use Rattle.flow_filter.specs.Readings.{Ruling}
 use Rattle.flow_filter.specs.Updates.{Update, update_of}
@@ -24,24 +24,24 @@ use Rattle.flow_workers.specs.Judging.{TookByOneTry}
 use Rattle.flow_workers.specs.inner.Preparing.{IsFrameRuling}
 use Rattle.flow_workers.specs.inner.Updates.{TellsFlow, TellsFlowTry}
 use Rattle.flow_workers.specs.inner.ViewedPackets.{TellsViewed, TellsViewedTry}
-use Rattle.flow_workers.proofs.JudgedPackets.{answered, reading_in, settled}
+use Rattle.flow_workers.proofs.JudgedPackets.{answered, reading_in, ruled_by, settled}
 use Rattle.flow_workers.proofs.ShortPackets.{flow_reply, settled_has_pages, short_packet}
 
 -- of a packet without an update, whose callers stay as they are
 pub told_settled : {A B K L : Type 0} (ga : Ghosts A K) (gb : Ghosts B L) (took : View → View → Reply → Type 0)
     (filter : ReadyFilter) (packet : ViewedPacket) (ruling : Ruling) (tables : Tables A B K L)
     (callers : Callers A B K L ga gb) (verdict : Verdict) → AreIdle ga gb tables callers
-    → IsFrameRuling (policy_in filter) (frame_facts packet.frame.now) ruling
+    → IsFrameRuling (section_in filter) (frame_facts packet.frame.now) ruling
     → (update_of filter.times (reading_in packet ruling) ≡ None)
     × (verdict ≡ verdict_with filter.times (reading_in packet ruling) None)
     → TellsViewed took filter packet tables callers callers verdict
 told_settled ga gb took filter packet ruling tables callers verdict idle ruled known = record {
   same = record { four = refl; six = refl };
   idle = idle;
-  judged = λ s seen.
-      settled _ took filter.times (policy_in filter) s packet ruling _ verdict
-      (record { seen = seen; ruled = ruled }) known;
-  no_pages = λ s seen said. absurd
+  judged = λ policy s seen.
+      settled _ took filter.times policy s packet ruling _ verdict (ruled_by filter policy s packet ruling seen ruled)
+      known;
+  no_pages = λ policy s seen said. absurd
       (settled_has_pages filter.times packet.moment (frame_facts packet.frame.now) ruling verdict known said);
   wanted = (λ had. had, λ had. had);
 }
@@ -50,7 +50,7 @@ told_settled ga gb took filter packet ruling tables callers verdict idle ruled k
 pub told_answered : {A B K L : Type 0} (ga : Ghosts A K) (gb : Ghosts B L) (took : View → View → Reply → Type 0)
     (filter : ReadyFilter) (packet : ViewedPacket) (ruling : Ruling) (tables : Tables A B K L)
     (old new : Callers A B K L ga gb) (u : Update) (reply : Reply) (verdict : Verdict)
-    → IsFrameRuling (policy_in filter) (frame_facts packet.frame.now) ruling
+    → IsFrameRuling (section_in filter) (frame_facts packet.frame.now) ruling
     → update_of filter.times (reading_in packet ruling) ≡ Some u
     → TellsFlow took tables old new u.key (decision_of u.patch) (is_expired_at filter.times packet.moment) reply
     → verdict ≡ verdict_of u.patch ruling (found_by reply) reply
@@ -58,11 +58,12 @@ pub told_answered : {A B K L : Type 0} (ga : Ghosts A K) (gb : Ghosts B L) (took
 told_answered ga gb took filter packet ruling tables old new u reply verdict ruled asks told said = record {
   same = told.same;
   idle = told.idle;
-  judged = λ s seen.
-      answered _ took filter.times (policy_in filter) s packet ruling _ _ verdict u reply
-      (record { seen = seen; ruled = ruled }) asks told.entered said;
-  no_pages = λ s seen none.
-      short_packet ga gb (policy_in filter) filter.times s packet ruling u _ reply (found_by reply) seen asks
+  judged = λ policy s seen.
+      answered _ took filter.times policy s packet ruling _ _ verdict u reply
+      (ruled_by filter policy s packet ruling seen ruled) asks told.entered said;
+  no_pages = λ policy s seen none.
+      short_packet ga gb policy filter.times s packet ruling u _ reply (found_by reply)
+      (ruled_by filter policy s packet ruling seen ruled).seen asks
       (flow_reply _ took u.key _ _ _ told.entered.1 told.idle.lawful.0.acts told.idle.lawful.1.acts)
       told.no_pages (sym said ∙ none);
   wanted = told.wanted;

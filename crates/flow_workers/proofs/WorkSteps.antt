@@ -8,7 +8,7 @@ use Rattle.packet_view.specs.Captures.{PacketFacts}
 use Rattle.packet_view.specs.Frames as frames
 use Rattle.packet_view.specs.declared.tuple.Family.{Family}
 use Rattle.packet_view.specs.declared.tuple.Family.TheVariants.{V4, V6}
-use Rattle.acl_policy.specs.Policies.{PolicyFacts}
+use Rattle.acl_policy.specs.Policies.{PolicyFacts, SectionFacts, section_of}
 use Rattle.bihash_words.specs.Maps.{Event}
 use Rattle.bihash_words.specs.Sizes.{Sizes}
 use Rattle.bihash_steps.specs.BucketSteps.{push_call}
@@ -174,12 +174,12 @@ view_at policy packets views at packet this all stands only = view_there policy 
 
 -- ---- A worker's packet, and another's
 
-flow_of_reading : (policy : PolicyFacts) (moment : ℕ) (view : frames.FrameFacts) (reading : Reading)
-    → IsReadingOf policy moment view reading → flow_in reading ≡ flow_shown view
-flow_of_reading policy moment frames.NotIp reading is = ap flow_in is
-flow_of_reading policy moment frames.Malformed reading is = ap flow_in is
-flow_of_reading policy moment frames.Short reading is = ap flow_in is
-flow_of_reading policy moment (frames.Ip direction tuple) reading is = ap flow_in is.2
+flow_of_reading : (section : SectionFacts) (moment : ℕ) (view : frames.FrameFacts) (reading : Reading)
+    → IsReadingOf section moment view reading → flow_in reading ≡ flow_shown view
+flow_of_reading section moment frames.NotIp reading is = ap flow_in is
+flow_of_reading section moment frames.Malformed reading is = ap flow_in is
+flow_of_reading section moment frames.Short reading is = ap flow_in is
+flow_of_reading section moment (frames.Ip direction tuple) reading is = ap flow_in is.2
 
 -- what is known of the packet at a place, and of its frame
 pub record IsAt (run : RunFacts) (at : ℕ) (packet : PacketFacts) (view : frames.FrameFacts) : Type 0 where
@@ -191,7 +191,7 @@ pub record IsAt (run : RunFacts) (at : ℕ) (packet : PacketFacts) (view : frame
 pub flow_at : (run : RunFacts) (at : ℕ) (packet : PacketFacts) (view : frames.FrameFacts) (reading : Reading)
     → IsAt run at packet view → IsReading run.policy packet reading → flow_in reading ≡ flow_shown view
 flow_at run at packet view reading is read =
-    flow_of_reading run.policy packet.moment read.0 reading read.2 ∙ ap flow_shown (is.only read.0 read.1)
+    flow_of_reading (section_of packet.interface run.policy) packet.moment read.0 reading read.2 ∙ ap flow_shown (is.only read.0 read.1)
 
 pub work_none : (run : RunFacts) (w : ℕ) (v : Views) → IsWorkUntil run w 0 v v []
 work_none run w v = record {

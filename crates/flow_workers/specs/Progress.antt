@@ -4,7 +4,6 @@ use Rattle.packet_view.specs.Captures.{PacketFacts}
 use Rattle.packet_view.specs.CheckedCaptures.{held}
 use Rattle.packet_view.specs.declared.packets.Packets.{Packets}
 use Rattle.bihash_words.specs.declared.shape.Shape.{Ghosts}
-use Rattle.flow_filter.specs.Filters.{policy_in}
 use Rattle.flow_filter.specs.OneThread.{layout_of}
 use Rattle.flow_filter.specs.declared.verdict.Verdict.{Verdict}
 use Rattle.flow_dealing.specs.Runs.{AreJudged}
@@ -16,7 +15,7 @@ use Rattle.flow_workers.specs.declared.tables.Callers.{Callers}
 use Rattle.flow_workers.specs.declared.workers.Workers.{Workers}
 use Rattle.flow_workers.specs.Callers.{AreIdle, AreShapes}
 use Rattle.flow_workers.specs.inner.Fresh.{IsFresh}
-use Rattle.flow_workers.specs.inner.Jobs.{HasDone, dealer_of}
+use Rattle.flow_workers.specs.inner.Jobs.{HasDone, dealer_of, policy_of}
 use Rattle.flow_workers.specs.inner.Shares.{AreFresh}
 
 -- from 1 to 16 workers, over tables whose keys are those of flows
@@ -85,7 +84,7 @@ abbrev pub HaveAllSaid : {A B R G K L : Type 0} (ga : Ghosts A K) (gb : Ghosts B
     → List Verdict → Type 0
 HaveAllSaid ga gb setup packets verdicts = AreJudged
     (record { layout = layout_of ga gb; dealing = setup.dealing; workers = setup.workers })
-    setup.filter.times (policy_in setup.filter) packets verdicts
+    setup.filter.now.times (policy_of setup) packets verdicts
 
 -- these are the verdicts on the packets that they judged
 abbrev pub HaveSaid : {A B R G K L : Type 0} {ga : Ghosts A K} {gb : Ghosts B L} → Workers A B R G K L ga gb

@@ -1,7 +1,7 @@
 //! The verdict on one packet, by one update at most.
 ghost use Rattle.packet_view.specs.Frames.{frame_facts};
 ghost use Rattle.bihash_table.specs.Tries.{TookByTries};
-ghost use Rattle.flow_filter.specs.Filters.{policy_in};
+ghost use Rattle.flow_filter.specs.Filters.{section_in};
 ghost use Rattle.flow_filter.specs.Liveness.{IsForeseen};
 ghost use Rattle.flow_workers.specs.Calls.{MayAsk, TellsVerdict, TellsVerdictTry};
 ghost use Rattle.flow_workers.specs.inner.Preparing.{IsFrameRuling};
@@ -28,7 +28,7 @@ fn try_judge_as<A: Shape, B: Shape, D: HasReading>(
     packet: &ViewedPacket<'_>,
 ) -> Result<Verdict, Contended>
     requires asks { MayAsk tables.now callers.old }
-    requires ruling { IsFrameRuling (policy_in filter.now) (frame_facts packet.now.frame.now) D.ruling }
+    requires ruling { IsFrameRuling (section_in filter.now) (frame_facts packet.now.frame.now) D.ruling }
     requires lives { IsForeseen filter.now.times packet.now.moment D.is_live }
     ensures { TellsViewedTry filter.now packet.now tables.now callers.old callers.new result }
 {
@@ -57,7 +57,7 @@ fn judge_as<A: Shape, B: Shape, D: HasReading, R: Wait>(
     packet: &ViewedPacket<'_>,
 ) -> Verdict
     requires asks { MayAsk tables.now callers.old }
-    requires ruling { IsFrameRuling (policy_in filter.now) (frame_facts packet.now.frame.now) D.ruling }
+    requires ruling { IsFrameRuling (section_in filter.now) (frame_facts packet.now.frame.now) D.ruling }
     requires lives { IsForeseen filter.now.times packet.now.moment D.is_live }
     ensures { TellsViewed TookByTries filter.now packet.now tables.now callers.old callers.new result }
 {
@@ -100,7 +100,7 @@ pub fn judge<A: Shape, B: Shape, R: Wait>(
     requires { MayAsk tables.now callers.old }
     ensures { TellsVerdict filter.now packet.now tables.now callers.old callers.new result }
 {
-    let filter = filter.ready();
+    let filter = filter.ready(packet.interface);
     let frame = view(packet.frame, packet.interface, filter.own);
     let flow = flow_in(&frame);
     let packet = ViewedPacket::new(packet, &frame, &flow);
@@ -117,7 +117,7 @@ pub fn try_judge<A: Shape, B: Shape>(
     requires { MayAsk tables.now callers.old }
     ensures { TellsVerdictTry filter.now packet.now tables.now callers.old callers.new result }
 {
-    let filter = filter.ready();
+    let filter = filter.ready(packet.interface);
     let frame = view(packet.frame, packet.interface, filter.own);
     let flow = flow_in(&frame);
     let packet = ViewedPacket::new(packet, &frame, &flow);

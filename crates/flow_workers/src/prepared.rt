@@ -19,14 +19,14 @@ pub enum Prepared<'a, D: HasReading> {
 
 impl<'a, D: HasReading> Prepared<'a, D> {
     ghost use Rattle.packet_view.specs.Frames.{frame_facts};
-    ghost use Rattle.flow_filter.specs.Filters.{policy_in};
+    ghost use Rattle.flow_filter.specs.Filters.{section_in};
     ghost use Rattle.flow_filter.specs.Liveness.{IsForeseen};
     ghost use Rattle.flow_workers.specs.inner.Preparing.{IsPrepared, IsFrameRuling, reading_with};
 
     /// The rules are asked here only where the packet takes no part in sessions.
     #[inline(always)]
     pub fn new(filter: &'a ReadyFilter<'a>, packet: &ViewedPacket<'a>) -> Prepared<'a, D>
-        requires ruling { IsFrameRuling (policy_in filter.now) (frame_facts packet.now.frame.now) D.ruling }
+        requires ruling { IsFrameRuling (section_in filter.now) (frame_facts packet.now.frame.now) D.ruling }
         requires lives { IsForeseen filter.now.times packet.now.moment D.is_live }
         ensures { IsPrepared ⟦<D as HasReading>⟧ filter.now.times
             (reading_with packet.now.moment (frame_facts packet.now.frame.now) D.ruling) result }

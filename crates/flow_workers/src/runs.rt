@@ -94,10 +94,11 @@ where
 {
     let (tables, callers) = create_tables::<A, B>(alloc)?;
     let prepared = filter.prepare(alloc, packets.count())?;
+    let ready = filter.ready_with(alloc, &prepared)?;
     let setup = Setup {
         rt,
         gate,
-        filter: filter.ready_with(&prepared),
+        filter: &ready,
         tables: &tables,
         dealing,
         workers,

@@ -8,21 +8,24 @@ use crate::judging::judge_viewed;
 use crate::share::{Job, Run, Share};
 use crate::viewed_packet::ViewedPacket;
 use bihash_words::Shape;
+use flow_filter::ReadyFilter;
 use packet_dealing::{DealtPart, flow_in};
 use packet_view::{Packet, plain_frame, view};
 use std::alloc::AllocError;
 use std::sync::Wait;
 
-// Judges a packet of the worker, which stands at this place among those of the run and was viewed, and says its verdict.
+// Judges a packet of the worker, which stands at this place among those of the run and was viewed, by the filter at its
+// interface, and says its verdict.
 #[inline(always)]
 fn judge_own_viewed<A: Shape, B: Shape, R: Wait, G: Gate>(
     run: &Run<'_, '_, A, B, R, G>,
     worker: usize,
     at: usize,
+    filter: &ReadyFilter<'_>,
     packet: &ViewedPacket<'_>,
     share: &mut Share<A, B>,
 ) -> Result<(), AllocError>
-    requires { MayJudgeViewed ⟦<A as Shape>⟧ ⟦<B as Shape>⟧ run.now worker at packet.now share.old }
+    requires { MayJudgeViewed ⟦<A as Shape>⟧ ⟦<B as Shape>⟧ run.now worker at filter.now packet.now share.old }
     ensures { IfOk result (λ _. HasWorkedOn ⟦<A as Shape>⟧ ⟦<B as Shape>⟧ run.now worker at (at + 1) share.old share.new) }
 {
     let setup = &run.setup;
@@ -30,7 +33,7 @@ fn judge_own_viewed<A: Shape, B: Shape, R: Wait, G: Gate>(
     setup.gate.before(worker, number);
     let verdict = judge_viewed(
         setup.rt,
-        &setup.filter,
+        filter,
         setup.tables,
         &mut share.callers,
         packet,
@@ -53,10 +56,11 @@ fn judge_own_slowly<A: Shape, B: Shape, R: Wait, G: Gate>(
     requires { MayJudge ⟦<A as Shape>⟧ ⟦<B as Shape>⟧ run.now worker at (packet_facts packet.now) share.old }
     ensures { IfOk result (λ _. HasWorkedOn ⟦<A as Shape>⟧ ⟦<B as Shape>⟧ run.now worker at (at + 1) share.old share.new) }
 {
-    let frame = view(packet.frame, packet.interface, run.setup.filter.own);
+    let filter = run.setup.filter.at(packet.interface);
+    let frame = view(packet.frame, packet.interface, filter.own);
     let flow = flow_in(&frame);
     let viewed = ViewedPacket::new(packet, &frame, &flow);
-    judge_own_viewed(run, worker, at, &viewed, share)
+    judge_own_viewed(run, worker, at, filter, &viewed, share)
 }
 
 /// Judges a packet of the worker, which stands at this place among those of the run, and says its verdict. All that it
@@ -72,12 +76,13 @@ pub fn judge_own<A: Shape, B: Shape, R: Wait, G: Gate>(
     requires { MayJudge ⟦<A as Shape>⟧ ⟦<B as Shape>⟧ run.now worker at (packet_facts packet.now) share.old }
     ensures { IfOk result (λ _. HasWorkedOn ⟦<A as Shape>⟧ ⟦<B as Shape>⟧ run.now worker at (at + 1) share.old share.new) }
 {
-    let Some(frame) = plain_frame(packet.frame, packet.interface, run.setup.filter.own) else {
+    let filter = run.setup.filter.at(packet.interface);
+    let Some(frame) = plain_frame(packet.frame, packet.interface, filter.own) else {
         return judge_own_slowly(run, worker, at, packet, share);
     };
     let flow = flow_in(&frame);
     let viewed = ViewedPacket::new(packet, &frame, &flow);
-    judge_own_viewed(run, worker, at, &viewed, share)
+    judge_own_viewed(run, worker, at, filter, &viewed, share)
 }
 
 // Judges the worker's packets of a dealt part, which begins at this place among those of the run.

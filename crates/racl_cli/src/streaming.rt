@@ -98,10 +98,13 @@ fn judge_records<'t, R: Source + Send, T: Threads + Wait + Sync>(
     let Ok(prepared) = filter.prepare(alloc, expected) else {
         return Err(Fault::Memory);
     };
+    let Ok(ready) = filter.ready_with(alloc, &prepared) else {
+        return Err(Fault::Memory);
+    };
     let setup = Setup {
         rt,
         gate: &OpenGate,
-        filter: filter.ready_with(&prepared),
+        filter: &ready,
         tables: &tables,
         dealing: Dealing::Bucket,
         workers,

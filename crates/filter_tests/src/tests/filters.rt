@@ -30,7 +30,7 @@ fn a_filter_is_ready(rt: HostRuntime) -> Result<(), Fail> {
         policy: read_policy(rt.alloc(), b"mac 02:00:00:0a:0b:ff\n")?,
         times: TIMES,
     };
-    let ready = filter.ready();
+    let ready = filter.ready(0);
     assert_eq!(rt; ready.own, Some(Mac([2, 0, 0, 10, 11, 255])));
     assert_eq!(rt; ready.times.transient, 120);
     Ok(())
@@ -54,11 +54,38 @@ fn prepared_rules_decide_as_the_listed_ones(rt: HostRuntime) -> Result<(), Fail>
         times: TIMES,
     };
     let prepared = filter.prepare(rt.alloc(), 10_000).expect(&rt, "memory");
-    assert!(rt; prepared.inbound.is_some() && prepared.outbound.is_none());
+    let first = prepared.first().ok_or("nothing prepared")?;
+    assert!(rt; first.inbound.is_some() && first.outbound.is_none());
+    let all = filter.ready_with(rt.alloc(), &prepared).expect(&rt, "memory");
     let udp = tuple(17, Fields::Ports { from: 80, to: 1000 });
-    for ready in [filter.ready(), filter.ready_with(&prepared)] {
+    for ready in [filter.ready(0), *all.at(0)] {
         let inbound = ready.rules_of(Direction::Inbound);
         assert_eq!(rt; inbound.first_match(&udp), Some((70, Action::Permit)));
+    }
+    Ok(())
+}
+
+/// Each interface has the rules of its section, and one without a section neither an own address nor rules.
+#[test]
+fn rules_of_two_interfaces(rt: HostRuntime) -> Result<(), Fail> {
+    let text = b"mac 02:00:00:00:00:01\nin deny ipv4 any any tcp\n\
+        interface 2\nmac 02:00:00:00:00:02\nin permit ipv4 any any udp\n";
+    let filter = Filter {
+        policy: read_policy(rt.alloc(), text)?,
+        times: TIMES,
+    };
+    let prepared = filter.prepare(rt.alloc(), 10).expect(&rt, "memory");
+    let all = filter.ready_with(rt.alloc(), &prepared).expect(&rt, "memory");
+    let udp = tuple(17, Fields::Ports { from: 80, to: 1000 });
+    for (number, own, rule) in [
+        (0, Some(1), None),
+        (1, None, None),
+        (2, Some(2), Some((0, Action::Permit))),
+    ] {
+        let own = own.map(|last| Mac([2, 0, 0, 0, 0, last]));
+        assert_eq!(rt; all.at(number).own, own);
+        let inbound = filter.ready(number).rules_of(Direction::Inbound);
+        assert_eq!(rt; inbound.first_match(&udp), rule);
     }
     Ok(())
 }

@@ -1,6 +1,6 @@
 //! A packet's update with the rules that are asked late.
 ghost use Rattle.std.specs.Prelude.{◌≡◌};
-ghost use Rattle.flow_filter.specs.Filters.{policy_in};
+ghost use Rattle.flow_filter.specs.Filters.{section_in};
 ghost use Rattle.flow_filter.specs.Liveness.{IsForeseen};
 ghost use Rattle.flow_filter.specs.PacketFlows.{IsRulingOn};
 
@@ -30,7 +30,7 @@ fn outcome_as<D: HasReading>(
     reply: Reply,
     found: Option<u64>,
 ) -> Outcome
-    requires ruling { IsRulingOn (policy_in filter.now) packet D.ruling }
+    requires ruling { IsRulingOn (section_in filter.now) packet D.ruling }
     requires lives { IsForeseen filter.now.times packet.moment D.is_live }
 {
     let patch = LazyPatch::<D>::new(filter, packet);
@@ -57,6 +57,7 @@ fn udp_outcome(action: Action, moment: u32, reply: Reply, found: Option<u64>) ->
     let search = RuleSearch::Listed(&rules);
     let listed = Ruleset { search };
     let filter = ReadyFilter {
+        interface: 0,
         own: None,
         inbound: listed,
         outbound: listed,

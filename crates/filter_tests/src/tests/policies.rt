@@ -11,7 +11,8 @@ fn whole_policy(rt: HostRuntime) -> Result<(), Fail> {
         out permit+reflect ipv4 10.0.0.1 any udp dport 53\n\
         in\tpermit ipv4 any 10.0.0.1/32 icmp type 8\n\
         in deny ipv6 any any";
-    let policy = read_policy(rt.alloc(), text)?;
+    let read = read_policy(rt.alloc(), text)?;
+    let policy = read.section(0).ok_or("no section")?;
     assert_eq!(rt; policy.own, Some(Mac([2, 0, 0, 10, 11, 255])));
     assert_eq!(rt; policy.inbound.len(), 2);
     let names = Rule {
@@ -29,6 +30,26 @@ fn whole_policy(rt: HostRuntime) -> Result<(), Fail> {
     Ok(())
 }
 
+/// Each section has an own address and rules of its own.
+#[test]
+fn sections_of_two_interfaces(rt: HostRuntime) -> Result<(), Fail> {
+    let text = b"mac 02:00:00:00:00:01\n\
+        out permit+reflect ipv4 10.0.0.1 any udp dport 53\n\
+        interface 00002 # the other one\n\
+        mac 02:00:00:00:00:02\n\
+        out deny ipv4 any any\n\
+        out permit ipv4 any any udp\n";
+    let policy = read_policy(rt.alloc(), text)?;
+    assert_eq!(rt; policy.sections.len(), 2);
+    for (number, own, rules) in [(0, 1, 1), (2, 2, 2)] {
+        let section = policy.section(number).ok_or("no section")?;
+        assert_eq!(rt; section.own, Some(Mac([2, 0, 0, 0, 0, own])));
+        assert_eq!(rt; section.outbound.len(), rules);
+    }
+    assert!(rt; policy.section(1).is_none());
+    Ok(())
+}
+
 /// A carriage return before no line feed, as no line of an input ends.
 #[test]
 fn carriage_return_at_the_end(rt: HostRuntime) {
@@ -42,7 +63,8 @@ fn bits_beyond_a_length(rt: HostRuntime) -> Result<(), Fail> {
     let text = b"in deny ipv4 255.255.255.255/0 any\n\
         in deny ipv4 010.000.00.1/8 any\n\
         in deny ipv6 0001:2::7:0/064 any\n";
-    let policy = read_policy(rt.alloc(), text)?;
+    let read = read_policy(rt.alloc(), text)?;
+    let policy = read.section(0).ok_or("no section")?;
     assert_eq!(rt; policy.inbound.len(), 3);
     let groups = 0x0001_0002_0000_0000_0000_0000_0007_0000;
     for (number, rule) in policy.inbound.iter().enumerate() {

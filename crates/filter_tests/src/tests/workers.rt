@@ -134,10 +134,12 @@ fn verdicts_on_parts<R: Threads + Wait + Sync, G: Gate + Sync>(
     let Ok((tables, callers)) = create_tables::<ShapeV4, ShapeV6>(alloc) else {
         return Err(RunFault::Memory);
     };
+    let prepared = filter.prepare(alloc, 0)?;
+    let ready = filter.ready_with(alloc, &prepared)?;
     let setup = Setup {
         rt,
         gate,
-        filter: filter.ready(),
+        filter: &ready,
         tables: &tables,
         dealing: Dealing::Bucket,
         workers: 2,

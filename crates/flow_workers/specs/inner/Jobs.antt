@@ -3,10 +3,12 @@ use Rattle.std.specs.Prelude.{◌≡◌, ◌<◌, ◌+◌, ◌++◌, ◌^◌, �
 use Rattle.packet_view.specs.Captures.{PacketFacts}
 use Rattle.packet_view.specs.CheckedCaptures.{held}
 use Rattle.packet_view.specs.Frames.{FrameFacts, frame_facts}
+use Rattle.acl_policy.specs.Policies.{PolicyFacts, policy_facts}
 use Rattle.bihash_words.specs.declared.shape.Shape.{Ghosts}
-use Rattle.flow_filter.specs.Filters.{policy_in}
 use Rattle.flow_filter.specs.OneThread.{layout_of}
 use Rattle.flow_filter.specs.Readings.{IsSeenAt}
+use Rattle.flow_filter.specs.ReadyFilters.{IsReadyAt}
+use Rattle.flow_filter.specs.declared.filter.ReadyFilter.{ReadyFilter}
 use Rattle.flow_dealing.specs.Dealings.{flow_shown, worker_by}
 use Rattle.flow_dealing.specs.Views.{Views}
 use Rattle.packet_dealing.specs.Dealt.{AreDealt, IsDealtPart, IsDealtTo}
@@ -21,13 +23,17 @@ use Rattle.flow_workers.specs.Callers.{AreIdle, AreShapes, views_of}
 use Rattle.flow_workers.specs.inner.ViewedPackets.{IsViewed}
 use Rattle.flow_workers.specs.inner.Work.{IsWorkUntil, RunFacts}
 
+-- the policy that workers go by
+abbrev pub policy_of : {A B R G K L : Type 0} → Setup A B R G K L → PolicyFacts
+policy_of setup = policy_facts setup.filter.now.policy.now
+
 -- what verdicts on all packets rest on
 abbrev pub run_facts : {A B R G K L : Type 0} (ga : Ghosts A K) (gb : Ghosts B L) → Setup A B R G K L
     → List PacketFacts → RunFacts
 run_facts ga gb setup all = record {
   deal = record { layout = layout_of ga gb; dealing = setup.dealing; workers = setup.workers };
-  times = setup.filter.times;
-  policy = policy_in setup.filter;
+  times = setup.filter.now.times;
+  policy = policy_of setup;
   packets = all;
 }
 
@@ -63,12 +69,14 @@ pub record MayJudge {A B R G K L : Type 0} (ga : Ghosts A K) (gb : Ghosts B L) (
   pub there : slice_get (held run.packets) at ≡ Some packet
   pub mine : IsDealtTo ga gb (dealer_of run.setup) (run.first + at) packet worker
 
--- the packet at this place of the run was viewed so, and its frame is nothing else
-pub record IsViewedAt {A B R G K L : Type 0} (run : Run A B R G K L) (at : ℕ) (viewed : ViewedPacket) : Type 0 where
+-- the packet at this place of the run was viewed so, by the filter at its interface, and its frame is nothing else
+pub record IsViewedAt {A B R G K L : Type 0} (run : Run A B R G K L) (at : ℕ) (filter : ReadyFilter)
+    (viewed : ViewedPacket) : Type 0 where
   pub packet : PacketFacts
   pub there : slice_get (held run.packets) at ≡ Some packet
-  pub seen : IsViewed run.setup.filter.own packet viewed
-  pub only : (other : FrameFacts) → IsSeenAt run.setup.filter.own packet other → other ≡ frame_facts viewed.frame.now
+  pub ready : IsReadyAt (policy_of run.setup) run.setup.filter.now.times packet.interface filter
+  pub seen : IsViewed filter.own packet viewed
+  pub only : (other : FrameFacts) → IsSeenAt filter.own packet other → other ≡ frame_facts viewed.frame.now
 
 -- the worker of the packet at this place, whose frame turned out to be this
 abbrev pub IsWorkerOf : {A B R G K L : Type 0} (ga : Ghosts A K) (gb : Ghosts B L) → Run A B R G K L → ℕ → FrameFacts
@@ -78,11 +86,11 @@ IsWorkerOf ga gb run at frame worker =
 
 -- the same of a packet that was viewed
 pub record MayJudgeViewed {A B R G K L : Type 0} (ga : Ghosts A K) (gb : Ghosts B L) (run : Run A B R G K L)
-    (worker at : ℕ) (viewed : ViewedPacket) (share : Share A B K L ga gb) : Type 0 where
+    (worker at : ℕ) (filter : ReadyFilter) (viewed : ViewedPacket) (share : Share A B K L ga gb) : Type 0 where
   pub shapes : AreShapes ga gb
   pub idle : AreIdle ga gb run.setup.tables.now share.callers
   pub fits : run.first + length (held run.packets) < 2 ^ 64
-  pub stands : IsViewedAt run at viewed
+  pub stands : IsViewedAt run at filter viewed
   pub mine : IsWorkerOf ga gb run at (frame_facts viewed.frame.now) worker
 
 -- the part has packets of the run from this place on, with their workers

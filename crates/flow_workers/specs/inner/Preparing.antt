@@ -3,7 +3,7 @@ use Rattle.std.specs.Prelude.{◌≡◌, ℕ, Some, None}
 use Rattle.packet_view.specs.Frames as frames
 use Rattle.packet_view.specs.Frames.{FrameFacts}
 use Rattle.acl_policy.specs.Matching.{IsRuling}
-use Rattle.acl_policy.specs.Policies.{PolicyFacts, rules_of}
+use Rattle.acl_policy.specs.Policies.{SectionFacts, rules_of}
 use Rattle.session_state.specs.declared.timeouts.Timeouts.{Timeouts}
 use Rattle.flow_filter.specs.declared.lazy_patch.HasReading.{Ghosts}
 use Rattle.flow_filter.specs.declared.verdict.Verdict.TheVariants as verdict
@@ -14,12 +14,12 @@ use Rattle.flow_filter.specs.Judged.{verdict_with}
 use Rattle.flow_workers.specs.declared.prepared.Prepared.{Prepared}
 use Rattle.flow_workers.specs.declared.prepared.Prepared.TheVariants.{Settled, Asks}
 
--- the rules say this of a packet whose frame turns out to be this
-abbrev pub IsFrameRuling : PolicyFacts → FrameFacts → Ruling → Type 0
-IsFrameRuling policy frames.NotIp ruling = Unit {0}
-IsFrameRuling policy frames.Malformed ruling = Unit {0}
-IsFrameRuling policy frames.Short ruling = Unit {0}
-IsFrameRuling policy (frames.Ip direction tuple) ruling = IsRuling (rules_of direction policy) tuple ruling
+-- the rules of its interface say this of a packet whose frame turns out to be this
+abbrev pub IsFrameRuling : SectionFacts → FrameFacts → Ruling → Type 0
+IsFrameRuling section frames.NotIp ruling = Unit {0}
+IsFrameRuling section frames.Malformed ruling = Unit {0}
+IsFrameRuling section frames.Short ruling = Unit {0}
+IsFrameRuling section (frames.Ip direction tuple) ruling = IsRuling (rules_of direction section) tuple ruling
 
 -- its reading then
 abbrev pub reading_with : ℕ → FrameFacts → Ruling → Reading

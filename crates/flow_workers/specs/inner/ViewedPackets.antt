@@ -3,11 +3,12 @@ use Rattle.std.specs.Prelude.{◌≡◌, true, Option, None, Result, IfOk, IfErr
 use Rattle.packet_view.specs.Captures.{PacketFacts}
 use Rattle.packet_view.specs.Frames.{frame_facts}
 use Rattle.packet_view.specs.declared.tuple.Mac.{Mac}
+use Rattle.acl_policy.specs.Policies.{PolicyFacts, section_of}
 use Rattle.bihash_words.specs.declared.patch.Reply.{Reply}
 use Rattle.bihash_words.specs.declared.shape.Shape.{Ghosts}
 use Rattle.bihash_steps.specs.declared.view.View.{View}
 use Rattle.bihash_table.specs.declared.contended.Contended.{Contended}
-use Rattle.flow_filter.specs.Filters.{policy_in}
+use Rattle.flow_filter.specs.Filters.{section_in}
 use Rattle.flow_filter.specs.declared.filter.ReadyFilter.{ReadyFilter}
 use Rattle.flow_filter.specs.declared.verdict.Verdict.{Verdict}
 use Rattle.flow_filter.specs.OneThread.{layout_of}
@@ -25,6 +26,12 @@ use Rattle.flow_workers.specs.inner.Wanted.{KeepWanted}
 abbrev pub IsViewed : Option Mac → PacketFacts → ViewedPacket → Type 0
 IsViewed own packet v = (packet.moment ≡ v.moment) × IsSeenAt own packet (frame_facts v.frame.now)
 
+-- the packet was viewed so, and the filter goes by what the policy says of its interface
+pub record IsViewedBy (policy : PolicyFacts) (filter : ReadyFilter) (packet : PacketFacts) (v : ViewedPacket)
+    : Type 0 where
+  pub section : section_in filter ≡ section_of packet.interface policy
+  pub seen : IsViewed filter.own packet v
+
 -- the verdict on each packet that was viewed so (`TellsVerdict` says it of one), by a call that took locks as
 -- `took` says
 pub record TellsViewed {A B K L : Type 0} {ga : Ghosts A K} {gb : Ghosts B L} (took : View → View → Reply → Type 0)
@@ -32,10 +39,10 @@ pub record TellsViewed {A B K L : Type 0} {ga : Ghosts A K} {gb : Ghosts B L} (t
     (verdict : Verdict) : Type 0 where
   pub same : AreSame ga gb old new
   pub idle : AreIdle ga gb tables new
-  pub judged : (s : PacketFacts) → IsViewed filter.own s packet
-      → HasVerdict ga gb took filter.times (policy_in filter) s old new verdict
-  pub no_pages : (s : PacketFacts) → IsViewed filter.own s packet
-      → ShowsOutOfPages ga gb (policy_in filter) s new verdict
+  pub judged : (policy : PolicyFacts) (s : PacketFacts) → IsViewedBy policy filter s packet
+      → HasVerdict ga gb took filter.times policy s old new verdict
+  pub no_pages : (policy : PolicyFacts) (s : PacketFacts) → IsViewedBy policy filter s packet
+      → ShowsOutOfPages ga gb policy s new verdict
   pub wanted : KeepWanted (layout_of ga gb) (views_of ga gb old) (views_of ga gb new)
 
 -- one try (`TellsVerdictTry` says it of one packet)
@@ -44,11 +51,11 @@ pub record TellsViewedTry {A B K L : Type 0} {ga : Ghosts A K} {gb : Ghosts B L}
     : Type 0 where
   pub same : AreSame ga gb old new
   pub idle : AreIdle ga gb tables new
-  pub judged : IfOk r (λ verdict. (s : PacketFacts) → IsViewed filter.own s packet
-      → HasVerdict ga gb TookByOneTry filter.times (policy_in filter) s old new verdict)
-  pub no_pages : IfOk r (λ verdict. (s : PacketFacts) → IsViewed filter.own s packet
-      → ShowsOutOfPages ga gb (policy_in filter) s new verdict)
-  pub refused : IfErr r (λ _. (s : PacketFacts) → IsViewed filter.own s packet
-      → HasNoVerdict ga gb filter.times (policy_in filter) s old new)
+  pub judged : IfOk r (λ verdict. (policy : PolicyFacts) (s : PacketFacts) → IsViewedBy policy filter s packet
+      → HasVerdict ga gb TookByOneTry filter.times policy s old new verdict)
+  pub no_pages : IfOk r (λ verdict. (policy : PolicyFacts) (s : PacketFacts) → IsViewedBy policy filter s packet
+      → ShowsOutOfPages ga gb policy s new verdict)
+  pub refused : IfErr r (λ _. (policy : PolicyFacts) (s : PacketFacts) → IsViewedBy policy filter s packet
+      → HasNoVerdict ga gb filter.times policy s old new)
   pub lone : old.four.seat.view.lone ≡ true → old.six.seat.view.lone ≡ true → is_ok r ≡ true
   pub settled : flow_shown (frame_facts packet.frame.now) ≡ None → is_ok r ≡ true

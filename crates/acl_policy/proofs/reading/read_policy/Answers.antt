@@ -12,6 +12,4 @@ returns-in-Ok-clause-refuses c =
 
 pub returns-in-Ok-clause-memory : goal.returns-in-Ok-clause-memory
 returns-in-Ok-clause-memory c =
-    let cases = c.in-Ok.ensures.cases in
-    let fault = rw cases.0 at c.read_lines.ensures.fault in
-    wanting c.args.text.now c.read_lines.result cases.1 fault
+    wanting c.args.text.now c.read_lines.result c.in-Ok.ensures.cases.1

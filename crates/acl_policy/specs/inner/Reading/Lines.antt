@@ -1,5 +1,5 @@
 -- What the reader of a line gives.
-use Rattle.std.specs.Prelude.{ℕ, List, [], ◌∷◌, codes, Option, Some, None, if◌then◌else◌}
+use Rattle.std.specs.Prelude.{ℕ, ◌==◌, List, [], ◌∷◌, codes, Option, Some, None, if◌then◌else◌}
 use Rattle.std.specs.Str.{bytes_eq}
 use Rattle.packet_view.specs.declared.tuple.Direction.{Direction}
 use Rattle.packet_view.specs.declared.tuple.Direction.TheVariants.{Inbound, Outbound}
@@ -9,16 +9,17 @@ use Rattle.acl_policy.specs.declared.line.Line.{Line}
 use Rattle.acl_policy.specs.declared.line.Line.TheVariants as read
 use Rattle.acl_policy.specs.declared.rule.Action.{Action}
 use Rattle.acl_policy.specs.declared.rule.Action.TheVariants.{Deny, Permit, Reflect}
-use Rattle.acl_policy.specs.Lines.{Blank, LineFacts, Own, Ruled}
+use Rattle.acl_policy.specs.Lines.{Begins, Blank, LineFacts, Own, Ruled}
 use Rattle.acl_policy.specs.inner.Reading.{if_last, next_in, ◌>>=◌}
 use Rattle.acl_policy.specs.inner.Reading.Prefixes.{mac_in, prefix_in}
-use Rattle.acl_policy.specs.inner.Reading.Traffic.{traffic_in}
+use Rattle.acl_policy.specs.inner.Reading.Traffic.{number_up_to_in, traffic_in}
 use Rattle.acl_policy.specs.Rules.{rule_facts}
 use Rattle.acl_policy.specs.Words.{without_comment, words_of}
 
 -- what a line says, without what the type of a rule keeps
 abbrev pub line_facts : Line → LineFacts
 line_facts read.Blank = Blank
+line_facts (read.Begins number) = Begins number
 line_facts (read.Own mac) = Own mac
 line_facts (read.Ruled direction rule) = Ruled direction (rule_facts rule)
 
@@ -76,9 +77,21 @@ own_line_in words = do
   mac ← mac_in one.0
   if_last (Own mac) one.1
 
+-- the number of an interface whose section begins
+unfoldable pub interface_in : List ℕ → Option ℕ
+interface_in word = number_up_to_in 255 word >>= λ number. if number == 0 then None else Some number
+
+unfoldable pub heading_in : List (List ℕ) → Option LineFacts
+heading_in words = do
+  one ← next_in words
+  number ← interface_in one.0
+  if_last (Begins number) one.1
+
 unfoldable pub said_in : List (List ℕ) → Option LineFacts
 said_in [] = Some Blank
-said_in (word ∷ words) = if bytes_eq word (codes "mac") then own_line_in words else rule_line_in (word ∷ words)
+said_in (word ∷ words) =
+    if bytes_eq word (codes "mac") then own_line_in words
+    else (if bytes_eq word (codes "interface") then heading_in words else rule_line_in (word ∷ words))
 
 unfoldable pub line_in : List ℕ → Option LineFacts
 line_in line = said_in (words_of (without_comment line))

@@ -1,8 +1,10 @@
 -- The packet is the one that was viewed, and the filter at hand is that of the call.
+use Rattle.std.proofs.Common.{subst}
 use Rattle.packet_view.specs.Captures.{packet_facts}
+use Rattle.acl_policy.specs.Policies.{policy_facts}
 use Rattle.bihash_table.specs.Tries.{TookByTries}
-use Rattle.flow_workers.specs.Verdicts.{HasVerdict, ShowsOutOfPages}
-use Rattle.flow_workers.proofs.JudgedPackets.{of_filter}
+use Rattle.flow_workers.specs.Verdicts.{HasVerdict}
+use Rattle.flow_workers.specs.inner.ViewedPackets.{IsViewedBy}
 use Rattle.flow_workers.proofs.judging.judge.Goals as goal
 
 pub returns : goal.returns
@@ -12,12 +14,14 @@ returns g c =
     let packet = packet_facts c.args.packet.now in
     let old = c.args.callers.now in
     let new = c.judge_viewed.new.callers in
-    let verdict = c.judge_viewed.result in record {
+    let verdict = c.judge_viewed.result in
+    let policy = policy_facts c.args.filter.now.policy in
+    let by : IsViewedBy policy c.ready-filter.result packet c.new-packet.result =
+    record { section = c.ready-filter.ensures.section; seen = seen } in
+    record {
       same = tells.same;
       idle = tells.idle;
-      judged = of_filter
-          (λ times policy. HasVerdict g.A.Shape g.B.Shape TookByTries times policy packet old new verdict)
-          c.ready-filter.ensures.times c.ready-filter.ensures.policy (tells.judged packet seen);
-      no_pages = of_filter (λ times policy. ShowsOutOfPages g.A.Shape g.B.Shape policy packet new verdict)
-          c.ready-filter.ensures.times c.ready-filter.ensures.policy (tells.no_pages packet seen);
+      judged = subst (λ times. HasVerdict g.A.Shape g.B.Shape TookByTries times policy packet old new verdict)
+          c.ready-filter.ensures.times (tells.judged policy packet by);
+      no_pages = tells.no_pages policy packet by;
     }

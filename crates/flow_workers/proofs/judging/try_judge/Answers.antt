@@ -2,19 +2,20 @@
 use Rattle.std.proofs.Common.{◌∙◌, ap, subst, sym}
 use Rattle.packet_view.specs.Captures.{packet_facts}
 use Rattle.packet_view.specs.Frames.{frame_facts}
-use Rattle.acl_policy.specs.Policies.{PolicyFacts}
-use Rattle.flow_filter.specs.Filters.{policy_in}
+use Rattle.acl_policy.specs.Policies.{SectionFacts, policy_facts}
+use Rattle.flow_filter.specs.Filters.{section_in}
 use Rattle.flow_filter.specs.Readings.{IsSeenAt}
 use Rattle.flow_dealing.specs.Dealings.{flow_shown}
 use Rattle.flow_workers.specs.Judging.{TookByOneTry}
-use Rattle.flow_workers.specs.Verdicts.{HasNoVerdict, HasVerdict, ShowsOutOfPages}
+use Rattle.flow_workers.specs.Verdicts.{HasNoVerdict, HasVerdict}
+use Rattle.flow_workers.specs.inner.ViewedPackets.{IsViewedBy}
 use Rattle.flow_workers.proofs.AnsweredUpdates.{if_err, if_ok}
-use Rattle.flow_workers.proofs.JudgedPackets.{is_ruling, of_filter}
+use Rattle.flow_workers.proofs.JudgedPackets.{is_ruling}
 use Rattle.flow_workers.proofs.judging.try_judge.Goals as goal
 
 pub try_judge_as-requires-clause-ruling : goal.try_judge_as-requires-clause-ruling
 try_judge_as-requires-clause-ruling g c =
-    is_ruling (policy_in c.ready-filter.result) (frame_facts c.new-packet.result.frame.now)
+    is_ruling (section_in c.ready-filter.result) (frame_facts c.new-packet.result.frame.now)
 
 pub returns : goal.returns
 returns g c =
@@ -22,23 +23,24 @@ returns g c =
     let new = c.try_judge_as.new.callers in
     let seen = c.new-packet.ensures.seen _ c.view-frame.ensures.shown in
     let packet = packet_facts c.args.packet.now in
-    let old = c.args.callers.now in record {
+    let old = c.args.callers.now in
+    let policy = policy_facts c.args.filter.now.policy in
+    let by : IsViewedBy policy c.ready-filter.result packet c.new-packet.result =
+    record { section = c.ready-filter.ensures.section; seen = seen } in
+    record {
       same = tells.same;
       idle = tells.idle;
       judged = if_ok _ _ c.try_judge_as.result
-          (λ verdict judged. of_filter
-          (λ times policy. HasVerdict g.A.Shape g.B.Shape TookByOneTry times policy packet old new verdict)
-          c.ready-filter.ensures.times c.ready-filter.ensures.policy (judged packet seen)) tells.judged;
-      no_pages = if_ok _ _ c.try_judge_as.result
-          (λ verdict short. of_filter (λ times policy. ShowsOutOfPages g.A.Shape g.B.Shape policy packet new verdict)
-          c.ready-filter.ensures.times c.ready-filter.ensures.policy (short packet seen)) tells.no_pages;
+          (λ verdict judged. subst
+          (λ times. HasVerdict g.A.Shape g.B.Shape TookByOneTry times policy packet old new verdict)
+          c.ready-filter.ensures.times (judged policy packet by)) tells.judged;
+      no_pages = if_ok _ _ c.try_judge_as.result (λ verdict short. short policy packet by) tells.no_pages;
       refused = if_err _ _ c.try_judge_as.result
-          (λ contended refused. of_filter
-          (λ times policy. HasNoVerdict g.A.Shape g.B.Shape times policy packet old new)
-          c.ready-filter.ensures.times c.ready-filter.ensures.policy (refused packet seen)) tells.refused;
+          (λ contended refused. subst (λ times. HasNoVerdict g.A.Shape g.B.Shape times policy packet old new)
+          c.ready-filter.ensures.times (refused policy packet by)) tells.refused;
       lone = tells.lone;
       settled = λ has.
-          let own = ap (λ (p : PolicyFacts). p.own) (sym c.ready-filter.ensures.policy) in
+          let own = ap (λ (section : SectionFacts). section.own) (sym c.ready-filter.ensures.section) in
           let framed = subst (λ o. IsSeenAt o packet has.view) own has.framed in
           tells.settled (ap (λ f. flow_shown (frame_facts f)) c.new-packet.ensures.frame
           ∙ (ap flow_shown (sym (c.view-frame.ensures.only has.view framed)) ∙ has.shown));

@@ -1,7 +1,7 @@
 -- The cases of a packet that was prepared.
 use Rattle.std.proofs.Common.{◌∙◌, sym}
 use Rattle.packet_view.specs.Frames.{frame_facts}
-use Rattle.flow_workers.proofs.JudgedPackets.{refused}
+use Rattle.flow_workers.proofs.JudgedPackets.{refused, ruled_by}
 use Rattle.flow_workers.proofs.ShortPackets.{flow_updated}
 use Rattle.flow_workers.proofs.ViewedPacketLemmas.{told_answered, told_settled, try_answered, try_judged}
 use Rattle.flow_workers.proofs.judging.try_judge_as.Goals as goal
@@ -24,8 +24,9 @@ returns-in-Err g c = record {
   idle = c.in-Err.ensures.idle;
   judged = tt;
   no_pages = tt;
-  refused = λ s seen.
-      refused _ _ _ s c.args.packet.now g.D.HasReading.ruling _ _ _ (record { seen = seen; ruled = c.requires.ruling })
+  refused = λ policy s seen.
+      refused _ _ _ s c.args.packet.now g.D.HasReading.ruling _ _ _
+      (ruled_by c.args.filter.now policy s c.args.packet.now g.D.HasReading.ruling seen c.requires.ruling)
       c.in-Asks.ensures c.in-Err.ensures.contended;
   lone = c.in-Err.ensures.lone;
   settled = λ none.

@@ -1,4 +1,6 @@
+use Rattle.std.proofs.Common.{ap}
 use Rattle.std.proofs.lemmas.Result.{IfOk-weaker}
+use Rattle.acl_policy.specs.Policies.{policy_facts}
 use Rattle.flow_dealing.proofs.FewPackets.{pages_for_few}
 use Rattle.flow_dealing.proofs.OneReport.{one_report}
 use Rattle.flow_dealing.proofs.Passing.{pass_at_place}
@@ -8,7 +10,7 @@ use Rattle.flow_workers.proofs.runs.run_workers.Goals as goal
 pub returns-clause-judged : goal.returns-clause-judged
 returns-clause-judged g c =
     IfOk-weaker c.run_setup.result _ _
-    (λ v said. judged_alike _ _ v.items _ _ _ _ c.ready_with.ensures.times c.ready_with.ensures.policy said)
+    (λ v said. judged_alike _ _ v.items _ _ _ _ c.in_ok-ready.ensures.times (ap policy_facts c.in_ok-ready.ensures.policy) said)
     c.run_setup.ensures
 
 pub returns-clause-one_report : goal.returns-clause-one_report

@@ -5,6 +5,6 @@ use Rattle.flow_workers.proofs.work.judge_own.Goals as goal
 
 pub judge_own_viewed-requires : goal.judge_own_viewed-requires
 judge_own_viewed-requires g c =
-    may_judge_viewed g.A.Shape g.B.Shape c.args.run.now c.args.worker c.args.at _ _ (frame_facts c.in-Some.frame) _
-    c.requires (c.new-viewed.ensures.seen _ c.in-Some.ensures.shown)
+    may_judge_viewed g.A.Shape g.B.Shape c.args.run.now c.args.worker c.args.at _ _ _ (frame_facts c.in-Some.frame) _
+    c.requires c.at-filter.ensures (c.new-viewed.ensures.seen _ c.in-Some.ensures.shown)
     (sym (ap frame_facts c.new-viewed.ensures.frame)) c.in-Some.ensures.shown c.in-Some.ensures.only

@@ -5,6 +5,6 @@ use Rattle.flow_workers.proofs.work.judge_own_slowly.Goals as goal
 
 pub judge_own_viewed-requires : goal.judge_own_viewed-requires
 judge_own_viewed-requires g c =
-    may_judge_viewed g.A.Shape g.B.Shape c.args.run.now c.args.worker c.args.at _ _ (frame_facts c.view-frame.result) _
-    c.requires (c.new-viewed.ensures.seen _ c.view-frame.ensures.shown)
+    may_judge_viewed g.A.Shape g.B.Shape c.args.run.now c.args.worker c.args.at _ _ _ (frame_facts c.view-frame.result) _
+    c.requires c.at-filter.ensures (c.new-viewed.ensures.seen _ c.view-frame.ensures.shown)
     (sym (ap frame_facts c.new-viewed.ensures.frame)) c.view-frame.ensures.shown c.view-frame.ensures.only

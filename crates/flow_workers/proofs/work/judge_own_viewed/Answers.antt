@@ -2,7 +2,7 @@ use Rattle.std.proofs.Common.{arith, sym}
 use Rattle.std.proofs.lemmas.Option.{slice_get_within}
 use Rattle.packet_view.specs.CheckedCaptures.{held}
 use Rattle.packet_view.specs.Frames.{frame_facts}
-use Rattle.flow_workers.proofs.DealtLemmas.{stands_among}
+use Rattle.flow_workers.proofs.DealtLemmas.{judged_among, viewed_among}
 use Rattle.flow_workers.proofs.WorkSteps.{one_more, work_push}
 use Rattle.flow_workers.proofs.work.judge_own_viewed.Goals as goal
 
@@ -22,13 +22,10 @@ returns g c =
           rw c.in_ok-push.ensures.items
           (one_more _ _ _ _ _ _ _
           (work_push _ _ _ _ _ _ _ stands.packet (frame_facts c.args.packet.now.frame.now) _
-          (record {
-            stands = stands_among g.A.Shape g.B.Shape c.args.run.now all among c.args.at _ stands.there;
-            shown = stands.seen.1;
-            only = stands.only;
-          })
+          (viewed_among g.A.Shape g.B.Shape c.args.run.now all among c.args.at c.args.filter.now c.args.packet.now stands)
           (sym c.requires.mine)
-          (c.judge_viewed-verdict.ensures.judged _ stands.seen)
+          (judged_among g.A.Shape g.B.Shape c.args.run.now c.args.at c.args.filter.now c.args.packet.now stands _ _ _
+          c.judge_viewed-verdict.ensures)
           c.judge_viewed-verdict.ensures.wanted
           old));
     }

@@ -27,7 +27,7 @@ returns-clause-ok g c =
     let verdicts = c.in-Ok-end.verdicts.items in
     let workers = c.plan_for-expected.result.1 in
     let judged : AreJudged (dealt_to workers) filter.times policy (packets_at 0 s.packets) verdicts =
-    judged_alike _ (packets_at 0 s.packets) verdicts _ _ _ _ c.ready_with.ensures.times c.ready_with.ensures.policy
+    judged_alike _ (packets_at 0 s.packets) verdicts _ _ _ _ c.in-Ok-ready_with.ensures.times (ap policy_facts c.in-Ok-ready_with.ensures.policy)
     (said_by _ _ _ _ (packets_at 0 s.packets) verdicts (s.judged.1.setup ∙ c.in-Ok-new.ensures.by) s.judged.1.rest c.in-Ok-end.ensures) in
     record {
       read = s.read;
