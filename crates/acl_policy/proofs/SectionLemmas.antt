@@ -1,5 +1,5 @@
 -- Sections one after another, with one line more.
-use Rattle.std.proofs.Common.{◌≡◌, ◌∙◌, ◌⊎◌, ℕ, ◌==◌, ◌||◌, false, true, List, [], ◌∷◌, ◌++◌, None, refl, sym, ap, subst, arith, inl, inr}
+use Rattle.std.proofs.Common.{◌≡◌, ◌∙◌, ◌⊎◌, ℕ, ◌==◌, ◌||◌, false, true, List, [], ◌∷◌, ◌++◌, refl, sym, ap, subst, arith, inl, inr}
 use Rattle.std.proofs.lemmas.Bool.{cases_Bool, eq-eqb, eqb-true}
 use Rattle.std.proofs.lemmas.List.{append-nil, append_assoc}
 use Rattle.acl_policy.specs.Lines.{Begins, IsLine}
@@ -200,7 +200,7 @@ last_says texts done section says = all_last done section texts says.sections
 
 pub among_more : (n : ℕ) (sections : List SectionFacts) (section : SectionFacts)
     → is_among n (numbers_of (sections ++ section ∷ [])) ≡ (is_among n (numbers_of sections) || (n == section.interface))
-among_more n [] section = elim (n == section.interface) as (λ t. (t || false) ≡ t) [ | true ↦ refl | false ↦ refl ]
+among_more n [] section = elim (n == section.interface) as (λ t. (t || false) ≡ t) [ true ↦ refl | false ↦ refl ]
 among_more n (s ∷ ss) section = elim (n == s.interface) as (λ t.
     (t || is_among n (numbers_of (ss ++ section ∷ []))) ≡ ((t || is_among n (numbers_of ss)) || (n == section.interface))) [
       | true ↦ refl

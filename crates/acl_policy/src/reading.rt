@@ -56,12 +56,7 @@ fn has_begun(draft: &Draft, interface: u8) -> bool
 }
 
 /// The policy of the lines so far with what the next one says. `number` is that line's.
-fn add_line(
-    alloc: Global,
-    draft: Draft,
-    line: &[u8],
-    number: u64,
-) -> Result<Draft, PolicyFault>
+fn add_line(alloc: Global, draft: Draft, line: &[u8], number: u64) -> Result<Draft, PolicyFault>
     ensures ok { IfOk result (λ added. line_added number (draft_facts draft) (line_in line.now)
         ≡ Ok (draft_facts added)) }
     ensures fault { IfErr result (Fails (line_added number (draft_facts draft) (line_in line.now))) }

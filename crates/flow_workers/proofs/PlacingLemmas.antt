@@ -18,6 +18,7 @@ use Rattle.bihash_steps.proofs.Lists.{at_after, there, within}
 use Rattle.packet_dealing.proofs.DealtLists.{left_behind, none_left}
 use Rattle.packet_dealing.specs.Dealt.{AreWorkers}
 use Rattle.packet_dealing.specs.declared.dealer.Dealer.{Dealer}
+use Rattle.acl_policy.specs.Policies.{section_of}
 use Rattle.flow_filter.specs.declared.verdict.Verdict.{Verdict}
 use Rattle.flow_filter.specs.OneThread.{layout_of}
 use Rattle.flow_dealing.specs.Dealings.{Deal, flow_shown, worker_by, worker_of}

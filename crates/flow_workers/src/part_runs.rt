@@ -29,6 +29,7 @@ fn note_workers(judges: &mut Vec<u8>, dealt: &[DealtPart<'_>]) -> Result<(), All
 /// and the packets are many. The workers of the packets come after those that are noted.
 pub fn judge_run<
     't,
+    'f,
     'a,
     A: Shape + Send + Sync,
     B: Shape + Send + Sync,
@@ -36,7 +37,7 @@ pub fn judge_run<
     G: Gate + Sync,
 >(
     alloc: Global,
-    run: Run<'t, 'a, A, B, R, G>,
+    run: Run<'t, 'f, 'a, A, B, R, G>,
     shares: Vec<Share<A, B>>,
     judges: &mut Vec<u8>,
 ) -> Result<Vec<Share<A, B>>, AllocError>

@@ -26,6 +26,7 @@ use std::thread::Threads;
 // The verdicts on the packets, in their order, by workers of this setup, which begin with these callers.
 fn run_setup<
     't,
+    'f,
     'a,
     A: Shape + Send + Sync,
     B: Shape + Send + Sync,
@@ -33,7 +34,7 @@ fn run_setup<
     G: Gate + Sync,
 >(
     alloc: Global,
-    setup: Setup<'t, A, B, R, G>,
+    setup: Setup<'t, 'f, A, B, R, G>,
     callers: Callers<A, B>,
     packets: Packets<'a>,
 ) -> Result<Vec<Verdict>, RunFault>

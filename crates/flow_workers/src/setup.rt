@@ -9,10 +9,10 @@ use std::sync::Wait;
 
 /// What workers share, whatever packets they judge.
 #[derive(Drop)]
-pub struct Setup<'t, A: Shape, B: Shape, R: Wait, G: Gate> {
+pub struct Setup<'t, 'f, A: Shape, B: Shape, R: Wait, G: Gate> {
     pub rt: &'t R,
     pub gate: &'t G,
-    pub filter: &'t ReadyFilters<'t>,
+    pub filter: &'t ReadyFilters<'f>,
     pub tables: &'t Tables<A, B>,
     pub dealing: Dealing,
     /// How many workers there are.
@@ -21,7 +21,7 @@ pub struct Setup<'t, A: Shape, B: Shape, R: Wait, G: Gate> {
     pub many: usize,
 }
 
-impl<'t, A: Shape, B: Shape, R: Wait, G: Gate> Setup<'t, A, B, R, G> {
+impl<'t, 'f, A: Shape, B: Shape, R: Wait, G: Gate> Setup<'t, 'f, A, B, R, G> {
     ghost use Rattle.std.specs.Prelude.{◌≡◌, ◌==◌};
     ghost use Rattle.flow_workers.specs.inner.Jobs.{dealer_of};
 
@@ -43,7 +43,7 @@ impl<'t, A: Shape, B: Shape, R: Wait, G: Gate> Setup<'t, A, B, R, G> {
     }
 
     /// The same once more, for another worker.
-    pub fn again(&self) -> Setup<'t, A, B, R, G>
+    pub fn again(&self) -> Setup<'t, 'f, A, B, R, G>
         ensures { result ≡ self.now }
     {
         Setup {

@@ -11,18 +11,18 @@ use std::sync::Wait;
 
 /// Packets that follow each other, which all workers judge.
 #[derive(Drop)]
-pub struct Run<'t, 'a, A: Shape, B: Shape, R: Wait, G: Gate> {
-    pub setup: Setup<'t, A, B, R, G>,
+pub struct Run<'t, 'f, 'a, A: Shape, B: Shape, R: Wait, G: Gate> {
+    pub setup: Setup<'t, 'f, A, B, R, G>,
     /// The number of the first of these packets, from 0.
     pub first: usize,
     pub packets: Packets<'a>,
 }
 
-impl<'t, 'a, A: Shape, B: Shape, R: Wait, G: Gate> Run<'t, 'a, A, B, R, G> {
+impl<'t, 'f, 'a, A: Shape, B: Shape, R: Wait, G: Gate> Run<'t, 'f, 'a, A, B, R, G> {
     ghost use Rattle.std.specs.Prelude.{◌≡◌};
 
     /// The run once more, for another worker.
-    pub fn again(&self) -> Run<'t, 'a, A, B, R, G>
+    pub fn again(&self) -> Run<'t, 'f, 'a, A, B, R, G>
         ensures { result ≡ self.now }
     {
         Run {
@@ -41,8 +41,8 @@ pub struct Dealt<'t, 'a> {
 
 /// What a worker is given: its number, from 0, and its share so far.
 #[derive(Drop)]
-pub struct Job<'t, 'a, A: Shape, B: Shape, R: Wait, G: Gate> {
-    pub run: Run<'t, 'a, A, B, R, G>,
+pub struct Job<'t, 'f, 'a, A: Shape, B: Shape, R: Wait, G: Gate> {
+    pub run: Run<'t, 'f, 'a, A, B, R, G>,
     pub dealt: Dealt<'t, 'a>,
     pub worker: usize,
     pub share: Share<A, B>,

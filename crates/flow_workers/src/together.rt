@@ -19,7 +19,7 @@ use std::sync::Wait;
 // The worker of the packet with this number. One that is alone needs no look.
 #[inline(always)]
 fn worker_for<A: Shape, B: Shape, R: Wait, G: Gate>(
-    setup: &Setup<'_, A, B, R, G>,
+    setup: &Setup<'_, '_, A, B, R, G>,
     number: usize,
     packet: &Packet<'_>,
 ) -> usize
@@ -37,7 +37,7 @@ fn worker_for<A: Shape, B: Shape, R: Wait, G: Gate>(
 // The packet at this place of the run is judged by its worker, whose number is answered.
 #[inline(always)]
 fn judge_next<A: Shape, B: Shape, R: Wait, G: Gate>(
-    run: &Run<'_, '_, A, B, R, G>,
+    run: &Run<'_, '_, '_, A, B, R, G>,
     at: usize,
     packet: &Packet<'_>,
     shares: &mut Vec<Share<A, B>>,
@@ -52,7 +52,7 @@ fn judge_next<A: Shape, B: Shape, R: Wait, G: Gate>(
 
 // Room for the verdicts on the packets of the run, where one worker says them all.
 fn make_room<A: Shape, B: Shape, R: Wait, G: Gate>(
-    run: &Run<'_, '_, A, B, R, G>,
+    run: &Run<'_, '_, '_, A, B, R, G>,
     shares: &mut Vec<Share<A, B>>,
 ) -> Result<(), AllocError>
     requires { MayRun run.now shares.old.items }
@@ -66,8 +66,8 @@ fn make_room<A: Shape, B: Shape, R: Wait, G: Gate>(
 
 /// The shares of all workers after these judged the packets of a run, one after the other in this thread. The workers of
 /// the packets come after those that are noted.
-pub fn judge_together<'t, 'a, A: Shape, B: Shape, R: Wait, G: Gate>(
-    run: Run<'t, 'a, A, B, R, G>,
+pub fn judge_together<'t, 'f, 'a, A: Shape, B: Shape, R: Wait, G: Gate>(
+    run: Run<'t, 'f, 'a, A, B, R, G>,
     shares: Vec<Share<A, B>>,
     judges: &mut Vec<u8>,
 ) -> Result<Vec<Share<A, B>>, AllocError>

@@ -9,19 +9,19 @@ use std::sync::Wait;
 
 /// What a worker is to do, or what it did.
 #[derive(Drop)]
-pub enum Turn<'t, 'a, A: Shape, B: Shape, R: Wait, G: Gate> {
-    Ahead(Job<'t, 'a, A, B, R, G>),
+pub enum Turn<'t, 'f, 'a, A: Shape, B: Shape, R: Wait, G: Gate> {
+    Ahead(Job<'t, 'f, 'a, A, B, R, G>),
     Over(Result<Share<A, B>, AllocError>),
 }
 
-impl<'t, 'a, A: Shape, B: Shape, R: Wait, G: Gate> Task for Turn<'t, 'a, A, B, R, G> {
+impl<'t, 'f, 'a, A: Shape, B: Shape, R: Wait, G: Gate> Task for Turn<'t, 'f, 'a, A, B, R, G> {
     ghost use Rattle.flow_workers.specs.inner.Turns.{Becomes, CanTake};
 
     ghost can_run = { CanTake ⟦<A as Shape>⟧ ⟦<B as Shape>⟧ };
 
     ghost becomes = { Becomes ⟦<A as Shape>⟧ ⟦<B as Shape>⟧ };
 
-    fn run(self) -> Turn<'t, 'a, A, B, R, G> {
+    fn run(self) -> Turn<'t, 'f, 'a, A, B, R, G> {
         match self {
             Turn::Ahead(job) => Turn::Over(work(job)),
             Turn::Over(done) => Turn::Over(done),

@@ -14,12 +14,12 @@ use std::sync::Wait;
 use std::thread::Threads;
 
 // The turns of workers that have these shares, in their order.
-fn turns_of<'t, 'a, A: Shape, B: Shape, R: Wait, G: Gate>(
+fn turns_of<'t, 'f, 'a, A: Shape, B: Shape, R: Wait, G: Gate>(
     alloc: Global,
-    run: Run<'t, 'a, A, B, R, G>,
+    run: Run<'t, 'f, 'a, A, B, R, G>,
     dealt: Dealt<'t, 'a>,
     shares: Vec<Share<A, B>>,
-) -> Result<Vec<Turn<'t, 'a, A, B, R, G>>, AllocError>
+) -> Result<Vec<Turn<'t, 'f, 'a, A, B, R, G>>, AllocError>
     ensures { IfOk result (λ v. AreTurns run.entry dealt.entry shares.items v.items) }
 {
     let mut turns = Vec::with_capacity(alloc, shares.len())?;
@@ -37,12 +37,12 @@ fn turns_of<'t, 'a, A: Shape, B: Shape, R: Wait, G: Gate>(
 }
 
 // They are ready where each worker may judge the packets of the run.
-fn turns_ahead<'t, 'a, A: Shape, B: Shape, R: Wait, G: Gate>(
+fn turns_ahead<'t, 'f, 'a, A: Shape, B: Shape, R: Wait, G: Gate>(
     alloc: Global,
-    run: Run<'t, 'a, A, B, R, G>,
+    run: Run<'t, 'f, 'a, A, B, R, G>,
     dealt: Dealt<'t, 'a>,
     shares: Vec<Share<A, B>>,
-) -> Result<Vec<Turn<'t, 'a, A, B, R, G>>, AllocError>
+) -> Result<Vec<Turn<'t, 'f, 'a, A, B, R, G>>, AllocError>
     requires may { MayRun run shares.items }
     requires dealt { AreDealtFrom ⟦<A as Shape>⟧ ⟦<B as Shape>⟧ run 0 dealt.parts.now.items }
     ensures { IfOk result (λ v. AreAhead run.entry dealt.entry shares.items v.items) }
@@ -51,9 +51,9 @@ fn turns_ahead<'t, 'a, A: Shape, B: Shape, R: Wait, G: Gate>(
 }
 
 // The shares after all turns, where none of them was refused memory.
-fn shares_over<'t, 'a, A: Shape, B: Shape, R: Wait, G: Gate>(
+fn shares_over<'t, 'f, 'a, A: Shape, B: Shape, R: Wait, G: Gate>(
     alloc: Global,
-    turns: Vec<Turn<'t, 'a, A, B, R, G>>,
+    turns: Vec<Turn<'t, 'f, 'a, A, B, R, G>>,
 ) -> Result<Vec<Share<A, B>>, AllocError>
     requires { All (IsPast ⟦<A as Shape>⟧ ⟦<B as Shape>⟧) turns.items }
     ensures { IfOk result (λ v. turns.entry.items ≡ map (λ share. Over (Ok share)) v.items) }
@@ -72,6 +72,7 @@ fn shares_over<'t, 'a, A: Shape, B: Shape, R: Wait, G: Gate>(
 /// be made.
 pub fn run_shares<
     't,
+    'f,
     'a,
     A: Shape + Send + Sync,
     B: Shape + Send + Sync,
@@ -79,7 +80,7 @@ pub fn run_shares<
     G: Gate + Sync,
 >(
     alloc: Global,
-    run: Run<'t, 'a, A, B, R, G>,
+    run: Run<'t, 'f, 'a, A, B, R, G>,
     dealt: Dealt<'t, 'a>,
     shares: Vec<Share<A, B>>,
 ) -> Result<Vec<Share<A, B>>, AllocError>

@@ -18,7 +18,7 @@ use std::sync::Wait;
 // interface, and says its verdict.
 #[inline(always)]
 fn judge_own_viewed<A: Shape, B: Shape, R: Wait, G: Gate>(
-    run: &Run<'_, '_, A, B, R, G>,
+    run: &Run<'_, '_, '_, A, B, R, G>,
     worker: usize,
     at: usize,
     filter: &ReadyFilter<'_>,
@@ -47,7 +47,7 @@ fn judge_own_viewed<A: Shape, B: Shape, R: Wait, G: Gate>(
 // shorter without this.
 #[inline(never)]
 fn judge_own_slowly<A: Shape, B: Shape, R: Wait, G: Gate>(
-    run: &Run<'_, '_, A, B, R, G>,
+    run: &Run<'_, '_, '_, A, B, R, G>,
     worker: usize,
     at: usize,
     packet: &Packet<'_>,
@@ -67,7 +67,7 @@ fn judge_own_slowly<A: Shape, B: Shape, R: Wait, G: Gate>(
 /// does with a plain frame is within the loops in which it is called: as a call it took a fifth more instructions.
 #[inline(always)]
 pub fn judge_own<A: Shape, B: Shape, R: Wait, G: Gate>(
-    run: &Run<'_, '_, A, B, R, G>,
+    run: &Run<'_, '_, '_, A, B, R, G>,
     worker: usize,
     at: usize,
     packet: &Packet<'_>,
@@ -87,7 +87,7 @@ pub fn judge_own<A: Shape, B: Shape, R: Wait, G: Gate>(
 
 // Judges the worker's packets of a dealt part, which begins at this place among those of the run.
 fn judge_part<'a, A: Shape, B: Shape, R: Wait, G: Gate>(
-    run: &Run<'_, 'a, A, B, R, G>,
+    run: &Run<'_, '_, 'a, A, B, R, G>,
     worker: usize,
     first: usize,
     part: &DealtPart<'a>,
@@ -104,8 +104,8 @@ fn judge_part<'a, A: Shape, B: Shape, R: Wait, G: Gate>(
 }
 
 /// Judges the packets of a worker.
-pub fn work<'t, 'a, A: Shape, B: Shape, R: Wait, G: Gate>(
-    job: Job<'t, 'a, A, B, R, G>,
+pub fn work<'t, 'f, 'a, A: Shape, B: Shape, R: Wait, G: Gate>(
+    job: Job<'t, 'f, 'a, A, B, R, G>,
 ) -> Result<Share<A, B>, AllocError>
     requires { CanWork ⟦<A as Shape>⟧ ⟦<B as Shape>⟧ job }
     ensures { IfOk result (λ share. IsShareOf ⟦<A as Shape>⟧ ⟦<B as Shape>⟧ job.entry share) }

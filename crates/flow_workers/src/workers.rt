@@ -54,8 +54,8 @@ fn split_shares<A: Shape, B: Shape, R: Wait>(
 
 /// Workers, and what they have after the packets that they judged so far.
 #[derive(Drop)]
-pub struct Workers<'t, A: Shape, B: Shape, R: Wait, G: Gate> {
-    pub setup: Setup<'t, A, B, R, G>,
+pub struct Workers<'t, 'f, A: Shape, B: Shape, R: Wait, G: Gate> {
+    pub setup: Setup<'t, 'f, A, B, R, G>,
     /// What each worker has, in their order.
     pub shares: Vec<Share<A, B>>,
     /// The worker of each packet.
@@ -64,7 +64,7 @@ pub struct Workers<'t, A: Shape, B: Shape, R: Wait, G: Gate> {
     pub count: usize,
 }
 
-impl<'t, A: Shape, B: Shape, R: Wait, G: Gate> Workers<'t, A, B, R, G> {
+impl<'t, 'f, A: Shape, B: Shape, R: Wait, G: Gate> Workers<'t, 'f, A, B, R, G> {
     ghost use Rattle.std.specs.Prelude.{IfOk};
     ghost use Rattle.flow_workers.specs.Progress.{AreBegun, CanEnd, HaveSaid, MayBegin};
 
@@ -72,9 +72,9 @@ impl<'t, A: Shape, B: Shape, R: Wait, G: Gate> Workers<'t, A, B, R, G> {
     /// refused.
     pub fn new(
         alloc: Global,
-        setup: Setup<'t, A, B, R, G>,
+        setup: Setup<'t, 'f, A, B, R, G>,
         callers: Callers<A, B>,
-    ) -> Result<Workers<'t, A, B, R, G>, RunFault>
+    ) -> Result<Workers<'t, 'f, A, B, R, G>, RunFault>
         requires { MayBegin setup callers }
         ensures { IfOk result (AreBegun setup.entry) }
     {
@@ -107,11 +107,12 @@ impl<'t, A: Shape, B: Shape, R: Wait, G: Gate> Workers<'t, A, B, R, G> {
 
 impl<
     't,
+    'f,
     A: Shape + Send + Sync,
     B: Shape + Send + Sync,
     R: Threads + Wait + Sync,
     G: Gate + Sync,
-> Workers<'t, A, B, R, G>
+> Workers<'t, 'f, A, B, R, G>
 where
     A::Key: Send + Sync,
     B::Key: Send + Sync,
@@ -125,7 +126,7 @@ where
         self,
         alloc: Global,
         packets: Packets<'_>,
-    ) -> Result<Workers<'t, A, B, R, G>, RunFault>
+    ) -> Result<Workers<'t, 'f, A, B, R, G>, RunFault>
         requires { CanJudge self packets }
         ensures { IfOk result (HaveJudged self.entry packets.entry) }
     {

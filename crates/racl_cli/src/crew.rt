@@ -18,18 +18,18 @@ impl Gate for OpenGate {
 
 /// Workers, and where they get memory.
 #[derive(Drop)]
-pub struct Crew<'t, T: Wait> {
+pub struct Crew<'t, 'f, T: Wait> {
     pub alloc: Global,
-    pub workers: Workers<'t, ShapeV4, ShapeV6, T, OpenGate>,
+    pub workers: Workers<'t, 'f, ShapeV4, ShapeV6, T, OpenGate>,
 }
 
-impl<'t, T: Threads + Wait + Sync> Judges for Crew<'t, T> {
+impl<'t, 'f, T: Threads + Wait + Sync> Judges for Crew<'t, 'f, T> {
     ghost use Rattle.std.specs.Thread.{IsSync};
     ghost use Rattle.racl_cli.specs.Crews.{Became};
 
     ghost became = { λ begun packets crew. IsSync T.row × Became begun packets crew };
 
-    fn judge(self, packets: Packets<'_>) -> Result<Crew<'t, T>, AllocError> {
+    fn judge(self, packets: Packets<'_>) -> Result<Crew<'t, 'f, T>, AllocError> {
         let Crew { alloc, workers } = self;
         match workers.judge(alloc, packets) {
             Ok(workers) => Ok(Crew { alloc, workers }),

@@ -1,4 +1,4 @@
-use Rattle.std.proofs.Common.{◌≡◌, ◌++◌, [], ◌∷◌, length, take, map, ℕ, List, sym, subst, ap, ◌∙◌, arith}
+use Rattle.std.proofs.Common.{[], ◌∷◌, length, take, map, ℕ, List, sym, subst, ap, ◌∙◌, arith}
 use Rattle.std.specs.Str.Lines.{lines}
 use Rattle.std.proofs.lemmas.Iterator.Consumers.{YieldsList-end, YieldsList-turn}
 use Rattle.std.proofs.lemmas.Iterator.Splits.{YieldsList-from_lines}
@@ -8,7 +8,6 @@ use Rattle.acl_policy.specs.declared.policy.PolicyFault.{PolicyFault}
 use Rattle.acl_policy.specs.Policies.{SayPolicy, SectionFacts, section_facts}
 use Rattle.acl_policy.specs.inner.Reading.Policies.{LinesFail, draft_facts, policy_so_far}
 use Rattle.acl_policy.proofs.PolicyLemmas.{LinesFail-take, SayPolicy-take}
-use Rattle.acl_policy.proofs.ReadingLaws.{nothing_said}
 use Rattle.acl_policy.proofs.reading.read_lines.Goals as goal
 
 pub loop-line-preserved : goal.loop-line-preserved
