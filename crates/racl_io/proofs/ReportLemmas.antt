@@ -1,13 +1,12 @@
 -- The report on verdicts is that on the first of them, and after it that on the others.
-use Rattle.std.proofs.Common.{◌≡◌, ◌∙◌, ◌+◌, ◌-◌, ◌++◌, ℕ, Bool, true, false, not, cond, List, [], ◌∷◌, Option, None, Some, decimal, length, take, drop, arith, append_assoc, refl, sym, ap, ap₂}
-use Rattle.std.proofs.Math.Seq.{append-nil, take-all}
+use Rattle.std.proofs.Common.{◌≡◌, ◌∙◌, ◌+◌, ◌-◌, ◌++◌, ℕ, Bool, true, false, not, cond, List, [], ◌∷◌, Option, length, take, drop, arith, append-nil, append_assoc, refl, sym, ap, ap₂}
+use Rattle.std.proofs.lemmas.List.{take_all}
 use Rattle.std.proofs.lemmas.List.Sums.{sum_by-append, sum_by-cons}
 use Rattle.flow_filter.specs.Verdicts.{passes}
 use Rattle.flow_filter.specs.declared.verdict.Verdict.{Verdict}
-use Rattle.racl_io.specs.Reports.{captures_from, dropped, is_truncated, line_of, lines_from, name_of, packets_in, passed, report_of, totals_line, totals_of, truncation_line}
+use Rattle.racl_io.specs.Reports.{captures_from, dropped, is_truncated, line_of, lines_from, packets_in, passed, report_of, totals_line, totals_of, truncation_line}
 use Rattle.racl_io.specs.declared.report.Captured.{Captured}
 use Rattle.racl_io.specs.declared.report.Totals.{Totals}
-use Rattle.racl_io.specs.inner.Names.{name_behind}
 
 pub lines_of_both : (named : Option ℕ) (n m : ℕ) (xs ys : List Verdict) → m ≡ n + length xs
     → lines_from named n (xs ++ ys) ≡ lines_from named n xs ++ lines_from named m ys
@@ -15,15 +14,6 @@ lines_of_both named n m [] ys e = let same : m ≡ n = omega (arith, e) in rw sa
 lines_of_both named n m (x ∷ xs) ys e =
     ap (λ l. line_of named n x ++ l) (lines_of_both named (n + 1) m xs ys (omega (arith, e)))
     ∙ sym (append_assoc (line_of named n x) (lines_from named (n + 1) xs) (lines_from named m ys))
-
--- a line as it is pushed, with the name behind the number
-pub line_pushed : (piece told : List ℕ) (named : Option ℕ) (n : ℕ)
-    → ((piece ++ decimal n) ++ name_behind named) ++ 32 ∷ told ≡ piece ++ (decimal n ++ 32 ∷ (name_of named ++ told))
-line_pushed piece told None n = ap (λ p. p ++ 32 ∷ told) (append-nil (piece ++ decimal n)) ∙ append_assoc piece (decimal n) (32 ∷ told)
-line_pushed piece told (Some number) n =
-    append_assoc (piece ++ decimal n) (32 ∷ 105 ∷ 102 ∷ 32 ∷ decimal number) (32 ∷ told)
-    ∙ append_assoc piece (decimal n) (32 ∷ 105 ∷ 102 ∷ 32 ∷ (decimal number ++ 32 ∷ told))
-    ∙ ap (λ t. piece ++ (decimal n ++ 32 ∷ 105 ∷ 102 ∷ 32 ∷ t)) (sym (append_assoc (decimal number) (32 ∷ []) told))
 
 pub passed_of_both : (xs ys : List Verdict) → passed (xs ++ ys) ≡ passed xs + passed ys
 passed_of_both xs ys = sum_by-append (λ v. cond (passes v) 1 0) xs ys
@@ -59,17 +49,6 @@ more_captures front text n m rest xs ys captured left after told parted first be
     ∙ ap (captures_from n rest) (sym parted))
     ∙ told
 
--- after the last capture nothing is told
-pub captures_ended : (front text : List ℕ) (n : ℕ) (rest : List Verdict) (left : List Captured) → length left ≡ 0 → front ++ captures_from n rest left ≡ text → front ≡ text
-captures_ended front text n rest [] none told = sym (append-nil front) ∙ told
-captures_ended front text n rest (captured ∷ left) none told = absurd (omega (arith, none))
-
--- and no packets are left
-pub passed_ended : (rest : List Verdict) (left : List Captured) → length left ≡ 0 → packets_in left ≡ length rest → passed rest ≡ 0
-passed_ended [] left none counted = refl
-passed_ended (verdict ∷ rest) [] none counted = absurd (omega (arith, counted))
-passed_ended (verdict ∷ rest) (captured ∷ left) none counted = absurd (omega (arith, none))
-
 -- the captures behind the first have the packets behind its
 pub counted_behind : (rest : List Verdict) (captured : Captured) (left after : List Captured) → packets_in left ≡ length rest → left ≡ captured ∷ after
     → captured.packets + packets_in after ≡ length rest
@@ -83,7 +62,7 @@ report_of_one verdicts named truncated =
     let captured : Captured = record { named = named; packets = length verdicts; truncated = truncated } in
     let end = truncation_line named truncated (length verdicts) in
     let totals = totals_line (totals_of verdicts (captured ∷ [])) in
-    ap (λ vs. (lines_from named 1 vs ++ (end ++ [])) ++ totals) (take-all verdicts)
+    ap (λ vs. (lines_from named 1 vs ++ (end ++ [])) ++ totals) (take_all (length verdicts) verdicts (omega arith))
     ∙ ap (λ e. (lines_from named 1 verdicts ++ e) ++ totals) (append-nil end)
     ∙ append_assoc (lines_from named 1 verdicts) end totals
 

@@ -275,7 +275,7 @@ fn write_captures<W: Sink, T: Threads>(
     let mut others = 0;
     let mut rest = verdicts;
     let mut left = captures;
-    'captures: while let Some((captured, after)) = left.split_first() {
+    'each: while let Some((captured, after)) = left.split_first() {
         let (first, behind) = rest.split_at(captured.packets);
         let place = Place {
             named: captured.named,

@@ -22,6 +22,6 @@ pieces-preserved c =
       passing = omega (arith, inv.passing, made.passed, ap passed parted, passed_of_both first behind);
       told = ap (λ t. t ++ lines_from named next behind) text
           ∙ more_lines named c.pieces.text.items c.as_slice.result.now lines (c.pieces.number + 1) next c.pieces.rest.now first behind inv.told parted
-          (piece ∙ made.text) (omega (arith, made.number, ap length parted, both));
+          (piece ∙ made.text ∙ ap (λ n. lines_from n (c.pieces.number + 1) first) c.of-name.ensures) (omega (arith, made.number, ap length parted, both));
       room = omega (arith, inv.room, ap length text, ap length piece, size, made.short, ap length parted, both, c.in-Ok.ensures.capacity);
     }

@@ -4,8 +4,8 @@ use Rattle.racl_io.specs.Reports.{captures_from, packets_in, passed}
 use Rattle.racl_io.proofs.report.write_captures.Given as goal
 
 -- what is told of the captures before those that are left was written
-abbrev pub invariant-captures : goal.invariant-captures
-invariant-captures g l = record {
+abbrev pub invariant-each : goal.invariant-each
+invariant-each g l = record {
   counted : l.others + length l.rest ≡ length l.verdicts;
   fits : packets_in l.left ≡ length l.rest;
   passing : l.passed + passed l.rest ≡ passed l.verdicts;
@@ -13,5 +13,5 @@ invariant-captures g l = record {
   sound : g.W.Sink.failures l.writer ≡ g.W.Sink.failures l.fn.writer;
 }
 
-abbrev pub decreases-captures : goal.decreases-captures
-decreases-captures g l = length l.left
+abbrev pub decreases-each : goal.decreases-each
+decreases-each g l = length l.left
