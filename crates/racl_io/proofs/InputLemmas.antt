@@ -1,14 +1,14 @@
 -- The first marker line parts an input in one way at most.
-use Rattle.std.proofs.Common.{◌≡◌, ◌∙◌, ℕ, ◌==◌, List, [], ◌∷◌, ◌++◌, None, drop, length, refl, sym, ap, ap₂, subst, inl, inr, append_assoc, arith, lit≤}
+use Rattle.std.proofs.Common.{◌≡◌, ◌≢◌, codes, IfSome, IfNone, ◌∙◌, ℕ, ◌==◌, ◌<◌, ◌+◌, List, [], ◌∷◌, ◌++◌, Option, None, Some, MatchOption, drop, length, length-append, refl, sym, ap, ap₂, subst, inl, inr, append_assoc, arith, lit≤}
 use Rattle.std.proofs.lemmas.Bool.{both_ways, eq-eqb}
 use Rattle.std.specs.List.{AllByRecursion}
 use Rattle.racl_io.specs.declared.input.Form.{Form}
 use Rattle.racl_io.specs.declared.input.Form.TheVariants.{Binary, Hexadecimal, Numbered}
 use Rattle.racl_io.specs.declared.input.Marks.{Marks}
 use Rattle.racl_io.specs.declared.input.Marks.TheVariants.{Every, Numbers}
-use Rattle.racl_io.specs.Inputs.{AreDigits, Counts, DigitsFacts, InputFacts, IsFirstLine, IsInput, IsMarked, IsMarker, IsParted, IsPlain, IsWord, HasNoFeed, joined}
+use Rattle.racl_io.specs.Inputs.{AreCaptures, Counts, DigitsFacts, InputFacts, IsCut, IsFirstLine, IsInput, IsMarked, IsMarker, IsParted, IsPlain, IsWord, HasNoFeed, NumberedFacts, joined}
 use Rattle.acl_policy.specs.inner.Reading.Numerals.{octet_in}
-use Rattle.acl_policy.proofs.NumeralLaws.{Lacks, octet_in-complete}
+use Rattle.acl_policy.proofs.NumeralLaws.{Lacks, octet_in-complete, octet_in-sound}
 use Rattle.acl_policy.proofs.PieceLaws.{Lacks-IsOctet}
 
 -- what stands before the rest are lines that are no markers
@@ -139,14 +139,37 @@ one_word (Numbered n) (Numbered m) word (digits, p, octet) (others, q, octet') =
     let number : n ≡ m = cc in
     ap Numbered number
 
--- a word of `hex` and other digits is none
-pub no_number : (word digits : List ℕ) → word ≡ 104 ∷ 101 ∷ 120 ∷ 32 ∷ digits → octet_in digits ≡ None → (form : Form) → IsWord form word → ⊥
-no_number word digits same none Binary is = unlike _ _ (sym is ∙ same)
-no_number word digits same none Hexadecimal is = longer digits (sym is ∙ same)
-no_number word digits same none (Numbered n) (others, is, octet) =
-    let digits_are : others ≡ digits = ap (drop 4) (sym is ∙ same) in
-    let read = octet_in-complete others n octet in
+-- a number that is read behind `hex` and a space makes a word
+pub interface_read : (word digits : List ℕ) (read : Option ℕ) → word ≡ 104 ∷ 101 ∷ 120 ∷ 32 ∷ digits → read ≡ octet_in digits → IfSome read (λ n. IsWord (Numbered n) word)
+interface_read word digits None same is = tt
+interface_read word digits (Some n) same is = (digits, same, octet_in-sound digits n (sym is))
+
+-- and where none is read, there is no such word
+pub no_interface : (word digits : List ℕ) (read : Option ℕ) → word ≡ 104 ∷ 101 ∷ 120 ∷ 32 ∷ digits → read ≡ octet_in digits
+    → IfNone read ((n : ℕ) → IsWord (Numbered n) word → ⊥)
+no_interface word digits (Some n) same is = tt
+no_interface word digits None same is = λ n word.
+    let others : word.0 ≡ digits = ap (drop 4) (sym word.1 ∙ same) in
+    let complete = octet_in-complete word.0 n word.2 in
     let f : ⊥ = cc in f
+
+-- a word that has no number and is none of the others
+pub no_form : (marks : Marks) (word : List ℕ) (found : Option Form) → ((n : ℕ) → IsWord (Numbered n) word → ⊥)
+    → IfNone found ((word ≢ codes "pcap") × (word ≢ codes "hex")) → IfNone found ((form : Form) → Counts marks form → IsWord form word → ⊥)
+no_form marks word (Some form) none plain = tt
+no_form marks word None none plain = go
+  where
+    go : (form : Form) → Counts marks form → IsWord form word → ⊥
+    go Binary counts is = plain.0 is
+    go Hexadecimal counts is = plain.1 is
+    go (Numbered n) counts is = none n is
+
+-- a word that has no number, where only those count
+pub no_number : (marks : Marks) (word : List ℕ) → marks ≡ Numbers → ((n : ℕ) → IsWord (Numbered n) word → ⊥)
+    → (form : Form) → Counts marks form → IsWord form word → ⊥
+no_number marks word same none Binary counts is = subst (λ m. Counts m Binary) same counts
+no_number marks word same none Hexadecimal counts is = subst (λ m. Counts m Hexadecimal) same counts
+no_number marks word same none (Numbered n) counts is = none n is
 
 -- a word doesn't end with a carriage return
 ends_without : (form : Form) (word line : List ℕ) → IsWord form line → line ≡ word ++ 13 ∷ [] → ⊥
@@ -223,17 +246,47 @@ one_parting marks bytes a b is other =
 pub one_input : (bytes : List ℕ) (a b : InputFacts) → IsInput bytes a → IsInput bytes b → a ≡ b
 one_input bytes a b is other = one_parting Every bytes a b is other
 
--- digits are those of captures in one way
-pub one_digits : (content digits others : List ℕ) (a b : List DigitsFacts) → AreDigits content digits a → AreDigits content others b → (digits ≡ others) × (a ≡ b)
-one_digits content digits others [] [] (is, none) (are, nor) = (is ∙ sym are, refl)
-one_digits content digits others [] (b ∷ ys) (is, none) (rest, parted, more) = absurd (none _ parted)
-one_digits content digits others (a ∷ xs) [] (rest, parted, more) (is, none) = absurd (none _ parted)
-one_digits content digits others (a ∷ xs) (b ∷ ys) (rest, parted, more) (left, cut, further) =
-    let same = one_parting Numbers content _ _ parted cut in
+-- content is cut in one way
+one_cut : (content digits others : List ℕ) (a b : Option NumberedFacts) → IsCut content digits a → IsCut content others b → (digits ≡ others) × (a ≡ b)
+one_cut content digits others None None (is, none) (are, nor) = (is ∙ sym are, refl)
+one_cut content digits others None (Some b) (is, none) cut = absurd (none _ cut)
+one_cut content digits others (Some a) None cut (is, none) = absurd (none _ cut)
+one_cut content digits others (Some a) (Some b) cut other =
+    let same = one_parting Numbers content _ _ cut other in
     let front : digits ≡ others = ap (λ (i : InputFacts). i.policy) same in
     let forms = ap (λ (i : InputFacts). i.form) same in
     let number : a.interface ≡ b.interface = cc in
-    let behind : rest ≡ left = ap (λ (i : InputFacts). i.content) same in
-    let tail = one_digits rest a.digits b.digits xs ys more (subst (λ (r : List ℕ). AreDigits r b.digits ys) (sym behind) further) in
-    (front, ap₂ (λ (first : DigitsFacts) (others : List DigitsFacts). first ∷ others)
-    (ap₂ (λ n d. let made : DigitsFacts = record { interface = n; digits = d } in made) number tail.0) tail.1)
+    let behind : a.content ≡ b.content = ap (λ (i : InputFacts). i.content) same in
+    (front, ap₂ (λ n c. let next : NumberedFacts = record { interface = n; content = c } in Some next) number behind)
+
+-- what follows a marker line with a number is the digits of captures in one way
+pub one_captures : (number : ℕ) (content : List ℕ) (a b : List DigitsFacts) → AreCaptures number content a → AreCaptures number content b → a ≡ b
+one_captures number content [] b none other = absurd none
+one_captures number content (a ∷ xs) [] is none = absurd none
+one_captures number content (a ∷ xs) (b ∷ ys) (same, next, cut, behind) (same', next', cut', behind') =
+    let both = one_cut content a.digits b.digits next next' cut cut' in
+    let moved = subst (λ (n : Option NumberedFacts). MatchOption n (ys ≡ []) (λ k. AreCaptures k.interface k.content ys)) (sym both.1) behind' in
+    ap₂ (λ (first : DigitsFacts) (others : List DigitsFacts). first ∷ others)
+    (ap₂ (λ n d. let made : DigitsFacts = record { interface = n; digits = d } in made) (same ∙ sym same') both.0)
+    (go (λ k. one_captures k.interface k.content xs ys) next behind moved)
+  where
+    go : ((k : NumberedFacts) → AreCaptures k.interface k.content xs → AreCaptures k.interface k.content ys → xs ≡ ys)
+        → (next : Option NumberedFacts) → MatchOption next (xs ≡ []) (λ k. AreCaptures k.interface k.content xs)
+        → MatchOption next (ys ≡ []) (λ k. AreCaptures k.interface k.content ys) → xs ≡ ys
+    go same None none none' = none ∙ sym none'
+    go same (Some k) are are' = same k are are'
+
+some_word : (form : Form) (word : List ℕ) → IsWord form word → 0 < length word
+some_word Binary word is = omega (arith, ap length is)
+some_word Hexadecimal word is = omega (arith, ap length is)
+some_word (Numbered n) word (digits, is, octet) = omega (arith, ap length is)
+
+-- a marker line isn't part of what follows it
+pub shorter_behind : (marks : Marks) (bytes : List ℕ) (parts : InputFacts) → IsParted marks bytes parts → length parts.content < length bytes
+shorter_behind marks bytes parts is = go is.content
+  where
+    all : length bytes ≡ length parts.policy + length is.marked
+    all = ap length is.parted ∙ length-append parts.policy is.marked
+    go : IsMarked parts.form parts.content is.marked → length parts.content < length bytes
+    go (inl (line, marker, same)) = omega (arith, all, ap length same, length-append line (10 ∷ parts.content))
+    go (inr (word, none)) = omega (arith, all, ap length none, some_word parts.form is.marked word)

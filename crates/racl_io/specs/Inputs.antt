@@ -1,10 +1,11 @@
 -- The input: a policy text, a line that says how the capture is written, and the capture (this project's profile).
-use Rattle.std.specs.Prelude.{◌≡◌, ◌≢◌, ◌⊎◌, ℕ, Bool, ◌||◌, ◌==◌, not, List, [], ◌∷◌, ◌++◌, codes, filter, Ok}
+use Rattle.std.specs.Prelude.{◌≡◌, ◌≢◌, ◌⊎◌, ℕ, Bool, ◌||◌, ◌==◌, not, List, [], ◌∷◌, ◌++◌, codes, filter, Option, None, Some, MatchOption, option_map, Ok}
 use Rattle.std.specs.List.{AllByRecursion}
 use Rattle.hex.specs.Hex.{decode_of}
 use Rattle.racl_io.specs.declared.input.Form.{Form}
 use Rattle.racl_io.specs.declared.input.Form.TheVariants.{Binary, Hexadecimal, Numbered}
 use Rattle.racl_io.specs.declared.input.Input as code
+use Rattle.racl_io.specs.declared.input.Numbered as mark
 use Rattle.racl_io.specs.declared.input.Marks.{Marks}
 use Rattle.racl_io.specs.declared.input.Marks.TheVariants.{Every, Numbers}
 use Rattle.acl_policy.specs.Numerals.{IsOctet}
@@ -77,22 +78,33 @@ pub record IsParted (marks : Marks) (bytes : List ℕ) (parts : InputFacts) : Ty
 abbrev pub IsInput : List ℕ → InputFacts → Type 0
 IsInput bytes parts = IsParted Every bytes parts
 
+-- the number of a marker line that has one, and what follows the line
+pub record NumberedFacts : Type 0 where
+  pub interface : ℕ
+  pub content : List ℕ
+
+abbrev pub numbered_facts : Option mark.Numbered → Option NumberedFacts
+numbered_facts next = option_map (λ n. record { interface = n.interface; content = n.content.now }) next
+
+-- the digits are what stands before the next marker line with a number, or all where there is none
+abbrev pub IsCut : List ℕ → List ℕ → Option NumberedFacts → Type 0
+IsCut content digits None = (digits ≡ content) × ((parts : InputFacts) → IsParted Numbers content parts → ⊥)
+IsCut content digits (Some next) =
+    IsParted Numbers content (record { policy = digits; form = Numbered next.interface; content = next.content })
+
 -- the digits of one interface's capture
 pub record DigitsFacts : Type 0 where
   pub interface : ℕ
   pub digits : List ℕ
 
--- The digits go up to the next marker line with a number, and then come those of other captures.
-abbrev pub AreDigits : List ℕ → List ℕ → List DigitsFacts → Type 0
-AreDigits content digits [] = (digits ≡ content) × ((parts : InputFacts) → IsParted Numbers content parts → ⊥)
-AreDigits content digits (next ∷ others) =
-    (rest : List ℕ) × IsParted Numbers content (record { policy = digits; form = Numbered next.interface; content = rest })
-    × AreDigits rest next.digits others
-
--- what follows a marker line with a number is the digits of this capture and of others
+-- What follows the marker line with this number is the digits of its capture, and then those of the captures of further such
+-- lines.
 abbrev pub AreCaptures : ℕ → List ℕ → List DigitsFacts → Type 0
 AreCaptures number content [] = ⊥
-AreCaptures number content (first ∷ others) = (first.interface ≡ number) × AreDigits content first.digits others
+AreCaptures number content (first ∷ others) =
+    (first.interface ≡ number)
+    × (next : Option NumberedFacts) × IsCut content first.digits next
+    × MatchOption next (others ≡ []) (λ behind. AreCaptures behind.interface behind.content others)
 
 -- what isn't looked at among hexadecimal digits: tab, line feed, carriage return and space
 abbrev pub is_blank : ℕ → Bool

@@ -1,7 +1,6 @@
 //! The parts of the input: a policy text, a marker line, and the capture as bytes or as digits.
 ghost use Rattle.std.specs.Prelude.{◌≡◌, ◌≢◌, ◌<◌, ◌++◌, ℕ, List, IfSome, IfNone, codes, length, slice_index};
-ghost use Rattle.racl_io.specs.Inputs.{Counts, InputFacts, input_facts, IsInput, IsMarker, IsParted, IsFirstLine, IsWord, HasNoFeed};
-ghost use Rattle.racl_io.specs.declared.input.Marks.TheVariants.{Numbers};
+ghost use Rattle.racl_io.specs.Inputs.{Counts, InputFacts, input_facts, IsCut, IsInput, IsMarker, IsParted, IsFirstLine, IsWord, HasNoFeed, numbered_facts};
 
 use acl_policy::octet_of;
 
@@ -33,6 +32,21 @@ pub struct Input<'a> {
     pub content: &'a [u8],
 }
 
+/// A marker line with a number, and what follows it.
+#[derive(Clone, Copy, Debug)]
+pub struct Numbered<'a> {
+    pub interface: u8,
+    pub content: &'a [u8],
+}
+
+/// The digits of a capture, and what ends them.
+#[derive(Clone, Copy, Debug)]
+pub struct Digits<'a> {
+    pub digits: &'a [u8],
+    /// The next marker line with a number; None where the digits end with the input.
+    pub next: Option<Numbered<'a>>,
+}
+
 // What follows `hex` and a space.
 fn after_hex(word: &[u8]) -> Option<&[u8]>
     ensures some { IfSome result (λ rest. word.now ≡ codes "hex " ++ rest.now) }
@@ -44,32 +58,51 @@ fn after_hex(word: &[u8]) -> Option<&[u8]>
     Some(&word[4..])
 }
 
-fn word(line: &[u8]) -> Option<Form>
-    ensures some { IfSome result (λ form. IsWord form line.now) }
-    ensures none { IfNone result ((form : Form) → IsWord form line.now → ⊥) }
+// The number of the interface that a marker line's word has.
+fn interface_of(word: &[u8]) -> Option<u8>
+    ensures some { IfSome result (λ number. IsWord (Form.Numbered number) word.now) }
+    ensures none { IfNone result ((number : ℕ) → IsWord (Form.Numbered number) word.now → ⊥) }
 {
-    if line == b"pcap".as_slice() {
-        return Some(Form::Binary);
-    }
-    if line == b"hex".as_slice() {
-        return Some(Form::Hexadecimal);
-    }
-    let digits = after_hex(line)?;
-    let number = octet_of(digits)?;
-    Some(Form::Numbered(number))
+    octet_of(after_hex(word)?)
 }
 
-fn marker(line: &[u8]) -> Option<Form>
-    ensures some { IfSome result (λ form. IsMarker form line.now) }
-    ensures none { IfNone result ((form : Form) → IsMarker form line.now → ⊥) }
+// What a marker line's word without a number says.
+fn plain_form(word: &[u8]) -> Option<Form>
+    ensures some { IfSome result (λ form. IsWord form word.now) }
+    ensures none { IfNone result ((word.now ≢ codes "pcap") × (word.now ≢ codes "hex")) }
 {
-    if let Some(form) = word(line) {
-        return Some(form);
-    }
-    match line.split_last() {
-        Some((b'\r', word_alone)) => word(word_alone),
+    match word {
+        b"pcap" => Some(Form::Binary),
+        b"hex" => Some(Form::Hexadecimal),
         _ => None,
     }
+}
+
+// What a marker line's word says, where such lines count.
+fn form_of(word: &[u8], marks: Marks) -> Option<Form>
+    ensures some { IfSome result (λ form. Counts marks form × IsWord form word.now) }
+    ensures none { IfNone result ((form : Form) → Counts marks form → IsWord form word.now → ⊥) }
+{
+    if let Some(number) = interface_of(word) {
+        return Some(Form::Numbered(number));
+    }
+    match marks {
+        Marks::Every => plain_form(word),
+        Marks::Numbers => None,
+    }
+}
+
+fn marker(line: &[u8], marks: Marks) -> Option<Form>
+    ensures some { IfSome result (λ form. Counts marks form × IsMarker form line.now) }
+    ensures none { IfNone result ((form : Form) → Counts marks form → IsMarker form line.now → ⊥) }
+{
+    if let Some(form) = form_of(line, marks) {
+        return Some(form);
+    }
+    let Some((b'\r', word)) = line.split_last() else {
+        return None;
+    };
+    form_of(word, marks)
 }
 
 /// The first line feed.
@@ -91,39 +124,14 @@ fn first_line(bytes: &[u8]) -> Option<(&[u8], &[u8])>
     Some((&bytes[..len], &bytes[len + 1..]))
 }
 
-// The form that a line marks, where it counts.
-fn counted(line: &[u8], marks: Marks) -> Option<Form>
-    ensures counts { IfSome result (λ form. Counts marks form) }
-    ensures some { IfSome result (λ form. IsMarker form line.now) }
-    ensures none { IfNone result ((form : Form) → Counts marks form → IsMarker form line.now → ⊥) }
-{
-    let form = marker(line)?;
-    match (marks, form) {
-        (Marks::Numbers, Form::Binary | Form::Hexadecimal) => None,
-        (_, form) => Some(form),
-    }
-}
-
-// The form that the last line marks, which doesn't end, where it counts.
-fn counted_word(line: &[u8], marks: Marks) -> Option<Form>
-    ensures counts { IfSome result (λ form. Counts marks form) }
-    ensures some { IfSome result (λ form. IsWord form line.now) }
-    ensures none { IfNone result ((form : Form) → Counts marks form → IsWord form line.now → ⊥) }
-{
-    let form = word(line)?;
-    match (marks, form) {
-        (Marks::Numbers, Form::Binary | Form::Hexadecimal) => None,
-        (_, form) => Some(form),
-    }
-}
-
+// The parts of these bytes, cut at the first marker line that counts.
 fn parted(bytes: &[u8], marks: Marks) -> Option<Input<'_>>
     ensures some { IfSome result (λ input. IsParted marks bytes.now (input_facts input)) }
     ensures none { IfNone result ((parts : InputFacts) → IsParted marks bytes.now parts → ⊥) }
 {
     let mut rest = bytes;
     'lines: while let Some((line, after)) = first_line(rest) {
-        if let Some(form) = counted(line, marks) {
+        if let Some(form) = marker(line, marks) {
             return Some(Input {
                 policy: &bytes[..bytes.len() - rest.len()],
                 form,
@@ -132,7 +140,7 @@ fn parted(bytes: &[u8], marks: Marks) -> Option<Input<'_>>
         }
         rest = after;
     }
-    let form = counted_word(rest, marks)?;
+    let form = form_of(rest, marks)?;
     Some(Input {
         policy: &bytes[..bytes.len() - rest.len()],
         form,
@@ -151,11 +159,27 @@ pub fn parts(bytes: &[u8]) -> Option<Input<'_>>
     parted(bytes, Marks::Every)
 }
 
-/// The digits of a capture after its marker line with a number, as `policy`, and the next such marker line with what
-/// follows it; None where there is none, and so all are digits of this capture.
-pub fn next_capture(content: &[u8]) -> Option<Input<'_>>
-    ensures some { IfSome result (λ input. IsParted Numbers content.now (input_facts input)) }
-    ensures none { IfNone result ((parts : InputFacts) → IsParted Numbers content.now parts → ⊥) }
+/// Cuts what follows a marker line with a number: into the digits of its capture, and the next such line with what
+/// follows it.
+pub fn cut_digits(content: &[u8]) -> Digits<'_>
+    ensures cut { IsCut content.now result.digits.now (numbered_facts result.next) }
+    ensures shorter { IfSome result.next (λ next. length next.content.now < length content.now) }
 {
-    parted(content, Marks::Numbers)
+    let Some(cut) = parted(content, Marks::Numbers) else {
+        return Digits {
+            digits: content,
+            next: None,
+        };
+    };
+    let Form::Numbered(interface) = cut.form else {
+        unreachable!()
+    };
+    let next = Some(Numbered {
+        interface,
+        content: cut.content,
+    });
+    Digits {
+        digits: cut.policy,
+        next,
+    }
 }

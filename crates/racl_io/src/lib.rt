@@ -16,6 +16,6 @@ mod transfer;
 pub use content::decoded;
 pub use device::{Device, DeviceFault, Sink, Source};
 pub use fault::Fault;
-pub use input::{Form, Input, next_capture, parts};
+pub use input::{Digits, Form, Input, Numbered, cut_digits, parts};
 pub use report::{Captured, Totals, write_report};
 pub use transfer::{MOST_BYTES, drain, read_until, write_all};

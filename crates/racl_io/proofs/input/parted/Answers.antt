@@ -5,7 +5,7 @@ use Rattle.racl_io.proofs.InputLemmas.{front_grows, no_input}
 use Rattle.racl_io.proofs.input.parted.Goals as goal
 
 pub lines-preserved : goal.lines-preserved
-lines-preserved c = front_grows _ _ _ _ _ c.lines.invariant c.in-Some.ensures.some c.in_default-counted.ensures.none
+lines-preserved c = front_grows _ _ _ _ _ c.lines.invariant c.in-Some.ensures.some c.in_default-marker.ensures.none
 
 pub returns-in_err-form-clause-none : goal.returns-in_err-form-clause-none
 returns-in_err-form-clause-none c =
