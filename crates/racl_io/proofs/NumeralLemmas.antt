@@ -31,3 +31,15 @@ length_step n large fits = ap length (decimal_step n large fits) ∙ length-appe
 
 pub few_digits : (n : ℕ) → n < 2 ^ 64 → length (decimal n) ≤ 20
 few_digits n fits = length-decimal-le 20 n (omega arith) (omega arith) fits
+
+pub one_digit : (n : ℕ) → n < 10 → decimal n ≡ (48 + n % 10) ∷ []
+one_digit n digit = let same : n ≡ n % 10 = omega (arith, digit) in decimal_digit n digit ∙ ap (λ d. (48 + d) ∷ []) same
+
+pub two_digits : (n : ℕ) → 10 ≤ n → n / 10 < 10 → n < 2 ^ 64 → decimal n ≡ (48 + n / 10 % 10) ∷ (48 + n % 10) ∷ []
+two_digits n large tens fits = decimal_step n large fits ∙ ap (λ front. front ++ (48 + n % 10) ∷ []) (one_digit (n / 10) tens)
+
+pub three_digits : (n : ℕ) → 10 ≤ n → 10 ≤ n / 10 → n < 256 → decimal n ≡ (48 + n / 10 / 10) ∷ (48 + n / 10 % 10) ∷ (48 + n % 10) ∷ []
+three_digits n large tens fits =
+    decimal_step n large (omega (arith, fits))
+    ∙ ap (λ front. front ++ (48 + n % 10) ∷ []) (decimal_step (n / 10) tens (omega (arith, fits))
+    ∙ ap (λ front. front ++ (48 + n / 10 % 10) ∷ []) (decimal_digit (n / 10 / 10) (omega (arith, fits))))

@@ -1,14 +1,19 @@
 -- The report on verdicts is that on the first of them, and after it that on the others.
-use Rattle.std.proofs.Common.{◌≡◌, ◌∙◌, ◌+◌, ◌-◌, ◌++◌, ℕ, Bool, true, false, not, cond, List, [], ◌∷◌, length, arith, append_assoc, refl, sym, ap, ap₂}
+use Rattle.std.proofs.Common.{◌≡◌, ◌∙◌, ◌+◌, ◌-◌, ◌++◌, ℕ, Bool, true, false, not, cond, List, [], ◌∷◌, Option, length, take, drop, arith, append-nil, append_assoc, refl, sym, ap, ap₂}
+use Rattle.std.proofs.lemmas.List.{take_all}
 use Rattle.std.proofs.lemmas.List.Sums.{sum_by-append, sum_by-cons}
 use Rattle.flow_filter.specs.Verdicts.{passes}
 use Rattle.flow_filter.specs.declared.verdict.Verdict.{Verdict}
-use Rattle.racl_io.specs.Reports.{dropped, line_of, lines_from, passed, totals_of}
+use Rattle.racl_io.specs.Reports.{captures_from, dropped, is_truncated, line_of, lines_from, packets_in, passed, report_of, totals_line, totals_of, truncation_line}
+use Rattle.racl_io.specs.declared.report.Captured.{Captured}
 use Rattle.racl_io.specs.declared.report.Totals.{Totals}
 
-pub lines_of_both : (n m : ℕ) (xs ys : List Verdict) → m ≡ n + length xs → lines_from n (xs ++ ys) ≡ lines_from n xs ++ lines_from m ys
-lines_of_both n m [] ys e = let same : m ≡ n = omega (arith, e) in rw same refl
-lines_of_both n m (x ∷ xs) ys e = ap (λ l. line_of n x ++ l) (lines_of_both (n + 1) m xs ys (omega (arith, e))) ∙ sym (append_assoc (line_of n x) (lines_from (n + 1) xs) (lines_from m ys))
+pub lines_of_both : (named : Option ℕ) (n m : ℕ) (xs ys : List Verdict) → m ≡ n + length xs
+    → lines_from named n (xs ++ ys) ≡ lines_from named n xs ++ lines_from named m ys
+lines_of_both named n m [] ys e = let same : m ≡ n = omega (arith, e) in rw same refl
+lines_of_both named n m (x ∷ xs) ys e =
+    ap (λ l. line_of named n x ++ l) (lines_of_both named (n + 1) m xs ys (omega (arith, e)))
+    ∙ sym (append_assoc (line_of named n x) (lines_from named (n + 1) xs) (lines_from named m ys))
 
 pub passed_of_both : (xs ys : List Verdict) → passed (xs ++ ys) ≡ passed xs + passed ys
 passed_of_both xs ys = sum_by-append (λ v. cond (passes v) 1 0) xs ys
@@ -23,15 +28,50 @@ passed_or_dropped (x ∷ xs) =
     omega (arith, sum_by-cons (λ v. cond (passes v) 1 0) x xs, sum_by-cons (λ v. cond (not (passes v)) 1 0) x xs, yes_or_no (passes x), passed_or_dropped xs)
 
 -- what is written where a further part of the lines is
-pub more_lines : (front piece lines : List ℕ) (n m : ℕ) (rest xs ys : List Verdict) → front ++ lines_from n rest ≡ lines → rest ≡ xs ++ ys → piece ≡ lines_from n xs → m ≡ n + length xs
-    → (front ++ piece) ++ lines_from m ys ≡ lines
-more_lines front piece lines n m rest xs ys told parted is e =
-    append_assoc front piece (lines_from m ys) ∙ ap (λ l. front ++ l) (ap (λ p. p ++ lines_from m ys) is ∙ sym (lines_of_both n m xs ys e) ∙ ap (lines_from n) (sym parted)) ∙ told
+pub more_lines : (named : Option ℕ) (front piece lines : List ℕ) (n m : ℕ) (rest xs ys : List Verdict) → front ++ lines_from named n rest ≡ lines → rest ≡ xs ++ ys
+    → piece ≡ lines_from named n xs → m ≡ n + length xs → (front ++ piece) ++ lines_from named m ys ≡ lines
+more_lines named front piece lines n m rest xs ys told parted is e =
+    append_assoc front piece (lines_from named m ys)
+    ∙ ap (λ l. front ++ l) (ap (λ p. p ++ lines_from named m ys) is ∙ sym (lines_of_both named n m xs ys e) ∙ ap (lines_from named n) (sym parted)) ∙ told
+
+-- what is written where a further capture is
+pub more_captures : (front text : List ℕ) (n m : ℕ) (rest xs ys : List Verdict) (captured : Captured) (left after : List Captured) → front ++ captures_from n rest left ≡ text
+    → left ≡ captured ∷ after → xs ≡ take captured.packets rest → ys ≡ drop captured.packets rest → m ≡ n + captured.packets
+    → (front ++ (lines_from captured.named n xs ++ truncation_line captured.named captured.truncated captured.packets)) ++ captures_from m ys after ≡ text
+more_captures front text n m rest xs ys captured left after told parted first behind next =
+    let lines = lines_from captured.named n in
+    let end = truncation_line captured.named captured.truncated captured.packets in
+    append_assoc front (lines xs ++ end) (captures_from m ys after)
+    ∙ ap (λ t. front ++ t) (append_assoc (lines xs) end (captures_from m ys after)
+    ∙ ap (λ vs. lines vs ++ (end ++ captures_from m ys after)) first
+    ∙ ap (λ vs. lines (take captured.packets rest) ++ (end ++ captures_from m vs after)) behind
+    ∙ ap (λ k. lines (take captured.packets rest) ++ (end ++ captures_from k (drop captured.packets rest) after)) next
+    ∙ ap (captures_from n rest) (sym parted))
+    ∙ told
+
+-- the captures behind the first have the packets behind its
+pub counted_behind : (rest : List Verdict) (captured : Captured) (left after : List Captured) → packets_in left ≡ length rest → left ≡ captured ∷ after
+    → captured.packets + packets_in after ≡ length rest
+counted_behind rest captured left after counted parted = sym (ap packets_in parted) ∙ counted
+
+-- the report on one capture that has all packets
+pub report_of_one : (verdicts : List Verdict) (named : Option ℕ) (truncated : Bool)
+    → let captured : Captured = record { named = named; packets = length verdicts; truncated = truncated } in
+    report_of verdicts (captured ∷ []) ≡ lines_from named 1 verdicts ++ (truncation_line named truncated (length verdicts) ++ totals_line (totals_of verdicts (captured ∷ [])))
+report_of_one verdicts named truncated =
+    let captured : Captured = record { named = named; packets = length verdicts; truncated = truncated } in
+    let end = truncation_line named truncated (length verdicts) in
+    let totals = totals_line (totals_of verdicts (captured ∷ [])) in
+    ap (λ vs. (lines_from named 1 vs ++ (end ++ [])) ++ totals) (take_all (length verdicts) verdicts (omega arith))
+    ∙ ap (λ e. (lines_from named 1 verdicts ++ e) ++ totals) (append-nil end)
+    ∙ append_assoc (lines_from named 1 verdicts) end totals
 
 abbrev totals_with : List Verdict → Bool → ℕ → ℕ → Totals
 totals_with verdicts truncated passing dropping = record { packets = length verdicts; passed = passing; dropped = dropping; truncated = truncated }
 
 -- those that don't pass are dropped
-pub totals_counted : (n : ℕ) (verdicts : List Verdict) (truncated : Bool) → n ≡ passed verdicts → totals_with verdicts truncated n (length verdicts - n) ≡ totals_of verdicts truncated
-totals_counted n verdicts truncated e =
-    let others : length verdicts - n ≡ dropped verdicts = omega (arith, e, passed_or_dropped verdicts) in ap₂ (totals_with verdicts truncated) e others
+pub totals_counted : (n : ℕ) (verdicts : List Verdict) (captures : List Captured) (truncated : Bool) → n ≡ passed verdicts → truncated ≡ is_truncated captures
+    → totals_with verdicts truncated n (length verdicts - n) ≡ totals_of verdicts captures
+totals_counted n verdicts captures truncated e cut =
+    let others : length verdicts - n ≡ dropped verdicts = omega (arith, e, passed_or_dropped verdicts) in
+    ap₂ (totals_with verdicts truncated) e others ∙ ap (λ t. totals_with verdicts t (passed verdicts) (dropped verdicts)) cut

@@ -1,15 +1,17 @@
--- Which fault an input has: the first whose cause stands, in the order size, marker line, policy, digits, capture.
-use Rattle.std.specs.Prelude.{◌≡◌, ◌≤◌, ◌<◌, ◌⊎◌, ℕ, List, length, Result, MatchResult}
-use Rattle.packet_view.specs.Captures.{IsCaptureFault}
+-- Which fault an input has: the first whose cause stands, in the order size, marker line, policy, and for one capture
+-- after the other: a second one of its interface, digits, capture.
+use Rattle.std.specs.Prelude.{◌≡◌, ◌≤◌, ◌<◌, ◌⊎◌, ℕ, List, [], ◌∷◌, length, Result, MatchResult}
+use Rattle.packet_view.specs.Captures.{End, IsCapture, IsCaptureFault, RecordFacts}
 use Rattle.packet_view.specs.declared.capture.CaptureFault.{CaptureFault}
 use Rattle.packet_view.specs.declared.capture.CaptureFault.TheVariants as capture
-use Rattle.acl_policy.specs.Policies.{PolicyFacts, IsPolicyFault, IsPolicyText}
+use Rattle.acl_policy.specs.Policies.{IsAmong, PolicyFacts, IsPolicyFault, IsPolicyText}
 use Rattle.acl_policy.specs.declared.policy.PolicyFault.{PolicyFault}
 use Rattle.acl_policy.specs.declared.policy.PolicyFault.TheVariants as policy
 use Rattle.racl_io.specs.declared.fault.Fault.{Fault}
-use Rattle.racl_io.specs.declared.fault.Fault.TheVariants.{Memory, Read, TooLarge, NoCapture, NotUtf8, BadLine, TooMany, Hex, Short, Magic, Version, LinkType, LongRecord, Write}
-use Rattle.racl_io.specs.Inputs.{IsContent, IsInput, InputFacts, most_bytes}
+use Rattle.racl_io.specs.declared.fault.Fault.TheVariants.{Memory, Read, TooLarge, NoCapture, NotUtf8, BadLine, TooMany, Hex, Short, Magic, Version, LinkType, LongRecord, Twice, Write}
+use Rattle.racl_io.specs.Inputs.{AreCaptures, DigitsFacts, IsContent, IsInput, InputFacts, most_bytes}
 use Rattle.racl_io.specs.declared.input.Form.{Form}
+use Rattle.racl_io.specs.declared.input.Form.TheVariants.{Binary, Hexadecimal, Numbered}
 
 -- the program's fault for one of the policy
 abbrev pub policy_fault : PolicyFault → Fault
@@ -36,11 +38,33 @@ IsFaultOfContent form content fault =
     ((fault ≡ Hex) × ((capture : List ℕ) → IsContent form content capture → ⊥))
     ⊎ ((capture : List ℕ) × IsContent form content capture × IsFaultOfCapture capture fault)
 
--- the policy has the fault, or it is right and the content has it
+-- these digits are a capture without fault
+abbrev pub IsRight : ℕ → List ℕ → Type 0
+IsRight number digits =
+    (capture : List ℕ) × (records : List RecordFacts) × (end : End) × IsContent (Numbered number) digits capture × IsCapture capture records end
+
+-- The first of these captures at fault has it, after captures of the interfaces that were seen: it is the second one of its
+-- interface, or its digits have the fault.
+abbrev pub IsFaultOfCaptures : List ℕ → List DigitsFacts → Fault → Type 0
+IsFaultOfCaptures seen [] fault = ⊥
+IsFaultOfCaptures seen (first ∷ others) fault =
+    (IsAmong first.interface seen × (fault ≡ Twice first.interface))
+    ⊎ ((IsAmong first.interface seen → ⊥)
+    × (IsFaultOfContent (Numbered first.interface) first.digits fault
+    ⊎ (IsRight first.interface first.digits × IsFaultOfCaptures (first.interface ∷ seen) others fault)))
+
+-- what stands after the marker line has the fault: one capture, or captures with numbers
+abbrev pub IsFaultOfForm : Form → List ℕ → Fault → Type 0
+IsFaultOfForm Binary content fault = IsFaultOfContent Binary content fault
+IsFaultOfForm Hexadecimal content fault = IsFaultOfContent Hexadecimal content fault
+IsFaultOfForm (Numbered number) content fault =
+    (captures : List DigitsFacts) × AreCaptures number content captures × IsFaultOfCaptures [] captures fault
+
+-- the policy has the fault, or it is right and what stands after the marker line has it
 abbrev pub IsFaultOfParts : InputFacts → Fault → Type 0
 IsFaultOfParts parts fault =
     ((cause : PolicyFault) × IsPolicyFault parts.policy cause × (fault ≡ policy_fault cause))
-    ⊎ ((policy : PolicyFacts) × IsPolicyText parts.policy policy × IsFaultOfContent parts.form parts.content fault)
+    ⊎ ((policy : PolicyFacts) × IsPolicyText parts.policy policy × IsFaultOfForm parts.form parts.content fault)
 
 -- there is no marker line, or what stands around the first one has the fault
 abbrev pub IsFaultOfBytes : List ℕ → Fault → Type 0

@@ -1,8 +1,10 @@
--- The report: one line for each packet, and the totals (this project's profile).
-use Rattle.std.specs.Prelude.{ℕ, ◌+◌, Bool, true, false, not, List, [], ◌∷◌, ◌++◌, length, codes, decimal, count_by}
+-- The report: for one capture after the other a line for each packet, and the totals over all (this project's profile).
+use Rattle.std.specs.Prelude.{ℕ, ◌+◌, Bool, true, false, not, List, [], ◌∷◌, ◌++◌, Option, None, Some, length, take, drop, codes, decimal, count_by}
+use Rattle.std.specs.List.{list_any}
 use Rattle.flow_filter.specs.Verdicts.{passes}
 use Rattle.flow_filter.specs.declared.verdict.Verdict.{Verdict}
 use Rattle.flow_filter.specs.declared.verdict.Verdict.TheVariants.{Session, Reflect, Permit, Deny, ByDefault, Worn, Full, NoPages, NotIp, Malformed, Short}
+use Rattle.racl_io.specs.declared.report.Captured.{Captured}
 use Rattle.racl_io.specs.declared.report.Totals.{Totals}
 
 abbrev pub text_of : Verdict → List ℕ
@@ -18,14 +20,38 @@ text_of NotIp = codes "pass not-ip"
 text_of Malformed = codes "drop malformed"
 text_of Short = codes "drop short"
 
+-- what names the interface with this number, or nothing
+abbrev pub name_of : Option ℕ → List ℕ
+name_of None = []
+name_of (Some number) = codes "if " ++ (decimal number ++ codes " ")
+
 -- the line of the packet with this number
-abbrev pub line_of : ℕ → Verdict → List ℕ
-line_of n verdict = decimal n ++ (codes " " ++ (text_of verdict ++ codes "\n"))
+abbrev pub line_of : Option ℕ → ℕ → Verdict → List ℕ
+line_of named n verdict = decimal n ++ (codes " " ++ (name_of named ++ (text_of verdict ++ codes "\n")))
 
 -- the lines of packets whose numbers begin with n
-abbrev pub lines_from : ℕ → List Verdict → List ℕ
-lines_from n [] = []
-lines_from n (verdict ∷ verdicts) = line_of n verdict ++ lines_from (n + 1) verdicts
+abbrev pub lines_from : Option ℕ → ℕ → List Verdict → List ℕ
+lines_from named n [] = []
+lines_from named n (verdict ∷ verdicts) = line_of named n verdict ++ lines_from named (n + 1) verdicts
+
+-- where a capture was truncated, after how many packets
+abbrev pub truncation_line : Option ℕ → Bool → ℕ → List ℕ
+truncation_line named false n = []
+truncation_line named true n = name_of named ++ (codes "truncated after " ++ (decimal n ++ codes "\n"))
+
+-- how many packets the captures have
+abbrev pub packets_in : List Captured → ℕ
+packets_in [] = 0
+packets_in (captured ∷ captures) = captured.packets + packets_in captures
+
+-- What is told of captures, one after the other, of whose packets the first has the number n. Each has its packets' verdicts
+-- from the front of the list.
+abbrev pub captures_from : ℕ → List Verdict → List Captured → List ℕ
+captures_from n verdicts [] = []
+captures_from n verdicts (captured ∷ captures) =
+    lines_from captured.named n (take captured.packets verdicts)
+    ++ (truncation_line captured.named captured.truncated captured.packets
+    ++ captures_from (n + captured.packets) (drop captured.packets verdicts) captures)
 
 abbrev pub passed : List Verdict → ℕ
 passed verdicts = count_by passes verdicts
@@ -33,16 +59,16 @@ passed verdicts = count_by passes verdicts
 abbrev pub dropped : List Verdict → ℕ
 dropped verdicts = count_by (λ v. not (passes v)) verdicts
 
-abbrev pub totals_of : List Verdict → Bool → Totals
-totals_of verdicts truncated = record { packets = length verdicts; passed = passed verdicts; dropped = dropped verdicts; truncated = truncated }
+-- whether a capture of these was truncated
+abbrev pub is_truncated : List Captured → Bool
+is_truncated captures = list_any (λ c. c.truncated) captures
 
--- where the capture was truncated, after how many packets
-abbrev pub truncation_line : Bool → ℕ → List ℕ
-truncation_line false n = []
-truncation_line true n = codes "truncated after " ++ (decimal n ++ codes "\n")
+abbrev pub totals_of : List Verdict → List Captured → Totals
+totals_of verdicts captures =
+    record { packets = length verdicts; passed = passed verdicts; dropped = dropped verdicts; truncated = is_truncated captures }
 
 abbrev pub totals_line : Totals → List ℕ
 totals_line t = codes "packets " ++ (decimal t.packets ++ (codes " pass " ++ (decimal t.passed ++ (codes " drop " ++ (decimal t.dropped ++ codes "\n")))))
 
-abbrev pub report_of : List Verdict → Bool → List ℕ
-report_of verdicts truncated = lines_from 1 verdicts ++ (truncation_line truncated (length verdicts) ++ totals_line (totals_of verdicts truncated))
+abbrev pub report_of : List Verdict → List Captured → List ℕ
+report_of verdicts captures = captures_from 1 verdicts captures ++ totals_line (totals_of verdicts captures)

@@ -4,9 +4,10 @@ ghost use Rattle.racl_io.specs.inner.Lines.{HasMade, HasRoom, HasWritten, MayMak
 
 use crate::device::Sink;
 use crate::fault::Fault;
+use crate::name::Name;
 use crate::numeral::Counter;
 use crate::piece::Piece;
-use crate::report::{LINES, push_lines, write_lines};
+use crate::report::{LINES, Place, push_lines, write_lines};
 use crate::transfer::write_all;
 use flow_filter::Verdict;
 use std::alloc::{AllocError, Global};
@@ -54,19 +55,20 @@ impl Lines {
     }
 }
 
-// Makes the lines of the packets behind so many others, and answers how many of them pass.
-fn make_lines(lines: &mut Lines, others: usize, verdicts: &[Verdict]) -> u64
-    requires { MayMake lines.old others verdicts.now }
-    ensures { HasMade lines.new others verdicts.now result }
+// Makes the lines of the packets at this place, and answers how many of them pass.
+fn make_lines(lines: &mut Lines, place: Place, verdicts: &[Verdict]) -> u64
+    requires { MayMake lines.old place verdicts.now }
+    ensures { HasMade lines.new place verdicts.now result }
 {
     let Lines { piece, text, .. } = lines;
-    let mut number = Counter::at(others as u64);
+    let mut number = Counter::at(place.others as u64);
+    let name = Name::of(place.named);
     let mut passed = 0;
     let mut rest = verdicts;
     'pieces: while !rest.is_empty() {
         let (first, behind) = rest.split_at(rest.len().min(LINES));
         piece.clear();
-        passed += push_lines(piece, &mut number, first);
+        passed += push_lines(piece, &mut number, &name, first);
         let Ok(()) = text.extend_from_slice(piece.as_slice()) else {
             unreachable!()
         };
@@ -75,39 +77,42 @@ fn make_lines(lines: &mut Lines, others: usize, verdicts: &[Verdict]) -> u64
     passed
 }
 
-/// Writes the lines of the packets behind so many others, and answers how many of them pass. The last lines are made in
-/// the parts, as many as have room there: each part in a thread of its own, or in this one where none can be made, while
-/// the lines before it are made and written.
+/// Writes the lines of the packets at this place, and answers how many of them pass. The last lines are made in the parts,
+/// as many as have room there: each part in a thread of its own, or in this one where none can be made, while the lines
+/// before it are made and written.
 pub fn write_beside<W: Sink, T: Threads>(
     rt: &T,
     writer: &mut W,
     piece: &mut Piece,
     parts: &mut [Lines],
-    others: usize,
+    place: Place,
     verdicts: &[Verdict],
 ) -> Result<u64, Fault>
     requires room { All HasRoom parts.old }
     requires sound { W.failures writer.old < 2 ^ 64 - 1 }
-    requires fits { others + length verdicts.now < 2 ^ 64 }
-    ensures { HasWritten W.bytes W.failures writer.old writer.new others verdicts.now result }
+    requires fits { place.others + length verdicts.now < 2 ^ 64 }
+    ensures { HasWritten W.bytes W.failures writer.old writer.new place verdicts.now result }
 {
     let Some((lines, earlier)) = parts.split_last_mut() else {
-        return write_lines(writer, piece, others, verdicts);
+        return write_lines(writer, piece, place, verdicts);
     };
     let (front, last) = verdicts.split_at(verdicts.len().saturating_sub(lines.count));
-    let before = others + front.len();
+    let behind = Place {
+        others: place.others + front.len(),
+        ..place
+    };
     let (more, written) = join_mut(
         rt,
         &mut ||
-            requires { MayMake lines.now before last.now }
-            ensures { HasMade lines.exit.now before last.entry.now result }
-        { make_lines(lines, before, last) },
+            requires { MayMake lines.now behind last.now }
+            ensures { HasMade lines.exit.now behind last.entry.now result }
+        { make_lines(lines, behind, last) },
         &mut ||
             requires room { All HasRoom earlier.now }
             requires sound { W.failures writer.now < 2 ^ 64 - 1 }
-            requires fits { others + length front.now < 2 ^ 64 }
-            ensures { HasWritten W.bytes W.failures writer.entry.now writer.exit.now others front.entry.now result }
-        { write_beside(rt, writer, piece, earlier, others, front) },
+            requires fits { place.others + length front.now < 2 ^ 64 }
+            ensures { HasWritten W.bytes W.failures writer.entry.now writer.exit.now place front.entry.now result }
+        { write_beside(rt, writer, piece, earlier, place, front) },
     );
     let passed = written?;
     write_all(writer, &lines.text)?;

@@ -25,6 +25,8 @@ pub enum Fault {
     BadLine(u64),
     #[error("{}", PolicyFault::TooMany(*.0))]
     TooMany(u64),
+    #[error("interface {0} has two captures")]
+    Twice(u8),
     #[error("bad hexadecimal")]
     Hex,
     #[error("capture header is short")]

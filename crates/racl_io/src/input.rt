@@ -1,9 +1,8 @@
 //! The parts of the input: a policy text, a marker line, and the capture as bytes or as digits.
-ghost use Rattle.std.specs.Prelude.{◌≡◌, ◌≢◌, ◌<◌, ℕ, IfSome, IfNone, length, slice_index};
-ghost use Rattle.racl_io.specs.Inputs.{InputFacts, input_facts, IsInput, IsMarker, IsFirstLine, HasNoFeed, word_of};
+ghost use Rattle.std.specs.Prelude.{◌≡◌, ◌≢◌, ◌<◌, ◌++◌, ℕ, List, IfSome, IfNone, codes, length, slice_index};
+ghost use Rattle.racl_io.specs.Inputs.{Counts, InputFacts, input_facts, IsCut, IsInput, IsMarker, IsParted, IsFirstLine, IsWord, HasNoFeed, numbered_facts};
 
-use crate::fault::Fault;
-use std::alloc::Global;
+use acl_policy::octet_of;
 
 /// How the capture is written after its marker line.
 #[derive(Clone, Copy, Debug, PartialEq, Eq)]
@@ -12,6 +11,17 @@ pub enum Form {
     Binary,
     /// As hexadecimal digits, after `hex`.
     Hexadecimal,
+    /// As hexadecimal digits of the capture that was taken at the interface with this number, after `hex` and that
+    /// number. Further ones may follow.
+    Numbered(u8),
+}
+
+/// Which marker lines count.
+#[derive(Clone, Copy, Debug, PartialEq, Eq)]
+enum Marks {
+    Every,
+    /// Those with a number.
+    Numbers,
 }
 
 /// The parts of an input.
@@ -22,26 +32,77 @@ pub struct Input<'a> {
     pub content: &'a [u8],
 }
 
-fn marker(line: &[u8]) -> Option<Form>
-    ensures some { IfSome result (λ form. IsMarker form line.now) }
-    ensures none { IfNone result ((form : Form) → IsMarker form line.now → ⊥) }
-{
-    match line {
-        b"pcap" | b"pcap\r" => Some(Form::Binary),
-        b"hex" | b"hex\r" => Some(Form::Hexadecimal),
-        _ => None,
-    }
+/// A marker line with a number, and what follows it.
+#[derive(Clone, Copy, Debug)]
+pub struct Numbered<'a> {
+    pub interface: u8,
+    pub content: &'a [u8],
 }
 
-fn word(line: &[u8]) -> Option<Form>
-    ensures some { IfSome result (λ form. line.now ≡ word_of form) }
-    ensures none { IfNone result ((form : Form) → line.now ≡ word_of form → ⊥) }
+/// The digits of a capture, and what ends them.
+#[derive(Clone, Copy, Debug)]
+pub struct Digits<'a> {
+    pub digits: &'a [u8],
+    /// The next marker line with a number; None where the digits end with the input.
+    pub next: Option<Numbered<'a>>,
+}
+
+// What follows `hex` and a space.
+fn after_hex(word: &[u8]) -> Option<&[u8]>
+    ensures some { IfSome result (λ rest. word.now ≡ codes "hex " ++ rest.now) }
+    ensures none { IfNone result ((rest : List ℕ) → word.now ≡ codes "hex " ++ rest → ⊥) }
 {
-    match line {
+    if word.len() < 4 || &word[..4] != b"hex ".as_slice() {
+        return None;
+    }
+    Some(&word[4..])
+}
+
+// The number of the interface that a marker line's word has.
+fn interface_of(word: &[u8]) -> Option<u8>
+    ensures some { IfSome result (λ number. IsWord (Form.Numbered number) word.now) }
+    ensures none { IfNone result ((number : ℕ) → IsWord (Form.Numbered number) word.now → ⊥) }
+{
+    octet_of(after_hex(word)?)
+}
+
+// What a marker line's word without a number says.
+fn plain_form(word: &[u8]) -> Option<Form>
+    ensures some { IfSome result (λ form. IsWord form word.now) }
+    ensures none { IfNone result ((word.now ≢ codes "pcap") × (word.now ≢ codes "hex")) }
+{
+    match word {
         b"pcap" => Some(Form::Binary),
         b"hex" => Some(Form::Hexadecimal),
         _ => None,
     }
+}
+
+// What a marker line's word says, where such lines count.
+fn form_of(word: &[u8], marks: Marks) -> Option<Form>
+    ensures some { IfSome result (λ form. Counts marks form × IsWord form word.now) }
+    ensures none { IfNone result ((form : Form) → Counts marks form → IsWord form word.now → ⊥) }
+{
+    if let Some(number) = interface_of(word) {
+        return Some(Form::Numbered(number));
+    }
+    match marks {
+        Marks::Every => plain_form(word),
+        Marks::Numbers => None,
+    }
+}
+
+fn marker(line: &[u8], marks: Marks) -> Option<Form>
+    ensures some { IfSome result (λ form. Counts marks form × IsMarker form line.now) }
+    ensures none { IfNone result ((form : Form) → Counts marks form → IsMarker form line.now → ⊥) }
+{
+    if let Some(form) = form_of(line, marks) {
+        return Some(form);
+    }
+    let Some((b'\r', word)) = line.split_last() else {
+        return None;
+    };
+    form_of(word, marks)
 }
 
 /// The first line feed.
@@ -63,17 +124,14 @@ fn first_line(bytes: &[u8]) -> Option<(&[u8], &[u8])>
     Some((&bytes[..len], &bytes[len + 1..]))
 }
 
-/// The parts of an input, cut at its first marker line; None where it has none.
-///
-/// A line ends with a line feed, and one carriage return before it is dropped. A marker word may
-/// also end the input.
-pub fn parts(bytes: &[u8]) -> Option<Input<'_>>
-    ensures some { IfSome result (λ input. IsInput bytes.now (input_facts input)) }
-    ensures none { IfNone result ((parts : InputFacts) → IsInput bytes.now parts → ⊥) }
+// The parts of these bytes, cut at the first marker line that counts.
+fn parted(bytes: &[u8], marks: Marks) -> Option<Input<'_>>
+    ensures some { IfSome result (λ input. IsParted marks bytes.now (input_facts input)) }
+    ensures none { IfNone result ((parts : InputFacts) → IsParted marks bytes.now parts → ⊥) }
 {
     let mut rest = bytes;
     'lines: while let Some((line, after)) = first_line(rest) {
-        if let Some(form) = marker(line) {
+        if let Some(form) = marker(line, marks) {
             return Some(Input {
                 policy: &bytes[..bytes.len() - rest.len()],
                 form,
@@ -82,10 +140,46 @@ pub fn parts(bytes: &[u8]) -> Option<Input<'_>>
         }
         rest = after;
     }
-    let form = word(rest)?;
+    let form = form_of(rest, marks)?;
     Some(Input {
         policy: &bytes[..bytes.len() - rest.len()],
         form,
         content: &[],
     })
+}
+
+/// The parts of an input, cut at its first marker line; None where it has none.
+///
+/// A line ends with a line feed, and one carriage return before it is dropped. A marker word may
+/// also end the input.
+pub fn parts(bytes: &[u8]) -> Option<Input<'_>>
+    ensures some { IfSome result (λ input. IsInput bytes.now (input_facts input)) }
+    ensures none { IfNone result ((parts : InputFacts) → IsInput bytes.now parts → ⊥) }
+{
+    parted(bytes, Marks::Every)
+}
+
+/// Cuts what follows a marker line with a number: into the digits of its capture, and the next such line with what
+/// follows it.
+pub fn cut_digits(content: &[u8]) -> Digits<'_>
+    ensures cut { IsCut content.now result.digits.now (numbered_facts result.next) }
+    ensures shorter { IfSome result.next (λ next. length next.content.now < length content.now) }
+{
+    let Some(cut) = parted(content, Marks::Numbers) else {
+        return Digits {
+            digits: content,
+            next: None,
+        };
+    };
+    let Form::Numbered(interface) = cut.form else {
+        unreachable!()
+    };
+    let next = Some(Numbered {
+        interface,
+        content: cut.content,
+    });
+    Digits {
+        digits: cut.policy,
+        next,
+    }
 }

@@ -1,14 +1,15 @@
-//! The report on a capture, written in pieces.
-ghost use Rattle.std.specs.Prelude.{◌≡◌, ◌≢◌, ◌+◌, ◌-◌, ◌*◌, ◌<◌, ◌≤◌, ◌^◌, ◌++◌, ◌⊎◌, ◌↔◌, [], IfOk, IfErr, OnOk, OnErr, Err, codes, length, decimal};
+//! The report on captures, written in pieces.
+ghost use Rattle.std.specs.Prelude.{◌≡◌, ◌≢◌, ◌+◌, ◌-◌, ◌*◌, ◌<◌, ◌≤◌, ◌^◌, ◌++◌, ◌⊎◌, ◌↔◌, [], true, IfOk, IfErr, OnOk, OnErr, Err, codes, length, decimal};
 ghost use Rattle.std.specs.Io.KnownBytes.{Appends};
 ghost use Rattle.racl_io.specs.Reports;
-ghost use Rattle.racl_io.specs.Reports.{text_of, line_of, lines_from, report_of, totals_of, totals_line, truncation_line};
-ghost use Rattle.racl_io.specs.inner.Lines.{HasWritten};
+ghost use Rattle.racl_io.specs.Reports.{captures_from, line_of, lines_from, name_of, packets_in, report_of, text_of, totals_of, totals_line, truncation_line};
+ghost use Rattle.racl_io.specs.inner.Lines.{HasEnded, HasTold, HasWritten};
 ghost use Rattle.racl_io.specs.declared.fault.Fault.TheVariants.{Memory, Write};
 
 use crate::beside::{Lines, write_beside};
 use crate::device::Sink;
 use crate::fault::Fault;
+use crate::name::Name;
 use crate::numeral::{Counter, Numeral};
 use crate::piece::Piece;
 use crate::transfer::write_all;
@@ -25,14 +26,34 @@ const FEW_LINES: usize = 262_144;
 /// How many lines are made by several threads at once: so many that these pay, and so few that their text is short.
 const BATCH_LINES: usize = 131_072;
 
+/// A capture of an input, as the report tells it.
+#[derive(Clone, Copy, Debug, PartialEq, Eq)]
+pub struct Captured {
+    /// The interface that its lines name, where they name one.
+    pub named: Option<u8>,
+    /// How many whole records it has.
+    pub packets: usize,
+    /// Whether it ends within a record.
+    pub truncated: bool,
+}
+
 /// How many packets were judged, and what became of them.
 #[derive(Clone, Copy, Debug, PartialEq, Eq)]
 pub struct Totals {
     pub packets: u64,
     pub passed: u64,
     pub dropped: u64,
-    /// Whether the capture ends within a record.
+    /// Whether a capture ends within a record.
     pub truncated: bool,
+}
+
+/// Where packets stand in a report.
+#[derive(Clone, Copy)]
+pub struct Place {
+    /// The interface that their lines name, where they name one.
+    pub named: Option<u8>,
+    /// How many packets have lines before them.
+    pub others: usize,
 }
 
 /// A rule has few digits, which are pushed one by one.
@@ -82,22 +103,28 @@ fn push_verdict(piece: &mut Piece, verdict: Verdict)
     }
 }
 
-fn push_line(piece: &mut Piece, number: &Counter, verdict: Verdict)
+fn push_line(piece: &mut Piece, number: &Counter, name: &Name, verdict: Verdict)
     requires fits { number.now < 2 ^ 64 }
     requires room { length piece.old + 72 ≤ 262144 }
-    ensures text { piece.new ≡ piece.old ++ line_of number.now verdict }
+    ensures text { piece.new ≡ piece.old ++ line_of name.now number.now verdict }
     ensures short { length piece.new ≤ length piece.old + 72 }
 {
     number.push(piece);
+    name.push(piece);
     push_verdict(piece, verdict);
 }
 
 /// The lines of the packets after the counted ones, and how many of them pass.
-pub fn push_lines(piece: &mut Piece, number: &mut Counter, verdicts: &[Verdict]) -> u64
+pub fn push_lines(
+    piece: &mut Piece,
+    number: &mut Counter,
+    name: &Name,
+    verdicts: &[Verdict],
+) -> u64
     requires empty { piece.old ≡ [] }
     requires few { length verdicts.now ≤ 3600 }
     requires fits { number.old + length verdicts.now < 2 ^ 64 }
-    ensures text { piece.new ≡ lines_from (number.old + 1) verdicts.now }
+    ensures text { piece.new ≡ lines_from name.now (number.old + 1) verdicts.now }
     ensures number { number.new ≡ number.old + length verdicts.now }
     ensures passed { result ≡ Reports.passed verdicts.now }
     ensures short { length piece.new ≤ length verdicts.now * 72 }
@@ -105,7 +132,7 @@ pub fn push_lines(piece: &mut Piece, number: &mut Counter, verdicts: &[Verdict])
     let mut passed = 0;
     for verdict in verdicts {
         number.count();
-        push_line(piece, number, *verdict);
+        push_line(piece, number, name, *verdict);
         if verdict.passes() {
             passed += 1;
         }
@@ -113,92 +140,162 @@ pub fn push_lines(piece: &mut Piece, number: &mut Counter, verdicts: &[Verdict])
     passed
 }
 
-/// Writes the lines of the packets behind so many others, and answers how many of them pass.
+/// Writes the lines of the packets at this place, and answers how many of them pass.
 pub fn write_lines<W: Sink>(
     writer: &mut W,
     piece: &mut Piece,
-    others: usize,
+    place: Place,
     verdicts: &[Verdict],
 ) -> Result<u64, Fault>
     requires sound { W.failures writer.old < 2 ^ 64 - 1 }
-    requires fits { others + length verdicts.now < 2 ^ 64 }
-    ensures { HasWritten W.bytes W.failures writer.old writer.new others verdicts.now result }
+    requires fits { place.others + length verdicts.now < 2 ^ 64 }
+    ensures { HasWritten W.bytes W.failures writer.old writer.new place verdicts.now result }
 {
-    let mut number = Counter::at(others as u64);
+    let mut number = Counter::at(place.others as u64);
+    let name = Name::of(place.named);
     let mut passed = 0;
     let mut rest = verdicts;
     while !rest.is_empty() {
         let (first, others) = rest.split_at(rest.len().min(LINES));
         piece.clear();
-        passed += push_lines(piece, &mut number, first);
+        passed += push_lines(piece, &mut number, &name, first);
         write_all(writer, piece.as_slice())?;
         rest = others;
     }
     Ok(passed)
 }
 
-// Writes the lines of a batch of packets behind so many others. Where there is memory, few of them are made in this
-// thread: writing takes it nearly as long as making them all would.
+// Writes the lines of a batch of packets at this place. Where there is memory, few of them are made in this thread:
+// writing takes it nearly as long as making them all would.
 fn write_batch<W: Sink, T: Threads>(
     rt: &T,
     alloc: Global,
     writer: &mut W,
     piece: &mut Piece,
-    others: usize,
+    place: Place,
     verdicts: &[Verdict],
 ) -> Result<u64, Fault>
     requires few { length verdicts.now ≤ 131072 }
     requires sound { W.failures writer.old < 2 ^ 64 - 1 }
-    requires fits { others + length verdicts.now < 2 ^ 64 }
-    ensures { HasWritten W.bytes W.failures writer.old writer.new others verdicts.now result }
+    requires fits { place.others + length verdicts.now < 2 ^ 64 }
+    ensures { HasWritten W.bytes W.failures writer.old writer.new place verdicts.now result }
 {
     match Lines::parts(alloc, verdicts.len()) {
-        Ok(mut parts) => write_beside(rt, writer, piece, &mut parts, others, verdicts),
-        Err(_) => write_lines(writer, piece, others, verdicts),
+        Ok(mut parts) => write_beside(rt, writer, piece, &mut parts, place, verdicts),
+        Err(_) => write_lines(writer, piece, place, verdicts),
     }
 }
 
-// Writes the lines of all packets, by several threads where they are many and threads can be made.
+// Writes the lines of the packets at this place, by several threads where they are many and threads can be made.
 fn write_packets<W: Sink, T: Threads>(
     beside: Option<&T>,
     alloc: Global,
     writer: &mut W,
     piece: &mut Piece,
+    place: Place,
     verdicts: &[Verdict],
 ) -> Result<u64, Fault>
-    requires { W.failures writer.old < 2 ^ 64 - 1 }
-    ensures { HasWritten W.bytes W.failures writer.old writer.new 0 verdicts.now result }
+    requires sound { W.failures writer.old < 2 ^ 64 - 1 }
+    requires fits { place.others + length verdicts.now < 2 ^ 64 }
+    ensures { HasWritten W.bytes W.failures writer.old writer.new place verdicts.now result }
 {
     let Some(rt) = beside else {
-        return write_lines(writer, piece, 0, verdicts);
+        return write_lines(writer, piece, place, verdicts);
     };
     if verdicts.len() < FEW_LINES {
-        return write_lines(writer, piece, 0, verdicts);
+        return write_lines(writer, piece, place, verdicts);
     }
     let mut passed = 0;
-    let mut others = 0;
+    let mut others = place.others;
     let mut rest = verdicts;
     'batches: while !rest.is_empty() {
         let (batch, behind) = rest.split_at(rest.len().min(BATCH_LINES));
-        passed += write_batch(rt, alloc, writer, piece, others, batch)?;
+        let next = Place { others, ..place };
+        passed += write_batch(rt, alloc, writer, piece, next, batch)?;
         others += batch.len();
         rest = behind;
     }
     Ok(passed)
 }
 
-fn push_end(piece: &mut Piece, totals: &Totals)
-    requires { piece.old ≡ [] }
-    ensures { piece.new ≡ truncation_line totals.now.truncated totals.now.packets ++ totals_line totals.now }
+fn push_name(piece: &mut Piece, named: Option<u8>)
+    requires { length piece.old + 28 ≤ 262144 }
+    ensures text { piece.new ≡ piece.old ++ name_of named }
+    ensures short { length piece.new ≤ length piece.old + 28 }
 {
-    let packets = Numeral::of(totals.packets);
-    if totals.truncated {
-        piece.push(b"truncated after ");
-        packets.push(piece);
-        piece.push(b"\n");
+    let Some(number) = named else {
+        return;
+    };
+    piece.push(b"if ");
+    Numeral::of(number as u64).push(piece);
+    piece.push(b" ");
+}
+
+fn push_truncation(piece: &mut Piece, captured: &Captured)
+    requires { piece.old ≡ [] }
+    ensures { piece.new ≡ truncation_line captured.now.named true captured.now.packets }
+{
+    push_name(piece, captured.named);
+    piece.push(b"truncated after ");
+    Numeral::of(captured.packets as u64).push(piece);
+    piece.push(b"\n");
+}
+
+// Writes that a capture is truncated, where it is.
+fn write_truncation<W: Sink>(
+    writer: &mut W,
+    piece: &mut Piece,
+    captured: &Captured,
+) -> Result<(), Fault>
+    requires { W.failures writer.old < 2 ^ 64 - 1 }
+    ensures { HasEnded W.bytes W.failures writer.old writer.new captured.now result }
+{
+    if !captured.truncated {
+        return Ok(());
     }
+    piece.clear();
+    push_truncation(piece, captured);
+    write_all(writer, piece.as_slice())
+}
+
+// Writes what is told of the captures, one after the other, and answers how many packets pass.
+fn write_captures<W: Sink, T: Threads>(
+    beside: Option<&T>,
+    alloc: Global,
+    writer: &mut W,
+    piece: &mut Piece,
+    verdicts: &[Verdict],
+    captures: &[Captured],
+) -> Result<u64, Fault>
+    requires sound { W.failures writer.old < 2 ^ 64 - 1 }
+    requires counted { packets_in captures.now ≡ length verdicts.now }
+    ensures { HasTold W.bytes W.failures writer.old writer.new (captures_from 1 verdicts.now captures.now) (Reports.passed verdicts.now) result }
+{
+    let mut passed = 0;
+    let mut others = 0;
+    let mut rest = verdicts;
+    let mut left = captures;
+    'each: while let Some((captured, after)) = left.split_first() {
+        let (first, behind) = rest.split_at(captured.packets);
+        let place = Place {
+            named: captured.named,
+            others,
+        };
+        passed += write_packets(beside, alloc, writer, piece, place, first)?;
+        write_truncation(writer, piece, captured)?;
+        others += captured.packets;
+        rest = behind;
+        left = after;
+    }
+    Ok(passed)
+}
+
+fn push_totals(piece: &mut Piece, totals: &Totals)
+    requires { piece.old ≡ [] }
+    ensures { piece.new ≡ totals_line totals.now }
+{
     piece.push(b"packets ");
-    packets.push(piece);
+    Numeral::of(totals.packets).push(piece);
     piece.push(b" pass ");
     Numeral::of(totals.passed).push(piece);
     piece.push(b" drop ");
@@ -206,35 +303,42 @@ fn push_end(piece: &mut Piece, totals: &Totals)
     piece.push(b"\n");
 }
 
-/// Writes the report of the verdicts in the order of their packets, in pieces whose room is asked for before the first
-/// of them is written. Where they are many and threads can be made `beside` this one, the last lines of each batch are
-/// made in three of these while its first are written.
+fn is_truncated(captures: &[Captured]) -> bool
+    ensures { result ≡ Reports.is_truncated captures.now }
+{
+    captures.iter().any(|captured| captured.truncated)
+}
+
+/// Writes the report of the verdicts on the packets of captures, one capture after the other, in pieces whose room is
+/// asked for before the first of them is written. Where a capture has many packets and threads can be made `beside` this
+/// one, the last lines of each batch are made in three of these while its first are written.
 pub fn write_report<W: Sink, T: Threads>(
     beside: Option<&T>,
     alloc: Global,
     writer: &mut W,
     verdicts: &[Verdict],
-    truncated: bool,
+    captures: &[Captured],
 ) -> Result<Totals, Fault>
-    requires { W.failures writer.old < 2 ^ 64 - 1 }
-    ensures whole { OnOk result (Appends (W.bytes writer.old) (W.bytes writer.new) (report_of verdicts.now truncated)) }
-    ensures totals { IfOk result (λ totals. totals ≡ totals_of verdicts.now truncated) }
+    requires sound { W.failures writer.old < 2 ^ 64 - 1 }
+    requires counted { packets_in captures.now ≡ length verdicts.now }
+    ensures whole { OnOk result (Appends (W.bytes writer.old) (W.bytes writer.new) (report_of verdicts.now captures.now)) }
+    ensures totals { IfOk result (λ totals. totals ≡ totals_of verdicts.now captures.now) }
     ensures fault { IfErr result (λ e. (e ≡ Memory) ⊎ (e ≡ Write)) }
     ensures write { (result ≡ Err Write) ↔ (W.failures writer.new ≡ W.failures writer.old + 1) }
     ensures steady { result ≢ Err Write → W.failures writer.new ≡ W.failures writer.old }
     ensures unwritten { IfErr result (λ fault. fault ≢ Write → writer.new ≡ writer.old) }
 {
     let mut piece = Piece::new(alloc)?;
+    let passed = write_captures(beside, alloc, writer, &mut piece, verdicts, captures)?;
     let packets = verdicts.len() as u64;
-    let passed = write_packets(beside, alloc, writer, &mut piece, verdicts)?;
     let totals = Totals {
         packets,
         passed,
         dropped: packets - passed,
-        truncated,
+        truncated: is_truncated(captures),
     };
     piece.clear();
-    push_end(&mut piece, &totals);
+    push_totals(&mut piece, &totals);
     write_all(writer, piece.as_slice())?;
     Ok(totals)
 }

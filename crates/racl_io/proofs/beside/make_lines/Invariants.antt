@@ -5,9 +5,9 @@ use Rattle.racl_io.proofs.beside.make_lines.Given as goal
 -- the lines so far, and room for those behind them
 abbrev pub invariant-pieces : goal.invariant-pieces
 invariant-pieces l = record {
-  counted : l.number + length l.rest ≡ l.others + length l.verdicts;
+  counted : l.number + length l.rest ≡ l.fn.place.others + length l.verdicts;
   passing : l.passed + passed l.rest ≡ passed l.verdicts;
-  told : l.text.items ++ lines_from (l.number + 1) l.rest ≡ lines_from (l.others + 1) l.verdicts;
+  told : l.text.items ++ lines_from l.fn.place.named (l.number + 1) l.rest ≡ lines_from l.fn.place.named (l.fn.place.others + 1) l.verdicts;
   room : length l.text.items + length l.rest * 72 ≤ vec_capacity l.text;
 }
 

@@ -9,5 +9,5 @@ invariant-loop-verdict l = record {
   passing : l.passed ≡ passed (take l.verdict-index l.verdicts);
   few : l.passed ≤ l.verdict-index;
   short : length l.piece ≤ l.verdict-index * 72;
-  told : l.piece ++ lines_from (l.number + 1) (drop l.verdict-index l.verdicts) ≡ lines_from (l.fn.number + 1) l.verdicts;
+  told : l.piece ++ lines_from l.name (l.number + 1) (drop l.verdict-index l.verdicts) ≡ lines_from l.name (l.fn.number + 1) l.verdicts;
 }

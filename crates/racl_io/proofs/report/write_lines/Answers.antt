@@ -1,7 +1,7 @@
-use Rattle.std.proofs.Common.{◌++◌, ◌∙◌, ap, arith, length, length-append}
+use Rattle.std.proofs.Common.{◌++◌, ◌+◌, ◌∙◌, ap, arith, length, length-append}
 use Rattle.std.proofs.lemmas.Grind.{common_steps}
 use Rattle.std.proofs.KnownBytes.{Appends-trans}
-use Rattle.racl_io.specs.Reports.{passed}
+use Rattle.racl_io.specs.Reports.{lines_from, passed}
 use Rattle.racl_io.proofs.ReportLemmas.{more_lines, passed_of_both}
 use Rattle.racl_io.proofs.report.write_lines.Goals as goal
 
@@ -14,7 +14,7 @@ loop-rest-preserved g c =
       passing = omega (arith, inv.passing, c.push_lines-passed.ensures.passed, ap passed parted, passed_of_both c.split_at.result.0.now c.split_at.result.1.now);
       written = (
         inv.written.0 ++ c.as_slice.result.now,
-        more_lines inv.written.0 c.as_slice.result.now _ _ _ c.loop-rest.rest.now c.split_at.result.0.now c.split_at.result.1.now inv.written.1 parted (c.as_slice.ensures ∙ c.push_lines-passed.ensures.text) (omega (arith, c.push_lines-passed.ensures.number)),
+        more_lines _ inv.written.0 c.as_slice.result.now _ _ _ c.loop-rest.rest.now c.split_at.result.0.now c.split_at.result.1.now inv.written.1 parted (c.as_slice.ensures ∙ c.push_lines-passed.ensures.text ∙ ap (λ n. lines_from n (c.loop-rest.number + 1) c.split_at.result.0.now) c.of-name.ensures) (omega (arith, c.push_lines-passed.ensures.number)),
         Appends-trans _ _ _ _ _ inv.written.2 c.in_ok-write_all.ensures.whole,
       );
       sound = grind (arith, common_steps, inv.sound, c.in_ok-write_all.ensures.ok);
