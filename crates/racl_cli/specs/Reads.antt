@@ -1,5 +1,5 @@
 -- What is answered of an input that is read, and what stands before the records of its capture.
-use Rattle.std.specs.Prelude.{◌≡◌, ◌≢◌, ◌+◌, ◌<◌, ◌≤◌, ◌⊎◌, ◌++◌, ℕ, Bool, true, is_some, List, Option, None, Some, IfSome, IfOk, IfErr, MatchResult, Result, Err, drop, length}
+use Rattle.std.specs.Prelude.{◌≡◌, ◌≢◌, ◌+◌, ◌<◌, ◌≤◌, ◌⊎◌, ◌++◌, ℕ, Bool, true, is_some, List, [], ◌∷◌, Option, None, Some, IfSome, IfOk, IfErr, MatchResult, Result, Err, drop, length}
 use Rattle.std.specs.Global.{Vec}
 use Rattle.std.specs.Io.KnownBytes.{IsAtEnd}
 use Rattle.packet_view.specs.Captures.{AreRecords, HasHeader, IsEnd, IsHeaderFault, PacketFacts, RecordFacts, end_of, packets_at}
@@ -12,36 +12,41 @@ use Rattle.flow_dealing.specs.Runs.{HavePages}
 use Rattle.racl_words.specs.declared.settings.Options.{Options}
 use Rattle.racl_io.specs.declared.fault.Fault.{Fault}
 use Rattle.racl_io.specs.declared.fault.Fault.TheVariants.{Memory, Read, TooLarge}
-use Rattle.racl_io.specs.declared.input.Form.TheVariants.{Binary}
+use Rattle.racl_io.specs.declared.input.Form.{Form}
+use Rattle.racl_io.specs.declared.input.Form.TheVariants.{Binary, Hexadecimal, Numbered}
+use Rattle.racl_io.specs.declared.report.Captured.{Captured}
 use Rattle.racl_io.specs.Faults.{IsFaultOfBytes, Refuses}
 use Rattle.racl_io.specs.Inputs.{IsContent, IsInput, InputFacts, most_bytes}
 use Rattle.capture_stream.specs.Streams.{AreAllRead, records_in}
 use Rattle.capture_stream.specs.declared.stream.Opening.{Opening}
+use Rattle.racl_cli.specs.declared.opening.Headed.{Headed}
+use Rattle.racl_cli.specs.declared.opening.Marked.{Marked}
 use Rattle.racl_cli.specs.declared.opening.Opened.{Opened}
+use Rattle.racl_cli.specs.declared.opening.Opened.TheVariants.{One, Several}
 use Rattle.racl_cli.specs.declared.streaming.Front.{Front}
-use Rattle.racl_cli.specs.Runs.{ByOneThread, ByWorkers, IsRead, Outcome}
+use Rattle.racl_cli.specs.Runs.{ByOneThread, ByWorkers, IsRead, Outcome, told_of}
 
 -- ---- what is answered of the bytes of an input
 
 -- workers gave the verdicts on these packets, and these are the one-thread filter's where none says no-pages
-pub record IsReached (options : Options) (policy : PolicyFacts) (packets : List PacketFacts) (truncated : Bool) (outcome : Outcome) : Type 0 where
+pub record IsReached (options : Options) (policy : PolicyFacts) (packets : List PacketFacts) (captures : List Captured) (outcome : Outcome) : Type 0 where
   pub by_workers : ByWorkers options policy packets outcome.verdicts
   pub by_one_thread : HavePages outcome.verdicts → ByOneThread options.times policy packets outcome.verdicts
-  pub ends : outcome.truncated ≡ truncated
+  pub told : outcome.captures ≡ captures
 
 -- the bytes are an input, and its outcome is one that workers reached
 pub record IsOutcomeOf (options : Options) (bytes : List ℕ) (outcome : Outcome) : Type 0 where
   pub policy : PolicyFacts
   pub packets : List PacketFacts
-  pub read : IsRead bytes policy packets outcome.truncated
-  pub reached : IsReached options policy packets outcome.truncated outcome
+  pub read : IsRead bytes policy packets outcome.captures
+  pub reached : IsReached options policy packets outcome.captures outcome
 
 -- What is right gets an outcome that workers reached, what has a fault gets that fault, and either may be told that memory
 -- ran out.
 pub record AnswersInput (options : Options) (bytes : List ℕ) (result : Result Outcome Fault) : Type 0 where
   pub ok : IfOk result (IsOutcomeOf options bytes)
-  pub accepts : (policy : PolicyFacts) (packets : List PacketFacts) (truncated : Bool) → IsRead bytes policy packets truncated
-      → MatchResult result (IsReached options policy packets truncated) (λ fault. fault ≡ Memory)
+  pub accepts : (policy : PolicyFacts) (packets : List PacketFacts) (captures : List Captured) → IsRead bytes policy packets captures
+      → MatchResult result (IsReached options policy packets captures) (λ fault. fault ≡ Memory)
   pub fault : IfErr result (λ fault. fault ≢ Memory → IsFaultOfBytes bytes fault)
   pub refuses : (fault : Fault) → IsFaultOfBytes bytes fault → Refuses fault result
 
@@ -90,22 +95,43 @@ abbrev pub having_records : List ℕ → Option (Vec ℕ) → List ℕ
 having_records input None = input
 having_records input (Some decoded) = decoded.items
 
--- the bytes begin with a right policy, a marker line, and the header of a capture
-pub record HasOpened (options : Options) (bytes : List ℕ) (opened : Opened) : Type 0 where
+-- a marker line of one capture
+abbrev pub IsPlain : Form → Type 0
+IsPlain Binary = Unit {0}
+IsPlain Hexadecimal = Unit {0}
+IsPlain (Numbered number) = ⊥
+
+-- the bytes begin with a right policy, a marker line, and the header of the only capture
+pub record HasHeaded (options : Options) (bytes : List ℕ) (headed : Headed) : Type 0 where
   pub parts : InputFacts
   pub parted : IsInput bytes parts
-  pub policy : IsSaid parts.policy (policy_facts opened.filter.policy)
-  pub times : opened.filter.times ≡ options.times
+  pub policy : IsSaid parts.policy (policy_facts headed.filter.policy)
+  pub times : headed.filter.times ≡ options.times
+  pub plain : IsPlain parts.form
   pub capture : List ℕ
   pub spelt : IsContent parts.form parts.content capture
-  pub header : IsHeaded opened.order capture
-  pub records : HasRecordsAt bytes parts capture opened.from opened.decoded
+  pub header : IsHeaded headed.order capture
+  pub records : HasRecordsAt bytes parts capture headed.from headed.decoded
+
+-- the bytes begin with a right policy and a marker line with a number, and what follows begins at its place
+pub record HasMarked (options : Options) (bytes : List ℕ) (marked : Marked) : Type 0 where
+  pub parts : InputFacts
+  pub parted : IsInput bytes parts
+  pub policy : IsSaid parts.policy (policy_facts marked.filter.policy)
+  pub times : marked.filter.times ≡ options.times
+  pub form : parts.form ≡ Numbered marked.number
+  pub within : marked.from ≤ length bytes
+  pub content : drop marked.from bytes ≡ parts.content
+
+abbrev pub HasOpened : Options → List ℕ → Opened → Type 0
+HasOpened options bytes (One headed) = HasHeaded options bytes headed
+HasOpened options bytes (Several marked) = HasMarked options bytes marked
 
 -- these bytes aren't too many, they are all where the source has no more, and digits are all there
-pub record MayGoOn (front : Front) (opened : Opened) (before : Option (List ℕ)) : Type 0 where
+pub record MayGoOn (front : Front) (headed : Headed) (before : Option (List ℕ)) : Type 0 where
   pub few : length front.bytes.items ≤ most_bytes
   pub ended : front.ended ≡ true → IsAtEnd before
-  pub whole : is_some opened.decoded ≡ true → front.ended ≡ true
+  pub whole : is_some headed.decoded ≡ true → front.ended ≡ true
 
 -- ---- the records
 
@@ -123,5 +149,6 @@ pub record HasJudged (options : Options) (policy : PolicyFacts) (opening : Openi
   pub packets : List RecordFacts
   pub rest : List ℕ
   pub records : AreRecords opening.order (records_in opening read) packets rest
-  pub end : IsEnd opening.order rest (end_of outcome.truncated)
-  pub reached : IsReached options policy (packets_at 0 packets) outcome.truncated outcome
+  pub truncated : Bool
+  pub end : IsEnd opening.order rest (end_of truncated)
+  pub reached : IsReached options policy (packets_at 0 packets) (told_of None (packets_at 0 packets) truncated ∷ []) outcome

@@ -1,9 +1,9 @@
 -- What a run has filtered, from the bytes of its input.
-use Rattle.std.specs.Prelude.{◌≡◌, ◌≤◌, ℕ, Bool, List, length, Option, Some, IfSome, All}
+use Rattle.std.specs.Prelude.{◌≡◌, ◌≤◌, ◌++◌, ℕ, Bool, List, [], ◌∷◌, length, Option, None, Some, IfSome, All}
 use Rattle.std.specs.Io.KnownBytes.{Appends}
 use Rattle.packet_view.specs.Captures.{IsCaptureAt, PacketFacts, end_of}
 use Rattle.packet_view.specs.declared.tuple.Family.{Family}
-use Rattle.acl_policy.specs.Policies.{IsPolicyText, PolicyFacts}
+use Rattle.acl_policy.specs.Policies.{IsAmong, IsPolicyText, PolicyFacts}
 use Rattle.bihash_words.specs.Hash.{hash_of}
 use Rattle.session_state.specs.declared.timeouts.Timeouts.{Timeouts}
 use Rattle.flow_filter.specs.declared.verdict.Verdict.{Verdict}
@@ -12,22 +12,59 @@ use Rattle.flow_dealing.specs.declared.dealing.Dealing.TheVariants.{Bucket}
 use Rattle.flow_dealing.specs.Dealings.{Deal}
 use Rattle.flow_dealing.specs.Runs.{AreFew, AreJudged, HasPagesIn, HavePages}
 use Rattle.racl_words.specs.declared.settings.Options.{Options}
+use Rattle.racl_io.specs.declared.input.Form.{Form}
+use Rattle.racl_io.specs.declared.input.Form.TheVariants.{Binary, Hexadecimal, Numbered}
+use Rattle.racl_io.specs.declared.report.Captured.{Captured}
 use Rattle.racl_io.specs.declared.report.Totals.{Totals}
-use Rattle.racl_io.specs.Inputs.{IsContent, IsInput, InputFacts, most_bytes}
+use Rattle.racl_io.specs.Inputs.{AreCaptures, DigitsFacts, IsContent, IsInput, InputFacts, most_bytes}
 use Rattle.racl_io.specs.Reports.{report_of, totals_of}
 
 -- ---- inputs
 
--- The bytes are an input, and no more than one may have: this policy, a marker line, and a capture of these packets, which
--- were seen at interface 0. It ends within a record or doesn't.
-pub record IsRead (bytes : List ℕ) (policy : PolicyFacts) (packets : List PacketFacts) (truncated : Bool) : Type 0 where
+-- what is told of a capture of these packets, whose interface the report names or doesn't
+abbrev pub told_of : Option ℕ → List PacketFacts → Bool → Captured
+told_of named packets truncated = record { named = named; packets = length packets; truncated = truncated }
+
+-- The content is one capture of these packets, which were seen at interface 0, and the report doesn't name it.
+pub record IsAlone (form : Form) (content : List ℕ) (packets : List PacketFacts) (captures : List Captured) : Type 0 where
+  pub capture : List ℕ
+  pub spelt : IsContent form content capture
+  pub truncated : Bool
+  pub records : IsCaptureAt 0 capture packets (end_of truncated)
+  pub told : captures ≡ told_of None packets truncated ∷ []
+
+-- The digits are a capture of these packets, which were seen at their interface. None was seen at it before.
+pub record IsTaken (seen : List ℕ) (digits : DigitsFacts) (packets : List PacketFacts) (captured : Captured) : Type 0 where
+  pub first : IsAmong digits.interface seen → ⊥
+  pub capture : List ℕ
+  pub spelt : IsContent (Numbered digits.interface) digits.digits capture
+  pub truncated : Bool
+  pub records : IsCaptureAt digits.interface capture packets (end_of truncated)
+  pub told : captured ≡ told_of (Some digits.interface) packets truncated
+
+-- The digits are captures, one after the other, and these are all their packets.
+abbrev pub AreTaken : List ℕ → List DigitsFacts → List PacketFacts → List Captured → Type 0
+AreTaken seen [] packets captures = (packets ≡ []) × (captures ≡ [])
+AreTaken seen (digits ∷ others) packets captures =
+    (mine rest : List PacketFacts) × (captured : Captured) × (told : List Captured) × (packets ≡ mine ++ rest)
+    × (captures ≡ captured ∷ told) × IsTaken seen digits mine captured
+    × AreTaken (seen ++ digits.interface ∷ []) others rest told
+
+-- what stands after the marker line: one capture, or those of interfaces with numbers
+abbrev pub HasPackets : Form → List ℕ → List PacketFacts → List Captured → Type 0
+HasPackets Binary content packets captures = IsAlone Binary content packets captures
+HasPackets Hexadecimal content packets captures = IsAlone Hexadecimal content packets captures
+HasPackets (Numbered number) content packets captures =
+    (all : List DigitsFacts) × AreCaptures number content all × AreTaken [] all packets captures
+
+-- The bytes are an input, and no more than one may have: this policy, a marker line, and captures of these packets, one after
+-- the other.
+pub record IsRead (bytes : List ℕ) (policy : PolicyFacts) (packets : List PacketFacts) (captures : List Captured) : Type 0 where
   pub few : length bytes ≤ most_bytes
   pub parts : InputFacts
   pub parted : IsInput bytes parts
   pub says : IsPolicyText parts.policy policy
-  pub capture : List ℕ
-  pub spelt : IsContent parts.form parts.content capture
-  pub records : IsCaptureAt 0 capture packets (end_of truncated)
+  pub content : HasPackets parts.form parts.content packets captures
 
 -- ---- verdicts
 
@@ -58,16 +95,16 @@ pub record ByWorkers (options : Options) (policy : PolicyFacts) (packets : List 
 
 -- ---- outcomes
 
--- what a capture's packets met, and whether the capture ends within a record
+-- what the packets met, and what is told of their captures
 pub record Outcome : Type 0 where
   pub verdicts : List Verdict
-  pub truncated : Bool
+  pub captures : List Captured
 
 -- the bytes are an input on which the one-thread filter comes to this outcome
 pub record HasOutcome (times : Timeouts) (bytes : List ℕ) (outcome : Outcome) : Type 0 where
   pub policy : PolicyFacts
   pub packets : List PacketFacts
-  pub read : IsRead bytes policy packets outcome.truncated
+  pub read : IsRead bytes policy packets outcome.captures
   pub verdicts : ByOneThread times policy packets outcome.verdicts
 
 -- ---- reports
@@ -80,15 +117,15 @@ pub record HasRun (options : Options) (given old new : Option (List ℕ)) (total
   pub known : IfSome given (λ known. bytes ≡ known)
   pub policy : PolicyFacts
   pub packets : List PacketFacts
-  pub truncated : Bool
-  pub read : IsRead bytes policy packets truncated
+  pub captures : List Captured
+  pub read : IsRead bytes policy packets captures
   pub verdicts : List Verdict
   pub by_workers : ByWorkers options policy packets verdicts
   pub by_one_thread : HavePages verdicts → ByOneThread options.times policy packets verdicts
-  pub text : Appends old new (report_of verdicts truncated)
-  pub counted : totals ≡ totals_of verdicts truncated
+  pub text : Appends old new (report_of verdicts captures)
+  pub counted : totals ≡ totals_of verdicts captures
 
 -- what was reported on the bytes is the outcome of the one-thread filter, or one of workers that says no-pages
 pub record HasReported (options : Options) (bytes : List ℕ) (one_thread : Outcome) (old new : Option (List ℕ)) (totals : Totals) : Type 0 where
   pub run : HasRun options (Some bytes) old new totals
-  pub same : HavePages run.verdicts → one_thread ≡ record { verdicts = run.verdicts; truncated = run.truncated }
+  pub same : HavePages run.verdicts → one_thread ≡ record { verdicts = run.verdicts; captures = run.captures }

@@ -9,9 +9,10 @@ ghost use Rattle.racl_io.specs.Transfers.{GaveAtMost, HasReadWithin};
 ghost use Rattle.racl_cli.specs.Reads.{AnswersRead};
 ghost use Rattle.racl_cli.specs.Runs.{HasOutcome, HasReported, HasRun, Outcome};
 
-use crate::opening::open_input;
+use crate::captures::judge_captures;
+use crate::opening::{Opened, open_input};
 use crate::outcome::Judged;
-use crate::streaming::{Front, front_bytes, judge_opened};
+use crate::streaming::{Front, front_bytes, judge_headed};
 use racl_io::{Fault, MOST_BYTES, Sink, Source, Totals, read_until, write_report};
 use racl_words::Options;
 use std::alloc::Global;
@@ -36,14 +37,13 @@ fn judge_ended<R: Source + Send, T: Threads + Wait + Sync>(
         Ok(opened) => opened,
         Err(fault) => return Err(fault),
     };
-    judge_opened(
-        rt,
-        alloc,
-        options,
-        reader,
-        Front { bytes, ended: true },
-        opened,
-    )
+    match opened {
+        Opened::One(headed) => {
+            let front = Front { bytes, ended: true };
+            judge_headed(rt, alloc, options, reader, front, headed)
+        }
+        Opened::Several(marked) => judge_captures(rt, alloc, options, &bytes, marked),
+    }
 }
 
 // What the packets of an input met whose front was read, after the rest is read too.
@@ -81,15 +81,15 @@ fn judge_source<R: Source + Send, T: Threads + Wait + Sync>(
     if ended {
         return judge_ended(rt, alloc, options, reader, bytes);
     }
-    if let Ok(opened) = open_input(alloc, options, &bytes) {
-        if opened.decoded.is_none() {
-            return judge_opened(rt, alloc, options, reader, Front { bytes, ended }, opened);
+    if let Ok(Opened::One(headed)) = open_input(alloc, options, &bytes) {
+        if headed.decoded.is_none() {
+            return judge_headed(rt, alloc, options, reader, Front { bytes, ended }, headed);
         }
     }
     judge_whole(rt, alloc, options, reader, bytes)
 }
 
-/// Reads an input, filters its capture by its policy, and writes the report.
+/// Reads an input, filters its captures by its policy, and writes the report.
 ///
 /// Nothing is written before the whole input was judged.
 pub fn run<R: Source + Send, W: Sink, T: Threads + Wait + Sync>(
@@ -126,5 +126,5 @@ pub fn run<R: Source + Send, W: Sink, T: Threads + Wait + Sync>(
 {
     let judged = judge_source(rt, alloc, options, reader)?;
     let beside = if options.workers > 1 { Some(rt) } else { None };
-    write_report(beside, alloc, writer, &judged.verdicts, judged.truncated)
+    write_report(beside, alloc, writer, &judged.verdicts, &judged.captures)
 }

@@ -2,6 +2,7 @@
 //! capture in, a verdict on each packet out. The program around it is the crate `racl`.
 #![tactic(auto)]
 
+mod captures;
 mod crew;
 mod end_to_end;
 mod exits;

@@ -1,4 +1,4 @@
-//! What stands before the records of an input's capture.
+//! What stands before the packets of an input.
 ghost use Rattle.std.specs.Prelude.{IfErr, IfOk, Err};
 ghost use Rattle.racl_cli.specs.Reads.{AnswersInput, HasOpened};
 
@@ -9,9 +9,9 @@ use racl_io::{Fault, Form, decoded, parts};
 use racl_words::Options;
 use std::alloc::Global;
 
-/// What stands before the records.
+/// What stands before the records of an input's only capture.
 #[derive(Drop)]
-pub struct Opened {
+pub struct Headed {
     pub filter: Filter,
     /// The order of the capture's numbers.
     pub order: Order,
@@ -21,8 +21,25 @@ pub struct Opened {
     pub decoded: Option<Vec<u8>>,
 }
 
-/// What stands before the records of the input that these bytes are, or that they are the front of; or the fault that
-/// they have before them.
+/// What stands before the captures of an input that have numbers.
+#[derive(Drop)]
+pub struct Marked {
+    pub filter: Filter,
+    /// The number of the first capture's interface.
+    pub number: u8,
+    /// Where what follows its marker line begins in the input.
+    pub from: usize,
+}
+
+/// What stands before the packets of an input.
+#[derive(Drop)]
+pub enum Opened {
+    One(Headed),
+    Several(Marked),
+}
+
+/// What stands before the packets of the input that these bytes are, or that they are the front of; or the fault that they
+/// have before them.
 pub fn open_input(alloc: Global, options: &Options, bytes: &[u8]) -> Result<Opened, Fault>
     ensures ok { IfOk result (HasOpened options.now bytes.now) }
     ensures fault { IfErr result (λ fault. AnswersInput options.now bytes.now (Err fault)) }
@@ -38,22 +55,27 @@ pub fn open_input(alloc: Global, options: &Options, bytes: &[u8]) -> Result<Open
     match input.form {
         Form::Binary => {
             let order = capture_header(input.content)?;
-            Ok(Opened {
+            Ok(Opened::One(Headed {
                 filter,
                 order,
                 from: bytes.len() - input.content.len() + 24,
                 decoded: None,
-            })
+            }))
         }
         Form::Hexadecimal => {
             let capture = decoded(alloc, input.content)?;
             let order = capture_header(&capture)?;
-            Ok(Opened {
+            Ok(Opened::One(Headed {
                 filter,
                 order,
                 from: 24,
                 decoded: Some(capture),
-            })
+            }))
         }
+        Form::Numbered(number) => Ok(Opened::Several(Marked {
+            filter,
+            number,
+            from: bytes.len() - input.content.len(),
+        })),
     }
 }

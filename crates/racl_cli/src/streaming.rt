@@ -4,23 +4,23 @@ ghost use Rattle.acl_policy.specs.Policies.{policy_facts};
 ghost use Rattle.capture_stream.specs.Streams.{IsSize, IsStreamFault};
 ghost use Rattle.racl_io.specs.Inputs.{most_bytes};
 ghost use Rattle.racl_io.specs.Transfers.{HasReadWithin};
-ghost use Rattle.racl_cli.specs.Reads.{AnswersRead, HasJudged, HasOpened, MayGoOn, MayJudge, having_records};
+ghost use Rattle.racl_cli.specs.Reads.{AnswersRead, HasHeaded, HasJudged, MayGoOn, MayJudge, having_records};
 
 use crate::crew::{Crew, OpenGate};
-use crate::opening::Opened;
+use crate::opening::Headed;
 use crate::outcome::Judged;
 use bihash_words::{ShapeV4, ShapeV6, flow_shapes_are_sound};
 use capture_stream::{Opening, Streamed, WindowSize, judge_stream};
 use flow_workers::{Dealing, Filter, Setup, Workers, create_tables};
 use packet_view::front_records;
-use racl_io::{Fault, Source};
+use racl_io::{Captured, Fault, Source};
 use racl_words::Options;
 use std::alloc::Global;
 use std::sync::Wait;
 use std::thread::Threads;
 
 /// From how many packets of a window on each worker judges them in a thread of its own.
-const MANY_PACKETS: usize = 65_536;
+pub const MANY_PACKETS: usize = 65_536;
 
 /// How many bytes are read at once for one worker: so few that they are still in the processor's cache when they are judged.
 const ONE_WINDOW: usize = 262_144;
@@ -57,9 +57,9 @@ fn window_size(are_several: bool) -> WindowSize
 /// How many times as many packets as stand in its front an input is expected to have that goes on after it.
 const TIMES_FRONT: usize = 16;
 
-// How many packets are expected, and how many workers judge them, where so many stand in the front of an input, or in all
-// of it. Few packets are one worker's.
-fn plan_for(options: &Options, ended: bool, count: usize) -> (usize, usize)
+/// How many packets are expected, and how many workers judge them, where so many stand in the front of an input, or in all
+/// of it. Few packets are one worker's.
+pub fn plan_for(options: &Options, ended: bool, count: usize) -> (usize, usize)
     ensures some { 1 ≤ result.1 }
     ensures few { result.1 ≤ options.now.workers }
 {
@@ -121,10 +121,13 @@ fn judge_records<'t, R: Source + Send, T: Threads + Wait + Sync>(
     let Ok(verdicts) = workers.end(alloc) else {
         return Err(Fault::Memory);
     };
-    Ok(Judged {
-        verdicts,
+    let mut captures = Vec::new(alloc);
+    captures.push(Captured {
+        named: None,
+        packets: verdicts.len(),
         truncated,
-    })
+    })?;
+    Ok(Judged { verdicts, captures })
 }
 
 /// What was read of an input.
@@ -146,26 +149,26 @@ fn bytes_with_records(input: Vec<u8>, decoded: Option<Vec<u8>>) -> Vec<u8>
 }
 
 /// What the packets of an input met whose front was read, up to records.
-pub fn judge_opened<R: Source + Send, T: Threads + Wait + Sync>(
+pub fn judge_headed<R: Source + Send, T: Threads + Wait + Sync>(
     rt: &T,
     alloc: Global,
     options: &Options,
     reader: &mut R,
     front: Front,
-    opened: Opened,
+    headed: Headed,
 ) -> Result<Judged, Fault>
-    requires opened { HasOpened options.now front.bytes.items opened }
-    requires goes_on { MayGoOn front opened (R.bytes reader.old) }
+    requires headed { HasHeaded options.now front.bytes.items headed }
+    requires goes_on { MayGoOn front headed (R.bytes reader.old) }
     requires sound { R.failures reader.old < 2 ^ 64 - 1 }
     ensures answers { AnswersRead options.now front.bytes.items (R.bytes reader.old) result }
     ensures within { HasReadWithin R.bytes R.failures (most_bytes + 1 - length front.bytes.items) reader.old reader.new result }
 {
-    let Opened {
+    let Headed {
         filter,
         order,
         from,
         decoded,
-    } = opened;
+    } = headed;
     let Front { bytes, ended } = front;
     let opening = Opening {
         bytes: bytes_with_records(bytes, decoded),

@@ -1,0 +1,71 @@
+-- Captures with numbers that are taken one after the other.
+use Rattle.std.specs.Prelude.{◌≡◌, ◌+◌, ◌≤◌, ◌<◌, ◌++◌, ℕ, List, [], ◌∷◌, Option, None, Some, IfSome, length}
+use Rattle.packet_view.specs.Captures.{PacketFacts}
+use Rattle.flow_workers.specs.Progress.{AreAtRest, HaveAllSaid}
+use Rattle.bihash_words.specs.declared.shape.Shape.{Ghosts}
+use Rattle.racl_io.specs.declared.fault.Fault.{Fault}
+use Rattle.racl_io.specs.declared.input.Numbered as mark
+use Rattle.racl_io.specs.declared.report.Captured.{Captured}
+use Rattle.racl_io.specs.Faults.{IsFaultOfCaptures}
+use Rattle.racl_io.specs.Inputs.{AreCaptures, DigitsFacts, IsCut, NumberedFacts, most_bytes, numbered_facts}
+use Rattle.racl_cli.specs.declared.captures.Walk.{Walk}
+use Rattle.racl_cli.specs.Runs.{AreTaken, IsTaken, Outcome}
+
+-- a capture's number, and what follows its marker line
+abbrev pub facts_of : mark.Numbered → NumberedFacts
+facts_of capture = record { interface = capture.interface; content = capture.content.now }
+
+-- what stands from the next capture on, after captures of the interfaces that were seen
+abbrev pub AreTakenFrom : List ℕ → Option NumberedFacts → List PacketFacts → List Captured → Type 0
+AreTakenFrom seen None packets captures = (packets ≡ []) × (captures ≡ [])
+AreTakenFrom seen (Some next) packets captures =
+    (all : List DigitsFacts) × AreCaptures next.interface next.content all × AreTaken seen all packets captures
+
+-- and the fault that it has
+abbrev pub IsFaultFrom : List ℕ → Option NumberedFacts → Fault → Type 0
+IsFaultFrom seen None fault = ⊥
+IsFaultFrom seen (Some next) fault =
+    (all : List DigitsFacts) × AreCaptures next.interface next.content all × IsFaultOfCaptures seen all fault
+
+abbrev pub IsFaultAt : List ℕ → mark.Numbered → Fault → Type 0
+IsFaultAt seen capture fault = IsFaultFrom seen (Some (facts_of capture)) fault
+
+-- how many bytes stand there at most, where the marker line counts as one
+abbrev pub left_at : Option NumberedFacts → ℕ
+left_at None = 0
+left_at (Some next) = length next.content + 1
+
+-- workers at rest may judge this capture's packets
+pub record CanTake {T : Type 0} (walk : Walk T) (capture : mark.Numbered) : Type 0 where
+  pub packets : List PacketFacts
+  pub rest : AreAtRest packets walk.workers
+  pub few : length packets + length capture.content.now ≤ most_bytes
+
+-- this capture was taken, and its packets were judged
+pub record HasTaken {T : Type 0} (old : Walk T) (capture : mark.Numbered) (new : Walk T) : Type 0 where
+  pub digits : List ℕ
+  pub cut : IsCut capture.content.now digits (numbered_facts new.next)
+  pub packets : List PacketFacts
+  pub captured : Captured
+  pub taken : IsTaken old.seen.items (record { interface = capture.interface; digits = digits }) packets captured
+  pub captures : new.captures.items ≡ old.captures.items ++ captured ∷ []
+  pub seen : new.seen.items ≡ old.seen.items ++ capture.interface ∷ []
+  pub by : new.workers.setup ≡ old.workers.setup
+  pub rest : (before : List PacketFacts) → AreAtRest before old.workers → AreAtRest (before ++ packets) new.workers
+  pub few : length packets + left_at (numbered_facts new.next) ≤ length capture.content.now
+
+-- no capture was taken, and what follows isn't too much
+pub record MayTake {T : Type 0} (begun : Walk T) : Type 0 where
+  pub rest : AreAtRest [] begun.workers
+  pub captures : begun.captures.items ≡ []
+  pub seen : begun.seen.items ≡ []
+  pub few : left_at (numbered_facts begun.next) ≤ most_bytes + 1
+
+-- all captures were taken, and these are the verdicts on their packets
+pub record HasTakenAll {T : Type 0} (begun : Walk T) (outcome : Outcome) : Type 0 where
+  pub packets : List PacketFacts
+  pub taken : AreTakenFrom [] (numbered_facts begun.next) packets outcome.captures
+  pub said : HaveAllSaid _ _ begun.workers.setup packets outcome.verdicts
+
+abbrev pub IsFaultOfWalk : {T : Type 0} → Walk T → Fault → Type 0
+IsFaultOfWalk begun fault = IsFaultFrom [] (numbered_facts begun.next) fault

@@ -1,0 +1,175 @@
+//! The captures of several interfaces, which are judged one after the other.
+ghost use Rattle.std.specs.Prelude.{◌≡◌, ◌≢◌, ◌≤◌, ◌==◌, IfErr, IfOk, length};
+ghost use Rattle.std.specs.List.{list_any};
+ghost use Rattle.racl_io.specs.declared.fault.Fault.TheVariants.{Memory};
+ghost use Rattle.racl_io.specs.Inputs.{most_bytes};
+ghost use Rattle.racl_cli.specs.Reads.{AnswersInput, HasMarked};
+ghost use Rattle.racl_cli.specs.inner.Captures.{CanTake, HasTaken, HasTakenAll, IsFaultAt, IsFaultOfWalk, MayTake};
+
+use crate::crew::OpenGate;
+use crate::opening::Marked;
+use crate::outcome::Judged;
+use crate::streaming::{MANY_PACKETS, plan_for};
+use bihash_words::{ShapeV4, ShapeV6, flow_shapes_are_sound};
+use flow_workers::{Dealing, Filter, Setup, Workers, create_tables};
+use packet_view::{CheckedCapture, Packets, check_capture};
+use racl_io::{Captured, Digits, Fault, Numbered, cut_digits, decoded};
+use racl_words::Options;
+use std::alloc::Global;
+use std::sync::Wait;
+use std::thread::Threads;
+
+/// How many bytes of an input a record has at least whose frame has 14: two digits for each of its own.
+const RECORD_DIGITS: usize = 60;
+
+/// Captures of which some were judged.
+#[derive(Drop)]
+pub struct Walk<'t, 'f, 'b, T: Wait> {
+    pub workers: Workers<'t, 'f, ShapeV4, ShapeV6, T, OpenGate>,
+    /// What is told of those that were.
+    pub captures: Vec<Captured>,
+    /// The numbers of their interfaces.
+    pub seen: Vec<u8>,
+    /// The next one's number, and what follows its marker line.
+    pub next: Option<Numbered<'b>>,
+}
+
+impl<'t, 'f, 'b, T: Wait> Walk<'t, 'f, 'b, T> {
+    ghost use Rattle.std.specs.Prelude.{◌≡◌, [], Some};
+
+    /// No capture was judged, and this is the first.
+    fn at(
+        alloc: Global,
+        workers: Workers<'t, 'f, ShapeV4, ShapeV6, T, OpenGate>,
+        first: Numbered<'b>,
+    ) -> Walk<'t, 'f, 'b, T>
+        ensures workers { result.workers ≡ workers.entry }
+        ensures captures { result.captures.items ≡ [] }
+        ensures seen { result.seen.items ≡ [] }
+        ensures next { result.next ≡ Some first.entry }
+    {
+        Walk {
+            workers,
+            captures: Vec::new(alloc),
+            seen: Vec::new(alloc),
+            next: Some(first),
+        }
+    }
+}
+
+// Whether a capture of the interface with this number was judged.
+fn is_seen(seen: &[u8], number: u8) -> bool
+    ensures { result ≡ list_any (λ other. other == number) seen.now }
+{
+    seen.iter().any(|other| *other == number)
+}
+
+// Judges the next capture.
+fn judge_next<'t, 'f, 'b, T: Threads + Wait + Sync>(
+    alloc: Global,
+    walk: Walk<'t, 'f, 'b, T>,
+    capture: Numbered<'b>,
+) -> Result<Walk<'t, 'f, 'b, T>, Fault>
+    requires { CanTake walk capture }
+    ensures ok { IfOk result (HasTaken walk.entry capture) }
+    ensures fault { IfErr result (λ fault. fault ≢ Memory → IsFaultAt walk.entry.seen.items capture fault) }
+{
+    let Walk {
+        workers,
+        mut captures,
+        mut seen,
+        ..
+    } = walk;
+    let number = capture.interface;
+    if is_seen(&seen, number) {
+        return Err(Fault::Twice(number));
+    }
+    let Digits { digits, next } = cut_digits(capture.content);
+    let bytes = decoded(alloc, digits)?;
+    let CheckedCapture { records, truncated } = check_capture(&bytes, number)?;
+    captures.push(Captured {
+        named: Some(number),
+        packets: records.count(),
+        truncated,
+    })?;
+    seen.push(number)?;
+    match workers.judge(alloc, Packets::Standing(records)) {
+        Ok(workers) => Ok(Walk {
+            workers,
+            captures,
+            seen,
+            next,
+        }),
+        Err(_) => Err(Fault::Memory),
+    }
+}
+
+// Judges all captures.
+fn judge_each<'t, 'f, 'b, T: Threads + Wait + Sync>(
+    alloc: Global,
+    begun: Walk<'t, 'f, 'b, T>,
+) -> Result<Judged, Fault>
+    requires { MayTake begun }
+    ensures ok { IfOk result (HasTakenAll begun.entry) }
+    ensures fault { IfErr result (λ fault. fault ≢ Memory → IsFaultOfWalk begun.entry fault) }
+{
+    let mut walk = begun;
+    'captures: while let Some(capture) = walk.next {
+        walk = judge_next(alloc, walk, capture)?;
+    }
+    let Walk {
+        workers, captures, ..
+    } = walk;
+    let Ok(verdicts) = workers.end(alloc) else {
+        return Err(Fault::Memory);
+    };
+    Ok(Judged { verdicts, captures })
+}
+
+/// What the packets of captures with numbers met, of an input of which all was read.
+pub fn judge_captures<T: Threads + Wait + Sync>(
+    rt: &T,
+    alloc: Global,
+    options: &Options,
+    bytes: &[u8],
+    marked: Marked,
+) -> Result<Judged, Fault>
+    requires marked { HasMarked options.now bytes.now marked }
+    requires few { length bytes.now ≤ most_bytes }
+    ensures { AnswersInput options.now bytes.now result }
+{
+    flow_shapes_are_sound();
+    let Marked {
+        filter,
+        number,
+        from,
+    } = marked;
+    let content = &bytes[from..];
+    let Ok((tables, callers)) = create_tables::<ShapeV4, ShapeV6>(alloc) else {
+        return Err(Fault::Memory);
+    };
+    let (expected, workers) = plan_for(options, true, content.len() / RECORD_DIGITS);
+    let Ok(prepared) = filter.prepare(alloc, expected) else {
+        return Err(Fault::Memory);
+    };
+    let Ok(ready) = filter.ready_with(alloc, &prepared) else {
+        return Err(Fault::Memory);
+    };
+    let setup = Setup {
+        rt,
+        gate: &OpenGate,
+        filter: &ready,
+        tables: &tables,
+        dealing: Dealing::Bucket,
+        workers,
+        many: MANY_PACKETS,
+    };
+    let Ok(workers) = Workers::new(alloc, setup, callers) else {
+        return Err(Fault::Memory);
+    };
+    let first = Numbered {
+        interface: number,
+        content,
+    };
+    judge_each(alloc, Walk::at(alloc, workers, first))
+}
