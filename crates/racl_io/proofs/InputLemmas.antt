@@ -187,7 +187,7 @@ ends_without form word line is same = no_return word (lacks_return form line is)
     lacks_return (Numbered n) line (digits, is, octet) =
         subst (Lacks 13) (sym is) (refl, (refl, (refl, (refl, Lacks-IsOctet 13 digits n (lit≤ tt) octet))))
 
-same_front_of : (a b : List ℕ) → a ++ 13 ∷ [] ≡ b ++ 13 ∷ [] → a ≡ b
+pub same_front_of : (a b : List ℕ) → a ++ 13 ∷ [] ≡ b ++ 13 ∷ [] → a ≡ b
 same_front_of [] [] same = refl
 same_front_of [] (y ∷ []) same = let f : ⊥ = cc in absurd f
 same_front_of [] (y ∷ z ∷ ys) same = let f : ⊥ = cc in absurd f
