@@ -1,6 +1,6 @@
 -- All bytes have a first marker line that counts, or they have none; and what follows one with a number is the digits of
 -- captures.
-use Rattle.std.proofs.Common.{◌≡◌, ◌≢◌, ◌∙◌, ◌<◌, ◌⊎◌, ℕ, zero, suc, codes, List, [], ◌∷◌, ◌++◌, Option, None, Some, drop, take, take-append-drop, length, length-append, refl, sym, ap, ap₂, subst, inl, inr, arith}
+use Rattle.std.proofs.Common.{◌≡◌, ◌∙◌, ◌<◌, ◌⊎◌, ℕ, zero, suc, codes, List, [], ◌∷◌, ◌++◌, Option, None, Some, drop, take, take-append-drop, length, length-append, refl, sym, ap, ap₂, subst, inl, inr, arith}
 use Rattle.std.proofs.lemmas.Bool.{cases_eq}
 use Rattle.acl_policy.specs.inner.Reading.Numerals.{octet_in}
 use Rattle.racl_io.specs.declared.input.Form.{Form}
