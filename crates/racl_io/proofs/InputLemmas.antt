@@ -71,8 +71,19 @@ word_has_no_feed : (form : Form) (word : List ℕ) → IsWord form word → HasN
 word_has_no_feed Binary word is = subst HasNoFeed (sym is) ((λ e. omega (arith, e)), ((λ e. omega (arith, e)), ((λ e. omega (arith, e)), ((λ e. omega (arith, e)), tt))))
 word_has_no_feed Hexadecimal word is = subst HasNoFeed (sym is) ((λ e. omega (arith, e)), ((λ e. omega (arith, e)), ((λ e. omega (arith, e)), tt)))
 word_has_no_feed (Numbered number) word (digits, is, octet) =
-    subst HasNoFeed (sym is) ((λ e. omega (arith, e)), ((λ e. omega (arith, e)), ((λ e. omega (arith, e)), ((λ e. omega (arith, e)),
-    no_feed_lacking digits (Lacks-IsOctet 10 digits number (lit≤ tt) octet)))))
+    subst HasNoFeed (sym is) (
+      (λ e. omega (arith, e)),
+      (
+        (λ e. omega (arith, e)),
+        (
+          (λ e. omega (arith, e)),
+          (
+            (λ e. omega (arith, e)),
+            no_feed_lacking digits (Lacks-IsOctet 10 digits number (lit≤ tt) octet),
+          ),
+        ),
+      ),
+    )
 
 marker_has_no_feed : (form : Form) (line : List ℕ) → IsMarker form line → HasNoFeed line
 marker_has_no_feed form line (inl is) = word_has_no_feed form line is
@@ -181,13 +192,14 @@ ends_without form word line is same = no_return word (lacks_return form line is)
         lacking : (word : List ℕ) → Lacks 13 (word ++ 13 ∷ []) → ⊥
         lacking [] lacks = both_ways (13 == 13) lacks.0 refl
         lacking (b ∷ bs) lacks = lacking bs lacks.1
+
     lacks_return : (form : Form) (line : List ℕ) → IsWord form line → Lacks 13 line
     lacks_return Binary line is = subst (Lacks 13) (sym is) (refl, (refl, (refl, (refl, tt))))
     lacks_return Hexadecimal line is = subst (Lacks 13) (sym is) (refl, (refl, (refl, tt)))
     lacks_return (Numbered n) line (digits, is, octet) =
         subst (Lacks 13) (sym is) (refl, (refl, (refl, (refl, Lacks-IsOctet 13 digits n (lit≤ tt) octet))))
 
-same_front_of : (a b : List ℕ) → a ++ 13 ∷ [] ≡ b ++ 13 ∷ [] → a ≡ b
+pub same_front_of : (a b : List ℕ) → a ++ 13 ∷ [] ≡ b ++ 13 ∷ [] → a ≡ b
 same_front_of [] [] same = refl
 same_front_of [] (y ∷ []) same = let f : ⊥ = cc in absurd f
 same_front_of [] (y ∷ z ∷ ys) same = let f : ⊥ = cc in absurd f
@@ -287,6 +299,7 @@ shorter_behind marks bytes parts is = go is.content
   where
     all : length bytes ≡ length parts.policy + length is.marked
     all = ap length is.parted ∙ length-append parts.policy is.marked
+
     go : IsMarked parts.form parts.content is.marked → length parts.content < length bytes
     go (inl (line, marker, same)) = omega (arith, all, ap length same, length-append line (10 ∷ parts.content))
     go (inr (word, none)) = omega (arith, all, ap length none, some_word parts.form is.marked word)

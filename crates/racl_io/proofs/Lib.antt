@@ -1,5 +1,7 @@
+pub mod FaultLemmas
 pub mod InputLemmas
 pub mod NumeralLemmas
+pub mod PartingLemmas
 pub mod PieceLemmas
 pub mod ReportLemmas
 pub mod TransferLemmas

@@ -32,39 +32,38 @@ capture_fault capture.Memory = Memory
 abbrev pub IsFaultOfCapture : List ℕ → Fault → Type 0
 IsFaultOfCapture capture fault = (cause : CaptureFault) × IsCaptureFault capture cause × (fault ≡ capture_fault cause)
 
--- the content isn't hexadecimal digits, two for each byte, or its capture has the fault
-abbrev pub IsFaultOfContent : Form → List ℕ → Fault → Type 0
-IsFaultOfContent form content fault =
+-- the content of one capture isn't hexadecimal digits, two for each byte, or its capture has the fault
+abbrev pub IsFaultOfOne : Form → List ℕ → Fault → Type 0
+IsFaultOfOne form content fault =
     ((fault ≡ Hex) × ((capture : List ℕ) → IsContent form content capture → ⊥))
     ⊎ ((capture : List ℕ) × IsContent form content capture × IsFaultOfCapture capture fault)
 
 -- these digits are a capture without fault
-abbrev pub IsRight : ℕ → List ℕ → Type 0
-IsRight number digits =
-    (capture : List ℕ) × (records : List RecordFacts) × (end : End) × IsContent (Numbered number) digits capture × IsCapture capture records end
+abbrev pub IsRight : List ℕ → Type 0
+IsRight digits = (capture : List ℕ) × (records : List RecordFacts) × (end : End) × IsContent Hexadecimal digits capture × IsCapture capture records end
 
--- The first of these captures at fault has it, after captures of the interfaces that were seen: it is the second one of its
--- interface, or its digits have the fault.
+-- The first of these captures at fault has it, behind those of the interfaces that were seen: it is the second one of its
+-- interface; or it is the first, and its digits have the fault.
 abbrev pub IsFaultOfCaptures : List ℕ → List DigitsFacts → Fault → Type 0
 IsFaultOfCaptures seen [] fault = ⊥
 IsFaultOfCaptures seen (first ∷ others) fault =
     (IsAmong first.interface seen × (fault ≡ Twice first.interface))
     ⊎ ((IsAmong first.interface seen → ⊥)
-    × (IsFaultOfContent (Numbered first.interface) first.digits fault
-    ⊎ (IsRight first.interface first.digits × IsFaultOfCaptures (first.interface ∷ seen) others fault)))
+    × (IsFaultOfOne Hexadecimal first.digits fault
+    ⊎ (IsRight first.digits × IsFaultOfCaptures (first.interface ∷ seen) others fault)))
 
--- what stands after the marker line has the fault: one capture, or captures with numbers
-abbrev pub IsFaultOfForm : Form → List ℕ → Fault → Type 0
-IsFaultOfForm Binary content fault = IsFaultOfContent Binary content fault
-IsFaultOfForm Hexadecimal content fault = IsFaultOfContent Hexadecimal content fault
-IsFaultOfForm (Numbered number) content fault =
+-- what stands after the marker line is one capture that has the fault, or captures with numbers of which one has it
+abbrev pub IsFaultOfContent : Form → List ℕ → Fault → Type 0
+IsFaultOfContent Binary content fault = IsFaultOfOne Binary content fault
+IsFaultOfContent Hexadecimal content fault = IsFaultOfOne Hexadecimal content fault
+IsFaultOfContent (Numbered number) content fault =
     (captures : List DigitsFacts) × AreCaptures number content captures × IsFaultOfCaptures [] captures fault
 
--- the policy has the fault, or it is right and what stands after the marker line has it
+-- the policy has the fault, or it is right and the content has it
 abbrev pub IsFaultOfParts : InputFacts → Fault → Type 0
 IsFaultOfParts parts fault =
     ((cause : PolicyFault) × IsPolicyFault parts.policy cause × (fault ≡ policy_fault cause))
-    ⊎ ((policy : PolicyFacts) × IsPolicyText parts.policy policy × IsFaultOfForm parts.form parts.content fault)
+    ⊎ ((policy : PolicyFacts) × IsPolicyText parts.policy policy × IsFaultOfContent parts.form parts.content fault)
 
 -- there is no marker line, or what stands around the first one has the fault
 abbrev pub IsFaultOfBytes : List ℕ → Fault → Type 0

@@ -17,7 +17,7 @@ pub enum Form {
 }
 
 /// Which marker lines count.
-#[derive(Clone, Copy, Debug, PartialEq, Eq)]
+#[derive(Clone, Copy)]
 enum Marks {
     Every,
     /// Those with a number.

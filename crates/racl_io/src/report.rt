@@ -115,12 +115,7 @@ fn push_line(piece: &mut Piece, number: &Counter, name: &Name, verdict: Verdict)
 }
 
 /// The lines of the packets after the counted ones, and how many of them pass.
-pub fn push_lines(
-    piece: &mut Piece,
-    number: &mut Counter,
-    name: &Name,
-    verdicts: &[Verdict],
-) -> u64
+pub fn push_lines(piece: &mut Piece, number: &mut Counter, name: &Name, verdicts: &[Verdict]) -> u64
     requires empty { piece.old ≡ [] }
     requires few { length verdicts.now ≤ 3600 }
     requires fits { number.old + length verdicts.now < 2 ^ 64 }
