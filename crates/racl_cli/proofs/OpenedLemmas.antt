@@ -18,15 +18,15 @@ use Rattle.racl_words.specs.declared.settings.Options.{Options}
 use Rattle.racl_io.specs.declared.fault.Fault.{Fault}
 use Rattle.racl_io.specs.declared.fault.Fault.TheVariants.{Hex, Memory, Read, TooLarge, LongRecord}
 use Rattle.racl_io.specs.declared.input.Form.{Form}
-use Rattle.racl_io.specs.declared.input.Form.TheVariants.{Binary, Hexadecimal}
+use Rattle.racl_io.specs.declared.input.Form.TheVariants.{Binary, Hexadecimal, Numbered}
 use Rattle.racl_io.specs.Faults.{capture_fault}
 use Rattle.racl_io.specs.Inputs.{InputFacts, IsContent, IsInput, IsMarked, digits_of, is_blank, most_bytes}
 use Rattle.racl_io.specs.Transfers.{GaveAtMost, HasReadWithin}
 use Rattle.capture_stream.specs.Streams.{HasLongRecord, IsStreamFault, records_in}
 use Rattle.capture_stream.specs.declared.stream.Opening.{Opening}
-use Rattle.racl_cli.specs.Reads.{AnswersInput, AnswersRead, HasJudged, HasOpened, HasRecordsAt, IsHeaded, IsSaid, having_records}
+use Rattle.racl_cli.specs.Reads.{AnswersInput, AnswersRead, HasHeaded, HasJudged, HasRecordsAt, IsHeaded, IsSaid, IsUnnumbered, having_records}
 use Rattle.racl_cli.specs.Runs.{Outcome}
-use Rattle.racl_cli.specs.declared.opening.Opened.{Opened}
+use Rattle.racl_cli.specs.declared.opening.Headed.{Headed}
 use Rattle.racl_cli.proofs.OutcomeLemmas.{capture_answers, hex_answers, memory_answers, verdicts_answer}
 use Rattle.racl_cli.proofs.ReadLemmas.{all_known, gave_none, too_many_known}
 
@@ -42,6 +42,7 @@ input_appended text capture bytes more long is = record {
   lines = is.lines;
   plain = is.plain;
   policy = is.policy;
+  counts = is.counts;
   marked = is.marked ++ more;
   parted = ap (λ (b : List ℕ). b ++ more) is.parted ∙ append_assoc text is.marked more;
   content = marked_appended capture is.marked more long is.content;
@@ -70,6 +71,23 @@ records_behind_header bytes capture last =
     let place : length bytes - length capture + 24 ≡ length last.front + 24 = omega arith in
     ap (λ n. drop n bytes) place ∙ ap (drop (length last.front + 24)) last.parted ∙ drop-append-add last.front capture 24
 
+-- what follows a marker line stands at the end of the input
+pub content_behind : (bytes : List ℕ) (parts : InputFacts) → IsInput bytes parts → drop (length bytes - length parts.content) bytes ≡ parts.content
+content_behind bytes parts is = elim is.content [
+  | inl (line, marker, same) ↦
+      let front = parts.policy ++ (line ++ 10 ∷ []) in
+      let parted : bytes ≡ front ++ parts.content =
+      is.parted ∙ ap (λ (b : List ℕ). parts.policy ++ b) (same ∙ sym (append_assoc line (10 ∷ []) parts.content))
+      ∙ sym (append_assoc parts.policy (line ++ 10 ∷ []) parts.content) in
+      let whole = ap length parted in let sizes = length-append front parts.content in
+      let place : length bytes - length parts.content ≡ length front + 0 = omega arith in
+      ap (λ n. drop n bytes) place ∙ ap (drop (length front + 0)) parted ∙ drop-append-add front parts.content 0
+  | inr (word, none) ↦
+      let empty = ap length none in
+      let place : length bytes - length parts.content ≡ length bytes + 0 = omega arith in
+      ap (λ n. drop n bytes) place ∙ ap (drop (length bytes + 0)) (sym (append-nil bytes)) ∙ drop-append-add bytes [] 0 ∙ sym none
+]
+
 -- ---- a capture whose header is refused
 
 header_one : (bytes : List ℕ) (found : CaptureFault) → ((order : Order) → HasHeader order bytes → ⊥)
@@ -82,11 +100,11 @@ header_one bytes found none one (capture.LongRecord number) (order, packets, res
 header_one bytes found none one capture.Memory is = absurd is
 
 pub header_answers : (options : Options) (bytes : List ℕ) (parts : InputFacts) (policy : PolicyFacts) → IsInput bytes parts → IsSaid parts.policy policy
-    → (capture : List ℕ) → IsContent parts.form parts.content capture → (found : CaptureFault) → IsHeaderFault capture found
+    → IsUnnumbered parts.form → (capture : List ℕ) → IsContent parts.form parts.content capture → (found : CaptureFault) → IsHeaderFault capture found
     → ((order : Order) → HasHeader order capture → ⊥) → ((cause : CaptureFault) → IsHeaderFault capture cause → found ≡ cause)
     → AnswersInput options bytes (Err (capture_fault found))
-header_answers options bytes parts policy parted said capture spelt found is none one =
-    capture_answers options bytes parts policy parted said capture spelt found (λ packets end all. none all.0 all.2)
+header_answers options bytes parts policy parted said plain capture spelt found is none one =
+    capture_answers options bytes parts policy parted said plain capture spelt found (λ packets end all. none all.0 all.2)
     (fault_of_header capture found is) (header_one capture found none one)
 
 -- digits that stand for no capture, or memory ran out
@@ -98,7 +116,7 @@ digits_answer options bytes parts policy parted said form found (inl memory) =
     subst (λ (e : Fault). AnswersInput options bytes (Err e)) (sym memory) (memory_answers options bytes parts policy parted said)
 digits_answer options bytes parts policy parted said form found (inr (hex, none)) =
     subst (λ (e : Fault). AnswersInput options bytes (Err e)) (sym hex)
-    (hex_answers options bytes parts policy parted said (λ capture is. none capture (subst (λ (f : Form). IsContent f parts.content capture) form is)))
+    (hex_answers options bytes parts policy parted said (subst IsUnnumbered (sym form) tt) (λ capture is. none capture (subst (λ (f : Form). IsContent f parts.content capture) form is)))
 
 -- ---- a capture with a header
 
@@ -107,6 +125,7 @@ record HasRecords (bytes : List ℕ) (policy : PolicyFacts) (order : Order) (rec
   pub parts : InputFacts
   pub parted : IsInput bytes parts
   pub said : IsSaid parts.policy policy
+  pub plain : IsUnnumbered parts.form
   pub capture : List ℕ
   pub spelt : IsContent parts.form parts.content capture
   pub header : IsHeaderOf order capture
@@ -134,6 +153,7 @@ records_more bytes read policy order text capture from parted said header within
   parts = as_it_is text (capture ++ read);
   parted = input_appended text capture bytes read header.right.whole parted;
   said = said;
+  plain = tt;
   capture = capture ++ read;
   spelt = refl;
   header = header_appended order capture read (header_of order capture header);
@@ -150,37 +170,38 @@ pub has_bytes : (front bytes : List ℕ) (decoded : Option (Vec ℕ)) (ended : B
 has_bytes front bytes None ended same whole = same
 has_bytes front bytes (Some decoded) ended same whole = (same, whole refl)
 
-records_at : (options : Options) (front bytes read : List ℕ) (opened : Opened) (ended : Bool) (decoded : Option (Vec ℕ)) → decoded ≡ opened.decoded
-    → HasOpened options front opened → HasBytes front decoded bytes ended → (ended ≡ true → read ≡ [])
-    → HasRecords (front ++ read) (policy_facts opened.filter.policy) opened.order (drop opened.from (bytes ++ read))
-records_at options front bytes read opened ended None none has same all =
-    let at : HasRecordsAt front has.parts has.capture opened.from None = subst (HasRecordsAt front has.parts has.capture opened.from) (sym none) has.records in
+records_at : (options : Options) (front bytes read : List ℕ) (headed : Headed) (ended : Bool) (decoded : Option (Vec ℕ)) → decoded ≡ headed.decoded
+    → HasHeaded options front headed → HasBytes front decoded bytes ended → (ended ≡ true → read ≡ [])
+    → HasRecords (front ++ read) (policy_facts headed.filter.policy) headed.order (drop headed.from (bytes ++ read))
+records_at options front bytes read headed ended None none has same all =
+    let at : HasRecordsAt front has.parts has.capture headed.from None = subst (HasRecordsAt front has.parts has.capture headed.from) (sym none) has.records in
     let plain = in_binary front has.parts.form has.parts.policy has.parts.content has.capture at.0 has.spelt has.parted in
-    let records = records_more front read (policy_facts opened.filter.policy) opened.order has.parts.policy has.capture opened.from plain has.policy has.header at.1 at.2 in
-    subst (λ (b : List ℕ). HasRecords (front ++ read) (policy_facts opened.filter.policy) opened.order (drop opened.from (b ++ read))) (sym same) records
-records_at options front bytes read opened ended (Some decoded) some has (same, whole) all =
-    let at : HasRecordsAt front has.parts has.capture opened.from (Some decoded) = subst (HasRecordsAt front has.parts has.capture opened.from) (sym some) has.records in
+    let records = records_more front read (policy_facts headed.filter.policy) headed.order has.parts.policy has.capture headed.from plain has.policy has.header at.1 at.2 in
+    subst (λ (b : List ℕ). HasRecords (front ++ read) (policy_facts headed.filter.policy) headed.order (drop headed.from (b ++ read))) (sym same) records
+records_at options front bytes read headed ended (Some decoded) some has (same, whole) all =
+    let at : HasRecordsAt front has.parts has.capture headed.from (Some decoded) = subst (HasRecordsAt front has.parts has.capture headed.from) (sym some) has.records in
     let none = all whole in
-    let behind : drop opened.from (bytes ++ []) ≡ drop 24 has.capture =
-    ap (drop opened.from) (append-nil bytes ∙ same ∙ at.1) ∙ ap (λ n. drop n has.capture) at.0 in
-    let records : HasRecords front (policy_facts opened.filter.policy) opened.order (drop opened.from (bytes ++ [])) = record {
+    let behind : drop headed.from (bytes ++ []) ≡ drop 24 has.capture =
+    ap (drop headed.from) (append-nil bytes ∙ same ∙ at.1) ∙ ap (λ n. drop n has.capture) at.0 in
+    let records : HasRecords front (policy_facts headed.filter.policy) headed.order (drop headed.from (bytes ++ [])) = record {
       parts = has.parts;
       parted = has.parted;
       said = has.policy;
+      plain = has.plain;
       capture = has.capture;
       spelt = has.spelt;
-      header = header_of opened.order has.capture has.header;
+      header = header_of headed.order has.capture has.header;
       behind = behind;
     } in
-    subst (λ (r : List ℕ). HasRecords (front ++ r) (policy_facts opened.filter.policy) opened.order (drop opened.from (bytes ++ r))) (sym none)
-    (subst (λ (b : List ℕ). HasRecords b (policy_facts opened.filter.policy) opened.order (drop opened.from (bytes ++ []))) (sym (append-nil front)) records)
+    subst (λ (r : List ℕ). HasRecords (front ++ r) (policy_facts headed.filter.policy) headed.order (drop headed.from (bytes ++ r))) (sym none)
+    (subst (λ (b : List ℕ). HasRecords b (policy_facts headed.filter.policy) headed.order (drop headed.from (bytes ++ []))) (sym (append-nil front)) records)
 
 -- an opening of the input stands where its records begin
-pub record IsOpeningOf (front : List ℕ) (opened : Opened) (opening : Opening) : Type 0 where
-  pub from : opening.from ≡ opened.from
-  pub order : opening.order ≡ opened.order
+pub record IsOpeningOf (front : List ℕ) (headed : Headed) (opening : Opening) : Type 0 where
+  pub from : opening.from ≡ headed.from
+  pub order : opening.order ≡ headed.order
   pub few : length front ≤ most_bytes
-  pub bytes : HasBytes front opened.decoded opening.bytes.items opening.ended
+  pub bytes : HasBytes front headed.decoded opening.bytes.items opening.ended
 
 -- all bytes of the input aren't too many where those of the opening aren't
 few_in_all : (front bytes read : List ℕ) (ended : Bool) (decoded : Option (Vec ℕ)) → HasBytes front decoded bytes ended → (ended ≡ true → read ≡ [])
@@ -199,12 +220,16 @@ not_twice : (b : Bool) → b ≡ not (not b)
 not_twice true = refl
 not_twice false = refl
 
-content_short : (form : Form) (content capture : List ℕ) → IsContent form content capture → length capture ≤ length content
-content_short Binary content capture is = let e = ap length is in omega arith
-content_short Hexadecimal content capture is =
+digits_short : (content capture : List ℕ) → IsContent Hexadecimal content capture → length capture ≤ length content
+digits_short content capture is =
     let twice = (decode_of-ok (digits_of content) capture is).2 in
     let all = length-filter_both (λ b. not (is_blank b)) is_blank (λ b. not_twice (is_blank b)) content in
     omega arith
+
+pub content_short : (form : Form) (content capture : List ℕ) → IsContent form content capture → length capture ≤ length content
+content_short Binary content capture is = let e = ap length is in omega arith
+content_short Hexadecimal content capture is = digits_short content capture is
+content_short (Numbered number) content capture is = digits_short content capture is
 
 content_inside : (bytes : List ℕ) (parts : InputFacts) → IsInput bytes parts → length parts.content ≤ length bytes
 content_inside bytes parts is =
@@ -216,14 +241,14 @@ content_inside bytes parts is =
     ]
 
 -- the records of an opening begin within its bytes, and these aren't too many
-may_at : (options : Options) (front bytes : List ℕ) (opened : Opened) (ended : Bool) (decoded : Option (Vec ℕ)) → decoded ≡ opened.decoded
-    → HasOpened options front opened → HasBytes front decoded bytes ended → length front ≤ most_bytes
-    → (opened.from ≤ length bytes) × (length bytes ≤ most_bytes)
-may_at options front bytes opened ended None none has same few =
-    let at : HasRecordsAt front has.parts has.capture opened.from None = subst (HasRecordsAt front has.parts has.capture opened.from) (sym none) has.records in
+may_at : (options : Options) (front bytes : List ℕ) (headed : Headed) (ended : Bool) (decoded : Option (Vec ℕ)) → decoded ≡ headed.decoded
+    → HasHeaded options front headed → HasBytes front decoded bytes ended → length front ≤ most_bytes
+    → (headed.from ≤ length bytes) × (length bytes ≤ most_bytes)
+may_at options front bytes headed ended None none has same few =
+    let at : HasRecordsAt front has.parts has.capture headed.from None = subst (HasRecordsAt front has.parts has.capture headed.from) (sym none) has.records in
     let within = at.1 in let e = ap length same in (omega arith, omega arith)
-may_at options front bytes opened ended (Some decoded) some has (same, whole) few =
-    let at : HasRecordsAt front has.parts has.capture opened.from (Some decoded) = subst (HasRecordsAt front has.parts has.capture opened.from) (sym some) has.records in
+may_at options front bytes headed ended (Some decoded) some has (same, whole) few =
+    let at : HasRecordsAt front has.parts has.capture headed.from (Some decoded) = subst (HasRecordsAt front has.parts has.capture headed.from) (sym some) has.records in
     let begins = at.0 in
     let all = ap length (same ∙ at.1) in
     let header = has.header.right.whole in
@@ -231,9 +256,9 @@ may_at options front bytes opened ended (Some decoded) some has (same, whole) fe
     let inside = content_inside front has.parts has.parted in
     (omega arith, omega arith)
 
-pub opening_may : (options : Options) (front bytes : List ℕ) (opened : Opened) (ended : Bool) → HasOpened options front opened
-    → HasBytes front opened.decoded bytes ended → length front ≤ most_bytes → (opened.from ≤ length bytes) × (length bytes ≤ most_bytes)
-opening_may options front bytes opened ended has of few = may_at options front bytes opened ended opened.decoded refl has of few
+pub opening_may : (options : Options) (front bytes : List ℕ) (headed : Headed) (ended : Bool) → HasHeaded options front headed
+    → HasBytes front headed.decoded bytes ended → length front ≤ most_bytes → (headed.from ≤ length bytes) × (length bytes ≤ most_bytes)
+opening_may options front bytes headed ended has of few = may_at options front bytes headed ended headed.decoded refl has of few
 
 -- what is read behind the bytes of an opening is read behind the input's
 pub within_front : {R X : Type 0} (left : R → Option (List ℕ)) (failures : R → ℕ) (before after : R) (front bytes : List ℕ) (ended : Bool)
@@ -251,41 +276,41 @@ within_front left failures before after front bytes ended (Some decoded) result 
 
 -- ---- what is answered
 
-module _ (options : Options) (front : List ℕ) (opened : Opened) (opening : Opening) (is : IsOpeningOf front opened opening) (has : HasOpened options front opened) where
+module _ (options : Options) (front : List ℕ) (headed : Headed) (opening : Opening) (is : IsOpeningOf front headed opening) (has : HasHeaded options front headed) where
   stands : (read : List ℕ) → (opening.ended ≡ true → read ≡ [])
-      → HasRecords (front ++ read) (policy_facts opened.filter.policy) opening.order (records_in opening read)
+      → HasRecords (front ++ read) (policy_facts headed.filter.policy) opening.order (records_in opening read)
   stands read all =
-      subst (λ (o : Order). HasRecords (front ++ read) (policy_facts opened.filter.policy) o (records_in opening read)) (sym is.order)
-      (subst (λ n. HasRecords (front ++ read) (policy_facts opened.filter.policy) opened.order (drop n (opening.bytes.items ++ read))) (sym is.from)
-      (records_at options front opening.bytes.items read opened opening.ended opened.decoded refl has is.bytes all))
+      subst (λ (o : Order). HasRecords (front ++ read) (policy_facts headed.filter.policy) o (records_in opening read)) (sym is.order)
+      (subst (λ n. HasRecords (front ++ read) (policy_facts headed.filter.policy) headed.order (drop n (opening.bytes.items ++ read))) (sym is.from)
+      (records_at options front opening.bytes.items read headed opening.ended headed.decoded refl has is.bytes all))
 
-  judged_answers : (before after : Option (List ℕ)) (outcome : Outcome) → HasJudged options (policy_facts opened.filter.policy) opening before after outcome
+  judged_answers : (before after : Option (List ℕ)) (outcome : Outcome) → HasJudged options (policy_facts headed.filter.policy) opening before after outcome
       → AnswersRead options front before (Ok outcome)
   judged_answers before after outcome judged =
       let at = stands judged.read judged.whole.all in
-      let few = few_in_all front opening.bytes.items judged.read opening.ended opened.decoded is.bytes judged.whole.all is.few judged.whole.few in
+      let few = few_in_all front opening.bytes.items judged.read opening.ended headed.decoded is.bytes judged.whole.all is.few judged.whole.few in
       let all : AreRecords opening.order (drop 24 at.capture) judged.packets judged.rest =
       subst (λ (b : List ℕ). AreRecords opening.order b judged.packets judged.rest) at.behind judged.records in
       inr (record {
         read = judged.read;
         known = all_known before after judged.read judged.whole.consumed judged.whole.ended;
         few = few;
-        answers = verdicts_answer options (front ++ judged.read) at.parts (policy_facts opened.filter.policy) at.parted at.said at.capture at.spelt opening.order
-            at.header judged.packets judged.rest outcome few all judged.end judged.reached;
+        answers = verdicts_answer options (front ++ judged.read) at.parts (policy_facts headed.filter.policy) at.parted at.said at.plain at.capture at.spelt opening.order
+            at.header judged.packets judged.rest judged.truncated outcome few all judged.end judged.reached;
       })
 
   long_answers : (before after : Option (List ℕ)) (number : ℕ) → HasLongRecord opening before after number
       → AnswersRead options front before (Err (LongRecord number))
   long_answers before after number long =
       let at = stands long.read long.whole.all in
-      let few = few_in_all front opening.bytes.items long.read opening.ended opened.decoded is.bytes long.whole.all is.few long.whole.few in
+      let few = few_in_all front opening.bytes.items long.read opening.ended headed.decoded is.bytes long.whole.all is.few long.whole.few in
       let all : AreRecords opening.order (drop 24 at.capture) long.packets long.rest =
       subst (λ (b : List ℕ). AreRecords opening.order b long.packets long.rest) at.behind long.records in
       inr (record {
         read = long.read;
         known = all_known before after long.read long.whole.consumed long.whole.ended;
         few = few;
-        answers = capture_answers options (front ++ long.read) at.parts (policy_facts opened.filter.policy) at.parted at.said at.capture at.spelt (capture.LongRecord number)
+        answers = capture_answers options (front ++ long.read) at.parts (policy_facts headed.filter.policy) at.parted at.said at.plain at.capture at.spelt (capture.LongRecord number)
             (long_is_wrong opening.order at.capture at.header long.packets long.rest all long.long)
             (opening.order, long.packets, long.rest, at.header.right, all, long.long, long.counted)
             (λ cause of. ap capture.LongRecord long.counted ∙ sym (long_refuses opening.order at.capture at.header long.packets long.rest all long.long cause of));
@@ -295,13 +320,13 @@ module _ (options : Options) (front : List ℕ) (opened : Opened) (opening : Ope
   fault_answers before after Memory of = inl (Memory, refl, inl refl)
   fault_answers before after Read of = inl (Read, refl, inr (inl refl))
   fault_answers before after TooLarge (more, gone, consumed, many) =
-      let same = ap length (many_in_all front opening.bytes.items opening.ended opened.decoded is.bytes more) in
+      let same = ap length (many_in_all front opening.bytes.items opening.ended headed.decoded is.bytes more) in
       inl (TooLarge, refl, inr (inr (refl, too_many_known (length front) before after gone consumed (omega arith))))
   fault_answers before after (LongRecord number) of = long_answers before after number of
   fault_answers before after fault of = absurd of
 
   pub stream_answers : (before after : Option (List ℕ)) (result : Result Outcome Fault)
-      → IfOk result (HasJudged options (policy_facts opened.filter.policy) opening before after) → IfErr result (IsStreamFault opening before after)
+      → IfOk result (HasJudged options (policy_facts headed.filter.policy) opening before after) → IfErr result (IsStreamFault opening before after)
       → AnswersRead options front before result
   stream_answers before after (Ok outcome) judged fault = judged_answers before after outcome judged
   stream_answers before after (Err found) judged fault = fault_answers before after found fault

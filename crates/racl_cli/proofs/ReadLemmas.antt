@@ -6,14 +6,14 @@ use Rattle.std.proofs.lemmas.List.{length-append}
 use Rattle.session_state.specs.declared.timeouts.Timeouts.{Timeouts}
 use Rattle.racl_words.specs.declared.settings.Options.{Options}
 use Rattle.racl_io.specs.declared.fault.Fault.{Fault}
-use Rattle.racl_io.specs.declared.fault.Fault.TheVariants.{Memory, Read, TooLarge}
+use Rattle.racl_io.specs.declared.fault.Fault.TheVariants.{Memory, Read, TooLarge, Write}
 use Rattle.racl_io.specs.Faults.{IsInputFault, IsSystemFault}
 use Rattle.racl_io.specs.Transfers.{GaveAtMost, HasRead, HasReadWithin, failures_after_reads}
 use Rattle.racl_io.proofs.TransferLemmas.{gave_more}
 use Rattle.racl_io.specs.Inputs.{most_bytes}
 use Rattle.racl_cli.specs.Reads.{AnswersInput, AnswersRead, AreKnown, IsUnread}
 use Rattle.racl_cli.specs.Runs.{HasOutcome, Outcome}
-use Rattle.racl_cli.proofs.RunLemmas.{IsWhole, device_or, excluded_by_input, fault_of_input}
+use Rattle.racl_cli.proofs.RunLemmas.{IsWhole, device_or, excluded_by_input, fault_of_input, no_device}
 
 -- ---- bytes that a source had
 
@@ -165,4 +165,11 @@ fault_of_right options (Some bytes) fault (inl (other, same, inr (inl failed))) 
 fault_of_right options (Some bytes) fault (inl (other, same, inr (inr (large, many)))) = λ outcome has. absurd (let few = has.read.few in omega (arith, few, many))
 fault_of_right options (Some bytes) fault (inr whole) =
     known_read options.times (Some bytes) whole.read (λ input outcome. IsSystemFault fault) (record { whole = whole.known; few = whole.few })
-    (λ outcome has. subst IsSystemFault (sym (whole.answers.accepts has.policy has.packets outcome.truncated has.read)) tt)
+    (λ outcome has. subst IsSystemFault (sym (whole.answers.accepts has.policy has.packets outcome.captures has.read)) tt)
+
+-- nor is it that a write failed
+pub unwritten : (options : Options) (given : Option (List ℕ)) (fault : Fault) → AnswersRead options [] given (Err fault) → fault ≡ Write → ⊥
+unwritten options given fault (inl (other, same, inl memory)) write = let f : ⊥ = cc in f
+unwritten options given fault (inl (other, same, inr (inl failed))) write = let f : ⊥ = cc in f
+unwritten options given fault (inl (other, same, inr (inr (large, many)))) write = let f : ⊥ = cc in f
+unwritten options given fault (inr whole) write = (no_device options whole.read fault whole.answers).1 write

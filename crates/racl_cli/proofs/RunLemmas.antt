@@ -1,53 +1,54 @@
 -- What an input says, and its faults, are those of its parts.
-use Rattle.std.proofs.Common.{◌≡◌, ◌≢◌, ◌≤◌, ◌∙◌, ◌⊎◌, ℕ, Bool, true, false, List, Option, Some, None, IfSome, length, arith, refl, sym, ap, subst, inl, inr}
+use Rattle.std.proofs.Common.{◌≡◌, ◌≢◌, ◌≤◌, ◌∙◌, ◌⊎◌, ℕ, Bool, List, [], ◌∷◌, Option, Some, None, IfSome, Result, Ok, Err, length, arith, refl, sym, ap, subst, inl, inr}
 use Rattle.packet_view.specs.Captures.{IsCaptureAt, PacketFacts, end_of}
 use Rattle.acl_policy.specs.Policies.{IsPolicyFault, IsPolicyText, PolicyFacts}
 use Rattle.acl_policy.specs.declared.policy.PolicyFault.{PolicyFault}
 use Rattle.acl_policy.specs.declared.policy.PolicyFault.TheVariants as policy
 use Rattle.racl_io.specs.declared.fault.Fault.{Fault}
-use Rattle.racl_io.specs.declared.fault.Fault.TheVariants.{Memory, Read, TooLarge, NoCapture, NotUtf8, BadLine, TooMany, Hex, Short, Magic, Version, LinkType, LongRecord, Write}
+use Rattle.racl_io.specs.declared.fault.Fault.TheVariants.{Memory, Read, TooLarge, NoCapture, NotUtf8, BadLine, TooMany, Twice, Hex, Short, Magic, Version, LinkType, LongRecord, Write}
 use Rattle.racl_io.specs.declared.input.Form.{Form}
-use Rattle.racl_io.specs.declared.input.Form.TheVariants.{Binary, Hexadecimal}
-use Rattle.racl_io.specs.Faults.{IsSystemFault, IsFaultOfBytes, IsFaultOfCapture, IsFaultOfContent, IsFaultOfParts, IsInputFault, policy_fault}
-use Rattle.racl_io.specs.Inputs.{IsContent, IsInput, InputFacts, most_bytes}
+use Rattle.racl_io.specs.declared.report.Captured.{Captured}
+use Rattle.racl_io.specs.Faults.{IsSystemFault, IsFaultOfBytes, IsFaultOfCaptures, IsFaultOfContent, IsFaultOfOne, IsFaultOfParts, IsInputFault, capture_fault, policy_fault}
+use Rattle.racl_io.specs.declared.input.Form.TheVariants.{Binary, Hexadecimal, Numbered}
+use Rattle.racl_io.specs.Inputs.{DigitsFacts, IsContent, IsInput, InputFacts, most_bytes}
+use Rattle.racl_io.specs.Transfers.{HasReadWithin, failures_after_reads}
 use Rattle.racl_io.proofs.InputLemmas.{one_input}
-use Rattle.racl_cli.specs.Runs.{IsRead}
+use Rattle.racl_io.proofs.TransferLemmas.{gave_none}
+use Rattle.racl_words.specs.declared.settings.Options.{Options}
+use Rattle.packet_view.specs.declared.capture.CaptureFault.{CaptureFault}
+use Rattle.packet_view.specs.declared.capture.CaptureFault.TheVariants as capture
+use Rattle.racl_cli.specs.Reads.{AnswersInput, IsUnnumbered}
+use Rattle.racl_cli.specs.Runs.{HasPackets, IsRead, Outcome, told_of}
+use Rattle.racl_cli.proofs.CaptureLaws.{one_content, plain_alone}
 
--- content stands for one capture
-pub one_content : (form : Form) (content one other : List ℕ) → IsContent form content one → IsContent form content other → one ≡ other
-one_content Binary content one other p q = p ∙ sym q
-one_content Hexadecimal content one other p q = cc
-
--- a policy, packets and an end as these parts say them
-pub record IsReadIn (parts : InputFacts) (policy : PolicyFacts) (packets : List PacketFacts) (truncated : Bool) : Type 0 where
+-- a policy and captures as these parts say them
+pub record IsReadIn (parts : InputFacts) (policy : PolicyFacts) (packets : List PacketFacts) (captures : List Captured) : Type 0 where
   pub says : IsPolicyText parts.policy policy
-  pub capture : List ℕ
-  pub spelt : IsContent parts.form parts.content capture
-  pub records : IsCaptureAt 0 capture packets (end_of truncated)
+  pub content : HasPackets parts.form parts.content packets captures
 
 -- where the parts are known, the input says what they say
-pub read_in : (bytes : List ℕ) (parts : InputFacts) (policy : PolicyFacts) (packets : List PacketFacts) (truncated : Bool) → IsInput bytes parts
-    → IsRead bytes policy packets truncated → IsReadIn parts policy packets truncated
-read_in bytes parts policy packets truncated is read =
-    subst (λ p. IsReadIn p policy packets truncated) (one_input bytes read.parts parts read.parted is)
-    (record { says = read.says; capture = read.capture; spelt = read.spelt; records = read.records })
+pub read_in : (bytes : List ℕ) (parts : InputFacts) (policy : PolicyFacts) (packets : List PacketFacts) (captures : List Captured) → IsInput bytes parts
+    → IsRead bytes policy packets captures → IsReadIn parts policy packets captures
+read_in bytes parts policy packets captures is read =
+    subst (λ p. IsReadIn p policy packets captures) (one_input bytes read.parts parts read.parted is)
+    (record { says = read.says; content = read.content })
 
--- where the capture is known too, the packets are its
-pub packets_in_capture : (parts : InputFacts) (policy : PolicyFacts) (packets : List PacketFacts) (truncated : Bool) (capture : List ℕ)
-    → IsContent parts.form parts.content capture → IsReadIn parts policy packets truncated → IsCaptureAt 0 capture packets (end_of truncated)
-packets_in_capture parts policy packets truncated capture spelt read =
-    subst (λ c. IsCaptureAt 0 c packets (end_of truncated)) (one_content parts.form parts.content read.capture capture read.spelt spelt) read.records
+-- packets of a capture, and what is told of it
+pub record IsAloneIn (capture : List ℕ) (packets : List PacketFacts) (captures : List Captured) : Type 0 where
+  pub truncated : Bool
+  pub records : IsCaptureAt 0 capture packets (end_of truncated)
+  pub told : captures ≡ told_of None packets truncated ∷ []
 
-pub one_truncated : (a b : Bool) → end_of a ≡ end_of b → a ≡ b
-one_truncated true true same = refl
-one_truncated true false same = cc
-one_truncated false true same = cc
-one_truncated false false same = refl
-
--- where the capture is known, the content has no fault but the capture's
-pub fault_of_known_content : (form : Form) (content capture : List ℕ) (fault : Fault) → IsContent form content capture → IsFaultOfContent form content fault → IsFaultOfCapture capture fault
-fault_of_known_content form content capture fault is (inl (same, none)) = absurd (none capture is)
-fault_of_known_content form content capture fault is (inr (other, spelt, of)) = subst (λ c. IsFaultOfCapture c fault) (one_content form content other capture spelt is) of
+-- where the only capture is known too, the packets are its
+pub alone_in_capture : (form : Form) (content capture : List ℕ) (packets : List PacketFacts) (captures : List Captured) → IsUnnumbered form
+    → IsContent form content capture → HasPackets form content packets captures → IsAloneIn capture packets captures
+alone_in_capture form content capture packets captures plain spelt has =
+    let alone = plain_alone form content packets captures plain has in
+    record {
+      truncated = alone.truncated;
+      records = subst (λ c. IsCaptureAt 0 c packets (end_of alone.truncated)) (one_content form content alone.capture capture alone.spelt spelt) alone.records;
+      told = alone.told;
+    }
 
 -- where the parts are known, the input has no fault but theirs
 pub fault_of_known_parts : (bytes : List ℕ) (parts : InputFacts) (fault : Fault) → IsInput bytes parts → IsFaultOfBytes bytes fault → IsFaultOfParts parts fault
@@ -105,9 +106,82 @@ device_or NoCapture P other = inr (other (λ same. cc))
 device_or NotUtf8 P other = inr (other (λ same. cc))
 device_or (BadLine n) P other = inr (other (λ same. cc))
 device_or (TooMany n) P other = inr (other (λ same. cc))
+device_or (Twice n) P other = inr (other (λ same. cc))
 device_or Hex P other = inr (other (λ same. cc))
 device_or Short P other = inr (other (λ same. cc))
 device_or Magic P other = inr (other (λ same. cc))
 device_or Version P other = inr (other (λ same. cc))
 device_or LinkType P other = inr (other (λ same. cc))
 device_or (LongRecord n) P other = inr (other (λ same. cc))
+
+-- ---- no fault of an input is a failure of a device
+
+abbrev IsOfInput : Fault → Type 0
+IsOfInput Read = ⊥
+IsOfInput Write = ⊥
+IsOfInput _ = Unit {0}
+
+policy_of_input : (cause : PolicyFault) → IsOfInput (policy_fault cause)
+policy_of_input policy.Memory = tt
+policy_of_input policy.NotUtf8 = tt
+policy_of_input (policy.BadLine number) = tt
+policy_of_input (policy.TooMany number) = tt
+
+capture_of_input : (cause : CaptureFault) → IsOfInput (capture_fault cause)
+capture_of_input capture.Short = tt
+capture_of_input capture.Magic = tt
+capture_of_input capture.Version = tt
+capture_of_input capture.LinkType = tt
+capture_of_input (capture.LongRecord number) = tt
+capture_of_input capture.Memory = tt
+
+one_of_input : (form : Form) (content : List ℕ) (fault : Fault) → IsFaultOfOne form content fault → IsOfInput fault
+one_of_input form content fault (inl (same, none)) = subst IsOfInput (sym same) tt
+one_of_input form content fault (inr (capture, spelt, (cause, is, same))) = subst IsOfInput (sym same) (capture_of_input cause)
+
+captures_of_input : (seen : List ℕ) (all : List DigitsFacts) (fault : Fault) → IsFaultOfCaptures seen all fault → IsOfInput fault
+captures_of_input seen [] fault of = absurd of
+captures_of_input seen (first ∷ others) fault (inl (among, same)) = subst IsOfInput (sym same) tt
+captures_of_input seen (first ∷ others) fault (inr (new, inl of)) = one_of_input Hexadecimal first.digits fault of
+captures_of_input seen (first ∷ others) fault (inr (new, inr (right, of))) = captures_of_input (first.interface ∷ seen) others fault of
+
+content_of_input : (form : Form) (content : List ℕ) (fault : Fault) → IsFaultOfContent form content fault → IsOfInput fault
+content_of_input Binary content fault of = one_of_input Binary content fault of
+content_of_input Hexadecimal content fault of = one_of_input Hexadecimal content fault of
+content_of_input (Numbered number) content fault (all, cut, of) = captures_of_input [] all fault of
+
+bytes_of_input : (bytes : List ℕ) (fault : Fault) → IsFaultOfBytes bytes fault → IsOfInput fault
+bytes_of_input bytes fault (inl (same, none)) = subst IsOfInput (sym same) tt
+bytes_of_input bytes fault (inr (parts, parted, inl (cause, is, same))) = subst IsOfInput (sym same) (policy_of_input cause)
+bytes_of_input bytes fault (inr (parts, parted, inr (right, says, of))) = content_of_input parts.form parts.content fault of
+
+-- what is answered of bytes is no failure of a device
+pub no_device : (options : Options) (bytes : List ℕ) (fault : Fault) → AnswersInput options bytes (Err fault) → (fault ≡ Read → ⊥) × (fault ≡ Write → ⊥)
+no_device options bytes fault answers = (
+  (λ same. subst IsOfInput same (bytes_of_input bytes fault (answers.fault (λ memory. let f : ⊥ = cc in f)))),
+  (λ same. subst IsOfInput same (bytes_of_input bytes fault (answers.fault (λ memory. let f : ⊥ = cc in f)))),
+)
+
+steady : (n : ℕ) (fault : Fault) → (fault ≡ Read → ⊥) → failures_after_reads {X = Outcome} n (Err fault) ≡ n
+steady n Read other = absurd (other refl)
+steady n Memory other = refl
+steady n Write other = refl
+steady n TooLarge other = refl
+steady n NoCapture other = refl
+steady n NotUtf8 other = refl
+steady n (BadLine number) other = refl
+steady n (TooMany number) other = refl
+steady n (Twice number) other = refl
+steady n Hex other = refl
+steady n Short other = refl
+steady n Magic other = refl
+steady n Version other = refl
+steady n LinkType other = refl
+steady n (LongRecord number) other = refl
+
+-- a source from which nothing is read answers what the bytes do
+pub within_unread : {R : Type 0} (left : R → Option (List ℕ)) (failures : R → ℕ) (most : ℕ) (source : R) (options : Options) (bytes : List ℕ)
+    (result : Result Outcome Fault) → AnswersInput options bytes result → HasReadWithin left failures most source source result
+within_unread left failures most source options bytes (Ok outcome) answers = record { gave = gave_none (left source) most; failed = refl }
+within_unread left failures most source options bytes (Err fault) answers =
+    record { gave = gave_none (left source) most; failed = sym (steady (failures source) fault (no_device options bytes fault answers).0) }

@@ -96,10 +96,10 @@ having_records input None = input
 having_records input (Some decoded) = decoded.items
 
 -- a marker line of one capture
-abbrev pub IsPlain : Form → Type 0
-IsPlain Binary = Unit {0}
-IsPlain Hexadecimal = Unit {0}
-IsPlain (Numbered number) = ⊥
+abbrev pub IsUnnumbered : Form → Type 0
+IsUnnumbered Binary = Unit {0}
+IsUnnumbered Hexadecimal = Unit {0}
+IsUnnumbered (Numbered number) = ⊥
 
 -- the bytes begin with a right policy, a marker line, and the header of the only capture
 pub record HasHeaded (options : Options) (bytes : List ℕ) (headed : Headed) : Type 0 where
@@ -107,7 +107,7 @@ pub record HasHeaded (options : Options) (bytes : List ℕ) (headed : Headed) : 
   pub parted : IsInput bytes parts
   pub policy : IsSaid parts.policy (policy_facts headed.filter.policy)
   pub times : headed.filter.times ≡ options.times
-  pub plain : IsPlain parts.form
+  pub plain : IsUnnumbered parts.form
   pub capture : List ℕ
   pub spelt : IsContent parts.form parts.content capture
   pub header : IsHeaded headed.order capture

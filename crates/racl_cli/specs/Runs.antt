@@ -37,7 +37,7 @@ pub record IsAlone (form : Form) (content : List ℕ) (packets : List PacketFact
 pub record IsTaken (seen : List ℕ) (digits : DigitsFacts) (packets : List PacketFacts) (captured : Captured) : Type 0 where
   pub first : IsAmong digits.interface seen → ⊥
   pub capture : List ℕ
-  pub spelt : IsContent (Numbered digits.interface) digits.digits capture
+  pub spelt : IsContent Hexadecimal digits.digits capture
   pub truncated : Bool
   pub records : IsCaptureAt digits.interface capture packets (end_of truncated)
   pub told : captured ≡ told_of (Some digits.interface) packets truncated
@@ -48,7 +48,7 @@ AreTaken seen [] packets captures = (packets ≡ []) × (captures ≡ [])
 AreTaken seen (digits ∷ others) packets captures =
     (mine rest : List PacketFacts) × (captured : Captured) × (told : List Captured) × (packets ≡ mine ++ rest)
     × (captures ≡ captured ∷ told) × IsTaken seen digits mine captured
-    × AreTaken (seen ++ digits.interface ∷ []) others rest told
+    × AreTaken (digits.interface ∷ seen) others rest told
 
 -- what stands after the marker line: one capture, or those of interfaces with numbers
 abbrev pub HasPackets : Form → List ℕ → List PacketFacts → List Captured → Type 0

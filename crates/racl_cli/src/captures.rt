@@ -1,5 +1,5 @@
 //! The captures of several interfaces, which are judged one after the other.
-ghost use Rattle.std.specs.Prelude.{◌≡◌, ◌≢◌, ◌≤◌, ◌==◌, IfErr, IfOk, length};
+ghost use Rattle.std.specs.Prelude.{◌≡◌, ◌≤◌, ◌==◌, ◌⊎◌, IfErr, IfOk, length};
 ghost use Rattle.std.specs.List.{list_any};
 ghost use Rattle.racl_io.specs.declared.fault.Fault.TheVariants.{Memory};
 ghost use Rattle.racl_io.specs.Inputs.{most_bytes};
@@ -28,7 +28,7 @@ pub struct Walk<'t, 'f, 'b, T: Wait> {
     pub workers: Workers<'t, 'f, ShapeV4, ShapeV6, T, OpenGate>,
     /// What is told of those that were.
     pub captures: Vec<Captured>,
-    /// The numbers of their interfaces.
+    /// The numbers of their interfaces, the last one first.
     pub seen: Vec<u8>,
     /// The next one's number, and what follows its marker line.
     pub next: Option<Numbered<'b>>,
@@ -71,8 +71,8 @@ fn judge_next<'t, 'f, 'b, T: Threads + Wait + Sync>(
     capture: Numbered<'b>,
 ) -> Result<Walk<'t, 'f, 'b, T>, Fault>
     requires { CanTake walk capture }
-    ensures ok { IfOk result (HasTaken walk.entry capture) }
-    ensures fault { IfErr result (λ fault. fault ≢ Memory → IsFaultAt walk.entry.seen.items capture fault) }
+    ensures ok { IfOk result (HasTaken walk.entry capture.entry) }
+    ensures fault { IfErr result (λ fault. (fault ≡ Memory) ⊎ IsFaultAt walk.entry.seen.items capture.entry fault) }
 {
     let Walk {
         workers,
@@ -92,7 +92,7 @@ fn judge_next<'t, 'f, 'b, T: Threads + Wait + Sync>(
         packets: records.count(),
         truncated,
     })?;
-    seen.push(number)?;
+    seen.insert(0, number)?;
     match workers.judge(alloc, Packets::Standing(records)) {
         Ok(workers) => Ok(Walk {
             workers,
@@ -111,7 +111,7 @@ fn judge_each<'t, 'f, 'b, T: Threads + Wait + Sync>(
 ) -> Result<Judged, Fault>
     requires { MayTake begun }
     ensures ok { IfOk result (HasTakenAll begun.entry) }
-    ensures fault { IfErr result (λ fault. fault ≢ Memory → IsFaultOfWalk begun.entry fault) }
+    ensures fault { IfErr result (λ fault. (fault ≡ Memory) ⊎ IsFaultOfWalk begun.entry fault) }
 {
     let mut walk = begun;
     'captures: while let Some(capture) = walk.next {

@@ -7,7 +7,7 @@ use Rattle.racl_io.specs.declared.input.Form.{Form}
 use Rattle.racl_io.specs.declared.input.Form.TheVariants.{Binary, Hexadecimal, Numbered}
 use Rattle.racl_io.specs.declared.input.Marks.{Marks}
 use Rattle.racl_io.specs.declared.input.Marks.TheVariants.{Every, Numbers}
-use Rattle.racl_io.specs.Inputs.{AreCaptures, Counts, DigitsFacts, HasNoFeed, InputFacts, IsFirstLine, IsMarked, IsMarker, IsParted, IsWord, NumberedFacts, joined}
+use Rattle.racl_io.specs.Inputs.{IsInput, AreCaptures, Counts, DigitsFacts, HasNoFeed, InputFacts, IsFirstLine, IsMarked, IsMarker, IsParted, IsWord, NumberedFacts, joined}
 use Rattle.racl_io.proofs.InputLemmas.{IsFront, front_grows, front_of_all, interface_read, no_form, no_input, no_interface, no_number, same_front_of, shorter_behind}
 
 -- ---- words and markers
@@ -147,6 +147,10 @@ parts_after (suc fuel) marks bytes rest short front =
 
 pub some_parting : (marks : Marks) (bytes : List ℕ) → ((parts : InputFacts) × IsParted marks bytes parts) ⊎ ((parts : InputFacts) → IsParted marks bytes parts → ⊥)
 some_parting marks bytes = parts_after (suc (length bytes)) marks bytes bytes (omega arith) (front_of_all marks bytes)
+
+-- all bytes are parted by a marker line, or have none
+pub some_input : (bytes : List ℕ) → ((parts : InputFacts) × IsInput bytes parts) ⊎ ((parts : InputFacts) → IsInput bytes parts → ⊥)
+some_input bytes = some_parting Every bytes
 
 -- ---- captures
 

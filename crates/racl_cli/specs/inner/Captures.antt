@@ -1,8 +1,10 @@
 -- Captures with numbers that are taken one after the other.
 use Rattle.std.specs.Prelude.{◌≡◌, ◌+◌, ◌≤◌, ◌<◌, ◌++◌, ℕ, List, [], ◌∷◌, Option, None, Some, IfSome, length}
 use Rattle.packet_view.specs.Captures.{PacketFacts}
-use Rattle.flow_workers.specs.Progress.{AreAtRest, HaveAllSaid}
 use Rattle.bihash_words.specs.declared.shape.Shape.{Ghosts}
+use Rattle.flow_filter.specs.declared.verdict.Verdict.{Verdict}
+use Rattle.flow_workers.specs.declared.workers.Workers.{Workers}
+use Rattle.flow_workers.specs.Progress.{AreAtRest, HaveAllSaid}
 use Rattle.racl_io.specs.declared.fault.Fault.{Fault}
 use Rattle.racl_io.specs.declared.input.Numbered as mark
 use Rattle.racl_io.specs.declared.report.Captured.{Captured}
@@ -49,7 +51,7 @@ pub record HasTaken {T : Type 0} (old : Walk T) (capture : mark.Numbered) (new :
   pub captured : Captured
   pub taken : IsTaken old.seen.items (record { interface = capture.interface; digits = digits }) packets captured
   pub captures : new.captures.items ≡ old.captures.items ++ captured ∷ []
-  pub seen : new.seen.items ≡ old.seen.items ++ capture.interface ∷ []
+  pub seen : new.seen.items ≡ capture.interface ∷ old.seen.items
   pub by : new.workers.setup ≡ old.workers.setup
   pub rest : (before : List PacketFacts) → AreAtRest before old.workers → AreAtRest (before ++ packets) new.workers
   pub few : length packets + left_at (numbered_facts new.next) ≤ length capture.content.now
@@ -61,11 +63,16 @@ pub record MayTake {T : Type 0} (begun : Walk T) : Type 0 where
   pub seen : begun.seen.items ≡ []
   pub few : left_at (numbered_facts begun.next) ≤ most_bytes + 1
 
+-- these are the verdicts that workers set up like these gave
+abbrev pub SaidOf : {A B R G K L : Type 0} {ga : Ghosts A K} {gb : Ghosts B L} → Workers A B R G K L ga gb
+    → List PacketFacts → List Verdict → Type 0
+SaidOf {ga = ga} {gb = gb} all packets verdicts = HaveAllSaid ga gb all.setup packets verdicts
+
 -- all captures were taken, and these are the verdicts on their packets
 pub record HasTakenAll {T : Type 0} (begun : Walk T) (outcome : Outcome) : Type 0 where
   pub packets : List PacketFacts
   pub taken : AreTakenFrom [] (numbered_facts begun.next) packets outcome.captures
-  pub said : HaveAllSaid _ _ begun.workers.setup packets outcome.verdicts
+  pub said : SaidOf begun.workers packets outcome.verdicts
 
 abbrev pub IsFaultOfWalk : {T : Type 0} → Walk T → Fault → Type 0
 IsFaultOfWalk begun fault = IsFaultFrom [] (numbered_facts begun.next) fault

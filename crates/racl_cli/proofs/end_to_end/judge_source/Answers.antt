@@ -11,12 +11,12 @@ returns-then-ended-clause-within g c =
     c.in_ok-ended.ensures.read c.in_ok-ended.ensures.within.failed c.judge_ended.ensures.within
 
 pub returns-then-is_none-clause-answers : goal.returns-then-is_none-clause-answers
-returns-then-is_none-clause-answers g c = answers_on _ _ _ _ _ _ _ _ c.judge_opened.result c.new-bytes.ensures.items c.in_ok-ended.ensures.read c.judge_opened.ensures.answers
+returns-then-is_none-clause-answers g c = answers_on _ _ _ _ _ _ _ _ c.judge_headed.result c.new-bytes.ensures.items c.in_ok-ended.ensures.read c.judge_headed.ensures.answers
 
 pub returns-then-is_none-clause-within : goal.returns-then-is_none-clause-within
 returns-then-is_none-clause-within g c =
-    within_on _ _ c.args.reader.now c.read_until.new.reader _ _ _ _ _ _ c.judge_opened.result c.new-bytes.ensures.items (omega arith)
-    c.in_ok-ended.ensures.read c.in_ok-ended.ensures.within.failed c.judge_opened.ensures.within
+    within_on _ _ c.args.reader.now c.read_until.new.reader _ _ _ _ _ _ c.judge_headed.result c.new-bytes.ensures.items (omega arith)
+    c.in_ok-ended.ensures.read c.in_ok-ended.ensures.within.failed c.judge_headed.ensures.within
 
 pub returns-clause-answers : goal.returns-clause-answers
 returns-clause-answers g c = answers_on _ _ _ _ _ _ _ _ c.judge_whole.result c.new-bytes.ensures.items c.in_ok-ended.ensures.read c.judge_whole.ensures.answers

@@ -1,9 +1,10 @@
-use Rattle.std.proofs.Common.{refl, sym, subst}
+use Rattle.std.proofs.Common.{arith, refl, sym, subst}
 use Rattle.std.proofs.lemmas.Result.{err_from_is_err_and}
 use Rattle.racl_io.specs.declared.input.Form.{Form}
 use Rattle.racl_io.specs.declared.input.Form.TheVariants.{Binary}
 use Rattle.racl_io.specs.Inputs.{IsContent, IsInput}
-use Rattle.racl_cli.proofs.OpenedLemmas.{capture_stands, digits_answer, header_answers, records_behind_header, records_within_input}
+use Rattle.racl_cli.specs.Reads.{IsUnnumbered}
+use Rattle.racl_cli.proofs.OpenedLemmas.{capture_stands, content_behind, digits_answer, header_answers, records_behind_header, records_within_input}
 use Rattle.racl_cli.proofs.OutcomeLemmas.{no_marker_answers, policy_answers}
 use Rattle.racl_cli.proofs.opening.open_input.Goals as goal
 
@@ -22,6 +23,7 @@ returns-in_err-order-in-Binary-clause-fault c =
     rw (p.1, p.2)
     (header_answers _ _ _ _ c.in-Some.ensures.some
     (record { says = c.in_ok-policy.ensures.ok; one = c.in_ok-policy.ensures.accepts; right = c.in_ok-policy.ensures.refuses })
+    (subst IsUnnumbered (sym c.in-Binary.is) tt)
     c.in-Some.input.content.now (subst (λ form. IsContent form c.in-Some.input.content.now c.in-Some.input.content.now) (sym c.in-Binary.is) refl)
     _ header.fault (λ order is. let e = header.accepts order is in cc) (λ cause is. let e = header.refuses cause is in cc))
 
@@ -40,6 +42,7 @@ returns-in_err-order-in-Hexadecimal-clause-fault c =
     rw (p.1, p.2)
     (header_answers _ _ _ _ c.in-Some.ensures.some
     (record { says = c.in_ok-policy.ensures.ok; one = c.in_ok-policy.ensures.accepts; right = c.in_ok-policy.ensures.refuses })
+    (subst IsUnnumbered (sym c.in-Hexadecimal.is) tt)
     c.deref.result.now (subst (λ form. IsContent form c.in-Some.input.content.now c.deref.result.now) (sym c.in-Hexadecimal.is)
     (rw c.deref.ensures.value c.in_ok-capture-in-Hexadecimal.ensures.ok))
     _ header.fault (λ order is. let e = header.accepts order is in cc) (λ cause is. let e = header.refuses cause is in cc))
@@ -57,6 +60,7 @@ returns-in_ok-order-in-Binary-clause-ok c =
       parted = parted;
       policy = record { says = c.in_ok-policy.ensures.ok; one = c.in_ok-policy.ensures.accepts; right = c.in_ok-policy.ensures.refuses };
       times = refl;
+      plain = tt;
       capture = input.content.now;
       spelt = refl;
       header = record {
@@ -76,6 +80,7 @@ returns-in_ok-order-in-Hexadecimal-clause-ok c =
       parted = c.in-Some.ensures.some;
       policy = record { says = c.in_ok-policy.ensures.ok; one = c.in_ok-policy.ensures.accepts; right = c.in_ok-policy.ensures.refuses };
       times = refl;
+      plain = subst IsUnnumbered (sym c.in-Hexadecimal.is) tt;
       capture = c.deref.result.now;
       spelt = subst (λ form. IsContent form input.content.now c.deref.result.now) (sym c.in-Hexadecimal.is)
           (rw c.deref.ensures.value c.in_ok-capture-in-Hexadecimal.ensures.ok);
@@ -85,4 +90,17 @@ returns-in_ok-order-in-Hexadecimal-clause-ok c =
         none = λ cause is. let e = header.refuses cause is in cc;
       };
       records = (refl, sym c.deref.ensures.value);
+    }
+
+pub returns-in-Numbered-clause-ok : goal.returns-in-Numbered-clause-ok
+returns-in-Numbered-clause-ok c =
+    let input = c.in-Some.input in
+    record {
+      parts = record { policy = input.policy.now; form = input.form; content = input.content.now };
+      parted = c.in-Some.ensures.some;
+      policy = record { says = c.in_ok-policy.ensures.ok; one = c.in_ok-policy.ensures.accepts; right = c.in_ok-policy.ensures.refuses };
+      times = refl;
+      form = c.in-Numbered.is;
+      within = omega arith;
+      content = content_behind c.args.bytes.now _ c.in-Some.ensures.some;
     }

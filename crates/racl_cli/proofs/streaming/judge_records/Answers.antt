@@ -1,4 +1,4 @@
-use Rattle.std.proofs.Common.{◌∙◌, Err, ap, inl, refl, subst}
+use Rattle.std.proofs.Common.{◌≡◌, ◌∙◌, ◌++◌, List, [], ◌∷◌, None, Err, ap, arith, inl, length, refl, subst}
 use Rattle.std.proofs.lemmas.Result.{err_from_is_err_and}
 use Rattle.packet_view.specs.Captures.{packets_at}
 use Rattle.acl_policy.specs.Policies.{policy_facts}
@@ -7,8 +7,9 @@ use Rattle.flow_dealing.proofs.FewPackets.{pages_for_few}
 use Rattle.flow_dealing.proofs.OneReport.{one_report}
 use Rattle.flow_workers.proofs.RestLemmas.{judged_alike, said_by}
 use Rattle.racl_io.proofs.TransferLemmas.{within_of_err}
-use Rattle.racl_cli.specs.Runs.{ByOneThread, dealt_to}
-use Rattle.racl_cli.proofs.OutcomeLemmas.{given_by_workers}
+use Rattle.racl_io.specs.declared.report.Captured.{Captured}
+use Rattle.racl_cli.specs.Runs.{ByOneThread, dealt_to, told_of}
+use Rattle.racl_cli.proofs.OutcomeLemmas.{given_by_workers, judged_count}
 use Rattle.racl_cli.proofs.streaming.judge_records.Goals as goal
 
 pub returns-in_err-judges-clause-within : goal.returns-in_err-judges-clause-within
@@ -29,12 +30,20 @@ returns-clause-ok g c =
     let judged : AreJudged (dealt_to workers) filter.times policy (packets_at 0 s.packets) verdicts =
     judged_alike _ (packets_at 0 s.packets) verdicts _ _ _ _ c.in-Ok-ready_with.ensures.times (ap policy_facts c.in-Ok-ready_with.ensures.policy)
     (said_by _ _ _ _ (packets_at 0 s.packets) verdicts (s.judged.1.setup ∙ c.in-Ok-new.ensures.by) s.judged.1.rest c.in-Ok-end.ensures) in
+    let counted : length verdicts ≡ length (packets_at 0 s.packets) = judged_count _ filter.times policy (packets_at 0 s.packets) verdicts judged in
+    let len : c.len.result ≡ length (packets_at 0 s.packets) = let long = c.len.ensures in omega arith in
+    let pushed : c.push.new.self.items ≡ c.new-captures.result.items ++ record { named = None; packets = c.len.result; truncated = c.in_ok-judges.field-0.truncated } ∷ [] =
+    c.in_ok-push.ensures.items in
+    let told : c.push.new.self.items ≡ told_of None (packets_at 0 s.packets) c.in_ok-judges.field-0.truncated ∷ [] =
+    pushed ∙ ap (λ (told : List Captured). told ++ record { named = None; packets = c.len.result; truncated = c.in_ok-judges.field-0.truncated } ∷ []) c.new-captures.ensures.items
+    ∙ ap (λ n. record { named = None; packets = n; truncated = c.in_ok-judges.field-0.truncated } ∷ []) len in
     record {
       read = s.read;
       whole = s.whole;
       packets = s.packets;
       rest = s.rest;
       records = s.records;
+      truncated = c.in_ok-judges.field-0.truncated;
       end = s.end;
       reached = record {
         by_workers =
@@ -43,6 +52,6 @@ returns-clause-ok g c =
         by_one_thread =
             subst (λ times. HavePages verdicts → ByOneThread times policy (packets_at 0 s.packets) verdicts) c.requires.may.times
             (one_report _ _ _ _ _ judged (inl refl));
-        ends = refl;
+        told = told;
       };
     }

@@ -1,0 +1,313 @@
+-- Captures with numbers that are taken one after the other.
+use Rattle.std.proofs.Common.{◌≡◌, ◌∙◌, ◌+◌, ◌-◌, ◌≤◌, ◌<◌, ◌⊎◌, ◌==◌, ◌||◌, ℕ, Bool, true, false, List, [], ◌∷◌, ◌++◌, Option, Some, None, Result, Ok, Err, IfErr, IfOk, drop, take, length, append-nil, append_assoc, arith, refl, sym, ap, ap₂, subst, inl, inr}
+use Rattle.std.specs.List.{list_any}
+use Rattle.std.proofs.lemmas.Bool.{cases_eq, eq-eqb, ne_eqb}
+use Rattle.std.proofs.lemmas.List.{length-append, length-drop, length-map, take_all}
+use Rattle.packet_view.specs.Captures.{IsCapture, IsCaptureAt, PacketFacts, RecordFacts, end_of, packet_at, packets_at}
+use Rattle.packet_view.specs.CheckedCaptures.{packets_of, records_of}
+use Rattle.packet_view.specs.declared.records.Records.{Records}
+use Rattle.packet_view.proofs.RecordListLemmas.{records_within}
+use Rattle.acl_policy.specs.Policies.{IsAmong, PolicyFacts, policy_facts}
+use Rattle.bihash_words.specs.declared.shape.Shape.{Ghosts}
+use Rattle.flow_filter.specs.declared.verdict.Verdict.{Verdict}
+use Rattle.flow_workers.specs.declared.setup.Setup.{Setup}
+use Rattle.flow_workers.specs.declared.workers.Workers.{Workers}
+use Rattle.flow_workers.specs.Progress.{AreAtRest, HaveAllSaid}
+use Rattle.racl_words.specs.declared.settings.Options.{Options}
+use Rattle.racl_io.specs.declared.fault.Fault.{Fault}
+use Rattle.racl_io.specs.declared.fault.Fault.TheVariants.{Memory, Twice}
+use Rattle.racl_io.specs.declared.input.Form.{Form}
+use Rattle.racl_io.specs.declared.input.Form.TheVariants.{Hexadecimal, Numbered}
+use Rattle.racl_io.specs.declared.input.Numbered as mark
+use Rattle.racl_io.specs.declared.report.Captured.{Captured}
+use Rattle.racl_io.specs.Faults.{IsFaultOfBytes, IsFaultOfContent, IsFaultOfOne, IsRight}
+use Rattle.racl_io.specs.Inputs.{AreCaptures, DigitsFacts, IsContent, IsCut, IsMarked, NumberedFacts, most_bytes, numbered_facts}
+use Rattle.racl_io.specs.Reports.{packets_in}
+use Rattle.racl_io.proofs.PartingLemmas.{some_captures}
+use Rattle.racl_cli.specs.declared.captures.Walk.{Walk}
+use Rattle.racl_cli.specs.declared.opening.Marked.{Marked}
+use Rattle.racl_cli.specs.Reads.{AnswersInput, HasMarked, IsReached}
+use Rattle.racl_cli.specs.Runs.{HasPackets, IsTaken, Outcome, told_of}
+use Rattle.racl_cli.specs.inner.Captures.{AreTakenFrom, CanTake, HasTaken, IsFaultFrom, MayTake, SaidOf, facts_of, left_at}
+use Rattle.racl_cli.proofs.CaptureLaws.{no_fault_from, one_fault_from, one_from}
+use Rattle.racl_cli.proofs.OpenedLemmas.{content_short}
+use Rattle.racl_cli.proofs.OutcomeLemmas.{memory_answers}
+use Rattle.racl_cli.proofs.RunLemmas.{fault_of_known_parts, fault_of_right_policy, read_in}
+
+-- ---- which interfaces were seen
+
+or_false : (b c : Bool) → (b || c) ≡ false → c ≡ false
+or_false true c none = absurd (let f : ⊥ = cc in f)
+or_false false c none = none
+
+pub among : (number : ℕ) (seen : List ℕ) → list_any (λ other. other == number) seen ≡ true → IsAmong number seen
+among number [] any = absurd (let f : ⊥ = cc in f)
+among number (other ∷ seen) any =
+    elim (cases_eq other number) [
+      | inl same ↦ inl (sym same)
+      | inr unlike ↦
+          inr (among number seen (subst (λ b. (b || list_any (λ o. o == number) seen) ≡ true) (ne_eqb other number unlike) any))
+    ]
+
+pub not_among : (number : ℕ) (seen : List ℕ) → list_any (λ other. other == number) seen ≡ false → IsAmong number seen → ⊥
+not_among number [] none is = is
+not_among number (other ∷ seen) none (inl same) =
+    let found = eq-eqb other number (sym same) in
+    let f : ⊥ = cc in f
+not_among number (other ∷ seen) none (inr is) = not_among number seen (or_false (other == number) _ none) is
+
+-- ---- what a capture's digits and those behind them come to
+
+abbrev from_here : ℕ → List ℕ → Option NumberedFacts
+from_here number content = Some (record { interface = number; content = content })
+
+abbrev digits_at : ℕ → List ℕ → DigitsFacts
+digits_at number digits = record { interface = number; digits = digits }
+
+-- the capture and those behind it
+pub taken_from : (seen : List ℕ) (number : ℕ) (content digits : List ℕ) (next : Option NumberedFacts) (packets : List PacketFacts) (captured : Captured)
+    → IsCut content digits next → IsTaken seen (digits_at number digits) packets captured → (more : List PacketFacts) (others : List Captured)
+    → AreTakenFrom (number ∷ seen) next more others → AreTakenFrom seen (from_here number content) (packets ++ more) (captured ∷ others)
+taken_from seen number content digits None packets captured cut is more others (none, nothing) =
+    (digits_at number digits ∷ [], (refl, None, cut, refl), (packets, more, captured, others, refl, refl, is, (none, nothing)))
+taken_from seen number content digits (Some behind) packets captured cut is more others (all, cuts, taken) =
+    (digits_at number digits ∷ all, (refl, Some behind, cut, cuts), (packets, more, captured, others, refl, refl, is, taken))
+
+pub fault_behind : (seen : List ℕ) (number : ℕ) (content digits : List ℕ) (next : Option NumberedFacts) (packets : List PacketFacts)
+    (captured : Captured) → IsCut content digits next → IsTaken seen (digits_at number digits) packets captured → (fault : Fault)
+    → IsFaultFrom (number ∷ seen) next fault → IsFaultFrom seen (from_here number content) fault
+fault_behind seen number content digits None packets captured cut is fault of = absurd of
+fault_behind seen number content digits (Some behind) packets captured cut is fault (all, cuts, of) =
+    let right : IsRight digits = (is.capture, is.records.0, end_of is.truncated, is.spelt, is.records.1) in
+    (digits_at number digits ∷ all, (refl, Some behind, cut, cuts), inr (is.first, inr (right, of)))
+
+others_behind : (number : ℕ) (content digits : List ℕ) (next : Option NumberedFacts) → IsCut content digits next
+    → (others : List DigitsFacts) × AreCaptures number content (digits_at number digits ∷ others)
+others_behind number content digits None cut = ([], (refl, None, cut, refl))
+others_behind number content digits (Some behind) cut =
+    let all = some_captures behind.interface behind.content in (all.0, (refl, Some behind, cut, all.1))
+
+pub own_fault : (seen : List ℕ) (number : ℕ) (content digits : List ℕ) (next : Option NumberedFacts) → IsCut content digits next
+    → (IsAmong number seen → ⊥) → (fault : Fault) → IsFaultOfOne Hexadecimal digits fault → IsFaultFrom seen (from_here number content) fault
+own_fault seen number content digits next cut first fault of =
+    let behind = others_behind number content digits next cut in
+    (digits_at number digits ∷ behind.0, behind.1, inr (first, inl of))
+
+pub second_of_one : (seen : List ℕ) (number : ℕ) (content : List ℕ) → IsAmong number seen → IsFaultFrom seen (from_here number content) (Twice number)
+second_of_one seen number content is = go (some_captures number content).0 (some_captures number content).1
+  where
+    go : (all : List DigitsFacts) → AreCaptures number content all → IsFaultFrom seen (from_here number content) (Twice number)
+    go [] cuts = absurd cuts
+    go (first ∷ others) cuts = (first ∷ others, cuts, inl (subst (λ n. IsAmong n seen) (sym cuts.0) is, ap Twice (sym cuts.0)))
+
+-- ---- sizes
+
+marked_long : (form : Form) (content marked : List ℕ) → IsMarked form content marked → length content ≤ length marked
+marked_long form content marked (inl (line, marker, same)) =
+    let whole = ap length same in let sizes = length-append line (10 ∷ content) in omega arith
+marked_long form content marked (inr (word, none)) = let empty = ap length none in omega arith
+
+cut_short : (content digits : List ℕ) (next : Option NumberedFacts) → IsCut content digits next → 1 ≤ length digits
+    → length digits + left_at next ≤ length content + 1
+cut_short content digits None cut some = let same = ap length cut.0 in omega arith
+cut_short content digits (Some behind) cut some =
+    let whole = ap length cut.parted in
+    let sizes = length-append digits cut.marked in
+    let long = marked_long (Numbered behind.interface) behind.content cut.marked cut.content in
+    omega arith
+
+-- a capture has fewer packets than digits
+pub few_taken : (number : ℕ) (content digits capture : List ℕ) (next : Option NumberedFacts) (packets : List PacketFacts) (truncated : Bool)
+    → IsCut content digits next → IsContent Hexadecimal digits capture → IsCaptureAt number capture packets (end_of truncated)
+    → length packets + left_at next ≤ length content
+few_taken number content digits capture next packets truncated cut spelt (records, is, same) =
+    let listed = ap length same in
+    let mapped = length-map records (packet_at number) in
+    let within = records_within is.0 (drop 24 capture) records is.1 is.3 in
+    let header = is.2.whole in
+    let behind = length-drop 24 capture in
+    let short = content_short Hexadecimal digits capture spelt in
+    let long = cut_short content digits next cut (omega (arith, header, short)) in
+    omega arith
+
+-- the records of a capture that was checked
+pub records_taken : (seen : List ℕ) (number : ℕ) (digits capture : List ℕ) (records : Records) (truncated : Bool) → (IsAmong number seen → ⊥)
+    → IsContent Hexadecimal digits capture → IsCapture capture (records_of records) (end_of truncated) → records.interface ≡ number
+    → IsTaken seen (digits_at number digits) (packets_of records) (told_of (Some number) (packets_of records) truncated)
+records_taken seen number digits capture records truncated first spelt is at = record {
+  first = first;
+  capture = capture;
+  spelt = spelt;
+  truncated = truncated;
+  records = (records_of records, is, ap (λ n. packets_at n (records_of records)) at);
+  told = refl;
+}
+
+pub all_behind : (bytes : List ℕ) (from : ℕ) → take (length bytes - from) (drop from bytes) ≡ drop from bytes
+all_behind bytes from = ap (λ n. take n (drop from bytes)) (sym (length-drop from bytes)) ∙ take_all (length (drop from bytes)) (drop from bytes) (omega arith)
+
+-- ---- a walk over all captures
+
+-- amid the captures that a walk began with
+pub record IsAmid {T : Type 0} (begun walk : Walk T) : Type 0 where
+  pub by : walk.workers.setup ≡ begun.workers.setup
+  pub packets : List PacketFacts
+  pub rest : AreAtRest packets walk.workers
+  pub taken : (more : List PacketFacts) (others : List Captured) → AreTakenFrom walk.seen.items (numbered_facts walk.next) more others
+      → AreTakenFrom [] (numbered_facts begun.next) (packets ++ more) (walk.captures.items ++ others)
+  pub fault : (fault : Fault) → IsFaultFrom walk.seen.items (numbered_facts walk.next) fault → IsFaultFrom [] (numbered_facts begun.next) fault
+  pub counted : packets_in walk.captures.items ≡ length packets
+  pub few : length packets + left_at (numbered_facts walk.next) ≤ most_bytes + 1
+
+pub amid_begun : {T : Type 0} (begun : Walk T) → MayTake begun → IsAmid begun begun
+amid_begun begun may = record {
+  by = refl;
+  packets = [];
+  rest = may.rest;
+  taken = λ more others taken.
+      subst (λ told. AreTakenFrom [] (numbered_facts begun.next) more (told ++ others)) (sym may.captures)
+      (subst (λ seen. AreTakenFrom seen (numbered_facts begun.next) more others) may.seen taken);
+  fault = λ fault of. subst (λ seen. IsFaultFrom seen (numbered_facts begun.next) fault) may.seen of;
+  counted = ap packets_in may.captures;
+  few = let few = may.few in omega arith;
+}
+
+pub can_take : {T : Type 0} (begun walk : Walk T) (capture : mark.Numbered) → IsAmid begun walk → walk.next ≡ Some capture → CanTake walk capture
+can_take begun walk capture amid there =
+    let left = ap (λ next. left_at (numbered_facts next)) there in
+    record { packets = amid.packets; rest = amid.rest; few = let few = amid.few in omega arith }
+
+counted_append : (captures : List Captured) (captured : Captured) → packets_in (captures ++ captured ∷ []) ≡ packets_in captures + captured.packets
+counted_append [] captured = omega arith
+counted_append (first ∷ captures) captured = let more = counted_append captures captured in omega arith
+
+pub amid_next : {T : Type 0} (begun walk : Walk T) (capture : mark.Numbered) (new : Walk T) → IsAmid begun walk → walk.next ≡ Some capture
+    → HasTaken walk capture new → IsAmid begun new
+amid_next begun walk capture new amid there has = record {
+  by = has.by ∙ amid.by;
+  packets = amid.packets ++ has.packets;
+  rest = has.rest amid.packets amid.rest;
+  taken = λ more others taken.
+      let here =
+      taken_from walk.seen.items capture.interface capture.content.now has.digits (numbered_facts new.next) has.packets has.captured has.cut has.taken
+      more others (subst (λ seen. AreTakenFrom seen (numbered_facts new.next) more others) has.seen taken) in
+      let all =
+      amid.taken (has.packets ++ more) (has.captured ∷ others)
+      (subst (λ next. AreTakenFrom walk.seen.items (numbered_facts next) (has.packets ++ more) (has.captured ∷ others)) (sym there) here) in
+      subst (λ told. AreTakenFrom [] (numbered_facts begun.next) ((amid.packets ++ has.packets) ++ more) told)
+      (sym (ap (λ told. told ++ others) has.captures ∙ append_assoc walk.captures.items (has.captured ∷ []) others))
+      (subst (λ ps. AreTakenFrom [] (numbered_facts begun.next) ps (walk.captures.items ++ has.captured ∷ others))
+      (sym (append_assoc amid.packets has.packets more)) all);
+  fault = λ fault of.
+      let here =
+      fault_behind walk.seen.items capture.interface capture.content.now has.digits (numbered_facts new.next) has.packets has.captured has.cut has.taken
+      fault (subst (λ seen. IsFaultFrom seen (numbered_facts new.next) fault) has.seen of) in
+      amid.fault fault (subst (λ next. IsFaultFrom walk.seen.items (numbered_facts next) fault) (sym there) here);
+  counted =
+      ap packets_in has.captures ∙ counted_append walk.captures.items has.captured
+      ∙ ap₂ (λ (a b : ℕ). a + b) amid.counted (ap (λ (c : Captured). c.packets) has.taken.told)
+      ∙ sym (length-append amid.packets has.packets);
+  few =
+      let left = ap (λ next. left_at (numbered_facts next)) there in
+      let before = amid.few in
+      let now = has.few in
+      let sizes = length-append amid.packets has.packets in
+      omega arith;
+}
+
+-- after the last capture all are taken
+pub all_taken : {T : Type 0} (begun walk : Walk T) (amid : IsAmid begun walk) → walk.next ≡ None
+    → AreTakenFrom [] (numbered_facts begun.next) amid.packets walk.captures.items
+all_taken begun walk amid none =
+    let all = amid.taken [] [] (subst (λ next. AreTakenFrom walk.seen.items (numbered_facts next) [] []) (sym none) (refl, refl)) in
+    subst (λ told. AreTakenFrom [] (numbered_facts begun.next) amid.packets told) (append-nil walk.captures.items)
+    (subst (λ ps. AreTakenFrom [] (numbered_facts begun.next) ps (walk.captures.items ++ [])) (append-nil amid.packets) all)
+
+-- a fault of the captures that are left is one of all
+pub fault_amid : {T : Type 0} (begun walk : Walk T) (capture : mark.Numbered) (fault : Fault) → IsAmid begun walk → walk.next ≡ Some capture
+    → (fault ≡ Memory) ⊎ IsFaultFrom walk.seen.items (Some (facts_of capture)) fault → (fault ≡ Memory) ⊎ IsFaultFrom [] (numbered_facts begun.next) fault
+fault_amid begun walk capture fault amid there (inl memory) = inl memory
+fault_amid begun walk capture fault amid there (inr of) =
+    inr (amid.fault fault (subst (λ next. IsFaultFrom walk.seen.items (numbered_facts next) fault) (sym there) of))
+
+-- what workers said is said of their setup
+pub said_of : {A B R G K L : Type 0} {ga : Ghosts A K} {gb : Ghosts B L} (all : Workers A B R G K L ga gb) (setup : Setup A B R G K L)
+    (packets : List PacketFacts) (verdicts : List Verdict) → all.setup ≡ setup → SaidOf all packets verdicts → HaveAllSaid ga gb setup packets verdicts
+said_of {ga = ga} {gb = gb} all setup packets verdicts same said = subst (λ s. HaveAllSaid ga gb s packets verdicts) same said
+
+-- ---- what is answered
+
+-- the first capture of an input that has several
+abbrev pub first_of : List ℕ → Marked → Option NumberedFacts
+first_of bytes marked = from_here marked.number (drop marked.from bytes)
+
+module _ (options : Options) (bytes : List ℕ) (marked : Marked) (has : HasMarked options bytes marked) where
+  has_packets : (packets : List PacketFacts) (captures : List Captured) → AreTakenFrom [] (first_of bytes marked) packets captures
+      → HasPackets has.parts.form has.parts.content packets captures
+  has_packets packets captures taken =
+      subst (λ form. HasPackets form has.parts.content packets captures) (sym has.form)
+      (subst (λ content. HasPackets (Numbered marked.number) content packets captures) has.content taken)
+
+  packets_there : (packets : List PacketFacts) (captures : List Captured) → HasPackets has.parts.form has.parts.content packets captures
+      → AreTakenFrom [] (first_of bytes marked) packets captures
+  packets_there packets captures is =
+      subst (λ content. HasPackets (Numbered marked.number) content packets captures) (sym has.content)
+      (subst (λ form. HasPackets form has.parts.content packets captures) has.form is)
+
+  has_fault : (fault : Fault) → IsFaultFrom [] (first_of bytes marked) fault
+      → IsFaultOfContent has.parts.form has.parts.content fault
+  has_fault fault of =
+      subst (λ form. IsFaultOfContent form has.parts.content fault) (sym has.form)
+      (subst (λ content. IsFaultOfContent (Numbered marked.number) content fault) has.content of)
+
+  fault_there : (fault : Fault) → IsFaultOfBytes bytes fault → IsFaultFrom [] (first_of bytes marked) fault
+  fault_there fault of =
+      let content = fault_of_right_policy has.parts fault has.policy.right (fault_of_known_parts bytes has.parts fault has.parted of) in
+      subst (λ c. IsFaultOfContent (Numbered marked.number) c fault) (sym has.content)
+      (subst (λ form. IsFaultOfContent form has.parts.content fault) has.form content)
+
+  taken_answers : (packets : List PacketFacts) (outcome : Outcome) → length bytes ≤ most_bytes
+      → AreTakenFrom [] (first_of bytes marked) packets outcome.captures
+      → IsReached options (policy_facts marked.filter.policy) packets outcome.captures outcome → AnswersInput options bytes (Ok outcome)
+  taken_answers packets outcome few taken reached = record {
+    ok = record {
+      policy = policy_facts marked.filter.policy;
+      packets = packets;
+      read = record { few = few; parts = has.parts; parted = has.parted; says = has.policy.says; content = has_packets packets outcome.captures taken };
+      reached = reached;
+    };
+    accepts = λ other others captures read.
+        let is = read_in bytes has.parts other others captures has.parted read in
+        let same =
+        one_from [] (first_of bytes marked) packets others outcome.captures captures taken
+        (packets_there others captures is.content) in
+        subst (λ p. IsReached options p others captures outcome) (has.policy.one other is.says)
+        (subst (λ ps. IsReached options (policy_facts marked.filter.policy) ps captures outcome) same.0
+        (record { by_workers = reached.by_workers; by_one_thread = reached.by_one_thread; told = same.1 }));
+    fault = tt;
+    refuses = λ fault of.
+        no_fault_from [] (first_of bytes marked) packets outcome.captures fault taken (fault_there fault of);
+  }
+
+  fault_answers : (fault : Fault) → (fault ≡ Memory) ⊎ IsFaultFrom [] (first_of bytes marked) fault
+      → AnswersInput options bytes (Err fault)
+  fault_answers fault (inl memory) =
+      subst (λ (e : Fault). AnswersInput options bytes (Err e)) (sym memory)
+      (memory_answers options bytes has.parts (policy_facts marked.filter.policy) has.parted has.policy)
+  fault_answers fault (inr of) = record {
+    ok = tt;
+    accepts = λ other others captures read.
+        let is = read_in bytes has.parts other others captures has.parted read in
+        absurd (no_fault_from [] (first_of bytes marked) others captures fault (packets_there others captures is.content) of);
+    fault = λ differs. inr (has.parts, has.parted, inr (policy_facts marked.filter.policy, has.policy.says, has_fault fault of));
+    refuses = λ other is. inl (one_fault_from [] (first_of bytes marked) fault other of (fault_there other is));
+  }
+
+  pub answered : (result : Result Outcome Fault)
+      → IfOk result (λ outcome. (packets : List PacketFacts)
+      × AreTakenFrom [] (first_of bytes marked) packets outcome.captures
+      × IsReached options (policy_facts marked.filter.policy) packets outcome.captures outcome)
+      → IfErr result (λ fault. (fault ≡ Memory) ⊎ IsFaultFrom [] (first_of bytes marked) fault)
+      → length bytes ≤ most_bytes → AnswersInput options bytes result
+  answered (Ok outcome) ok fault few = taken_answers ok.0 outcome few ok.1 ok.2
+  answered (Err found) ok fault few = fault_answers found fault
