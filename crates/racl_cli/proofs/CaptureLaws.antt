@@ -1,5 +1,5 @@
 -- What stands after a marker line is one list of packets or has one fault.
-use Rattle.std.proofs.Common.{◌≡◌, ◌∙◌, ◌⊎◌, ℕ, Bool, true, false, List, [], ◌∷◌, ◌++◌, Option, Some, None, Result, Ok, Err, length, refl, sym, ap, ap₂, subst, inl, inr}
+use Rattle.std.proofs.Common.{◌≡◌, ◌∙◌, ◌⊎◌, ℕ, Bool, true, false, List, [], ◌∷◌, ◌++◌, Option, Some, None, Result, Ok, Err, refl, sym, ap, ap₂, subst, inl, inr}
 use Rattle.hex.specs.Hex.{decode_of}
 use Rattle.hex.proofs.HexLemmas.{decode_of-ok}
 use Rattle.packet_view.specs.Bytes.{AreBytes}
@@ -12,7 +12,7 @@ use Rattle.racl_io.specs.declared.input.Form.{Form}
 use Rattle.racl_io.specs.declared.input.Form.TheVariants.{Binary, Hexadecimal, Numbered}
 use Rattle.racl_io.specs.declared.report.Captured.{Captured}
 use Rattle.racl_io.specs.Faults.{IsFaultOfCapture, IsFaultOfCaptures, IsFaultOfContent, IsFaultOfOne, IsRight, capture_fault}
-use Rattle.racl_io.specs.Inputs.{AreCaptures, DigitsFacts, IsContent, NumberedFacts, digits_of}
+use Rattle.racl_io.specs.Inputs.{DigitsFacts, IsContent, NumberedFacts, digits_of}
 use Rattle.racl_io.proofs.FaultLemmas.{AreRight, bytes_of_digits, captures_or_fault, no_captures_fault, one_captures_fault}
 use Rattle.racl_io.proofs.InputLemmas.{one_captures}
 use Rattle.racl_io.proofs.PartingLemmas.{some_captures}
@@ -94,8 +94,11 @@ alone_or_fault form content capture spelt =
     elim (some_reading capture) [
       | inl is ↦
           let has = records_at_end 0 capture is.0 is.1 is.2 in
-          inl (has.packets, told_of None has.packets has.truncated ∷ [],
-          record { capture = capture; spelt = spelt; truncated = has.truncated; records = has.records; told = refl })
+          inl (
+            has.packets,
+            told_of None has.packets has.truncated ∷ [],
+            record { capture = capture; spelt = spelt; truncated = has.truncated; records = has.records; told = refl },
+          )
       | inr found ↦ inr (capture_fault found.0, inr (capture, spelt, (found.0, found.1, refl)))
     ]
 

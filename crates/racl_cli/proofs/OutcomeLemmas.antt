@@ -111,8 +111,15 @@ module _ (options : Options) (bytes : List ℕ) (parts : InputFacts) (policy : P
           let at = alone_in_capture parts.form parts.content capture packets captures plain spelt (read_in bytes parts policy packets captures parted read).content in
           absurd (none at.records.0 (end_of at.truncated) at.records.1);
       fault = λ differs.
-          inr (parts, parted, inr (policy, said.says,
-          fault_plain parts.form parts.content (capture_fault found) plain (inr (capture, spelt, (found, is, refl)))));
+          inr (
+            parts,
+            parted,
+            inr (
+              policy,
+              said.says,
+              fault_plain parts.form parts.content (capture_fault found) plain (inr (capture, spelt, (found, is, refl))),
+            ),
+          );
       refuses = λ fault of.
           let cause = fault_of_known parts.form parts.content capture fault spelt (plain_fault parts.form parts.content fault plain (known_fault fault of)) in
           inl (ap capture_fault (one cause.0 cause.1) ∙ sym cause.2);

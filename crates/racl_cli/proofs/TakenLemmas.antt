@@ -1,13 +1,13 @@
 -- Captures with numbers that are taken one after the other.
-use Rattle.std.proofs.Common.{◌≡◌, ◌∙◌, ◌+◌, ◌-◌, ◌≤◌, ◌<◌, ◌⊎◌, ◌==◌, ◌||◌, ℕ, Bool, true, false, List, [], ◌∷◌, ◌++◌, Option, Some, None, Result, Ok, Err, IfErr, IfOk, drop, take, length, append-nil, append_assoc, arith, refl, sym, ap, ap₂, subst, inl, inr}
+use Rattle.std.proofs.Common.{◌≡◌, ◌∙◌, ◌+◌, ◌-◌, ◌≤◌, ◌⊎◌, ◌==◌, ◌||◌, ℕ, Bool, true, false, List, [], ◌∷◌, ◌++◌, Option, Some, None, Result, Ok, Err, IfErr, IfOk, drop, take, length, append-nil, append_assoc, arith, refl, sym, ap, ap₂, subst, inl, inr}
 use Rattle.std.specs.List.{list_any}
 use Rattle.std.proofs.lemmas.Bool.{cases_eq, eq-eqb, ne_eqb}
 use Rattle.std.proofs.lemmas.List.{length-append, length-drop, length-map, take_all}
-use Rattle.packet_view.specs.Captures.{IsCapture, IsCaptureAt, PacketFacts, RecordFacts, end_of, packet_at, packets_at}
+use Rattle.packet_view.specs.Captures.{IsCapture, IsCaptureAt, PacketFacts, end_of, packet_at, packets_at}
 use Rattle.packet_view.specs.CheckedCaptures.{packets_of, records_of}
 use Rattle.packet_view.specs.declared.records.Records.{Records}
 use Rattle.packet_view.proofs.RecordListLemmas.{records_within}
-use Rattle.acl_policy.specs.Policies.{IsAmong, PolicyFacts, policy_facts}
+use Rattle.acl_policy.specs.Policies.{IsAmong, policy_facts}
 use Rattle.bihash_words.specs.declared.shape.Shape.{Ghosts}
 use Rattle.flow_filter.specs.declared.verdict.Verdict.{Verdict}
 use Rattle.flow_workers.specs.declared.setup.Setup.{Setup}

@@ -118,7 +118,9 @@ fn judge_each<'t, 'f, 'b, T: Threads + Wait + Sync>(
         walk = judge_next(alloc, walk, capture)?;
     }
     let Walk {
-        workers, captures, ..
+        workers,
+        captures,
+        ..
     } = walk;
     let Ok(verdicts) = workers.end(alloc) else {
         return Err(Fault::Memory);

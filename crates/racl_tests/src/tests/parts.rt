@@ -1,6 +1,6 @@
 //! The parts of an input, and the bytes that its digits stand for.
 
-use racl_io::{Fault, Form, decoded, parts};
+use racl_io::{Fault, Form, cut_digits, decoded, parts};
 use std::test::Fail;
 
 #[test]
@@ -9,6 +9,25 @@ fn an_input_has_three_parts(rt: HostRuntime) {
     assert_eq!(rt; input.policy, b"# one\n".as_slice());
     assert_eq!(rt; input.form, Form::Hexadecimal);
     assert_eq!(rt; input.content, b"d4 c3\n".as_slice());
+}
+
+/// Captures with numbers of one to three digits, at most 255, one after the other.
+#[test]
+fn captures_have_numbers(rt: HostRuntime) {
+    let text = b"hex 300\nhex 007\r\nd4\nhex\nhex 255\nc3 hex 1\nhex 256\n";
+    let input = parts(text).expect(&rt, "a marker line");
+    assert_eq!(rt; input.policy, b"hex 300\n".as_slice());
+    assert_eq!(rt; input.form, Form::Numbered(7));
+    let first = cut_digits(input.content);
+    assert_eq!(rt; first.digits, b"d4\nhex\n".as_slice());
+    let next = first.next.expect(&rt, "a second capture");
+    assert_eq!(rt; next.interface, 255);
+    let second = cut_digits(next.content);
+    assert_eq!(rt; second.digits, b"c3 hex 1\nhex 256\n".as_slice());
+    assert!(rt; second.next.is_none());
+    let ended = parts(b"mac\nhex 0").expect(&rt, "a marker word at the end");
+    assert_eq!(rt; ended.form, Form::Numbered(0));
+    assert!(rt; parts(b"hex  1\nhex 1x\nhex \nhex 0001\nhex 1\r").is_none());
 }
 
 #[test]

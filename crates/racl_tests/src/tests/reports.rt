@@ -2,7 +2,7 @@
 ghost use Rattle.std.specs.Prelude.{None};
 
 use flow_filter::Verdict;
-use racl_io::{Device, DeviceFault, Fault, Sink, write_report};
+use racl_io::{Captured, Device, DeviceFault, Fault, Sink, write_report};
 use std::test::Fail;
 
 #[test]
@@ -36,9 +36,44 @@ truncated after 11
 packets 11 pass 4 drop 7
 ";
     let mut writer = Device::new(Vec::new(rt.alloc()));
-    let totals = write_report(Some(&rt), rt.alloc(), &mut writer, &verdicts, true)?;
+    let captures = [Captured {
+        named: None,
+        packets: 11,
+        truncated: true,
+    }];
+    let totals = write_report(Some(&rt), rt.alloc(), &mut writer, &verdicts, &captures)?;
     assert_eq!(rt; writer.inner.as_slice(), lines.as_bytes());
     assert_eq!(rt; (totals.packets, totals.passed, totals.dropped), (11, 4, 7));
+    assert!(rt; totals.truncated);
+    Ok(())
+}
+
+/// Captures of two interfaces, of which the first ends within a record.
+#[test]
+fn a_part_for_each_capture(rt: HostRuntime) -> Result<(), Fail> {
+    let verdicts = [Verdict::Reflect(1), Verdict::ByDefault, Verdict::Session];
+    let captures = [
+        Captured {
+            named: Some(0),
+            packets: 1,
+            truncated: true,
+        },
+        Captured {
+            named: Some(255),
+            packets: 2,
+            truncated: false,
+        },
+    ];
+    let lines = "\
+1 if 0 pass rule 1 reflect
+if 0 truncated after 1
+2 if 255 drop default
+3 if 255 pass session
+packets 3 pass 2 drop 1
+";
+    let mut writer = Device::new(Vec::new(rt.alloc()));
+    let totals = write_report(Some(&rt), rt.alloc(), &mut writer, &verdicts, &captures)?;
+    assert_eq!(rt; writer.inner.as_slice(), lines.as_bytes());
     assert!(rt; totals.truncated);
     Ok(())
 }
@@ -82,13 +117,18 @@ fn pieces(rt: HostRuntime) -> Result<(), Fail> {
     // 9 numbers of one digit, 90 of two, 900 of three and 7001 of four, and 16 bytes after each.
     let lines = 9 + 180 + 2700 + 28_004 + 8000 * 16;
     let end = "packets 8000 pass 0 drop 8000\n".len();
+    let captures = [Captured {
+        named: None,
+        packets: 8000,
+        truncated: false,
+    }];
     for writes in 0..5usize {
         let mut writer = Counted {
             writes,
             taken: 0,
             failures: 0,
         };
-        let outcome = write_report(Some(&rt), alloc, &mut writer, &verdicts, false);
+        let outcome = write_report(Some(&rt), alloc, &mut writer, &verdicts, &captures);
         let told = match outcome {
             Ok(totals) => Ok((totals.packets, totals.dropped)),
             Err(fault) => Err(fault),

@@ -1,7 +1,7 @@
-use Rattle.std.proofs.Common.{◌∙◌, length, sym}
+use Rattle.std.proofs.Common.{◌∙◌, sym}
 use Rattle.flow_workers.proofs.RestLemmas.{said_by}
 use Rattle.racl_cli.proofs.OutcomeLemmas.{judged_count}
-use Rattle.racl_cli.proofs.TakenLemmas.{all_taken, amid_begun, amid_next, can_take, fault_amid}
+use Rattle.racl_cli.proofs.TakenLemmas.{all_taken, amid_next}
 use Rattle.racl_cli.proofs.captures.judge_each.Goals as goal
 
 pub captures-preserved : goal.captures-preserved

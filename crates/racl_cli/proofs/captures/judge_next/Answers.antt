@@ -4,7 +4,6 @@ use Rattle.std.specs.List.{list_any}
 use Rattle.std.proofs.lemmas.Result.{err_from_is_err_and}
 use Rattle.packet_view.specs.Captures.{packets_at}
 use Rattle.packet_view.specs.CheckedCaptures.{packets_of, records_of}
-use Rattle.racl_io.specs.declared.report.Captured.{Captured}
 use Rattle.racl_io.specs.Faults.{capture_fault}
 use Rattle.racl_io.specs.declared.input.Form.TheVariants.{Hexadecimal}
 use Rattle.racl_io.specs.Inputs.{IsContent, numbered_facts}

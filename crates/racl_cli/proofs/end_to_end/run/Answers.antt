@@ -44,6 +44,7 @@ returns-clause-refuses g c =
 pub returns-in_err-judged-clause-write : goal.returns-in_err-judged-clause-write
 returns-in_err-judged-clause-write g c =
     let p = err_from_is_err_and c.from_residual.result c.from_residual.ensures.1 in
-    rw (p.1, p.2)
-    ((λ same. absurd (unwritten c.args.options.now _ c.in_err-judged.field-0.0 c.in_err-judged.ensures.answers (let e = same in cc))),
-    (λ failed. absurd (omega (arith, failed))))
+    rw (p.1, p.2) (
+      (λ same. absurd (unwritten c.args.options.now _ c.in_err-judged.field-0.0 c.in_err-judged.ensures.answers (let e = same in cc))),
+      (λ failed. absurd (omega (arith, failed))),
+    )
