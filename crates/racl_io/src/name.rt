@@ -1,5 +1,5 @@
 //! How the lines of a capture name the interface where it was taken.
-ghost use Rattle.std.specs.Prelude.{◌≡◌, ℕ, ◌+◌, ◌≤◌, ◌++◌, true, Option, None, codes, decimal, length, take};
+ghost use Rattle.std.specs.Prelude.{◌≡◌, ◌↔◌, ℕ, ◌+◌, ◌≤◌, ◌++◌, true, Option, None, codes, decimal, length, take};
 ghost use Rattle.racl_io.specs.inner.Names.{name_behind};
 
 use crate::piece::Piece;
@@ -60,7 +60,7 @@ impl Name {
 
     /// Whether lines name no interface.
     pub fn is_absent(&self) -> bool
-        ensures { result ≡ true → self.now ≡ None }
+        ensures { (result ≡ true) ↔ (self.now ≡ None) }
     {
         self.named.is_none()
     }
