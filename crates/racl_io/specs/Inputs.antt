@@ -1,4 +1,5 @@
--- The input: a policy text, a line that says how the capture is written, and the capture (this project's profile).
+-- The input: a policy text, a line that says how the capture is written, and the capture; or several captures, each after a
+-- line with the number of its interface (this project's profile).
 use Rattle.std.specs.Prelude.{◌≡◌, ◌≢◌, ◌⊎◌, ℕ, Bool, ◌||◌, ◌==◌, not, List, [], ◌∷◌, ◌++◌, codes, filter, Option, None, Some, MatchOption, option_map, Ok}
 use Rattle.std.specs.List.{AllByRecursion}
 use Rattle.hex.specs.Hex.{decode_of}

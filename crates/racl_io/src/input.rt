@@ -1,4 +1,5 @@
-//! The parts of the input: a policy text, a marker line, and the capture as bytes or as digits.
+//! The parts of the input: a policy text, a marker line, and the capture as bytes or as digits; or the captures of several
+//! interfaces as digits, each after a marker line with its interface's number.
 ghost use Rattle.std.specs.Prelude.{◌≡◌, ◌≢◌, ◌<◌, ◌++◌, ℕ, List, IfSome, IfNone, codes, length, slice_index};
 ghost use Rattle.racl_io.specs.Inputs.{Counts, InputFacts, input_facts, IsCut, IsInput, IsMarker, IsParted, IsFirstLine, IsWord, HasNoFeed, numbered_facts};
 
@@ -58,7 +59,7 @@ fn after_hex(word: &[u8]) -> Option<&[u8]>
     Some(&word[4..])
 }
 
-// The number of the interface that a marker line's word has.
+// The number in a marker line's word.
 fn interface_of(word: &[u8]) -> Option<u8>
     ensures some { IfSome result (λ number. IsWord (Form.Numbered number) word.now) }
     ensures none { IfNone result ((number : ℕ) → IsWord (Form.Numbered number) word.now → ⊥) }
@@ -66,7 +67,7 @@ fn interface_of(word: &[u8]) -> Option<u8>
     octet_of(after_hex(word)?)
 }
 
-// What a marker line's word without a number says.
+// What a marker line's word says that has no number.
 fn plain_form(word: &[u8]) -> Option<Form>
     ensures some { IfSome result (λ form. IsWord form word.now) }
     ensures none { IfNone result ((word.now ≢ codes "pcap") × (word.now ≢ codes "hex")) }

@@ -1,5 +1,5 @@
-//! How the lines of a capture name the interface that it was taken at.
-ghost use Rattle.std.specs.Prelude.{◌≡◌, ℕ, ◌+◌, ◌≤◌, ◌++◌, Option, codes, decimal, length, take};
+//! How the lines of a capture name the interface where it was taken.
+ghost use Rattle.std.specs.Prelude.{◌≡◌, ◌↔◌, ℕ, ◌+◌, ◌≤◌, ◌++◌, true, Option, None, codes, decimal, length, take};
 ghost use Rattle.racl_io.specs.inner.Names.{name_behind};
 
 use crate::piece::Piece;
@@ -58,15 +58,20 @@ impl Name {
         Name { named, text, len }
     }
 
+    /// Whether lines name no interface.
+    pub fn is_absent(&self) -> bool
+        ensures { (result ≡ true) ↔ (self.now ≡ None) }
+    {
+        self.named.is_none()
+    }
+
+    /// Pushes the name as it stands behind a line's number.
     #[inline(always)]
     pub fn push(&self, piece: &mut Piece)
         requires { length piece.old + 8 ≤ 262144 }
         ensures text { piece.new ≡ piece.old ++ name_behind self.now }
         ensures short { length piece.new ≤ length piece.old + 7 }
     {
-        if self.named.is_none() {
-            return;
-        }
         piece.push_first(&self.text, self.len);
     }
 }

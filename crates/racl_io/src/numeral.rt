@@ -81,6 +81,7 @@ impl Counter {
         }
     }
 
+    #[inline(always)]
     pub fn count(&mut self)
         requires { self.old + 1 < 2 ^ 64 }
         ensures { self.new ≡ self.old + 1 }
