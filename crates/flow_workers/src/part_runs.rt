@@ -28,16 +28,13 @@ fn note_workers(judges: &mut Vec<u8>, dealt: &[DealtPart<'_>]) -> Result<(), All
 /// The shares of all workers after they judged the packets of a run: each in a thread of its own where there are several
 /// and the packets are many. The workers of the packets come after those that are noted.
 pub fn judge_run<
-    't,
-    'f,
-    'a,
     A: Shape + Send + Sync,
     B: Shape + Send + Sync,
     R: Threads + Wait + Sync,
     G: Gate + Sync,
 >(
     alloc: Global,
-    run: Run<'t, 'f, 'a, A, B, R, G>,
+    run: Run<'_, '_, '_, A, B, R, G>,
     shares: Vec<Share<A, B>>,
     judges: &mut Vec<u8>,
 ) -> Result<Vec<Share<A, B>>, AllocError>

@@ -25,18 +25,15 @@ use std::thread::Threads;
 
 // The verdicts on the packets, in their order, by workers of this setup, which begin with these callers.
 fn run_setup<
-    't,
-    'f,
-    'a,
     A: Shape + Send + Sync,
     B: Shape + Send + Sync,
     R: Threads + Wait + Sync,
     G: Gate + Sync,
 >(
     alloc: Global,
-    setup: Setup<'t, 'f, A, B, R, G>,
+    setup: Setup<'_, '_, A, B, R, G>,
     callers: Callers<A, B>,
-    packets: Packets<'a>,
+    packets: Packets<'_>,
 ) -> Result<Vec<Verdict>, RunFault>
 where
     A::Key: Send + Sync,
@@ -57,19 +54,17 @@ where
 /// The verdicts on the packets, in their order, by so many workers at once over new tables. A worker whose thread
 /// can't be made is run by the calling thread. `Memory`: memory was refused.
 pub fn run_workers<
-    't,
-    'a,
     A: Shape + Send + Sync,
     B: Shape + Send + Sync,
     R: Threads + Wait + Sync,
     G: Gate + Sync,
 >(
-    rt: &'t R,
+    rt: &R,
     alloc: Global,
-    filter: &'t Filter,
-    packets: Packets<'a>,
+    filter: &Filter,
+    packets: Packets<'_>,
     workers: usize,
-    gate: &'t G,
+    gate: &G,
     dealing: Dealing,
 ) -> Result<Vec<Verdict>, RunFault>
 where

@@ -66,8 +66,8 @@ fn make_room<A: Shape, B: Shape, R: Wait, G: Gate>(
 
 /// The shares of all workers after these judged the packets of a run, one after the other in this thread. The workers of
 /// the packets come after those that are noted.
-pub fn judge_together<'t, 'f, 'a, A: Shape, B: Shape, R: Wait, G: Gate>(
-    run: Run<'t, 'f, 'a, A, B, R, G>,
+pub fn judge_together<A: Shape, B: Shape, R: Wait, G: Gate>(
+    run: Run<'_, '_, '_, A, B, R, G>,
     shares: Vec<Share<A, B>>,
     judges: &mut Vec<u8>,
 ) -> Result<Vec<Share<A, B>>, AllocError>

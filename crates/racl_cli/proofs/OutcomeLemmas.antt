@@ -7,15 +7,18 @@ use Rattle.packet_view.specs.declared.capture.CaptureFault.{CaptureFault}
 use Rattle.packet_view.specs.declared.capture.Order.{Order}
 use Rattle.packet_view.specs.declared.tuple.Family.{Family}
 use Rattle.packet_view.proofs.CaptureLemmas.{IsHeaderOf, ended_accepts, ended_is_right}
-use Rattle.acl_policy.specs.Policies.{IsPolicyFault, IsPolicyText, PolicyFacts}
+use Rattle.acl_policy.specs.Policies.{IsPolicyFault, IsPolicyText, PolicyFacts, policy_facts}
 use Rattle.acl_policy.specs.declared.policy.PolicyFault.{PolicyFault}
 use Rattle.acl_policy.specs.declared.policy.PolicyFault.TheVariants as policy
 use Rattle.session_state.specs.declared.timeouts.Timeouts.{Timeouts}
+use Rattle.flow_filter.specs.declared.filter.Filter.{Filter}
+use Rattle.flow_filter.specs.declared.ready_filters.ReadyFilters.{ReadyFilters}
 use Rattle.flow_filter.specs.declared.verdict.Verdict.{Verdict}
 use Rattle.flow_filter.proofs.OneThreadLemmas.{one_verdicts}
 use Rattle.flow_filter.specs.Judged.{readings_of, verdict_on}
 use Rattle.flow_filter.specs.Readings.{IsReading}
 use Rattle.flow_dealing.specs.Dealings.{Deal}
+use Rattle.flow_dealing.specs.declared.dealing.Dealing.{Dealing}
 use Rattle.flow_dealing.specs.Runs.{AreFew, AreJudged, HasPagesIn}
 use Rattle.flow_dealing.proofs.Places.{zip_count}
 use Rattle.racl_words.specs.declared.settings.Options.{Options}
@@ -43,6 +46,19 @@ given_by_workers options times policy packets verdicts workers same some few jud
     let moved = subst (λ t. (are : AreJudged (dealt_to workers) t policy packets verdicts) × ((family : Family) → AreFew flow_layout t family are.judged → All (HasPagesIn t family) are.judged))
     same (judged, paged judged) in
     record { workers = workers; some = some; few = few; judged = moved.0; paged = moved.1 }
+
+abbrev pub deal_of : Dealing → ℕ → Deal
+deal_of dealing workers = record { layout = flow_layout; dealing = dealing; workers = workers }
+
+-- what workers said whose setup has this deal, these timeouts and this policy
+pub judged_as : (packets : List PacketFacts) (verdicts : List Verdict) (d e : Deal) (filter : ReadyFilters) (set : Filter) (ready : ReadyFilters)
+    → d ≡ e → filter ≡ ready → ready.times ≡ set.times → ready.policy.now ≡ set.policy
+    → AreJudged d filter.times (policy_facts filter.policy.now) packets verdicts → AreJudged e set.times (policy_facts set.policy) packets verdicts
+judged_as packets verdicts d e filter set ready dealt same times policy said =
+    subst (λ t. AreJudged e t (policy_facts set.policy) packets verdicts) times
+    (subst (λ p. AreJudged e ready.times (policy_facts p) packets verdicts) policy
+    (subst (λ (f : ReadyFilters). AreJudged e f.times (policy_facts f.policy.now) packets verdicts) same
+    (subst (λ d. AreJudged d filter.times (policy_facts filter.policy.now) packets verdicts) dealt said)))
 
 -- each packet has a verdict
 pub judged_count : (d : Deal) (times : Timeouts) (policy : PolicyFacts) (packets : List PacketFacts) (verdicts : List Verdict)

@@ -6,12 +6,12 @@ ghost use Rattle.racl_io.specs.Inputs.{most_bytes};
 ghost use Rattle.racl_cli.specs.Reads.{AnswersInput, HasMarked};
 ghost use Rattle.racl_cli.specs.inner.Captures.{CanTake, HasTaken, HasTakenAll, IsFaultAt, IsFaultOfWalk, MayTake};
 
-use crate::crew::OpenGate;
+use crate::crew::{OpenGate, setup_of};
 use crate::opening::Marked;
 use crate::outcome::Judged;
-use crate::streaming::{MANY_PACKETS, plan_for};
+use crate::streaming::plan_for;
 use bihash_words::{ShapeV4, ShapeV6, flow_shapes_are_sound};
-use flow_workers::{Dealing, Filter, Setup, Workers, create_tables};
+use flow_workers::{Workers, create_tables};
 use packet_view::{CheckedCapture, Packets, check_capture};
 use racl_io::{Captured, Digits, Fault, Numbered, cut_digits, decoded};
 use racl_words::Options;
@@ -151,21 +151,9 @@ pub fn judge_captures<T: Threads + Wait + Sync>(
         return Err(Fault::Memory);
     };
     let (expected, workers) = plan_for(options, true, content.len() / RECORD_DIGITS);
-    let Ok(prepared) = filter.prepare(alloc, expected) else {
-        return Err(Fault::Memory);
-    };
-    let Ok(ready) = filter.ready_with(alloc, &prepared) else {
-        return Err(Fault::Memory);
-    };
-    let setup = Setup {
-        rt,
-        gate: &OpenGate,
-        filter: &ready,
-        tables: &tables,
-        dealing: Dealing::Bucket,
-        workers,
-        many: MANY_PACKETS,
-    };
+    let prepared = filter.prepare(alloc, expected)?;
+    let ready = filter.ready_with(alloc, &prepared)?;
+    let setup = setup_of(rt, &ready, &tables, workers);
     let Ok(workers) = Workers::new(alloc, setup, callers) else {
         return Err(Fault::Memory);
     };

@@ -1,11 +1,18 @@
 //! Workers as those who judge the packets of a capture.
+ghost use Rattle.std.specs.Prelude.{◌≡◌};
+ghost use Rattle.flow_dealing.specs.declared.dealing.Dealing.TheVariants.{Bucket};
+
 use bihash_words::{ShapeV4, ShapeV6};
 use capture_stream::Judges;
-use flow_workers::{Gate, Workers};
+use flow_filter::ReadyFilters;
+use flow_workers::{Dealing, Gate, Setup, Tables, Workers};
 use packet_view::Packets;
 use std::alloc::{AllocError, Global};
 use std::sync::Wait;
 use std::thread::Threads;
+
+/// From how many packets of a window on each worker judges them in a thread of its own.
+pub const MANY_PACKETS: usize = 65_536;
 
 /// Nothing waits before or after a packet is judged.
 pub struct OpenGate;
@@ -14,6 +21,29 @@ impl Gate for OpenGate {
     fn before(&self, _worker: usize, _packet: usize) {}
 
     fn after(&self, _worker: usize, _packet: usize) {}
+}
+
+/// What so many workers share, who judge by this filter over these tables. Packets are dealt by bucket.
+pub fn setup_of<'t, 'f, T: Wait>(
+    rt: &'t T,
+    filter: &'t ReadyFilters<'f>,
+    tables: &'t Tables<ShapeV4, ShapeV6>,
+    workers: usize,
+) -> Setup<'t, 'f, ShapeV4, ShapeV6, T, OpenGate>
+    ensures filter { result.filter.now ≡ filter.now }
+    ensures tables { result.tables.now ≡ tables.now }
+    ensures dealing { result.dealing ≡ Bucket }
+    ensures workers { result.workers ≡ workers }
+{
+    Setup {
+        rt,
+        gate: &OpenGate,
+        filter,
+        tables,
+        dealing: Dealing::Bucket,
+        workers,
+        many: MANY_PACKETS,
+    }
 }
 
 /// Workers, and where they get memory.

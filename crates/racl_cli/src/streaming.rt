@@ -6,21 +6,18 @@ ghost use Rattle.racl_io.specs.Inputs.{most_bytes};
 ghost use Rattle.racl_io.specs.Transfers.{HasReadWithin};
 ghost use Rattle.racl_cli.specs.Reads.{AnswersRead, HasHeaded, HasJudged, MayGoOn, MayJudge, having_records};
 
-use crate::crew::{Crew, OpenGate};
+use crate::crew::{Crew, MANY_PACKETS, setup_of};
 use crate::opening::Headed;
 use crate::outcome::Judged;
 use bihash_words::{ShapeV4, ShapeV6, flow_shapes_are_sound};
 use capture_stream::{Opening, Streamed, WindowSize, judge_stream};
-use flow_workers::{Dealing, Filter, Setup, Workers, create_tables};
+use flow_workers::{Filter, Workers, create_tables};
 use packet_view::front_records;
 use racl_io::{Captured, Fault, Source};
 use racl_words::Options;
 use std::alloc::Global;
 use std::sync::Wait;
 use std::thread::Threads;
-
-/// From how many packets of a window on each worker judges them in a thread of its own.
-pub const MANY_PACKETS: usize = 65_536;
 
 /// How many bytes are read at once for one worker: so few that they are still in the processor's cache when they are judged.
 const ONE_WINDOW: usize = 262_144;
@@ -101,15 +98,7 @@ fn judge_records<'t, R: Source + Send, T: Threads + Wait + Sync>(
     let Ok(ready) = filter.ready_with(alloc, &prepared) else {
         return Err(Fault::Memory);
     };
-    let setup = Setup {
-        rt,
-        gate: &OpenGate,
-        filter: &ready,
-        tables: &tables,
-        dealing: Dealing::Bucket,
-        workers,
-        many: MANY_PACKETS,
-    };
+    let setup = setup_of(rt, &ready, &tables, workers);
     let Ok(workers) = Workers::new(alloc, setup, callers) else {
         return Err(Fault::Memory);
     };

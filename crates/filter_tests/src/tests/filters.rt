@@ -56,7 +56,9 @@ fn prepared_rules_decide_as_the_listed_ones(rt: HostRuntime) -> Result<(), Fail>
     let prepared = filter.prepare(rt.alloc(), 10_000).expect(&rt, "memory");
     let first = prepared.first().ok_or("nothing prepared")?;
     assert!(rt; first.inbound.is_some() && first.outbound.is_none());
-    let all = filter.ready_with(rt.alloc(), &prepared).expect(&rt, "memory");
+    let all = filter
+        .ready_with(rt.alloc(), &prepared)
+        .expect(&rt, "memory");
     let udp = tuple(17, Fields::Ports { from: 80, to: 1000 });
     for ready in [filter.ready(0), *all.at(0)] {
         let inbound = ready.rules_of(Direction::Inbound);
@@ -75,7 +77,9 @@ fn rules_of_two_interfaces(rt: HostRuntime) -> Result<(), Fail> {
         times: TIMES,
     };
     let prepared = filter.prepare(rt.alloc(), 10).expect(&rt, "memory");
-    let all = filter.ready_with(rt.alloc(), &prepared).expect(&rt, "memory");
+    let all = filter
+        .ready_with(rt.alloc(), &prepared)
+        .expect(&rt, "memory");
     let udp = tuple(17, Fields::Ports { from: 80, to: 1000 });
     for (number, own, rule) in [
         (0, Some(1), None),

@@ -1,14 +1,13 @@
-use Rattle.std.proofs.Common.{◌∙◌, ℕ, List, [], Option, Some, ap, inl, inr, refl, subst}
+use Rattle.std.proofs.Common.{◌∙◌, ℕ, List, [], Option, Some, ap, ap₂, inl, inr, refl, subst}
 use Rattle.std.proofs.lemmas.Result.{IfErr-weaker, IfOk-weaker}
 use Rattle.acl_policy.specs.Policies.{policy_facts}
 use Rattle.flow_dealing.specs.Runs.{AreJudged, HavePages}
 use Rattle.flow_dealing.proofs.FewPackets.{pages_for_few}
 use Rattle.flow_dealing.proofs.OneReport.{one_report}
-use Rattle.flow_workers.proofs.RestLemmas.{judged_alike}
 use Rattle.racl_io.specs.Inputs.{NumberedFacts, numbered_facts}
 use Rattle.racl_cli.specs.Runs.{ByOneThread, dealt_to}
 use Rattle.racl_cli.specs.inner.Captures.{AreTakenFrom, IsFaultFrom}
-use Rattle.racl_cli.proofs.OutcomeLemmas.{given_by_workers}
+use Rattle.racl_cli.proofs.OutcomeLemmas.{deal_of, given_by_workers, judged_as}
 use Rattle.racl_cli.proofs.TakenLemmas.{all_behind, answered, said_of}
 use Rattle.racl_cli.proofs.captures.judge_captures.Goals as goal
 
@@ -30,7 +29,8 @@ returns g c =
     let packets = has.packets in
     let verdicts = outcome.verdicts in
     let judged : AreJudged (dealt_to workers) filter.times policy packets verdicts =
-    judged_alike _ packets verdicts _ _ _ _ c.in-Ok-ready_with.ensures.times (ap policy_facts c.in-Ok-ready_with.ensures.policy)
+    judged_as packets verdicts _ _ _ filter _ (ap₂ deal_of c.setup_of-setup.ensures.dealing c.setup_of-setup.ensures.workers)
+    c.setup_of-setup.ensures.filter c.in_ok-ready.ensures.times c.in_ok-ready.ensures.policy
     (said_of c.at.result.workers _ packets verdicts (ap (λ all. all.setup) c.at.ensures.workers ∙ c.in-Ok-new.ensures.by) has.said) in (
       packets,
       subst (λ (content : List ℕ). AreTakenFrom [] (first_at number content) packets outcome.captures) (all_behind bytes from)

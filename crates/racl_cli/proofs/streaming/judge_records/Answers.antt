@@ -1,15 +1,15 @@
-use Rattle.std.proofs.Common.{◌≡◌, ◌∙◌, ◌++◌, List, [], ◌∷◌, None, Err, ap, arith, inl, length, refl, subst}
+use Rattle.std.proofs.Common.{◌≡◌, ◌∙◌, ◌++◌, List, [], ◌∷◌, None, Err, ap, ap₂, arith, inl, length, refl, subst}
 use Rattle.std.proofs.lemmas.Result.{err_from_is_err_and}
 use Rattle.packet_view.specs.Captures.{packets_at}
 use Rattle.acl_policy.specs.Policies.{policy_facts}
 use Rattle.flow_dealing.specs.Runs.{AreJudged, HavePages}
 use Rattle.flow_dealing.proofs.FewPackets.{pages_for_few}
 use Rattle.flow_dealing.proofs.OneReport.{one_report}
-use Rattle.flow_workers.proofs.RestLemmas.{judged_alike, said_by}
+use Rattle.flow_workers.proofs.RestLemmas.{said_by}
 use Rattle.racl_io.proofs.TransferLemmas.{within_of_err}
 use Rattle.racl_io.specs.declared.report.Captured.{Captured}
 use Rattle.racl_cli.specs.Runs.{ByOneThread, dealt_to, told_of}
-use Rattle.racl_cli.proofs.OutcomeLemmas.{given_by_workers, judged_count}
+use Rattle.racl_cli.proofs.OutcomeLemmas.{deal_of, given_by_workers, judged_as, judged_count}
 use Rattle.racl_cli.proofs.streaming.judge_records.Goals as goal
 
 pub returns-in_err-judges-clause-within : goal.returns-in_err-judges-clause-within
@@ -28,7 +28,8 @@ returns-clause-ok g c =
     let verdicts = c.in-Ok-end.verdicts.items in
     let workers = c.plan_for-expected.result.1 in
     let judged : AreJudged (dealt_to workers) filter.times policy (packets_at 0 s.packets) verdicts =
-    judged_alike _ (packets_at 0 s.packets) verdicts _ _ _ _ c.in-Ok-ready_with.ensures.times (ap policy_facts c.in-Ok-ready_with.ensures.policy)
+    judged_as (packets_at 0 s.packets) verdicts _ _ _ filter _ (ap₂ deal_of c.setup_of-setup.ensures.dealing c.setup_of-setup.ensures.workers)
+    c.setup_of-setup.ensures.filter c.in-Ok-ready_with.ensures.times c.in-Ok-ready_with.ensures.policy
     (said_by _ _ _ _ (packets_at 0 s.packets) verdicts (s.judged.1.setup ∙ c.in-Ok-new.ensures.by) s.judged.1.rest c.in-Ok-end.ensures) in
     let counted : length verdicts ≡ length (packets_at 0 s.packets) = judged_count _ filter.times policy (packets_at 0 s.packets) verdicts judged in
     let len : c.len.result ≡ length (packets_at 0 s.packets) = let long = c.len.ensures in omega arith in
