@@ -155,12 +155,7 @@ impl Filter {
     {
         let mut places = Vec::with_capacity(alloc, 256)?;
         for number in 0..256usize {
-            places.push(ready_at(
-                &self.policy.sections,
-                prepared,
-                number as u8,
-                self.times,
-            ))?;
+            places.push(ready_at(&self.policy.sections, prepared, number as u8, self.times))?;
         }
         Ok(ReadyFilters {
             policy: &self.policy,

@@ -31,13 +31,7 @@ fn judge_own_viewed<A: Shape, B: Shape, R: Wait, G: Gate>(
     let setup = &run.setup;
     let number = run.first + at;
     setup.gate.before(worker, number);
-    let verdict = judge_viewed(
-        setup.rt,
-        filter,
-        setup.tables,
-        &mut share.callers,
-        packet,
-    );
+    let verdict = judge_viewed(setup.rt, filter, setup.tables, &mut share.callers, packet);
     setup.gate.after(worker, number);
     share.said.push(verdict)?;
     Ok(())
