@@ -36,10 +36,10 @@ pub record IsThread (l : Layout) (times : Timeouts) (maps : Home → Pairs) (cou
   pub paged : All HasPages js
 
 -- what the buckets hold, and how often they changed, after an event of the bucket `at`
-abbrev maps_after : (Home → Pairs) → Home → Pairs → Home → Pairs
+abbrev pub maps_after : (Home → Pairs) → Home → Pairs → Home → Pairs
 maps_after maps at n = with maps at n
 
-abbrev counts_after : (Home → ℕ) → Home → Event → Home → ℕ
+abbrev pub counts_after : (Home → ℕ) → Home → Event → Home → ℕ
 counts_after counts at e = with counts at (counts at + writes_of e.reply)
 
 -- a run of a bucket after an event that may be of it, with that event
@@ -78,54 +78,49 @@ after_run l home at maps counts n e events here =
 abbrev pub Thread : Layout → Timeouts → (Home → Pairs) → (Home → ℕ) → List Reading → Type 0
 Thread l times maps counts readings = (js : List Judged) × (readings_of js ≡ readings) × IsThread l times maps counts js
 
--- one more packet, which has no update
-one_unasked : (l : Layout) (times : Timeouts) (maps : Home → Pairs) (counts : Home → ℕ) (reading : Reading)
-    (readings : List Reading)
-    → update_of times reading ≡ None → Thread l times maps counts readings
-    → Thread l times maps counts (reading ∷ readings)
-one_unasked l times maps counts reading readings none (js, same, thread) = (
-  record { reading = reading; event = None } ∷ js,
-  ap (λ rs. reading ∷ rs) same,
-  record {
-    asked =
-        All-cons (IsAsked times) (record { reading = reading; event = None }) js
-        (subst (λ u. IsAskedBy u None) (sym none) refl) thread.asked;
-    runs = λ home is. subst (λ u. Runs (bounds_in l home.family) (maps home) (counts home)
-        (add_event l home u None (events_at l times home js))) (sym none) (thread.runs home is);
-    paged =
-        All-cons HasPages (record { reading = reading; event = None }) js
-        (λ e is. let f : ⊥ = cc in absurd f) thread.paged;
-  },
-)
+-- the events on a bucket begin with the packet's where its key is of it
+pub events_are : (l : Layout) (times : Timeouts) (home : Home) (u : Option Update) (e : Option Event) (j : Judged)
+    (js : List Judged) → update_of times j.reading ≡ u → j.event ≡ e
+    → events_at l times home (j ∷ js) ≡ add_event l home u e (events_at l times home js)
+events_are l times home u e j js is at = ap₂ (λ u e. add_event l home u e (events_at l times home js)) is at
 
--- one more packet with this update and this event
-one_asked : (l : Layout) (times : Timeouts) (maps : Home → Pairs) (counts : Home → ℕ) (reading : Reading)
-    (readings : List Reading)
-    (u : Update) (e : Event) (n : Pairs) → update_of times reading ≡ Some u → IsEventOf u e → IsNoRefusal e.reply
+-- a packet without an update may stand in front of the others
+pub thread_unasked : (l : Layout) (times : Timeouts) (maps : Home → Pairs) (counts : Home → ℕ) (j : Judged)
+    (js : List Judged) → update_of times j.reading ≡ None → j.event ≡ None → IsThread l times maps counts js
+    → IsThread l times maps counts (j ∷ js)
+thread_unasked l times maps counts j js none at thread = record {
+  asked = All-cons (IsAsked times) j js (subst (λ u. IsAskedBy u j.event) (sym none) at) thread.asked;
+  runs = λ home is.
+      subst (Runs (bounds_in l home.family) (maps home) (counts home)) (sym (events_are l times home None None j js none at))
+      (thread.runs home is);
+  paged = All-cons HasPages j js (λ e is. let f : ⊥ = cc in absurd f) thread.paged;
+}
+
+-- so may a packet with this update and this event
+pub thread_asked : (l : Layout) (times : Timeouts) (maps : Home → Pairs) (counts : Home → ℕ) (j : Judged)
+    (js : List Judged) (u : Update) (e : Event) (n : Pairs) → update_of times j.reading ≡ Some u → j.event ≡ Some e
+    → IsEventOf u e → IsNoRefusal e.reply
     → IsEvent (bounds_in l (home_of l u.key).family) (maps (home_of l u.key)) (counts (home_of l u.key)) e n
-    → Thread l times (maps_after maps (home_of l u.key) n) (counts_after counts (home_of l u.key) e) readings
-    → Thread l times maps counts (reading ∷ readings)
-one_asked l times maps counts reading readings u e n is of paged step (js, same, thread) = (
-  record { reading = reading; event = Some e } ∷ js,
-  ap (λ rs. reading ∷ rs) same,
-  record {
-    asked =
-        All-cons (IsAsked times) (record { reading = reading; event = Some e }) js
-        (subst (λ u. IsAskedBy u (Some e)) (sym is) (e, refl, of)) thread.asked;
-    runs = λ home at. subst (λ u. Runs (bounds_in l home.family) (maps home) (counts home)
-        (add_event l home u (Some e) (events_at l times home js))) (sym is)
-        (before_run l home (home_of l u.key) maps counts n e (events_at l times home js) step (thread.runs home at));
-    paged =
-        All-cons HasPages (record { reading = reading; event = Some e }) js
-        (λ f at. subst (λ (f : Event). IsNoRefusal f.reply) (let s : e ≡ f = cc in s) paged) thread.paged;
-  },
-)
+    → IsThread l times (maps_after maps (home_of l u.key) n) (counts_after counts (home_of l u.key) e) js
+    → IsThread l times maps counts (j ∷ js)
+thread_asked l times maps counts j js u e n is at of paged step thread = record {
+  asked = All-cons (IsAsked times) j js (subst (λ u. IsAskedBy u j.event) (sym is) (e, at, of)) thread.asked;
+  runs = λ home in_table.
+      subst (Runs (bounds_in l home.family) (maps home) (counts home))
+      (sym (events_are l times home (Some u) (Some e) j js is at))
+      (before_run l home (home_of l u.key) maps counts n e (events_at l times home js) step (thread.runs home in_table));
+  paged =
+      All-cons HasPages j js
+      (λ f same. subst (λ (f : Event). IsNoRefusal f.reply) (let s : e ≡ f = cc in s) paged) thread.paged;
+}
 
 one_more : (l : Layout) (times : Timeouts) (maps : Home → Pairs) (counts : Home → ℕ) (reading : Reading)
     (readings : List Reading) → ((maps : Home → Pairs) (counts : Home → ℕ) → Thread l times maps counts readings)
     → (u : Option Update) → update_of times reading ≡ u → Thread l times maps counts (reading ∷ readings)
 one_more l times maps counts reading readings rest None none =
-    one_unasked l times maps counts reading readings none (rest maps counts)
+    let (js, same, thread) = rest maps counts in
+    let j : Judged = record { reading = reading; event = None } in
+    (j ∷ js, ap (λ rs. reading ∷ rs) same, thread_unasked l times maps counts j js none refl thread)
 one_more l times maps counts reading readings rest (Some u) is =
     let at = home_of l u.key in
     let (reply, recycling, n, paged, bears, step) =
@@ -138,8 +133,13 @@ one_more l times maps counts reading readings rest (Some u) is =
       reply = reply;
       recycling = recycling;
     } in
-    one_asked l times maps counts reading readings u e n is (record { key = refl; change = refl; expiry = bears }) paged step
-    (rest (maps_after maps at n) (counts_after counts at e))
+    let (js, same, thread) = rest (maps_after maps at n) (counts_after counts at e) in
+    let j : Judged = record { reading = reading; event = Some e } in (
+      j ∷ js,
+      ap (λ rs. reading ∷ rs) same,
+      thread_asked l times maps counts j js u e n is refl (record { key = refl; change = refl; expiry = bears }) paged step
+          thread,
+    )
 
 -- packets of each list of readings can be judged on one thread
 pub some_thread : (l : Layout) (times : Timeouts) (readings : List Reading) (maps : Home → Pairs) (counts : Home → ℕ)
@@ -157,7 +157,7 @@ some_thread l times (reading ∷ readings) maps counts =
     one_more l times maps counts reading readings (some_thread l times readings) (update_of times reading) refl
 
 -- the first of packets that are judged on one thread, with its event, and the packets after it
-record IsFirst (l : Layout) (times : Timeouts) (maps : Home → Pairs) (counts : Home → ℕ) (u : Update) (j : Judged)
+pub record IsFirst (l : Layout) (times : Timeouts) (maps : Home → Pairs) (counts : Home → ℕ) (u : Update) (j : Judged)
     (js : List Judged) : Type 0 where
   pub event : Event
   pub left : Pairs
@@ -169,13 +169,7 @@ record IsFirst (l : Layout) (times : Timeouts) (maps : Home → Pairs) (counts :
   pub behind : IsThread l times (maps_after maps (home_of l u.key) left)
       (counts_after counts (home_of l u.key) event) js
 
--- the events on a bucket begin with the packet's where its key is of it
-pub events_are : (l : Layout) (times : Timeouts) (home : Home) (u : Option Update) (e : Option Event) (j : Judged)
-    (js : List Judged) → update_of times j.reading ≡ u → j.event ≡ e
-    → events_at l times home (j ∷ js) ≡ add_event l home u e (events_at l times home js)
-events_are l times home u e j js is at = ap₂ (λ u e. add_event l home u e (events_at l times home js)) is at
-
-first_asked : (l : Layout) (times : Timeouts) (maps : Home → Pairs) (counts : Home → ℕ) (u : Update) (j : Judged)
+pub first_asked : (l : Layout) (times : Timeouts) (maps : Home → Pairs) (counts : Home → ℕ) (u : Update) (j : Judged)
     (js : List Judged)
     → update_of times j.reading ≡ Some u → IsThread l times maps counts (j ∷ js) → IsFirst l times maps counts u j js
 first_asked l times maps counts u j js is thread =
@@ -204,7 +198,7 @@ first_asked l times maps counts u j js is thread =
       };
     }
 
-first_unasked : (l : Layout) (times : Timeouts) (maps : Home → Pairs) (counts : Home → ℕ) (j : Judged)
+pub first_unasked : (l : Layout) (times : Timeouts) (maps : Home → Pairs) (counts : Home → ℕ) (j : Judged)
     (js : List Judged)
     → update_of times j.reading ≡ None → IsThread l times maps counts (j ∷ js)
     → (j.event ≡ None) × IsThread l times maps counts js
@@ -260,7 +254,7 @@ one_thread l times (j ∷ js) (k ∷ ks) maps counts same one two =
     one_by_update l times maps counts j k js ks here (update_of times j.reading) refl
     (λ maps counts. one_thread l times js ks maps counts rest) one two
 
-of_one_thread : (l : Layout) (times : Timeouts) (opening : Home → Pairs) (js : List Judged)
+pub of_one_thread : (l : Layout) (times : Timeouts) (opening : Home → Pairs) (js : List Judged)
     → IsOneThread l times opening js → IsThread l times opening (λ home. 0) js
 of_one_thread l times opening js is = record { asked = is.asked; runs = is.runs; paged = is.paged }
 

@@ -1,3 +1,4 @@
+pub mod Apart
 pub mod Deciders
 pub mod Filters
 pub mod Judged

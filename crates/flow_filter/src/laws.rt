@@ -1,7 +1,7 @@
 //! What follows of the definitions, for all packets at once.
 //!
 //! The functions do nothing: their contracts are the laws.
-ghost use Rattle.std.specs.Prelude.{◌≡◌, ◌⊎◌, ◌↔◌, ◌++◌, ℕ, true, List, [], ◌∷◌, Option, Some, None};
+ghost use Rattle.std.specs.Prelude.{◌≡◌, ◌⊎◌, ◌↔◌, ◌++◌, ℕ, true, List, [], ◌∷◌, Option, Some, None, All};
 ghost use Rattle.packet_view.specs.Captures.{PacketFacts};
 ghost use Rattle.packet_view.specs.Tuples.{TupleFacts};
 ghost use Rattle.acl_policy.specs.Policies.{PolicyFacts};
@@ -9,6 +9,7 @@ ghost use Rattle.bihash_words.specs.Maps.{Bounds, Event, Pairs, IsEvent};
 ghost use Rattle.session_state.specs.declared.timeouts.Timeouts.{Timeouts};
 ghost use Rattle.flow_filter.specs.declared.verdict.Verdict.{Verdict};
 ghost use Rattle.flow_filter.specs.declared.verdict.Verdict.TheVariants.{Full};
+ghost use Rattle.flow_filter.specs.Apart.{HasKeyNumber, TookNoPlaceOf, WasTaken, packets_of, those_of};
 ghost use Rattle.flow_filter.specs.Judged.{IsEventOf, Judged, readings_of, verdict_on, verdict_with};
 ghost use Rattle.flow_filter.specs.OneThread.{AreVerdicts, Home, IsOneThread, Layout, bounds_in, home_of};
 ghost use Rattle.flow_filter.specs.Passing.{FindsNoRoom, HoldsLive, IsPermitting, Leave, LetsThrough, MakesRoom};
@@ -88,4 +89,15 @@ pub fn full_buckets_hold_live_sessions()
 pub fn only_expired_sessions_make_room()
     ensures { (u : Update) (b : Bounds) (m n : Pairs) (w : ℕ) (e : Event) (gone : List ℕ) → IsEventOf u e
         → IsEvent b m w e n → e.recycling.removed ≡ Some gone → MakesRoom u m gone }
+{}
+
+/// Packets of different interfaces never change each other's verdict but by a full bucket or a worn one: where no
+/// packet of an interface is refused, and no session of it makes room for another, its packets get the verdicts that
+/// they would get alone.
+pub fn interfaces_are_apart()
+    ensures { (l : Layout) (times : Timeouts) (policy : PolicyFacts) (packets : List PacketFacts) (interface : ℕ)
+        (verdicts alone : List Verdict) → All HasKeyNumber packets → (all : AreVerdicts l times policy packets verdicts)
+        → All WasTaken (those_of interface packets all.judged) → All (TookNoPlaceOf interface) all.judged
+        → AreVerdicts l times policy (packets_of interface packets) alone
+        → alone ≡ those_of interface packets verdicts }
 {}

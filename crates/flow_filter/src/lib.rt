@@ -19,7 +19,7 @@ mod verdicts;
 pub use filter::{Filter, ReadyFilter};
 pub use laws::{
     each_capture_has_one_list_of_verdicts, each_list_is_judged_once, each_packet_has_one_reading,
-    full_buckets_hold_live_sessions, only_expired_sessions_make_room,
+    full_buckets_hold_live_sessions, interfaces_are_apart, only_expired_sessions_make_room,
     packets_pass_by_rule_or_session,
 };
 pub use lazy_patch::{HasReading, LazyPatch};
