@@ -10,7 +10,7 @@ Spells base most word n = IsNumeral base word × (length word ≤ most) × (n �
 abbrev pub IsNumber : List ℕ → ℕ → Type 0
 IsNumber word n = Spells 10 5 word n
 
--- a part of an IPv4 address
+-- a number of one to three digits, at most 255: a part of an IPv4 address, or an interface's at a capture
 abbrev pub IsOctet : List ℕ → ℕ → Type 0
 IsOctet word n = Spells 10 3 word n × (n ≤ 255)
 

@@ -29,7 +29,7 @@ pub fn number_of(word: &[u8]) -> Option<u32>
     numeral_of(word, 10, 5)
 }
 
-/// A part of an IPv4 address: at most 255, in one to three digits.
+/// A part of an IPv4 address, or the number of a capture's interface: at most 255, in one to three digits.
 #[tactic(auto, unfolding(crate::specs::inner::Reading::Numerals::octet_in))]
 pub fn octet_of(word: &[u8]) -> Option<u8>
     ensures { result ≡ octet_in word.now }

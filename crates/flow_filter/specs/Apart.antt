@@ -5,7 +5,7 @@ use Rattle.packet_view.specs.Captures.{PacketFacts}
 use Rattle.bihash_words.specs.Refusals.{IsTaken}
 use Rattle.flow_filter.specs.Judged.{Judged}
 
--- the number of the packet's interface fits its place in a key
+-- the number of the packet's interface fits below the protocol in a key, as each one does that is at most 255
 abbrev pub HasKeyNumber : PacketFacts → Type 0
 HasKeyNumber packet = packet.interface < 2 ^ 24
 

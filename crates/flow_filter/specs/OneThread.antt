@@ -93,7 +93,7 @@ pub record IsOneThread (l : Layout) (times : Timeouts) (opening : Home → Pairs
 abbrev pub nothing : Home → Pairs
 nothing home = empty
 
--- the verdicts of the one-thread filter on a capture's packets: no bucket holds anything at first
+-- the verdicts of the one-thread filter on these packets: no bucket holds anything at first
 pub record AreVerdicts (l : Layout) (times : Timeouts) (policy : PolicyFacts) (packets : List PacketFacts)
     (verdicts : List Verdict) : Type 0 where
   pub judged : List Judged

@@ -139,7 +139,7 @@ abbrev pub IsCaptureAt : ℕ → List ℕ → List PacketFacts → End → Type 
 IsCaptureAt number bytes packets end =
     (records : List RecordFacts) × IsCapture bytes records end × (packets ≡ packets_at number records)
 
--- the fault is in the header, and no earlier one does
+-- the fault is in the header, and no earlier one is
 abbrev pub IsHeaderFault : List ℕ → CaptureFault → Type 0
 IsHeaderFault bytes fault.Short = length bytes < 24
 IsHeaderFault bytes fault.Magic = (24 ≤ length bytes) × ((order : Order) → HasMagic order bytes → ⊥)
@@ -149,7 +149,7 @@ IsHeaderFault bytes fault.LinkType =
 IsHeaderFault bytes (fault.LongRecord number) = ⊥
 IsHeaderFault bytes fault.Memory = ⊥
 
--- the fault is in the capture, and no earlier one does; records are counted from 1
+-- the fault is in the capture, and no earlier one is; records are counted from 1
 abbrev pub IsCaptureFault : List ℕ → CaptureFault → Type 0
 IsCaptureFault bytes (fault.LongRecord number) =
     (order : Order) × (packets : List RecordFacts) × (rest : List ℕ) × HasHeader order bytes × AreRecords order (drop 24 bytes) packets rest

@@ -36,12 +36,12 @@ one_truncated false false same = refl
 pub one_content : (form : Form) (content one other : List ℕ) → IsContent form content one → IsContent form content other → one ≡ other
 one_content Binary content one other p q = p ∙ sym q
 one_content Hexadecimal content one other p q = cc
-one_content (Numbered number) content one other p q = cc
+one_content (Numbered number) content one other p q = absurd p
 
 bytes_of_capture : (form : Form) (content capture : List ℕ) → AreBytes content → IsContent form content capture → AreBytes capture
 bytes_of_capture Binary content capture fit is = subst AreBytes (sym is) fit
 bytes_of_capture Hexadecimal content capture fit is = (decode_of-ok (digits_of content) capture is).3
-bytes_of_capture (Numbered number) content capture fit is = (decode_of-ok (digits_of content) capture is).3
+bytes_of_capture (Numbered number) content capture fit is = absurd is
 
 -- bytes are a capture of one list of packets and one end
 pub one_capture : (number : ℕ) (capture : List ℕ) (packets others : List PacketFacts) (truncated ends : Bool) → AreBytes capture

@@ -229,7 +229,7 @@ digits_short content capture is =
 pub content_short : (form : Form) (content capture : List ℕ) → IsContent form content capture → length capture ≤ length content
 content_short Binary content capture is = let e = ap length is in omega arith
 content_short Hexadecimal content capture is = digits_short content capture is
-content_short (Numbered number) content capture is = digits_short content capture is
+content_short (Numbered number) content capture is = absurd is
 
 content_inside : (bytes : List ℕ) (parts : InputFacts) → IsInput bytes parts → length parts.content ≤ length bytes
 content_inside bytes parts is =

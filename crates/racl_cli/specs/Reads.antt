@@ -1,4 +1,4 @@
--- What is answered of an input that is read, and what stands before the records of its capture.
+-- What is answered of an input that is read, and what stands before the records of its captures.
 use Rattle.std.specs.Prelude.{◌≡◌, ◌≢◌, ◌+◌, ◌<◌, ◌≤◌, ◌⊎◌, ◌++◌, ℕ, Bool, true, is_some, List, [], ◌∷◌, Option, None, Some, IfSome, IfOk, IfErr, MatchResult, Result, Err, drop, length}
 use Rattle.std.specs.Global.{Vec}
 use Rattle.std.specs.Io.KnownBytes.{IsAtEnd}
@@ -95,7 +95,7 @@ abbrev pub having_records : List ℕ → Option (Vec ℕ) → List ℕ
 having_records input None = input
 having_records input (Some decoded) = decoded.items
 
--- a marker line of one capture
+-- a marker line without a number, and so of one capture
 abbrev pub IsUnnumbered : Form → Type 0
 IsUnnumbered Binary = Unit {0}
 IsUnnumbered Hexadecimal = Unit {0}

@@ -33,7 +33,7 @@ pub record IsAlone (form : Form) (content : List ℕ) (packets : List PacketFact
   pub records : IsCaptureAt 0 capture packets (end_of truncated)
   pub told : captures ≡ told_of None packets truncated ∷ []
 
--- The digits are a capture of these packets, which were seen at their interface. None was seen at it before.
+-- The digits are a capture of these packets, which were seen at its interface. No capture before was of it.
 pub record IsTaken (seen : List ℕ) (digits : DigitsFacts) (packets : List PacketFacts) (captured : Captured) : Type 0 where
   pub first : IsAmong digits.interface seen → ⊥
   pub capture : List ℕ

@@ -11,7 +11,7 @@ status_of_fault Read = 4
 status_of_fault Write = 4
 status_of_fault _ = 1
 
--- 3 where the capture was truncated, and else 0
+-- 3 where a capture was truncated, and else 0
 abbrev pub status_of : Result Totals Fault → ℕ
 status_of (Ok totals) = if totals.truncated then 3 else 0
 status_of (Err fault) = status_of_fault fault

@@ -14,7 +14,7 @@ use racl_words::words_status;
 use std::io;
 use std::io::ErrorKind as FailureKind;
 
-/// The status with which the program ends: 0 done, 3 done but the capture was truncated, 1 a fault
+/// The status with which the program ends: 0 done, 3 done but a capture was truncated, 1 a fault
 /// of the input, 4 memory that ran out or a device that failed.
 pub fn status(outcome: &Result<Totals, Fault>) -> u8
     ensures { result ≡ status_of outcome.now }

@@ -34,7 +34,9 @@ pub struct Marked {
 /// What stands before the packets of an input.
 #[derive(Drop)]
 pub enum Opened {
+    /// One capture, which has no number.
     One(Headed),
+    /// Captures with numbers, one or several.
     Several(Marked),
 }
 

@@ -114,8 +114,8 @@ is_blank b = (b == 32) || (b == 9) || (b == 10) || (b == 13)
 abbrev pub digits_of : List ℕ → List ℕ
 digits_of content = filter (λ b. not (is_blank b)) content
 
--- the bytes of the capture, as they are or as two hexadecimal digits for each
+-- the bytes of the only capture, as they are or as two hexadecimal digits for each
 abbrev pub IsContent : Form → List ℕ → List ℕ → Type 0
 IsContent Binary content capture = capture ≡ content
 IsContent Hexadecimal content capture = decode_of (digits_of content) ≡ Ok capture
-IsContent (Numbered number) content capture = decode_of (digits_of content) ≡ Ok capture
+IsContent (Numbered number) content capture = ⊥

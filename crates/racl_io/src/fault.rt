@@ -7,8 +7,8 @@ use packet_view::CaptureFault;
 use std::alloc::{AllocError, AllocFailed};
 use thiserror::Error;
 
-/// Why no report was made, in the order in which the causes are looked for; lines and records
-/// are counted from 1.
+/// Why no report was made, in the order in which the causes are looked for, from `Twice` to `LongRecord` in one capture
+/// after the other; lines, and records of a capture, are counted from 1.
 #[derive(Clone, Copy, Debug, PartialEq, Eq, Error)]
 pub enum Fault {
     #[error("no memory")]

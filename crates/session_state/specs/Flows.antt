@@ -52,7 +52,7 @@ abbrev pub Precedes : End → End → Type 0
 Precedes one other = (one.address < other.address) ⊎ ((one.address ≡ other.address) × (one.port < other.port))
 
 -- the last word of a key: the first end's port from bit 48, the other's from bit 32, the protocol from
--- bit 24, the interface's number in the lowest bits
+-- bit 24, the interface's number in bits 0 to 7
 abbrev pub ports_word : End → End → ℕ → ℕ → ℕ
 ports_word first second proto number = first.port * 2 ^ 48 + second.port * 2 ^ 32 + proto * 2 ^ 24 + number
 
