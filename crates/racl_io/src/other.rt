@@ -43,7 +43,8 @@ impl Marks {
     fn is_cooked(self) -> bool
         ensures { result ≡ (((self.magic == 0xa1b2c3d4) || (self.magic == 0xa1b23c4d)) && ((self.link == 113) || (self.link == 276))) }
     {
-        (self.magic == 0xa1b2_c3d4 || self.magic == 0xa1b2_3c4d) && (self.link == 113 || self.link == 276)
+        (self.magic == 0xa1b2_c3d4 || self.magic == 0xa1b2_3c4d)
+            && (self.link == 113 || self.link == 276)
     }
 }
 

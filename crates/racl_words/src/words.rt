@@ -65,13 +65,16 @@ const VERSION: &str = "0.1.0";
 
 const ABOUT: &str = "Judges the packets of a capture by ordered rules and by sessions.";
 
-const USAGE: &str = "racl [OPTIONS] < INPUT";
+const USAGE: &str = "racl [OPTIONS] POLICY CAPTURE
+       racl [OPTIONS] < INPUT";
 
 const AFTER_HELP: &str =
-    "INPUT is a policy, a line `pcap` or `hex`, and the capture in that form: at most 67108864 bytes \
-    in all. The report goes to standard output.
+    "INPUT is a policy, a line `pcap` or `hex`, and the capture in that form; POLICY and CAPTURE are such \
+    a policy and a capture's bytes. They have at most 67108864 bytes in all. The report goes to standard \
+    output.
 
-Example:
+Examples:
+  racl host.policy host.pcap
   racl --workers 4 --udp 60 < examples/first_path.racl
 
 Exit status:
