@@ -1,8 +1,14 @@
-//! The program: a policy and a capture from standard input, a verdict on each packet to standard
-//! output. What it says and how it ends is decided in `racl_cli`; here are the devices alone.
+//! The program: a policy and a capture from standard input or files, a verdict on each packet to
+//! standard output. What it says and how it ends is decided in `racl_cli`; here are the devices alone.
 #![tactic(auto)]
 
-use racl_cli::{Device, Ending, ending, failure_ending, options, run, words_ending};
+mod reader;
+
+use crate::reader::opened;
+use racl_cli::{
+    Device, Ending, Files, Joined, Options, Remark, Unopened, ending, failure_ending, options,
+    remark, run, words_ending,
+};
 use std::alloc::Global;
 use std::io;
 use std::process::ExitCode;
@@ -33,12 +39,10 @@ fn status_of_words<T: Threads + Wait + Sync>(
         texts.push(word.as_str())?;
     }
     match options(alloc, texts.as_slice()) {
-        Ok(options) => {
-            let mut reader = Device::new(rt.stdin());
-            let mut writer = Device::new(rt.stdout());
-            let outcome = run(threads, alloc, &options, &mut reader, &mut writer);
-            said(rt, &ending(&outcome))
-        }
+        Ok(asked) => match asked.files {
+            None => status_of_input(rt, threads, alloc, &asked.options),
+            Some(files) => status_of_files(rt, threads, alloc, &asked.options, files),
+        },
         Err(error) => {
             let end = words_ending(&error);
             if end.message.is_none() {
@@ -47,6 +51,54 @@ fn status_of_words<T: Threads + Wait + Sync>(
             said(rt, &end)
         }
     }
+}
+
+// Runs on standard input.
+fn status_of_input<T: Threads + Wait + Sync>(
+    rt: &HostRuntime,
+    threads: &T,
+    alloc: Global,
+    options: &Options,
+) -> io::Result<u8> {
+    let mut reader = Device::new(rt.stdin());
+    let mut writer = Device::new(rt.stdout());
+    let outcome = run(threads, alloc, options, &mut reader, &mut writer);
+    said(rt, &ending(&outcome))
+}
+
+// Runs on files.
+fn status_of_files<T: Threads + Wait + Sync>(
+    rt: &HostRuntime,
+    threads: &T,
+    alloc: Global,
+    options: &Options,
+    files: Files<'_>,
+) -> io::Result<u8> {
+    let policy = match opened(rt, files.policy) {
+        Ok(policy) => policy,
+        Err(reason) => return unopened(rt, files.policy, reason),
+    };
+    let capture = match opened(rt, files.capture) {
+        Ok(capture) => capture,
+        Err(reason) => return unopened(rt, files.capture, reason),
+    };
+    let mut reader = Joined::new(policy, capture);
+    let mut writer = Device::new(rt.stdout());
+    let outcome = run(threads, alloc, options, &mut reader, &mut writer);
+    let status = said(rt, &ending(&outcome))?;
+    if let Some(other) = remark(&outcome, reader.front()) {
+        rt.eprintln(&Remark {
+            name: files.capture,
+            other,
+        })?;
+    }
+    Ok(status)
+}
+
+// Tells that a file can't be opened, and answers the status.
+fn unopened(rt: &HostRuntime, name: &str, reason: io::Error) -> io::Result<u8> {
+    rt.eprintln(&Unopened { name, reason })?;
+    Ok(4)
 }
 
 // Says what is to be said, and answers the status.

@@ -2,14 +2,14 @@
 ghost use Rattle.std.specs.Prelude.{◌≡◌, ◌≢◌, None, Some};
 ghost use Rattle.clap.specs.Words.{kind_of};
 ghost use Rattle.std.specs.IoError.{error_kind};
-ghost use Rattle.racl_cli.specs.Endings.{said_after};
+ghost use Rattle.racl_cli.specs.Endings.{remark_on, said_after};
 ghost use Rattle.racl_cli.specs.Statuses.{status_of};
 ghost use Rattle.racl_io.specs.declared.fault.Fault.TheVariants.{Memory, Write};
 ghost use Rattle.racl_words.specs.CommandLine.{IsRequest};
 
 use crate::message::{Ending, Message};
 use clap::error::ErrorKind;
-use racl_io::{Fault, Totals};
+use racl_io::{Fault, Other, Totals, other_file};
 use racl_words::words_status;
 use std::io;
 use std::io::ErrorKind as FailureKind;
@@ -38,6 +38,16 @@ pub fn ending(outcome: &Result<Totals, Fault>) -> Ending
     Ending {
         message,
         status: status(outcome),
+    }
+}
+
+/// What is told of a capture file that begins with these bytes, behind the fault that a run on it ended with.
+pub fn remark(outcome: &Result<Totals, Fault>, front: &[u8]) -> Option<Other>
+    ensures { result ≡ remark_on outcome.now front.now }
+{
+    match outcome {
+        Err(Fault::Magic | Fault::LinkType) => other_file(front),
+        _ => None,
     }
 }
 

@@ -1,6 +1,7 @@
 //! What the program says where it makes no report.
 
-use racl_io::Fault;
+use racl_io::{Fault, Other};
+use std::io;
 use thiserror::Error;
 
 /// What is said on standard error: `racl: ` and the cause.
@@ -20,4 +21,20 @@ pub struct Ending {
     pub message: Option<Message>,
     /// The exit status.
     pub status: u8,
+}
+
+/// A file that can't be opened.
+#[derive(Debug, Drop, Error)]
+#[error("racl: {name}: {reason}")]
+pub struct Unopened<'a> {
+    pub name: &'a str,
+    pub reason: io::Error,
+}
+
+/// What is said behind a fault of a capture file that isn't read for what it is.
+#[derive(Clone, Copy, Debug, PartialEq, Eq, Error)]
+#[error("racl: {name} is {other}")]
+pub struct Remark<'a> {
+    pub name: &'a str,
+    pub other: Other,
 }

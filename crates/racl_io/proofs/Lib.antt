@@ -1,4 +1,5 @@
 pub mod FaultLemmas
+pub mod FrontLemmas
 pub mod InputLemmas
 pub mod NumeralLemmas
 pub mod PartingLemmas

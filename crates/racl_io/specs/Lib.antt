@@ -1,6 +1,9 @@
 pub mod Devices
 pub mod Faults
+pub mod Fronts
 pub mod Inputs
+pub mod Joined
+pub mod Others
 pub mod Reports
 pub mod Transfers
 pub mod inner

@@ -1,6 +1,7 @@
 //! The tests of the crates from `racl_words` to `racl_cli`.
 
 mod devices;
+mod files;
 mod parts;
 mod reports;
 mod runs;

@@ -1,21 +1,23 @@
 -- What a parse by the command says of its options.
-use Rattle.std.proofs.Common.{◌≡◌, ◌∙◌, ◌<◌, ap, arith, map, length, refl, rules, subst, suc, sym, inl, inr, true, true≢false, List, [], ◌∷◌, Option, Result, Some, ℕ, codes}
+use Rattle.std.proofs.Common.{◌≡◌, ◌∙◌, ◌<◌, ap, arith, map, length, refl, rules, subst, suc, sym, inl, inr, true, true≢false, List, [], ◌∷◌, Option, Result, None, Some, ℕ, codes}
 use Rattle.std.specs.List.{IsDistinct, slice_index_or}
-use Rattle.std.specs.Prelude.{unwrap_or}
+use Rattle.std.specs.Prelude.{option_map, unwrap_or}
 use Rattle.std.specs.Str.{bytes_eq}
 use Rattle.std.proofs.lemmas.Bool.{cases_lt}
 use Rattle.std.proofs.lemmas.List.{get_or-map, length-map}
 use Rattle.std.proofs.lemmas.Map.Keys.{apart_from_distinct}
 use Rattle.std.proofs.lemmas.Slice.Eq.{bytes_eq-Decides}
-use Rattle.clap.specs.Words.{App, FailsBy, HasMatchesOf, IsParsedFrom, Rule, Text, app_of, args_of, fault_of, found_of, is_simple, is_simple_and_free, matches_of, one_of, one_text, rule_of, shape_of}
+use Rattle.clap.specs.Words.{App, FailsBy, HasKind, HasMatchesOf, IsParsedFrom, Rule, Text, all_of, app_of, args_of, fault_of, found_of, is_simple, is_simple_and_free, kind_of, matched_of, matches_of, one_of, one_text, raw_values, rule_of, shape_of}
 use Rattle.clap.specs.declared.builder.arg.Arg.{Arg}
 use Rattle.clap.specs.declared.builder.command.Command.{Command}
+use Rattle.clap.specs.Kinds.{Kinds}
 use Rattle.clap.specs.declared.error.Error.{Error}
+use Rattle.clap.specs.declared.error.kind.ErrorKind.TheVariants.{OutOfMemory}
 use Rattle.clap.specs.declared.parser.matches.ArgMatches.{ArgMatches}
 use Rattle.clap.proofs.OnLiterals.{clap_on_literals}
 use Rattle.clap.proofs.SimpleLemmas.{all_simple, plain_fields, simple_groups}
-use Rattle.clap.proofs.WalkLemmas.{one_text-rows}
-use Rattle.racl_words.specs.CommandLine.{AskFor, HoldsNumber, HoldsNumbers, OptionFacts, OptionName, Workers, Established, Transient, Udp, Spells, SpellsOptions, most_of, name_of, number_of, option_rule, racl, text_at}
+use Rattle.clap.proofs.WalkLemmas.{one_text-rows, raw_values-rows}
+use Rattle.racl_words.specs.CommandLine.{AskFor, AskForRun, FileFacts, HoldsNumber, HoldsNumbers, Name, OptionFacts, OptionName, Workers, Established, Transient, Udp, Spells, SpellsOptions, files_id, most_of, name_of, names_at, number_of, option_rule, racl, text_at}
 use Rattle.racl_words.proofs.NumberLemmas.{number_held, option_by_rule}
 
 racl_is_simple : is_simple racl ≡ true
@@ -50,39 +52,39 @@ module _ (c : Command) (is : app_of c ≡ racl) where
   rules_are : map rule_of (args_of c) ≡ racl.top.rules
   rules_are = ap (λ (a : App). a.top.rules) is
 
-  four : length (args_of c) ≡ 4
-  four = sym (length-map (args_of c) rule_of) ∙ ap length rules_are
+  five : length (args_of c) ≡ 5
+  five = sym (length-map (args_of c) rule_of) ∙ ap length rules_are
 
-  rule_at : (k : ℕ) (d : Arg) → k < 4 → rule_of (slice_index_or (args_of c) k d) ≡ slice_index_or racl.top.rules k (rule_of d)
+  rule_at : (k : ℕ) (d : Arg) → k < 5 → rule_of (slice_index_or (args_of c) k d) ≡ slice_index_or racl.top.rules k (rule_of d)
   rule_at k d lt =
-      let below : k < length (args_of c) = rw four lt in
+      let below : k < length (args_of c) = rw five lt in
       sym (get_or-map rule_of (args_of c) k d (rule_of d) below) ∙ ap (λ rs. slice_index_or rs k (rule_of d)) rules_are
 
   -- where the id of an argument stands among the ids
-  id_at : (k : ℕ) (d : Arg) (t : Text) → k < 4 → slice_index_or ids (suc (suc (suc k))) t ≡ (slice_index_or (args_of c) k d).id.now
+  id_at : (k : ℕ) (d : Arg) (t : Text) → k < 5 → slice_index_or ids (suc (suc (suc k))) t ≡ (slice_index_or (args_of c) k d).id.now
   id_at k d t lt = get_or-map (λ (r : Rule). r.id) racl.top.rules k (rule_of d) t lt ∙ sym (ap (λ (r : Rule). r.id) (rule_at k d lt))
 
   -- no argument has the id of one that stands elsewhere
-  unique : (j k : ℕ) (d e : Arg) → j < 4 → k < 4 → (slice_index_or (args_of c) j e).id.now ≡ (slice_index_or (args_of c) k d).id.now → j ≡ k
+  unique : (j k : ℕ) (d e : Arg) → j < 5 → k < 5 → (slice_index_or (args_of c) j e).id.now ≡ (slice_index_or (args_of c) k d).id.now → j ≡ k
   unique j k d e j_in k_in same =
       let places : suc (suc (suc j)) ≡ suc (suc (suc k)) = same_place _ _ [] (omega arith) (omega arith) (id_at j e [] j_in ∙ same ∙ sym (id_at k d [] k_in)) in
       omega arith
 
   -- nor one of the ids that stand before the options'
-  own : (j k : ℕ) (d : Arg) → j < 3 → k < 4 → (slice_index_or (args_of c) k d).id.now ≡ slice_index_or ids j [] → ⊥
+  own : (j k : ℕ) (d : Arg) → j < 3 → k < 5 → (slice_index_or (args_of c) k d).id.now ≡ slice_index_or ids j [] → ⊥
   own j k d j_in k_in same =
       let places : j ≡ suc (suc (suc k)) = same_place _ _ [] (omega arith) (omega arith) (sym same ∙ sym (id_at k d [] k_in)) in
       absurd (omega arith)
 
   -- the matches hold a number for the option at a place
-  held_at : (m : ArgMatches) → IsParsedFrom c m → (k : ℕ) (d : Arg) (o : OptionName) → k < 4 → slice_index_or racl.top.rules k (rule_of d) ≡ option_rule o
+  held_at : (m : ArgMatches) → IsParsedFrom c m → (k : ℕ) (d : Arg) (o : OptionName) → k < 5 → slice_index_or racl.top.rules k (rule_of d) ≡ option_rule o
       → HoldsNumber (most_of o) (one_text (found_of m) (name_of o))
   held_at m p k d o lt here =
       let plain = plain_fields c (ap (λ (a : App). a.top.is_plain) is) in
       let simple : all_simple (shape_of c).rules ≡ true = ap (λ (a : App). all_simple a.top.rules) is in
       let option = option_by_rule o (slice_index_or (args_of c) k d) (rule_at k d lt ∙ here) in
-      number_held c m p plain.globals (simple_groups c simple) plain.groups k d o option (rw four lt)
-      (λ j e low same. unique j k d e (rw four at low) lt ((bytes_eq-Decides _ (name_of o)).0 same ∙ sym option.name))
+      number_held c m p plain.globals (simple_groups c simple) plain.groups k d o option (rw five lt)
+      (λ j e low same. unique j k d e (rw five at low) lt ((bytes_eq-Decides _ (name_of o)).0 same ∙ sym option.name))
       (λ empty. own 0 k d (omega arith) lt (option.name ∙ empty))
       (λ auto. elim auto [ inl h ↦ own 1 k d (omega arith) lt h | inr h ↦ own 2 k d (omega arith) lt h ])
 
@@ -93,7 +95,7 @@ numbers_held c m is p = go (args_of c) refl
     go : (xs : List Arg) → args_of c ≡ xs → HoldsNumbers (one_text (found_of m))
     go [] e =
         let none : length (args_of c) ≡ 0 = ap length e in
-        absurd (omega (arith, four c is))
+        absurd (omega (arith, five c is))
     go (d ∷ rest) e = record {
       workers = held_at c is m p 0 d Workers (omega arith) refl;
       established = held_at c is m p 1 d Established (omega arith) refl;
@@ -109,16 +111,41 @@ same_options c words m facts is has = subst (λ text. SpellsOptions text facts) 
     same : (name : Text) → one_text (found_of m) name ≡ text_at words name
     same name = one_text-rows (found_of m) name ∙ ap (one_of name) ((has (ap is_simple is ∙ racl_is_simple)).0 ∙ ap (λ a. matches_of a words) is)
 
+-- and so are the names of files
+pub same_names : (c : Command) (words : List Text) (m : ArgMatches) → app_of c ≡ racl → HasMatchesOf (app_of c) words m
+    → option_map raw_values (matched_of (found_of m) files_id) ≡ names_at words
+same_names c words m is has = raw_values-rows (found_of m) files_id
+    ∙ ap (all_of files_id) ((has (ap is_simple is ∙ racl_is_simple)).0 ∙ ap (λ a. matches_of a words) is)
+
 -- no kind of error comes but those of the words' fault
 pub fails_by_fault : {T : Type 0} (c : Command) (words : List Text) (r : Result T Error) → app_of c ≡ racl
     → (is_simple_and_free (app_of c) ≡ true → FailsBy (fault_of (app_of c) words) r) → FailsBy (fault_of racl words) r
 fails_by_fault c words r is kinds = subst (λ a. FailsBy (fault_of a words) r) is (kinds (ap is_simple_and_free is ∙ racl_is_free))
+
+-- and none but that memory ran out where the words have no fault
+pub only_memory : (kinds : Kinds) (e : Error) → kinds ≡ [] → HasKind kinds e → kind_of e ≡ OutOfMemory
+only_memory kinds e none has = elim (subst (λ ks. HasKind ks e) none has) [ inl memory ↦ memory | inr among ↦ absurd among ]
 
 -- a text spells one number
 one_number : (o : OptionName) (m n : ℕ) (text : Option Text) → Spells o text m → Spells o text n → m ≡ n
 one_number o m n text a b =
     let same : Some a.0 ≡ Some b.0 = sym a.1 ∙ b.1 in
     a.3 ∙ ap (λ t. number_of (unwrap_or t a.0)) same ∙ sym b.3
+
+-- names are of one pair of files
+same_files : (names : Option (List Text)) (a b : Option FileFacts) → Name names a → Name names b → a ≡ b
+same_files names None None p q = refl
+same_files names None (Some b) p q =
+    let bad : None ≡ Some (b.policy ∷ b.capture ∷ []) = sym p ∙ q.0 in
+    cc
+same_files names (Some a) None p q =
+    let bad : None ≡ Some (a.policy ∷ a.capture ∷ []) = sym q ∙ p.0 in
+    cc
+same_files names (Some a) (Some b) p q =
+    let same : Some (a.policy ∷ a.capture ∷ []) ≡ Some (b.policy ∷ b.capture ∷ []) = sym p.0 ∙ q.0 in
+    let policy : a.policy ≡ b.policy = cc in
+    let capture : a.capture ≡ b.capture = cc in
+    λ i. Some (record { policy = policy i; capture = capture i })
 
 -- words ask for one setting of the options
 pub one_setting : (words : List Text) (a b : OptionFacts) → AskFor words a → AskFor words b → a ≡ b
@@ -128,3 +155,7 @@ one_setting words a b p q =
     let transient = one_number Transient a.transient b.transient _ p.options.transient q.options.transient in
     let udp = one_number Udp a.udp b.udp _ p.options.udp q.options.udp in
     λ i. record { workers = workers i; established = established i; transient = transient i; udp = udp i }
+
+-- words ask for one run
+pub one_run : (words : List Text) (a b : OptionFacts) (m n : Option FileFacts) → AskForRun words a m → AskForRun words b n → (a ≡ b) × (m ≡ n)
+one_run words a b m n p q = (one_setting words a b p.options q.options, same_files (names_at words) m n p.names q.names)

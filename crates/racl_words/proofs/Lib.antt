@@ -1,4 +1,5 @@
 pub mod CommandLemmas
+pub mod FileWalks
 pub mod NumberLemmas
 pub mod SettingDefaults
 pub mod SettingLemmas

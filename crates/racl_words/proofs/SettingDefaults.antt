@@ -1,5 +1,5 @@
 -- What the end of a parse makes of the options that the words left out.
-use Rattle.std.proofs.Common.{◌≡◌, ◌∙◌, ◌||◌, ap, cond, refl, Bool, true, false, List, [], ◌∷◌, Option, Some, None, is_some}
+use Rattle.std.proofs.Common.{◌≡◌, ◌∙◌, ◌++◌, ◌||◌, ap, cond, refl, Bool, true, false, List, [], ◌∷◌, Option, Some, None, is_some}
 use Rattle.std.specs.List.{find, fold}
 use Rattle.std.specs.Option.{option_or}
 use Rattle.std.specs.Str.{bytes_eq}
@@ -7,14 +7,14 @@ use Rattle.std.proofs.lemmas.List.Folds.{find-append}
 use Rattle.clap.specs.Faults.{check_fault, default_fault, defaults_fault, entered_fault, settle_fault, walk_fault}
 use Rattle.clap.specs.Kinds.{or_else}
 use Rattle.clap.specs.Simple.{entered, filled, help_rule, version_rule}
-use Rattle.clap.specs.Walk.{Held, Walk, default_rows, finished, has_row, more_values, nothing_held, reading_by, settled, walked, with_default, with_values}
+use Rattle.clap.specs.Walk.{Walk, default_rows, finished, has_row, more_values, nothing_held, reading_by, settled, walked, with_default, with_values}
 use Rattle.clap.specs.Words.{Row, Rule, Text, built, fault_of}
 use Rattle.clap.specs.declared.builder.value_parser.Reading.TheVariants.{WithoutMinus}
 use Rattle.clap.specs.declared.error.kind.ErrorKind.{ErrorKind}
 use Rattle.clap.specs.declared.parser.matches.ValueSource.TheVariants.{DefaultValue}
 use Rattle.clap.proofs.OnLiterals.{clap_on_literals}
-use Rattle.racl_words.specs.CommandLine.{OptionName, Workers, Established, Transient, Udp, default_of, name_of, racl}
-use Rattle.racl_words.proofs.SettingWalks.{at_row_missing, between, default_row, filled_rule, top}
+use Rattle.racl_words.specs.CommandLine.{OptionName, Workers, Established, Transient, Udp, default_of, files_id, name_of, racl}
+use Rattle.racl_words.proofs.SettingWalks.{at_row_missing, between, default_row, files_filled, filled_rule, top}
 
 or_right : (b : Bool) → (b || true) ≡ true
 or_right true = refl
@@ -51,15 +51,18 @@ transient_filled rows = with_default (established_filled rows) (filled_rule Tran
 abbrev udp_filled : List Row → List Row
 udp_filled rows = with_default (transient_filled rows) (filled_rule Udp)
 
+abbrev files_passed : List Row → List Row
+files_passed rows = with_default (udp_filled rows) files_filled
+
 abbrev help_filled : List Row → List Row
-help_filled rows = with_default (udp_filled rows) (filled help_rule)
+help_filled rows = with_default (files_passed rows) (filled help_rule)
 
 defaults_pass : (rows : List Row) → defaults_fault rows top.rules ≡ []
 unfolding clap_on_literals
 defaults_pass rows = both_pass (default_passes Workers rows) (both_pass (default_passes Established (workers_filled rows))
     (both_pass (default_passes Transient (established_filled rows)) (both_pass (default_passes Udp (transient_filled rows))
-    (both_pass (flag_passes (filled help_rule) (udp_filled rows) refl)
-    (both_pass (flag_passes (filled version_rule) (help_filled rows) refl) refl)))))
+    (both_pass (flag_passes files_filled (udp_filled rows) refl) (both_pass (flag_passes (filled help_rule) (files_passed rows) refl)
+    (both_pass (flag_passes (filled version_rule) (help_filled rows) refl) refl))))))
 
 -- what the words come to in the end, by where the walk stopped
 abbrev pub end_fault : List ErrorKind → Walk → List ErrorKind
@@ -69,8 +72,8 @@ end_fault walk_kinds w = or_else walk_kinds (or_else (entered_fault (built racl)
 pub fault_is : (program : Text) (words : List Text) → fault_of racl (program ∷ words) ≡ end_fault (walk_fault top [] (between nothing_held) words) (fold (walked top.rules []) (between nothing_held) words)
 fault_is program words = refl
 
-pub ends_well : (h : Held) → settle_fault top.rules false h ≡ [] → end_fault [] (between h) ≡ []
-ends_well h settles = rw (settles, defaults_pass (settled top.rules h).rows) refl
+pub ends_well : (w : Walk) → w.stopped ≡ None → settle_fault top.rules false w.held ≡ [] → end_fault [] w ≡ []
+ends_well w runs settles = rw (runs, settles, defaults_pass (settled top.rules w.held).rows) refl
 
 -- what the matches hold of an id, by the rows that the words made
 abbrev pub find_row : Text → List Row → Option Row
@@ -124,12 +127,15 @@ default_fills Established rows = fill_row (name_of Established) (default_of Esta
 default_fills Transient rows = fill_row (name_of Transient) (default_of Transient) rows refl
 default_fills Udp rows = fill_row (name_of Udp) (default_of Udp) rows refl
 
--- and leaves other options as they are
+-- and leaves what has another id as it is
+id_keeps : (id : Text) (other : OptionName) (rows : List Row) → bytes_eq (name_of other) id ≡ false → find_row id (with_default rows (filled_rule other)) ≡ find_row id rows
+id_keeps id Workers rows = keep_row id (name_of Workers) (default_of Workers) rows
+id_keeps id Established rows = keep_row id (name_of Established) (default_of Established) rows
+id_keeps id Transient rows = keep_row id (name_of Transient) (default_of Transient) rows
+id_keeps id Udp rows = keep_row id (name_of Udp) (default_of Udp) rows
+
 default_keeps : (o other : OptionName) (rows : List Row) → bytes_eq (name_of other) (name_of o) ≡ false → find_row (name_of o) (with_default rows (filled_rule other)) ≡ find_row (name_of o) rows
-default_keeps o Workers rows = keep_row (name_of o) (name_of Workers) (default_of Workers) rows
-default_keeps o Established rows = keep_row (name_of o) (name_of Established) (default_of Established) rows
-default_keeps o Transient rows = keep_row (name_of o) (name_of Transient) (default_of Transient) rows
-default_keeps o Udp rows = keep_row (name_of o) (name_of Udp) (default_of Udp) rows
+default_keeps o other rows = id_keeps (name_of o) other rows
 
 -- and a flag leaves all rows
 flag_keeps : (r : Rule) (rows : List Row) → r.defaults ≡ [] → with_default rows r ≡ rows
@@ -153,5 +159,24 @@ filled_by Transient rows = default_keeps Transient Udp (transient_filled rows) r
 filled_by Udp rows = default_fills Udp (transient_filled rows)
     ∙ or_default Udp _ _ (default_keeps Udp Transient (established_filled rows) refl ∙ default_keeps Udp Established (workers_filled rows) refl ∙ default_keeps Udp Workers rows refl)
 
+-- what has no default leaves the rows of the options
+all_but_options : (rows : List Row) → fold with_default rows top.rules ≡ udp_filled rows
+all_but_options rows = flag_keeps (filled version_rule) (help_filled rows) refl ∙ flag_keeps (filled help_rule) (files_passed rows) refl
+    ∙ flag_keeps files_filled (udp_filled rows) refl
+
 pub all_filled : (o : OptionName) (rows : List Row) → find_row (name_of o) (fold with_default rows top.rules) ≡ option_or (find_row (name_of o) rows) (Some (default_row o))
-all_filled o rows = ap (find_row (name_of o)) (flag_keeps (filled version_rule) (help_filled rows) refl ∙ flag_keeps (filled help_rule) (udp_filled rows) refl) ∙ filled_by o rows
+all_filled o rows = ap (find_row (name_of o)) (all_but_options rows) ∙ filled_by o rows
+
+-- no default names a file
+pub no_file_filled : (rows : List Row) → find_row files_id (fold with_default rows top.rules) ≡ find_row files_id rows
+no_file_filled rows = ap (find_row files_id) (all_but_options rows) ∙ id_keeps files_id Udp (transient_filled rows) refl
+    ∙ id_keeps files_id Transient (established_filled rows) refl ∙ id_keeps files_id Established (workers_filled rows) refl
+    ∙ id_keeps files_id Workers rows refl
+
+-- a row with another id isn't found
+pub find_before : (id : Text) (rows : List Row) (r : Row) → bytes_eq r.id id ≡ false → find_row id (rows ++ r ∷ []) ≡ find_row id rows
+find_before id rows r apart = rw (find-append, apart) (or_none (find_row id rows))
+
+-- the last row is found where none before it has its id
+pub find_last : (id : Text) (rows : List Row) (r : Row) → bytes_eq r.id id ≡ true → find_row id rows ≡ None → find_row id (rows ++ r ∷ []) ≡ Some r
+find_last id rows r same none = rw (find-append, none, same) refl

@@ -1,8 +1,8 @@
--- Words that set options, as a user writes them, ask for what they say.
-use Rattle.std.proofs.Common.{◌≡◌, ◌∙◌, ◌++◌, ◌==◌, ◌+◌, ◌||◌, ◌≤◌, ◌<◌, ◌^◌, ap, ap₂, arith, cond, refl, rules as common_rules, subst, sym, ℕ, Bool, true, false, List, [], ◌∷◌, map, append-nil, Some, codes}
+-- Words that set options and name files, as a user writes them, ask for what they say.
+use Rattle.std.proofs.Common.{◌≡◌, ◌∙◌, ◌++◌, ◌==◌, ◌+◌, ◌||◌, ◌≤◌, ◌<◌, ◌^◌, ap, ap₂, arith, cond, refl, rules as common_rules, subst, sym, ℕ, Bool, true, false, List, [], ◌∷◌, map, append-nil, Option, Some, None, codes}
 use Rattle.std.specs.List.{flat_map, fold}
 use Rattle.std.specs.Option.{option_or}
-use Rattle.std.specs.Prelude.{option_and_then, pos}
+use Rattle.std.specs.Prelude.{option_and_then, option_map, pos}
 use Rattle.std.specs.Str.{bytes_eq}
 use Rattle.std.specs.Str.Parse.{IsNumeral, without_leading_plus}
 use Rattle.std.proofs.lemmas.Bool.{eqb-true, ne_eqb}
@@ -11,13 +11,14 @@ use Rattle.std.proofs.lemmas.Slice.Eq.{bytes_eq-Decides}
 use Rattle.std.proofs.lemmas.Str.Parse.{digit_from_value}
 use Rattle.clap.specs.Faults.{walk_fault}
 use Rattle.clap.specs.Walk.{Held, has_row, nothing_held, row_text, settled, walked, with_default}
-use Rattle.clap.specs.Words.{IsSignedIn, Row, Text, without_minus}
+use Rattle.clap.specs.Words.{IsSignedIn, Row, Text, matches_of, without_minus}
 use Rattle.clap.specs.declared.builder.value_parser.ValueParser.TheVariants.{Signed}
 use Rattle.clap.proofs.ValueTestLemmas.{Accepts-accepts}
-use Rattle.racl_words.specs.CommandLine.{AskFor, IsInRange, OptionName, Workers, Established, Transient, Udp, Spells, default_of, most_of, most_seconds, name_of, number_of, text_at}
-use Rattle.racl_words.specs.Options.{AreInRange, AreSettings, Setting, facts_of, sets, times_set, value_at, words_of}
+use Rattle.racl_words.specs.CommandLine.{AskForRun, FileFacts, IsInRange, Name, OptionName, Workers, Established, Transient, Udp, Spells, default_of, files_id, most_of, most_seconds, name_of, number_of, racl, text_at}
+use Rattle.racl_words.specs.Options.{AreInRange, AreNames, AreSettings, Setting, facts_of, sets, times_set, value_at, words_as, words_for, words_of}
+use Rattle.racl_words.proofs.FileWalks.{Ends, files_end, rows_for}
 use Rattle.racl_words.proofs.SettingWalks.{AreNew, GoesOn, Holds, IsFit, between, default_row, row_of, settings_go_on, top}
-use Rattle.racl_words.proofs.SettingDefaults.{all_filled, end_fault, ends_well, fault_is, find_row}
+use Rattle.racl_words.proofs.SettingDefaults.{all_filled, end_fault, ends_well, fault_is, find_before, find_last, find_row, no_file_filled}
 
 -- a number's text doesn't begin with a minus
 plain_value : (d : ℕ) (ds : Text) → IsNumeral 10 (without_leading_plus (d ∷ ds)) → (d == 45) ≡ false
@@ -129,35 +130,79 @@ new_settings (s ∷ rest) rows once range =
       new_settings rest (rows ++ row_of s ∷ []) (λ o. omega (arith, once o, rows_with-append (name_of o) rows (row_of s))) range.1,
     )
 
--- words that set options as a user writes them ask for what they say
-settings_ask : (program : Text) (ss : List Setting) → AreSettings ss → AskFor (program ∷ flat_map words_of ss) (facts_of ss)
+-- no setting names a file
+no_file : (o : OptionName) → bytes_eq (name_of o) files_id ≡ false
+no_file Workers = refl
+no_file Established = refl
+no_file Transient = refl
+no_file Udp = refl
+
+no_file_row : (ss : List Setting) → has_row files_id (map row_of ss) ≡ false
+no_file_row [] = refl
+no_file_row (s ∷ rest) = rw (no_file s.option) (no_file_row rest)
+
+no_file_found : (ss : List Setting) → find_row files_id (map row_of ss) ≡ None
+no_file_found [] = refl
+no_file_found (s ∷ rest) = rw (no_file s.option) (no_file_found rest)
+
+no_option : (o : OptionName) → bytes_eq files_id (name_of o) ≡ false
+no_option Workers = refl
+no_option Established = refl
+no_option Transient = refl
+no_option Udp = refl
+
+-- the names of files are no option's text
+option_found : (o : OptionName) (rows : List Row) (files : Option FileFacts) → find_row (name_of o) (rows ++ rows_for files) ≡ find_row (name_of o) rows
+option_found o rows None = ap (find_row (name_of o)) (append-nil rows)
+option_found o rows (Some files) = find_before (name_of o) rows _ (no_option o)
+
+-- and are found as they were written
+names_are : (ss : List Setting) (files : Option FileFacts) → AreNames files → (names : Option (List Text))
+    → names ≡ option_map (λ r. r.values) (find_row files_id (map row_of ss ++ rows_for files)) → Name names files
+names_are ss None are names is = is ∙ ap (option_map (λ r. r.values)) (ap (find_row files_id) (append-nil (map row_of ss)) ∙ no_file_found ss)
+names_are ss (Some files) are names is =
+    (is ∙ ap (option_map (λ r. r.values)) (find_last files_id (map row_of ss) _ refl (no_file_found ss)), are.2)
+
+-- words that set options and name files as a user writes them ask for what they say
+words_ask : (program : Text) (ss : List Setting) (files : Option FileFacts) → AreSettings ss → AreNames files
+    → AskForRun (program ∷ words_as ss files) (facts_of ss) files
 unfolding walk_fault
-settings_ask program ss are = record {
-  faultless = fault_is program words ∙ ap₂ end_fault faultless_walk walked_is ∙ ends_well run.0 run.1.1;
-  options = record { workers = spelt Workers; established = spelt Established; transient = spelt Transient; udp = spelt Udp };
+words_ask program ss files are named = record {
+  options = record {
+    faultless = fault_is program words ∙ ap₂ end_fault faultless_walk walked_is ∙ ends_well ends.last ends.runs ends.settles;
+    options = record { workers = spelt Workers; established = spelt Established; transient = spelt Transient; udp = spelt Udp };
+  };
+  names = names_are ss files named _ (ap (option_map (λ r. r.values)) (ap (find_row files_id) filled_rows ∙ no_file_filled (map row_of ss ++ rows_for files)));
 }
   where
     words : List Text
-    words = flat_map words_of ss
+    words = words_as ss files
 
-    run : (e : Held) × Holds (map row_of ss) e × GoesOn nothing_held words e
-    run = settings_go_on ss [] nothing_held (refl, refl) (new_settings ss [] (λ o. let once = are.once o in omega arith) are.in_range)
+    run : (e : Held) × Holds (map row_of ss) e × GoesOn nothing_held (flat_map words_of ss) e
+    run = settings_go_on ss [] nothing_held (refl, refl, refl) (new_settings ss [] (λ o. let once = are.once o in omega arith) are.in_range)
 
-    walked_is : fold (walked top.rules []) (between nothing_held) words ≡ between run.0
-    walked_is = ap (fold (walked top.rules []) (between nothing_held)) (sym (append-nil words)) ∙ run.2.0 []
+    ends : Ends (map row_of ss) files run.0
+    ends = files_end (map row_of ss) files run.0 run.1 (no_file_row ss) named
+
+    walked_is : fold (walked top.rules []) (between nothing_held) words ≡ ends.last
+    walked_is = run.2.0 (words_for files) ∙ ends.walks
 
     faultless_walk : walk_fault top [] (between nothing_held) words ≡ []
-    faultless_walk = ap (walk_fault top [] (between nothing_held)) (sym (append-nil words)) ∙ run.2.1 []
+    faultless_walk = run.2.1 (words_for files) ∙ ends.passes
+
+    filled_rows : matches_of racl (program ∷ words) ≡ fold with_default (map row_of ss ++ rows_for files) top.rules
+    filled_rows = ap (λ w. fold with_default (settled top.rules w.held).rows top.rules) walked_is ∙ ap (λ rows. fold with_default rows top.rules) ends.settled_to
 
     text : (o : OptionName) → text_at (program ∷ words) (name_of o) ≡ Some (value_at o ss)
-    text o = ap (λ w. option_and_then row_text (find_row (name_of o) (fold with_default (settled top.rules w.held).rows top.rules))) walked_is
-        ∙ ap (λ rows. option_and_then row_text (find_row (name_of o) (fold with_default rows top.rules))) run.1.0
-        ∙ ap (option_and_then row_text) (all_filled o (map row_of ss)) ∙ text_is o ss are.in_range
+    text o = ap (λ rows. option_and_then row_text (find_row (name_of o) rows)) filled_rows
+        ∙ ap (option_and_then row_text) (all_filled o (map row_of ss ++ rows_for files)
+        ∙ ap (λ found. option_or found (Some (default_row o))) (option_found o (map row_of ss) files)) ∙ text_is o ss are.in_range
 
     spelt : (o : OptionName) → Spells o (text_at (program ∷ words) (name_of o)) (number_of (value_at o ss))
     spelt o =
         let range = value_in_range o ss are.in_range in
         (value_at o ss, text o, range, refl)
 
-pub written_asks : (words : List Text) (program : Text) (ss : List Setting) → AreSettings ss → words ≡ program ∷ flat_map words_of ss → AskFor words (facts_of ss)
-written_asks words program ss are is = subst (λ ws. AskFor ws (facts_of ss)) (sym is) (settings_ask program ss are)
+pub written_asks : (words : List Text) (program : Text) (ss : List Setting) (files : Option FileFacts) → AreSettings ss → AreNames files
+    → words ≡ program ∷ words_as ss files → AskForRun words (facts_of ss) files
+written_asks words program ss files are named is = subst (λ ws. AskForRun ws (facts_of ss) files) (sym is) (words_ask program ss files are named)

@@ -4,15 +4,16 @@ use Rattle.std.specs.List.{flat_map, fold}
 use Rattle.std.specs.Prelude.{pos}
 use Rattle.std.specs.Str.{bytes_eq}
 use Rattle.clap.specs.Faults.{settle_fault, turn_fault, use_fault, walk_fault}
-use Rattle.clap.specs.Simple.{Shape, filled}
+use Rattle.clap.specs.Simple.{Shape, filled, with_index}
 use Rattle.clap.specs.ValueTests.{accepts}
-use Rattle.clap.specs.Walk.{Held, Walk, at_row, has_row, idle, more_values, option, reacted, settled, used, walked, with_values, without}
+use Rattle.clap.specs.Walk.{Held, Walk, at_row, has_row, idle, is_pending, more_values, option, reacted, settled, used, walked, with_values, without}
 use Rattle.clap.specs.Words.{Row, Rule, Text, built}
+use Rattle.clap.specs.declared.builder.value_parser.Reading.{Reading}
 use Rattle.clap.specs.declared.builder.value_parser.Reading.TheVariants.{WithoutMinus}
 use Rattle.clap.specs.declared.builder.value_parser.ValueParser.TheVariants.{Signed}
 use Rattle.clap.specs.declared.parser.matches.ValueSource.TheVariants.{CommandLine, DefaultValue}
 use Rattle.clap.proofs.OnLiterals.{clap_on_literals}
-use Rattle.racl_words.specs.CommandLine.{OptionName, Workers, Established, Transient, Udp, default_of, most_of, name_of, option_rule, racl}
+use Rattle.racl_words.specs.CommandLine.{OptionName, Workers, Established, Transient, Udp, default_of, files_rule, most_of, name_of, option_rule, racl}
 use Rattle.racl_words.specs.Options.{Setting, words_by, words_of}
 
 abbrev pub top : Shape
@@ -20,6 +21,9 @@ top = (built racl).top
 
 abbrev pub filled_rule : OptionName → Rule
 filled_rule o = filled (option_rule o)
+
+abbrev pub files_filled : Rule
+files_filled = with_index 1 (filled files_rule)
 
 -- ---- rows
 
@@ -45,17 +49,17 @@ at_row_missing id change missing (r ∷ rest) none = go (bytes_eq r.id id) refl 
     go false other absent next = rw other (ap (λ rs. r ∷ rs) (next (rw other at absent)))
 
 -- an id that has no row gets one
-set_once : (id v : Text) (rows : List Row) → has_row id rows ≡ false
-    → with_values id WithoutMinus CommandLine (v ∷ []) (without id rows)
-    ≡ rows ++ (record { id = id; values = v ∷ []; count = None; source = Some CommandLine; reading = WithoutMinus }) ∷ []
-set_once id v rows none = rw (at_row_missing id (λ _. []) [] rows none, append-nil rows)
-    (at_row_missing id (more_values CommandLine (v ∷ [])) _ rows none)
+pub set_once : (id : Text) (how : Reading) (vs : List Text) (rows : List Row) → has_row id rows ≡ false
+    → with_values id how CommandLine vs (without id rows)
+    ≡ rows ++ (record { id = id; values = vs; count = None; source = Some CommandLine; reading = how }) ∷ []
+set_once id how vs rows none = rw (at_row_missing id (λ _. []) [] rows none, append-nil rows)
+    (at_row_missing id (more_values CommandLine vs) _ rows none)
 
 used_once : (o : OptionName) (v : Text) (rows : List Row) → has_row (name_of o) rows ≡ false → used (filled_rule o) (v ∷ []) rows ≡ rows ++ row_by o v ∷ []
-used_once Workers = set_once (name_of Workers)
-used_once Established = set_once (name_of Established)
-used_once Transient = set_once (name_of Transient)
-used_once Udp = set_once (name_of Udp)
+used_once Workers v = set_once (name_of Workers) WithoutMinus (v ∷ [])
+used_once Established v = set_once (name_of Established) WithoutMinus (v ∷ [])
+used_once Transient v = set_once (name_of Transient) WithoutMinus (v ∷ [])
+used_once Udp v = set_once (name_of Udp) WithoutMinus (v ∷ [])
 
 -- ---- one setting
 
@@ -132,9 +136,15 @@ given_passes Established v h = refl
 given_passes Transient v h = refl
 given_passes Udp v h = refl
 
--- the rows that a held state comes to, where what is pending has no fault
+-- the rows that a held state comes to, where what is pending has no fault, and is no file
 abbrev pub Holds : List Row → Held → Type 0
-Holds rows h = ((settled top.rules h).rows ≡ rows) × (settle_fault top.rules false h ≡ [])
+Holds rows h = ((settled top.rules h).rows ≡ rows) × (settle_fault top.rules false h ≡ []) × (is_pending files_filled h.pending ≡ false)
+
+no_file_given : (o : OptionName) (v : Text) (h : Held) → is_pending files_filled (given o v h).pending ≡ false
+no_file_given Workers v h = refl
+no_file_given Established v h = refl
+no_file_given Transient v h = refl
+no_file_given Udp v h = refl
 
 -- the walk goes on from one state as from another after some words, and finds no fault in them
 abbrev pub GoesOn : Held → List Text → Held → Type 0
@@ -168,13 +178,13 @@ setting_goes_on : (o : OptionName) (v : Text) (in_one : Bool) (rows : List Row) 
 setting_goes_on o v true rows h holds none fit =
     let uses : use_fault false (filled_rule o) (v ∷ []) (settled top.rules h).rows ≡ [] = rw holds.0 (use_passes o v rows none fit.0) in (
       reacted top.rules (filled_rule o) (v ∷ []) h,
-      (rw holds.0 (used_once o v rows none), refl),
+      (rw holds.0 (used_once o v rows none), refl, refl),
       one_word_goes_on o v h holds.1 uses,
     )
 setting_goes_on o v false rows h holds none fit =
     let uses : use_fault false (filled_rule o) (v ∷ []) (settled top.rules h).rows ≡ [] = rw holds.0 (use_passes o v rows none fit.0) in (
       given o v h,
-      (given_rows o v h ∙ rw holds.0 (used_once o v rows none), given_passes o v h ∙ uses),
+      (given_rows o v h ∙ rw holds.0 (used_once o v rows none), given_passes o v h ∙ uses, no_file_given o v h),
       subst (λ w. GoesOn h (words_by o w false) (given o w h)) (sym fit.1.2) (two_words_go_on o fit.1.0 fit.1.1 h holds.1 fit.1.3),
     )
 

@@ -1,10 +1,12 @@
--- Words that set options, as a user writes them.
-use Rattle.std.specs.Prelude.{◌≤◌, ◌+◌, ℕ, Bool, true, false, List, [], ◌∷◌, ◌++◌, codes}
-use Rattle.std.specs.Prelude.{if◌then◌else◌}
+-- Words that set options and name files, as a user writes them.
+use Rattle.std.specs.Prelude.{◌≡◌, ◌≢◌, ◌⊎◌, ◌≤◌, ◌+◌, ℕ, Bool, true, false, List, [], ◌∷◌, ◌++◌, codes}
+use Rattle.std.specs.Prelude.{Option, None, Some, if◌then◌else◌}
+use Rattle.std.specs.List.{flat_map}
 use Rattle.std.specs.Str.{bytes_eq}
 use Rattle.clap.specs.Words.{Text}
-use Rattle.racl_words.specs.CommandLine.{IsInRange, OptionFacts, OptionName, Workers, Established}
-use Rattle.racl_words.specs.CommandLine.{Transient, Udp, default_of, name_of, number_of}
+use Rattle.racl_words.specs.CommandLine.{AreBothStandard, FileFacts, IsInRange, OptionFacts}
+use Rattle.racl_words.specs.CommandLine.{OptionName, Workers, Established, Transient, Udp}
+use Rattle.racl_words.specs.CommandLine.{default_of, name_of, number_of}
 
 -- an option set to a value, in one word or in two
 pub record Setting : Type 0 where
@@ -50,3 +52,23 @@ facts_of settings = record {
   transient = number_of (value_at Transient settings);
   udp = number_of (value_at Udp settings);
 }
+
+-- ---- files
+
+-- the file's name is `-`, or a word that doesn't begin with a minus (45)
+abbrev pub IsName : Text → Type 0
+IsName name = (name ≡ codes "-")
+    ⊎ ((first : ℕ) × (rest : Text) × (name ≡ first ∷ rest) × (first ≢ 45))
+
+abbrev pub AreNames : Option FileFacts → Type 0
+AreNames None = Unit {0}
+AreNames (Some files) =
+    IsName files.policy × IsName files.capture × (AreBothStandard files → ⊥)
+
+abbrev pub words_for : Option FileFacts → List Text
+words_for None = []
+words_for (Some files) = files.policy ∷ files.capture ∷ []
+
+-- the settings, and then the names of the files
+abbrev pub words_as : List Setting → Option FileFacts → List Text
+words_as settings files = flat_map words_of settings ++ words_for files

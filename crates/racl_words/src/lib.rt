@@ -1,8 +1,8 @@
-//! The words of the command line, and the options that they set.
+//! The words of the command line, and the options and files that they ask for.
 #![tactic(auto)]
 
 mod settings;
 mod words;
 
-pub use settings::Options;
+pub use settings::{Asked, Files, Options};
 pub use words::{options, words_status};

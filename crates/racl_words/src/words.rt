@@ -1,15 +1,14 @@
 //! The command line: the words with which the program is called, read by `clap`.
-ghost use Rattle.std.specs.Prelude.{◌≡◌, ◌≢◌, List, ◌∷◌, IfErr, IfOk, MatchResult, false};
-ghost use Rattle.std.specs.List.{flat_map};
+ghost use Rattle.std.specs.Prelude.{◌≡◌, ◌≢◌, ◌⊎◌, List, ◌∷◌, IfErr, IfOk, MatchResult, Option, false, option_map};
 ghost use Rattle.clap.specs.Walk.{Text, texts};
-ghost use Rattle.clap.specs.Words.{HasKind, app_of, fault_of, found_of, kind_of, one_text, rule_of};
-ghost use Rattle.racl_words.specs.CommandLine.{AskFor, HoldsNumber, HoldsNumbers, IsRequest};
-ghost use Rattle.racl_words.specs.CommandLine.{OptionFacts, OptionName, Spells, SpellsOptions};
-ghost use Rattle.racl_words.specs.CommandLine.{option_facts, racl, without_options};
+ghost use Rattle.clap.specs.Words.{HasKind, app_of, fault_of, found_of, kind_of, matched_of, one_text, raw_values, rule_of};
+ghost use Rattle.racl_words.specs.CommandLine.{AskForRun, FileFacts, HoldsNumber, HoldsNumbers, IsRequest};
+ghost use Rattle.racl_words.specs.CommandLine.{Name, OptionFacts, OptionName, Spells, SpellsOptions};
+ghost use Rattle.racl_words.specs.CommandLine.{file_facts, files_id, names_at, option_facts, racl, with_options, without_options};
 ghost use Rattle.racl_words.specs.CommandLine as line;
-ghost use Rattle.racl_words.specs.Options.{AreSettings, Setting, facts_of, words_of};
+ghost use Rattle.racl_words.specs.Options.{AreNames, AreSettings, Setting, facts_of, words_as};
 
-use crate::settings::Options;
+use crate::settings::{Asked, Files, Options};
 use clap::error::ErrorKind;
 use clap::{Arg, ArgAction, ArgMatches, Command, Error, value_parser};
 use session_state::Timeouts;
@@ -17,24 +16,35 @@ use std::alloc::{AllocError, Global};
 
 /// Reads the words, of which the first is the program's name. An `Err` is a request for the help
 /// or the version, a mistake in the words, or that memory ran out, by its kind.
-pub fn options<'a>(alloc: Global, words: &'a [&'a str]) -> Result<Options, Error>
-    ensures ok { IfOk result (λ o. AskFor (texts words.entry.now) (option_facts o)) }
+pub fn options<'a>(alloc: Global, words: &'a [&'a str]) -> Result<Asked<'a>, Error>
+    ensures ok { IfOk result (λ a. AskForRun (texts words.entry.now) (option_facts a.options) (file_facts a.files)) }
 
     // Words that ask for something, and those that a user writes for it, are refused for want of
     // memory alone.
-    ensures accepts { (facts : OptionFacts) → AskFor (texts words.entry.now) facts
-        → MatchResult result (λ o. option_facts o ≡ facts)
+    ensures accepts { (facts : OptionFacts) (files : Option FileFacts) → AskForRun (texts words.entry.now) facts files
+        → MatchResult result (λ a. (option_facts a.options ≡ facts) × (file_facts a.files ≡ files))
         (λ e. kind_of e ≡ ErrorKind.OutOfMemory) }
-    ensures written { (program : Text) (settings : List Setting) → AreSettings settings
-        → texts words.entry.now ≡ program ∷ flat_map words_of settings
-        → MatchResult result (λ o. option_facts o ≡ facts_of settings)
+    ensures written { (program : Text) (settings : List Setting) (files : Option FileFacts) → AreSettings settings → AreNames files
+        → texts words.entry.now ≡ program ∷ words_as settings files
+        → MatchResult result (λ a. (option_facts a.options ≡ facts_of settings) × (file_facts a.files ≡ files))
         (λ e. kind_of e ≡ ErrorKind.OutOfMemory) }
 
-    // An error has a kind of the words' fault, or memory ran out.
-    ensures refuses { IfErr result (HasKind (fault_of racl (texts words.entry.now))) }
+    // An error has a kind of the words' fault, or the names are no files to be read, or memory ran out.
+    ensures refuses { IfErr result (λ e. HasKind (fault_of racl (texts words.entry.now)) e
+        ⊎ ((kind_of e ≡ ErrorKind.ValueValidation) × ((files : Option FileFacts) → Name (names_at (texts words.entry.now)) files → ⊥))) }
 {
-    let matches = command(alloc)?.try_get_matches_from(words)?;
-    Ok(read_options(&matches))
+    let mut command = command(alloc)?;
+    let matches = match command.try_get_matches_from_mut(words) {
+        Ok(matches) => matches,
+        Err(error) => return Err(error),
+    };
+    match named_files(&matches) {
+        Ok(files) => Ok(Asked {
+            options: read_options(&matches),
+            files,
+        }),
+        Err(NotFiles) => Err(command.error(ErrorKind::ValueValidation, NOT_FILES)?),
+    }
 }
 
 /// The status with which the program ends after words that `options` refuses.
@@ -55,13 +65,16 @@ const VERSION: &str = "0.1.0";
 
 const ABOUT: &str = "Judges the packets of a capture by ordered rules and by sessions.";
 
-const USAGE: &str = "racl [OPTIONS] < INPUT";
+const USAGE: &str = "racl [OPTIONS] POLICY CAPTURE
+       racl [OPTIONS] < INPUT";
 
 const AFTER_HELP: &str =
-    "INPUT is a policy, a line `pcap` or `hex`, and the capture in that form: at most 67108864 bytes \
-    in all. The report goes to standard output.
+    "INPUT is a policy, a line `pcap` or `hex`, and the capture in that form; POLICY and CAPTURE are such \
+    a policy and a capture's bytes. They have at most 67108864 bytes in all. The report goes to standard \
+    output.
 
-Example:
+Examples:
+  racl host.policy host.pcap
   racl --workers 4 --udp 60 < examples/first_path.racl
 
 Exit status:
@@ -71,8 +84,17 @@ Exit status:
   3  done, but the capture was cut off
   4  memory or device";
 
+const NOT_FILES: &str = "POLICY and CAPTURE can't both be standard input";
+
 fn command<'a>(alloc: Global) -> Result<Command<'a>, AllocError>
     ensures { IfOk result (λ c. app_of c ≡ racl) }
+{
+    command_with_options(alloc)?.arg(files_argument(alloc))
+}
+
+// The command with its options, and no file yet.
+fn command_with_options<'a>(alloc: Global) -> Result<Command<'a>, AllocError>
+    ensures { IfOk result (λ c. app_of c ≡ with_options) }
 {
     described_command(alloc)
         .arg(number_option(
@@ -140,6 +162,36 @@ fn number_option<'a>(
         .default_value(default)
         .value_name(unit)
         .help(help)
+}
+
+fn files_argument<'a>(alloc: Global) -> Arg<'a>
+    ensures rule { rule_of result ≡ line.files_rule }
+    ensures local { result.global ≡ false }
+{
+    Arg::new(alloc, "FILES")
+        .action(ArgAction::Set)
+        .value_names(&["POLICY", "CAPTURE"])
+        .help("The policy and the capture; `-` for one of them is standard input")
+}
+
+// The names are no files to be read.
+struct NotFiles;
+
+// The files that the words name.
+fn named_files<'a>(matches: &ArgMatches<'a>) -> Result<Option<Files<'a>>, NotFiles>
+    ensures files { IfOk result (λ files. Name (option_map raw_values (matched_of (found_of matches.now) files_id)) (file_facts files)) }
+    ensures none { IfErr result (λ _. (files : Option FileFacts) → Name (option_map raw_values (matched_of (found_of matches.now) files_id)) files → ⊥) }
+{
+    let Some(names) = matches.get_strs("FILES") else {
+        return Ok(None);
+    };
+    if names.len() != 2 || names[0] == "-" && names[1] == "-" {
+        return Err(NotFiles);
+    }
+    Ok(Some(Files {
+        policy: names[0],
+        capture: names[1],
+    }))
 }
 
 fn read_options(matches: &ArgMatches<'_>) -> Options

@@ -1,11 +1,35 @@
-//! Words of the command line, and the options that they set. `checks/rows/sessions.txt` has what timeouts do.
+//! Words of the command line, and what they ask for. `checks/rows/sessions.txt` has what timeouts do.
 use clap::Error;
-use racl_words::{Options, options, words_status};
+use racl_words::{Asked, Files, Options, options, words_status};
 use session_state::Timeouts;
 use std::alloc::{AllocError, Global};
 
 fn set_after<'a>(alloc: Global, words: &'a [&'a str]) -> Option<Options> {
+    asked_by(alloc, words).map(|asked| asked.options)
+}
+
+fn asked_by<'a>(alloc: Global, words: &'a [&'a str]) -> Option<Asked<'a>> {
     options(alloc, words).ok()
+}
+
+fn files_of<'a>(alloc: Global, words: &'a [&'a str]) -> Option<Option<Files<'a>>> {
+    asked_by(alloc, words).map(|asked| asked.files)
+}
+
+#[test]
+fn words_name_files(rt: HostRuntime) {
+    let alloc = rt.alloc();
+    let named = Some(Some(Files {
+        policy: "p",
+        capture: "-",
+    }));
+    assert_eq!(rt; files_of(alloc, &["racl"]), Some(None));
+    assert_eq!(rt; files_of(alloc, &["racl", "p", "-"]), named);
+    assert_eq!(rt; files_of(alloc, &["racl", "--udp", "5", "p", "-"]), named);
+    assert_eq!(rt; files_of(alloc, &["racl", "p", "-", "--udp=5"]), named);
+    assert_eq!(rt; files_of(alloc, &["racl", "p"]), None);
+    assert_eq!(rt; files_of(alloc, &["racl", "p", "c", "d"]), None);
+    assert_eq!(rt; files_of(alloc, &["racl", "-", "-"]), None);
 }
 
 // The number of workers shows in no report.
@@ -40,5 +64,7 @@ fn other_words_end_with_a_status(rt: HostRuntime) {
     let alloc = rt.alloc();
     assert_eq!(rt; status_after(alloc, &["racl", "--help"]), Some(0));
     assert_eq!(rt; status_after(alloc, &["racl", "--udp", "0"]), Some(2));
+    assert_eq!(rt; status_after(alloc, &["racl", "p"]), Some(2));
+    assert_eq!(rt; status_after(alloc, &["racl", "-", "-"]), Some(2));
     assert_eq!(rt; words_status(&Error::from(AllocError)), 4);
 }

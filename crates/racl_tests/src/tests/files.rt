@@ -1,0 +1,68 @@
+//! A policy and a capture from two readers, and what files are that are no captures of Ethernet.
+
+use racl_cli::remark;
+use racl_io::{Fault, FrontKept, Joined, Other, other_file, read_until};
+use std::io::Read;
+use std::test::Fail;
+
+// 24 bytes that begin with these and have this link field.
+fn header(magic: [u8; 4], link: [u8; 4]) -> [u8; 24] {
+    let mut bytes = [0; 24];
+    bytes[..4].copy_from_slice(&magic);
+    bytes[20..].copy_from_slice(&link);
+    bytes
+}
+
+#[test]
+fn two_readers_are_one_source(rt: HostRuntime) -> Result<(), Fail> {
+    let mut all = Vec::new(rt.alloc());
+    let mut joined = Joined::new(b"mac".as_slice(), b"\xd4\xc3".as_slice());
+    assert!(rt; joined.front().is_empty());
+    assert!(rt; read_until(&mut joined, &mut all, 100)?);
+    assert_eq!(rt; all.as_slice(), b"mac\npcap\n\xd4\xc3".as_slice());
+    assert_eq!(rt; joined.front(), b"\xd4\xc3".as_slice());
+    Ok(())
+}
+
+#[test]
+fn first_bytes_are_kept(rt: HostRuntime) -> Result<(), Fail> {
+    let mut kept = FrontKept::new(b"abcdefghijklmnopqrstuvwxyz".as_slice());
+    let mut room = [0; 20];
+    assert_eq!(rt; kept.read(&mut room)?, 20);
+    assert_eq!(rt; kept.front(), b"abcdefghijklmnopqrst".as_slice());
+    assert_eq!(rt; kept.read(&mut room)?, 6);
+    assert_eq!(rt; kept.front(), b"abcdefghijklmnopqrstuvwx".as_slice());
+    Ok(())
+}
+
+#[test]
+fn first_bytes_tell_other_files(rt: HostRuntime) {
+    let none = [0; 4];
+    let ethernet = header([0xd4, 0xc3, 0xb2, 0xa1], [1, 0, 0, 0]);
+    let pcapng = header([0x0a, 0x0d, 0x0d, 0x0a], none);
+    assert_eq!(rt; other_file(&ethernet), None);
+    assert_eq!(rt; other_file(&pcapng), Some(Other::Pcapng));
+    assert_eq!(rt; other_file(&pcapng[..23]), None);
+    assert_eq!(rt;
+        other_file(&header([0x1f, 0x8b, 8, 0], none)),
+        Some(Other::Gzip)
+    );
+    assert_eq!(rt;
+        other_file(&header([0xa1, 0xb2, 0xcd, 0x34], none)),
+        Some(Other::Modified)
+    );
+    assert_eq!(rt;
+        other_file(&header([0x34, 0xcd, 0xb2, 0xa1], none)),
+        Some(Other::Modified)
+    );
+    assert_eq!(rt;
+        other_file(&header([0xd4, 0xc3, 0xb2, 0xa1], [113, 0, 0, 0])),
+        Some(Other::Cooked)
+    );
+    assert_eq!(rt;
+        other_file(&header([0xa1, 0xb2, 0x3c, 0x4d], [0, 0, 1, 20])),
+        Some(Other::Cooked)
+    );
+    assert_eq!(rt; remark(&Err(Fault::Magic), &pcapng), Some(Other::Pcapng));
+    assert_eq!(rt; remark(&Err(Fault::Short), &pcapng), None);
+}
