@@ -13,6 +13,11 @@ fn header(magic: [u8; 4], link: [u8; 4]) -> [u8; 24] {
     bytes
 }
 
+// What is told where 23 of these bytes are there.
+fn told_of_fewer(bytes: &[u8]) -> Option<Other> {
+    other_file(&bytes[..bytes.len().min(23)])
+}
+
 #[test]
 fn two_readers_are_one_source(rt: HostRuntime) -> Result<(), Fail> {
     let mut all = Vec::new(rt.alloc());
@@ -42,7 +47,7 @@ fn first_bytes_tell_other_files(rt: HostRuntime) {
     let pcapng = header([0x0a, 0x0d, 0x0d, 0x0a], none);
     assert_eq!(rt; other_file(&ethernet), None);
     assert_eq!(rt; other_file(&pcapng), Some(Other::Pcapng));
-    assert_eq!(rt; other_file(&pcapng[..23]), None);
+    assert_eq!(rt; told_of_fewer(&pcapng), None);
     assert_eq!(rt;
         other_file(&header([0x1f, 0x8b, 8, 0], none)),
         Some(Other::Gzip)
@@ -63,6 +68,12 @@ fn first_bytes_tell_other_files(rt: HostRuntime) {
         other_file(&header([0xa1, 0xb2, 0x3c, 0x4d], [0, 0, 1, 20])),
         Some(Other::Cooked)
     );
+}
+
+#[test]
+fn a_remark_is_made_where_the_header_is_wrong(rt: HostRuntime) {
+    let pcapng = header([0x0a, 0x0d, 0x0d, 0x0a], [0; 4]);
     assert_eq!(rt; remark(&Err(Fault::Magic), &pcapng), Some(Other::Pcapng));
+    assert_eq!(rt; remark(&Err(Fault::LinkType), &pcapng), Some(Other::Pcapng));
     assert_eq!(rt; remark(&Err(Fault::Short), &pcapng), None);
 }
