@@ -129,7 +129,7 @@ impl<'a, D: HasReading> LazyPatch<'a, D> {
         ruling
     }
 
-    /// Whether the rules were asked for the packet.
+    /// Whether the rules were asked for the packet. No clause can name what a cell holds: tests look at it.
     pub fn has_asked(&self) -> bool {
         let decided = self.decided.replace(None);
         let has_asked = decided.is_some();

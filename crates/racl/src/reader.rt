@@ -20,7 +20,8 @@ impl Read for Reader {
     }
 }
 
-/// Opens a file that can be read, or standard input by the name `-`. A folder is refused.
+/// Opens a file that can be read, or standard input by the name `-`. A folder is refused. No clause says what a name
+/// opens, since that is the system's: `checks/run` looks at it.
 pub fn opened(rt: &HostRuntime, name: &str) -> io::Result<Reader> {
     if name == "-" {
         return Ok(Reader::Standard(rt.stdin()));
