@@ -3,13 +3,13 @@
 An edit turns the meaning of one function. It is refused where the check leaves a goal of that function unproved, or of
 one that calls it. Edits of different functions are tried together, in one check of a copy of the crate: no contract
 changes, so a goal of one function doesn't depend on how another is edited. What isn't refused by a goal of its own
-function is tried alone. So most crates cost a check or two, and not one for each edit.
+function is tried alone: on the functions that call it, then on those that call these, and at last on the whole crate.
+So most crates cost a check or two of a few functions, and not one for each edit.
 
 Where the toolchain's gate has left the libraries in crates/NAME/out these are used, or those of `rt check`. What an
 edit came to is told in a line; the last one is `N passed, M failed`. One that can't be applied or read has failed, and
 so has one that is refused only because a proof names what it took away, since that says nothing of the contract.
 """
-import collections
 import concurrent.futures
 import os
 import re
@@ -26,6 +26,7 @@ EDITS = "edits"
 MEMORY_OF_A_CHECK = 2_500_000_000
 
 FUNCTION = re.compile(r"\bfn (\w+)")
+CONSTANT = re.compile(r"\s*(?:pub )?const (\w+)")
 # Where a block of methods begins and ends, and what declares a type.
 BLOCK = re.compile(r"^impl\b(.*?)(?:\bwhere\b|\{)|^\}", re.M | re.S)
 IN_BRACKETS = re.compile(r"<[^<>]*>")
@@ -44,20 +45,16 @@ def module_of(inside):
     return "::".join(it for it in inside.split("/") if it not in ("lib", "mod"))
 
 
-class Place:
-    """A text that stands once in a source file, what it becomes, and the function that it is in."""
+class Function:
+    """A function of a source file, with the text up to the next one."""
 
-    def __init__(self, file, old, new, text, named):
-        self.file, self.old, self.new = file, old, new
-        starts = [*FUNCTION.finditer(text)]
-        above = [it for it in starts if it.start() < text.index(old) + len(old)]
-        self.function = above[-1][1] if above else ""
-        self.is_named_once = named[self.function] == 1
+    def __init__(self, file, text, found, end):
+        self.name, self.file, self.text = found[1], file, text[found.start():end]
+        self.start, self.end = found.start(), end
         # its lines, for goals that are told by where they are
-        self.first = text.count("\n", 0, above[-1].start()) + 1 if above else 1
-        self.last = text.count("\n", 0, starts[len(above)].start()) if len(above) < len(starts) else text.count("\n") + 1
+        self.first, self.last = text.count("\n", 0, found.start()) + 1, text.count("\n", 0, end) + 1
         self.inside = file[len("src/"):-len(".rt")]
-        blocks = [*BLOCK.finditer(text, 0, above[-1].start())] if above else []
+        blocks = [*BLOCK.finditer(text, 0, found.start())]
         self.block = blocks[-1][1] if blocks else None
 
     def module(self):
@@ -65,33 +62,78 @@ class Place:
         return module_of(self.inside)
 
     def path(self, types):
-        """The path of its function below the crate, as checks print it: a method's is that of its type, where that is
-        declared, with the trait behind the type's name."""
+        """Its path below the crate, as checks print it: a method's is that of its type, where that is declared, with the
+        trait behind the type's name."""
         words = (self.block or "").replace("->", "")
         while IN_BRACKETS.search(words):
             words = IN_BRACKETS.sub("", words)
         words = words.split()
         block = (words[-1] + (words[0] if "for" in words else "")).replace("&", "") if words else ""
         module = types.get(words[-1], self.module()) if words else self.module()
-        return "::".join(filter(None, (module, block, self.function)))
+        return "::".join(filter(None, (module, block, self.name)))
 
-    def goals_in(self, said):
-        """The goals of its function that a check leaves unproved, but for proofs that name what isn't there any more. A
-        method's proofs lie in the folder of its type, which another file may declare."""
+    def names(self, others):
+        """Whether its text names one of these functions."""
+        return any(re.search(rf"(?<!fn )\b{it.name}\b", self.text) for it in others)
+
+    def goals_in(self, said, is_named_once):
+        """Its goals that a check leaves unproved, but for proofs that name what isn't there any more. A method's proofs lie in
+        the folder of its type, which another file may declare."""
         found = [text for file, line, text in GOAL.findall(said)
                  if file == self.inside and self.first <= int(line) <= self.last]
-        found += [text for folder, text in ANSWER.findall(said) if folder.rsplit("/", 1)[-1] == self.function
-                  and (self.is_named_once or folder.startswith(f"{self.inside}/"))]
-        found += [text for path, text in SEARCHED.findall(said) if path.rsplit("::", 1)[-1] == self.function
-                  and (self.is_named_once or f"::{self.module()}::" in path)]
+        found += [text for folder, text in ANSWER.findall(said) if folder.rsplit("/", 1)[-1] == self.name
+                  and (is_named_once or folder.startswith(f"{self.inside}/"))]
+        found += [text for path, text in SEARCHED.findall(said) if path.rsplit("::", 1)[-1] == self.name
+                  and (is_named_once or f"::{self.module()}::" in path)]
         return [it for it in found if not NAMES_ALONE.search(it)]
 
 
-class Edit:
-    """Texts that become others. `named` counts the crate's functions by name."""
+class Sources:
+    """The source files of a crate, their functions, and the module of each type."""
 
-    def __init__(self, path, crate, named):
-        self.name, self.places, self.why = os.path.basename(path)[:-len(".edit")], [], None
+    def __init__(self, crate):
+        self.texts, self.functions, self.types = {}, [], {}
+        for at, _, files in sorted(os.walk(f"{crate}/src")):
+            for path in sorted(f"{at}/{it}" for it in files):
+                file = os.path.relpath(path, crate)
+                with open(path, encoding="utf-8") as source:
+                    text = self.texts[file] = source.read()
+                starts = [*FUNCTION.finditer(text)]
+                ends = [it.start() for it in starts[1:]] + [len(text)]
+                self.functions += [Function(file, text, it, end) for it, end in zip(starts, ends)]
+                module = module_of(file[len("src/"):-len(".rt")])
+                self.types.update((name, module) for name in TYPE.findall(text))
+
+    def turned_by(self, file, old):
+        """The function that has this text, or those that name the constant that has it."""
+        place = self.texts[file].index(old) + len(old) - 1
+        found = [it for it in self.functions if it.file == file and it.start <= place < it.end]
+        constant = CONSTANT.match(old)
+        return found or [it for it in self.functions if constant and re.search(rf"\b{constant[1]}\b", it.text)]
+
+    def is_named_once(self, function):
+        return sum(it.name == function.name for it in self.functions) == 1
+
+    def paths(self, crate, functions):
+        """What a check of these functions alone is asked with."""
+        paths = sorted({f"{crate}::{it.path(self.types)}" for it in functions})
+        return [word for it in paths for word in ("--only", it)]
+
+    def callers(self, functions):
+        """Those that may call these functions, then those that may call them, and so on."""
+        known, last = list(functions), list(functions)
+        while last:
+            last = [it for it in self.functions if it not in known and it.names(last)]
+            known += last
+            if last:
+                yield last
+
+
+class Edit:
+    """Texts that become others, each of which stands once in a file."""
+
+    def __init__(self, path, sources):
+        self.name, self.places, self.functions, self.why = os.path.basename(path)[:-len(".edit")], [], [], None
         words = {}
         with open(path, encoding="utf-8") as file:
             for line in file.read().splitlines():
@@ -99,51 +141,34 @@ class Edit:
                 if colon and word in ("file", "old", "new"):
                     words[word] = text[1:]
                 if word == "new" and not self.why:
-                    self.add(words.get("file", "").strip(), words.pop("old", ""), words["new"], crate, named)
+                    self.add(words.get("file", "").strip(), words.pop("old", ""), words["new"], sources)
         if not self.places and not self.why:
             self.why = "it has no lines `file:`, `old:` and `new:`"
 
-    def add(self, file, old, new, crate, named):
-        text = ""
-        if file.startswith("src/") and os.path.isfile(f"{crate}/{file}"):
-            with open(f"{crate}/{file}", encoding="utf-8") as source:
-                text = source.read()
+    def add(self, file, old, new, sources):
+        text = sources.texts.get(file, "")
         if not old or text.count(old) != 1 or old == new:
             self.why = f"its old text is in {file or 'no file'} {text.count(old) if old else 0} times"
-        else:
-            self.places.append(Place(file, old, new, text, named))
+            return
+        self.places.append((file, old, new))
+        self.functions += [it for it in sources.turned_by(file, old) if it not in self.functions]
 
     def apply(self, room):
-        for it in self.places:
-            with open(f"{room}/{it.file}", encoding="utf-8") as file:
+        for name, old, new in self.places:
+            with open(f"{room}/{name}", encoding="utf-8") as file:
                 text = file.read()
-            with open(f"{room}/{it.file}", "w", encoding="utf-8") as file:
-                file.write(text.replace(it.old, it.new))
-
-    def functions(self):
-        return {(it.file, it.function) for it in self.places}
-
-    def goals_in(self, said):
-        return [goal for it in self.places for goal in it.goals_in(said)]
+            with open(f"{room}/{name}", "w", encoding="utf-8") as file:
+                file.write(text.replace(old, new))
 
 
 class Trial:
     """A crate whose edits are tried."""
 
     def __init__(self, rt, crate, wanted):
-        self.rt, self.crate = rt, crate
-        folder, named = f"{crate.folder}/{EDITS}", collections.Counter()
-        # the module of each type
-        self.types = {}
-        for at, _, files in os.walk(f"{crate.folder}/src"):
-            for it in files:
-                with open(f"{at}/{it}", encoding="utf-8") as file:
-                    text = file.read()
-                named.update(FUNCTION.findall(text))
-                module = module_of(os.path.relpath(f"{at}/{it}", f"{crate.folder}/src")[:-len(".rt")])
-                self.types.update((name, module) for name in TYPE.findall(text))
+        self.rt, self.crate, self.sources = rt, crate, Sources(crate.folder)
+        folder = f"{crate.folder}/{EDITS}"
         names = sorted(os.listdir(folder)) if os.path.isdir(folder) else []
-        self.edits = [Edit(f"{folder}/{it}", crate.folder, named) for it in names
+        self.edits = [Edit(f"{folder}/{it}", self.sources) for it in names
                       if it.endswith(".edit") and (not wanted or it[:-len(".edit")] in wanted)]
 
     def rounds(self):
@@ -151,21 +176,23 @@ class Trial:
         found = []
         for edit in (it for it in self.edits if not it.why):
             for together in found:
-                if not any(it.functions() & edit.functions() for it in together):
+                if not any(it in other.functions for other in together for it in edit.functions):
                     together.append(edit)
                     break
             else:
                 found.append([edit])
         return found
 
-    def check(self, edits, kept, only):
-        """What the check of a copy with these edits says, over what earlier ones left in `kept`."""
+    def check(self, edits, kept, functions):
+        """What the check of these functions says in a copy with these edits, over what earlier ones left in `kept`; of all
+        where none is given."""
         with tempfile.TemporaryDirectory() as room:
             for part in self.rt.rtlib.PARTS:
                 if os.path.isdir(f"{self.crate.folder}/{part}"):
                     shutil.copytree(f"{self.crate.folder}/{part}", f"{room}/{part}")
             for edit in edits:
                 edit.apply(room)
+            only = self.sources.paths(self.crate.name, functions)
             words = self.crate.words(["--jobs", "1", *only], keeps=False)
             ran = subprocess.run([self.rt.rtlib.RATTLE, "check", *words, "--incremental", kept], cwd=room,
                                  stdin=subprocess.DEVNULL, stdout=subprocess.PIPE, stderr=subprocess.STDOUT,
@@ -174,18 +201,21 @@ class Trial:
 
     def alone(self, edit, kept):
         """What an edit comes to that no goal of its own function refuses."""
-        status, said = self.check([edit], kept, [])
-        goals = [text for _, text in ANSWER.findall(said)] + [text for _, _, text in GOAL.findall(said)]
-        goals += [text for _, text in SEARCHED.findall(said)]
-        if status == 0:
-            return False, "is still proved"
-        unread = UNREAD.search(said)
-        if unread:
-            return False, f"can't be read: {unread[0]}"
-        meant = [it for it in goals if not NAMES_ALONE.search(it)]
-        if meant:
-            return True, f"refused in a caller: {meant[0]}"
-        return False, f"is refused for names alone: {goals[0]}" if goals else f"has no verdict (status {status})"
+        told = (False, "is still proved")
+        for callers in [*self.sources.callers(edit.functions), []]:
+            status, said = self.check([edit], kept, callers)
+            if status == 0:
+                continue
+            unread = UNREAD.search(said)
+            if unread:
+                return False, f"can't be read: {unread[0]}"
+            goals = [text for _, text in ANSWER.findall(said)] + [text for _, _, text in GOAL.findall(said)]
+            goals += [text for _, text in SEARCHED.findall(said)]
+            meant = [it for it in goals if not NAMES_ALONE.search(it)]
+            if meant:
+                return True, f"refused in a caller: {meant[0]}"
+            told = False, f"is refused for names alone: {goals[0]}" if goals else f"has no verdict (status {status})"
+        return told
 
     def run(self):
         """Each edit's name, whether it is refused, and what is said."""
@@ -195,11 +225,10 @@ class Trial:
             if os.path.isdir(begun):
                 shutil.copytree(begun, kept, dirs_exist_ok=True)
             for together in self.rounds():
-                paths = sorted({f"{self.crate.name}::{place.path(self.types)}" for it in together for place in it.places})
-                status, said = self.check(together, kept, [word for it in paths for word in ("--only", it)])
+                status, said = self.check(together, kept, [it for edit in together for it in edit.functions])
                 for edit in together:
-                    goals = edit.goals_in(said) if status == 1 else []
-                    told[edit.name] = (True, f"refused: {goals[0]}") if goals else self.alone(edit, kept)
+                    goals = [goal for it in edit.functions for goal in it.goals_in(said, self.sources.is_named_once(it))]
+                    told[edit.name] = (True, f"refused: {goals[0]}") if goals and status == 1 else self.alone(edit, kept)
         return [(it.name, *told[it.name]) for it in self.edits]
 
 

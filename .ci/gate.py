@@ -117,7 +117,7 @@ def main():
     start = time.monotonic()
     if is_there:
         built = [it + by for it in (PROGRAM, TABLE_PROGRAM) for by in ("", BY_RATTLE)]
-        checks = (["checks/house"], ["checks/documents"], ["checks/launcher"], ["checks/run", *programs],
+        checks = (["checks/house"], ["checks/documents"], ["checks/launcher"], ["checks/install"], ["checks/run", *programs],
                   ["checks/refused_memory", *built], ["checks/c_library"])
         counts += [counted(*followed(it, lambda _: None)) for it in checks]
     else:
