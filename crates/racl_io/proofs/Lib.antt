@@ -5,4 +5,5 @@ pub mod NumeralLemmas
 pub mod PartingLemmas
 pub mod PieceLemmas
 pub mod ReportLemmas
+pub mod ShownLemmas
 pub mod TransferLemmas
