@@ -1,8 +1,9 @@
 //! The words of the command line, and the options and files that they ask for.
 #![tactic(auto)]
 
+mod naming;
 mod settings;
 mod words;
 
-pub use settings::{Asked, Files, Options};
+pub use settings::{Asked, CaptureFile, Files, Interfaces, Options, Origin};
 pub use words::{options, words_status};
