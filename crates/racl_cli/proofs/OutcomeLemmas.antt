@@ -28,7 +28,8 @@ use Rattle.racl_io.specs.declared.report.Captured.{Captured}
 use Rattle.racl_io.specs.declared.report.Totals.{Totals}
 use Rattle.racl_io.specs.Faults.{IsFaultOfBytes, IsFaultOfContent, IsSystemFault, capture_fault, policy_fault}
 use Rattle.racl_io.specs.Inputs.{IsContent, IsInput, InputFacts, most_bytes}
-use Rattle.racl_io.specs.Reports.{report_of, totals_of}
+use Rattle.racl_io.specs.Reports.{totals_of}
+use Rattle.racl_io.specs.ShownReports.{report_shown}
 use Rattle.racl_cli.specs.Reads.{AnswersInput, IsOutcomeOf, IsReached, IsSaid, IsUnnumbered}
 use Rattle.racl_cli.specs.Runs.{ByWorkers, HasOutcome, HasReported, HasRun, IsRead, Outcome, dealt_to, flow_layout, told_of}
 use Rattle.racl_cli.proofs.CaptureLaws.{alone_plain, fault_of_known, fault_plain, one_truncated, plain_alone, plain_fault}
@@ -185,7 +186,7 @@ module _ (options : Options) (bytes : List ℕ) (parts : InputFacts) (policy : P
 -- the report on what was reached was written, or a device failed
 pub has_run : (options : Options) (given old new : Option (List ℕ)) (bytes : List ℕ) (outcome : Outcome) (verdicts : List Verdict) (captures : List Captured) (result : Result Totals Fault)
     → IfSome given (λ known. bytes ≡ known) → outcome_of verdicts captures ≡ outcome → IsOutcomeOf options bytes outcome
-    → OnOk result (Appends old new (report_of verdicts captures)) → IfOk result (λ totals. totals ≡ totals_of verdicts captures)
+    → OnOk result (Appends old new (report_shown options.shown verdicts captures)) → IfOk result (λ totals. totals ≡ totals_of verdicts captures)
     → IfOk result (HasRun options given old new)
 has_run options given old new bytes outcome verdicts captures (Ok totals) known same was text counted =
     let is : IsOutcomeOf options bytes (outcome_of verdicts captures) = subst (IsOutcomeOf options bytes) (sym same) was in
@@ -206,7 +207,7 @@ has_run options given old new bytes outcome verdicts captures (Err fault) known 
 
 pub has_reported : (options : Options) (old new : Option (List ℕ)) (bytes : List ℕ) (one_thread outcome : Outcome) (verdicts : List Verdict) (captures : List Captured) (result : Result Totals Fault)
     → (has : HasOutcome options.times bytes one_thread) → outcome_of verdicts captures ≡ outcome → IsReached options has.policy has.packets one_thread.captures outcome
-    → OnOk result (Appends old new (report_of verdicts captures)) → IfOk result (λ totals. totals ≡ totals_of verdicts captures)
+    → OnOk result (Appends old new (report_shown options.shown verdicts captures)) → IfOk result (λ totals. totals ≡ totals_of verdicts captures)
     → IfErr result (λ fault. (fault ≡ Memory) ⊎ (fault ≡ Write)) → MatchResult result (HasReported options bytes one_thread old new) IsSystemFault
 has_reported options old new bytes one_thread outcome verdicts captures (Ok totals) has same was text counted is =
     let reached : IsReached options has.policy has.packets one_thread.captures (outcome_of verdicts captures) =

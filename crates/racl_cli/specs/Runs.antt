@@ -17,7 +17,8 @@ use Rattle.racl_io.specs.declared.input.Form.TheVariants.{Binary, Hexadecimal, N
 use Rattle.racl_io.specs.declared.report.Captured.{Captured}
 use Rattle.racl_io.specs.declared.report.Totals.{Totals}
 use Rattle.racl_io.specs.Inputs.{AreCaptures, DigitsFacts, IsContent, IsInput, InputFacts, most_bytes}
-use Rattle.racl_io.specs.Reports.{report_of, totals_of}
+use Rattle.racl_io.specs.Reports.{totals_of}
+use Rattle.racl_io.specs.ShownReports.{report_shown}
 
 -- ---- inputs
 
@@ -122,7 +123,7 @@ pub record HasRun (options : Options) (given old new : Option (List ℕ)) (total
   pub verdicts : List Verdict
   pub by_workers : ByWorkers options policy packets verdicts
   pub by_one_thread : HavePages verdicts → ByOneThread options.times policy packets verdicts
-  pub text : Appends old new (report_of verdicts captures)
+  pub text : Appends old new (report_shown options.shown verdicts captures)
   pub counted : totals ≡ totals_of verdicts captures
 
 -- what was reported on the bytes is the outcome of the one-thread filter, or one of workers that says no-pages

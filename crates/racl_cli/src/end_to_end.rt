@@ -13,7 +13,7 @@ use crate::captures::judge_captures;
 use crate::opening::{Opened, open_input};
 use crate::outcome::Judged;
 use crate::streaming::{Front, front_bytes, judge_headed};
-use racl_io::{Fault, MOST_BYTES, Sink, Source, Totals, read_until, write_report};
+use racl_io::{Fault, MOST_BYTES, Sink, Source, Totals, read_until, write_shown};
 use racl_words::Options;
 use std::alloc::Global;
 use std::sync::Wait;
@@ -126,5 +126,5 @@ pub fn run<R: Source + Send, W: Sink, T: Threads + Wait + Sync>(
 {
     let judged = judge_source(rt, alloc, options, reader)?;
     let beside = if options.workers > 1 { Some(rt) } else { None };
-    write_report(beside, alloc, writer, &judged.verdicts, &judged.captures)
+    write_shown(beside, alloc, writer, options.shown, &judged.verdicts, &judged.captures)
 }

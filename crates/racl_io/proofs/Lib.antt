@@ -6,4 +6,5 @@ pub mod NumeralLemmas
 pub mod PartingLemmas
 pub mod PieceLemmas
 pub mod ReportLemmas
+pub mod ShownLemmas
 pub mod TransferLemmas

@@ -5,5 +5,7 @@ pub mod Inputs
 pub mod Joined
 pub mod Others
 pub mod Reports
+pub mod ShownReports
 pub mod Transfers
+pub mod Writings
 pub mod inner

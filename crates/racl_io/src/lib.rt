@@ -15,6 +15,7 @@ mod numeral;
 mod other;
 mod piece;
 mod report;
+mod shown;
 mod transfer;
 mod written;
 
@@ -24,6 +25,9 @@ pub use fault::Fault;
 pub use front::FrontKept;
 pub use input::{Digits, Form, Input, Numbered, cut_digits, parts};
 pub use joined::{Joined, Marked, marked};
+pub use numeral::Numeral;
 pub use other::{Other, other_file};
+pub use piece::Piece;
 pub use report::{Captured, Totals, write_report};
+pub use shown::{Shown, write_shown};
 pub use transfer::{MOST_BYTES, drain, read_until, write_all};

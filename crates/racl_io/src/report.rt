@@ -3,7 +3,8 @@ ghost use Rattle.std.specs.Prelude.{◌≡◌, ◌≢◌, ◌+◌, ◌-◌, ◌*
 ghost use Rattle.std.specs.Io.KnownBytes.{Appends};
 ghost use Rattle.racl_io.specs.Reports;
 ghost use Rattle.racl_io.specs.Reports.{captures_from, line_of, lines_from, name_of, packets_in, report_of, text_of, totals_of, totals_line, truncation_line};
-ghost use Rattle.racl_io.specs.inner.Lines.{HasEnded, HasTold, HasWritten};
+ghost use Rattle.racl_io.specs.Writings.{HasPut};
+ghost use Rattle.racl_io.specs.inner.Lines.{HasTold, HasWritten};
 ghost use Rattle.racl_io.specs.declared.fault.Fault.TheVariants.{Memory, Write};
 
 use crate::beside::{Lines, write_beside};
@@ -113,7 +114,7 @@ fn push_line(piece: &mut Piece, number: &Counter, verdict: Verdict)
     push_verdict(piece, verdict);
 }
 
-fn push_named_line(piece: &mut Piece, number: &Counter, name: &Name, verdict: Verdict)
+pub fn push_named_line(piece: &mut Piece, number: &Counter, name: &Name, verdict: Verdict)
     requires fits { number.now < 2 ^ 64 }
     requires room { length piece.old + 72 ≤ 262144 }
     ensures text { piece.new ≡ piece.old ++ line_of name.now number.now verdict }
@@ -257,14 +258,14 @@ fn push_truncation(piece: &mut Piece, captured: &Captured)
     piece.push(b"\n");
 }
 
-// Writes that a capture is truncated, where it is.
-fn write_truncation<W: Sink>(
+/// Writes that a capture is truncated, where it is.
+pub fn write_truncation<W: Sink>(
     writer: &mut W,
     piece: &mut Piece,
     captured: &Captured,
 ) -> Result<(), Fault>
     requires { W.failures writer.old < 2 ^ 64 - 1 }
-    ensures { HasEnded W.bytes W.failures writer.old writer.new captured.now result }
+    ensures { HasPut W.bytes W.failures writer.old writer.new (truncation_line captured.now.named captured.now.truncated captured.now.packets) result }
 {
     if !captured.truncated {
         return Ok(());
@@ -325,6 +326,34 @@ fn is_truncated(captures: &[Captured]) -> bool
     captures.iter().any(|captured| captured.truncated)
 }
 
+/// The totals over all packets, of which so many pass.
+pub fn totals_on(passed: u64, verdicts: &[Verdict], captures: &[Captured]) -> Totals
+    requires { passed ≡ Reports.passed verdicts.now }
+    ensures { result ≡ totals_of verdicts.now captures.now }
+{
+    let packets = verdicts.len() as u64;
+    Totals {
+        packets,
+        passed,
+        dropped: packets - passed,
+        truncated: is_truncated(captures),
+    }
+}
+
+/// Writes the line of the totals.
+pub fn write_totals<W: Sink>(
+    writer: &mut W,
+    piece: &mut Piece,
+    totals: &Totals,
+) -> Result<(), Fault>
+    requires { W.failures writer.old < 2 ^ 64 - 1 }
+    ensures { HasPut W.bytes W.failures writer.old writer.new (totals_line totals.now) result }
+{
+    piece.clear();
+    push_totals(piece, totals);
+    write_all(writer, piece.as_slice())
+}
+
 /// Writes the report of the verdicts on the packets of captures, one capture after the other, in pieces whose room is
 /// asked for before the first of them is written. Where a capture has many packets and threads can be made `beside` this
 /// one, the last lines of each batch are made in three of these while its first are written.
@@ -346,15 +375,7 @@ pub fn write_report<W: Sink, T: Threads>(
 {
     let mut piece = Piece::new(alloc)?;
     let passed = write_captures(beside, alloc, writer, &mut piece, verdicts, captures)?;
-    let packets = verdicts.len() as u64;
-    let totals = Totals {
-        packets,
-        passed,
-        dropped: packets - passed,
-        truncated: is_truncated(captures),
-    };
-    piece.clear();
-    push_totals(&mut piece, &totals);
-    write_all(writer, piece.as_slice())?;
+    let totals = totals_on(passed, verdicts, captures);
+    write_totals(writer, &mut piece, &totals)?;
     Ok(totals)
 }

@@ -1,5 +1,5 @@
 -- What a parse by the command says of its options.
-use Rattle.std.proofs.Common.{◌≡◌, ◌∙◌, ◌<◌, ap, arith, map, length, refl, rules, subst, suc, sym, inl, inr, true, true≢false, List, [], ◌∷◌, Option, Result, Some, ℕ, codes}
+use Rattle.std.proofs.Common.{◌≡◌, ◌∙◌, ◌<◌, ap, ap₂, arith, map, length, refl, rules, subst, suc, sym, inl, inr, true, true≢false, List, [], ◌∷◌, Option, Result, Some, ℕ, codes}
 use Rattle.std.specs.List.{IsDistinct, slice_index_or}
 use Rattle.std.specs.Prelude.{unwrap_or}
 use Rattle.std.specs.Str.{bytes_eq}
@@ -7,7 +7,7 @@ use Rattle.std.proofs.lemmas.Bool.{cases_lt}
 use Rattle.std.proofs.lemmas.List.{get_or-map, length-map}
 use Rattle.std.proofs.lemmas.Map.Keys.{apart_from_distinct}
 use Rattle.std.proofs.lemmas.Slice.Eq.{bytes_eq-Decides}
-use Rattle.clap.specs.Words.{App, FailsBy, HasKind, HasMatchesOf, IsParsedFrom, Rule, Text, all_of, app_of, args_of, fault_of, first_of, found_of, is_simple, is_simple_and_free, kind_of, matches_of, one_of, one_text, rows_of, rule_of, shape_of}
+use Rattle.clap.specs.Words.{App, FailsBy, HasKind, HasMatchesOf, IsParsedFrom, Rule, Text, all_of, app_of, args_of, fault_of, first_of, first_value, found_of, is_simple, is_simple_and_free, kind_of, matches_of, one_of, one_text, rows_of, rule_of, shape_of}
 use Rattle.clap.specs.declared.builder.arg.Arg.{Arg}
 use Rattle.clap.specs.declared.builder.command.Command.{Command}
 use Rattle.clap.specs.Kinds.{Kinds}
@@ -17,7 +17,8 @@ use Rattle.clap.specs.declared.parser.matches.ArgMatches.{ArgMatches}
 use Rattle.clap.proofs.OnLiterals.{clap_on_literals}
 use Rattle.clap.proofs.SimpleLemmas.{all_simple, plain_fields, simple_groups}
 use Rattle.clap.proofs.WalkLemmas.{first_value-rows, one_text-rows, raw_values-rows}
-use Rattle.racl_words.specs.CommandLine.{AskFor, HoldsNumber, HoldsNumbers, OptionFacts, OptionName, Workers, Established, Transient, Udp, Spells, SpellsOptions, capture_id, interface_id, most_of, name_of, number_of, option_rule, policy_id, racl, text_at}
+use Rattle.racl_words.specs.CommandLine.{AskFor, HoldsNumber, HoldsNumbers, OptionFacts, OptionName, Workers, Established, Transient, Udp, Spells, SpellsOptions, capture_id, interface_id, most_of, name_of, number_of, option_rule, policy_id, racl, shown_at, text_at}
+use Rattle.racl_words.specs.Selections.{only_id, shown_by, summary_id}
 use Rattle.racl_words.specs.Origins.{AskForRun, OriginFacts, named_at}
 use Rattle.racl_words.specs.inner.Naming.{named_in}
 use Rattle.racl_words.proofs.NameLemmas.{one_origin}
@@ -55,39 +56,39 @@ module _ (c : Command) (is : app_of c ≡ racl) where
   rules_are : map rule_of (args_of c) ≡ racl.top.rules
   rules_are = ap (λ (a : App). a.top.rules) is
 
-  seven : length (args_of c) ≡ 7
-  seven = sym (length-map (args_of c) rule_of) ∙ ap length rules_are
+  nine : length (args_of c) ≡ 9
+  nine = sym (length-map (args_of c) rule_of) ∙ ap length rules_are
 
-  rule_at : (k : ℕ) (d : Arg) → k < 7 → rule_of (slice_index_or (args_of c) k d) ≡ slice_index_or racl.top.rules k (rule_of d)
+  rule_at : (k : ℕ) (d : Arg) → k < 9 → rule_of (slice_index_or (args_of c) k d) ≡ slice_index_or racl.top.rules k (rule_of d)
   rule_at k d lt =
-      let below : k < length (args_of c) = rw seven lt in
+      let below : k < length (args_of c) = rw nine lt in
       sym (get_or-map rule_of (args_of c) k d (rule_of d) below) ∙ ap (λ rs. slice_index_or rs k (rule_of d)) rules_are
 
   -- where the id of an argument stands among the ids
-  id_at : (k : ℕ) (d : Arg) (t : Text) → k < 7 → slice_index_or ids (suc (suc (suc k))) t ≡ (slice_index_or (args_of c) k d).id.now
+  id_at : (k : ℕ) (d : Arg) (t : Text) → k < 9 → slice_index_or ids (suc (suc (suc k))) t ≡ (slice_index_or (args_of c) k d).id.now
   id_at k d t lt = get_or-map (λ (r : Rule). r.id) racl.top.rules k (rule_of d) t lt ∙ sym (ap (λ (r : Rule). r.id) (rule_at k d lt))
 
   -- no argument has the id of one that stands elsewhere
-  unique : (j k : ℕ) (d e : Arg) → j < 7 → k < 7 → (slice_index_or (args_of c) j e).id.now ≡ (slice_index_or (args_of c) k d).id.now → j ≡ k
+  unique : (j k : ℕ) (d e : Arg) → j < 9 → k < 9 → (slice_index_or (args_of c) j e).id.now ≡ (slice_index_or (args_of c) k d).id.now → j ≡ k
   unique j k d e j_in k_in same =
       let places : suc (suc (suc j)) ≡ suc (suc (suc k)) = same_place _ _ [] (omega arith) (omega arith) (id_at j e [] j_in ∙ same ∙ sym (id_at k d [] k_in)) in
       omega arith
 
   -- nor one of the ids that stand before the options'
-  own : (j k : ℕ) (d : Arg) → j < 3 → k < 7 → (slice_index_or (args_of c) k d).id.now ≡ slice_index_or ids j [] → ⊥
+  own : (j k : ℕ) (d : Arg) → j < 3 → k < 9 → (slice_index_or (args_of c) k d).id.now ≡ slice_index_or ids j [] → ⊥
   own j k d j_in k_in same =
       let places : j ≡ suc (suc (suc k)) = same_place _ _ [] (omega arith) (omega arith) (sym same ∙ sym (id_at k d [] k_in)) in
       absurd (omega arith)
 
   -- the matches hold a number for the option at a place
-  held_at : (m : ArgMatches) → IsParsedFrom c m → (k : ℕ) (d : Arg) (o : OptionName) → k < 7 → slice_index_or racl.top.rules k (rule_of d) ≡ option_rule o
+  held_at : (m : ArgMatches) → IsParsedFrom c m → (k : ℕ) (d : Arg) (o : OptionName) → k < 9 → slice_index_or racl.top.rules k (rule_of d) ≡ option_rule o
       → HoldsNumber (most_of o) (one_text (found_of m) (name_of o))
   held_at m p k d o lt here =
       let plain = plain_fields c (ap (λ (a : App). a.top.is_plain) is) in
       let simple : all_simple (shape_of c).rules ≡ true = ap (λ (a : App). all_simple a.top.rules) is in
       let option = option_by_rule o (slice_index_or (args_of c) k d) (rule_at k d lt ∙ here) in
-      number_held c m p plain.globals (simple_groups c simple) plain.groups k d o option (rw seven lt)
-      (λ j e low same. unique j k d e (rw seven at low) lt ((bytes_eq-Decides _ (name_of o)).0 same ∙ sym option.name))
+      number_held c m p plain.globals (simple_groups c simple) plain.groups k d o option (rw nine lt)
+      (λ j e low same. unique j k d e (rw nine at low) lt ((bytes_eq-Decides _ (name_of o)).0 same ∙ sym option.name))
       (λ empty. own 0 k d (omega arith) lt (option.name ∙ empty))
       (λ auto. elim auto [ inl h ↦ own 1 k d (omega arith) lt h | inr h ↦ own 2 k d (omega arith) lt h ])
 
@@ -98,7 +99,7 @@ numbers_held c m is p = go (args_of c) refl
     go : (xs : List Arg) → args_of c ≡ xs → HoldsNumbers (one_text (found_of m))
     go [] e =
         let none : length (args_of c) ≡ 0 = ap length e in
-        absurd (omega (arith, seven c is))
+        absurd (omega (arith, nine c is))
     go (d ∷ rest) e = record {
       workers = held_at c is m p 0 d Workers (omega arith) refl;
       established = held_at c is m p 1 d Established (omega arith) refl;
@@ -123,6 +124,13 @@ same_names c words m is has =
     let captures = raw_values-rows (found_of m) interface_id ∙ ap (all_of interface_id) rows in
     λ i. record { policy = policy i; capture = capture i; captures = captures i }
 
+-- and what they ask to be shown
+pub same_shown : (c : Command) (words : List Text) (m : ArgMatches) → app_of c ≡ racl → HasMatchesOf (app_of c) words m
+    → shown_by (first_value (found_of m) summary_id) (first_value (found_of m) only_id) ≡ shown_at words
+same_shown c words m is has =
+    let rows : rows_of (found_of m) ≡ matches_of racl words = (has (ap is_simple is ∙ racl_is_simple)).0 ∙ ap (λ a. matches_of a words) is in
+    ap₂ shown_by (first_value-rows (found_of m) summary_id ∙ ap (first_of summary_id) rows) (first_value-rows (found_of m) only_id ∙ ap (first_of only_id) rows)
+
 -- no kind of error comes but those of the words' fault
 pub fails_by_fault : {T : Type 0} (c : Command) (words : List Text) (r : Result T Error) → app_of c ≡ racl
     → (is_simple_and_free (app_of c) ≡ true → FailsBy (fault_of (app_of c) words) r) → FailsBy (fault_of racl words) r
@@ -145,7 +153,9 @@ one_setting words a b p q =
     let established = one_number Established a.established b.established _ p.options.established q.options.established in
     let transient = one_number Transient a.transient b.transient _ p.options.transient q.options.transient in
     let udp = one_number Udp a.udp b.udp _ p.options.udp q.options.udp in
-    λ i. record { workers = workers i; established = established i; transient = transient i; udp = udp i }
+    let both : Some a.shown ≡ Some b.shown = sym p.shown ∙ q.shown in
+    let shown : a.shown ≡ b.shown = cc in
+    λ i. record { workers = workers i; established = established i; transient = transient i; udp = udp i; shown = shown i }
 
 -- words ask for one run
 pub one_run : (words : List Text) (a b : OptionFacts) (m n : OriginFacts) → AskForRun words a m → AskForRun words b n → (a ≡ b) × (m ≡ n)

@@ -1,5 +1,5 @@
 -- What the end of a parse makes of the options that the words left out.
-use Rattle.std.proofs.Common.{◌≡◌, ◌∙◌, ◌++◌, ◌||◌, ap, cond, refl, Bool, true, false, List, [], ◌∷◌, Option, Some, None, is_some}
+use Rattle.std.proofs.Common.{◌≡◌, ◌∙◌, ◌++◌, ◌||◌, ap, cond, refl, Bool, true, false, List, [], ◌∷◌, Option, Some, None, codes, is_some}
 use Rattle.std.specs.List.{find, fold}
 use Rattle.std.specs.Option.{option_or}
 use Rattle.std.specs.Str.{bytes_eq}
@@ -9,12 +9,14 @@ use Rattle.clap.specs.Kinds.{or_else}
 use Rattle.clap.specs.Simple.{entered, filled, help_rule, version_rule}
 use Rattle.clap.specs.Walk.{Walk, default_rows, finished, has_row, more_values, nothing_held, reading_by, settled, walked, with_default, with_values}
 use Rattle.clap.specs.Words.{Row, Rule, Text, built, fault_of}
-use Rattle.clap.specs.declared.builder.value_parser.Reading.TheVariants.{WithoutMinus}
+use Rattle.clap.specs.declared.builder.value_parser.Reading.{Reading}
+use Rattle.clap.specs.declared.builder.value_parser.Reading.TheVariants.{AsWritten, WithoutMinus}
 use Rattle.clap.specs.declared.error.kind.ErrorKind.{ErrorKind}
 use Rattle.clap.specs.declared.parser.matches.ValueSource.TheVariants.{DefaultValue}
 use Rattle.clap.proofs.OnLiterals.{clap_on_literals}
 use Rattle.racl_words.specs.CommandLine.{OptionName, Workers, Established, Transient, Udp, default_of, name_of, racl}
-use Rattle.racl_words.proofs.SettingWalks.{at_row_missing, between, capture_filled, default_row, filled_rule, interface_filled, policy_filled, top}
+use Rattle.racl_words.proofs.SettingWalks.{at_row_missing, between, capture_filled, default_row, filled_rule, interface_filled, only_filled, policy_filled, summary_filled, top}
+use Rattle.racl_words.specs.Selections.{summary_id}
 
 or_right : (b : Bool) → (b || true) ≡ true
 or_right true = refl
@@ -33,6 +35,9 @@ default_passes Workers rows = pass_either _ _ refl
 default_passes Established rows = pass_either _ _ refl
 default_passes Transient rows = pass_either _ _ refl
 default_passes Udp rows = pass_either _ _ refl
+
+summary_passes : (rows : List Row) → default_fault rows summary_filled ≡ []
+summary_passes rows = pass_either _ _ refl
 
 -- nor does an argument that has none
 flag_passes : (r : Rule) (rows : List Row) → r.defaults ≡ [] → default_fault rows r ≡ []
@@ -54,8 +59,14 @@ udp_filled rows = with_default (transient_filled rows) (filled_rule Udp)
 abbrev interface_passed : List Row → List Row
 interface_passed rows = with_default (udp_filled rows) interface_filled
 
+abbrev only_passed : List Row → List Row
+only_passed rows = with_default (interface_passed rows) only_filled
+
+abbrev summary_passed : List Row → List Row
+summary_passed rows = with_default (only_passed rows) summary_filled
+
 abbrev policy_passed : List Row → List Row
-policy_passed rows = with_default (interface_passed rows) policy_filled
+policy_passed rows = with_default (summary_passed rows) policy_filled
 
 abbrev capture_passed : List Row → List Row
 capture_passed rows = with_default (policy_passed rows) capture_filled
@@ -67,9 +78,10 @@ defaults_pass : (rows : List Row) → defaults_fault rows top.rules ≡ []
 unfolding clap_on_literals
 defaults_pass rows = both_pass (default_passes Workers rows) (both_pass (default_passes Established (workers_filled rows))
     (both_pass (default_passes Transient (established_filled rows)) (both_pass (default_passes Udp (transient_filled rows))
-    (both_pass (flag_passes interface_filled (udp_filled rows) refl) (both_pass (flag_passes policy_filled (interface_passed rows) refl)
+    (both_pass (flag_passes interface_filled (udp_filled rows) refl) (both_pass (flag_passes only_filled (interface_passed rows) refl)
+    (both_pass (summary_passes (only_passed rows)) (both_pass (flag_passes policy_filled (summary_passed rows) refl)
     (both_pass (flag_passes capture_filled (policy_passed rows) refl) (both_pass (flag_passes (filled help_rule) (capture_passed rows) refl)
-    (both_pass (flag_passes (filled version_rule) (help_passed rows) refl) refl))))))))
+    (both_pass (flag_passes (filled version_rule) (help_passed rows) refl) refl))))))))))
 
 -- what the words come to in the end, by where the walk stopped
 abbrev pub end_fault : List ErrorKind → Walk → List ErrorKind
@@ -102,14 +114,14 @@ has_none id (x ∷ rest) e = go (bytes_eq x.id id) e (has_none id rest)
     go true found next = cc
     go false found next = next found
 
-fill_row : (id v : Text) (rows : List Row) → bytes_eq id id ≡ true
-    → find_row id (cond (has_row id rows) rows (with_values id WithoutMinus DefaultValue (v ∷ []) rows))
-    ≡ option_or (find_row id rows) (Some (record { id = id; values = v ∷ []; count = None; source = Some DefaultValue; reading = WithoutMinus }))
-fill_row id v rows same = go (find_row id rows) refl
+fill_row : (id v : Text) (how : Reading) (rows : List Row) → bytes_eq id id ≡ true
+    → find_row id (cond (has_row id rows) rows (with_values id how DefaultValue (v ∷ []) rows))
+    ≡ option_or (find_row id rows) (Some (record { id = id; values = v ∷ []; count = None; source = Some DefaultValue; reading = how }))
+fill_row id v how rows same = go (find_row id rows) refl
   where
     go : (found : Option Row) → find_row id rows ≡ found
-        → find_row id (cond (has_row id rows) rows (with_values id WithoutMinus DefaultValue (v ∷ []) rows))
-        ≡ option_or (find_row id rows) (Some (record { id = id; values = v ∷ []; count = None; source = Some DefaultValue; reading = WithoutMinus }))
+        → find_row id (cond (has_row id rows) rows (with_values id how DefaultValue (v ∷ []) rows))
+        ≡ option_or (find_row id rows) (Some (record { id = id; values = v ∷ []; count = None; source = Some DefaultValue; reading = how }))
     go (Some r) e = rw (found_has id rows r e, e) refl
     go None e =
         let none = has_none id rows e in
@@ -119,27 +131,27 @@ or_none : (found : Option Row) → option_or found None ≡ found
 or_none None = refl
 or_none (Some r) = refl
 
-keep_row : (id other v : Text) (rows : List Row) → bytes_eq other id ≡ false
-    → find_row id (cond (has_row other rows) rows (with_values other WithoutMinus DefaultValue (v ∷ []) rows)) ≡ find_row id rows
-keep_row id other v rows apart = go (has_row other rows) refl
+keep_row : (id other v : Text) (how : Reading) (rows : List Row) → bytes_eq other id ≡ false
+    → find_row id (cond (has_row other rows) rows (with_values other how DefaultValue (v ∷ []) rows)) ≡ find_row id rows
+keep_row id other v how rows apart = go (has_row other rows) refl
   where
-    go : (b : Bool) → has_row other rows ≡ b → find_row id (cond b rows (with_values other WithoutMinus DefaultValue (v ∷ []) rows)) ≡ find_row id rows
+    go : (b : Bool) → has_row other rows ≡ b → find_row id (cond b rows (with_values other how DefaultValue (v ∷ []) rows)) ≡ find_row id rows
     go true e = refl
     go false none = rw (at_row_missing other (more_values DefaultValue (v ∷ [])) _ rows none, find-append, apart) (or_none (find_row id rows))
 
 -- the default of an option fills what the words left out
 default_fills : (o : OptionName) (rows : List Row) → find_row (name_of o) (with_default rows (filled_rule o)) ≡ option_or (find_row (name_of o) rows) (Some (default_row o))
-default_fills Workers rows = fill_row (name_of Workers) (default_of Workers) rows refl
-default_fills Established rows = fill_row (name_of Established) (default_of Established) rows refl
-default_fills Transient rows = fill_row (name_of Transient) (default_of Transient) rows refl
-default_fills Udp rows = fill_row (name_of Udp) (default_of Udp) rows refl
+default_fills Workers rows = fill_row (name_of Workers) (default_of Workers) WithoutMinus rows refl
+default_fills Established rows = fill_row (name_of Established) (default_of Established) WithoutMinus rows refl
+default_fills Transient rows = fill_row (name_of Transient) (default_of Transient) WithoutMinus rows refl
+default_fills Udp rows = fill_row (name_of Udp) (default_of Udp) WithoutMinus rows refl
 
 -- and leaves what has another id as it is
 id_keeps : (id : Text) (other : OptionName) (rows : List Row) → bytes_eq (name_of other) id ≡ false → find_row id (with_default rows (filled_rule other)) ≡ find_row id rows
-id_keeps id Workers rows = keep_row id (name_of Workers) (default_of Workers) rows
-id_keeps id Established rows = keep_row id (name_of Established) (default_of Established) rows
-id_keeps id Transient rows = keep_row id (name_of Transient) (default_of Transient) rows
-id_keeps id Udp rows = keep_row id (name_of Udp) (default_of Udp) rows
+id_keeps id Workers rows = keep_row id (name_of Workers) (default_of Workers) WithoutMinus rows
+id_keeps id Established rows = keep_row id (name_of Established) (default_of Established) WithoutMinus rows
+id_keeps id Transient rows = keep_row id (name_of Transient) (default_of Transient) WithoutMinus rows
+id_keeps id Udp rows = keep_row id (name_of Udp) (default_of Udp) WithoutMinus rows
 
 default_keeps : (o other : OptionName) (rows : List Row) → bytes_eq (name_of other) (name_of o) ≡ false → find_row (name_of o) (with_default rows (filled_rule other)) ≡ find_row (name_of o) rows
 default_keeps o other rows = id_keeps (name_of o) other rows
@@ -166,17 +178,40 @@ filled_by Transient rows = default_keeps Transient Udp (transient_filled rows) r
 filled_by Udp rows = default_fills Udp (transient_filled rows)
     ∙ or_default Udp _ _ (default_keeps Udp Transient (established_filled rows) refl ∙ default_keeps Udp Established (workers_filled rows) refl ∙ default_keeps Udp Workers rows refl)
 
--- what has no default leaves the rows of the options
-all_but_options : (rows : List Row) → fold with_default rows top.rules ≡ udp_filled rows
+-- the default of the flag leaves what has another id
+summary_keeps : (id : Text) (rows : List Row) → bytes_eq summary_id id ≡ false → find_row id (with_default rows summary_filled) ≡ find_row id rows
+summary_keeps id rows = keep_row id summary_id (codes "false") AsWritten rows
+
+-- what has no default leaves the rows of the options and the flag
+all_but_options : (rows : List Row) → fold with_default rows top.rules ≡ with_default (udp_filled rows) summary_filled
 all_but_options rows = flag_keeps (filled version_rule) (help_passed rows) refl ∙ flag_keeps (filled help_rule) (capture_passed rows) refl
-    ∙ flag_keeps capture_filled (policy_passed rows) refl ∙ flag_keeps policy_filled (interface_passed rows) refl ∙ flag_keeps interface_filled (udp_filled rows) refl
+    ∙ flag_keeps capture_filled (policy_passed rows) refl ∙ flag_keeps policy_filled (summary_passed rows) refl
+    ∙ ap (λ rs. with_default rs summary_filled) (flag_keeps only_filled (interface_passed rows) refl ∙ flag_keeps interface_filled (udp_filled rows) refl)
+
+no_summary : (o : OptionName) → bytes_eq summary_id (name_of o) ≡ false
+no_summary Workers = refl
+no_summary Established = refl
+no_summary Transient = refl
+no_summary Udp = refl
+
+-- the row of the flag that was left out
+abbrev pub summary_row : Row
+summary_row = record { id = summary_id; values = codes "false" ∷ []; count = None; source = Some DefaultValue; reading = AsWritten }
 
 pub all_filled : (o : OptionName) (rows : List Row) → find_row (name_of o) (fold with_default rows top.rules) ≡ option_or (find_row (name_of o) rows) (Some (default_row o))
-all_filled o rows = ap (find_row (name_of o)) (all_but_options rows) ∙ filled_by o rows
+all_filled o rows = ap (find_row (name_of o)) (all_but_options rows) ∙ summary_keeps (name_of o) (udp_filled rows) (no_summary o) ∙ filled_by o rows
+
+-- the flag's row, or its default where the words left it out
+pub summary_fills : (rows : List Row) → ((o : OptionName) → bytes_eq (name_of o) summary_id ≡ false)
+    → find_row summary_id (fold with_default rows top.rules) ≡ option_or (find_row summary_id rows) (Some summary_row)
+summary_fills rows apart = ap (find_row summary_id) (all_but_options rows) ∙ fill_row summary_id (codes "false") AsWritten (udp_filled rows) refl
+    ∙ ap (λ found. option_or found (Some summary_row)) (id_keeps summary_id Udp (transient_filled rows) (apart Udp)
+    ∙ id_keeps summary_id Transient (established_filled rows) (apart Transient) ∙ id_keeps summary_id Established (workers_filled rows) (apart Established)
+    ∙ id_keeps summary_id Workers rows (apart Workers))
 
 -- no default has another id
-pub no_other_filled : (id : Text) (rows : List Row) → ((o : OptionName) → bytes_eq (name_of o) id ≡ false) → find_row id (fold with_default rows top.rules) ≡ find_row id rows
-no_other_filled id rows apart = ap (find_row id) (all_but_options rows) ∙ id_keeps id Udp (transient_filled rows) (apart Udp)
+pub no_other_filled : (id : Text) (rows : List Row) → ((o : OptionName) → bytes_eq (name_of o) id ≡ false) → bytes_eq summary_id id ≡ false → find_row id (fold with_default rows top.rules) ≡ find_row id rows
+no_other_filled id rows apart no_flag = ap (find_row id) (all_but_options rows) ∙ summary_keeps id (udp_filled rows) no_flag ∙ id_keeps id Udp (transient_filled rows) (apart Udp)
     ∙ id_keeps id Transient (established_filled rows) (apart Transient) ∙ id_keeps id Established (workers_filled rows) (apart Established)
     ∙ id_keeps id Workers rows (apart Workers)
 

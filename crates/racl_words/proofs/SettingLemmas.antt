@@ -1,5 +1,5 @@
 -- Words that set options, and name captures of interfaces and files, as a user writes them, ask for what they say.
-use Rattle.std.proofs.Common.{◌≡◌, ◌∙◌, ◌++◌, ◌==◌, ◌+◌, ◌||◌, ◌≤◌, ◌<◌, ◌^◌, ap, ap₂, arith, cond, refl, rules as common_rules, subst, sym, ℕ, Bool, true, false, List, [], ◌∷◌, map, append-nil, append_assoc, Some, None, codes}
+use Rattle.std.proofs.Common.{◌≡◌, ◌∙◌, ◌++◌, ◌==◌, ◌+◌, ◌||◌, ◌≤◌, ◌<◌, ◌^◌, ap, ap₂, arith, cond, refl, rules as common_rules, subst, sym, ℕ, Bool, true, false, List, [], ◌∷◌, map, append-nil, append_assoc, Option, Some, None, codes}
 use Rattle.std.specs.List.{flat_map, fold}
 use Rattle.std.specs.Option.{option_or}
 use Rattle.std.specs.Prelude.{option_and_then, option_map, pos, slice_get}
@@ -14,13 +14,15 @@ use Rattle.clap.specs.Walk.{Held, has_row, nothing_held, row_text, settled, walk
 use Rattle.clap.specs.Words.{IsSignedIn, Row, Text, matches_of, without_minus}
 use Rattle.clap.specs.declared.builder.value_parser.ValueParser.TheVariants.{Signed}
 use Rattle.clap.proofs.ValueTestLemmas.{Accepts-accepts}
-use Rattle.racl_words.specs.CommandLine.{IsInRange, OptionName, Workers, Established, Transient, Udp, Spells, capture_id, default_of, interface_id, most_of, most_seconds, name_of, number_of, policy_id, racl, text_at}
+use Rattle.racl_words.specs.CommandLine.{IsInRange, OptionName, Workers, Established, Transient, Udp, Spells, capture_id, default_of, interface_id, most_of, most_seconds, name_of, number_of, policy_id, racl, shown_at, text_at}
+use Rattle.racl_io.specs.declared.shown.Shown.TheVariants.{Every}
+use Rattle.racl_words.specs.Selections.{only_id, shown_by, summary_id}
 use Rattle.racl_words.specs.Options.{AreInRange, AreNames, AreSettings, Setting, Use, facts_of, named_by, sets, times_set, value_at, words_as, words_of, words_of_use}
 use Rattle.racl_words.specs.Origins.{AskForRun, Name, OriginFacts, named_at}
 use Rattle.racl_words.proofs.NameLemmas.{plain_uses}
 use Rattle.racl_words.proofs.NameWalks.{Ends, has_row_behind, names_end, rows_of_names, rows_of_uses, uses_go_on}
 use Rattle.racl_words.proofs.SettingWalks.{AreNew, GoesOn, Holds, IsFit, between, default_row, row_of, settings_go_on, top}
-use Rattle.racl_words.proofs.SettingDefaults.{all_filled, end_fault, ends_well, fault_is, find_both, find_row, no_other_filled, or_nothing}
+use Rattle.racl_words.proofs.SettingDefaults.{all_filled, end_fault, ends_well, fault_is, find_both, find_row, no_other_filled, or_nothing, summary_fills, summary_row}
 
 -- a number's text doesn't begin with a minus
 plain_value : (d : ℕ) (ds : Text) → IsNumeral 10 (without_leading_plus (d ∷ ds)) → (d == 45) ≡ false
@@ -156,6 +158,18 @@ no_capture Established = refl
 no_capture Transient = refl
 no_capture Udp = refl
 
+no_only : IsOther only_id
+no_only Workers = refl
+no_only Established = refl
+no_only Transient = refl
+no_only Udp = refl
+
+no_flag : IsOther summary_id
+no_flag Workers = refl
+no_flag Established = refl
+no_flag Transient = refl
+no_flag Udp = refl
+
 no_other_row : (id : Text) (ss : List Setting) → IsOther id → has_row id (map row_of ss) ≡ false
 no_other_row id [] other = refl
 no_other_row id (s ∷ rest) other = rw (other s.option) (no_other_row id rest other)
@@ -232,6 +246,22 @@ captures_are (u ∷ us) [] = refl
 captures_are (u ∷ us) (p ∷ []) = refl
 captures_are (u ∷ us) (p ∷ c ∷ names) = refl
 
+only_is : (uses : List Use) (names : List Text) → find_row only_id (other_rows uses names) ≡ None
+only_is [] [] = refl
+only_is [] (p ∷ []) = refl
+only_is [] (p ∷ c ∷ names) = refl
+only_is (u ∷ us) [] = refl
+only_is (u ∷ us) (p ∷ []) = refl
+only_is (u ∷ us) (p ∷ c ∷ names) = refl
+
+flag_is : (uses : List Use) (names : List Text) → find_row summary_id (other_rows uses names) ≡ None
+flag_is [] [] = refl
+flag_is [] (p ∷ []) = refl
+flag_is [] (p ∷ c ∷ names) = refl
+flag_is (u ∷ us) [] = refl
+flag_is (u ∷ us) (p ∷ []) = refl
+flag_is (u ∷ us) (p ∷ c ∷ names) = refl
+
 -- ---- all words
 
 -- words that set options and name files as a user writes them ask for what they say
@@ -242,6 +272,7 @@ words_ask program ss uses names origin are named says = record {
   options = record {
     faultless = fault_is program words ∙ ap₂ end_fault faultless_walk walked_is ∙ ends_well ends.last ends.runs ends.settles;
     options = record { workers = spelt Workers; established = spelt Established; transient = spelt Transient; udp = spelt Udp };
+    shown = shown_is;
   };
   names = subst (λ named. Name named origin) (sym named_is) says;
 }
@@ -281,14 +312,21 @@ words_ask program ss uses names origin are named says = record {
         let range = value_in_range o ss are.in_range in
         (value_at o ss, text o, range, refl)
 
-    other_row : (id : Text) → IsOther id → find_row id (matches_of racl (program ∷ words)) ≡ find_row id (other_rows uses names)
-    other_row id other = ap (find_row id) filled_rows ∙ no_other_filled id (map row_of ss ++ other_rows uses names) other ∙ other_found id ss uses names other
+    other_row : (id : Text) → IsOther id → bytes_eq summary_id id ≡ false → find_row id (matches_of racl (program ∷ words)) ≡ find_row id (other_rows uses names)
+    other_row id other unlike = ap (find_row id) filled_rows ∙ no_other_filled id (map row_of ss ++ other_rows uses names) other unlike ∙ other_found id ss uses names other
+
+    shown_is : shown_at (program ∷ words) ≡ Some Every
+    shown_is =
+        let flag = ap (find_row summary_id) filled_rows ∙ summary_fills (map row_of ss ++ other_rows uses names) no_flag
+        ∙ ap (λ found. option_or found (Some summary_row)) (other_found summary_id ss uses names no_flag ∙ flag_is uses names) in
+        let only = other_row only_id no_only refl ∙ only_is uses names in
+        ap₂ (λ (s o : Option Row). shown_by (option_and_then (λ r. slice_get r.values 0) s) (option_and_then (λ r. slice_get r.values 0) o)) flag only
 
     named_is : named_at (program ∷ words) ≡ named_by uses names
     named_is =
-        let policy = ap (option_and_then (λ (r : Row). slice_get r.values 0)) (other_row policy_id no_policy) ∙ policy_is uses names in
-        let capture = ap (option_and_then (λ (r : Row). slice_get r.values 0)) (other_row capture_id no_capture) ∙ capture_is uses names in
-        let captures = ap (option_map (λ (r : Row). r.values)) (other_row interface_id no_interface) ∙ captures_are uses names in
+        let policy = ap (option_and_then (λ (r : Row). slice_get r.values 0)) (other_row policy_id no_policy refl) ∙ policy_is uses names in
+        let capture = ap (option_and_then (λ (r : Row). slice_get r.values 0)) (other_row capture_id no_capture refl) ∙ capture_is uses names in
+        let captures = ap (option_map (λ (r : Row). r.values)) (other_row interface_id no_interface refl) ∙ captures_are uses names in
         λ i. record { policy = policy i; capture = capture i; captures = captures i }
 
 pub written_asks : (words : List Text) (program : Text) (ss : List Setting) (uses : List Use) (names : List Text) (origin : OriginFacts) → AreSettings ss → AreNames names

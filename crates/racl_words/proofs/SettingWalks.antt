@@ -15,6 +15,7 @@ use Rattle.clap.specs.declared.parser.matches.ValueSource.TheVariants.{CommandLi
 use Rattle.clap.proofs.OnLiterals.{clap_on_literals}
 use Rattle.racl_words.specs.CommandLine.{OptionName, Workers, Established, Transient, Udp, capture_id, default_of, file_rule, interface_rule, most_of, name_of, option_rule, policy_id, racl}
 use Rattle.racl_words.specs.Options.{Setting, words_by, words_of}
+use Rattle.racl_words.specs.Selections.{only_rule, summary_rule}
 
 abbrev pub top : Shape
 top = (built racl).top
@@ -24,6 +25,12 @@ filled_rule o = filled (option_rule o)
 
 abbrev pub interface_filled : Rule
 interface_filled = filled interface_rule
+
+abbrev pub only_filled : Rule
+only_filled = filled only_rule
+
+abbrev pub summary_filled : Rule
+summary_filled = filled summary_rule
 
 abbrev pub policy_filled : Rule
 policy_filled = with_index 1 (filled (file_rule policy_id))

@@ -2,13 +2,15 @@
 use Rattle.std.specs.Prelude.{◌≡◌, ◌≤◌, ◌⊎◌, ℕ, true, List, [], ◌∷◌, Option, Some, codes, pos}
 use Rattle.std.specs.Str.Parse.{IsNumeral, digits_value, without_leading_plus}
 use Rattle.clap.specs.Simple.{on_top}
-use Rattle.clap.specs.Words.{App, IsSignedIn, Rule, Text, fault_of, matches_of, new_app}
+use Rattle.clap.specs.Words.{App, IsSignedIn, Rule, Text, fault_of, first_of, matches_of, new_app}
 use Rattle.clap.specs.Words.{new_rule, one_of, with_rule, without_minus}
 use Rattle.clap.specs.declared.builder.action.ArgAction.TheVariants.{Append, Set}
 use Rattle.clap.specs.declared.builder.value_parser.ValueParser.TheVariants.{Signed}
 use Rattle.clap.specs.declared.error.kind.ErrorKind.{ErrorKind}
 use Rattle.clap.specs.declared.error.kind.ErrorKind.TheVariants.{DisplayHelp, DisplayVersion}
+use Rattle.racl_io.specs.declared.shown.Shown.{Shown}
 use Rattle.racl_words.specs.declared.settings.Options.{Options}
+use Rattle.racl_words.specs.Selections.{only_id, only_rule, shown_by, summary_id, summary_rule}
 
 -- ---- the command
 
@@ -82,10 +84,13 @@ abbrev pub with_options : App
 with_options = with_rule (with_rule (with_rule (with_rule without_options (option_rule Workers))
     (option_rule Established)) (option_rule Transient)) (option_rule Udp)
 
--- and with the captures of interfaces and the files
+-- and with the captures of interfaces and the packets that are shown
+abbrev pub with_selections : App
+with_selections = with_rule (with_rule (with_rule with_options interface_rule) only_rule) summary_rule
+
+-- and with the files
 abbrev pub racl : App
-racl = with_rule (with_rule (with_rule with_options interface_rule) (file_rule policy_id))
-    (file_rule capture_id)
+racl = with_rule (with_rule with_selections (file_rule policy_id)) (file_rule capture_id)
 
 -- ---- what the words ask for
 
@@ -95,6 +100,7 @@ pub record OptionFacts : Type 0 where
   pub established : ℕ
   pub transient : ℕ
   pub udp : ℕ
+  pub shown : Shown
 
 abbrev pub option_facts : Options → OptionFacts
 option_facts o = record {
@@ -102,6 +108,7 @@ option_facts o = record {
   established = o.times.established;
   transient = o.times.transient;
   udp = o.times.udp;
+  shown = o.shown;
 }
 
 abbrev pub number_of : Text → ℕ
@@ -127,11 +134,16 @@ pub record SpellsOptions (text : Text → Option Text) (facts : OptionFacts) : T
 abbrev pub text_at : List Text → Text → Option Text
 text_at words name = one_of name (matches_of racl words)
 
--- the command finds no fault in the words, and each option is the number spelt by the text that its
--- matches of the words hold for it
+-- the packets that they ask to be shown
+abbrev pub shown_at : List Text → Option Shown
+shown_at words = shown_by (first_of summary_id (matches_of racl words)) (first_of only_id (matches_of racl words))
+
+-- the command finds no fault in the words, each option is the number spelt by the text that its
+-- matches of the words hold for it, and these packets are asked for
 pub record AskFor (words : List Text) (facts : OptionFacts) : Type 0 where
   pub faultless : fault_of racl words ≡ []
   pub options : SpellsOptions (text_at words) facts
+  pub shown : shown_at words ≡ Some facts.shown
 
 -- an error of this kind is a request for the help or for the version
 abbrev pub IsRequest : ErrorKind → Type 0

@@ -1,4 +1,5 @@
 pub mod CommandLine
 pub mod Options
 pub mod Origins
+pub mod Selections
 pub mod inner

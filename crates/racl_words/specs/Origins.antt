@@ -71,6 +71,10 @@ named_at words = record {
   captures = all_of interface_id (matches_of racl words);
 }
 
+-- the words name no input
+abbrev pub NamesNone : List Text → Type 0
+NamesNone words = (origin : OriginFacts) → Name (named_at words) origin → ⊥
+
 -- the words ask for these options, and for an input from there
 pub record AskForRun (words : List Text) (facts : OptionFacts) (origin : OriginFacts) : Type 0 where
   pub options : AskFor words facts

@@ -2,6 +2,7 @@
 #![tactic(auto)]
 
 mod naming;
+mod selection;
 mod settings;
 mod words;
 

@@ -1,6 +1,7 @@
 //! What the command line asks for.
 ghost use Rattle.std.specs.Prelude.{◌≤◌};
 
+use racl_io::Shown;
 use session_state::Timeouts;
 
 /// What the options set.
@@ -9,6 +10,8 @@ pub struct Options {
     /// How many threads judge packets.
     pub workers: usize,
     pub times: Timeouts,
+    /// Which packets have a line in the report.
+    pub shown: Shown,
     pub ghost few: { (1 ≤ workers) × (workers ≤ 16) },
 }
 

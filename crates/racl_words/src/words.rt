@@ -1,17 +1,20 @@
 //! The command line: the words with which the program is called, read by `clap`.
-ghost use Rattle.std.specs.Prelude.{◌≡◌, ◌≢◌, ◌⊎◌, List, ◌∷◌, IfErr, IfOk, MatchResult, false};
+ghost use Rattle.std.specs.Prelude.{◌≡◌, ◌≢◌, ◌⊎◌, List, ◌∷◌, IfErr, IfOk, MatchResult, None, false};
 ghost use Rattle.clap.specs.Walk.{Text, texts};
 ghost use Rattle.clap.specs.Words.{HasKind, app_of, fault_of, found_of, kind_of, one_text, rule_of};
 ghost use Rattle.racl_words.specs.CommandLine.{HoldsNumber, HoldsNumbers, IsRequest, OptionFacts, OptionName, Spells, SpellsOptions};
-ghost use Rattle.racl_words.specs.CommandLine.{option_facts, racl, with_options, without_options};
+ghost use Rattle.racl_words.specs.CommandLine.{option_facts, racl, shown_at, with_options, with_selections, without_options};
 ghost use Rattle.racl_words.specs.CommandLine as line;
 ghost use Rattle.racl_words.specs.Options.{AreNames, AreSettings, Setting, Use, facts_of, named_by, words_as};
-ghost use Rattle.racl_words.specs.Origins.{AskForRun, Name, OriginFacts, named_at, origin_facts};
+ghost use Rattle.racl_words.specs.Origins.{AskForRun, Name, NamesNone, OriginFacts, origin_facts};
+ghost use Rattle.racl_words.specs.Selections.{only_rule, summary_rule};
 
 use crate::naming::{Refusal, origin_named};
+use crate::selection::shown_named;
 use crate::settings::{Asked, Options};
 use clap::error::ErrorKind;
 use clap::{Arg, ArgAction, ArgMatches, Command, Error, value_parser};
+use racl_io::Shown;
 use session_state::Timeouts;
 use std::alloc::{AllocError, Global};
 
@@ -31,18 +34,22 @@ pub fn options<'a>(alloc: Global, words: &'a [&'a str]) -> Result<Asked<'a>, Err
         → MatchResult result (λ a. (option_facts a.options ≡ facts_of settings) × (origin_facts a.origin ≡ origin))
         (λ e. kind_of e ≡ ErrorKind.OutOfMemory) }
 
-    // An error has a kind of the words' fault, or the names are no files to be read, or memory ran out.
+    // An error has a kind of the words' fault, or the names are no files to be read, or no packets are asked to be shown,
+    // or memory ran out.
     ensures refuses { IfErr result (λ e. HasKind (fault_of racl (texts words.entry.now)) e
-        ⊎ ((kind_of e ≡ ErrorKind.ValueValidation) × ((origin : OriginFacts) → Name (named_at (texts words.entry.now)) origin → ⊥))) }
+        ⊎ ((kind_of e ≡ ErrorKind.ValueValidation) × (NamesNone (texts words.entry.now) ⊎ (shown_at (texts words.entry.now) ≡ None)))) }
 {
     let mut command = command(alloc)?;
     let matches = match command.try_get_matches_from_mut(words) {
         Ok(matches) => matches,
         Err(error) => return Err(error),
     };
+    let Some(shown) = shown_named(&matches) else {
+        return Err(command.error(ErrorKind::ValueValidation, NOT_SHOWN)?);
+    };
     match origin_named(alloc, &matches) {
         Ok(origin) => Ok(Asked {
-            options: read_options(&matches),
+            options: read_options(&matches, shown),
             origin,
         }),
         Err(Refusal::Memory) => Err(Error::from(AllocError)),
@@ -89,11 +96,12 @@ Exit status:
   3  done, but the capture was cut off
   4  memory or device";
 
+const NOT_SHOWN: &str = "--only takes pass or drop";
+
 fn command<'a>(alloc: Global) -> Result<Command<'a>, AllocError>
     ensures { IfOk result (λ c. app_of c ≡ racl) }
 {
-    command_with_options(alloc)?
-        .arg(interface_option(alloc))?
+    command_with_selections(alloc)?
         .arg(file_argument(
             alloc,
             "POLICY",
@@ -102,7 +110,17 @@ fn command<'a>(alloc: Global) -> Result<Command<'a>, AllocError>
         .arg(file_argument(alloc, "CAPTURE", "The capture's file"))
 }
 
-// The command with its options of a number, and no file yet.
+// The command with its options, and no file yet.
+fn command_with_selections<'a>(alloc: Global) -> Result<Command<'a>, AllocError>
+    ensures { IfOk result (λ c. app_of c ≡ with_selections) }
+{
+    command_with_options(alloc)?
+        .arg(interface_option(alloc))?
+        .arg(only_option(alloc))?
+        .arg(summary_flag(alloc))
+}
+
+// The command with its options of a number, and no other yet.
 fn command_with_options<'a>(alloc: Global) -> Result<Command<'a>, AllocError>
     ensures { IfOk result (λ c. app_of c ≡ with_options) }
 {
@@ -185,6 +203,27 @@ fn interface_option<'a>(alloc: Global) -> Arg<'a>
         .help("The capture of the interface with number N, 0 to 255; once for each of them")
 }
 
+fn only_option<'a>(alloc: Global) -> Arg<'a>
+    ensures rule { rule_of result ≡ only_rule }
+    ensures local { result.global ≡ false }
+{
+    Arg::new(alloc, "only")
+        .long("only")
+        .action(ArgAction::Set)
+        .value_name("pass|drop")
+        .help("The lines of packets alone that pass, or are dropped")
+}
+
+fn summary_flag<'a>(alloc: Global) -> Arg<'a>
+    ensures rule { rule_of result ≡ summary_rule }
+    ensures local { result.global ≡ false }
+{
+    Arg::new(alloc, "summary")
+        .long("summary")
+        .action(ArgAction::SetTrue)
+        .help("No lines of packets")
+}
+
 fn file_argument<'a>(alloc: Global, id: &'a str, help: &'a str) -> Arg<'a>
     ensures rule { rule_of result ≡ line.file_rule id.entry.now }
     ensures local { result.global ≡ false }
@@ -192,9 +231,10 @@ fn file_argument<'a>(alloc: Global, id: &'a str, help: &'a str) -> Arg<'a>
     Arg::new(alloc, id).action(ArgAction::Set).help(help)
 }
 
-fn read_options(matches: &ArgMatches<'_>) -> Options
+fn read_options(matches: &ArgMatches<'_>, shown: Shown) -> Options
     requires { HoldsNumbers (one_text (found_of matches.now)) }
-    ensures { SpellsOptions (one_text (found_of matches.now)) (option_facts result) }
+    ensures spelt { SpellsOptions (one_text (found_of matches.now)) (option_facts result) }
+    ensures shown { result.shown ≡ shown }
 {
     let workers = number_at(matches, "workers");
     let established = number_at(matches, "tcp-established");
@@ -207,6 +247,7 @@ fn read_options(matches: &ArgMatches<'_>) -> Options
             transient,
             udp,
         },
+        shown,
     }
 }
 

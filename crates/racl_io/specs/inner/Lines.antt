@@ -5,9 +5,8 @@ use Rattle.flow_filter.specs.declared.verdict.Verdict.{Verdict}
 use Rattle.racl_io.specs.declared.beside.Lines.{Lines}
 use Rattle.racl_io.specs.declared.fault.Fault.{Fault}
 use Rattle.racl_io.specs.declared.fault.Fault.TheVariants.{Write}
-use Rattle.racl_io.specs.declared.report.Captured.{Captured}
 use Rattle.racl_io.specs.declared.report.Place.{Place}
-use Rattle.racl_io.specs.Reports.{lines_from, passed, truncation_line}
+use Rattle.racl_io.specs.Reports.{lines_from, passed}
 
 -- the lines of packets that stand at this place
 abbrev pub lines_at : Place → List Verdict → List ℕ
@@ -37,11 +36,3 @@ HasTold bytes failures old new text passing result =
 -- a sink got the lines of all these packets, or it failed once more
 abbrev pub HasWritten : {W : Type 0} → (W → Option (List ℕ)) → (W → ℕ) → W → W → Place → List Verdict → Result ℕ Fault → Type 0
 HasWritten bytes failures old new place verdicts result = HasTold bytes failures old new (lines_at place verdicts) (passed verdicts) result
-
--- a sink got the line on a truncation, where there is one, or it failed once more
-abbrev pub HasEnded : {W : Type 0} → (W → Option (List ℕ)) → (W → ℕ) → W → W → Captured → Result ⊤ Fault → Type 0
-HasEnded bytes failures old new captured result =
-    OnOk result (Appends (bytes old) (bytes new) (truncation_line captured.named captured.truncated captured.packets))
-    × OnOk result (failures new ≡ failures old)
-    × OnErr result (failures new ≡ failures old + 1)
-    × IfErr result (λ e. e ≡ Write)

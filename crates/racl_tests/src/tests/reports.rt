@@ -2,7 +2,7 @@
 ghost use Rattle.std.specs.Prelude.{None};
 
 use flow_filter::Verdict;
-use racl_io::{Captured, Device, DeviceFault, Fault, Sink, write_report};
+use racl_io::{Captured, Device, DeviceFault, Fault, Shown, Sink, write_report, write_shown};
 use std::test::Fail;
 
 #[test]
@@ -75,6 +75,40 @@ packets 3 pass 2 drop 1
     let totals = write_report(Some(&rt), rt.alloc(), &mut writer, &verdicts, &captures)?;
     assert_eq!(rt; writer.inner.as_slice(), lines.as_bytes());
     assert!(rt; totals.truncated);
+    Ok(())
+}
+
+/// Packets have the numbers that they have among all, and the totals count all.
+#[test]
+fn lines_of_some_packets(rt: HostRuntime) -> Result<(), Fail> {
+    let verdicts = [Verdict::Session, Verdict::ByDefault, Verdict::NotIp];
+    let captures = [
+        Captured {
+            named: Some(7),
+            packets: 1,
+            truncated: true,
+        },
+        Captured {
+            named: Some(8),
+            packets: 2,
+            truncated: false,
+        },
+    ];
+    let cut = "if 7 truncated after 1\n";
+    let end = "packets 3 pass 2 drop 1\n";
+    let cases = [
+        (Shown::Every, "1 if 7 pass session\n", "2 if 8 drop default\n3 if 8 pass not-ip\n"),
+        (Shown::Passing, "1 if 7 pass session\n", "3 if 8 pass not-ip\n"),
+        (Shown::Dropped, "", "2 if 8 drop default\n"),
+        (Shown::Nothing, "", ""),
+    ];
+    for (shown, first, second) in cases {
+        let mut writer = Device::new(Vec::new(rt.alloc()));
+        let text = format!(in rt.alloc(); "{first}{cut}{second}{end}")?;
+        let totals = write_shown(Some(&rt), rt.alloc(), &mut writer, shown, &verdicts, &captures)?;
+        assert_eq!(rt; writer.inner.as_slice(), text.as_bytes());
+        assert_eq!(rt; (totals.passed, totals.dropped, totals.truncated), (2, 1, true));
+    }
     Ok(())
 }
 

@@ -1,5 +1,6 @@
 //! A whole input through the program, with devices that are slow or fail.
 use racl_cli::Options;
+use racl_io::Shown;
 use session_state::Timeouts;
 
 mod transfers;
@@ -40,4 +41,5 @@ const DEFAULTS: Options = Options {
         transient: 120,
         udp: 600,
     },
+    shown: Shown::Every,
 };

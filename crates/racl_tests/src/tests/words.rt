@@ -1,5 +1,6 @@
 //! Words of the command line, and what they ask for. `checks/rows/sessions.txt` has what timeouts do.
 use clap::Error;
+use racl_io::Shown;
 use racl_words::{CaptureFile, Files, Interfaces, Options, Origin, options, words_status};
 use session_state::Timeouts;
 use std::alloc::{AllocError, Global};
@@ -76,14 +77,36 @@ fn words_set_the_options(rt: HostRuntime) {
         transient: 120,
         udp: 600,
     };
-    let defaults = Options { workers: 1, times };
+    let shown = Shown::Every;
+    let defaults = Options {
+        workers: 1,
+        times,
+        shown,
+    };
     assert_eq!(rt; set_after(alloc, &["racl"]), Some(defaults));
     assert_eq!(rt;
         set_after(alloc, &["racl", "--workers", "1"]),
         Some(defaults)
     );
-    let most = Options { workers: 16, times };
+    let most = Options {
+        workers: 16,
+        times,
+        shown,
+    };
     assert_eq!(rt; set_after(alloc, &["racl", "--workers", "16"]), Some(most));
+}
+
+fn shown_after<'a>(alloc: Global, words: &'a [&'a str]) -> Option<Shown> {
+    set_after(alloc, words).map(|options| options.shown)
+}
+
+#[test]
+fn words_select_packets(rt: HostRuntime) {
+    let alloc = rt.alloc();
+    assert_eq!(rt; shown_after(alloc, &["racl", "--only", "pass"]), Some(Shown::Passing));
+    assert_eq!(rt; shown_after(alloc, &["racl", "--only=drop"]), Some(Shown::Dropped));
+    assert_eq!(rt; shown_after(alloc, &["racl", "--only=drop", "--summary"]), Some(Shown::Nothing));
+    assert_eq!(rt; shown_after(alloc, &["racl", "--only", "deny"]), None);
 }
 
 // The status after words that are refused.

@@ -1,10 +1,10 @@
-use Rattle.std.proofs.Common.{inl, inr, subst, sym}
+use Rattle.std.proofs.Common.{◌≡◌, ◌∙◌, None, Some, ap, inl, inr, subst, sym}
 use Rattle.std.specs.Prelude.{Err, Ok}
 use Rattle.clap.specs.declared.parser.matches.ArgMatches.{ArgMatches}
 use Rattle.racl_words.specs.Options.{facts_of}
 use Rattle.racl_words.specs.Origins.{Name, origin_facts}
 use Rattle.racl_words.specs.inner.Naming.{IsRefused}
-use Rattle.racl_words.proofs.CommandLemmas.{fails_by_fault, numbers_held, one_run, only_memory, same_names, same_options}
+use Rattle.racl_words.proofs.CommandLemmas.{fails_by_fault, numbers_held, one_run, only_memory, same_names, same_options, same_shown}
 use Rattle.racl_words.proofs.SettingLemmas.{written_asks}
 use Rattle.racl_words.proofs.words.options.Goals as goal
 
@@ -19,7 +19,9 @@ pub returns-in-Ok-origin_named-clause-ok : goal.returns-in-Ok-origin_named-claus
 returns-in-Ok-origin_named-clause-ok c = record {
   options = record {
     faultless = fails_by_fault c.in_ok-command.command _ (Ok c.in-Ok.matches) c.in_ok-command.ensures c.in-Ok.ensures.kinds;
-    options = same_options c.in_ok-command.command _ c.in-Ok.matches _ c.in_ok-command.ensures c.in-Ok.ensures.ok.2 c.read_options.ensures;
+    options = same_options c.in_ok-command.command _ c.in-Ok.matches _ c.in_ok-command.ensures c.in-Ok.ensures.ok.2 c.read_options.ensures.spelt;
+    shown = sym (same_shown c.in_ok-command.command _ c.in-Ok.matches c.in_ok-command.ensures c.in-Ok.ensures.ok.2) ∙ sym c.shown_named.ensures ∙ c.in-Some.is
+        ∙ ap Some (sym c.read_options.ensures.shown);
   };
   names = subst (λ names. Name names (origin_facts c.in-Ok-origin_named.origin))
       (same_names c.in_ok-command.command _ c.in-Ok.matches c.in_ok-command.ensures c.in-Ok.ensures.ok.2) c.in-Ok-origin_named.ensures;
@@ -35,7 +37,7 @@ returns-in-Ok-origin_named-clause-written c program settings uses names origin a
 pub returns-clause-refuses : goal.returns-clause-refuses
 returns-clause-refuses c = inr (
   c.in_ok-error-in-Err-Mistake.ensures.kind,
-  (λ origin named. subst (IsRefused _) c.in-Err-Mistake.field-0-is c.in-Err-Mistake.ensures origin (subst (λ names. Name names origin)
+  inl (λ origin named. subst (IsRefused _) c.in-Err-Mistake.field-0-is c.in-Err-Mistake.ensures origin (subst (λ names. Name names origin)
       (sym (same_names c.in_ok-command.command _ c.in-Ok.matches c.in_ok-command.ensures c.in-Ok.ensures.ok.2)) named)),
 )
 
@@ -57,3 +59,19 @@ returns-in-Err-clause-accepts c facts origin asked = only_memory _ c.in-Err.erro
 pub returns-in-Err-clause-written : goal.returns-in-Err-clause-written
 returns-in-Err-clause-written c program settings uses names origin are named says is =
     returns-in-Err-clause-accepts c (facts_of settings) origin (written_asks _ program settings uses names origin are named says is)
+
+pub returns-in_default-clause-refuses : goal.returns-in_default-clause-refuses
+returns-in_default-clause-refuses c = inr (
+  c.in_ok-error.ensures.kind,
+  inr (sym (same_shown c.in_ok-command.command _ c.in-Ok.matches c.in_ok-command.ensures c.in-Ok.ensures.ok.2) ∙ sym c.shown_named.ensures ∙ c.in_default.is),
+)
+
+pub returns-in_default-clause-accepts : goal.returns-in_default-clause-accepts
+returns-in_default-clause-accepts c facts origin asked =
+    let none = sym (same_shown c.in_ok-command.command _ c.in-Ok.matches c.in_ok-command.ensures c.in-Ok.ensures.ok.2) ∙ sym c.shown_named.ensures ∙ c.in_default.is in
+    let bad : None ≡ Some facts.shown = sym none ∙ asked.options.shown in
+    cc
+
+pub returns-in_default-clause-written : goal.returns-in_default-clause-written
+returns-in_default-clause-written c program settings uses names origin are named says is =
+    returns-in_default-clause-accepts c (facts_of settings) origin (written_asks _ program settings uses names origin are named says is)

@@ -1,0 +1,52 @@
+-- The report with the lines of some packets is that on the first of them, and after it that on the others.
+use Rattle.std.proofs.Common.{◌≡◌, ◌∙◌, ◌+◌, ◌++◌, ℕ, List, [], ◌∷◌, Option, length, take, drop, arith, append_assoc, refl, sym, ap, ap₂}
+use Rattle.flow_filter.specs.declared.verdict.Verdict.{Verdict}
+use Rattle.racl_io.specs.declared.report.Captured.{Captured}
+use Rattle.racl_io.specs.declared.shown.Shown.{Shown}
+use Rattle.racl_io.specs.declared.shown.Shown.TheVariants.{Every}
+use Rattle.racl_io.specs.Reports.{captures_from, line_of, lines_from, report_of, totals_line, totals_of, truncation_line}
+use Rattle.racl_io.specs.ShownReports.{captures_shown, line_shown, lines_shown, report_shown}
+
+shown_of_both : (shown : Shown) (named : Option ℕ) (n m : ℕ) (xs ys : List Verdict) → m ≡ n + length xs
+    → lines_shown shown named n (xs ++ ys) ≡ lines_shown shown named n xs ++ lines_shown shown named m ys
+shown_of_both shown named n m [] ys e = let same : m ≡ n = omega (arith, e) in rw same refl
+shown_of_both shown named n m (x ∷ xs) ys e =
+    ap (λ l. line_shown shown named n x ++ l) (shown_of_both shown named (n + 1) m xs ys (omega (arith, e)))
+    ∙ sym (append_assoc (line_shown shown named n x) (lines_shown shown named (n + 1) xs) (lines_shown shown named m ys))
+
+-- what is written where a further part of the lines is
+pub more_shown : (shown : Shown) (named : Option ℕ) (front piece lines : List ℕ) (n m : ℕ) (rest xs ys : List Verdict) → front ++ lines_shown shown named n rest ≡ lines
+    → rest ≡ xs ++ ys → piece ≡ lines_shown shown named n xs → m ≡ n + length xs → (front ++ piece) ++ lines_shown shown named m ys ≡ lines
+more_shown shown named front piece lines n m rest xs ys told parted is e =
+    append_assoc front piece (lines_shown shown named m ys)
+    ∙ ap (λ l. front ++ l) (ap (λ p. p ++ lines_shown shown named m ys) is ∙ sym (shown_of_both shown named n m xs ys e) ∙ ap (lines_shown shown named n) (sym parted)) ∙ told
+
+-- what is written where a further capture is
+pub more_captures_shown : (shown : Shown) (front text : List ℕ) (n m : ℕ) (rest xs ys : List Verdict) (captured : Captured) (left after : List Captured)
+    → front ++ captures_shown shown n rest left ≡ text → left ≡ captured ∷ after → xs ≡ take captured.packets rest → ys ≡ drop captured.packets rest
+    → m ≡ n + captured.packets
+    → (front ++ (lines_shown shown captured.named n xs ++ truncation_line captured.named captured.truncated captured.packets)) ++ captures_shown shown m ys after ≡ text
+more_captures_shown shown front text n m rest xs ys captured left after told parted first behind next =
+    let lines = lines_shown shown captured.named n in
+    let end = truncation_line captured.named captured.truncated captured.packets in
+    append_assoc front (lines xs ++ end) (captures_shown shown m ys after)
+    ∙ ap (λ t. front ++ t) (append_assoc (lines xs) end (captures_shown shown m ys after)
+    ∙ ap (λ vs. lines vs ++ (end ++ captures_shown shown m ys after)) first
+    ∙ ap (λ vs. lines (take captured.packets rest) ++ (end ++ captures_shown shown m vs after)) behind
+    ∙ ap (λ k. lines (take captured.packets rest) ++ (end ++ captures_shown shown k (drop captured.packets rest) after)) next
+    ∙ ap (captures_shown shown n rest) (sym parted))
+    ∙ told
+
+every_line : (named : Option ℕ) (n : ℕ) (verdicts : List Verdict) → lines_shown Every named n verdicts ≡ lines_from named n verdicts
+every_line named n [] = refl
+every_line named n (v ∷ vs) = ap (λ l. line_of named n v ++ l) (every_line named (n + 1) vs)
+
+every_capture : (n : ℕ) (verdicts : List Verdict) (captures : List Captured) → captures_shown Every n verdicts captures ≡ captures_from n verdicts captures
+every_capture n verdicts [] = refl
+every_capture n verdicts (c ∷ cs) =
+    ap₂ (λ lines rest. lines ++ (truncation_line c.named c.truncated c.packets ++ rest)) (every_line c.named n (take c.packets verdicts))
+    (every_capture (n + c.packets) (drop c.packets verdicts) cs)
+
+-- where every packet has a line, it is the whole report
+pub every_shown : (verdicts : List Verdict) (captures : List Captured) → report_shown Every verdicts captures ≡ report_of verdicts captures
+every_shown verdicts captures = ap (λ text. text ++ totals_line (totals_of verdicts captures)) (every_capture 1 verdicts captures)

@@ -1,0 +1,36 @@
+-- The report with the lines of some packets alone: their numbers, what is told of truncations, and the totals are those of
+-- all packets (this project's profile).
+use Rattle.std.specs.Prelude.{ℕ, ◌+◌, Bool, true, false, not, List, [], ◌∷◌, ◌++◌, Option, take, drop, if◌then◌else◌}
+use Rattle.flow_filter.specs.Verdicts.{passes}
+use Rattle.flow_filter.specs.declared.verdict.Verdict.{Verdict}
+use Rattle.racl_io.specs.declared.report.Captured.{Captured}
+use Rattle.racl_io.specs.declared.shown.Shown.{Shown}
+use Rattle.racl_io.specs.declared.shown.Shown.TheVariants.{Every, Passing, Dropped, Nothing}
+use Rattle.racl_io.specs.Reports.{line_of, totals_line, totals_of, truncation_line}
+
+-- whether a packet with this verdict has a line
+abbrev pub is_shown : Shown → Verdict → Bool
+is_shown Every verdict = true
+is_shown Passing verdict = passes verdict
+is_shown Dropped verdict = not (passes verdict)
+is_shown Nothing verdict = false
+
+-- the line of the packet with this number, where it has one
+abbrev pub line_shown : Shown → Option ℕ → ℕ → Verdict → List ℕ
+line_shown shown named n verdict = if is_shown shown verdict then line_of named n verdict else []
+
+-- the lines among packets whose numbers begin with n
+abbrev pub lines_shown : Shown → Option ℕ → ℕ → List Verdict → List ℕ
+lines_shown shown named n [] = []
+lines_shown shown named n (verdict ∷ verdicts) = line_shown shown named n verdict ++ lines_shown shown named (n + 1) verdicts
+
+-- what is told of captures, one after the other, of whose packets the first has the number n
+abbrev pub captures_shown : Shown → ℕ → List Verdict → List Captured → List ℕ
+captures_shown shown n verdicts [] = []
+captures_shown shown n verdicts (captured ∷ captures) =
+    lines_shown shown captured.named n (take captured.packets verdicts)
+    ++ (truncation_line captured.named captured.truncated captured.packets
+    ++ captures_shown shown (n + captured.packets) (drop captured.packets verdicts) captures)
+
+abbrev pub report_shown : Shown → List Verdict → List Captured → List ℕ
+report_shown shown verdicts captures = captures_shown shown 1 verdicts captures ++ totals_line (totals_of verdicts captures)
