@@ -1,0 +1,20 @@
+//! What is wrong with the text of a policy, line by line, and what is right but unlikely.
+#![tactic(auto)]
+
+mod checking;
+mod complaint;
+mod ends;
+mod finding;
+mod head;
+mod laws;
+mod line;
+mod pieces;
+mod readers;
+mod reason;
+mod traffic;
+mod unseen;
+
+pub use checking::check_policy;
+pub use complaint::{Checked, Complaint};
+pub use laws::checks_agree_with_runs;
+pub use reason::Reason;
