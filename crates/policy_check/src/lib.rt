@@ -11,6 +11,10 @@ mod line;
 mod pieces;
 mod readers;
 mod reason;
+mod remark;
+mod remarks;
+mod shadow;
+mod telling;
 mod traffic;
 mod unseen;
 
@@ -18,3 +22,7 @@ pub use checking::check_policy;
 pub use complaint::{Checked, Complaint};
 pub use laws::checks_agree_with_runs;
 pub use reason::Reason;
+pub use remark::Remark;
+pub use remarks::remarks_on;
+pub use shadow::takes_all;
+pub use telling::{Told, tell};
