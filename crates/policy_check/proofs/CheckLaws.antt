@@ -1,5 +1,6 @@
 -- A text is complained of exactly where it says no policy.
-use Rattle.std.proofs.Common.{◌≡◌, ℕ, ◌+◌, List, [], ◌∷◌, length, refl, sym, subst, arith, ◌⊎◌, inl, inr}
+use Rattle.std.proofs.Common.{◌≡◌, ◌↔◌, ◌==◌, Bool, false, IsTrue, map, ℕ, ◌+◌, List, [], ◌∷◌, length, refl, sym, subst, arith, ◌⊎◌, inl, inr}
+use Rattle.std.proofs.lemmas.Bool.{ne_eqb}
 use Rattle.std.specs.Str.{IsUtf8}
 use Rattle.std.specs.Str.Lines.{lines}
 use Rattle.acl_policy.specs.declared.policy.PolicyFault.{PolicyFault}
@@ -7,7 +8,8 @@ use Rattle.acl_policy.specs.declared.policy.PolicyFault.TheVariants.{Memory, Bad
 use Rattle.acl_policy.specs.declared.policy.PolicyFault.TheVariants as fault
 use Rattle.acl_policy.specs.Policies.{IsPolicyFault, IsPolicyText, IsSurplus, IsWrong, PolicyFacts, SayPolicy}
 use Rattle.acl_policy.proofs.TextLaws.{one_fault, one_policy, policy_or_fault}
-use Rattle.policy_check.specs.Complaints.{AreSorted, ComplaintFacts, IsChecked, IsComplaint, IsToldFirst}
+use Rattle.policy_check.specs.Complaints.{AreSorted, ComplaintFacts, IsChecked, IsComplaint, IsToldFirst, complaint_facts}
+use Rattle.policy_check.specs.declared.complaint.Complaint.{Complaint}
 use Rattle.policy_check.specs.declared.reason.Reason.{Reason}
 use Rattle.policy_check.specs.declared.reason.Reason.TheVariants.{Surplus}
 
@@ -71,3 +73,11 @@ first_told text (BadLine n) said cs is (inl (utf8, (rights, sorted, says))) = fi
 first_told text (BadLine n) said cs is (inr (other, one, says)) = absurd (other is.0)
 first_told text (TooMany n) said cs is (inl (utf8, (rights, sorted, says))) = first_surplus text n said cs rights is sorted says
 first_told text (TooMany n) said cs is (inr (other, one, says)) = absurd (other is.0)
+
+-- A text is a policy where nothing was complained of.
+pub decided : (text : List ℕ) (said : PolicyFacts) (items : List Complaint) (b : Bool) → IsChecked text (map complaint_facts items) said → b ≡ (length items == 0)
+    → IsTrue b ↔ ((policy : PolicyFacts) × IsPolicyText text policy)
+decided text said [] b checked same = (λ yes. (said, right_none text said [] checked refl), λ is. same)
+decided text said (c ∷ cs) b checked same =
+    let some : (length (c ∷ cs) == 0) ≡ false = ne_eqb (length (c ∷ cs)) 0 (λ zero. omega (arith, zero)) in
+    (λ yes. absurd (cc), λ is. let none = none_right text is.0 said (map complaint_facts (c ∷ cs)) is.1 checked in absurd (cc))

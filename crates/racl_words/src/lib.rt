@@ -1,8 +1,10 @@
 //! The words of the command line, and the options and files that they ask for.
 #![tactic(auto)]
 
+mod check_words;
 mod settings;
 mod words;
 
+pub use check_words::check_name;
 pub use settings::{Asked, Files, Options};
 pub use words::{options, words_status};
