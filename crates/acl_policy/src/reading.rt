@@ -59,7 +59,12 @@ fn has_begun(draft: &Draft, interface: u8) -> bool
 
 /// Adds what a line says to a policy of the lines before it. `number` is the line's. Where the line is at fault, the
 /// policy stays as it was; where memory ran out, it is of no use.
-pub fn add_line(alloc: Global, draft: &mut Draft, line: &[u8], number: u64) -> Result<(), PolicyFault>
+pub fn add_line(
+    alloc: Global,
+    draft: &mut Draft,
+    line: &[u8],
+    number: u64,
+) -> Result<(), PolicyFault>
     ensures ok { OnOk result (line_added number (draft_facts draft.old) (line_in line.now)
         ≡ Ok (draft_facts draft.new)) }
     ensures fault { IfErr result (Fails (line_added number (draft_facts draft.old) (line_in line.now))) }

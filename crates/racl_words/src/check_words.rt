@@ -4,7 +4,8 @@ use std::alloc::Global;
 
 const USAGE: &str = "racl check POLICY";
 
-const ABOUT: &str = "Tells every wrong line of a policy, and what in a right one is unlikely to be meant.";
+const ABOUT: &str =
+    "Tells every wrong line of a policy, and what in a right one is unlikely to be meant.";
 
 const AFTER_HELP: &str = "Exit status:
   0  the text is a policy

@@ -66,7 +66,8 @@ const VERSION: &str = "0.1.0";
 const ABOUT: &str = "Judges the packets of a capture by ordered rules and by sessions.";
 
 const USAGE: &str = "racl [OPTIONS] POLICY CAPTURE
-       racl [OPTIONS] < INPUT";
+       racl [OPTIONS] < INPUT
+       racl check POLICY";
 
 const AFTER_HELP: &str =
     "INPUT is a policy, a line `pcap` or `hex`, and the capture in that form; POLICY and CAPTURE are such \
@@ -74,6 +75,7 @@ const AFTER_HELP: &str =
     output.
 
 Examples:
+  racl check host.policy
   racl host.policy host.pcap
   racl --workers 4 --udp 60 < examples/first_path.racl
 
