@@ -2,13 +2,15 @@
 //! standard output. What it says and how it ends is decided in `racl_cli`; here are the devices alone.
 #![tactic(auto)]
 
+mod parts;
 mod reader;
 
-use crate::reader::opened;
+use crate::parts::{name_at, opened_or_told, opened_parts};
+use crate::reader::Reader;
 use clap::Error;
 use policy_check::check_source;
 use racl_cli::{
-    Device, Ending, Files, Joined, Options, Remark, Unopened, ending, failure_ending, options,
+    Asked, Device, Ending, Fault, Joined, Origin, Remark, Totals, ending, failure_ending, options,
     remark, run, words_ending,
 };
 use racl_words::check_name;
@@ -42,24 +44,21 @@ fn status_of_words<T: Threads + Wait + Sync>(
         texts.push(word.as_str())?;
     }
     match check_name(alloc, texts.as_slice()) {
-        Ok(None) => status_of_run(rt, threads, alloc, texts.as_slice()),
+        Ok(None) => status_of_options(rt, threads, alloc, texts.as_slice()),
         Ok(Some(name)) => status_of_check(rt, alloc, name),
         Err(error) => refused(rt, &error),
     }
 }
 
 // Runs as the words ask.
-fn status_of_run<'a, T: Threads + Wait + Sync>(
+fn status_of_options<'a, T: Threads + Wait + Sync>(
     rt: &HostRuntime,
     threads: &T,
     alloc: Global,
     words: &'a [&'a str],
 ) -> io::Result<u8> {
     match options(alloc, words) {
-        Ok(asked) => match asked.files {
-            None => status_of_input(rt, threads, alloc, &asked.options),
-            Some(files) => status_of_files(rt, threads, alloc, &asked.options, files),
-        },
+        Ok(asked) => status_of_run(rt, threads, alloc, &asked),
         Err(error) => refused(rt, &error),
     }
 }
@@ -75,9 +74,8 @@ fn refused(rt: &HostRuntime, error: &Error) -> io::Result<u8> {
 
 // Checks the policy of a file.
 fn status_of_check(rt: &HostRuntime, alloc: Global, name: &str) -> io::Result<u8> {
-    let policy = match opened(rt, name) {
-        Ok(policy) => policy,
-        Err(reason) => return unopened(rt, name, reason),
+    let Some(policy) = opened_or_told(rt, name)? else {
+        return Ok(4);
     };
     let mut reader = Device::new(policy);
     let mut writer = Device::new(rt.stdout());
@@ -88,52 +86,43 @@ fn status_of_check(rt: &HostRuntime, alloc: Global, name: &str) -> io::Result<u8
     }
 }
 
-// Runs on standard input.
-fn status_of_input<T: Threads + Wait + Sync>(
+// Runs on what the words ask for.
+fn status_of_run<T: Threads + Wait + Sync>(
     rt: &HostRuntime,
     threads: &T,
     alloc: Global,
-    options: &Options,
+    asked: &Asked<'_>,
 ) -> io::Result<u8> {
-    let mut reader = Device::new(rt.stdin());
-    let mut writer = Device::new(rt.stdout());
-    let outcome = run(threads, alloc, options, &mut reader, &mut writer);
-    said(rt, &ending(&outcome))
-}
-
-// Runs on files.
-fn status_of_files<T: Threads + Wait + Sync>(
-    rt: &HostRuntime,
-    threads: &T,
-    alloc: Global,
-    options: &Options,
-    files: Files<'_>,
-) -> io::Result<u8> {
-    let policy = match opened(rt, files.policy) {
-        Ok(policy) => policy,
-        Err(reason) => return unopened(rt, files.policy, reason),
+    let parts = match opened_parts(rt, alloc, &asked.origin) {
+        Ok(Some(parts)) => parts,
+        Ok(None) => return Ok(4),
+        Err(error) => return Err(error),
     };
-    let capture = match opened(rt, files.capture) {
-        Ok(capture) => capture,
-        Err(reason) => return unopened(rt, files.capture, reason),
-    };
-    let mut reader = Joined::new(policy, capture);
+    let mut reader = Joined::new(parts.policy, parts.captures);
     let mut writer = Device::new(rt.stdout());
-    let outcome = run(threads, alloc, options, &mut reader, &mut writer);
+    let outcome = run(threads, alloc, &asked.options, &mut reader, &mut writer);
     let status = said(rt, &ending(&outcome))?;
-    if let Some(other) = remark(&outcome, reader.front()) {
-        rt.eprintln(&Remark {
-            name: files.capture,
-            other,
-        })?;
-    }
+    say_remark(rt, &asked.origin, &reader, &outcome)?;
     Ok(status)
 }
 
-// Tells that a file can't be opened, and answers the status.
-fn unopened(rt: &HostRuntime, name: &str, reason: io::Error) -> io::Result<u8> {
-    rt.eprintln(&Unopened { name, reason })?;
-    Ok(4)
+// Says which capture file isn't read for what it is, where the run ended with a fault of its header.
+fn say_remark(
+    rt: &HostRuntime,
+    origin: &Origin<'_>,
+    reader: &Joined<Reader>,
+    outcome: &Result<Totals, Fault>,
+) -> io::Result<()> {
+    // Of more captures two are of one interface, which is told before.
+    for place in 0..256 {
+        let (Some(name), Some(front)) = (name_at(origin, place), reader.front(place)) else {
+            return Ok(());
+        };
+        if let Some(other) = remark(outcome, front) {
+            return rt.eprintln(&Remark { name, other });
+        }
+    }
+    Ok(())
 }
 
 // Says what is to be said, and answers the status.

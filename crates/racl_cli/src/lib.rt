@@ -16,5 +16,7 @@ pub use end_to_end::run;
 pub use exits::{ending, failure_ending, remark, status, words_ending};
 pub use laws::each_input_has_one_outcome;
 pub use message::{Ending, Message, Remark, Unopened};
-pub use racl_io::{Device, DeviceFault, Fault, Joined, Other, Sink, Source, Totals};
-pub use racl_words::{Asked, Files, Options, options, words_status};
+pub use racl_io::{
+    Device, DeviceFault, Fault, Form, Joined, Marked, Other, Sink, Source, Totals, marked,
+};
+pub use racl_words::{Asked, Options, Origin, options, words_status};

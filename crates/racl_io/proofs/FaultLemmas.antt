@@ -10,11 +10,9 @@ use Rattle.packet_view.proofs.ReadingLemmas.{one_fault, some_reading}
 use Rattle.acl_policy.specs.Policies.{IsAmong}
 use Rattle.racl_io.specs.declared.fault.Fault.{Fault}
 use Rattle.racl_io.specs.declared.fault.Fault.TheVariants.{Hex, Twice}
-use Rattle.racl_io.specs.declared.input.Form.TheVariants.{Hexadecimal, Numbered}
-use Rattle.racl_io.specs.Faults.{IsFaultOfCaptures, IsFaultOfContent, IsFaultOfOne, IsRight, capture_fault}
-use Rattle.racl_io.specs.Inputs.{AreCaptures, DigitsFacts, IsContent, digits_of}
-use Rattle.racl_io.proofs.InputLemmas.{one_captures}
-use Rattle.racl_io.proofs.PartingLemmas.{some_captures}
+use Rattle.racl_io.specs.declared.input.Form.TheVariants.{Hexadecimal}
+use Rattle.racl_io.specs.Faults.{IsFaultOfCaptures, IsFaultOfOne, IsRight, capture_fault}
+use Rattle.racl_io.specs.Inputs.{DigitsFacts, IsContent, digits_of}
 
 -- digits stand for one capture
 one_capture : (digits one other : List ℕ) → IsContent Hexadecimal digits one → IsContent Hexadecimal digits other → one ≡ other
@@ -95,26 +93,4 @@ captures_or_fault seen (first ∷ others) =
         ]
         | inr found ↦ inr (found.0, inr (new, inl found.1))
       ]
-    ]
-
--- ---- what stands after a marker line with a number
-
--- where the captures are known, the content has no fault but theirs
-pub fault_of_known_captures : (number : ℕ) (content : List ℕ) (captures : List DigitsFacts) (fault : Fault) → AreCaptures number content captures
-    → IsFaultOfContent (Numbered number) content fault → IsFaultOfCaptures [] captures fault
-fault_of_known_captures number content captures fault are of =
-    subst (λ cs. IsFaultOfCaptures [] cs fault) (one_captures number content of.0 captures of.1 are) of.2
-
-pub one_numbered_fault : (number : ℕ) (content : List ℕ) (one other : Fault) → IsFaultOfContent (Numbered number) content one
-    → IsFaultOfContent (Numbered number) content other → one ≡ other
-one_numbered_fault number content one other of also =
-    one_captures_fault [] of.0 one other of.2 (fault_of_known_captures number content of.0 other of.1 also)
-
-pub numbered_or_fault : (number : ℕ) (content : List ℕ)
-    → ((captures : List DigitsFacts) × AreCaptures number content captures × AreRight [] captures) ⊎ ((fault : Fault) × IsFaultOfContent (Numbered number) content fault)
-numbered_or_fault number content =
-    let all = some_captures number content in
-    elim (captures_or_fault [] all.0) [
-      | inl right ↦ inl (all.0, all.1, right)
-      | inr found ↦ inr (found.0, (all.0, all.1, found.1))
     ]

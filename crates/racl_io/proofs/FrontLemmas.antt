@@ -1,7 +1,7 @@
 -- The first bytes that are kept, with those behind them as far as there is room.
 use Rattle.std.proofs.Common.{◌≡◌, ◌∙◌, ◌≤◌, ◌+◌, ◌-◌, ◌++◌, ℕ, List, ap, arith, length, min, sym, take}
 use Rattle.std.proofs.Math.Seq.{take-append-add}
-use Rattle.std.proofs.lemmas.List.{length-take-le, take-append-le, take-take, take_min, length-take}
+use Rattle.std.proofs.lemmas.List.{length-take-le, take-append-le, take-take, take_min}
 
 -- the front of bytes that were stored is that of those that were to be
 first_stored : (stored bytes rest : List ℕ) (m : ℕ) → stored ≡ take m bytes → m ≤ length bytes → take m (stored ++ rest) ≡ take m bytes

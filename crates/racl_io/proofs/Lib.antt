@@ -1,6 +1,7 @@
 pub mod FaultLemmas
 pub mod FrontLemmas
 pub mod InputLemmas
+pub mod JoinedLemmas
 pub mod NumeralLemmas
 pub mod PartingLemmas
 pub mod PieceLemmas

@@ -1,10 +1,9 @@
 -- The report on verdicts is that on the first of them, and after it that on the others.
-use Rattle.std.proofs.Common.{◌≡◌, ◌∙◌, ◌+◌, ◌-◌, ◌++◌, ℕ, Bool, true, false, not, cond, List, [], ◌∷◌, Option, length, take, drop, arith, append-nil, append_assoc, refl, sym, ap, ap₂}
-use Rattle.std.proofs.lemmas.List.{take_all}
+use Rattle.std.proofs.Common.{◌≡◌, ◌∙◌, ◌+◌, ◌-◌, ◌++◌, ℕ, Bool, true, false, not, cond, List, [], ◌∷◌, Option, length, take, drop, arith, append_assoc, refl, sym, ap, ap₂}
 use Rattle.std.proofs.lemmas.List.Sums.{sum_by-append, sum_by-cons}
 use Rattle.flow_filter.specs.Verdicts.{passes}
 use Rattle.flow_filter.specs.declared.verdict.Verdict.{Verdict}
-use Rattle.racl_io.specs.Reports.{captures_from, dropped, is_truncated, line_of, lines_from, packets_in, passed, report_of, totals_line, totals_of, truncation_line}
+use Rattle.racl_io.specs.Reports.{captures_from, dropped, is_truncated, line_of, lines_from, packets_in, passed, totals_of, truncation_line}
 use Rattle.racl_io.specs.declared.report.Captured.{Captured}
 use Rattle.racl_io.specs.declared.report.Totals.{Totals}
 
@@ -53,18 +52,6 @@ more_captures front text n m rest xs ys captured left after told parted first be
 pub counted_behind : (rest : List Verdict) (captured : Captured) (left after : List Captured) → packets_in left ≡ length rest → left ≡ captured ∷ after
     → captured.packets + packets_in after ≡ length rest
 counted_behind rest captured left after counted parted = sym (ap packets_in parted) ∙ counted
-
--- the report on one capture that has all packets
-pub report_of_one : (verdicts : List Verdict) (named : Option ℕ) (truncated : Bool)
-    → let captured : Captured = record { named = named; packets = length verdicts; truncated = truncated } in
-    report_of verdicts (captured ∷ []) ≡ lines_from named 1 verdicts ++ (truncation_line named truncated (length verdicts) ++ totals_line (totals_of verdicts (captured ∷ [])))
-report_of_one verdicts named truncated =
-    let captured : Captured = record { named = named; packets = length verdicts; truncated = truncated } in
-    let end = truncation_line named truncated (length verdicts) in
-    let totals = totals_line (totals_of verdicts (captured ∷ [])) in
-    ap (λ vs. (lines_from named 1 vs ++ (end ++ [])) ++ totals) (take_all (length verdicts) verdicts (omega arith))
-    ∙ ap (λ e. (lines_from named 1 verdicts ++ e) ++ totals) (append-nil end)
-    ∙ append_assoc (lines_from named 1 verdicts) end totals
 
 abbrev totals_with : List Verdict → Bool → ℕ → ℕ → Totals
 totals_with verdicts truncated passing dropping = record { packets = length verdicts; passed = passing; dropped = dropping; truncated = truncated }

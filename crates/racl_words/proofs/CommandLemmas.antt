@@ -1,13 +1,13 @@
 -- What a parse by the command says of its options.
-use Rattle.std.proofs.Common.{◌≡◌, ◌∙◌, ◌<◌, ap, arith, map, length, refl, rules, subst, suc, sym, inl, inr, true, true≢false, List, [], ◌∷◌, Option, Result, None, Some, ℕ, codes}
+use Rattle.std.proofs.Common.{◌≡◌, ◌∙◌, ◌<◌, ap, arith, map, length, refl, rules, subst, suc, sym, inl, inr, true, true≢false, List, [], ◌∷◌, Option, Result, Some, ℕ, codes}
 use Rattle.std.specs.List.{IsDistinct, slice_index_or}
-use Rattle.std.specs.Prelude.{option_map, unwrap_or}
+use Rattle.std.specs.Prelude.{unwrap_or}
 use Rattle.std.specs.Str.{bytes_eq}
 use Rattle.std.proofs.lemmas.Bool.{cases_lt}
 use Rattle.std.proofs.lemmas.List.{get_or-map, length-map}
 use Rattle.std.proofs.lemmas.Map.Keys.{apart_from_distinct}
 use Rattle.std.proofs.lemmas.Slice.Eq.{bytes_eq-Decides}
-use Rattle.clap.specs.Words.{App, FailsBy, HasKind, HasMatchesOf, IsParsedFrom, Rule, Text, all_of, app_of, args_of, fault_of, found_of, is_simple, is_simple_and_free, kind_of, matched_of, matches_of, one_of, one_text, raw_values, rule_of, shape_of}
+use Rattle.clap.specs.Words.{App, FailsBy, HasKind, HasMatchesOf, IsParsedFrom, Rule, Text, all_of, app_of, args_of, fault_of, first_of, found_of, is_simple, is_simple_and_free, kind_of, matches_of, one_of, one_text, rows_of, rule_of, shape_of}
 use Rattle.clap.specs.declared.builder.arg.Arg.{Arg}
 use Rattle.clap.specs.declared.builder.command.Command.{Command}
 use Rattle.clap.specs.Kinds.{Kinds}
@@ -16,8 +16,11 @@ use Rattle.clap.specs.declared.error.kind.ErrorKind.TheVariants.{OutOfMemory}
 use Rattle.clap.specs.declared.parser.matches.ArgMatches.{ArgMatches}
 use Rattle.clap.proofs.OnLiterals.{clap_on_literals}
 use Rattle.clap.proofs.SimpleLemmas.{all_simple, plain_fields, simple_groups}
-use Rattle.clap.proofs.WalkLemmas.{one_text-rows, raw_values-rows}
-use Rattle.racl_words.specs.CommandLine.{AskFor, AskForRun, FileFacts, HoldsNumber, HoldsNumbers, Name, OptionFacts, OptionName, Workers, Established, Transient, Udp, Spells, SpellsOptions, files_id, most_of, name_of, names_at, number_of, option_rule, racl, text_at}
+use Rattle.clap.proofs.WalkLemmas.{first_value-rows, one_text-rows, raw_values-rows}
+use Rattle.racl_words.specs.CommandLine.{AskFor, HoldsNumber, HoldsNumbers, OptionFacts, OptionName, Workers, Established, Transient, Udp, Spells, SpellsOptions, capture_id, interface_id, most_of, name_of, number_of, option_rule, policy_id, racl, text_at}
+use Rattle.racl_words.specs.Origins.{AskForRun, OriginFacts, named_at}
+use Rattle.racl_words.specs.inner.Naming.{named_in}
+use Rattle.racl_words.proofs.NameLemmas.{one_origin}
 use Rattle.racl_words.proofs.NumberLemmas.{number_held, option_by_rule}
 
 racl_is_simple : is_simple racl ≡ true
@@ -52,39 +55,39 @@ module _ (c : Command) (is : app_of c ≡ racl) where
   rules_are : map rule_of (args_of c) ≡ racl.top.rules
   rules_are = ap (λ (a : App). a.top.rules) is
 
-  five : length (args_of c) ≡ 5
-  five = sym (length-map (args_of c) rule_of) ∙ ap length rules_are
+  seven : length (args_of c) ≡ 7
+  seven = sym (length-map (args_of c) rule_of) ∙ ap length rules_are
 
-  rule_at : (k : ℕ) (d : Arg) → k < 5 → rule_of (slice_index_or (args_of c) k d) ≡ slice_index_or racl.top.rules k (rule_of d)
+  rule_at : (k : ℕ) (d : Arg) → k < 7 → rule_of (slice_index_or (args_of c) k d) ≡ slice_index_or racl.top.rules k (rule_of d)
   rule_at k d lt =
-      let below : k < length (args_of c) = rw five lt in
+      let below : k < length (args_of c) = rw seven lt in
       sym (get_or-map rule_of (args_of c) k d (rule_of d) below) ∙ ap (λ rs. slice_index_or rs k (rule_of d)) rules_are
 
   -- where the id of an argument stands among the ids
-  id_at : (k : ℕ) (d : Arg) (t : Text) → k < 5 → slice_index_or ids (suc (suc (suc k))) t ≡ (slice_index_or (args_of c) k d).id.now
+  id_at : (k : ℕ) (d : Arg) (t : Text) → k < 7 → slice_index_or ids (suc (suc (suc k))) t ≡ (slice_index_or (args_of c) k d).id.now
   id_at k d t lt = get_or-map (λ (r : Rule). r.id) racl.top.rules k (rule_of d) t lt ∙ sym (ap (λ (r : Rule). r.id) (rule_at k d lt))
 
   -- no argument has the id of one that stands elsewhere
-  unique : (j k : ℕ) (d e : Arg) → j < 5 → k < 5 → (slice_index_or (args_of c) j e).id.now ≡ (slice_index_or (args_of c) k d).id.now → j ≡ k
+  unique : (j k : ℕ) (d e : Arg) → j < 7 → k < 7 → (slice_index_or (args_of c) j e).id.now ≡ (slice_index_or (args_of c) k d).id.now → j ≡ k
   unique j k d e j_in k_in same =
       let places : suc (suc (suc j)) ≡ suc (suc (suc k)) = same_place _ _ [] (omega arith) (omega arith) (id_at j e [] j_in ∙ same ∙ sym (id_at k d [] k_in)) in
       omega arith
 
   -- nor one of the ids that stand before the options'
-  own : (j k : ℕ) (d : Arg) → j < 3 → k < 5 → (slice_index_or (args_of c) k d).id.now ≡ slice_index_or ids j [] → ⊥
+  own : (j k : ℕ) (d : Arg) → j < 3 → k < 7 → (slice_index_or (args_of c) k d).id.now ≡ slice_index_or ids j [] → ⊥
   own j k d j_in k_in same =
       let places : j ≡ suc (suc (suc k)) = same_place _ _ [] (omega arith) (omega arith) (sym same ∙ sym (id_at k d [] k_in)) in
       absurd (omega arith)
 
   -- the matches hold a number for the option at a place
-  held_at : (m : ArgMatches) → IsParsedFrom c m → (k : ℕ) (d : Arg) (o : OptionName) → k < 5 → slice_index_or racl.top.rules k (rule_of d) ≡ option_rule o
+  held_at : (m : ArgMatches) → IsParsedFrom c m → (k : ℕ) (d : Arg) (o : OptionName) → k < 7 → slice_index_or racl.top.rules k (rule_of d) ≡ option_rule o
       → HoldsNumber (most_of o) (one_text (found_of m) (name_of o))
   held_at m p k d o lt here =
       let plain = plain_fields c (ap (λ (a : App). a.top.is_plain) is) in
       let simple : all_simple (shape_of c).rules ≡ true = ap (λ (a : App). all_simple a.top.rules) is in
       let option = option_by_rule o (slice_index_or (args_of c) k d) (rule_at k d lt ∙ here) in
-      number_held c m p plain.globals (simple_groups c simple) plain.groups k d o option (rw five lt)
-      (λ j e low same. unique j k d e (rw five at low) lt ((bytes_eq-Decides _ (name_of o)).0 same ∙ sym option.name))
+      number_held c m p plain.globals (simple_groups c simple) plain.groups k d o option (rw seven lt)
+      (λ j e low same. unique j k d e (rw seven at low) lt ((bytes_eq-Decides _ (name_of o)).0 same ∙ sym option.name))
       (λ empty. own 0 k d (omega arith) lt (option.name ∙ empty))
       (λ auto. elim auto [ inl h ↦ own 1 k d (omega arith) lt h | inr h ↦ own 2 k d (omega arith) lt h ])
 
@@ -95,7 +98,7 @@ numbers_held c m is p = go (args_of c) refl
     go : (xs : List Arg) → args_of c ≡ xs → HoldsNumbers (one_text (found_of m))
     go [] e =
         let none : length (args_of c) ≡ 0 = ap length e in
-        absurd (omega (arith, five c is))
+        absurd (omega (arith, seven c is))
     go (d ∷ rest) e = record {
       workers = held_at c is m p 0 d Workers (omega arith) refl;
       established = held_at c is m p 1 d Established (omega arith) refl;
@@ -112,10 +115,13 @@ same_options c words m facts is has = subst (λ text. SpellsOptions text facts) 
     same name = one_text-rows (found_of m) name ∙ ap (one_of name) ((has (ap is_simple is ∙ racl_is_simple)).0 ∙ ap (λ a. matches_of a words) is)
 
 -- and so are the names of files
-pub same_names : (c : Command) (words : List Text) (m : ArgMatches) → app_of c ≡ racl → HasMatchesOf (app_of c) words m
-    → option_map raw_values (matched_of (found_of m) files_id) ≡ names_at words
-same_names c words m is has = raw_values-rows (found_of m) files_id
-    ∙ ap (all_of files_id) ((has (ap is_simple is ∙ racl_is_simple)).0 ∙ ap (λ a. matches_of a words) is)
+pub same_names : (c : Command) (words : List Text) (m : ArgMatches) → app_of c ≡ racl → HasMatchesOf (app_of c) words m → named_in (found_of m) ≡ named_at words
+same_names c words m is has =
+    let rows : rows_of (found_of m) ≡ matches_of racl words = (has (ap is_simple is ∙ racl_is_simple)).0 ∙ ap (λ a. matches_of a words) is in
+    let policy = first_value-rows (found_of m) policy_id ∙ ap (first_of policy_id) rows in
+    let capture = first_value-rows (found_of m) capture_id ∙ ap (first_of capture_id) rows in
+    let captures = raw_values-rows (found_of m) interface_id ∙ ap (all_of interface_id) rows in
+    λ i. record { policy = policy i; capture = capture i; captures = captures i }
 
 -- no kind of error comes but those of the words' fault
 pub fails_by_fault : {T : Type 0} (c : Command) (words : List Text) (r : Result T Error) → app_of c ≡ racl
@@ -132,21 +138,6 @@ one_number o m n text a b =
     let same : Some a.0 ≡ Some b.0 = sym a.1 ∙ b.1 in
     a.3 ∙ ap (λ t. number_of (unwrap_or t a.0)) same ∙ sym b.3
 
--- names are of one pair of files
-same_files : (names : Option (List Text)) (a b : Option FileFacts) → Name names a → Name names b → a ≡ b
-same_files names None None p q = refl
-same_files names None (Some b) p q =
-    let bad : None ≡ Some (b.policy ∷ b.capture ∷ []) = sym p ∙ q.0 in
-    cc
-same_files names (Some a) None p q =
-    let bad : None ≡ Some (a.policy ∷ a.capture ∷ []) = sym q ∙ p.0 in
-    cc
-same_files names (Some a) (Some b) p q =
-    let same : Some (a.policy ∷ a.capture ∷ []) ≡ Some (b.policy ∷ b.capture ∷ []) = sym p.0 ∙ q.0 in
-    let policy : a.policy ≡ b.policy = cc in
-    let capture : a.capture ≡ b.capture = cc in
-    λ i. Some (record { policy = policy i; capture = capture i })
-
 -- words ask for one setting of the options
 pub one_setting : (words : List Text) (a b : OptionFacts) → AskFor words a → AskFor words b → a ≡ b
 one_setting words a b p q =
@@ -157,5 +148,5 @@ one_setting words a b p q =
     λ i. record { workers = workers i; established = established i; transient = transient i; udp = udp i }
 
 -- words ask for one run
-pub one_run : (words : List Text) (a b : OptionFacts) (m n : Option FileFacts) → AskForRun words a m → AskForRun words b n → (a ≡ b) × (m ≡ n)
-one_run words a b m n p q = (one_setting words a b p.options q.options, same_files (names_at words) m n p.names q.names)
+pub one_run : (words : List Text) (a b : OptionFacts) (m n : OriginFacts) → AskForRun words a m → AskForRun words b n → (a ≡ b) × (m ≡ n)
+one_run words a b m n p q = (one_setting words a b p.options q.options, one_origin (named_at words) m n p.names q.names)

@@ -1,5 +1,6 @@
 pub mod CommandLemmas
-pub mod FileWalks
+pub mod NameLemmas
+pub mod NameWalks
 pub mod NumberLemmas
 pub mod SettingDefaults
 pub mod SettingLemmas

@@ -13,8 +13,8 @@ use Rattle.clap.specs.declared.builder.value_parser.Reading.TheVariants.{Without
 use Rattle.clap.specs.declared.error.kind.ErrorKind.{ErrorKind}
 use Rattle.clap.specs.declared.parser.matches.ValueSource.TheVariants.{DefaultValue}
 use Rattle.clap.proofs.OnLiterals.{clap_on_literals}
-use Rattle.racl_words.specs.CommandLine.{OptionName, Workers, Established, Transient, Udp, default_of, files_id, name_of, racl}
-use Rattle.racl_words.proofs.SettingWalks.{at_row_missing, between, default_row, files_filled, filled_rule, top}
+use Rattle.racl_words.specs.CommandLine.{OptionName, Workers, Established, Transient, Udp, default_of, name_of, racl}
+use Rattle.racl_words.proofs.SettingWalks.{at_row_missing, between, capture_filled, default_row, filled_rule, interface_filled, policy_filled, top}
 
 or_right : (b : Bool) → (b || true) ≡ true
 or_right true = refl
@@ -34,7 +34,7 @@ default_passes Established rows = pass_either _ _ refl
 default_passes Transient rows = pass_either _ _ refl
 default_passes Udp rows = pass_either _ _ refl
 
--- nor does a flag, which has none
+-- nor does an argument that has none
 flag_passes : (r : Rule) (rows : List Row) → r.defaults ≡ [] → default_fault rows r ≡ []
 flag_passes r rows none = rw (none, or_right (has_row r.id rows)) refl
 
@@ -51,18 +51,25 @@ transient_filled rows = with_default (established_filled rows) (filled_rule Tran
 abbrev udp_filled : List Row → List Row
 udp_filled rows = with_default (transient_filled rows) (filled_rule Udp)
 
-abbrev files_passed : List Row → List Row
-files_passed rows = with_default (udp_filled rows) files_filled
+abbrev interface_passed : List Row → List Row
+interface_passed rows = with_default (udp_filled rows) interface_filled
 
-abbrev help_filled : List Row → List Row
-help_filled rows = with_default (files_passed rows) (filled help_rule)
+abbrev policy_passed : List Row → List Row
+policy_passed rows = with_default (interface_passed rows) policy_filled
+
+abbrev capture_passed : List Row → List Row
+capture_passed rows = with_default (policy_passed rows) capture_filled
+
+abbrev help_passed : List Row → List Row
+help_passed rows = with_default (capture_passed rows) (filled help_rule)
 
 defaults_pass : (rows : List Row) → defaults_fault rows top.rules ≡ []
 unfolding clap_on_literals
 defaults_pass rows = both_pass (default_passes Workers rows) (both_pass (default_passes Established (workers_filled rows))
     (both_pass (default_passes Transient (established_filled rows)) (both_pass (default_passes Udp (transient_filled rows))
-    (both_pass (flag_passes files_filled (udp_filled rows) refl) (both_pass (flag_passes (filled help_rule) (files_passed rows) refl)
-    (both_pass (flag_passes (filled version_rule) (help_filled rows) refl) refl))))))
+    (both_pass (flag_passes interface_filled (udp_filled rows) refl) (both_pass (flag_passes policy_filled (interface_passed rows) refl)
+    (both_pass (flag_passes capture_filled (policy_passed rows) refl) (both_pass (flag_passes (filled help_rule) (capture_passed rows) refl)
+    (both_pass (flag_passes (filled version_rule) (help_passed rows) refl) refl))))))))
 
 -- what the words come to in the end, by where the walk stopped
 abbrev pub end_fault : List ErrorKind → Walk → List ErrorKind
@@ -137,7 +144,7 @@ id_keeps id Udp rows = keep_row id (name_of Udp) (default_of Udp) rows
 default_keeps : (o other : OptionName) (rows : List Row) → bytes_eq (name_of other) (name_of o) ≡ false → find_row (name_of o) (with_default rows (filled_rule other)) ≡ find_row (name_of o) rows
 default_keeps o other rows = id_keeps (name_of o) other rows
 
--- and a flag leaves all rows
+-- and an argument without a default leaves all rows
 flag_keeps : (r : Rule) (rows : List Row) → r.defaults ≡ [] → with_default rows r ≡ rows
 flag_keeps r rows none = go (has_row r.id rows) r.defaults none
   where
@@ -161,22 +168,21 @@ filled_by Udp rows = default_fills Udp (transient_filled rows)
 
 -- what has no default leaves the rows of the options
 all_but_options : (rows : List Row) → fold with_default rows top.rules ≡ udp_filled rows
-all_but_options rows = flag_keeps (filled version_rule) (help_filled rows) refl ∙ flag_keeps (filled help_rule) (files_passed rows) refl
-    ∙ flag_keeps files_filled (udp_filled rows) refl
+all_but_options rows = flag_keeps (filled version_rule) (help_passed rows) refl ∙ flag_keeps (filled help_rule) (capture_passed rows) refl
+    ∙ flag_keeps capture_filled (policy_passed rows) refl ∙ flag_keeps policy_filled (interface_passed rows) refl ∙ flag_keeps interface_filled (udp_filled rows) refl
 
 pub all_filled : (o : OptionName) (rows : List Row) → find_row (name_of o) (fold with_default rows top.rules) ≡ option_or (find_row (name_of o) rows) (Some (default_row o))
 all_filled o rows = ap (find_row (name_of o)) (all_but_options rows) ∙ filled_by o rows
 
--- no default names a file
-pub no_file_filled : (rows : List Row) → find_row files_id (fold with_default rows top.rules) ≡ find_row files_id rows
-no_file_filled rows = ap (find_row files_id) (all_but_options rows) ∙ id_keeps files_id Udp (transient_filled rows) refl
-    ∙ id_keeps files_id Transient (established_filled rows) refl ∙ id_keeps files_id Established (workers_filled rows) refl
-    ∙ id_keeps files_id Workers rows refl
+-- no default has another id
+pub no_other_filled : (id : Text) (rows : List Row) → ((o : OptionName) → bytes_eq (name_of o) id ≡ false) → find_row id (fold with_default rows top.rules) ≡ find_row id rows
+no_other_filled id rows apart = ap (find_row id) (all_but_options rows) ∙ id_keeps id Udp (transient_filled rows) (apart Udp)
+    ∙ id_keeps id Transient (established_filled rows) (apart Transient) ∙ id_keeps id Established (workers_filled rows) (apart Established)
+    ∙ id_keeps id Workers rows (apart Workers)
 
--- a row with another id isn't found
-pub find_before : (id : Text) (rows : List Row) (r : Row) → bytes_eq r.id id ≡ false → find_row id (rows ++ r ∷ []) ≡ find_row id rows
-find_before id rows r apart = rw (find-append, apart) (or_none (find_row id rows))
+-- a row is found among the first rows, or else among those behind
+pub find_both : (id : Text) (rows others : List Row) → find_row id (rows ++ others) ≡ option_or (find_row id rows) (find_row id others)
+find_both id rows others = rw find-append refl
 
--- the last row is found where none before it has its id
-pub find_last : (id : Text) (rows : List Row) (r : Row) → bytes_eq r.id id ≡ true → find_row id rows ≡ None → find_row id (rows ++ r ∷ []) ≡ Some r
-find_last id rows r same none = rw (find-append, none, same) refl
+pub or_nothing : (found other : Option Row) → other ≡ None → option_or found other ≡ found
+or_nothing found other none = rw none (or_none found)

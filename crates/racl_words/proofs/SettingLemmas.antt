@@ -1,8 +1,8 @@
--- Words that set options and name files, as a user writes them, ask for what they say.
-use Rattle.std.proofs.Common.{◌≡◌, ◌∙◌, ◌++◌, ◌==◌, ◌+◌, ◌||◌, ◌≤◌, ◌<◌, ◌^◌, ap, ap₂, arith, cond, refl, rules as common_rules, subst, sym, ℕ, Bool, true, false, List, [], ◌∷◌, map, append-nil, Option, Some, None, codes}
+-- Words that set options, and name captures of interfaces and files, as a user writes them, ask for what they say.
+use Rattle.std.proofs.Common.{◌≡◌, ◌∙◌, ◌++◌, ◌==◌, ◌+◌, ◌||◌, ◌≤◌, ◌<◌, ◌^◌, ap, ap₂, arith, cond, refl, rules as common_rules, subst, sym, ℕ, Bool, true, false, List, [], ◌∷◌, map, append-nil, append_assoc, Some, None, codes}
 use Rattle.std.specs.List.{flat_map, fold}
 use Rattle.std.specs.Option.{option_or}
-use Rattle.std.specs.Prelude.{option_and_then, option_map, pos}
+use Rattle.std.specs.Prelude.{option_and_then, option_map, pos, slice_get}
 use Rattle.std.specs.Str.{bytes_eq}
 use Rattle.std.specs.Str.Parse.{IsNumeral, without_leading_plus}
 use Rattle.std.proofs.lemmas.Bool.{eqb-true, ne_eqb}
@@ -14,11 +14,13 @@ use Rattle.clap.specs.Walk.{Held, has_row, nothing_held, row_text, settled, walk
 use Rattle.clap.specs.Words.{IsSignedIn, Row, Text, matches_of, without_minus}
 use Rattle.clap.specs.declared.builder.value_parser.ValueParser.TheVariants.{Signed}
 use Rattle.clap.proofs.ValueTestLemmas.{Accepts-accepts}
-use Rattle.racl_words.specs.CommandLine.{AskForRun, FileFacts, IsInRange, Name, OptionName, Workers, Established, Transient, Udp, Spells, default_of, files_id, most_of, most_seconds, name_of, number_of, racl, text_at}
-use Rattle.racl_words.specs.Options.{AreInRange, AreNames, AreSettings, Setting, facts_of, sets, times_set, value_at, words_as, words_for, words_of}
-use Rattle.racl_words.proofs.FileWalks.{Ends, files_end, rows_for}
+use Rattle.racl_words.specs.CommandLine.{IsInRange, OptionName, Workers, Established, Transient, Udp, Spells, capture_id, default_of, interface_id, most_of, most_seconds, name_of, number_of, policy_id, racl, text_at}
+use Rattle.racl_words.specs.Options.{AreInRange, AreNames, AreSettings, Setting, Use, facts_of, named_by, sets, times_set, value_at, words_as, words_of, words_of_use}
+use Rattle.racl_words.specs.Origins.{AskForRun, Name, OriginFacts, named_at}
+use Rattle.racl_words.proofs.NameLemmas.{plain_uses}
+use Rattle.racl_words.proofs.NameWalks.{Ends, has_row_behind, names_end, rows_of_names, rows_of_uses, uses_go_on}
 use Rattle.racl_words.proofs.SettingWalks.{AreNew, GoesOn, Holds, IsFit, between, default_row, row_of, settings_go_on, top}
-use Rattle.racl_words.proofs.SettingDefaults.{all_filled, end_fault, ends_well, fault_is, find_before, find_last, find_row, no_file_filled}
+use Rattle.racl_words.proofs.SettingDefaults.{all_filled, end_fault, ends_well, fault_is, find_both, find_row, no_other_filled, or_nothing}
 
 -- a number's text doesn't begin with a minus
 plain_value : (d : ℕ) (ds : Text) → IsNumeral 10 (without_leading_plus (d ∷ ds)) → (d == 45) ≡ false
@@ -130,79 +132,166 @@ new_settings (s ∷ rest) rows once range =
       new_settings rest (rows ++ row_of s ∷ []) (λ o. omega (arith, once o, rows_with-append (name_of o) rows (row_of s))) range.1,
     )
 
--- no setting names a file
-no_file : (o : OptionName) → bytes_eq (name_of o) files_id ≡ false
-no_file Workers = refl
-no_file Established = refl
-no_file Transient = refl
-no_file Udp = refl
+-- ---- what isn't an option's
 
-no_file_row : (ss : List Setting) → has_row files_id (map row_of ss) ≡ false
-no_file_row [] = refl
-no_file_row (s ∷ rest) = rw (no_file s.option) (no_file_row rest)
+-- the ids of what names files
+abbrev IsOther : Text → Type 0
+IsOther id = (o : OptionName) → bytes_eq (name_of o) id ≡ false
 
-no_file_found : (ss : List Setting) → find_row files_id (map row_of ss) ≡ None
-no_file_found [] = refl
-no_file_found (s ∷ rest) = rw (no_file s.option) (no_file_found rest)
+no_interface : IsOther interface_id
+no_interface Workers = refl
+no_interface Established = refl
+no_interface Transient = refl
+no_interface Udp = refl
 
-no_option : (o : OptionName) → bytes_eq files_id (name_of o) ≡ false
-no_option Workers = refl
-no_option Established = refl
-no_option Transient = refl
-no_option Udp = refl
+no_policy : IsOther policy_id
+no_policy Workers = refl
+no_policy Established = refl
+no_policy Transient = refl
+no_policy Udp = refl
 
--- the names of files are no option's text
-option_found : (o : OptionName) (rows : List Row) (files : Option FileFacts) → find_row (name_of o) (rows ++ rows_for files) ≡ find_row (name_of o) rows
-option_found o rows None = ap (find_row (name_of o)) (append-nil rows)
-option_found o rows (Some files) = find_before (name_of o) rows _ (no_option o)
+no_capture : IsOther capture_id
+no_capture Workers = refl
+no_capture Established = refl
+no_capture Transient = refl
+no_capture Udp = refl
 
--- and are found as they were written
-names_are : (ss : List Setting) (files : Option FileFacts) → AreNames files → (names : Option (List Text))
-    → names ≡ option_map (λ r. r.values) (find_row files_id (map row_of ss ++ rows_for files)) → Name names files
-names_are ss None are names is = is ∙ ap (option_map (λ r. r.values)) (ap (find_row files_id) (append-nil (map row_of ss)) ∙ no_file_found ss)
-names_are ss (Some files) are names is =
-    (is ∙ ap (option_map (λ r. r.values)) (find_last files_id (map row_of ss) _ refl (no_file_found ss)), are.2)
+no_other_row : (id : Text) (ss : List Setting) → IsOther id → has_row id (map row_of ss) ≡ false
+no_other_row id [] other = refl
+no_other_row id (s ∷ rest) other = rw (other s.option) (no_other_row id rest other)
+
+none_found : (id : Text) (ss : List Setting) → IsOther id → find_row id (map row_of ss) ≡ None
+none_found id [] other = refl
+none_found id (s ∷ rest) other = rw (other s.option) (none_found id rest other)
+
+abbrev other_rows : List Use → List Text → List Row
+other_rows uses names = rows_of_uses uses ++ rows_of_names names
+
+-- rows of uses have neither name's id
+no_name_in_uses : (us : List Use) (rows : List Row) → has_row policy_id rows ≡ false → has_row capture_id rows ≡ false
+    → (has_row policy_id (rows ++ rows_of_uses us) ≡ false) × (has_row capture_id (rows ++ rows_of_uses us) ≡ false)
+no_name_in_uses [] rows policy capture = (rw (append-nil rows) policy, rw (append-nil rows) capture)
+no_name_in_uses (u ∷ us) rows policy capture = (has_row_behind policy_id rows _ policy refl, has_row_behind capture_id rows _ capture refl)
+
+-- and none has an option's
+no_option_found : (o : OptionName) (uses : List Use) (names : List Text) → find_row (name_of o) (other_rows uses names) ≡ None
+no_option_found Workers [] [] = refl
+no_option_found Workers [] (p ∷ []) = refl
+no_option_found Workers [] (p ∷ c ∷ names) = refl
+no_option_found Workers (u ∷ us) [] = refl
+no_option_found Workers (u ∷ us) (p ∷ []) = refl
+no_option_found Workers (u ∷ us) (p ∷ c ∷ names) = refl
+no_option_found Established [] [] = refl
+no_option_found Established [] (p ∷ []) = refl
+no_option_found Established [] (p ∷ c ∷ names) = refl
+no_option_found Established (u ∷ us) [] = refl
+no_option_found Established (u ∷ us) (p ∷ []) = refl
+no_option_found Established (u ∷ us) (p ∷ c ∷ names) = refl
+no_option_found Transient [] [] = refl
+no_option_found Transient [] (p ∷ []) = refl
+no_option_found Transient [] (p ∷ c ∷ names) = refl
+no_option_found Transient (u ∷ us) [] = refl
+no_option_found Transient (u ∷ us) (p ∷ []) = refl
+no_option_found Transient (u ∷ us) (p ∷ c ∷ names) = refl
+no_option_found Udp [] [] = refl
+no_option_found Udp [] (p ∷ []) = refl
+no_option_found Udp [] (p ∷ c ∷ names) = refl
+no_option_found Udp (u ∷ us) [] = refl
+no_option_found Udp (u ∷ us) (p ∷ []) = refl
+no_option_found Udp (u ∷ us) (p ∷ c ∷ names) = refl
+
+option_found : (o : OptionName) (rows : List Row) (uses : List Use) (names : List Text) → find_row (name_of o) (rows ++ other_rows uses names) ≡ find_row (name_of o) rows
+option_found o rows uses names = find_both (name_of o) rows (other_rows uses names) ∙ or_nothing (find_row (name_of o) rows) _ (no_option_found o uses names)
+
+other_found : (id : Text) (ss : List Setting) (uses : List Use) (names : List Text) → IsOther id
+    → find_row id (map row_of ss ++ other_rows uses names) ≡ find_row id (other_rows uses names)
+other_found id ss uses names other = find_both id (map row_of ss) (other_rows uses names)
+    ∙ ap (λ found. option_or found (find_row id (other_rows uses names))) (none_found id ss other)
+
+policy_is : (uses : List Use) (names : List Text) → option_and_then (λ r. slice_get r.values 0) (find_row policy_id (other_rows uses names)) ≡ (named_by uses names).policy
+policy_is [] [] = refl
+policy_is [] (p ∷ []) = refl
+policy_is [] (p ∷ c ∷ names) = refl
+policy_is (u ∷ us) [] = refl
+policy_is (u ∷ us) (p ∷ []) = refl
+policy_is (u ∷ us) (p ∷ c ∷ names) = refl
+
+capture_is : (uses : List Use) (names : List Text) → option_and_then (λ r. slice_get r.values 0) (find_row capture_id (other_rows uses names)) ≡ (named_by uses names).capture
+capture_is [] [] = refl
+capture_is [] (p ∷ []) = refl
+capture_is [] (p ∷ c ∷ names) = refl
+capture_is (u ∷ us) [] = refl
+capture_is (u ∷ us) (p ∷ []) = refl
+capture_is (u ∷ us) (p ∷ c ∷ names) = refl
+
+captures_are : (uses : List Use) (names : List Text) → option_map (λ r. r.values) (find_row interface_id (other_rows uses names)) ≡ (named_by uses names).captures
+captures_are [] [] = refl
+captures_are [] (p ∷ []) = refl
+captures_are [] (p ∷ c ∷ names) = refl
+captures_are (u ∷ us) [] = refl
+captures_are (u ∷ us) (p ∷ []) = refl
+captures_are (u ∷ us) (p ∷ c ∷ names) = refl
+
+-- ---- all words
 
 -- words that set options and name files as a user writes them ask for what they say
-words_ask : (program : Text) (ss : List Setting) (files : Option FileFacts) → AreSettings ss → AreNames files
-    → AskForRun (program ∷ words_as ss files) (facts_of ss) files
+words_ask : (program : Text) (ss : List Setting) (uses : List Use) (names : List Text) (origin : OriginFacts) → AreSettings ss → AreNames names → Name (named_by uses names) origin
+    → AskForRun (program ∷ words_as ss uses names) (facts_of ss) origin
 unfolding walk_fault
-words_ask program ss files are named = record {
+words_ask program ss uses names origin are named says = record {
   options = record {
     faultless = fault_is program words ∙ ap₂ end_fault faultless_walk walked_is ∙ ends_well ends.last ends.runs ends.settles;
     options = record { workers = spelt Workers; established = spelt Established; transient = spelt Transient; udp = spelt Udp };
   };
-  names = names_are ss files named _ (ap (option_map (λ r. r.values)) (ap (find_row files_id) filled_rows ∙ no_file_filled (map row_of ss ++ rows_for files)));
+  names = subst (λ named. Name named origin) (sym named_is) says;
 }
   where
     words : List Text
-    words = words_as ss files
+    words = words_as ss uses names
 
     run : (e : Held) × Holds (map row_of ss) e × GoesOn nothing_held (flat_map words_of ss) e
     run = settings_go_on ss [] nothing_held (refl, refl, refl) (new_settings ss [] (λ o. let once = are.once o in omega arith) are.in_range)
 
-    ends : Ends (map row_of ss) files run.0
-    ends = files_end (map row_of ss) files run.0 run.1 (no_file_row ss) named
+    used : (e : Held) × Holds (map row_of ss ++ rows_of_uses uses) e × GoesOn run.0 (flat_map words_of_use uses) e
+    used = uses_go_on uses (map row_of ss) run.0 (no_other_row interface_id ss no_interface) run.1 (plain_uses uses names origin says)
+
+    apart : (has_row policy_id (map row_of ss ++ rows_of_uses uses) ≡ false) × (has_row capture_id (map row_of ss ++ rows_of_uses uses) ≡ false)
+    apart = no_name_in_uses uses (map row_of ss) (no_other_row policy_id ss no_policy) (no_other_row capture_id ss no_capture)
+
+    ends : Ends (map row_of ss ++ rows_of_uses uses) names used.0
+    ends = names_end (map row_of ss ++ rows_of_uses uses) names used.0 used.1 apart.0 apart.1 named
 
     walked_is : fold (walked top.rules []) (between nothing_held) words ≡ ends.last
-    walked_is = run.2.0 (words_for files) ∙ ends.walks
+    walked_is = run.2.0 (flat_map words_of_use uses ++ names) ∙ used.2.0 names ∙ ends.walks
 
     faultless_walk : walk_fault top [] (between nothing_held) words ≡ []
-    faultless_walk = run.2.1 (words_for files) ∙ ends.passes
+    faultless_walk = run.2.1 (flat_map words_of_use uses ++ names) ∙ used.2.1 names ∙ ends.passes
 
-    filled_rows : matches_of racl (program ∷ words) ≡ fold with_default (map row_of ss ++ rows_for files) top.rules
-    filled_rows = ap (λ w. fold with_default (settled top.rules w.held).rows top.rules) walked_is ∙ ap (λ rows. fold with_default rows top.rules) ends.settled_to
+    filled_rows : matches_of racl (program ∷ words) ≡ fold with_default (map row_of ss ++ other_rows uses names) top.rules
+    filled_rows = ap (λ w. fold with_default (settled top.rules w.held).rows top.rules) walked_is
+        ∙ ap (λ rows. fold with_default rows top.rules) (ends.settled_to ∙ append_assoc (map row_of ss) (rows_of_uses uses) (rows_of_names names))
 
     text : (o : OptionName) → text_at (program ∷ words) (name_of o) ≡ Some (value_at o ss)
     text o = ap (λ rows. option_and_then row_text (find_row (name_of o) rows)) filled_rows
-        ∙ ap (option_and_then row_text) (all_filled o (map row_of ss ++ rows_for files)
-        ∙ ap (λ found. option_or found (Some (default_row o))) (option_found o (map row_of ss) files)) ∙ text_is o ss are.in_range
+        ∙ ap (option_and_then row_text) (all_filled o (map row_of ss ++ other_rows uses names)
+        ∙ ap (λ found. option_or found (Some (default_row o))) (option_found o (map row_of ss) uses names)) ∙ text_is o ss are.in_range
 
     spelt : (o : OptionName) → Spells o (text_at (program ∷ words) (name_of o)) (number_of (value_at o ss))
     spelt o =
         let range = value_in_range o ss are.in_range in
         (value_at o ss, text o, range, refl)
 
-pub written_asks : (words : List Text) (program : Text) (ss : List Setting) (files : Option FileFacts) → AreSettings ss → AreNames files
-    → words ≡ program ∷ words_as ss files → AskForRun words (facts_of ss) files
-written_asks words program ss files are named is = subst (λ ws. AskForRun ws (facts_of ss) files) (sym is) (words_ask program ss files are named)
+    other_row : (id : Text) → IsOther id → find_row id (matches_of racl (program ∷ words)) ≡ find_row id (other_rows uses names)
+    other_row id other = ap (find_row id) filled_rows ∙ no_other_filled id (map row_of ss ++ other_rows uses names) other ∙ other_found id ss uses names other
+
+    named_is : named_at (program ∷ words) ≡ named_by uses names
+    named_is =
+        let policy = ap (option_and_then (λ (r : Row). slice_get r.values 0)) (other_row policy_id no_policy) ∙ policy_is uses names in
+        let capture = ap (option_and_then (λ (r : Row). slice_get r.values 0)) (other_row capture_id no_capture) ∙ capture_is uses names in
+        let captures = ap (option_map (λ (r : Row). r.values)) (other_row interface_id no_interface) ∙ captures_are uses names in
+        λ i. record { policy = policy i; capture = capture i; captures = captures i }
+
+pub written_asks : (words : List Text) (program : Text) (ss : List Setting) (uses : List Use) (names : List Text) (origin : OriginFacts) → AreSettings ss → AreNames names
+    → Name (named_by uses names) origin → words ≡ program ∷ words_as ss uses names → AskForRun words (facts_of ss) origin
+written_asks words program ss uses names origin are named says is =
+    subst (λ ws. AskForRun ws (facts_of ss) origin) (sym is) (words_ask program ss uses names origin are named says)

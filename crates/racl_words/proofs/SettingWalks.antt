@@ -13,7 +13,7 @@ use Rattle.clap.specs.declared.builder.value_parser.Reading.TheVariants.{Without
 use Rattle.clap.specs.declared.builder.value_parser.ValueParser.TheVariants.{Signed}
 use Rattle.clap.specs.declared.parser.matches.ValueSource.TheVariants.{CommandLine, DefaultValue}
 use Rattle.clap.proofs.OnLiterals.{clap_on_literals}
-use Rattle.racl_words.specs.CommandLine.{OptionName, Workers, Established, Transient, Udp, default_of, files_rule, most_of, name_of, option_rule, racl}
+use Rattle.racl_words.specs.CommandLine.{OptionName, Workers, Established, Transient, Udp, capture_id, default_of, file_rule, interface_rule, most_of, name_of, option_rule, policy_id, racl}
 use Rattle.racl_words.specs.Options.{Setting, words_by, words_of}
 
 abbrev pub top : Shape
@@ -22,8 +22,14 @@ top = (built racl).top
 abbrev pub filled_rule : OptionName → Rule
 filled_rule o = filled (option_rule o)
 
-abbrev pub files_filled : Rule
-files_filled = with_index 1 (filled files_rule)
+abbrev pub interface_filled : Rule
+interface_filled = filled interface_rule
+
+abbrev pub policy_filled : Rule
+policy_filled = with_index 1 (filled (file_rule policy_id))
+
+abbrev pub capture_filled : Rule
+capture_filled = with_index 2 (filled (file_rule capture_id))
 
 -- ---- rows
 
@@ -138,9 +144,9 @@ given_passes Udp v h = refl
 
 -- the rows that a held state comes to, where what is pending has no fault, and is no file
 abbrev pub Holds : List Row → Held → Type 0
-Holds rows h = ((settled top.rules h).rows ≡ rows) × (settle_fault top.rules false h ≡ []) × (is_pending files_filled h.pending ≡ false)
+Holds rows h = ((settled top.rules h).rows ≡ rows) × (settle_fault top.rules false h ≡ []) × (is_pending policy_filled h.pending ≡ false)
 
-no_file_given : (o : OptionName) (v : Text) (h : Held) → is_pending files_filled (given o v h).pending ≡ false
+no_file_given : (o : OptionName) (v : Text) (h : Held) → is_pending policy_filled (given o v h).pending ≡ false
 no_file_given Workers v h = refl
 no_file_given Established v h = refl
 no_file_given Transient v h = refl

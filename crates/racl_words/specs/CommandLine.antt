@@ -1,14 +1,13 @@
--- The command line: the command's options and files, and what the words say of them.
-use Rattle.std.specs.Prelude.{◌≡◌, ◌≤◌, ◌⊎◌, ℕ, true, List, [], ◌∷◌, Option, None, Some, codes, option_map, pos}
+-- The command line: the command's options and arguments, and what the words say of the options.
+use Rattle.std.specs.Prelude.{◌≡◌, ◌≤◌, ◌⊎◌, ℕ, true, List, [], ◌∷◌, Option, Some, codes, pos}
 use Rattle.std.specs.Str.Parse.{IsNumeral, digits_value, without_leading_plus}
 use Rattle.clap.specs.Simple.{on_top}
-use Rattle.clap.specs.Words.{App, IsSignedIn, Rule, Text, all_of, fault_of, matches_of, new_app}
+use Rattle.clap.specs.Words.{App, IsSignedIn, Rule, Text, fault_of, matches_of, new_app}
 use Rattle.clap.specs.Words.{new_rule, one_of, with_rule, without_minus}
-use Rattle.clap.specs.declared.builder.action.ArgAction.TheVariants.{Set}
+use Rattle.clap.specs.declared.builder.action.ArgAction.TheVariants.{Append, Set}
 use Rattle.clap.specs.declared.builder.value_parser.ValueParser.TheVariants.{Signed}
 use Rattle.clap.specs.declared.error.kind.ErrorKind.{ErrorKind}
 use Rattle.clap.specs.declared.error.kind.ErrorKind.TheVariants.{DisplayHelp, DisplayVersion}
-use Rattle.racl_words.specs.declared.settings.Files.{Files}
 use Rattle.racl_words.specs.declared.settings.Options.{Options}
 
 -- ---- the command
@@ -53,25 +52,40 @@ number_option name default most = record (new_rule name) {
 abbrev pub option_rule : OptionName → Rule
 option_rule option = number_option (name_of option) (default_of option) (most_of option)
 
-abbrev pub files_id : Text
-files_id = codes "FILES"
+abbrev pub interface_id : Text
+interface_id = codes "interface"
 
--- the two words that name the files
-abbrev pub files_rule : Rule
-files_rule = record (new_rule files_id) { action = Some Set; value_names = 2 }
+-- the option `--interface`, with one value at each use
+abbrev pub interface_rule : Rule
+interface_rule = record (new_rule interface_id) {
+  long = Some interface_id;
+  action = Some Append;
+  value_names = 1;
+}
+
+abbrev pub policy_id : Text
+policy_id = codes "POLICY"
+
+abbrev pub capture_id : Text
+capture_id = codes "CAPTURE"
+
+-- a word that names a file
+abbrev pub file_rule : Text → Rule
+file_rule id = record (new_rule id) { action = Some Set }
 
 -- the command before its options; as it has a version, a parse also reads `--version`
 abbrev pub without_options : App
 without_options = on_top (λ s. record s { has_version = true }) (new_app (codes "racl"))
 
--- the command with its four options
+-- the command with its options of a number
 abbrev pub with_options : App
 with_options = with_rule (with_rule (with_rule (with_rule without_options (option_rule Workers))
     (option_rule Established)) (option_rule Transient)) (option_rule Udp)
 
--- and with the files
+-- and with the captures of interfaces and the files
 abbrev pub racl : App
-racl = with_rule with_options files_rule
+racl = with_rule (with_rule (with_rule with_options interface_rule) (file_rule policy_id))
+    (file_rule capture_id)
 
 -- ---- what the words ask for
 
@@ -118,33 +132,6 @@ text_at words name = one_of name (matches_of racl words)
 pub record AskFor (words : List Text) (facts : OptionFacts) : Type 0 where
   pub faultless : fault_of racl words ≡ []
   pub options : SpellsOptions (text_at words) facts
-
--- the names of the files as a value without where they lie in memory
-pub record FileFacts : Type 0 where
-  pub policy : Text
-  pub capture : Text
-
-abbrev pub file_facts : Option Files → Option FileFacts
-file_facts files = option_map (λ f. record { policy = f.policy.now; capture = f.capture.now }) files
-
-abbrev pub AreBothStandard : FileFacts → Type 0
-AreBothStandard files = (files.policy ≡ codes "-") × (files.capture ≡ codes "-")
-
--- there are no names, or two, of which one at most is `-`
-abbrev pub Name : Option (List Text) → Option FileFacts → Type 0
-Name names None = names ≡ None
-Name names (Some files) =
-    (names ≡ Some (files.policy ∷ files.capture ∷ [])) × (AreBothStandard files → ⊥)
-
--- the names that the command's matches of the words hold
-abbrev pub names_at : List Text → Option (List Text)
-names_at words = all_of files_id (matches_of racl words)
-
--- the words ask for these options, and for an input from these files or, where there are none, from
--- standard input
-pub record AskForRun (words : List Text) (facts : OptionFacts) (files : Option FileFacts) : Type 0 where
-  pub options : AskFor words facts
-  pub names : Name (names_at words) files
 
 -- an error of this kind is a request for the help or for the version
 abbrev pub IsRequest : ErrorKind → Type 0

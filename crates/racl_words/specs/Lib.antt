@@ -1,2 +1,4 @@
 pub mod CommandLine
 pub mod Options
+pub mod Origins
+pub mod inner

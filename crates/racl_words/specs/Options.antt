@@ -1,12 +1,13 @@
--- Words that set options and name files, as a user writes them.
+-- Words that set options, and name captures of interfaces and files, as a user writes them.
 use Rattle.std.specs.Prelude.{◌≡◌, ◌≢◌, ◌⊎◌, ◌≤◌, ◌+◌, ℕ, Bool, true, false, List, [], ◌∷◌, ◌++◌, codes}
-use Rattle.std.specs.Prelude.{Option, None, Some, if◌then◌else◌}
+use Rattle.std.specs.Prelude.{Option, None, Some, if◌then◌else◌, map}
 use Rattle.std.specs.List.{flat_map}
 use Rattle.std.specs.Str.{bytes_eq}
 use Rattle.clap.specs.Words.{Text}
-use Rattle.racl_words.specs.CommandLine.{AreBothStandard, FileFacts, IsInRange, OptionFacts}
+use Rattle.racl_words.specs.CommandLine.{IsInRange, OptionFacts}
 use Rattle.racl_words.specs.CommandLine.{OptionName, Workers, Established, Transient, Udp}
-use Rattle.racl_words.specs.CommandLine.{default_of, name_of, number_of}
+use Rattle.racl_words.specs.CommandLine.{default_of, interface_id, name_of, number_of}
+use Rattle.racl_words.specs.Origins.{NamedFacts}
 
 -- an option set to a value, in one word or in two
 pub record Setting : Type 0 where
@@ -53,22 +54,53 @@ facts_of settings = record {
   udp = number_of (value_at Udp settings);
 }
 
--- ---- files
+-- ---- captures of interfaces, and files
+
+-- one use of `--interface`, in one word or in two
+pub record Use : Type 0 where
+  pub value : Text
+  pub in_one : Bool
+
+-- `--interface=VALUE`, or `--interface` and `VALUE`
+abbrev pub use_by : Text → Bool → List Text
+use_by value true = (codes "--" ++ (interface_id ++ (codes "=" ++ value))) ∷ []
+use_by value false = (codes "--" ++ interface_id) ∷ value ∷ []
+
+abbrev pub words_of_use : Use → List Text
+words_of_use u = use_by u.value u.in_one
 
 -- the file's name is `-`, or a word that doesn't begin with a minus (45)
 abbrev pub IsName : Text → Type 0
 IsName name = (name ≡ codes "-")
     ⊎ ((first : ℕ) × (rest : Text) × (name ≡ first ∷ rest) × (first ≢ 45))
 
-abbrev pub AreNames : Option FileFacts → Type 0
-AreNames None = Unit {0}
-AreNames (Some files) =
-    IsName files.policy × IsName files.capture × (AreBothStandard files → ⊥)
+-- the names of two files at most
+abbrev pub AreNames : List Text → Type 0
+AreNames [] = Unit {0}
+AreNames (policy ∷ []) = IsName policy
+AreNames (policy ∷ capture ∷ []) = IsName policy × IsName capture
+AreNames _ = ⊥
 
-abbrev pub words_for : Option FileFacts → List Text
-words_for None = []
-words_for (Some files) = files.policy ∷ files.capture ∷ []
+abbrev pub first_name : List Text → Option Text
+first_name [] = None
+first_name (name ∷ names) = Some name
 
--- the settings, and then the names of the files
-abbrev pub words_as : List Setting → Option FileFacts → List Text
-words_as settings files = flat_map words_of settings ++ words_for files
+abbrev pub second_name : List Text → Option Text
+second_name [] = None
+second_name (name ∷ names) = first_name names
+
+abbrev pub values_of : List Use → Option (List Text)
+values_of [] = None
+values_of (u ∷ rest) = Some (map (λ v. v.value) (u ∷ rest))
+
+-- what uses and names name
+abbrev pub named_by : List Use → List Text → NamedFacts
+named_by uses names = record {
+  policy = first_name names;
+  capture = second_name names;
+  captures = values_of uses;
+}
+
+-- the settings, then the captures of interfaces, and then the names of files
+abbrev pub words_as : List Setting → List Use → List Text → List Text
+words_as settings uses names = flat_map words_of settings ++ (flat_map words_of_use uses ++ names)

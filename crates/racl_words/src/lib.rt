@@ -2,9 +2,10 @@
 #![tactic(auto)]
 
 mod check_words;
+mod naming;
 mod settings;
 mod words;
 
 pub use check_words::check_name;
-pub use settings::{Asked, Files, Options};
+pub use settings::{Asked, CaptureFile, Files, Interfaces, Options, Origin};
 pub use words::{options, words_status};

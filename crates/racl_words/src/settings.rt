@@ -12,17 +12,39 @@ pub struct Options {
     pub ghost few: { (1 ≤ workers) × (workers ≤ 16) },
 }
 
-/// The names of two files, of which one at most is `-`: standard input.
+/// The names of a policy's file and of a capture's.
 #[derive(Clone, Copy, Debug, PartialEq, Eq)]
 pub struct Files<'a> {
     pub policy: &'a str,
     pub capture: &'a str,
 }
 
-/// What the words of the command line ask for.
+/// The number of an interface, and the name of the file with its capture.
 #[derive(Clone, Copy, Debug, PartialEq, Eq)]
+pub struct CaptureFile<'a> {
+    pub interface: u8,
+    pub name: &'a str,
+}
+
+/// The names of a policy's file, and of those of interfaces' captures in the order of the words.
+#[derive(Debug, Drop)]
+pub struct Interfaces<'a> {
+    pub policy: &'a str,
+    pub captures: Vec<CaptureFile<'a>>,
+}
+
+/// Where an input comes from. The name `-`, which one file at most has, is standard input.
+#[derive(Debug, Drop)]
+pub enum Origin<'a> {
+    /// All of it comes from standard input.
+    Standard,
+    Files(Files<'a>),
+    Interfaces(Interfaces<'a>),
+}
+
+/// What the words of the command line ask for.
+#[derive(Debug, Drop)]
 pub struct Asked<'a> {
     pub options: Options,
-    /// Where the input is; None where all of it comes from standard input.
-    pub files: Option<Files<'a>>,
+    pub origin: Origin<'a>,
 }

@@ -1,14 +1,15 @@
 //! The command line: the words with which the program is called, read by `clap`.
-ghost use Rattle.std.specs.Prelude.{◌≡◌, ◌≢◌, ◌⊎◌, List, ◌∷◌, IfErr, IfOk, MatchResult, Option, false, option_map};
+ghost use Rattle.std.specs.Prelude.{◌≡◌, ◌≢◌, ◌⊎◌, List, ◌∷◌, IfErr, IfOk, MatchResult, false};
 ghost use Rattle.clap.specs.Walk.{Text, texts};
-ghost use Rattle.clap.specs.Words.{HasKind, app_of, fault_of, found_of, kind_of, matched_of, one_text, raw_values, rule_of};
-ghost use Rattle.racl_words.specs.CommandLine.{AskForRun, FileFacts, HoldsNumber, HoldsNumbers, IsRequest};
-ghost use Rattle.racl_words.specs.CommandLine.{Name, OptionFacts, OptionName, Spells, SpellsOptions};
-ghost use Rattle.racl_words.specs.CommandLine.{file_facts, files_id, names_at, option_facts, racl, with_options, without_options};
+ghost use Rattle.clap.specs.Words.{HasKind, app_of, fault_of, found_of, kind_of, one_text, rule_of};
+ghost use Rattle.racl_words.specs.CommandLine.{HoldsNumber, HoldsNumbers, IsRequest, OptionFacts, OptionName, Spells, SpellsOptions};
+ghost use Rattle.racl_words.specs.CommandLine.{option_facts, racl, with_options, without_options};
 ghost use Rattle.racl_words.specs.CommandLine as line;
-ghost use Rattle.racl_words.specs.Options.{AreNames, AreSettings, Setting, facts_of, words_as};
+ghost use Rattle.racl_words.specs.Options.{AreNames, AreSettings, Setting, Use, facts_of, named_by, words_as};
+ghost use Rattle.racl_words.specs.Origins.{AskForRun, Name, OriginFacts, named_at, origin_facts};
 
-use crate::settings::{Asked, Files, Options};
+use crate::naming::{Refusal, origin_named};
+use crate::settings::{Asked, Options};
 use clap::error::ErrorKind;
 use clap::{Arg, ArgAction, ArgMatches, Command, Error, value_parser};
 use session_state::Timeouts;
@@ -17,33 +18,35 @@ use std::alloc::{AllocError, Global};
 /// Reads the words, of which the first is the program's name. An `Err` is a request for the help
 /// or the version, a mistake in the words, or that memory ran out, by its kind.
 pub fn options<'a>(alloc: Global, words: &'a [&'a str]) -> Result<Asked<'a>, Error>
-    ensures ok { IfOk result (λ a. AskForRun (texts words.entry.now) (option_facts a.options) (file_facts a.files)) }
+    ensures ok { IfOk result (λ a. AskForRun (texts words.entry.now) (option_facts a.options) (origin_facts a.origin)) }
 
     // Words that ask for something, and those that a user writes for it, are refused for want of
     // memory alone.
-    ensures accepts { (facts : OptionFacts) (files : Option FileFacts) → AskForRun (texts words.entry.now) facts files
-        → MatchResult result (λ a. (option_facts a.options ≡ facts) × (file_facts a.files ≡ files))
+    ensures accepts { (facts : OptionFacts) (origin : OriginFacts) → AskForRun (texts words.entry.now) facts origin
+        → MatchResult result (λ a. (option_facts a.options ≡ facts) × (origin_facts a.origin ≡ origin))
         (λ e. kind_of e ≡ ErrorKind.OutOfMemory) }
-    ensures written { (program : Text) (settings : List Setting) (files : Option FileFacts) → AreSettings settings → AreNames files
-        → texts words.entry.now ≡ program ∷ words_as settings files
-        → MatchResult result (λ a. (option_facts a.options ≡ facts_of settings) × (file_facts a.files ≡ files))
+    ensures written { (program : Text) (settings : List Setting) (uses : List Use) (names : List Text) (origin : OriginFacts)
+        → AreSettings settings → AreNames names → Name (named_by uses names) origin
+        → texts words.entry.now ≡ program ∷ words_as settings uses names
+        → MatchResult result (λ a. (option_facts a.options ≡ facts_of settings) × (origin_facts a.origin ≡ origin))
         (λ e. kind_of e ≡ ErrorKind.OutOfMemory) }
 
     // An error has a kind of the words' fault, or the names are no files to be read, or memory ran out.
     ensures refuses { IfErr result (λ e. HasKind (fault_of racl (texts words.entry.now)) e
-        ⊎ ((kind_of e ≡ ErrorKind.ValueValidation) × ((files : Option FileFacts) → Name (names_at (texts words.entry.now)) files → ⊥))) }
+        ⊎ ((kind_of e ≡ ErrorKind.ValueValidation) × ((origin : OriginFacts) → Name (named_at (texts words.entry.now)) origin → ⊥))) }
 {
     let mut command = command(alloc)?;
     let matches = match command.try_get_matches_from_mut(words) {
         Ok(matches) => matches,
         Err(error) => return Err(error),
     };
-    match named_files(&matches) {
-        Ok(files) => Ok(Asked {
+    match origin_named(alloc, &matches) {
+        Ok(origin) => Ok(Asked {
             options: read_options(&matches),
-            files,
+            origin,
         }),
-        Err(NotFiles) => Err(command.error(ErrorKind::ValueValidation, NOT_FILES)?),
+        Err(Refusal::Memory) => Err(Error::from(AllocError)),
+        Err(Refusal::Mistake(text)) => Err(command.error(ErrorKind::ValueValidation, text)?),
     }
 }
 
@@ -66,17 +69,19 @@ const VERSION: &str = "0.1.0";
 const ABOUT: &str = "Judges the packets of a capture by ordered rules and by sessions.";
 
 const USAGE: &str = "racl [OPTIONS] POLICY CAPTURE
+       racl [OPTIONS] --interface N=CAPTURE .. POLICY
        racl [OPTIONS] < INPUT
        racl check POLICY";
 
 const AFTER_HELP: &str =
     "INPUT is a policy, a line `pcap` or `hex`, and the capture in that form; POLICY and CAPTURE are such \
-    a policy and a capture's bytes. They have at most 67108864 bytes in all. The report goes to standard \
-    output.
+    a policy and a capture's bytes. They have at most 67108864 bytes in all, in which a byte of a capture \
+    after --interface counts twice. The report goes to standard output.
 
 Examples:
   racl check host.policy
   racl host.policy host.pcap
+  racl --interface 1=eth1.pcap --interface 2=eth2.pcap router.policy
   racl --workers 4 --udp 60 < examples/first_path.racl
 
 Exit status:
@@ -86,15 +91,20 @@ Exit status:
   3  done, but the capture was cut off
   4  memory or device";
 
-const NOT_FILES: &str = "POLICY and CAPTURE can't both be standard input";
-
 fn command<'a>(alloc: Global) -> Result<Command<'a>, AllocError>
     ensures { IfOk result (λ c. app_of c ≡ racl) }
 {
-    command_with_options(alloc)?.arg(files_argument(alloc))
+    command_with_options(alloc)?
+        .arg(interface_option(alloc))?
+        .arg(file_argument(
+            alloc,
+            "POLICY",
+            "The policy's file; `-` for one of all files is standard input",
+        ))?
+        .arg(file_argument(alloc, "CAPTURE", "The capture's file"))
 }
 
-// The command with its options, and no file yet.
+// The command with its options of a number, and no file yet.
 fn command_with_options<'a>(alloc: Global) -> Result<Command<'a>, AllocError>
     ensures { IfOk result (λ c. app_of c ≡ with_options) }
 {
@@ -166,34 +176,22 @@ fn number_option<'a>(
         .help(help)
 }
 
-fn files_argument<'a>(alloc: Global) -> Arg<'a>
-    ensures rule { rule_of result ≡ line.files_rule }
+fn interface_option<'a>(alloc: Global) -> Arg<'a>
+    ensures rule { rule_of result ≡ line.interface_rule }
     ensures local { result.global ≡ false }
 {
-    Arg::new(alloc, "FILES")
-        .action(ArgAction::Set)
-        .value_names(&["POLICY", "CAPTURE"])
-        .help("The policy and the capture; `-` for one of them is standard input")
+    Arg::new(alloc, "interface")
+        .long("interface")
+        .action(ArgAction::Append)
+        .value_name("N=CAPTURE")
+        .help("The capture of the interface with number N, 0 to 255; once for each of them")
 }
 
-// The names are no files to be read.
-struct NotFiles;
-
-// The files that the words name.
-fn named_files<'a>(matches: &ArgMatches<'a>) -> Result<Option<Files<'a>>, NotFiles>
-    ensures files { IfOk result (λ files. Name (option_map raw_values (matched_of (found_of matches.now) files_id)) (file_facts files)) }
-    ensures none { IfErr result (λ _. (files : Option FileFacts) → Name (option_map raw_values (matched_of (found_of matches.now) files_id)) files → ⊥) }
+fn file_argument<'a>(alloc: Global, id: &'a str, help: &'a str) -> Arg<'a>
+    ensures rule { rule_of result ≡ line.file_rule id.entry.now }
+    ensures local { result.global ≡ false }
 {
-    let Some(names) = matches.get_strs("FILES") else {
-        return Ok(None);
-    };
-    if names.len() != 2 || names[0] == "-" && names[1] == "-" {
-        return Err(NotFiles);
-    }
-    Ok(Some(Files {
-        policy: names[0],
-        capture: names[1],
-    }))
+    Arg::new(alloc, id).action(ArgAction::Set).help(help)
 }
 
 fn read_options(matches: &ArgMatches<'_>) -> Options

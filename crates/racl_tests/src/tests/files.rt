@@ -1,7 +1,7 @@
-//! A policy and a capture from two readers, and what files are that are no captures of Ethernet.
+//! A policy and captures from readers, and what files are that are no captures of Ethernet.
 
 use racl_cli::remark;
-use racl_io::{Fault, FrontKept, Joined, Other, other_file, read_until};
+use racl_io::{Fault, Form, FrontKept, Joined, Other, marked, other_file, read_until};
 use std::io::Read;
 use std::test::Fail;
 
@@ -19,13 +19,22 @@ fn told_of_fewer(bytes: &[u8]) -> Option<Other> {
 }
 
 #[test]
-fn two_readers_are_one_source(rt: HostRuntime) -> Result<(), Fail> {
-    let mut all = Vec::new(rt.alloc());
-    let mut joined = Joined::new(b"mac".as_slice(), b"\xd4\xc3".as_slice());
-    assert!(rt; joined.front().is_empty());
+fn readers_are_one_source(rt: HostRuntime) -> Result<(), Fail> {
+    let alloc = rt.alloc();
+    let mut captures = Vec::new(alloc);
+    captures.push(marked(alloc, Form::Binary, b"\xd4\xc3".as_slice())?)?;
+    captures.push(marked(alloc, Form::Numbered(255), b"\x0a\xf0".as_slice())?)?;
+    captures.push(marked(alloc, Form::Hexadecimal, b"".as_slice())?)?;
+    let mut joined = Joined::new(b"mac".as_slice(), captures);
+    let mut all = Vec::new(alloc);
+    assert!(rt; !read_until(&mut joined, &mut all, 21)?);
     assert!(rt; read_until(&mut joined, &mut all, 100)?);
-    assert_eq!(rt; all.as_slice(), b"mac\npcap\n\xd4\xc3".as_slice());
-    assert_eq!(rt; joined.front(), b"\xd4\xc3".as_slice());
+    assert_eq!(rt;
+        all.as_slice(),
+        b"mac\npcap\n\xd4\xc3\nhex 255\n0af0\nhex\n".as_slice()
+    );
+    assert_eq!(rt; joined.front(1), Some(b"\x0a\xf0".as_slice()));
+    assert_eq!(rt; joined.front(3), None);
     Ok(())
 }
 

@@ -1,35 +1,70 @@
 //! Words of the command line, and what they ask for. `checks/rows/sessions.txt` has what timeouts do.
 use clap::Error;
-use racl_words::{Asked, Files, Options, options, words_status};
+use racl_words::{CaptureFile, Files, Interfaces, Options, Origin, options, words_status};
 use session_state::Timeouts;
 use std::alloc::{AllocError, Global};
 
 fn set_after<'a>(alloc: Global, words: &'a [&'a str]) -> Option<Options> {
-    asked_by(alloc, words).map(|asked| asked.options)
+    match options(alloc, words) {
+        Ok(asked) => Some(asked.options),
+        Err(_) => None,
+    }
 }
 
-fn asked_by<'a>(alloc: Global, words: &'a [&'a str]) -> Option<Asked<'a>> {
-    options(alloc, words).ok()
+fn origin_of<'a>(alloc: Global, words: &'a [&'a str]) -> Option<Origin<'a>> {
+    match options(alloc, words) {
+        Ok(asked) => Some(asked.origin),
+        Err(_) => None,
+    }
 }
 
-fn files_of<'a>(alloc: Global, words: &'a [&'a str]) -> Option<Option<Files<'a>>> {
-    asked_by(alloc, words).map(|asked| asked.files)
+fn files_of<'a>(alloc: Global, words: &'a [&'a str]) -> Option<Files<'a>> {
+    match origin_of(alloc, words) {
+        Some(Origin::Files(files)) => Some(files),
+        _ => None,
+    }
+}
+
+fn interfaces_of<'a>(alloc: Global, words: &'a [&'a str]) -> Option<Interfaces<'a>> {
+    match origin_of(alloc, words) {
+        Some(Origin::Interfaces(interfaces)) => Some(interfaces),
+        _ => None,
+    }
 }
 
 #[test]
 fn words_name_files(rt: HostRuntime) {
     let alloc = rt.alloc();
-    let named = Some(Some(Files {
+    let named = Some(Files {
         policy: "p",
         capture: "-",
-    }));
-    assert_eq!(rt; files_of(alloc, &["racl"]), Some(None));
+    });
+    assert!(rt; matches!(origin_of(alloc, &["racl"]), Some(Origin::Standard)));
     assert_eq!(rt; files_of(alloc, &["racl", "p", "-"]), named);
-    assert_eq!(rt; files_of(alloc, &["racl", "--udp", "5", "p", "-"]), named);
-    assert_eq!(rt; files_of(alloc, &["racl", "p", "-", "--udp=5"]), named);
-    assert_eq!(rt; files_of(alloc, &["racl", "p"]), None);
-    assert_eq!(rt; files_of(alloc, &["racl", "p", "c", "d"]), None);
-    assert_eq!(rt; files_of(alloc, &["racl", "-", "-"]), None);
+    assert_eq!(rt; files_of(alloc, &["racl", "p", "--udp=5", "-"]), named);
+    assert!(rt; origin_of(alloc, &["racl", "-", "-"]).is_none());
+}
+
+#[test]
+fn words_name_captures_of_interfaces(rt: HostRuntime) {
+    let alloc = rt.alloc();
+    let words = ["racl", "--interface", "007=a=b", "p", "--interface=0=-"];
+    let captures = [
+        CaptureFile {
+            interface: 7,
+            name: "a=b",
+        },
+        CaptureFile {
+            interface: 0,
+            name: "-",
+        },
+    ];
+    let named = interfaces_of(alloc, &words);
+    assert_eq!(rt; named.as_ref().map(|it| it.policy), Some("p"));
+    assert_eq!(rt;
+        named.as_ref().map(|it| it.captures.as_slice()),
+        Some(captures.as_slice())
+    );
 }
 
 // The number of workers shows in no report.
