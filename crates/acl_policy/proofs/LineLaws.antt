@@ -21,7 +21,7 @@ use Rattle.acl_policy.proofs.PrefixLaws.{prefix_in-complete, prefix_in-sound}
 use Rattle.acl_policy.proofs.RangeLaws.{number_up_to-complete, number_up_to-sound}
 use Rattle.acl_policy.proofs.TrafficLaws.{traffic_in-complete, traffic_in-sound}
 
-direction_in-sound : (word : List ℕ) (direction : Direction) → direction_in word ≡ Some direction → word ≡ direction_word direction
+pub direction_in-sound : (word : List ℕ) (direction : Direction) → direction_in word ≡ Some direction → word ≡ direction_word direction
 direction_in-sound word direction found = elim (chosen (bytes_eq word (codes "in")) (Some Inbound) _ (Some direction) found) [
   | inl inward ↦ bytes_eq-true word (codes "in") inward.0 ∙ ap direction_word (same_some Inbound direction inward.1)
   | inr rest ↦ elim (chosen (bytes_eq word (codes "out")) (Some Outbound) None (Some direction) rest.1) [
@@ -30,11 +30,11 @@ direction_in-sound word direction found = elim (chosen (bytes_eq word (codes "in
   ]
 ]
 
-direction_in-complete : (direction : Direction) → direction_in (direction_word direction) ≡ Some direction
+pub direction_in-complete : (direction : Direction) → direction_in (direction_word direction) ≡ Some direction
 direction_in-complete Inbound = refl
 direction_in-complete Outbound = refl
 
-action_in-sound : (word : List ℕ) (action : Action) → action_in word ≡ Some action → word ≡ action_word action
+pub action_in-sound : (word : List ℕ) (action : Action) → action_in word ≡ Some action → word ≡ action_word action
 action_in-sound word action found = elim (chosen (bytes_eq word (codes "deny")) (Some Deny) _ (Some action) found) [
   | inl deny ↦ bytes_eq-true word (codes "deny") deny.0 ∙ ap action_word (same_some Deny action deny.1)
   | inr rest ↦ elim (chosen (bytes_eq word (codes "permit")) (Some Permit) _ (Some action) rest.1) [
@@ -46,12 +46,12 @@ action_in-sound word action found = elim (chosen (bytes_eq word (codes "deny")) 
   ]
 ]
 
-action_in-complete : (action : Action) → action_in (action_word action) ≡ Some action
+pub action_in-complete : (action : Action) → action_in (action_word action) ≡ Some action
 action_in-complete Deny = refl
 action_in-complete Permit = refl
 action_in-complete Reflect = refl
 
-family_in-sound : (word : List ℕ) (family : Family) → family_in word ≡ Some family → word ≡ family_word family
+pub family_in-sound : (word : List ℕ) (family : Family) → family_in word ≡ Some family → word ≡ family_word family
 family_in-sound word family found = elim (chosen (bytes_eq word (codes "ipv4")) (Some V4) _ (Some family) found) [
   | inl four ↦ bytes_eq-true word (codes "ipv4") four.0 ∙ ap family_word (same_some V4 family four.1)
   | inr rest ↦ elim (chosen (bytes_eq word (codes "ipv6")) (Some V6) None (Some family) rest.1) [
@@ -60,7 +60,7 @@ family_in-sound word family found = elim (chosen (bytes_eq word (codes "ipv4")) 
   ]
 ]
 
-family_in-complete : (family : Family) → family_in (family_word family) ≡ Some family
+pub family_in-complete : (family : Family) → family_in (family_word family) ≡ Some family
 family_in-complete V4 = refl
 family_in-complete V6 = refl
 
@@ -131,7 +131,7 @@ own_line_in-sound words reading found =
       mac_in-sound one.0.0 mac.0 mac.1,
     )
 
-interface_in-sound : (word : List ℕ) (number : ℕ) → interface_in word ≡ Some number → IsInterface word number
+pub interface_in-sound : (word : List ℕ) (number : ℕ) → interface_in word ≡ Some number → IsInterface word number
 unfolding interface_in
 interface_in-sound word number found =
     let read = bind_some (number_up_to_in 255 word) _ number found in
@@ -143,7 +143,7 @@ interface_in-sound word number found =
           subst (IsInterface word) same (is.0, is.1, λ zero. both_ways (read.0 == 0) some.0 (eq-eqb read.0 0 zero))
     ]
 
-interface_in-complete : (word : List ℕ) (number : ℕ) → IsInterface word number → interface_in word ≡ Some number
+pub interface_in-complete : (word : List ℕ) (number : ℕ) → IsInterface word number → interface_in word ≡ Some number
 unfolding interface_in
 interface_in-complete word number (spelt, few, some) =
     rw (number_up_to-complete 255 word number spelt few, ne_eqb number 0 some) refl

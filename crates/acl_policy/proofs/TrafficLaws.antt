@@ -15,7 +15,7 @@ use Rattle.acl_policy.proofs.PartLaws.{StartsOtherwise, StartsOtherwise-append, 
 use Rattle.acl_policy.proofs.PieceLaws.{Lacks-IsNumber}
 use Rattle.acl_policy.proofs.RangeLaws.{number_up_to-complete, number_up_to-sound}
 
-protocol_in-sound : (family : Family) (word : List ℕ) (proto : ℕ) → protocol_in family word ≡ Some proto → IsProtocol family word proto
+pub protocol_in-sound : (family : Family) (word : List ℕ) (proto : ℕ) → protocol_in family word ≡ Some proto → IsProtocol family word proto
 unfolding protocol_in
 protocol_in-sound family word proto found = elim (chosen (bytes_eq word (codes "any")) (Some 0) _ (Some proto) found) [
   | inl any ↦ inl (bytes_eq-true word (codes "any") any.0, sym (same_some 0 proto any.1))
@@ -31,7 +31,7 @@ protocol_in-sound family word proto found = elim (chosen (bytes_eq word (codes "
   ]
 ]
 
-protocol_in-complete : (family : Family) (word : List ℕ) (proto : ℕ) → IsProtocol family word proto → protocol_in family word ≡ Some proto
+pub protocol_in-complete : (family : Family) (word : List ℕ) (proto : ℕ) → IsProtocol family word proto → protocol_in family word ≡ Some proto
 unfolding protocol_in
 protocol_in-complete family word proto (inl any) = ap (protocol_in family) any.0 ∙ ap Some (sym any.1)
 protocol_in-complete family word proto (inr (inl tcp)) = ap (protocol_in family) tcp.0 ∙ ap Some (sym tcp.1)

@@ -23,7 +23,7 @@ pub enum Line {
     Ruled(Direction, Rule),
 }
 
-fn direction_of(word: &[u8]) -> Option<Direction>
+pub fn direction_of(word: &[u8]) -> Option<Direction>
     ensures { result ≡ direction_in word.now }
 {
     match word {
@@ -33,7 +33,7 @@ fn direction_of(word: &[u8]) -> Option<Direction>
     }
 }
 
-fn action_of(word: &[u8]) -> Option<Action>
+pub fn action_of(word: &[u8]) -> Option<Action>
     ensures { result ≡ action_in word.now }
 {
     if word == b"deny".as_slice() {
@@ -48,7 +48,7 @@ fn action_of(word: &[u8]) -> Option<Action>
     None
 }
 
-fn family_of(word: &[u8]) -> Option<Family>
+pub fn family_of(word: &[u8]) -> Option<Family>
     ensures { result ≡ family_in word.now }
 {
     match word {
@@ -125,7 +125,7 @@ fn own_line_of(text: &[u8]) -> Option<Line>
 
 /// The number of an interface whose section begins.
 #[tactic(auto, unfolding(crate::specs::inner::Reading::Lines::interface_in))]
-fn interface_of(word: &[u8]) -> Option<u8>
+pub fn interface_of(word: &[u8]) -> Option<u8>
     ensures { result ≡ interface_in word.now }
 {
     let number = number_up_to(word, u16::from(u8::MAX))?;

@@ -12,7 +12,7 @@ use crate::rule::{Action, Rule};
 use packet_view::{Family, Fields, Tuple};
 
 #[tactic(auto, using(crate::proofs::PrefixBits::begins_alike))]
-fn has_prefix(family: Family, prefix: (u128, u8), address: u128) -> bool
+pub fn has_prefix(family: Family, prefix: (u128, u8), address: u128) -> bool
     requires length { prefix.1 ≤ width family }
     requires fits { prefix.0 < address_limit family }
     requires in_family { address < address_limit family }

@@ -26,7 +26,7 @@ pub fn number_up_to(word: &[u8], most: u16) -> Option<u16>
 
 /// One number, or the least and the greatest with `-` between them.
 #[tactic(auto, unfolding(crate::specs::inner::Reading::Traffic::range_in))]
-fn range_of(word: &[u8], most: u16) -> Option<(u16, u16)>
+pub fn range_of(word: &[u8], most: u16) -> Option<(u16, u16)>
     ensures { result ≡ range_in most word.now }
 {
     let Some((low, high)) = cut_at(word, b'-') else {
@@ -40,7 +40,7 @@ fn range_of(word: &[u8], most: u16) -> Option<(u16, u16)>
 
 /// A value and a mask with `/` between them.
 #[tactic(auto, unfolding(crate::specs::inner::Reading::Traffic::flags_in))]
-fn flags_of(word: &[u8]) -> Option<(u8, u8)>
+pub fn flags_of(word: &[u8]) -> Option<(u8, u8)>
     ensures { result ≡ flags_in word.now }
 {
     let (value, mask) = cut_at(word, b'/')?;

@@ -1,8 +1,8 @@
 //! The policy that a text says.
-ghost use Rattle.std.specs.Prelude.{◌≡◌, ◌≢◌, ◌≤◌, ◌⊎◌, IfOk, IfErr, MatchResult, OnOk, length, map};
+ghost use Rattle.std.specs.Prelude.{◌≡◌, ◌≢◌, ◌≤◌, ◌⊎◌, [], IfOk, IfErr, MatchResult, OnOk, length, map};
 ghost use Rattle.std.specs.Str.{IsUtf8};
 ghost use Rattle.std.specs.Str.Lines.{lines};
-ghost use Rattle.acl_policy.specs.Policies.{IsPolicyFault, IsPolicyText, PolicyFacts, SayPolicy, numbers_of, policy_facts, section_facts};
+ghost use Rattle.acl_policy.specs.Policies.{IsPolicyFault, IsPolicyText, PolicyFacts, SayPolicy, empty_section, numbers_of, policy_facts, section_facts};
 ghost use Rattle.acl_policy.specs.inner.Reading.Lines.{line_in};
 ghost use Rattle.acl_policy.specs.inner.Reading.Policies.{Fails, LinesFail, draft_facts, is_among, line_added, policy_so_far, rule_added};
 ghost use Rattle.acl_policy.specs.Rules.{most_rules, rule_facts};
@@ -14,6 +14,7 @@ use crate::rule::Rule;
 use crate::sections::empty;
 use packet_view::Direction;
 use std::alloc::Global;
+use std::mem;
 
 /// The greatest number of rules of one direction.
 const MOST_RULES: usize = 4096;
@@ -26,6 +27,7 @@ fn add_rule(rules: &mut Vec<Rule>, rule: Rule, number: u64) -> Result<(), Policy
     ensures fault { IfErr result
         (Fails (rule_added number (map rule_facts rules.old.items) (rule_facts rule))) }
     ensures few { length rules.old.items ≤ most_rules → length rules.new.items ≤ most_rules }
+    ensures stays { IfErr result (λ fault. fault ≢ PolicyFault.Memory → rules.new.items ≡ rules.old.items) }
 {
     if rules.len() >= MOST_RULES {
         return Err(PolicyFault::TooMany(number));
@@ -55,55 +57,64 @@ fn has_begun(draft: &Draft, interface: u8) -> bool
     has_section(draft.done.as_slice(), interface) || interface == draft.current.interface
 }
 
-/// The policy of the lines so far with what the next one says. `number` is that line's.
-fn add_line(alloc: Global, draft: Draft, line: &[u8], number: u64) -> Result<Draft, PolicyFault>
-    ensures ok { IfOk result (λ added. line_added number (draft_facts draft) (line_in line.now)
-        ≡ Ok (draft_facts added)) }
-    ensures fault { IfErr result (Fails (line_added number (draft_facts draft) (line_in line.now))) }
+/// Adds what a line says to a policy of the lines before it. `number` is the line's. Where the line is at fault, the
+/// policy stays as it was; where memory ran out, it is of no use.
+pub fn add_line(
+    alloc: Global,
+    draft: &mut Draft,
+    line: &[u8],
+    number: u64,
+) -> Result<(), PolicyFault>
+    ensures ok { OnOk result (line_added number (draft_facts draft.old) (line_in line.now)
+        ≡ Ok (draft_facts draft.new)) }
+    ensures fault { IfErr result (Fails (line_added number (draft_facts draft.old) (line_in line.now))) }
+    ensures stays { IfErr result (λ fault. fault ≢ PolicyFault.Memory → draft_facts draft.new ≡ draft_facts draft.old) }
 {
-    let mut next = draft;
     match line_of(line) {
         None => return Err(PolicyFault::BadLine(number)),
         Some(Line::Blank) => {}
         Some(Line::Begins(interface)) => {
-            if has_begun(&next, interface) {
+            if has_begun(draft, interface) {
                 return Err(PolicyFault::BadLine(number));
             }
-            let Draft { mut done, current } = next;
-            done.push(current)?;
-            return Ok(Draft {
-                done,
-                current: empty(alloc, interface),
-            });
+            let current = mem::replace(&mut draft.current, empty(alloc, interface));
+            draft.done.push(current)?;
         }
         Some(Line::Own(mac)) => {
-            if next.current.own.is_some() {
+            if draft.current.own.is_some() {
                 return Err(PolicyFault::BadLine(number));
             }
-            next.current.own = Some(mac);
+            draft.current.own = Some(mac);
         }
         Some(Line::Ruled(Direction::Inbound, rule)) => {
-            add_rule(&mut next.current.inbound, rule, number)?;
+            add_rule(&mut draft.current.inbound, rule, number)?;
         }
         Some(Line::Ruled(Direction::Outbound, rule)) => {
-            add_rule(&mut next.current.outbound, rule, number)?;
+            add_rule(&mut draft.current.outbound, rule, number)?;
         }
     }
-    Ok(next)
+    Ok(())
+}
+
+/// A policy of which no line was read.
+pub fn empty_draft(alloc: Global) -> Draft
+    ensures { draft_facts result ≡ record { done = []; current = empty_section 0 } }
+{
+    Draft {
+        done: Vec::new(alloc),
+        current: empty(alloc, 0),
+    }
 }
 
 fn read_lines(alloc: Global, text: &str) -> Result<Policy, PolicyFault>
     ensures ok { IfOk result (λ policy. SayPolicy (lines text.now) (policy_facts policy)) }
     ensures fault { IfErr result (LinesFail (lines text.now)) }
 {
-    let mut draft = Draft {
-        done: Vec::new(alloc),
-        current: empty(alloc, 0),
-    };
+    let mut draft = empty_draft(alloc);
     let mut number = 0;
     for line in text.lines() {
         number += 1;
-        draft = add_line(alloc, draft, line.as_bytes(), number)?;
+        add_line(alloc, &mut draft, line.as_bytes(), number)?;
     }
     let Draft {
         done: mut sections,

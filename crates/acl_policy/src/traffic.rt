@@ -25,7 +25,7 @@ pub struct Traffic {
 
 /// The number of a protocol, and 0 for every protocol.
 #[tactic(auto, unfolding(crate::specs::inner::Reading::Traffic::protocol_in))]
-fn protocol_of(family: Family, word: &[u8]) -> Option<u8>
+pub fn protocol_of(family: Family, word: &[u8]) -> Option<u8>
     ensures { result ≡ protocol_in family word.now }
 {
     if word == b"any".as_slice() {

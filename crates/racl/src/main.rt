@@ -5,12 +5,15 @@
 mod parts;
 mod reader;
 
-use crate::parts::{name_at, opened_parts};
+use crate::parts::{name_at, opened_or_told, opened_parts};
 use crate::reader::Reader;
+use clap::Error;
+use policy_check::check_source;
 use racl_cli::{
     Asked, Device, Ending, Fault, Joined, Origin, Remark, Totals, ending, failure_ending, options,
     remark, run, words_ending,
 };
+use racl_words::check_name;
 use std::alloc::Global;
 use std::io;
 use std::process::ExitCode;
@@ -40,15 +43,46 @@ fn status_of_words<T: Threads + Wait + Sync>(
     for word in &words {
         texts.push(word.as_str())?;
     }
-    match options(alloc, texts.as_slice()) {
+    match check_name(alloc, texts.as_slice()) {
+        Ok(None) => status_of_options(rt, threads, alloc, texts.as_slice()),
+        Ok(Some(name)) => status_of_check(rt, alloc, name),
+        Err(error) => refused(rt, &error),
+    }
+}
+
+// Runs as the words ask.
+fn status_of_options<'a, T: Threads + Wait + Sync>(
+    rt: &HostRuntime,
+    threads: &T,
+    alloc: Global,
+    words: &'a [&'a str],
+) -> io::Result<u8> {
+    match options(alloc, words) {
         Ok(asked) => status_of_run(rt, threads, alloc, &asked),
-        Err(error) => {
-            let end = words_ending(&error);
-            if end.message.is_none() {
-                error.print(rt)?;
-            }
-            said(rt, &end)
-        }
+        Err(error) => refused(rt, &error),
+    }
+}
+
+// Tells that words are refused, and answers the status.
+fn refused(rt: &HostRuntime, error: &Error) -> io::Result<u8> {
+    let end = words_ending(error);
+    if end.message.is_none() {
+        error.print(rt)?;
+    }
+    said(rt, &end)
+}
+
+// Checks the policy of a file.
+fn status_of_check(rt: &HostRuntime, alloc: Global, name: &str) -> io::Result<u8> {
+    let Some(policy) = opened_or_told(rt, name)? else {
+        return Ok(4);
+    };
+    let mut reader = Device::new(policy);
+    let mut writer = Device::new(rt.stdout());
+    match check_source(alloc, &mut reader, &mut writer) {
+        Ok(true) => Ok(0),
+        Ok(false) => Ok(1),
+        Err(fault) => said(rt, &ending(&Err(fault))),
     }
 }
 

@@ -12,8 +12,8 @@ pub struct Parts {
     pub captures: Vec<Marked<Reader>>,
 }
 
-// Opens a file that can be read, or standard input. Where it can't, that is told, and None is answered.
-fn opened_or_told(rt: &HostRuntime, name: &str) -> io::Result<Option<Reader>> {
+/// Opens a file that can be read, or standard input. Where it can't, that is told, and None is answered.
+pub fn opened_or_told(rt: &HostRuntime, name: &str) -> io::Result<Option<Reader>> {
     match opened(rt, name) {
         Ok(reader) => Ok(Some(reader)),
         Err(reason) => {

@@ -1,5 +1,6 @@
 //! The tests of the crates from `racl_words` to `racl_cli`.
 
+mod checks;
 mod devices;
 mod files;
 mod parts;

@@ -1,10 +1,12 @@
 //! The words of the command line, and the options and files that they ask for.
 #![tactic(auto)]
 
+mod check_words;
 mod naming;
 mod selection;
 mod settings;
 mod words;
 
+pub use check_words::check_name;
 pub use settings::{Asked, CaptureFile, Files, Interfaces, Options, Origin};
 pub use words::{options, words_status};

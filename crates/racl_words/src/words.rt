@@ -77,7 +77,8 @@ const ABOUT: &str = "Judges the packets of a capture by ordered rules and by ses
 
 const USAGE: &str = "racl [OPTIONS] POLICY CAPTURE
        racl [OPTIONS] --interface N=CAPTURE .. POLICY
-       racl [OPTIONS] < INPUT";
+       racl [OPTIONS] < INPUT
+       racl check POLICY";
 
 const AFTER_HELP: &str =
     "INPUT is a policy, a line `pcap` or `hex`, and the capture in that form; POLICY and CAPTURE are such \
@@ -85,6 +86,7 @@ const AFTER_HELP: &str =
     after --interface counts twice. The report goes to standard output.
 
 Examples:
+  racl check host.policy
   racl host.policy host.pcap
   racl --interface 1=eth1.pcap --interface 2=eth2.pcap router.policy
   racl --workers 4 --udp 60 < examples/first_path.racl

@@ -1,0 +1,7 @@
+pub mod CheckLaws
+pub mod FormLemmas
+pub mod ReaderLemmas
+pub mod RemarkLemmas
+pub mod ShadowLemmas
+pub mod SortedLemmas
+pub mod UnseenLemmas

@@ -1,0 +1,22 @@
+-- What one rule lets through is let through by another.
+use Rattle.std.proofs.Common.{◌≡◌, ◌≤◌, ℕ, ◌+◌, ◌-◌, ◌/◌, ◌^◌, bit_and, sym, ap, ◌∙◌, arith}
+use Rattle.std.proofs.lemmas.Nat.{and_assoc, shr-shr}
+use Rattle.packet_view.specs.declared.tuple.Family.{Family}
+use Rattle.acl_policy.specs.Matching.{HoldsPrefix}
+use Rattle.acl_policy.specs.Widths.{width}
+
+-- numbers that begin alike in more bits do so in fewer
+alike : (w e l a b : ℕ) → e ≤ l → l ≤ w → a / 2 ^ (w - l) ≡ b / 2 ^ (w - l) → a / 2 ^ (w - e) ≡ b / 2 ^ (w - e)
+alike w e l a b less within same =
+    let sum : w - e ≡ (w - l) + (l - e) = omega arith in
+    ap (λ (k : ℕ). a / 2 ^ k) sum ∙ sym (shr-shr a (w - l) (l - e)) ∙ ap (λ (n : ℕ). n / 2 ^ (l - e)) same
+    ∙ shr-shr b (w - l) (l - e) ∙ ap (λ (k : ℕ). b / 2 ^ k) (sym sum)
+
+pub prefix_taken : (family : Family) (earlier later : ℕ × ℕ) (address : ℕ) → earlier.1 ≤ later.1 → later.1 ≤ width family
+    → HoldsPrefix family earlier later.0 → HoldsPrefix family later address → HoldsPrefix family earlier address
+prefix_taken family earlier later address less within first second =
+    first ∙ alike (width family) earlier.1 later.1 later.0 address less within second
+
+pub flags_taken : (flags value mask first kept : ℕ) → bit_and mask kept ≡ kept → bit_and value kept ≡ first → bit_and flags mask ≡ value → bit_and flags kept ≡ first
+flags_taken flags value mask first kept more same has =
+    ap (bit_and flags) (sym more) ∙ sym (and_assoc kept flags mask) ∙ ap (λ (n : ℕ). bit_and n kept) has ∙ same

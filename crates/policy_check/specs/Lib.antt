@@ -1,0 +1,4 @@
+pub mod Complaints
+pub mod Reasons
+pub mod Remarks
+pub mod inner

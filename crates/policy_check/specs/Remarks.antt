@@ -1,0 +1,54 @@
+-- What is right in a policy, but unlikely to be meant.
+use Rattle.std.specs.Prelude.{◌≡◌, ◌≢◌, ◌<◌, ℕ, ◌+◌, ◌-◌, ◌%◌, ◌^◌, List, [], All, slice_get, Option, Some, None}
+use Rattle.packet_view.specs.Tuples.{TupleFacts}
+use Rattle.packet_view.specs.declared.tuple.Direction.{Direction}
+use Rattle.packet_view.specs.declared.tuple.Family.{Family}
+use Rattle.acl_policy.specs.Matching.{Matches}
+use Rattle.acl_policy.specs.Policies.{PolicyFacts, SectionFacts, rules_of}
+use Rattle.acl_policy.specs.Rules.{RuleFacts}
+use Rattle.acl_policy.specs.Widths.{width}
+use Rattle.policy_check.specs.declared.remark.Remark.{Remark}
+use Rattle.policy_check.specs.declared.remark.Remark.TheVariants.{NoMac, NoRule, Shadowed, SourceBits, DestBits}
+
+-- Each packet that the later rule matches is matched by the earlier one.
+abbrev pub TakesAll : RuleFacts → RuleFacts → Type 0
+TakesAll earlier later = (tuple : TupleFacts) → Matches later tuple → Matches earlier tuple
+
+-- A prefix with bits behind its length, which aren't looked at.
+abbrev pub HasBits : Family → ℕ × ℕ → Type 0
+HasBits family prefix = prefix.0 % 2 ^ (width family - prefix.1) ≢ 0
+
+-- The rule at a place, counted from 0, is never the first that matches: one before it takes all its packets.
+abbrev pub IsShadowed : List RuleFacts → ℕ → ℕ → Type 0
+IsShadowed rules place first =
+    (first < place)
+    × ((earlier later : RuleFacts) × (slice_get rules first ≡ Some earlier) × (slice_get rules place ≡ Some later) × TakesAll earlier later)
+
+-- What is said of the rule at a place of a section; rules are told by their numbers from 1.
+abbrev pub IsRuleRemark : SectionFacts → Direction → ℕ → Remark → Type 0
+IsRuleRemark section direction place NoRule = ⊥
+IsRuleRemark section direction place (NoMac interface) = ⊥
+IsRuleRemark section direction place (Shadowed interface way number earlier) =
+    (interface ≡ section.interface) × (way ≡ direction) × (number ≡ place + 1)
+    × ((first : ℕ) × (earlier ≡ first + 1) × IsShadowed (rules_of direction section) place first)
+IsRuleRemark section direction place (SourceBits interface way number) =
+    (interface ≡ section.interface) × (way ≡ direction) × (number ≡ place + 1)
+    × ((rule : RuleFacts) × (slice_get (rules_of direction section) place ≡ Some rule) × HasBits rule.family rule.source)
+IsRuleRemark section direction place (DestBits interface way number) =
+    (interface ≡ section.interface) × (way ≡ direction) × (number ≡ place + 1)
+    × ((rule : RuleFacts) × (slice_get (rules_of direction section) place ≡ Some rule) × HasBits rule.family rule.dest)
+
+-- What is said of a section.
+abbrev pub IsSectionRemark : SectionFacts → Remark → Type 0
+IsSectionRemark section NoRule = ⊥
+IsSectionRemark section (NoMac interface) = (interface ≡ section.interface) × (section.own ≡ None) × (section.outbound ≢ [])
+IsSectionRemark section remark = (direction : Direction) × (place : ℕ) × IsRuleRemark section direction place remark
+
+-- a section without rules
+abbrev pub HasNoRule : SectionFacts → Type 0
+HasNoRule section = (section.inbound ≡ []) × (section.outbound ≡ [])
+
+-- What is said of a policy.
+abbrev pub IsRemark : PolicyFacts → Remark → Type 0
+IsRemark policy NoRule = All HasNoRule policy.sections
+IsRemark policy remark = (k : ℕ) × (section : SectionFacts) × (slice_get policy.sections k ≡ Some section) × IsSectionRemark section remark

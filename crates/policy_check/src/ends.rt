@@ -1,0 +1,66 @@
+//! The prefixes of a rule.
+ghost use Rattle.std.specs.Prelude.{◌≡◌, ◌∷◌, ℕ, List, IfErr, IfOk, IsTrue, MatchOption};
+ghost use Rattle.acl_policy.specs.Prefixes.{IsPrefix};
+ghost use Rattle.acl_policy.specs.Words.{words_of};
+ghost use Rattle.policy_check.specs.Reasons.{IsEndReason, IsLong, IsPrefixReason};
+
+use crate::finding::{Finding, missing, of};
+use crate::readers::{address, cut, next, number, prefix};
+use crate::reason::Reason;
+use acl_policy::width_of;
+use packet_view::Family;
+
+fn is_long(family: Family, word: &[u8]) -> bool
+    ensures { IsTrue result → IsLong family word.now }
+{
+    let Some((front, bits)) = cut(word, b'/') else {
+        return false;
+    };
+    match (address(family, front), number(bits)) {
+        (Some(_), Some(length)) => length > u32::from(width_of(family)),
+        _ => false,
+    }
+}
+
+fn other_family(family: Family) -> Family {
+    match family {
+        Family::V4 => Family::V6,
+        Family::V6 => Family::V4,
+    }
+}
+
+// Why a word is no prefix. `None`: it is one.
+fn prefix_reason(family: Family, word: &[u8]) -> Option<Reason>
+    ensures { MatchOption result ((p : ℕ × ℕ) × IsPrefix family word.now p) (IsPrefixReason family word.now) }
+{
+    let None = prefix(family, word) else {
+        return None;
+    };
+    if is_long(family, word) {
+        return Some(Reason::LongPrefix(width_of(family)));
+    }
+    match prefix(other_family(family), word) {
+        Some(_) => Some(Reason::OtherFamily),
+        None => Some(Reason::NoPrefix),
+    }
+}
+
+/// The text after the prefixes; what is wrong with them, where that is so.
+pub fn ends(family: Family, text: &[u8]) -> Result<&[u8], Finding<'_>>
+    ensures right { IfOk result (λ rest. (source dest : List ℕ) × (words_of text.now ≡ source ∷ dest ∷ words_of rest.now)) }
+    ensures wrong { IfErr result (λ found. IsEndReason family (words_of text.now) found.reason found.word.now) }
+{
+    let Some((source, text)) = next(text) else {
+        return Err(missing());
+    };
+    if let Some(reason) = prefix_reason(family, source) {
+        return Err(of(reason, source));
+    }
+    let Some((dest, text)) = next(text) else {
+        return Err(missing());
+    };
+    match prefix_reason(family, dest) {
+        Some(reason) => Err(of(reason, dest)),
+        None => Ok(text),
+    }
+}

@@ -1,0 +1,98 @@
+//! The words of a line, and what a word says.
+ghost use Rattle.std.specs.Prelude.{◌≡◌, ◌++◌, ◌∷◌, [], IfSome, IsTrue, MatchOption};
+ghost use Rattle.acl_policy.specs.Lines.{IsInterface, action_word, direction_word, family_word};
+ghost use Rattle.acl_policy.specs.Numerals.{IsNumber};
+ghost use Rattle.acl_policy.specs.Prefixes.{IsAddress, IsMac, IsPrefix};
+ghost use Rattle.acl_policy.specs.Traffic.{IsFlags, IsProtocol, IsRange};
+ghost use Rattle.acl_policy.specs.Words.{words_of};
+ghost use Rattle.policy_check.specs.Reasons.{Reads};
+
+use acl_policy::Action;
+use packet_view::{Direction, Family, Mac};
+
+/// The first word of a text, and what follows it.
+pub fn next(text: &[u8]) -> Option<(&[u8], &[u8])>
+    ensures { MatchOption result (words_of text.now ≡ []) (λ r. words_of text.now ≡ r.0.now ∷ words_of r.1.now) }
+{
+    acl_policy::next_word(text)
+}
+
+/// Whether a word is this one.
+pub fn is_word(word: &[u8], name: &[u8]) -> bool
+    ensures { IsTrue result → word.now ≡ name.now }
+{
+    word == name
+}
+
+/// What stands in front of a byte of a word, and what behind it.
+pub fn cut(word: &[u8], byte: u8) -> Option<(&[u8], &[u8])>
+    ensures { IfSome result (λ r. word.now ≡ r.0.now ++ byte ∷ r.1.now) }
+{
+    acl_policy::cut_at(word, byte)
+}
+
+pub fn direction(word: &[u8]) -> Option<Direction>
+    ensures { Reads result (λ d. word.now ≡ direction_word d) }
+{
+    acl_policy::direction_of(word)
+}
+
+pub fn action(word: &[u8]) -> Option<Action>
+    ensures { Reads result (λ a. word.now ≡ action_word a) }
+{
+    acl_policy::action_of(word)
+}
+
+pub fn family(word: &[u8]) -> Option<Family>
+    ensures { Reads result (λ f. word.now ≡ family_word f) }
+{
+    acl_policy::family_of(word)
+}
+
+pub fn prefix(family: Family, word: &[u8]) -> Option<(u128, u8)>
+    ensures { Reads result (IsPrefix family word.now) }
+{
+    acl_policy::prefix_of(family, word)
+}
+
+pub fn address(family: Family, word: &[u8]) -> Option<u128>
+    ensures { Reads result (IsAddress family word.now) }
+{
+    acl_policy::address_of(family, word)
+}
+
+pub fn number(word: &[u8]) -> Option<u32>
+    ensures { Reads result (IsNumber word.now) }
+{
+    acl_policy::number_of(word)
+}
+
+pub fn protocol(family: Family, word: &[u8]) -> Option<u8>
+    ensures { Reads result (IsProtocol family word.now) }
+{
+    acl_policy::protocol_of(family, word)
+}
+
+pub fn range(word: &[u8], most: u16) -> Option<(u16, u16)>
+    ensures { Reads result (IsRange most word.now) }
+{
+    acl_policy::range_of(word, most)
+}
+
+pub fn flags(word: &[u8]) -> Option<(u8, u8)>
+    ensures { Reads result (IsFlags word.now) }
+{
+    acl_policy::flags_of(word)
+}
+
+pub fn mac(word: &[u8]) -> Option<Mac>
+    ensures { Reads result (IsMac word.now) }
+{
+    acl_policy::mac_of(word)
+}
+
+pub fn interface(word: &[u8]) -> Option<u8>
+    ensures { Reads result (IsInterface word.now) }
+{
+    acl_policy::interface_of(word)
+}
