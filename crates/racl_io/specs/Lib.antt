@@ -6,4 +6,5 @@ pub mod Joined
 pub mod Others
 pub mod Reports
 pub mod Transfers
+pub mod Writings
 pub mod inner
