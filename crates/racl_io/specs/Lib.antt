@@ -4,6 +4,7 @@ pub mod Fronts
 pub mod Inputs
 pub mod Joined
 pub mod Others
+pub mod Remaining
 pub mod Reports
 pub mod ShownReports
 pub mod Transfers

@@ -1,4 +1,4 @@
--- What readers of captures have left.
+-- What readers of a policy and of captures have left (this project's profile).
 use Rattle.std.specs.Prelude.{ℕ, List, [], ◌∷◌, ◌++◌, map, drop, Option, None, Some, option_map, slice_get}
 use Rattle.std.specs.Global.{Vec}
 use Rattle.std.specs.Io.Chain.{chain_remaining, chain_second}
