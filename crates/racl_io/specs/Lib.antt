@@ -6,6 +6,7 @@ pub mod Joined
 pub mod Others
 pub mod Reports
 pub mod ShownReports
+pub mod Sinks
 pub mod Transfers
 pub mod Writings
 pub mod inner
