@@ -259,7 +259,7 @@ pub one_input : (bytes : List ℕ) (a b : InputFacts) → IsInput bytes a → Is
 one_input bytes a b is other = one_parting Every bytes a b is other
 
 -- content is cut in one way
-pub one_cut : (content digits others : List ℕ) (a b : Option NumberedFacts) → IsCut content digits a → IsCut content others b → (digits ≡ others) × (a ≡ b)
+one_cut : (content digits others : List ℕ) (a b : Option NumberedFacts) → IsCut content digits a → IsCut content others b → (digits ≡ others) × (a ≡ b)
 one_cut content digits others None None (is, none) (are, nor) = (is ∙ sym are, refl)
 one_cut content digits others None (Some b) (is, none) cut = absurd (none _ cut)
 one_cut content digits others (Some a) None cut (is, none) = absurd (none _ cut)

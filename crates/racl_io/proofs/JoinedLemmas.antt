@@ -8,7 +8,7 @@ use Rattle.hex.proofs.HexLemmas.{length-encode_with}
 use Rattle.racl_io.specs.declared.input.Form.{Form}
 use Rattle.racl_io.specs.declared.input.Form.TheVariants.{Binary, Hexadecimal, Numbered}
 use Rattle.racl_io.specs.Joined.{content_in}
-use Rattle.racl_io.specs.Remaining.{kept_digit}
+use Rattle.racl_io.specs.Writings.{kept_digit}
 
 digits-append : (table xs ys : List ℕ) → encode_with table (xs ++ ys) ≡ encode_with table xs ++ encode_with table ys
 unfolding encode_with

@@ -4,9 +4,9 @@ pub mod Fronts
 pub mod Inputs
 pub mod Joined
 pub mod Others
-pub mod Remaining
 pub mod Reports
 pub mod ShownReports
+pub mod Sinks
 pub mod Transfers
 pub mod Writings
 pub mod inner

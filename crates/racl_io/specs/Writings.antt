@@ -1,24 +1,34 @@
--- What writing a report did to a sink: to the bytes that it has, where they are known, and to its failures.
-use Rattle.std.specs.Prelude.{◌≡◌, ◌≢◌, ◌+◌, ◌⊎◌, ◌↔◌, ℕ, List, Option, Result, Err, IfOk, IfErr, OnErr, OnOk, ⊤}
-use Rattle.std.specs.Io.KnownBytes.{Appends}
-use Rattle.racl_io.specs.declared.fault.Fault.{Fault}
-use Rattle.racl_io.specs.declared.fault.Fault.TheVariants.{Memory, Write}
-use Rattle.racl_io.specs.declared.report.Totals.{Totals}
+-- What readers of a policy and of captures have left (this project's profile).
+use Rattle.std.specs.Prelude.{ℕ, List, [], ◌∷◌, ◌++◌, map, drop, Option, None, Some, option_map, slice_get}
+use Rattle.std.specs.Global.{Vec}
+use Rattle.std.specs.Io.Chain.{chain_remaining, chain_second}
+use Rattle.std.specs.Io.Cursor.{cursor_remaining}
+use Rattle.std.specs.declared.io.impls.Cursor.{Cursor}
+use Rattle.std.specs.declared.io.traits.Chain.{Chain}
+use Rattle.racl_io.specs.Fronts.{front_of}
+use Rattle.racl_io.specs.Joined.{bytes_in_turn, content_in}
+use Rattle.racl_io.specs.declared.in_turn.InTurn.{InTurn}
+use Rattle.racl_io.specs.declared.joined.Joined.{Joined}
+use Rattle.racl_io.specs.declared.written.Written.{Written}
 
--- The text stands after what the sink had, and the answer is its totals; or memory ran out before anything was written; or
--- a write failed, once.
-pub record Writes {W : Type 0} (bytes : W → Option (List ℕ)) (failures : W → ℕ) (old new : W) (text : List ℕ) (totals : Totals) (result : Result Totals Fault) : Type 0 where
-  pub whole : OnOk result (Appends (bytes old) (bytes new) text)
-  pub counted : IfOk result (λ answered. answered ≡ totals)
-  pub fault : IfErr result (λ e. (e ≡ Memory) ⊎ (e ≡ Write))
-  pub write : (result ≡ Err Write) ↔ (failures new ≡ failures old + 1)
-  pub steady : result ≢ Err Write → failures new ≡ failures old
-  pub unwritten : IfErr result (λ e. e ≢ Write → new ≡ old)
+-- a digit that is to be given yet
+abbrev pub kept_digit : Option ℕ → List ℕ
+kept_digit None = []
+kept_digit (Some digit) = digit ∷ []
 
--- a sink got this text, or it failed once more
-abbrev pub HasPut : {W : Type 0} → (W → Option (List ℕ)) → (W → ℕ) → W → W → List ℕ → Result ⊤ Fault → Type 0
-HasPut bytes failures old new text result =
-    OnOk result (Appends (bytes old) (bytes new) text)
-    × OnOk result (failures new ≡ failures old)
-    × OnErr result (failures new ≡ failures old + 1)
-    × IfErr result (λ e. e ≡ Write)
+abbrev pub left_of : {R : Type 0} → (R → Option (List ℕ)) → Written R → Option (List ℕ)
+left_of remaining w = option_map (λ bytes. kept_digit w.low ++ content_in w.form bytes) (remaining w.reader.inner)
+
+-- what a capture behind its marker line has left, and a policy and captures
+abbrev pub marked_left : {R : Type 0} → (R → Option (List ℕ)) → Chain (Cursor (Vec ℕ)) (Written R) → Option (List ℕ)
+marked_left remaining m = chain_remaining (cursor_remaining (λ (line : Vec ℕ). Some line.items)) (left_of remaining) m
+
+abbrev pub in_turn_left : {T : Type 0} → (T → Option (List ℕ)) → InTurn T → Option (List ℕ)
+in_turn_left remaining t = bytes_in_turn (map remaining (drop t.ended t.readers.items))
+
+abbrev pub joined_left : {R : Type 0} → (R → Option (List ℕ)) → Joined R → Option (List ℕ)
+joined_left remaining j = chain_remaining remaining (in_turn_left (marked_left remaining)) j.device.inner
+
+-- the first bytes that were read of the capture at this place
+abbrev pub front_at : {R : Type 0} → Joined R → ℕ → Option (List ℕ)
+front_at {R} j place = option_map (λ (m : Chain (Cursor (Vec ℕ)) (Written R)). front_of (chain_second m).reader) (slice_get (chain_second j.device.inner).readers.items place)

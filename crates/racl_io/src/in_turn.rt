@@ -1,6 +1,6 @@
 //! Readers that are read one after the other.
 ghost use Rattle.std.specs.Prelude.{◌≡◌};
-ghost use Rattle.racl_io.specs.Remaining.{in_turn_left};
+ghost use Rattle.racl_io.specs.Writings.{in_turn_left};
 
 use std::io;
 use std::io::Read;

@@ -2,7 +2,7 @@
 ghost use Rattle.std.specs.Prelude.{◌≡◌, IfOk, map, option_map};
 ghost use Rattle.racl_io.specs.Joined as told;
 ghost use Rattle.racl_io.specs.Joined.{joined_bytes, marked_bytes};
-ghost use Rattle.racl_io.specs.Remaining.{front_at, joined_left, marked_left};
+ghost use Rattle.racl_io.specs.Writings.{front_at, joined_left, marked_left};
 
 use crate::device::{Device, DeviceFault, Source};
 use crate::in_turn::InTurn;

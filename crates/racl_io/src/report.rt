@@ -3,7 +3,7 @@ ghost use Rattle.std.specs.Prelude.{◌≡◌, ◌≢◌, ◌+◌, ◌-◌, ◌*
 ghost use Rattle.std.specs.Io.KnownBytes.{Appends};
 ghost use Rattle.racl_io.specs.Reports;
 ghost use Rattle.racl_io.specs.Reports.{captures_from, line_of, lines_from, name_of, packets_in, report_of, text_of, totals_of, totals_line, truncation_line};
-ghost use Rattle.racl_io.specs.Writings.{HasPut};
+ghost use Rattle.racl_io.specs.Sinks.{HasPut};
 ghost use Rattle.racl_io.specs.inner.Lines.{HasTold, HasWritten};
 ghost use Rattle.racl_io.specs.declared.fault.Fault.TheVariants.{Memory, Write};
 

@@ -3,7 +3,7 @@ ghost use Rattle.std.specs.Prelude.{◌≡◌, ◌+◌, ◌-◌, ◌<◌, ◌≤
 ghost use Rattle.racl_io.specs.Reports;
 ghost use Rattle.racl_io.specs.Reports.{packets_in, totals_of};
 ghost use Rattle.racl_io.specs.ShownReports.{captures_shown, is_shown, line_shown, lines_shown, report_shown};
-ghost use Rattle.racl_io.specs.Writings.{Writes};
+ghost use Rattle.racl_io.specs.Sinks.{Writes};
 ghost use Rattle.racl_io.specs.inner.Lines.{HasTold};
 
 use crate::device::Sink;

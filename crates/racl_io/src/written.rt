@@ -5,7 +5,7 @@ ghost use Rattle.std.specs.Io.KnownBytes.{ReadConsumes};
 ghost use Rattle.hex.specs.Hex.{encode_lower};
 ghost use Rattle.racl_io.specs.Joined.{content_in};
 ghost use Rattle.racl_io.specs.declared.input.Form.TheVariants.{Binary};
-ghost use Rattle.racl_io.specs.Remaining.{left_of};
+ghost use Rattle.racl_io.specs.Writings.{left_of};
 
 use crate::front::FrontKept;
 use crate::input::Form;

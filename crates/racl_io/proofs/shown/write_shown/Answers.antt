@@ -1,7 +1,7 @@
 use Rattle.std.proofs.Common.{◌∙◌, ap, sym, subst}
 use Rattle.racl_io.specs.Reports.{totals_of}
 use Rattle.racl_io.specs.ShownReports.{report_shown}
-use Rattle.racl_io.specs.Writings.{Writes}
+use Rattle.racl_io.specs.Sinks.{Writes}
 use Rattle.racl_io.proofs.ShownLemmas.{every_shown}
 use Rattle.racl_io.proofs.shown.write_shown.Goals as goal
 

@@ -1,6 +1,6 @@
 use Rattle.std.proofs.Common.{◌≡◌, ◌-◌, length}
 use Rattle.std.specs.Io.KnownBytes.{Keeps}
-use Rattle.racl_io.specs.Remaining.{in_turn_left}
+use Rattle.racl_io.specs.Writings.{in_turn_left}
 use Rattle.racl_io.proofs.in_turn.InTurnRead.read.Given as goal
 
 -- what the readers have left is as it was

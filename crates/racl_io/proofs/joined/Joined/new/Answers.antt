@@ -1,7 +1,7 @@
 use Rattle.std.proofs.Common.{◌∙◌, ap}
 use Rattle.std.specs.Io.Chain.{chain_remaining}
 use Rattle.std.specs.Fmt.{option_append}
-use Rattle.racl_io.specs.Remaining.{in_turn_left, marked_left}
+use Rattle.racl_io.specs.Writings.{in_turn_left, marked_left}
 use Rattle.racl_io.proofs.joined.Joined.new.Goals as goal
 
 pub returns-clause-bytes : goal.returns-clause-bytes

@@ -3,7 +3,7 @@ use Rattle.std.specs.Prelude.{slice_index}
 use Rattle.std.specs.Io.KnownBytes.{Consumes}
 use Rattle.hex.specs.Hex.{encode_lower}
 use Rattle.racl_io.specs.Joined.{content_in}
-use Rattle.racl_io.specs.Remaining.{left_of}
+use Rattle.racl_io.specs.Writings.{left_of}
 use Rattle.racl_io.proofs.JoinedLemmas.{all_of_one, content-nil, digit_given, left-consumed, left-ended, one_byte, one_given}
 use Rattle.racl_io.proofs.written.Written.read_digit.Goals as goal
 
