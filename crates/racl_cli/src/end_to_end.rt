@@ -107,7 +107,7 @@ pub fn run<R: Source + Send, W: Sink, T: Threads + Wait + Sync>(
 
     // An input that is right is answered by its report, or memory ran out or a device failed.
     ensures accepts { IfSome (R.bytes reader.old) (λ bytes. (outcome : Outcome)
-        → HasOutcome options.now.times bytes outcome
+        → HasOutcome options.now.tables options.now.times bytes outcome
         → MatchResult result (HasReported options.now bytes outcome (W.bytes writer.old) (W.bytes writer.new)) IsSystemFault) }
 
     // A fault of the input is answered where its cause stands first, and then nothing else of the input.

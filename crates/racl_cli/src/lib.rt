@@ -10,6 +10,7 @@ mod laws;
 mod message;
 mod opening;
 mod outcome;
+mod sized;
 mod streaming;
 
 pub use end_to_end::run;
@@ -17,4 +18,4 @@ pub use exits::{ending, failure_ending, remark, status, words_ending};
 pub use laws::each_input_has_one_outcome;
 pub use message::{Ending, Message, Remark, Unopened};
 pub use racl_io::{Device, DeviceFault, Fault, Joined, Other, Sink, Source, Totals};
-pub use racl_words::{Asked, Files, Options, options, words_status};
+pub use racl_words::{Asked, Files, Options, TableSize, options, words_status};

@@ -7,7 +7,7 @@ use Rattle.std.proofs.lemmas.Bool.{cases_lt}
 use Rattle.std.proofs.lemmas.List.{get_or-map, length-map}
 use Rattle.std.proofs.lemmas.Map.Keys.{apart_from_distinct}
 use Rattle.std.proofs.lemmas.Slice.Eq.{bytes_eq-Decides}
-use Rattle.clap.specs.Words.{App, FailsBy, HasKind, HasMatchesOf, IsParsedFrom, Rule, Text, all_of, app_of, args_of, fault_of, found_of, is_simple, is_simple_and_free, kind_of, matched_of, matches_of, one_of, one_text, raw_values, rule_of, shape_of}
+use Rattle.clap.specs.Words.{App, FailsBy, HasKind, HasMatchesOf, IsParsedFrom, Rule, Text, all_of, app_of, args_of, fault_of, first_of, first_value, found_of, is_simple, is_simple_and_free, kind_of, matched_of, matches_of, one_of, one_text, raw_values, rule_of, shape_of}
 use Rattle.clap.specs.declared.builder.arg.Arg.{Arg}
 use Rattle.clap.specs.declared.builder.command.Command.{Command}
 use Rattle.clap.specs.Kinds.{Kinds}
@@ -16,8 +16,10 @@ use Rattle.clap.specs.declared.error.kind.ErrorKind.TheVariants.{OutOfMemory}
 use Rattle.clap.specs.declared.parser.matches.ArgMatches.{ArgMatches}
 use Rattle.clap.proofs.OnLiterals.{clap_on_literals}
 use Rattle.clap.proofs.SimpleLemmas.{all_simple, plain_fields, simple_groups}
-use Rattle.clap.proofs.WalkLemmas.{one_text-rows, raw_values-rows}
-use Rattle.racl_words.specs.CommandLine.{AskFor, AskForRun, FileFacts, HoldsNumber, HoldsNumbers, Name, OptionFacts, OptionName, Workers, Established, Transient, Udp, Spells, SpellsOptions, files_id, most_of, name_of, names_at, number_of, option_rule, racl, text_at}
+use Rattle.clap.proofs.WalkLemmas.{first_value-rows, one_text-rows, raw_values-rows}
+use Rattle.racl_words.specs.CommandLine.{AskFor, AskForRun, FileFacts, HoldsNumber, HoldsNumbers, Name, OptionFacts, OptionName, Workers, Established, Transient, Udp, Spells, SpellsOptions, files_id, most_of, name_of, names_at, number_of, option_rule, racl, size_at, size_name, tables_id, text_at}
+use Rattle.racl_words.specs.declared.settings.TableSize.{TableSize}
+use Rattle.racl_words.specs.declared.settings.TableSize.TheVariants.{Standard, Large}
 use Rattle.racl_words.proofs.NumberLemmas.{number_held, option_by_rule}
 
 racl_is_simple : is_simple racl ≡ true
@@ -52,39 +54,39 @@ module _ (c : Command) (is : app_of c ≡ racl) where
   rules_are : map rule_of (args_of c) ≡ racl.top.rules
   rules_are = ap (λ (a : App). a.top.rules) is
 
-  five : length (args_of c) ≡ 5
-  five = sym (length-map (args_of c) rule_of) ∙ ap length rules_are
+  six : length (args_of c) ≡ 6
+  six = sym (length-map (args_of c) rule_of) ∙ ap length rules_are
 
-  rule_at : (k : ℕ) (d : Arg) → k < 5 → rule_of (slice_index_or (args_of c) k d) ≡ slice_index_or racl.top.rules k (rule_of d)
+  rule_at : (k : ℕ) (d : Arg) → k < 6 → rule_of (slice_index_or (args_of c) k d) ≡ slice_index_or racl.top.rules k (rule_of d)
   rule_at k d lt =
-      let below : k < length (args_of c) = rw five lt in
+      let below : k < length (args_of c) = rw six lt in
       sym (get_or-map rule_of (args_of c) k d (rule_of d) below) ∙ ap (λ rs. slice_index_or rs k (rule_of d)) rules_are
 
   -- where the id of an argument stands among the ids
-  id_at : (k : ℕ) (d : Arg) (t : Text) → k < 5 → slice_index_or ids (suc (suc (suc k))) t ≡ (slice_index_or (args_of c) k d).id.now
+  id_at : (k : ℕ) (d : Arg) (t : Text) → k < 6 → slice_index_or ids (suc (suc (suc k))) t ≡ (slice_index_or (args_of c) k d).id.now
   id_at k d t lt = get_or-map (λ (r : Rule). r.id) racl.top.rules k (rule_of d) t lt ∙ sym (ap (λ (r : Rule). r.id) (rule_at k d lt))
 
   -- no argument has the id of one that stands elsewhere
-  unique : (j k : ℕ) (d e : Arg) → j < 5 → k < 5 → (slice_index_or (args_of c) j e).id.now ≡ (slice_index_or (args_of c) k d).id.now → j ≡ k
+  unique : (j k : ℕ) (d e : Arg) → j < 6 → k < 6 → (slice_index_or (args_of c) j e).id.now ≡ (slice_index_or (args_of c) k d).id.now → j ≡ k
   unique j k d e j_in k_in same =
       let places : suc (suc (suc j)) ≡ suc (suc (suc k)) = same_place _ _ [] (omega arith) (omega arith) (id_at j e [] j_in ∙ same ∙ sym (id_at k d [] k_in)) in
       omega arith
 
   -- nor one of the ids that stand before the options'
-  own : (j k : ℕ) (d : Arg) → j < 3 → k < 5 → (slice_index_or (args_of c) k d).id.now ≡ slice_index_or ids j [] → ⊥
+  own : (j k : ℕ) (d : Arg) → j < 3 → k < 6 → (slice_index_or (args_of c) k d).id.now ≡ slice_index_or ids j [] → ⊥
   own j k d j_in k_in same =
       let places : j ≡ suc (suc (suc k)) = same_place _ _ [] (omega arith) (omega arith) (sym same ∙ sym (id_at k d [] k_in)) in
       absurd (omega arith)
 
   -- the matches hold a number for the option at a place
-  held_at : (m : ArgMatches) → IsParsedFrom c m → (k : ℕ) (d : Arg) (o : OptionName) → k < 5 → slice_index_or racl.top.rules k (rule_of d) ≡ option_rule o
+  held_at : (m : ArgMatches) → IsParsedFrom c m → (k : ℕ) (d : Arg) (o : OptionName) → k < 6 → slice_index_or racl.top.rules k (rule_of d) ≡ option_rule o
       → HoldsNumber (most_of o) (one_text (found_of m) (name_of o))
   held_at m p k d o lt here =
       let plain = plain_fields c (ap (λ (a : App). a.top.is_plain) is) in
       let simple : all_simple (shape_of c).rules ≡ true = ap (λ (a : App). all_simple a.top.rules) is in
       let option = option_by_rule o (slice_index_or (args_of c) k d) (rule_at k d lt ∙ here) in
-      number_held c m p plain.globals (simple_groups c simple) plain.groups k d o option (rw five lt)
-      (λ j e low same. unique j k d e (rw five at low) lt ((bytes_eq-Decides _ (name_of o)).0 same ∙ sym option.name))
+      number_held c m p plain.globals (simple_groups c simple) plain.groups k d o option (rw six lt)
+      (λ j e low same. unique j k d e (rw six at low) lt ((bytes_eq-Decides _ (name_of o)).0 same ∙ sym option.name))
       (λ empty. own 0 k d (omega arith) lt (option.name ∙ empty))
       (λ auto. elim auto [ inl h ↦ own 1 k d (omega arith) lt h | inr h ↦ own 2 k d (omega arith) lt h ])
 
@@ -95,7 +97,7 @@ numbers_held c m is p = go (args_of c) refl
     go : (xs : List Arg) → args_of c ≡ xs → HoldsNumbers (one_text (found_of m))
     go [] e =
         let none : length (args_of c) ≡ 0 = ap length e in
-        absurd (omega (arith, five c is))
+        absurd (omega (arith, six c is))
     go (d ∷ rest) e = record {
       workers = held_at c is m p 0 d Workers (omega arith) refl;
       established = held_at c is m p 1 d Established (omega arith) refl;
@@ -110,6 +112,12 @@ same_options c words m facts is has = subst (λ text. SpellsOptions text facts) 
   where
     same : (name : Text) → one_text (found_of m) name ≡ text_at words name
     same name = one_text-rows (found_of m) name ∙ ap (one_of name) ((has (ap is_simple is ∙ racl_is_simple)).0 ∙ ap (λ a. matches_of a words) is)
+
+-- and so is the name of a size
+pub same_size : (c : Command) (words : List Text) (m : ArgMatches) → app_of c ≡ racl → HasMatchesOf (app_of c) words m
+    → first_value (found_of m) tables_id ≡ size_at words
+same_size c words m is has = first_value-rows (found_of m) tables_id
+    ∙ ap (first_of tables_id) ((has (ap is_simple is ∙ racl_is_simple)).0 ∙ ap (λ a. matches_of a words) is)
 
 -- and so are the names of files
 pub same_names : (c : Command) (words : List Text) (m : ArgMatches) → app_of c ≡ racl → HasMatchesOf (app_of c) words m
@@ -147,6 +155,13 @@ same_files names (Some a) (Some b) p q =
     let capture : a.capture ≡ b.capture = cc in
     λ i. Some (record { policy = policy i; capture = capture i })
 
+-- a name is that of one size
+one_size : (a b : TableSize) (name : Option Text) → name ≡ Some (size_name a) → name ≡ Some (size_name b) → a ≡ b
+one_size Standard Standard name p q = refl
+one_size Large Large name p q = refl
+one_size Standard Large name p q = let bad : Some (size_name Standard) ≡ Some (size_name Large) = sym p ∙ q in cc
+one_size Large Standard name p q = let bad : Some (size_name Large) ≡ Some (size_name Standard) = sym p ∙ q in cc
+
 -- words ask for one setting of the options
 pub one_setting : (words : List Text) (a b : OptionFacts) → AskFor words a → AskFor words b → a ≡ b
 one_setting words a b p q =
@@ -154,7 +169,8 @@ one_setting words a b p q =
     let established = one_number Established a.established b.established _ p.options.established q.options.established in
     let transient = one_number Transient a.transient b.transient _ p.options.transient q.options.transient in
     let udp = one_number Udp a.udp b.udp _ p.options.udp q.options.udp in
-    λ i. record { workers = workers i; established = established i; transient = transient i; udp = udp i }
+    let tables = one_size a.tables b.tables (size_at words) p.tables q.tables in
+    λ i. record { workers = workers i; established = established i; transient = transient i; udp = udp i; tables = tables i }
 
 -- words ask for one run
 pub one_run : (words : List Text) (a b : OptionFacts) (m n : Option FileFacts) → AskForRun words a m → AskForRun words b n → (a ≡ b) × (m ≡ n)

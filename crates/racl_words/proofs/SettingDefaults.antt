@@ -9,11 +9,13 @@ use Rattle.clap.specs.Kinds.{or_else}
 use Rattle.clap.specs.Simple.{entered, filled, help_rule, version_rule}
 use Rattle.clap.specs.Walk.{Walk, default_rows, finished, has_row, more_values, nothing_held, reading_by, settled, walked, with_default, with_values}
 use Rattle.clap.specs.Words.{Row, Rule, Text, built, fault_of}
-use Rattle.clap.specs.declared.builder.value_parser.Reading.TheVariants.{WithoutMinus}
+use Rattle.clap.specs.declared.builder.value_parser.Reading.{Reading}
+use Rattle.clap.specs.declared.builder.value_parser.Reading.TheVariants.{AsWritten, WithoutMinus}
 use Rattle.clap.specs.declared.error.kind.ErrorKind.{ErrorKind}
 use Rattle.clap.specs.declared.parser.matches.ValueSource.TheVariants.{DefaultValue}
 use Rattle.clap.proofs.OnLiterals.{clap_on_literals}
-use Rattle.racl_words.specs.CommandLine.{OptionName, Workers, Established, Transient, Udp, default_of, files_id, name_of, racl}
+use Rattle.racl_words.specs.CommandLine.{Workers, Established, Transient, Udp, files_id, racl}
+use Rattle.racl_words.specs.Options.{SettingName, Number, Tables, setting_default, setting_id}
 use Rattle.racl_words.proofs.SettingWalks.{at_row_missing, between, default_row, files_filled, filled_rule, top}
 
 or_right : (b : Bool) → (b || true) ≡ true
@@ -28,11 +30,12 @@ pass_either true xs none = refl
 pass_either false xs none = none
 
 -- a default passes, whether or not it is wanted
-default_passes : (o : OptionName) (rows : List Row) → default_fault rows (filled_rule o) ≡ []
-default_passes Workers rows = pass_either _ _ refl
-default_passes Established rows = pass_either _ _ refl
-default_passes Transient rows = pass_either _ _ refl
-default_passes Udp rows = pass_either _ _ refl
+default_passes : (o : SettingName) (rows : List Row) → default_fault rows (filled_rule o) ≡ []
+default_passes (Number Workers) rows = pass_either _ _ refl
+default_passes (Number Established) rows = pass_either _ _ refl
+default_passes (Number Transient) rows = pass_either _ _ refl
+default_passes (Number Udp) rows = pass_either _ _ refl
+default_passes Tables rows = pass_either _ _ refl
 
 -- nor does a flag, which has none
 flag_passes : (r : Rule) (rows : List Row) → r.defaults ≡ [] → default_fault rows r ≡ []
@@ -40,29 +43,32 @@ flag_passes r rows none = rw (none, or_right (has_row r.id rows)) refl
 
 -- the rows with the default of one option after another
 abbrev workers_filled : List Row → List Row
-workers_filled rows = with_default rows (filled_rule Workers)
+workers_filled rows = with_default rows (filled_rule (Number Workers))
 
 abbrev established_filled : List Row → List Row
-established_filled rows = with_default (workers_filled rows) (filled_rule Established)
+established_filled rows = with_default (workers_filled rows) (filled_rule (Number Established))
 
 abbrev transient_filled : List Row → List Row
-transient_filled rows = with_default (established_filled rows) (filled_rule Transient)
+transient_filled rows = with_default (established_filled rows) (filled_rule (Number Transient))
 
 abbrev udp_filled : List Row → List Row
-udp_filled rows = with_default (transient_filled rows) (filled_rule Udp)
+udp_filled rows = with_default (transient_filled rows) (filled_rule (Number Udp))
+
+abbrev tables_filled : List Row → List Row
+tables_filled rows = with_default (udp_filled rows) (filled_rule Tables)
 
 abbrev files_passed : List Row → List Row
-files_passed rows = with_default (udp_filled rows) files_filled
+files_passed rows = with_default (tables_filled rows) files_filled
 
 abbrev help_filled : List Row → List Row
 help_filled rows = with_default (files_passed rows) (filled help_rule)
 
 defaults_pass : (rows : List Row) → defaults_fault rows top.rules ≡ []
 unfolding clap_on_literals
-defaults_pass rows = both_pass (default_passes Workers rows) (both_pass (default_passes Established (workers_filled rows))
-    (both_pass (default_passes Transient (established_filled rows)) (both_pass (default_passes Udp (transient_filled rows))
-    (both_pass (flag_passes files_filled (udp_filled rows) refl) (both_pass (flag_passes (filled help_rule) (files_passed rows) refl)
-    (both_pass (flag_passes (filled version_rule) (help_filled rows) refl) refl))))))
+defaults_pass rows = both_pass (default_passes (Number Workers) rows) (both_pass (default_passes (Number Established) (workers_filled rows))
+    (both_pass (default_passes (Number Transient) (established_filled rows)) (both_pass (default_passes (Number Udp) (transient_filled rows))
+    (both_pass (default_passes Tables (udp_filled rows)) (both_pass (flag_passes files_filled (tables_filled rows) refl) (both_pass (flag_passes (filled help_rule) (files_passed rows) refl)
+    (both_pass (flag_passes (filled version_rule) (help_filled rows) refl) refl)))))))
 
 -- what the words come to in the end, by where the walk stopped
 abbrev pub end_fault : List ErrorKind → Walk → List ErrorKind
@@ -95,14 +101,14 @@ has_none id (x ∷ rest) e = go (bytes_eq x.id id) e (has_none id rest)
     go true found next = cc
     go false found next = next found
 
-fill_row : (id v : Text) (rows : List Row) → bytes_eq id id ≡ true
-    → find_row id (cond (has_row id rows) rows (with_values id WithoutMinus DefaultValue (v ∷ []) rows))
-    ≡ option_or (find_row id rows) (Some (record { id = id; values = v ∷ []; count = None; source = Some DefaultValue; reading = WithoutMinus }))
-fill_row id v rows same = go (find_row id rows) refl
+fill_row : (id v : Text) (how : Reading) (rows : List Row) → bytes_eq id id ≡ true
+    → find_row id (cond (has_row id rows) rows (with_values id how DefaultValue (v ∷ []) rows))
+    ≡ option_or (find_row id rows) (Some (record { id = id; values = v ∷ []; count = None; source = Some DefaultValue; reading = how }))
+fill_row id v how rows same = go (find_row id rows) refl
   where
     go : (found : Option Row) → find_row id rows ≡ found
-        → find_row id (cond (has_row id rows) rows (with_values id WithoutMinus DefaultValue (v ∷ []) rows))
-        ≡ option_or (find_row id rows) (Some (record { id = id; values = v ∷ []; count = None; source = Some DefaultValue; reading = WithoutMinus }))
+        → find_row id (cond (has_row id rows) rows (with_values id how DefaultValue (v ∷ []) rows))
+        ≡ option_or (find_row id rows) (Some (record { id = id; values = v ∷ []; count = None; source = Some DefaultValue; reading = how }))
     go (Some r) e = rw (found_has id rows r e, e) refl
     go None e =
         let none = has_none id rows e in
@@ -112,30 +118,32 @@ or_none : (found : Option Row) → option_or found None ≡ found
 or_none None = refl
 or_none (Some r) = refl
 
-keep_row : (id other v : Text) (rows : List Row) → bytes_eq other id ≡ false
-    → find_row id (cond (has_row other rows) rows (with_values other WithoutMinus DefaultValue (v ∷ []) rows)) ≡ find_row id rows
-keep_row id other v rows apart = go (has_row other rows) refl
+keep_row : (id other v : Text) (how : Reading) (rows : List Row) → bytes_eq other id ≡ false
+    → find_row id (cond (has_row other rows) rows (with_values other how DefaultValue (v ∷ []) rows)) ≡ find_row id rows
+keep_row id other v how rows apart = go (has_row other rows) refl
   where
-    go : (b : Bool) → has_row other rows ≡ b → find_row id (cond b rows (with_values other WithoutMinus DefaultValue (v ∷ []) rows)) ≡ find_row id rows
+    go : (b : Bool) → has_row other rows ≡ b → find_row id (cond b rows (with_values other how DefaultValue (v ∷ []) rows)) ≡ find_row id rows
     go true e = refl
     go false none = rw (at_row_missing other (more_values DefaultValue (v ∷ [])) _ rows none, find-append, apart) (or_none (find_row id rows))
 
 -- the default of an option fills what the words left out
-default_fills : (o : OptionName) (rows : List Row) → find_row (name_of o) (with_default rows (filled_rule o)) ≡ option_or (find_row (name_of o) rows) (Some (default_row o))
-default_fills Workers rows = fill_row (name_of Workers) (default_of Workers) rows refl
-default_fills Established rows = fill_row (name_of Established) (default_of Established) rows refl
-default_fills Transient rows = fill_row (name_of Transient) (default_of Transient) rows refl
-default_fills Udp rows = fill_row (name_of Udp) (default_of Udp) rows refl
+default_fills : (o : SettingName) (rows : List Row) → find_row (setting_id o) (with_default rows (filled_rule o)) ≡ option_or (find_row (setting_id o) rows) (Some (default_row o))
+default_fills (Number Workers) rows = fill_row (setting_id (Number Workers)) (setting_default (Number Workers)) WithoutMinus rows refl
+default_fills (Number Established) rows = fill_row (setting_id (Number Established)) (setting_default (Number Established)) WithoutMinus rows refl
+default_fills (Number Transient) rows = fill_row (setting_id (Number Transient)) (setting_default (Number Transient)) WithoutMinus rows refl
+default_fills (Number Udp) rows = fill_row (setting_id (Number Udp)) (setting_default (Number Udp)) WithoutMinus rows refl
+default_fills Tables rows = fill_row (setting_id Tables) (setting_default Tables) AsWritten rows refl
 
 -- and leaves what has another id as it is
-id_keeps : (id : Text) (other : OptionName) (rows : List Row) → bytes_eq (name_of other) id ≡ false → find_row id (with_default rows (filled_rule other)) ≡ find_row id rows
-id_keeps id Workers rows = keep_row id (name_of Workers) (default_of Workers) rows
-id_keeps id Established rows = keep_row id (name_of Established) (default_of Established) rows
-id_keeps id Transient rows = keep_row id (name_of Transient) (default_of Transient) rows
-id_keeps id Udp rows = keep_row id (name_of Udp) (default_of Udp) rows
+id_keeps : (id : Text) (other : SettingName) (rows : List Row) → bytes_eq (setting_id other) id ≡ false → find_row id (with_default rows (filled_rule other)) ≡ find_row id rows
+id_keeps id (Number Workers) rows = keep_row id (setting_id (Number Workers)) (setting_default (Number Workers)) WithoutMinus rows
+id_keeps id (Number Established) rows = keep_row id (setting_id (Number Established)) (setting_default (Number Established)) WithoutMinus rows
+id_keeps id (Number Transient) rows = keep_row id (setting_id (Number Transient)) (setting_default (Number Transient)) WithoutMinus rows
+id_keeps id (Number Udp) rows = keep_row id (setting_id (Number Udp)) (setting_default (Number Udp)) WithoutMinus rows
+id_keeps id Tables rows = keep_row id (setting_id Tables) (setting_default Tables) AsWritten rows
 
-default_keeps : (o other : OptionName) (rows : List Row) → bytes_eq (name_of other) (name_of o) ≡ false → find_row (name_of o) (with_default rows (filled_rule other)) ≡ find_row (name_of o) rows
-default_keeps o other rows = id_keeps (name_of o) other rows
+default_keeps : (o other : SettingName) (rows : List Row) → bytes_eq (setting_id other) (setting_id o) ≡ false → find_row (setting_id o) (with_default rows (filled_rule other)) ≡ find_row (setting_id o) rows
+default_keeps o other rows = id_keeps (setting_id o) other rows
 
 -- and a flag leaves all rows
 flag_keeps : (r : Rule) (rows : List Row) → r.defaults ≡ [] → with_default rows r ≡ rows
@@ -146,32 +154,43 @@ flag_keeps r rows none = go (has_row r.id rows) r.defaults none
     go false [] none = refl
     go false (d ∷ ds) none = cc
 
-or_default : (o : OptionName) (f g : Option Row) → f ≡ g → option_or f (Some (default_row o)) ≡ option_or g (Some (default_row o))
+or_default : (o : SettingName) (f g : Option Row) → f ≡ g → option_or f (Some (default_row o)) ≡ option_or g (Some (default_row o))
 or_default o f g = ap (λ found. option_or found (Some (default_row o)))
 
-filled_by : (o : OptionName) (rows : List Row) → find_row (name_of o) (udp_filled rows) ≡ option_or (find_row (name_of o) rows) (Some (default_row o))
-filled_by Workers rows = default_keeps Workers Udp (transient_filled rows) refl ∙ default_keeps Workers Transient (established_filled rows) refl
-    ∙ default_keeps Workers Established (workers_filled rows) refl ∙ default_fills Workers rows
-filled_by Established rows = default_keeps Established Udp (transient_filled rows) refl ∙ default_keeps Established Transient (established_filled rows) refl
-    ∙ default_fills Established (workers_filled rows) ∙ or_default Established _ _ (default_keeps Established Workers rows refl)
-filled_by Transient rows = default_keeps Transient Udp (transient_filled rows) refl ∙ default_fills Transient (established_filled rows)
-    ∙ or_default Transient _ _ (default_keeps Transient Established (workers_filled rows) refl ∙ default_keeps Transient Workers rows refl)
-filled_by Udp rows = default_fills Udp (transient_filled rows)
-    ∙ or_default Udp _ _ (default_keeps Udp Transient (established_filled rows) refl ∙ default_keeps Udp Established (workers_filled rows) refl ∙ default_keeps Udp Workers rows refl)
+filled_by : (o : SettingName) (rows : List Row) → find_row (setting_id o) (tables_filled rows) ≡ option_or (find_row (setting_id o) rows) (Some (default_row o))
+filled_by (Number Workers) rows = default_keeps (Number Workers) Tables (udp_filled rows) refl
+    ∙ default_keeps (Number Workers) (Number Udp) (transient_filled rows) refl
+    ∙ default_keeps (Number Workers) (Number Transient) (established_filled rows) refl
+    ∙ default_keeps (Number Workers) (Number Established) (workers_filled rows) refl
+    ∙ default_fills (Number Workers) rows
+filled_by (Number Established) rows = default_keeps (Number Established) Tables (udp_filled rows) refl
+    ∙ default_keeps (Number Established) (Number Udp) (transient_filled rows) refl
+    ∙ default_keeps (Number Established) (Number Transient) (established_filled rows) refl
+    ∙ default_fills (Number Established) (workers_filled rows)
+    ∙ or_default (Number Established) _ _ (default_keeps (Number Established) (Number Workers) rows refl)
+filled_by (Number Transient) rows = default_keeps (Number Transient) Tables (udp_filled rows) refl
+    ∙ default_keeps (Number Transient) (Number Udp) (transient_filled rows) refl
+    ∙ default_fills (Number Transient) (established_filled rows)
+    ∙ or_default (Number Transient) _ _ (default_keeps (Number Transient) (Number Established) (workers_filled rows) refl ∙ default_keeps (Number Transient) (Number Workers) rows refl)
+filled_by (Number Udp) rows = default_keeps (Number Udp) Tables (udp_filled rows) refl
+    ∙ default_fills (Number Udp) (transient_filled rows)
+    ∙ or_default (Number Udp) _ _ (default_keeps (Number Udp) (Number Transient) (established_filled rows) refl ∙ default_keeps (Number Udp) (Number Established) (workers_filled rows) refl ∙ default_keeps (Number Udp) (Number Workers) rows refl)
+filled_by Tables rows = default_fills Tables (udp_filled rows)
+    ∙ or_default Tables _ _ (default_keeps Tables (Number Udp) (transient_filled rows) refl ∙ default_keeps Tables (Number Transient) (established_filled rows) refl ∙ default_keeps Tables (Number Established) (workers_filled rows) refl ∙ default_keeps Tables (Number Workers) rows refl)
 
 -- what has no default leaves the rows of the options
-all_but_options : (rows : List Row) → fold with_default rows top.rules ≡ udp_filled rows
+all_but_options : (rows : List Row) → fold with_default rows top.rules ≡ tables_filled rows
 all_but_options rows = flag_keeps (filled version_rule) (help_filled rows) refl ∙ flag_keeps (filled help_rule) (files_passed rows) refl
-    ∙ flag_keeps files_filled (udp_filled rows) refl
+    ∙ flag_keeps files_filled (tables_filled rows) refl
 
-pub all_filled : (o : OptionName) (rows : List Row) → find_row (name_of o) (fold with_default rows top.rules) ≡ option_or (find_row (name_of o) rows) (Some (default_row o))
-all_filled o rows = ap (find_row (name_of o)) (all_but_options rows) ∙ filled_by o rows
+pub all_filled : (o : SettingName) (rows : List Row) → find_row (setting_id o) (fold with_default rows top.rules) ≡ option_or (find_row (setting_id o) rows) (Some (default_row o))
+all_filled o rows = ap (find_row (setting_id o)) (all_but_options rows) ∙ filled_by o rows
 
 -- no default names a file
 pub no_file_filled : (rows : List Row) → find_row files_id (fold with_default rows top.rules) ≡ find_row files_id rows
-no_file_filled rows = ap (find_row files_id) (all_but_options rows) ∙ id_keeps files_id Udp (transient_filled rows) refl
-    ∙ id_keeps files_id Transient (established_filled rows) refl ∙ id_keeps files_id Established (workers_filled rows) refl
-    ∙ id_keeps files_id Workers rows refl
+no_file_filled rows = ap (find_row files_id) (all_but_options rows) ∙ id_keeps files_id Tables (udp_filled rows) refl
+    ∙ id_keeps files_id (Number Udp) (transient_filled rows) refl ∙ id_keeps files_id (Number Transient) (established_filled rows) refl
+    ∙ id_keeps files_id (Number Established) (workers_filled rows) refl ∙ id_keeps files_id (Number Workers) rows refl
 
 -- a row with another id isn't found
 pub find_before : (id : Text) (rows : List Row) (r : Row) → bytes_eq r.id id ≡ false → find_row id (rows ++ r ∷ []) ≡ find_row id rows

@@ -9,18 +9,31 @@ use Rattle.clap.specs.ValueTests.{accepts}
 use Rattle.clap.specs.Walk.{Held, Walk, at_row, has_row, idle, is_pending, more_values, option, reacted, settled, used, walked, with_values, without}
 use Rattle.clap.specs.Words.{Row, Rule, Text, built}
 use Rattle.clap.specs.declared.builder.value_parser.Reading.{Reading}
-use Rattle.clap.specs.declared.builder.value_parser.Reading.TheVariants.{WithoutMinus}
-use Rattle.clap.specs.declared.builder.value_parser.ValueParser.TheVariants.{Signed}
+use Rattle.clap.specs.declared.builder.value_parser.Reading.TheVariants.{AsWritten, WithoutMinus}
+use Rattle.clap.specs.declared.builder.value_parser.ValueParser.{ValueParser}
+use Rattle.clap.specs.declared.builder.value_parser.ValueParser.TheVariants as parser
 use Rattle.clap.specs.declared.parser.matches.ValueSource.TheVariants.{CommandLine, DefaultValue}
 use Rattle.clap.proofs.OnLiterals.{clap_on_literals}
-use Rattle.racl_words.specs.CommandLine.{OptionName, Workers, Established, Transient, Udp, default_of, files_rule, most_of, name_of, option_rule, racl}
-use Rattle.racl_words.specs.Options.{Setting, words_by, words_of}
+use Rattle.racl_words.specs.CommandLine.{Workers, Established, Transient, Udp, files_rule, most_of, option_rule, racl, tables_rule}
+use Rattle.racl_words.specs.Options.{Setting, SettingName, Number, Tables, setting_default, setting_id, words_by, words_of}
 
 abbrev pub top : Shape
 top = (built racl).top
 
-abbrev pub filled_rule : OptionName → Rule
-filled_rule o = filled (option_rule o)
+abbrev setting_rule : SettingName → Rule
+setting_rule (Number o) = option_rule o
+setting_rule Tables = tables_rule
+
+abbrev pub filled_rule : SettingName → Rule
+filled_rule o = filled (setting_rule o)
+
+abbrev pub reading_at : SettingName → Reading
+reading_at (Number o) = WithoutMinus
+reading_at Tables = AsWritten
+
+abbrev pub parser_at : SettingName → ValueParser
+parser_at (Number o) = parser.Signed (pos 1) (pos (most_of o))
+parser_at Tables = parser.String
 
 abbrev pub files_filled : Rule
 files_filled = with_index 1 (filled files_rule)
@@ -28,14 +41,14 @@ files_filled = with_index 1 (filled files_rule)
 -- ---- rows
 
 -- the row of an option that was set
-abbrev pub row_by : OptionName → Text → Row
-row_by o v = record { id = name_of o; values = v ∷ []; count = None; source = Some CommandLine; reading = WithoutMinus }
+abbrev pub row_by : SettingName → Text → Row
+row_by o v = record { id = setting_id o; values = v ∷ []; count = None; source = Some CommandLine; reading = reading_at o }
 
 abbrev pub row_of : Setting → Row
 row_of s = row_by s.option s.value
 
-abbrev pub default_row : OptionName → Row
-default_row o = record { id = name_of o; values = default_of o ∷ []; count = None; source = Some DefaultValue; reading = WithoutMinus }
+abbrev pub default_row : SettingName → Row
+default_row o = record { id = setting_id o; values = setting_default o ∷ []; count = None; source = Some DefaultValue; reading = reading_at o }
 
 pub at_row_missing : (id : Text) (change : Row → List Row) (missing rows : List Row) → has_row id rows ≡ false → at_row id change missing rows ≡ rows ++ missing
 at_row_missing id change missing [] none = refl
@@ -55,11 +68,12 @@ pub set_once : (id : Text) (how : Reading) (vs : List Text) (rows : List Row) �
 set_once id how vs rows none = rw (at_row_missing id (λ _. []) [] rows none, append-nil rows)
     (at_row_missing id (more_values CommandLine vs) _ rows none)
 
-used_once : (o : OptionName) (v : Text) (rows : List Row) → has_row (name_of o) rows ≡ false → used (filled_rule o) (v ∷ []) rows ≡ rows ++ row_by o v ∷ []
-used_once Workers v = set_once (name_of Workers) WithoutMinus (v ∷ [])
-used_once Established v = set_once (name_of Established) WithoutMinus (v ∷ [])
-used_once Transient v = set_once (name_of Transient) WithoutMinus (v ∷ [])
-used_once Udp v = set_once (name_of Udp) WithoutMinus (v ∷ [])
+used_once : (o : SettingName) (v : Text) (rows : List Row) → has_row (setting_id o) rows ≡ false → used (filled_rule o) (v ∷ []) rows ≡ rows ++ row_by o v ∷ []
+used_once (Number Workers) v = set_once (setting_id (Number Workers)) WithoutMinus (v ∷ [])
+used_once (Number Established) v = set_once (setting_id (Number Established)) WithoutMinus (v ∷ [])
+used_once (Number Transient) v = set_once (setting_id (Number Transient)) WithoutMinus (v ∷ [])
+used_once (Number Udp) v = set_once (setting_id (Number Udp)) WithoutMinus (v ∷ [])
+used_once Tables v = set_once (setting_id Tables) AsWritten (v ∷ [])
 
 -- ---- one setting
 
@@ -67,84 +81,94 @@ used_once Udp v = set_once (name_of Udp) WithoutMinus (v ∷ [])
 abbrev pub between : Held → Walk
 between h = record { held = h; waiting = idle; position = 1; is_trailing = false; stopped = None }
 
-pub one_word_walks : (o : OptionName) (v : Text) (h : Held)
-    → walked top.rules [] (between h) (codes "--" ++ (name_of o ++ (codes "=" ++ v))) ≡ between (reacted top.rules (filled_rule o) (v ∷ []) h)
+pub one_word_walks : (o : SettingName) (v : Text) (h : Held)
+    → walked top.rules [] (between h) (codes "--" ++ (setting_id o ++ (codes "=" ++ v))) ≡ between (reacted top.rules (filled_rule o) (v ∷ []) h)
 unfolding clap_on_literals
-one_word_walks Workers v h = refl
-one_word_walks Established v h = refl
-one_word_walks Transient v h = refl
-one_word_walks Udp v h = refl
+one_word_walks (Number Workers) v h = refl
+one_word_walks (Number Established) v h = refl
+one_word_walks (Number Transient) v h = refl
+one_word_walks (Number Udp) v h = refl
+one_word_walks Tables v h = refl
 
-abbrev named : OptionName → Held → Walk
-named o h = record (between (record (settled top.rules h) { pending = Some (name_of o, []) })) { waiting = option (name_of o) }
+abbrev named : SettingName → Held → Walk
+named o h = record (between (record (settled top.rules h) { pending = Some (setting_id o, []) })) { waiting = option (setting_id o) }
 
-abbrev given : OptionName → Text → Held → Held
-given o v h = record (settled top.rules h) { pending = Some (name_of o, v ∷ []) }
+abbrev given : SettingName → Text → Held → Held
+given o v h = record (settled top.rules h) { pending = Some (setting_id o, v ∷ []) }
 
-name_walks : (o : OptionName) (h : Held) → walked top.rules [] (between h) (codes "--" ++ name_of o) ≡ named o h
+name_walks : (o : SettingName) (h : Held) → walked top.rules [] (between h) (codes "--" ++ setting_id o) ≡ named o h
 unfolding clap_on_literals
-name_walks Workers h = refl
-name_walks Established h = refl
-name_walks Transient h = refl
-name_walks Udp h = refl
+name_walks (Number Workers) h = refl
+name_walks (Number Established) h = refl
+name_walks (Number Transient) h = refl
+name_walks (Number Udp) h = refl
+name_walks Tables h = refl
 
-value_walks : (o : OptionName) (d : ℕ) (ds : Text) (h : Held) → (d == 45) ≡ false → walked top.rules [] (named o h) (d ∷ ds) ≡ between (given o (d ∷ ds) h)
+value_walks : (o : SettingName) (d : ℕ) (ds : Text) (h : Held) → (d == 45) ≡ false → walked top.rules [] (named o h) (d ∷ ds) ≡ between (given o (d ∷ ds) h)
 unfolding clap_on_literals
-value_walks Workers d ds h plain = simp plain refl
-value_walks Established d ds h plain = simp plain refl
-value_walks Transient d ds h plain = simp plain refl
-value_walks Udp d ds h plain = simp plain refl
+value_walks (Number Workers) d ds h plain = simp plain refl
+value_walks (Number Established) d ds h plain = simp plain refl
+value_walks (Number Transient) d ds h plain = simp plain refl
+value_walks (Number Udp) d ds h plain = simp plain refl
+value_walks Tables d ds h plain = simp plain refl
 
-one_word_passes : (o : OptionName) (v : Text) (h : Held) → settle_fault top.rules false h ≡ [] → use_fault false (filled_rule o) (v ∷ []) (settled top.rules h).rows ≡ []
-    → turn_fault top [] (between h) (codes "--" ++ (name_of o ++ (codes "=" ++ v))) ≡ []
+one_word_passes : (o : SettingName) (v : Text) (h : Held) → settle_fault top.rules false h ≡ [] → use_fault false (filled_rule o) (v ∷ []) (settled top.rules h).rows ≡ []
+    → turn_fault top [] (between h) (codes "--" ++ (setting_id o ++ (codes "=" ++ v))) ≡ []
 unfolding clap_on_literals
-one_word_passes Workers v h settles uses = rw (settles, uses) refl
-one_word_passes Established v h settles uses = rw (settles, uses) refl
-one_word_passes Transient v h settles uses = rw (settles, uses) refl
-one_word_passes Udp v h settles uses = rw (settles, uses) refl
+one_word_passes (Number Workers) v h settles uses = rw (settles, uses) refl
+one_word_passes (Number Established) v h settles uses = rw (settles, uses) refl
+one_word_passes (Number Transient) v h settles uses = rw (settles, uses) refl
+one_word_passes (Number Udp) v h settles uses = rw (settles, uses) refl
+one_word_passes Tables v h settles uses = rw (settles, uses) refl
 
-name_passes : (o : OptionName) (h : Held) → settle_fault top.rules false h ≡ [] → turn_fault top [] (between h) (codes "--" ++ name_of o) ≡ []
+name_passes : (o : SettingName) (h : Held) → settle_fault top.rules false h ≡ [] → turn_fault top [] (between h) (codes "--" ++ setting_id o) ≡ []
 unfolding clap_on_literals
-name_passes Workers h settles = rw settles refl
-name_passes Established h settles = rw settles refl
-name_passes Transient h settles = rw settles refl
-name_passes Udp h settles = rw settles refl
+name_passes (Number Workers) h settles = rw settles refl
+name_passes (Number Established) h settles = rw settles refl
+name_passes (Number Transient) h settles = rw settles refl
+name_passes (Number Udp) h settles = rw settles refl
+name_passes Tables h settles = rw settles refl
 
-value_passes : (o : OptionName) (d : ℕ) (ds : Text) (h : Held) → (d == 45) ≡ false → turn_fault top [] (named o h) (d ∷ ds) ≡ []
+value_passes : (o : SettingName) (d : ℕ) (ds : Text) (h : Held) → (d == 45) ≡ false → turn_fault top [] (named o h) (d ∷ ds) ≡ []
 unfolding clap_on_literals
-value_passes Workers d ds h plain = simp plain refl
-value_passes Established d ds h plain = simp plain refl
-value_passes Transient d ds h plain = simp plain refl
-value_passes Udp d ds h plain = simp plain refl
+value_passes (Number Workers) d ds h plain = simp plain refl
+value_passes (Number Established) d ds h plain = simp plain refl
+value_passes (Number Transient) d ds h plain = simp plain refl
+value_passes (Number Udp) d ds h plain = simp plain refl
+value_passes Tables d ds h plain = simp plain refl
 
-use_passes : (o : OptionName) (v : Text) (rows : List Row) → has_row (name_of o) rows ≡ false → accepts false (Signed (pos 1) (pos (most_of o))) v ≡ true
+use_passes : (o : SettingName) (v : Text) (rows : List Row) → has_row (setting_id o) rows ≡ false → accepts false (parser_at o) v ≡ true
     → use_fault false (filled_rule o) (v ∷ []) rows ≡ []
-use_passes Workers v rows none accepted = rw (none, accepted) refl
-use_passes Established v rows none accepted = rw (none, accepted) refl
-use_passes Transient v rows none accepted = rw (none, accepted) refl
-use_passes Udp v rows none accepted = rw (none, accepted) refl
+use_passes (Number Workers) v rows none accepted = rw (none, accepted) refl
+use_passes (Number Established) v rows none accepted = rw (none, accepted) refl
+use_passes (Number Transient) v rows none accepted = rw (none, accepted) refl
+use_passes (Number Udp) v rows none accepted = rw (none, accepted) refl
+use_passes Tables v rows none accepted = rw none refl
 
-given_rows : (o : OptionName) (v : Text) (h : Held) → (settled top.rules (given o v h)).rows ≡ used (filled_rule o) (v ∷ []) (settled top.rules h).rows
-given_rows Workers v h = refl
-given_rows Established v h = refl
-given_rows Transient v h = refl
-given_rows Udp v h = refl
+given_rows : (o : SettingName) (v : Text) (h : Held) → (settled top.rules (given o v h)).rows ≡ used (filled_rule o) (v ∷ []) (settled top.rules h).rows
+given_rows (Number Workers) v h = refl
+given_rows (Number Established) v h = refl
+given_rows (Number Transient) v h = refl
+given_rows (Number Udp) v h = refl
+given_rows Tables v h = refl
 
-given_passes : (o : OptionName) (v : Text) (h : Held) → settle_fault top.rules false (given o v h) ≡ use_fault false (filled_rule o) (v ∷ []) (settled top.rules h).rows
-given_passes Workers v h = refl
-given_passes Established v h = refl
-given_passes Transient v h = refl
-given_passes Udp v h = refl
+given_passes : (o : SettingName) (v : Text) (h : Held) → settle_fault top.rules false (given o v h) ≡ use_fault false (filled_rule o) (v ∷ []) (settled top.rules h).rows
+given_passes (Number Workers) v h = refl
+given_passes (Number Established) v h = refl
+given_passes (Number Transient) v h = refl
+given_passes (Number Udp) v h = refl
+given_passes Tables v h = refl
 
 -- the rows that a held state comes to, where what is pending has no fault, and is no file
 abbrev pub Holds : List Row → Held → Type 0
 Holds rows h = ((settled top.rules h).rows ≡ rows) × (settle_fault top.rules false h ≡ []) × (is_pending files_filled h.pending ≡ false)
 
-no_file_given : (o : OptionName) (v : Text) (h : Held) → is_pending files_filled (given o v h).pending ≡ false
-no_file_given Workers v h = refl
-no_file_given Established v h = refl
-no_file_given Transient v h = refl
-no_file_given Udp v h = refl
+no_file_given : (o : SettingName) (v : Text) (h : Held) → is_pending files_filled (given o v h).pending ≡ false
+no_file_given (Number Workers) v h = refl
+no_file_given (Number Established) v h = refl
+no_file_given (Number Transient) v h = refl
+no_file_given (Number Udp) v h = refl
+no_file_given Tables v h = refl
 
 -- the walk goes on from one state as from another after some words, and finds no fault in them
 abbrev pub GoesOn : Held → List Text → Held → Type 0
@@ -152,10 +176,10 @@ GoesOn h words e = ((rest : List Text) → fold (walked top.rules []) (between h
     × ((rest : List Text) → walk_fault top [] (between h) (words ++ rest) ≡ walk_fault top [] (between e) rest)
 
 -- the value is taken by the option, and is no flag
-abbrev pub IsFit : OptionName → Text → Type 0
-IsFit o v = (accepts false (Signed (pos 1) (pos (most_of o))) v ≡ true) × ((d : ℕ) × (ds : Text) × (v ≡ d ∷ ds) × ((d == 45) ≡ false))
+abbrev pub IsFit : SettingName → Text → Type 0
+IsFit o v = (accepts false (parser_at o) v ≡ true) × ((d : ℕ) × (ds : Text) × (v ≡ d ∷ ds) × ((d == 45) ≡ false))
 
-one_word_goes_on : (o : OptionName) (v : Text) (h : Held) → settle_fault top.rules false h ≡ [] → use_fault false (filled_rule o) (v ∷ []) (settled top.rules h).rows ≡ []
+one_word_goes_on : (o : SettingName) (v : Text) (h : Held) → settle_fault top.rules false h ≡ [] → use_fault false (filled_rule o) (v ∷ []) (settled top.rules h).rows ≡ []
     → GoesOn h (words_by o v true) (reacted top.rules (filled_rule o) (v ∷ []) h)
 unfolding walk_fault
 one_word_goes_on o v h settles uses = (
@@ -163,7 +187,7 @@ one_word_goes_on o v h settles uses = (
   (λ rest. rw (one_word_passes o v h settles uses, one_word_walks o v h) refl),
 )
 
-two_words_go_on : (o : OptionName) (d : ℕ) (ds : Text) (h : Held) → settle_fault top.rules false h ≡ [] → (d == 45) ≡ false
+two_words_go_on : (o : SettingName) (d : ℕ) (ds : Text) (h : Held) → settle_fault top.rules false h ≡ [] → (d == 45) ≡ false
     → GoesOn h (words_by o (d ∷ ds) false) (given o (d ∷ ds) h)
 unfolding walk_fault
 two_words_go_on o d ds h settles plain = (
@@ -173,7 +197,7 @@ two_words_go_on o d ds h settles plain = (
 )
 
 -- a setting adds its row
-setting_goes_on : (o : OptionName) (v : Text) (in_one : Bool) (rows : List Row) (h : Held) → Holds rows h → has_row (name_of o) rows ≡ false → IsFit o v
+setting_goes_on : (o : SettingName) (v : Text) (in_one : Bool) (rows : List Row) (h : Held) → Holds rows h → has_row (setting_id o) rows ≡ false → IsFit o v
     → (e : Held) × Holds (rows ++ row_by o v ∷ []) e × GoesOn h (words_by o v in_one) e
 setting_goes_on o v true rows h holds none fit =
     let uses : use_fault false (filled_rule o) (v ∷ []) (settled top.rules h).rows ≡ [] = rw holds.0 (use_passes o v rows none fit.0) in (
@@ -193,7 +217,7 @@ setting_goes_on o v false rows h holds none fit =
 -- each setting in turn is of an option that has no row yet
 abbrev pub AreNew : List Row → List Setting → Type 0
 AreNew rows [] = Unit {0}
-AreNew rows (s ∷ rest) = (has_row (name_of s.option) rows ≡ false) × IsFit s.option s.value × AreNew (rows ++ row_of s ∷ []) rest
+AreNew rows (s ∷ rest) = (has_row (setting_id s.option) rows ≡ false) × IsFit s.option s.value × AreNew (rows ++ row_of s ∷ []) rest
 
 pub settings_go_on : (ss : List Setting) (rows : List Row) (h : Held) → Holds rows h → AreNew rows ss
     → (e : Held) × Holds (rows ++ map row_of ss) e × GoesOn h (flat_map words_of ss) e

@@ -3,13 +3,15 @@ use Rattle.std.specs.Prelude.{◌≡◌, ◌≤◌, ◌⊎◌, ℕ, true, List, 
 use Rattle.std.specs.Str.Parse.{IsNumeral, digits_value, without_leading_plus}
 use Rattle.clap.specs.Simple.{on_top}
 use Rattle.clap.specs.Words.{App, IsSignedIn, Rule, Text, all_of, fault_of, matches_of, new_app}
-use Rattle.clap.specs.Words.{new_rule, one_of, with_rule, without_minus}
+use Rattle.clap.specs.Words.{first_of, new_rule, one_of, with_rule, without_minus}
 use Rattle.clap.specs.declared.builder.action.ArgAction.TheVariants.{Set}
 use Rattle.clap.specs.declared.builder.value_parser.ValueParser.TheVariants.{Signed}
 use Rattle.clap.specs.declared.error.kind.ErrorKind.{ErrorKind}
 use Rattle.clap.specs.declared.error.kind.ErrorKind.TheVariants.{DisplayHelp, DisplayVersion}
 use Rattle.racl_words.specs.declared.settings.Files.{Files}
 use Rattle.racl_words.specs.declared.settings.Options.{Options}
+use Rattle.racl_words.specs.declared.settings.TableSize.{TableSize}
+use Rattle.racl_words.specs.declared.settings.TableSize.TheVariants.{Standard, Large}
 
 -- ---- the command
 
@@ -53,6 +55,22 @@ number_option name default most = record (new_rule name) {
 abbrev pub option_rule : OptionName → Rule
 option_rule option = number_option (name_of option) (default_of option) (most_of option)
 
+abbrev pub tables_id : Text
+tables_id = codes "tables"
+
+abbrev pub size_name : TableSize → Text
+size_name Standard = codes "standard"
+size_name Large = codes "large"
+
+-- the option `--tables`, with one value: any text, as `clap` sees it
+abbrev pub tables_rule : Rule
+tables_rule = record (new_rule tables_id) {
+  long = Some tables_id;
+  action = Some Set;
+  value_names = 1;
+  defaults = size_name Standard ∷ [];
+}
+
 abbrev pub files_id : Text
 files_id = codes "FILES"
 
@@ -64,10 +82,14 @@ files_rule = record (new_rule files_id) { action = Some Set; value_names = 2 }
 abbrev pub without_options : App
 without_options = on_top (λ s. record s { has_version = true }) (new_app (codes "racl"))
 
--- the command with its four options
-abbrev pub with_options : App
-with_options = with_rule (with_rule (with_rule (with_rule without_options (option_rule Workers))
+-- the command with its four options that are numbers
+abbrev pub with_numbers : App
+with_numbers = with_rule (with_rule (with_rule (with_rule without_options (option_rule Workers))
     (option_rule Established)) (option_rule Transient)) (option_rule Udp)
+
+-- the command with all its options
+abbrev pub with_options : App
+with_options = with_rule with_numbers tables_rule
 
 -- and with the files
 abbrev pub racl : App
@@ -81,6 +103,7 @@ pub record OptionFacts : Type 0 where
   pub established : ℕ
   pub transient : ℕ
   pub udp : ℕ
+  pub tables : TableSize
 
 abbrev pub option_facts : Options → OptionFacts
 option_facts o = record {
@@ -88,6 +111,7 @@ option_facts o = record {
   established = o.times.established;
   transient = o.times.transient;
   udp = o.times.udp;
+  tables = o.tables;
 }
 
 abbrev pub number_of : Text → ℕ
@@ -102,7 +126,7 @@ IsInRange option text = IsNumeral 10 (without_leading_plus text) × (1 ≤ numbe
 abbrev pub Spells : OptionName → Option Text → ℕ → Type 0
 Spells option text n = (t : Text) × (text ≡ Some t) × IsInRange option t × (n ≡ number_of t)
 
--- each option is the number that the text of its name spells
+-- each of these options is the number that the text of its name spells
 pub record SpellsOptions (text : Text → Option Text) (facts : OptionFacts) : Type 0 where
   pub workers : Spells Workers (text (name_of Workers)) facts.workers
   pub established : Spells Established (text (name_of Established)) facts.established
@@ -113,11 +137,16 @@ pub record SpellsOptions (text : Text → Option Text) (facts : OptionFacts) : T
 abbrev pub text_at : List Text → Text → Option Text
 text_at words name = one_of name (matches_of racl words)
 
--- the command finds no fault in the words, and each option is the number spelt by the text that its
--- matches of the words hold for it
+-- the name of a size of tables that the command's matches of the words hold
+abbrev pub size_at : List Text → Option Text
+size_at words = first_of tables_id (matches_of racl words)
+
+-- the command finds no fault in the words, each option is the number spelt by the text that its
+-- matches of the words hold for it, and the tables have the size whose name they hold
 pub record AskFor (words : List Text) (facts : OptionFacts) : Type 0 where
   pub faultless : fault_of racl words ≡ []
   pub options : SpellsOptions (text_at words) facts
+  pub tables : size_at words ≡ Some (size_name facts.tables)
 
 -- the names of the files as a value without where they lie in memory
 pub record FileFacts : Type 0 where
@@ -145,6 +174,14 @@ names_at words = all_of files_id (matches_of racl words)
 pub record AskForRun (words : List Text) (facts : OptionFacts) (files : Option FileFacts) : Type 0 where
   pub options : AskFor words facts
   pub names : Name (names_at words) files
+
+-- the name of a size of tables is none
+abbrev pub NamesNoSize : List Text → Type 0
+NamesNoSize words = (size : TableSize) → size_at words ≡ Some (size_name size) → ⊥
+
+-- the names of files are none to be read
+abbrev pub NamesNoFiles : List Text → Type 0
+NamesNoFiles words = (files : Option FileFacts) → Name (names_at words) files → ⊥
 
 -- an error of this kind is a request for the help or for the version
 abbrev pub IsRequest : ErrorKind → Type 0

@@ -4,5 +4,5 @@
 mod settings;
 mod words;
 
-pub use settings::{Asked, Files, Options};
+pub use settings::{Asked, Files, Options, TableSize};
 pub use words::{options, words_status};

@@ -1,14 +1,17 @@
 //! The command line: the words with which the program is called, read by `clap`.
 ghost use Rattle.std.specs.Prelude.{◌≡◌, ◌≢◌, ◌⊎◌, List, ◌∷◌, IfErr, IfOk, MatchResult, Option, false, option_map};
 ghost use Rattle.clap.specs.Walk.{Text, texts};
-ghost use Rattle.clap.specs.Words.{HasKind, app_of, fault_of, found_of, kind_of, matched_of, one_text, raw_values, rule_of};
+ghost use Rattle.clap.specs.Words.{HasKind, app_of, fault_of, first_value, found_of, kind_of, matched_of, one_text};
+ghost use Rattle.clap.specs.Words.{raw_values, rule_of};
 ghost use Rattle.racl_words.specs.CommandLine.{AskForRun, FileFacts, HoldsNumber, HoldsNumbers, IsRequest};
-ghost use Rattle.racl_words.specs.CommandLine.{Name, OptionFacts, OptionName, Spells, SpellsOptions};
-ghost use Rattle.racl_words.specs.CommandLine.{file_facts, files_id, names_at, option_facts, racl, with_options, without_options};
+ghost use Rattle.racl_words.specs.CommandLine.{Name, NamesNoFiles, NamesNoSize, OptionFacts, OptionName, Spells, SpellsOptions};
+ghost use Rattle.racl_words.specs.CommandLine.{file_facts, files_id, option_facts, racl, size_name, tables_id};
+ghost use Rattle.racl_words.specs.CommandLine.{with_numbers, with_options, without_options};
 ghost use Rattle.racl_words.specs.CommandLine as line;
+ghost use Rattle.racl_words.specs.declared.settings.TableSize.{TableSize};
 ghost use Rattle.racl_words.specs.Options.{AreNames, AreSettings, Setting, facts_of, words_as};
 
-use crate::settings::{Asked, Files, Options};
+use crate::settings::{Asked, Files, Options, TableSize};
 use clap::error::ErrorKind;
 use clap::{Arg, ArgAction, ArgMatches, Command, Error, value_parser};
 use session_state::Timeouts;
@@ -29,18 +32,23 @@ pub fn options<'a>(alloc: Global, words: &'a [&'a str]) -> Result<Asked<'a>, Err
         → MatchResult result (λ a. (option_facts a.options ≡ facts_of settings) × (file_facts a.files ≡ files))
         (λ e. kind_of e ≡ ErrorKind.OutOfMemory) }
 
-    // An error has a kind of the words' fault, or the names are no files to be read, or memory ran out.
+    // An error has a kind of the words' fault, or no tables have the size that is named, or the names are no files to be
+    // read, or memory ran out.
     ensures refuses { IfErr result (λ e. HasKind (fault_of racl (texts words.entry.now)) e
-        ⊎ ((kind_of e ≡ ErrorKind.ValueValidation) × ((files : Option FileFacts) → Name (names_at (texts words.entry.now)) files → ⊥))) }
+        ⊎ ((kind_of e ≡ ErrorKind.ValueValidation) × (NamesNoSize (texts words.entry.now) ⊎ NamesNoFiles (texts words.entry.now)))) }
 {
     let mut command = command(alloc)?;
     let matches = match command.try_get_matches_from_mut(words) {
         Ok(matches) => matches,
         Err(error) => return Err(error),
     };
+    let tables = match named_size(&matches) {
+        Ok(tables) => tables,
+        Err(NotASize) => return Err(command.error(ErrorKind::ValueValidation, NOT_A_SIZE)?),
+    };
     match named_files(&matches) {
         Ok(files) => Ok(Asked {
-            options: read_options(&matches),
+            options: read_options(&matches, tables),
             files,
         }),
         Err(NotFiles) => Err(command.error(ErrorKind::ValueValidation, NOT_FILES)?),
@@ -84,6 +92,8 @@ Exit status:
   3  done, but the capture was cut off
   4  memory or device";
 
+const NOT_A_SIZE: &str = "--tables takes `standard` or `large`";
+
 const NOT_FILES: &str = "POLICY and CAPTURE can't both be standard input";
 
 fn command<'a>(alloc: Global) -> Result<Command<'a>, AllocError>
@@ -95,6 +105,13 @@ fn command<'a>(alloc: Global) -> Result<Command<'a>, AllocError>
 // The command with its options, and no file yet.
 fn command_with_options<'a>(alloc: Global) -> Result<Command<'a>, AllocError>
     ensures { IfOk result (λ c. app_of c ≡ with_options) }
+{
+    command_with_numbers(alloc)?.arg(tables_option(alloc))
+}
+
+// The command with its options that are numbers, and no other argument yet.
+fn command_with_numbers<'a>(alloc: Global) -> Result<Command<'a>, AllocError>
+    ensures { IfOk result (λ c. app_of c ≡ with_numbers) }
 {
     described_command(alloc)
         .arg(number_option(
@@ -164,6 +181,18 @@ fn number_option<'a>(
         .help(help)
 }
 
+fn tables_option<'a>(alloc: Global) -> Arg<'a>
+    ensures rule { rule_of result ≡ line.tables_rule }
+    ensures local { result.global ≡ false }
+{
+    Arg::new(alloc, "tables")
+        .long("tables")
+        .action(ArgAction::Set)
+        .default_value("standard")
+        .value_name("SIZE")
+        .help("Room for sessions: `standard`, or `large` for many flows")
+}
+
 fn files_argument<'a>(alloc: Global) -> Arg<'a>
     ensures rule { rule_of result ≡ line.files_rule }
     ensures local { result.global ≡ false }
@@ -172,6 +201,21 @@ fn files_argument<'a>(alloc: Global) -> Arg<'a>
         .action(ArgAction::Set)
         .value_names(&["POLICY", "CAPTURE"])
         .help("The policy and the capture; `-` for one of them is standard input")
+}
+
+// No tables have the size that is named.
+struct NotASize;
+
+// The size of the tables that the words name.
+fn named_size(matches: &ArgMatches<'_>) -> Result<TableSize, NotASize>
+    ensures size { IfOk result (λ size. first_value (found_of matches.now) tables_id ≡ Some (size_name size)) }
+    ensures none { IfErr result (λ _. (size : TableSize) → first_value (found_of matches.now) tables_id ≡ Some (size_name size) → ⊥) }
+{
+    match matches.get_str("tables") {
+        Some("standard") => Ok(TableSize::Standard),
+        Some("large") => Ok(TableSize::Large),
+        _ => Err(NotASize),
+    }
 }
 
 // The names are no files to be read.
@@ -194,9 +238,10 @@ fn named_files<'a>(matches: &ArgMatches<'a>) -> Result<Option<Files<'a>>, NotFil
     }))
 }
 
-fn read_options(matches: &ArgMatches<'_>) -> Options
+fn read_options(matches: &ArgMatches<'_>, tables: TableSize) -> Options
     requires { HoldsNumbers (one_text (found_of matches.now)) }
-    ensures { SpellsOptions (one_text (found_of matches.now)) (option_facts result) }
+    ensures numbers { SpellsOptions (one_text (found_of matches.now)) (option_facts result) }
+    ensures tables { result.tables ≡ tables }
 {
     let workers = number_at(matches, "workers");
     let established = number_at(matches, "tcp-established");
@@ -209,6 +254,7 @@ fn read_options(matches: &ArgMatches<'_>) -> Options
             transient,
             udp,
         },
+        tables,
     }
 }
 

@@ -1,5 +1,5 @@
 //! A whole input through the program, with devices that are slow or fail.
-use racl_cli::Options;
+use racl_cli::{Options, TableSize};
 use session_state::Timeouts;
 
 mod transfers;
@@ -40,4 +40,5 @@ const DEFAULTS: Options = Options {
         transient: 120,
         udp: 600,
     },
+    tables: TableSize::Standard,
 };

@@ -1,6 +1,6 @@
 //! Words of the command line, and what they ask for. `checks/rows/sessions.txt` has what timeouts do.
 use clap::Error;
-use racl_words::{Asked, Files, Options, options, words_status};
+use racl_words::{Asked, Files, Options, TableSize, options, words_status};
 use session_state::Timeouts;
 use std::alloc::{AllocError, Global};
 
@@ -32,7 +32,7 @@ fn words_name_files(rt: HostRuntime) {
     assert_eq!(rt; files_of(alloc, &["racl", "-", "-"]), None);
 }
 
-// The number of workers shows in no report.
+// The number of workers shows in no report, and the size of the tables only where they have little room.
 #[test]
 fn words_set_the_options(rt: HostRuntime) {
     let alloc = rt.alloc();
@@ -41,14 +41,25 @@ fn words_set_the_options(rt: HostRuntime) {
         transient: 120,
         udp: 600,
     };
-    let defaults = Options { workers: 1, times };
+    let defaults = Options {
+        workers: 1,
+        times,
+        tables: TableSize::Standard,
+    };
     assert_eq!(rt; set_after(alloc, &["racl"]), Some(defaults));
     assert_eq!(rt;
         set_after(alloc, &["racl", "--workers", "1"]),
         Some(defaults)
     );
-    let most = Options { workers: 16, times };
-    assert_eq!(rt; set_after(alloc, &["racl", "--workers", "16"]), Some(most));
+    let most = Options {
+        workers: 16,
+        times,
+        tables: TableSize::Large,
+    };
+    assert_eq!(rt;
+        set_after(alloc, &["racl", "--tables=large", "--workers", "16"]),
+        Some(most)
+    );
 }
 
 // The status after words that are refused.
@@ -64,6 +75,7 @@ fn other_words_end_with_a_status(rt: HostRuntime) {
     let alloc = rt.alloc();
     assert_eq!(rt; status_after(alloc, &["racl", "--help"]), Some(0));
     assert_eq!(rt; status_after(alloc, &["racl", "--udp", "0"]), Some(2));
+    assert_eq!(rt; status_after(alloc, &["racl", "--tables", "l"]), Some(2));
     assert_eq!(rt; status_after(alloc, &["racl", "p"]), Some(2));
     assert_eq!(rt; status_after(alloc, &["racl", "-", "-"]), Some(2));
     assert_eq!(rt; words_status(&Error::from(AllocError)), 4);

@@ -1,9 +1,9 @@
-use Rattle.std.proofs.Common.{inl, inr, subst, sym}
+use Rattle.std.proofs.Common.{◌∙◌, Some, ap, inl, inr, subst, sym}
 use Rattle.std.specs.Prelude.{Err, Ok}
 use Rattle.clap.specs.declared.parser.matches.ArgMatches.{ArgMatches}
-use Rattle.racl_words.specs.CommandLine.{Name, file_facts}
+use Rattle.racl_words.specs.CommandLine.{Name, file_facts, size_name}
 use Rattle.racl_words.specs.Options.{facts_of}
-use Rattle.racl_words.proofs.CommandLemmas.{fails_by_fault, numbers_held, one_run, only_memory, same_names, same_options}
+use Rattle.racl_words.proofs.CommandLemmas.{fails_by_fault, numbers_held, one_run, only_memory, same_names, same_options, same_size}
 use Rattle.racl_words.proofs.SettingLemmas.{written_asks}
 use Rattle.racl_words.proofs.words.options.Goals as goal
 
@@ -18,7 +18,9 @@ pub returns-in-Ok-named_files-clause-ok : goal.returns-in-Ok-named_files-clause-
 returns-in-Ok-named_files-clause-ok c = record {
   options = record {
     faultless = fails_by_fault c.in_ok-command.command _ (Ok c.in-Ok.matches) c.in_ok-command.ensures c.in-Ok.ensures.kinds;
-    options = same_options c.in_ok-command.command _ c.in-Ok.matches _ c.in_ok-command.ensures c.in-Ok.ensures.ok.2 c.read_options.ensures;
+    options = same_options c.in_ok-command.command _ c.in-Ok.matches _ c.in_ok-command.ensures c.in-Ok.ensures.ok.2 c.read_options.ensures.numbers;
+    tables = sym (same_size c.in_ok-command.command _ c.in-Ok.matches c.in_ok-command.ensures c.in-Ok.ensures.ok.2) ∙ c.in-Ok-named_size.ensures.size
+        ∙ ap (λ size. Some (size_name size)) (sym c.read_options.ensures.tables);
   };
   names = subst (λ names. Name names (file_facts c.in-Ok-named_files.files))
       (same_names c.in_ok-command.command _ c.in-Ok.matches c.in_ok-command.ensures c.in-Ok.ensures.ok.2) c.in-Ok-named_files.ensures.files;
@@ -31,10 +33,25 @@ pub returns-in-Ok-named_files-clause-written : goal.returns-in-Ok-named_files-cl
 returns-in-Ok-named_files-clause-written c program settings files are named is =
     returns-in-Ok-named_files-clause-accepts c (facts_of settings) files (written_asks _ program settings files are named is)
 
+pub returns-in-Err-named_size-clause-refuses : goal.returns-in-Err-named_size-clause-refuses
+returns-in-Err-named_size-clause-refuses c = inr (
+  c.in_ok-error-in-Err-named_size.ensures.kind,
+  inl (λ size named. c.in-Err-named_size.ensures.none size
+      (same_size c.in_ok-command.command _ c.in-Ok.matches c.in_ok-command.ensures c.in-Ok.ensures.ok.2 ∙ named)),
+)
+
+pub returns-in-Err-named_size-clause-accepts : goal.returns-in-Err-named_size-clause-accepts
+returns-in-Err-named_size-clause-accepts c facts files asked = absurd (c.in-Err-named_size.ensures.none facts.tables
+    (same_size c.in_ok-command.command _ c.in-Ok.matches c.in_ok-command.ensures c.in-Ok.ensures.ok.2 ∙ asked.options.tables))
+
+pub returns-in-Err-named_size-clause-written : goal.returns-in-Err-named_size-clause-written
+returns-in-Err-named_size-clause-written c program settings files are named is =
+    returns-in-Err-named_size-clause-accepts c (facts_of settings) files (written_asks _ program settings files are named is)
+
 pub returns-clause-refuses : goal.returns-clause-refuses
 returns-clause-refuses c = inr (
   c.in_ok-error-in-Err-named_files.ensures.kind,
-  (λ files named. c.in-Err-named_files.ensures.none files (subst (λ names. Name names files)
+  inr (λ files named. c.in-Err-named_files.ensures.none files (subst (λ names. Name names files)
       (sym (same_names c.in_ok-command.command _ c.in-Ok.matches c.in_ok-command.ensures c.in-Ok.ensures.ok.2)) named)),
 )
 

@@ -18,8 +18,8 @@ invariant_of-result-2 c =
     let workers = c.number_at-workers.ensures Workers c.requires.workers in
     record { few = (rw workers.3 workers.2.1, rw workers.3 workers.2.2) }
 
-pub returns : goal.returns
-returns c = record {
+pub returns-clause-numbers : goal.returns-clause-numbers
+returns-clause-numbers c = record {
   workers = c.number_at-workers.ensures Workers c.requires.workers;
   established = c.number_at-established.ensures Established c.requires.established;
   transient = c.number_at-transient.ensures Transient c.requires.transient;
