@@ -8,6 +8,7 @@ use Rattle.acl_policy.proofs.ReadingLaws as policies
 use Rattle.acl_policy.proofs.TextLaws as texts
 use Rattle.std.specs.Str.Lines.{lines}
 use Rattle.session_state.specs.declared.timeouts.Timeouts.{Timeouts}
+use Rattle.racl_words.specs.declared.settings.TableSize.{TableSize}
 use Rattle.racl_io.specs.declared.fault.Fault.{Fault}
 use Rattle.racl_io.specs.declared.fault.Fault.TheVariants.{TooLarge, NoCapture}
 use Rattle.racl_io.specs.declared.input.Form.{Form}
@@ -16,7 +17,7 @@ use Rattle.racl_io.specs.Faults.{IsFaultOfBytes, IsFaultOfParts, IsInputFault, p
 use Rattle.racl_io.specs.Inputs.{IsInput, IsMarked, InputFacts, most_bytes}
 use Rattle.racl_io.proofs.PartingLemmas.{some_input}
 use Rattle.flow_filter.proofs.OneThreadLemmas.{one_verdicts, some_verdicts}
-use Rattle.racl_cli.specs.Runs.{ByOneThread, HasOutcome, HasPackets, IsRead, Outcome, flow_layout}
+use Rattle.racl_cli.specs.Runs.{ByOneThread, HasOutcome, HasPackets, IsRead, Outcome, layout_for}
 use Rattle.racl_cli.proofs.CaptureLaws.{no_fault_of_packets, one_fault_of_content, one_packets, packets_or_fault}
 use Rattle.racl_cli.proofs.RunLemmas.{fault_of_known_parts, read_in}
 
@@ -52,13 +53,13 @@ one_read bytes policy other packets others captures rest fit a b =
     let both = one_packets parts.form parts.content packets others captures rest (bytes_of_content bytes parts fit b.parted) first.content b.content in
     record { policies = texts.one_policy (lines parts.policy) policy other first.says.1 b.says.1; all = both.0; told = both.1 }
 
-pub one_outcome : (times : Timeouts) (bytes : List ℕ) (one other : Outcome) → AreBytes bytes → HasOutcome times bytes one → HasOutcome times bytes other → one ≡ other
-one_outcome times bytes one other fit a b =
+pub one_outcome : (size : TableSize) (times : Timeouts) (bytes : List ℕ) (one other : Outcome) → AreBytes bytes → HasOutcome size times bytes one → HasOutcome size times bytes other → one ≡ other
+one_outcome size times bytes one other fit a b =
     let same = one_read bytes a.policy b.policy a.packets b.packets one.captures other.captures fit a.read b.read in
-    let moved : ByOneThread times b.policy b.packets one.verdicts =
-    subst (λ p. ByOneThread times p b.packets one.verdicts) same.policies (subst (λ ps. ByOneThread times a.policy ps one.verdicts) same.all a.verdicts) in
+    let moved : ByOneThread size times b.policy b.packets one.verdicts =
+    subst (λ p. ByOneThread size times p b.packets one.verdicts) same.policies (subst (λ ps. ByOneThread size times a.policy ps one.verdicts) same.all a.verdicts) in
     ap₂ (λ v t. let outcome : Outcome = record { verdicts = v; captures = t } in outcome)
-    (one_verdicts flow_layout times b.policy b.packets one.verdicts other.verdicts moved b.verdicts) same.told
+    (one_verdicts (layout_for size) times b.policy b.packets one.verdicts other.verdicts moved b.verdicts) same.told
 
 -- ---- one fault
 
@@ -90,9 +91,9 @@ no_fault_of_parts bytes policy packets captures fault fit read (inr (other, says
     let parts = read.parts in
     no_fault_of_packets parts.form parts.content packets captures fault (bytes_of_content bytes parts fit read.parted) read.content of
 
-pub no_fault_too : (times : Timeouts) (bytes : List ℕ) (outcome : Outcome) (fault : Fault) → AreBytes bytes → HasOutcome times bytes outcome → IsInputFault bytes fault → ⊥
-no_fault_too times bytes outcome fault fit has (inl (same, many)) = let few = has.read.few in omega (arith, few, many)
-no_fault_too times bytes outcome fault fit has (inr (few, of)) =
+pub no_fault_too : (size : TableSize) (times : Timeouts) (bytes : List ℕ) (outcome : Outcome) (fault : Fault) → AreBytes bytes → HasOutcome size times bytes outcome → IsInputFault bytes fault → ⊥
+no_fault_too size times bytes outcome fault fit has (inl (same, many)) = let few = has.read.few in omega (arith, few, many)
+no_fault_too size times bytes outcome fault fit has (inr (few, of)) =
     no_fault_of_parts bytes has.policy has.packets outcome.captures fault fit has.read
     (fault_of_known_parts bytes has.read.parts fault has.read.parted of)
 
@@ -114,10 +115,10 @@ parts_or_fault parts =
       | inr found ↦ inr (policy_fault found.0, inl (found.0, found.1, refl))
     ]
 
-outcome_of_parts : (times : Timeouts) (bytes : List ℕ) (parts : InputFacts) → length bytes ≤ most_bytes → IsInput bytes parts → HasParts parts
-    → (outcome : Outcome) × HasOutcome times bytes outcome
-outcome_of_parts times bytes parts few is has =
-    let verdicts = some_verdicts flow_layout times has.policy has.packets in
+outcome_of_parts : (size : TableSize) (times : Timeouts) (bytes : List ℕ) (parts : InputFacts) → length bytes ≤ most_bytes → IsInput bytes parts → HasParts parts
+    → (outcome : Outcome) × HasOutcome size times bytes outcome
+outcome_of_parts size times bytes parts few is has =
+    let verdicts = some_verdicts (layout_for size) times has.policy has.packets in
     let outcome : Outcome = record { verdicts = verdicts.0; captures = has.captures } in (
       outcome,
       record {
@@ -128,22 +129,22 @@ outcome_of_parts times bytes parts few is has =
       },
     )
 
-outcome_or_fault_of_bytes : (times : Timeouts) (bytes : List ℕ) → length bytes ≤ most_bytes
-    → ((outcome : Outcome) × HasOutcome times bytes outcome) ⊎ ((fault : Fault) × IsFaultOfBytes bytes fault)
-outcome_or_fault_of_bytes times bytes few =
+outcome_or_fault_of_bytes : (size : TableSize) (times : Timeouts) (bytes : List ℕ) → length bytes ≤ most_bytes
+    → ((outcome : Outcome) × HasOutcome size times bytes outcome) ⊎ ((fault : Fault) × IsFaultOfBytes bytes fault)
+outcome_or_fault_of_bytes size times bytes few =
     elim (some_input bytes) [
       | inl is ↦ elim (parts_or_fault is.0) [
-        | inl has ↦ inl (outcome_of_parts times bytes is.0 few is.1 has)
+        | inl has ↦ inl (outcome_of_parts size times bytes is.0 few is.1 has)
         | inr found ↦ inr (found.0, inr (is.0, is.1, found.1))
       ]
       | inr none ↦ inr (NoCapture, inl (refl, none))
     ]
 
-pub outcome_or_fault : (times : Timeouts) (bytes : List ℕ) → ((outcome : Outcome) × HasOutcome times bytes outcome) ⊎ ((fault : Fault) × IsInputFault bytes fault)
-outcome_or_fault times bytes =
+pub outcome_or_fault : (size : TableSize) (times : Timeouts) (bytes : List ℕ) → ((outcome : Outcome) × HasOutcome size times bytes outcome) ⊎ ((fault : Fault) × IsInputFault bytes fault)
+outcome_or_fault size times bytes =
     elim (cases_lt most_bytes (length bytes)) [
       | inl many ↦ inr (TooLarge, inl (refl, many))
-      | inr few ↦ elim (outcome_or_fault_of_bytes times bytes few) [
+      | inr few ↦ elim (outcome_or_fault_of_bytes size times bytes few) [
         | inl has ↦ inl has
         | inr found ↦ inr (found.0, inr (few, found.1))
       ]

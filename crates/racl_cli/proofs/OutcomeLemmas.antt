@@ -18,10 +18,10 @@ use Rattle.flow_filter.proofs.OneThreadLemmas.{one_verdicts}
 use Rattle.flow_filter.specs.Judged.{readings_of, verdict_on}
 use Rattle.flow_filter.specs.Readings.{IsReading}
 use Rattle.flow_dealing.specs.Dealings.{Deal}
-use Rattle.flow_dealing.specs.declared.dealing.Dealing.{Dealing}
 use Rattle.flow_dealing.specs.Runs.{AreFew, AreJudged, HasPagesIn}
 use Rattle.flow_dealing.proofs.Places.{zip_count}
 use Rattle.racl_words.specs.declared.settings.Options.{Options}
+use Rattle.racl_words.specs.declared.settings.TableSize.{TableSize}
 use Rattle.racl_io.specs.declared.fault.Fault.{Fault}
 use Rattle.racl_io.specs.declared.fault.Fault.TheVariants.{Hex, Memory, NoCapture, Write}
 use Rattle.racl_io.specs.declared.report.Captured.{Captured}
@@ -30,8 +30,9 @@ use Rattle.racl_io.specs.Faults.{IsFaultOfBytes, IsFaultOfContent, IsSystemFault
 use Rattle.racl_io.specs.Inputs.{IsContent, IsInput, InputFacts, most_bytes}
 use Rattle.racl_io.specs.Reports.{totals_of}
 use Rattle.racl_io.specs.ShownReports.{report_shown}
+use Rattle.racl_cli.specs.Crews.{AreSaid, Orders, orders_for}
 use Rattle.racl_cli.specs.Reads.{AnswersInput, IsOutcomeOf, IsReached, IsSaid, IsUnnumbered}
-use Rattle.racl_cli.specs.Runs.{ByWorkers, HasOutcome, HasReported, HasRun, IsRead, Outcome, dealt_to, flow_layout, told_of}
+use Rattle.racl_cli.specs.Runs.{ByWorkers, HasOutcome, HasReported, HasRun, IsRead, Outcome, dealt_to, layout_for, told_of}
 use Rattle.racl_cli.proofs.CaptureLaws.{alone_plain, fault_of_known, fault_plain, one_truncated, plain_alone, plain_fault}
 use Rattle.racl_cli.proofs.RunLemmas.{alone_in_capture, fault_of_known_parts, fault_of_right_policy, fault_of_wrong_policy, fault_without_parts, read_in}
 
@@ -40,26 +41,23 @@ outcome_of verdicts captures = record { verdicts = verdicts; captures = captures
 
 -- what the workers say of their verdicts, where sessions live as long as the words ask for
 pub given_by_workers : (options : Options) (times : Timeouts) (policy : PolicyFacts) (packets : List PacketFacts) (verdicts : List Verdict) (workers : ℕ)
-    → times ≡ options.times → 1 ≤ workers → workers ≤ options.workers → AreJudged (dealt_to workers) times policy packets verdicts
-    → ((are : AreJudged (dealt_to workers) times policy packets verdicts) (family : Family) → AreFew flow_layout times family are.judged → All (HasPagesIn times family) are.judged)
+    → times ≡ options.times → 1 ≤ workers → workers ≤ options.workers → AreJudged (dealt_to options.tables workers) times policy packets verdicts
+    → ((are : AreJudged (dealt_to options.tables workers) times policy packets verdicts) (family : Family) → AreFew (layout_for options.tables) times family are.judged → All (HasPagesIn times family) are.judged)
     → ByWorkers options policy packets verdicts
 given_by_workers options times policy packets verdicts workers same some few judged paged =
-    let moved = subst (λ t. (are : AreJudged (dealt_to workers) t policy packets verdicts) × ((family : Family) → AreFew flow_layout t family are.judged → All (HasPagesIn t family) are.judged))
+    let moved = subst (λ t. (are : AreJudged (dealt_to options.tables workers) t policy packets verdicts) × ((family : Family) → AreFew (layout_for options.tables) t family are.judged → All (HasPagesIn t family) are.judged))
     same (judged, paged judged) in
     record { workers = workers; some = some; few = few; judged = moved.0; paged = moved.1 }
 
-abbrev pub deal_of : Dealing → ℕ → Deal
-deal_of dealing workers = record { layout = flow_layout; dealing = dealing; workers = workers }
-
--- what workers said whose setup has this deal, these timeouts and this policy
-pub judged_as : (packets : List PacketFacts) (verdicts : List Verdict) (d e : Deal) (filter : ReadyFilters) (set : Filter) (ready : ReadyFilters)
-    → d ≡ e → filter ≡ ready → ready.times ≡ set.times → ready.policy.now ≡ set.policy
-    → AreJudged d filter.times (policy_facts filter.policy.now) packets verdicts → AreJudged e set.times (policy_facts set.policy) packets verdicts
-judged_as packets verdicts d e filter set ready dealt same times policy said =
-    subst (λ t. AreJudged e t (policy_facts set.policy) packets verdicts) times
-    (subst (λ p. AreJudged e ready.times (policy_facts p) packets verdicts) policy
-    (subst (λ (f : ReadyFilters). AreJudged e f.times (policy_facts f.policy.now) packets verdicts) same
-    (subst (λ d. AreJudged d filter.times (policy_facts filter.policy.now) packets verdicts) dealt said)))
+-- what workers said who had orders of this size of tables, these timeouts and this policy
+pub judged_as : (packets : List PacketFacts) (verdicts : List Verdict) (orders : Orders) (size asked : TableSize) (ready : ReadyFilters) (set : Filter) (workers : ℕ)
+    → orders ≡ orders_for size ready workers → size ≡ asked → ready.times ≡ set.times → ready.policy.now ≡ set.policy → AreSaid orders packets verdicts
+    → AreJudged (dealt_to asked workers) set.times (policy_facts set.policy) packets verdicts
+judged_as packets verdicts orders size asked ready set workers given sized times policy said =
+    subst (λ s. AreJudged (dealt_to s workers) set.times (policy_facts set.policy) packets verdicts) sized
+    (subst (λ t. AreJudged (dealt_to size workers) t (policy_facts set.policy) packets verdicts) times
+    (subst (λ p. AreJudged (dealt_to size workers) ready.times (policy_facts p) packets verdicts) policy
+    (subst (λ o. AreSaid o packets verdicts) given said)))
 
 -- each packet has a verdict
 pub judged_count : (d : Deal) (times : Timeouts) (policy : PolicyFacts) (packets : List PacketFacts) (verdicts : List Verdict)
@@ -206,7 +204,7 @@ has_run options given old new bytes outcome verdicts captures (Ok totals) known 
 has_run options given old new bytes outcome verdicts captures (Err fault) known same was text counted = tt
 
 pub has_reported : (options : Options) (old new : Option (List ℕ)) (bytes : List ℕ) (one_thread outcome : Outcome) (verdicts : List Verdict) (captures : List Captured) (result : Result Totals Fault)
-    → (has : HasOutcome options.times bytes one_thread) → outcome_of verdicts captures ≡ outcome → IsReached options has.policy has.packets one_thread.captures outcome
+    → (has : HasOutcome options.tables options.times bytes one_thread) → outcome_of verdicts captures ≡ outcome → IsReached options has.policy has.packets one_thread.captures outcome
     → OnOk result (Appends old new (report_shown options.shown verdicts captures)) → IfOk result (λ totals. totals ≡ totals_of verdicts captures)
     → IfErr result (λ fault. (fault ≡ Memory) ⊎ (fault ≡ Write)) → MatchResult result (HasReported options bytes one_thread old new) IsSystemFault
 has_reported options old new bytes one_thread outcome verdicts captures (Ok totals) has same was text counted is =
@@ -227,7 +225,7 @@ has_reported options old new bytes one_thread outcome verdicts captures (Ok tota
         counted = counted;
       };
       same = λ paged.
-          ap₂ outcome_of (one_verdicts flow_layout options.times has.policy has.packets one_thread.verdicts verdicts has.verdicts (reached.by_one_thread paged)) (sym reached.told);
+          ap₂ outcome_of (one_verdicts (layout_for options.tables) options.times has.policy has.packets one_thread.verdicts verdicts has.verdicts (reached.by_one_thread paged)) (sym reached.told);
     }
 has_reported options old new bytes one_thread outcome verdicts captures (Err fault) has same was text counted (inl memory) = subst IsSystemFault (sym memory) tt
 has_reported options old new bytes one_thread outcome verdicts captures (Err fault) has same was text counted (inr write) = subst IsSystemFault (sym write) tt

@@ -5,6 +5,7 @@ use Rattle.std.proofs.Common.{◌≡◌, ◌∙◌, ◌+◌, ◌-◌, ◌<◌, �
 use Rattle.std.proofs.lemmas.List.{length-append}
 use Rattle.session_state.specs.declared.timeouts.Timeouts.{Timeouts}
 use Rattle.racl_words.specs.declared.settings.Options.{Options}
+use Rattle.racl_words.specs.declared.settings.TableSize.{TableSize}
 use Rattle.racl_io.specs.declared.fault.Fault.{Fault}
 use Rattle.racl_io.specs.declared.fault.Fault.TheVariants.{Memory, Read, TooLarge, Write}
 use Rattle.racl_io.specs.Faults.{IsInputFault, IsSystemFault}
@@ -125,11 +126,11 @@ outcome_read options given outcome (inl (fault, same, unread)) = absurd (let f :
 outcome_read options given outcome (inr whole) = record { bytes = whole.read; whole = record { whole = whole.known; few = whole.few }; answers = whole.answers }
 
 -- an input of an outcome of the one-thread filter reads as what was read
-pub known_read : (times : Timeouts) (known : Option (List ℕ)) (bytes : List ℕ) (Holds : List ℕ → Outcome → Type 0) → IsWhole known bytes
-    → ((outcome : Outcome) → HasOutcome times bytes outcome → Holds bytes outcome)
-    → IfSome known (λ input. (outcome : Outcome) → HasOutcome times input outcome → Holds input outcome)
-known_read times None bytes Holds read all = tt
-known_read times (Some input) bytes Holds read all = subst (λ b. (outcome : Outcome) → HasOutcome times b outcome → Holds b outcome) read.whole all
+pub known_read : (size : TableSize) (times : Timeouts) (known : Option (List ℕ)) (bytes : List ℕ) (Holds : List ℕ → Outcome → Type 0) → IsWhole known bytes
+    → ((outcome : Outcome) → HasOutcome size times bytes outcome → Holds bytes outcome)
+    → IfSome known (λ input. (outcome : Outcome) → HasOutcome size times input outcome → Holds input outcome)
+known_read size times None bytes Holds read all = tt
+known_read size times (Some input) bytes Holds read all = subst (λ b. (outcome : Outcome) → HasOutcome size times b outcome → Holds b outcome) read.whole all
 
 -- a fault that is answered is the system's or the input's
 pub fault_read : (options : Options) (given : Option (List ℕ)) (fault : Fault) → AnswersRead options [] given (Err fault)
@@ -158,13 +159,13 @@ fault_refused options (Some bytes) fault (inr whole) =
 
 -- an input that has an outcome has no fault but the system's
 pub fault_of_right : (options : Options) (given : Option (List ℕ)) (fault : Fault) → AnswersRead options [] given (Err fault)
-    → IfSome given (λ bytes. (outcome : Outcome) → HasOutcome options.times bytes outcome → IsSystemFault fault)
+    → IfSome given (λ bytes. (outcome : Outcome) → HasOutcome options.tables options.times bytes outcome → IsSystemFault fault)
 fault_of_right options None fault answers = tt
 fault_of_right options (Some bytes) fault (inl (other, same, inl memory)) = λ outcome has. (let e : fault ≡ Memory = cc in subst IsSystemFault (sym e) tt)
 fault_of_right options (Some bytes) fault (inl (other, same, inr (inl failed))) = λ outcome has. (let e : fault ≡ Read = cc in subst IsSystemFault (sym e) tt)
 fault_of_right options (Some bytes) fault (inl (other, same, inr (inr (large, many)))) = λ outcome has. absurd (let few = has.read.few in omega (arith, few, many))
 fault_of_right options (Some bytes) fault (inr whole) =
-    known_read options.times (Some bytes) whole.read (λ input outcome. IsSystemFault fault) (record { whole = whole.known; few = whole.few })
+    known_read options.tables options.times (Some bytes) whole.read (λ input outcome. IsSystemFault fault) (record { whole = whole.known; few = whole.few })
     (λ outcome has. subst IsSystemFault (sym (whole.answers.accepts has.policy has.packets outcome.captures has.read)) tt)
 
 -- nor is it that a write failed

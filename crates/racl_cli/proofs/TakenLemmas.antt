@@ -8,11 +8,6 @@ use Rattle.packet_view.specs.CheckedCaptures.{packets_of, records_of}
 use Rattle.packet_view.specs.declared.records.Records.{Records}
 use Rattle.packet_view.proofs.RecordListLemmas.{records_within}
 use Rattle.acl_policy.specs.Policies.{IsAmong, policy_facts}
-use Rattle.bihash_words.specs.declared.shape.Shape.{Ghosts}
-use Rattle.flow_filter.specs.declared.verdict.Verdict.{Verdict}
-use Rattle.flow_workers.specs.declared.setup.Setup.{Setup}
-use Rattle.flow_workers.specs.declared.workers.Workers.{Workers}
-use Rattle.flow_workers.specs.Progress.{AreAtRest, HaveAllSaid}
 use Rattle.racl_words.specs.declared.settings.Options.{Options}
 use Rattle.racl_io.specs.declared.fault.Fault.{Fault}
 use Rattle.racl_io.specs.declared.fault.Fault.TheVariants.{Memory, Twice}
@@ -26,9 +21,10 @@ use Rattle.racl_io.specs.Reports.{packets_in}
 use Rattle.racl_io.proofs.PartingLemmas.{some_captures}
 use Rattle.racl_cli.specs.declared.captures.Walk.{Walk}
 use Rattle.racl_cli.specs.declared.opening.Marked.{Marked}
+use Rattle.racl_cli.specs.Crews.{AreResting, orders_of}
 use Rattle.racl_cli.specs.Reads.{AnswersInput, HasMarked, IsReached}
 use Rattle.racl_cli.specs.Runs.{HasPackets, IsTaken, Outcome, told_of}
-use Rattle.racl_cli.specs.inner.Captures.{AreTakenFrom, CanTake, HasTaken, IsFaultFrom, MayTake, SaidOf, facts_of, left_at}
+use Rattle.racl_cli.specs.inner.Captures.{AreTakenFrom, CanTake, HasTaken, IsFaultFrom, MayTake, facts_of, left_at}
 use Rattle.racl_cli.proofs.CaptureLaws.{no_fault_from, one_fault_from, one_from}
 use Rattle.racl_cli.proofs.OpenedLemmas.{content_short}
 use Rattle.racl_cli.proofs.OutcomeLemmas.{memory_answers}
@@ -150,9 +146,9 @@ all_behind bytes from = ap (λ n. take n (drop from bytes)) (sym (length-drop fr
 
 -- amid the captures that a walk began with
 pub record IsAmid {T : Type 0} (begun walk : Walk T) : Type 0 where
-  pub by : walk.workers.setup ≡ begun.workers.setup
+  pub by : orders_of walk.workers ≡ orders_of begun.workers
   pub packets : List PacketFacts
-  pub rest : AreAtRest packets walk.workers
+  pub rest : AreResting packets walk.workers
   pub taken : (more : List PacketFacts) (others : List Captured) → AreTakenFrom walk.seen.items (numbered_facts walk.next) more others
       → AreTakenFrom [] (numbered_facts begun.next) (packets ++ more) (walk.captures.items ++ others)
   pub fault : (fault : Fault) → IsFaultFrom walk.seen.items (numbered_facts walk.next) fault → IsFaultFrom [] (numbered_facts begun.next) fault
@@ -229,11 +225,6 @@ pub fault_amid : {T : Type 0} (begun walk : Walk T) (capture : mark.Numbered) (f
 fault_amid begun walk capture fault amid there (inl memory) = inl memory
 fault_amid begun walk capture fault amid there (inr of) =
     inr (amid.fault fault (subst (λ next. IsFaultFrom walk.seen.items (numbered_facts next) fault) (sym there) of))
-
--- what workers said is said of their setup
-pub said_of : {A B R G K L : Type 0} {ga : Ghosts A K} {gb : Ghosts B L} (all : Workers A B R G K L ga gb) (setup : Setup A B R G K L)
-    (packets : List PacketFacts) (verdicts : List Verdict) → all.setup ≡ setup → SaidOf all packets verdicts → HaveAllSaid ga gb setup packets verdicts
-said_of {ga = ga} {gb = gb} all setup packets verdicts same said = subst (λ s. HaveAllSaid ga gb s packets verdicts) same said
 
 -- ---- what is answered
 

@@ -1,10 +1,100 @@
--- Workers after the packets that they judged.
-use Rattle.std.specs.Prelude.{◌≡◌, List}
+-- Tables of the size that the words ask for, and workers over them after the packets that they judged.
+use Rattle.std.specs.Prelude.{◌≡◌, ◌+◌, ◌++◌, ◌<◌, ◌^◌, ℕ, List, length}
 use Rattle.packet_view.specs.Captures.{PacketFacts}
+use Rattle.packet_view.specs.CheckedCaptures.{held}
+use Rattle.packet_view.specs.declared.packets.Packets.{Packets}
+use Rattle.acl_policy.specs.Policies.{PolicyFacts, policy_facts}
+use Rattle.bihash_words.specs.declared.shape.Shape.{Ghosts}
+use Rattle.session_state.specs.declared.timeouts.Timeouts.{Timeouts}
+use Rattle.flow_filter.specs.OneThread.{layout_of}
+use Rattle.flow_filter.specs.declared.ready_filters.ReadyFilters.{ReadyFilters}
+use Rattle.flow_filter.specs.declared.verdict.Verdict.{Verdict}
+use Rattle.flow_dealing.specs.Dealings.{Deal}
+use Rattle.flow_dealing.specs.Runs.{AreJudged}
+use Rattle.flow_workers.specs.Callers.{AreIdle, first_views, views_of}
 use Rattle.flow_workers.specs.Progress.{AreAtRest}
-use Rattle.racl_cli.specs.declared.crew.Crew.{Crew}
+use Rattle.flow_workers.specs.declared.tables.Callers.{Callers}
+use Rattle.flow_workers.specs.declared.tables.Tables.{Tables}
+use Rattle.flow_workers.specs.declared.workers.Workers.{Workers}
+use Rattle.racl_words.specs.declared.settings.TableSize.{TableSize}
+use Rattle.racl_words.specs.declared.settings.TableSize.TheVariants as asked
+use Rattle.racl_cli.specs.Runs.{dealt_to}
+use Rattle.racl_cli.specs.declared.sized.SizedCallers.{SizedCallers}
+use Rattle.racl_cli.specs.declared.sized.SizedCallers.TheVariants as called
+use Rattle.racl_cli.specs.declared.sized.SizedTables.{SizedTables}
+use Rattle.racl_cli.specs.declared.sized.SizedTables.TheVariants as laid
+use Rattle.racl_cli.specs.declared.sized.SizedWorkers.{SizedWorkers}
+use Rattle.racl_cli.specs.declared.sized.SizedWorkers.TheVariants.{Standard, Large}
 
--- they are as they were set up, and rest after these packets
-pub record Became {T : Type 0} (begun : Crew T) (packets : List PacketFacts) (crew : Crew T) : Type 0 where
-  pub setup : crew.workers.setup ≡ begun.workers.setup
-  pub rest : AreAtRest packets crew.workers
+-- ---- tables
+
+abbrev pub size_of : SizedTables → TableSize
+size_of (laid.Standard own) = asked.Standard
+size_of (laid.Large own) = asked.Large
+
+-- callers of these tables, which made no call
+pub record AreFirst {A B K L : Type 0} {ga : Ghosts A K} {gb : Ghosts B L} (tables : Tables A B K L)
+    (callers : Callers A B K L ga gb) : Type 0 where
+  pub idle : AreIdle ga gb tables callers
+  pub first : views_of ga gb callers ≡ first_views (layout_of ga gb)
+
+abbrev pub AreFirstOf : SizedTables → SizedCallers → Type 0
+AreFirstOf (laid.Standard own) (called.Standard first) = AreFirst own first
+AreFirstOf (laid.Large own) (called.Large first) = AreFirst own first
+AreFirstOf _ _ = ⊥
+
+-- ---- workers
+
+-- what workers judge by: their tables and how packets are dealt to them, how long sessions live, and the rules
+pub record Orders : Type 0 where
+  pub deal : Deal
+  pub times : Timeouts
+  pub policy : PolicyFacts
+
+abbrev pub orders_for : TableSize → ReadyFilters → ℕ → Orders
+orders_for size filter workers = record { deal = dealt_to size workers; times = filter.times; policy = policy_facts filter.policy.now }
+
+-- those of workers whatever the size of their tables
+abbrev orders_in : {A B R G K L : Type 0} {ga : Ghosts A K} {gb : Ghosts B L} → Workers A B R G K L ga gb → Orders
+orders_in {ga = ga} {gb = gb} workers = record {
+  deal = record { layout = layout_of ga gb; dealing = workers.setup.dealing; workers = workers.setup.workers };
+  times = workers.setup.filter.now.times;
+  policy = policy_facts workers.setup.filter.now.policy.now;
+}
+
+abbrev pub orders_of : {T : Type 0} → SizedWorkers T → Orders
+orders_of (Standard workers) = orders_in workers
+orders_of (Large workers) = orders_in workers
+
+-- workers after these packets
+abbrev pub AreResting : {T : Type 0} → List PacketFacts → SizedWorkers T → Type 0
+AreResting packets (Standard workers) = AreAtRest packets workers
+AreResting packets (Large workers) = AreAtRest packets workers
+
+-- workers with these orders after these packets
+pub record AreAfter {T : Type 0} (orders : Orders) (packets : List PacketFacts) (workers : SizedWorkers T) : Type 0 where
+  pub given : orders_of workers ≡ orders
+  pub rest : AreResting packets workers
+
+-- whatever packets they judged so far, these may follow
+pub record MayFollow {T : Type 0} (workers : SizedWorkers T) (more : Packets) : Type 0 where
+  pub packets : List PacketFacts
+  pub rest : AreResting packets workers
+  pub fits : length packets + length (held more) < 2 ^ 64
+
+-- they judged these packets too
+pub record HaveFollowedOn {T : Type 0} (old : SizedWorkers T) (more : Packets) (new : SizedWorkers T) : Type 0 where
+  pub orders : orders_of new ≡ orders_of old
+  pub rest : (packets : List PacketFacts) → AreResting packets old → AreResting (packets ++ held more) new
+
+-- they judged some packets
+abbrev pub HaveJudgedSome : {T : Type 0} → SizedWorkers T → Type 0
+HaveJudgedSome workers = (packets : List PacketFacts) × AreResting packets workers
+
+-- the verdicts on these packets by workers with these orders
+abbrev pub AreSaid : Orders → List PacketFacts → List Verdict → Type 0
+AreSaid orders packets verdicts = AreJudged orders.deal orders.times orders.policy packets verdicts
+
+-- these are the verdicts on the packets that they judged
+abbrev pub HaveSaidOn : {T : Type 0} → SizedWorkers T → List Verdict → Type 0
+HaveSaidOn workers verdicts = (packets : List PacketFacts) → AreResting packets workers → AreSaid (orders_of workers) packets verdicts

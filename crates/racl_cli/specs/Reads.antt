@@ -31,7 +31,7 @@ use Rattle.racl_cli.specs.Runs.{ByOneThread, ByWorkers, IsRead, Outcome, told_of
 -- workers gave the verdicts on these packets, and these are the one-thread filter's where none says no-pages
 pub record IsReached (options : Options) (policy : PolicyFacts) (packets : List PacketFacts) (captures : List Captured) (outcome : Outcome) : Type 0 where
   pub by_workers : ByWorkers options policy packets outcome.verdicts
-  pub by_one_thread : HavePages outcome.verdicts → ByOneThread options.times policy packets outcome.verdicts
+  pub by_one_thread : HavePages outcome.verdicts → ByOneThread options.tables options.times policy packets outcome.verdicts
   pub told : outcome.captures ≡ captures
 
 -- the bytes are an input, and its outcome is one that workers reached

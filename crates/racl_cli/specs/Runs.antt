@@ -12,6 +12,8 @@ use Rattle.flow_dealing.specs.declared.dealing.Dealing.TheVariants.{Bucket}
 use Rattle.flow_dealing.specs.Dealings.{Deal}
 use Rattle.flow_dealing.specs.Runs.{AreFew, AreJudged, HasPagesIn, HavePages}
 use Rattle.racl_words.specs.declared.settings.Options.{Options}
+use Rattle.racl_words.specs.declared.settings.TableSize.{TableSize}
+use Rattle.racl_words.specs.declared.settings.TableSize.TheVariants.{Standard, Large}
 use Rattle.racl_io.specs.declared.input.Form.{Form}
 use Rattle.racl_io.specs.declared.input.Form.TheVariants.{Binary, Hexadecimal, Numbered}
 use Rattle.racl_io.specs.declared.report.Captured.{Captured}
@@ -71,28 +73,40 @@ pub record IsRead (bytes : List ℕ) (policy : PolicyFacts) (packets : List Pack
 
 -- The program's tables: 4096 buckets and 16384 pages for IPv4, 1024 buckets and 4096 pages for IPv6. A bucket holds
 -- at most 256 pairs and changes at most 8589934591 times.
-abbrev pub flow_layout : Layout
-flow_layout = record {
+abbrev pub standard_layout : Layout
+standard_layout = record {
   four = record { key_words = 2; log2_buckets = 12; pages = 16384; max_log2 = 6; limit = 8589934591; callers = 65535; hash = hash_of };
   six = record { key_words = 5; log2_buckets = 10; pages = 4096; max_log2 = 6; limit = 8589934591; callers = 65535; hash = hash_of };
 }
 
+-- Larger ones: 65536 buckets and 262144 pages for each family.
+abbrev pub large_layout : Layout
+large_layout = record {
+  four = record { key_words = 2; log2_buckets = 16; pages = 262144; max_log2 = 6; limit = 8589934591; callers = 65535; hash = hash_of };
+  six = record { key_words = 5; log2_buckets = 16; pages = 262144; max_log2 = 6; limit = 8589934591; callers = 65535; hash = hash_of };
+}
+
+-- the tables that the words ask for
+abbrev pub layout_for : TableSize → Layout
+layout_for Standard = standard_layout
+layout_for Large = large_layout
+
 -- packets are dealt by bucket to so many workers
-abbrev pub dealt_to : ℕ → Deal
-dealt_to workers = record { layout = flow_layout; dealing = Bucket; workers = workers }
+abbrev pub dealt_to : TableSize → ℕ → Deal
+dealt_to size workers = record { layout = layout_for size; dealing = Bucket; workers = workers }
 
 -- those of the one-thread filter
-abbrev pub ByOneThread : Timeouts → PolicyFacts → List PacketFacts → List Verdict → Type 0
-ByOneThread times policy packets verdicts = AreVerdicts flow_layout times policy packets verdicts
+abbrev pub ByOneThread : TableSize → Timeouts → PolicyFacts → List PacketFacts → List Verdict → Type 0
+ByOneThread size times policy packets verdicts = AreVerdicts (layout_for size) times policy packets verdicts
 
 -- Those that some workers gave, and no more workers than the words ask for. No packet of a family's flows is refused
--- for want of pages where the family has at most 256 such packets for IPv4, 64 for IPv6.
+-- for want of pages where the family has at most 256 such packets for IPv4, 64 for IPv6; over large tables 4096 for each.
 pub record ByWorkers (options : Options) (policy : PolicyFacts) (packets : List PacketFacts) (verdicts : List Verdict) : Type 0 where
   pub workers : ℕ
   pub some : 1 ≤ workers
   pub few : workers ≤ options.workers
-  pub judged : AreJudged (dealt_to workers) options.times policy packets verdicts
-  pub paged : (family : Family) → AreFew flow_layout options.times family judged.judged → All (HasPagesIn options.times family) judged.judged
+  pub judged : AreJudged (dealt_to options.tables workers) options.times policy packets verdicts
+  pub paged : (family : Family) → AreFew (layout_for options.tables) options.times family judged.judged → All (HasPagesIn options.times family) judged.judged
 
 -- ---- outcomes
 
@@ -101,12 +115,12 @@ pub record Outcome : Type 0 where
   pub verdicts : List Verdict
   pub captures : List Captured
 
--- the bytes are an input on which the one-thread filter comes to this outcome
-pub record HasOutcome (times : Timeouts) (bytes : List ℕ) (outcome : Outcome) : Type 0 where
+-- the bytes are an input on which the one-thread filter comes to this outcome over tables of this size
+pub record HasOutcome (size : TableSize) (times : Timeouts) (bytes : List ℕ) (outcome : Outcome) : Type 0 where
   pub policy : PolicyFacts
   pub packets : List PacketFacts
   pub read : IsRead bytes policy packets outcome.captures
-  pub verdicts : ByOneThread times policy packets outcome.verdicts
+  pub verdicts : ByOneThread size times policy packets outcome.verdicts
 
 -- ---- reports
 
@@ -122,7 +136,7 @@ pub record HasRun (options : Options) (given old new : Option (List ℕ)) (total
   pub read : IsRead bytes policy packets captures
   pub verdicts : List Verdict
   pub by_workers : ByWorkers options policy packets verdicts
-  pub by_one_thread : HavePages verdicts → ByOneThread options.times policy packets verdicts
+  pub by_one_thread : HavePages verdicts → ByOneThread options.tables options.times policy packets verdicts
   pub text : Appends old new (report_shown options.shown verdicts captures)
   pub counted : totals ≡ totals_of verdicts captures
 

@@ -6,12 +6,10 @@ ghost use Rattle.racl_io.specs.Inputs.{most_bytes};
 ghost use Rattle.racl_cli.specs.Reads.{AnswersInput, HasMarked};
 ghost use Rattle.racl_cli.specs.inner.Captures.{CanTake, HasTaken, HasTakenAll, IsFaultAt, IsFaultOfWalk, MayTake};
 
-use crate::crew::{OpenGate, setup_of};
 use crate::opening::Marked;
 use crate::outcome::Judged;
+use crate::sized::{SizedWorkers, create_sized};
 use crate::streaming::plan_for;
-use bihash_words::{ShapeV4, ShapeV6, flow_shapes_are_sound};
-use flow_workers::{Workers, create_tables};
 use packet_view::{CheckedCapture, Packets, check_capture};
 use racl_io::{Captured, Digits, Fault, Numbered, cut_digits, decoded};
 use racl_words::Options;
@@ -25,7 +23,7 @@ const RECORD_DIGITS: usize = 60;
 /// Captures of which some were judged.
 #[derive(Drop)]
 pub struct Walk<'t, 'f, 'b, T: Wait> {
-    pub workers: Workers<'t, 'f, ShapeV4, ShapeV6, T, OpenGate>,
+    pub workers: SizedWorkers<'t, 'f, T>,
     /// What is told of those that were.
     pub captures: Vec<Captured>,
     /// The numbers of their interfaces, the last one first.
@@ -40,7 +38,7 @@ impl<'t, 'f, 'b, T: Wait> Walk<'t, 'f, 'b, T> {
     /// No capture was judged, and this is the first.
     fn at(
         alloc: Global,
-        workers: Workers<'t, 'f, ShapeV4, ShapeV6, T, OpenGate>,
+        workers: SizedWorkers<'t, 'f, T>,
         first: Numbered<'b>,
     ) -> Walk<'t, 'f, 'b, T>
         ensures workers { result.workers ≡ workers.entry }
@@ -140,21 +138,19 @@ pub fn judge_captures<T: Threads + Wait + Sync>(
     requires few { length bytes.now ≤ most_bytes }
     ensures { AnswersInput options.now bytes.now result }
 {
-    flow_shapes_are_sound();
     let Marked {
         filter,
         number,
         from,
     } = marked;
     let content = &bytes[from..];
-    let Ok((tables, callers)) = create_tables::<ShapeV4, ShapeV6>(alloc) else {
+    let Ok((tables, callers)) = create_sized(alloc, options.tables) else {
         return Err(Fault::Memory);
     };
     let (expected, workers) = plan_for(options, true, content.len() / RECORD_DIGITS);
     let prepared = filter.prepare(alloc, expected)?;
     let ready = filter.ready_with(alloc, &prepared)?;
-    let setup = setup_of(rt, &ready, &tables, workers);
-    let Ok(workers) = Workers::new(alloc, setup, callers) else {
+    let Ok(workers) = SizedWorkers::new(rt, alloc, &ready, &tables, callers, workers) else {
         return Err(Fault::Memory);
     };
     let first = Numbered {

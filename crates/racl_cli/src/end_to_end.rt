@@ -107,7 +107,7 @@ pub fn run<R: Source + Send, W: Sink, T: Threads + Wait + Sync>(
 
     // An input that is right is answered by its report, or memory ran out or a device failed.
     ensures accepts { IfSome (R.bytes reader.old) (λ bytes. (outcome : Outcome)
-        → HasOutcome options.now.times bytes outcome
+        → HasOutcome options.now.tables options.now.times bytes outcome
         → MatchResult result (HasReported options.now bytes outcome (W.bytes writer.old) (W.bytes writer.new)) IsSystemFault) }
 
     // A fault of the input is answered where its cause stands first, and then nothing else of the input.
@@ -126,5 +126,12 @@ pub fn run<R: Source + Send, W: Sink, T: Threads + Wait + Sync>(
 {
     let judged = judge_source(rt, alloc, options, reader)?;
     let beside = if options.workers > 1 { Some(rt) } else { None };
-    write_shown(beside, alloc, writer, options.shown, &judged.verdicts, &judged.captures)
+    write_shown(
+        beside,
+        alloc,
+        writer,
+        options.shown,
+        &judged.verdicts,
+        &judged.captures,
+    )
 }

@@ -2,18 +2,19 @@
 ghost use Rattle.std.specs.Prelude.{◌≡◌, ◌⊎◌, ℕ, List};
 ghost use Rattle.packet_view.specs.Bytes.{AreBytes};
 ghost use Rattle.session_state.specs.declared.timeouts.Timeouts.{Timeouts};
+ghost use Rattle.racl_words.specs.declared.settings.TableSize.{TableSize};
 ghost use Rattle.racl_io.specs.declared.fault.Fault.{Fault};
 ghost use Rattle.racl_io.specs.Faults.{IsInputFault};
 ghost use Rattle.racl_cli.specs.Runs.{HasOutcome, Outcome};
 
 /// All bytes are an input of one outcome of the one-thread filter or have one fault, and never both.
 pub fn each_input_has_one_outcome()
-    ensures some { (times : Timeouts) (bytes : List ℕ) → ((outcome : Outcome) × HasOutcome times bytes outcome)
+    ensures some { (size : TableSize) (times : Timeouts) (bytes : List ℕ) → ((outcome : Outcome) × HasOutcome size times bytes outcome)
         ⊎ ((fault : Fault) × IsInputFault bytes fault) }
-    ensures one { (times : Timeouts) (bytes : List ℕ) (outcome other : Outcome) → AreBytes bytes
-        → HasOutcome times bytes outcome → HasOutcome times bytes other → outcome ≡ other }
+    ensures one { (size : TableSize) (times : Timeouts) (bytes : List ℕ) (outcome other : Outcome) → AreBytes bytes
+        → HasOutcome size times bytes outcome → HasOutcome size times bytes other → outcome ≡ other }
     ensures fault { (bytes : List ℕ) (fault other : Fault) → AreBytes bytes
         → IsInputFault bytes fault → IsInputFault bytes other → fault ≡ other }
-    ensures apart { (times : Timeouts) (bytes : List ℕ) (outcome : Outcome) (fault : Fault) → AreBytes bytes
-        → HasOutcome times bytes outcome → IsInputFault bytes fault → ⊥ }
+    ensures apart { (size : TableSize) (times : Timeouts) (bytes : List ℕ) (outcome : Outcome) (fault : Fault) → AreBytes bytes
+        → HasOutcome size times bytes outcome → IsInputFault bytes fault → ⊥ }
 {}

@@ -10,6 +10,7 @@ mod laws;
 mod message;
 mod opening;
 mod outcome;
+mod sized;
 mod streaming;
 
 pub use end_to_end::run;
@@ -19,4 +20,4 @@ pub use message::{Ending, Message, Remark, Unopened};
 pub use racl_io::{
     Device, DeviceFault, Fault, Form, Joined, Marked, Other, Sink, Source, Totals, marked,
 };
-pub use racl_words::{Asked, Options, Origin, options, words_status};
+pub use racl_words::{Asked, Options, Origin, TableSize, options, words_status};

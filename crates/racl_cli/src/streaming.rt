@@ -6,12 +6,12 @@ ghost use Rattle.racl_io.specs.Inputs.{most_bytes};
 ghost use Rattle.racl_io.specs.Transfers.{HasReadWithin};
 ghost use Rattle.racl_cli.specs.Reads.{AnswersRead, HasHeaded, HasJudged, MayGoOn, MayJudge, having_records};
 
-use crate::crew::{Crew, MANY_PACKETS, setup_of};
+use crate::crew::Crew;
 use crate::opening::Headed;
 use crate::outcome::Judged;
-use bihash_words::{ShapeV4, ShapeV6, flow_shapes_are_sound};
+use crate::sized::{MANY_PACKETS, SizedWorkers, create_sized};
 use capture_stream::{Opening, Streamed, WindowSize, judge_stream};
-use flow_workers::{Filter, Workers, create_tables};
+use flow_workers::Filter;
 use packet_view::front_records;
 use racl_io::{Captured, Fault, Source};
 use racl_words::Options;
@@ -84,8 +84,7 @@ fn judge_records<'t, R: Source + Send, T: Threads + Wait + Sync>(
     ensures fault { IfErr result (IsStreamFault opening (R.bytes reader.old) (R.bytes reader.new)) }
     ensures within { HasReadWithin R.bytes R.failures (most_bytes + 1 - length opening.bytes.items) reader.old reader.new result }
 {
-    flow_shapes_are_sound();
-    let Ok((tables, callers)) = create_tables::<ShapeV4, ShapeV6>(alloc) else {
+    let Ok((tables, callers)) = create_sized(alloc, options.tables) else {
         return Err(Fault::Memory);
     };
     let front = front_records(&opening.bytes[opening.from..], opening.order, 0);
@@ -98,8 +97,7 @@ fn judge_records<'t, R: Source + Send, T: Threads + Wait + Sync>(
     let Ok(ready) = filter.ready_with(alloc, &prepared) else {
         return Err(Fault::Memory);
     };
-    let setup = setup_of(rt, &ready, &tables, workers);
-    let Ok(workers) = Workers::new(alloc, setup, callers) else {
+    let Ok(workers) = SizedWorkers::new(rt, alloc, &ready, &tables, callers, workers) else {
         return Err(Fault::Memory);
     };
     let crew = Crew { alloc, workers };

@@ -15,7 +15,7 @@ use Rattle.clap.specs.declared.error.kind.ErrorKind.{ErrorKind}
 use Rattle.clap.specs.declared.parser.matches.ValueSource.TheVariants.{DefaultValue}
 use Rattle.clap.proofs.OnLiterals.{clap_on_literals}
 use Rattle.racl_words.specs.CommandLine.{OptionName, Workers, Established, Transient, Udp, default_of, name_of, racl}
-use Rattle.racl_words.proofs.SettingWalks.{at_row_missing, between, capture_filled, default_row, filled_rule, interface_filled, only_filled, policy_filled, summary_filled, top}
+use Rattle.racl_words.proofs.SettingWalks.{at_row_missing, between, capture_filled, default_row, filled_rule, interface_filled, only_filled, policy_filled, summary_filled, tables_filled, top}
 use Rattle.racl_words.specs.Selections.{summary_id}
 
 or_right : (b : Bool) → (b || true) ≡ true
@@ -56,8 +56,11 @@ transient_filled rows = with_default (established_filled rows) (filled_rule Tran
 abbrev udp_filled : List Row → List Row
 udp_filled rows = with_default (transient_filled rows) (filled_rule Udp)
 
+abbrev tables_passed : List Row → List Row
+tables_passed rows = with_default (udp_filled rows) tables_filled
+
 abbrev interface_passed : List Row → List Row
-interface_passed rows = with_default (udp_filled rows) interface_filled
+interface_passed rows = with_default (tables_passed rows) interface_filled
 
 abbrev only_passed : List Row → List Row
 only_passed rows = with_default (interface_passed rows) only_filled
@@ -78,10 +81,10 @@ defaults_pass : (rows : List Row) → defaults_fault rows top.rules ≡ []
 unfolding clap_on_literals
 defaults_pass rows = both_pass (default_passes Workers rows) (both_pass (default_passes Established (workers_filled rows))
     (both_pass (default_passes Transient (established_filled rows)) (both_pass (default_passes Udp (transient_filled rows))
-    (both_pass (flag_passes interface_filled (udp_filled rows) refl) (both_pass (flag_passes only_filled (interface_passed rows) refl)
+    (both_pass (flag_passes tables_filled (udp_filled rows) refl) (both_pass (flag_passes interface_filled (tables_passed rows) refl) (both_pass (flag_passes only_filled (interface_passed rows) refl)
     (both_pass (summary_passes (only_passed rows)) (both_pass (flag_passes policy_filled (summary_passed rows) refl)
     (both_pass (flag_passes capture_filled (policy_passed rows) refl) (both_pass (flag_passes (filled help_rule) (capture_passed rows) refl)
-    (both_pass (flag_passes (filled version_rule) (help_passed rows) refl) refl))))))))))
+    (both_pass (flag_passes (filled version_rule) (help_passed rows) refl) refl)))))))))))
 
 -- what the words come to in the end, by where the walk stopped
 abbrev pub end_fault : List ErrorKind → Walk → List ErrorKind
@@ -186,7 +189,8 @@ summary_keeps id rows = keep_row id summary_id (codes "false") AsWritten rows
 all_but_options : (rows : List Row) → fold with_default rows top.rules ≡ with_default (udp_filled rows) summary_filled
 all_but_options rows = flag_keeps (filled version_rule) (help_passed rows) refl ∙ flag_keeps (filled help_rule) (capture_passed rows) refl
     ∙ flag_keeps capture_filled (policy_passed rows) refl ∙ flag_keeps policy_filled (summary_passed rows) refl
-    ∙ ap (λ rs. with_default rs summary_filled) (flag_keeps only_filled (interface_passed rows) refl ∙ flag_keeps interface_filled (udp_filled rows) refl)
+    ∙ ap (λ rs. with_default rs summary_filled) (flag_keeps only_filled (interface_passed rows) refl
+    ∙ flag_keeps interface_filled (tables_passed rows) refl ∙ flag_keeps tables_filled (udp_filled rows) refl)
 
 no_summary : (o : OptionName) → bytes_eq summary_id (name_of o) ≡ false
 no_summary Workers = refl

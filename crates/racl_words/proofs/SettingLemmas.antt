@@ -14,9 +14,11 @@ use Rattle.clap.specs.Walk.{Held, has_row, nothing_held, row_text, settled, walk
 use Rattle.clap.specs.Words.{IsSignedIn, Row, Text, matches_of, without_minus}
 use Rattle.clap.specs.declared.builder.value_parser.ValueParser.TheVariants.{Signed}
 use Rattle.clap.proofs.ValueTestLemmas.{Accepts-accepts}
-use Rattle.racl_words.specs.CommandLine.{IsInRange, OptionName, Workers, Established, Transient, Udp, Spells, capture_id, default_of, interface_id, most_of, most_seconds, name_of, number_of, policy_id, racl, shown_at, text_at}
+use Rattle.racl_words.specs.CommandLine.{IsInRange, OptionName, Workers, Established, Transient, Udp, Spells, capture_id, default_of, interface_id, most_of, most_seconds, name_of, number_of, policy_id, racl, shown_at, size_at, text_at}
 use Rattle.racl_io.specs.declared.shown.Shown.TheVariants.{Every}
 use Rattle.racl_words.specs.Selections.{only_id, shown_by, summary_id}
+use Rattle.racl_words.specs.Sizes.{size_by, tables_id}
+use Rattle.racl_words.specs.declared.settings.TableSize.TheVariants.{Standard}
 use Rattle.racl_words.specs.Options.{AreInRange, AreNames, AreSettings, Setting, Use, facts_of, named_by, sets, times_set, value_at, words_as, words_of, words_of_use}
 use Rattle.racl_words.specs.Origins.{AskForRun, Name, OriginFacts, named_at}
 use Rattle.racl_words.proofs.NameLemmas.{plain_uses}
@@ -158,6 +160,12 @@ no_capture Established = refl
 no_capture Transient = refl
 no_capture Udp = refl
 
+no_size : IsOther tables_id
+no_size Workers = refl
+no_size Established = refl
+no_size Transient = refl
+no_size Udp = refl
+
 no_only : IsOther only_id
 no_only Workers = refl
 no_only Established = refl
@@ -246,6 +254,14 @@ captures_are (u ∷ us) [] = refl
 captures_are (u ∷ us) (p ∷ []) = refl
 captures_are (u ∷ us) (p ∷ c ∷ names) = refl
 
+size_is : (uses : List Use) (names : List Text) → find_row tables_id (other_rows uses names) ≡ None
+size_is [] [] = refl
+size_is [] (p ∷ []) = refl
+size_is [] (p ∷ c ∷ names) = refl
+size_is (u ∷ us) [] = refl
+size_is (u ∷ us) (p ∷ []) = refl
+size_is (u ∷ us) (p ∷ c ∷ names) = refl
+
 only_is : (uses : List Use) (names : List Text) → find_row only_id (other_rows uses names) ≡ None
 only_is [] [] = refl
 only_is [] (p ∷ []) = refl
@@ -272,6 +288,7 @@ words_ask program ss uses names origin are named says = record {
   options = record {
     faultless = fault_is program words ∙ ap₂ end_fault faultless_walk walked_is ∙ ends_well ends.last ends.runs ends.settles;
     options = record { workers = spelt Workers; established = spelt Established; transient = spelt Transient; udp = spelt Udp };
+    tables = tables_are;
     shown = shown_is;
   };
   names = subst (λ named. Name named origin) (sym named_is) says;
@@ -314,6 +331,9 @@ words_ask program ss uses names origin are named says = record {
 
     other_row : (id : Text) → IsOther id → bytes_eq summary_id id ≡ false → find_row id (matches_of racl (program ∷ words)) ≡ find_row id (other_rows uses names)
     other_row id other unlike = ap (find_row id) filled_rows ∙ no_other_filled id (map row_of ss ++ other_rows uses names) other unlike ∙ other_found id ss uses names other
+
+    tables_are : size_at (program ∷ words) ≡ Some Standard
+    tables_are = ap (λ (found : Option Row). size_by (option_and_then (λ r. slice_get r.values 0) found)) (other_row tables_id no_size refl ∙ size_is uses names)
 
     shown_is : shown_at (program ∷ words) ≡ Some Every
     shown_is =

@@ -16,12 +16,16 @@ use Rattle.clap.proofs.OnLiterals.{clap_on_literals}
 use Rattle.racl_words.specs.CommandLine.{OptionName, Workers, Established, Transient, Udp, capture_id, default_of, file_rule, interface_rule, most_of, name_of, option_rule, policy_id, racl}
 use Rattle.racl_words.specs.Options.{Setting, words_by, words_of}
 use Rattle.racl_words.specs.Selections.{only_rule, summary_rule}
+use Rattle.racl_words.specs.Sizes.{tables_rule}
 
 abbrev pub top : Shape
 top = (built racl).top
 
 abbrev pub filled_rule : OptionName → Rule
 filled_rule o = filled (option_rule o)
+
+abbrev pub tables_filled : Rule
+tables_filled = filled tables_rule
 
 abbrev pub interface_filled : Rule
 interface_filled = filled interface_rule

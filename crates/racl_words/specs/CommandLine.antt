@@ -10,7 +10,9 @@ use Rattle.clap.specs.declared.error.kind.ErrorKind.{ErrorKind}
 use Rattle.clap.specs.declared.error.kind.ErrorKind.TheVariants.{DisplayHelp, DisplayVersion}
 use Rattle.racl_io.specs.declared.shown.Shown.{Shown}
 use Rattle.racl_words.specs.declared.settings.Options.{Options}
+use Rattle.racl_words.specs.declared.settings.TableSize.{TableSize}
 use Rattle.racl_words.specs.Selections.{only_id, only_rule, shown_by, summary_id, summary_rule}
+use Rattle.racl_words.specs.Sizes.{size_by, tables_id, tables_rule}
 
 -- ---- the command
 
@@ -84,9 +86,10 @@ abbrev pub with_options : App
 with_options = with_rule (with_rule (with_rule (with_rule without_options (option_rule Workers))
     (option_rule Established)) (option_rule Transient)) (option_rule Udp)
 
--- and with the captures of interfaces and the packets that are shown
+-- and with the size of the tables, the captures of interfaces and the packets that are shown
 abbrev pub with_selections : App
-with_selections = with_rule (with_rule (with_rule with_options interface_rule) only_rule) summary_rule
+with_selections = with_rule (with_rule (with_rule (with_rule with_options tables_rule) interface_rule) only_rule)
+    summary_rule
 
 -- and with the files
 abbrev pub racl : App
@@ -100,6 +103,7 @@ pub record OptionFacts : Type 0 where
   pub established : ℕ
   pub transient : ℕ
   pub udp : ℕ
+  pub tables : TableSize
   pub shown : Shown
 
 abbrev pub option_facts : Options → OptionFacts
@@ -108,6 +112,7 @@ option_facts o = record {
   established = o.times.established;
   transient = o.times.transient;
   udp = o.times.udp;
+  tables = o.tables;
   shown = o.shown;
 }
 
@@ -138,11 +143,16 @@ text_at words name = one_of name (matches_of racl words)
 abbrev pub shown_at : List Text → Option Shown
 shown_at words = shown_by (first_of summary_id (matches_of racl words)) (first_of only_id (matches_of racl words))
 
+-- the size of the tables that they ask for
+abbrev pub size_at : List Text → Option TableSize
+size_at words = size_by (first_of tables_id (matches_of racl words))
+
 -- the command finds no fault in the words, each option is the number spelt by the text that its
--- matches of the words hold for it, and these packets are asked for
+-- matches of the words hold for it, and this size and these packets are asked for
 pub record AskFor (words : List Text) (facts : OptionFacts) : Type 0 where
   pub faultless : fault_of racl words ≡ []
   pub options : SpellsOptions (text_at words) facts
+  pub tables : size_at words ≡ Some facts.tables
   pub shown : shown_at words ≡ Some facts.shown
 
 -- an error of this kind is a request for the help or for the version

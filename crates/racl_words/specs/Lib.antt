@@ -2,4 +2,5 @@ pub mod CommandLine
 pub mod Options
 pub mod Origins
 pub mod Selections
+pub mod Sizes
 pub mod inner

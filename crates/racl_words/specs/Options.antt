@@ -8,6 +8,7 @@ use Rattle.racl_words.specs.CommandLine.{IsInRange, OptionFacts}
 use Rattle.racl_words.specs.CommandLine.{OptionName, Workers, Established, Transient, Udp}
 use Rattle.racl_words.specs.CommandLine.{default_of, interface_id, name_of, number_of}
 use Rattle.racl_io.specs.declared.shown.Shown.TheVariants.{Every}
+use Rattle.racl_words.specs.declared.settings.TableSize.TheVariants.{Standard}
 use Rattle.racl_words.specs.Origins.{NamedFacts}
 
 -- an option set to a value, in one word or in two
@@ -46,13 +47,14 @@ pub record AreSettings (settings : List Setting) : Type 0 where
   pub once : (option : OptionName) → times_set option settings ≤ 1
   pub in_range : AreInRange settings
 
--- the numbers to which they set the options; every packet is shown
+-- the numbers to which they set the options; the tables are standard, and every packet is shown
 abbrev pub facts_of : List Setting → OptionFacts
 facts_of settings = record {
   workers = number_of (value_at Workers settings);
   established = number_of (value_at Established settings);
   transient = number_of (value_at Transient settings);
   udp = number_of (value_at Udp settings);
+  tables = Standard;
   shown = Every;
 }
 

@@ -5,8 +5,9 @@ mod check_words;
 mod naming;
 mod selection;
 mod settings;
+mod size;
 mod words;
 
 pub use check_words::check_name;
-pub use settings::{Asked, CaptureFile, Files, Interfaces, Options, Origin};
+pub use settings::{Asked, CaptureFile, Files, Interfaces, Options, Origin, TableSize};
 pub use words::{options, words_status};

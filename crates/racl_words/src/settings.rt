@@ -4,12 +4,22 @@ ghost use Rattle.std.specs.Prelude.{◌≤◌};
 use racl_io::Shown;
 use session_state::Timeouts;
 
+/// How many places the session tables have. Four stand in a page, and a bucket has at most 256.
+#[derive(Clone, Copy, Debug, PartialEq, Eq)]
+pub enum TableSize {
+    /// 65,536 for IPv4 flows, in 4096 buckets; 16,384 for IPv6 flows, in 1024 buckets.
+    Standard,
+    /// 1,048,576 for each, in 65,536 buckets.
+    Large,
+}
+
 /// What the options set.
 #[derive(Clone, Copy, Debug, PartialEq, Eq)]
 pub struct Options {
     /// How many threads judge packets.
     pub workers: usize,
     pub times: Timeouts,
+    pub tables: TableSize,
     /// Which packets have a line in the report.
     pub shown: Shown,
     pub ghost few: { (1 ≤ workers) × (workers ≤ 16) },

@@ -3,15 +3,17 @@ ghost use Rattle.std.specs.Prelude.{◌≡◌, ◌≢◌, ◌⊎◌, List, ◌�
 ghost use Rattle.clap.specs.Walk.{Text, texts};
 ghost use Rattle.clap.specs.Words.{HasKind, app_of, fault_of, found_of, kind_of, one_text, rule_of};
 ghost use Rattle.racl_words.specs.CommandLine.{HoldsNumber, HoldsNumbers, IsRequest, OptionFacts, OptionName, Spells, SpellsOptions};
-ghost use Rattle.racl_words.specs.CommandLine.{option_facts, racl, shown_at, with_options, with_selections, without_options};
+ghost use Rattle.racl_words.specs.CommandLine.{option_facts, racl, shown_at, size_at, with_options, with_selections, without_options};
 ghost use Rattle.racl_words.specs.CommandLine as line;
 ghost use Rattle.racl_words.specs.Options.{AreNames, AreSettings, Setting, Use, facts_of, named_by, words_as};
 ghost use Rattle.racl_words.specs.Origins.{AskForRun, Name, NamesNone, OriginFacts, origin_facts};
 ghost use Rattle.racl_words.specs.Selections.{only_rule, summary_rule};
+ghost use Rattle.racl_words.specs.Sizes.{tables_rule};
 
 use crate::naming::{Refusal, origin_named};
 use crate::selection::shown_named;
-use crate::settings::{Asked, Options};
+use crate::settings::{Asked, Options, TableSize};
+use crate::size::size_named;
 use clap::error::ErrorKind;
 use clap::{Arg, ArgAction, ArgMatches, Command, Error, value_parser};
 use racl_io::Shown;
@@ -34,22 +36,26 @@ pub fn options<'a>(alloc: Global, words: &'a [&'a str]) -> Result<Asked<'a>, Err
         → MatchResult result (λ a. (option_facts a.options ≡ facts_of settings) × (origin_facts a.origin ≡ origin))
         (λ e. kind_of e ≡ ErrorKind.OutOfMemory) }
 
-    // An error has a kind of the words' fault, or the names are no files to be read, or no packets are asked to be shown,
-    // or memory ran out.
+    // An error has a kind of the words' fault, or the names are no files to be read, or no tables of a size or no packets
+    // to be shown are asked for, or memory ran out.
     ensures refuses { IfErr result (λ e. HasKind (fault_of racl (texts words.entry.now)) e
-        ⊎ ((kind_of e ≡ ErrorKind.ValueValidation) × (NamesNone (texts words.entry.now) ⊎ (shown_at (texts words.entry.now) ≡ None)))) }
+        ⊎ ((kind_of e ≡ ErrorKind.ValueValidation) × (NamesNone (texts words.entry.now)
+        ⊎ (size_at (texts words.entry.now) ≡ None) ⊎ (shown_at (texts words.entry.now) ≡ None)))) }
 {
     let mut command = command(alloc)?;
     let matches = match command.try_get_matches_from_mut(words) {
         Ok(matches) => matches,
         Err(error) => return Err(error),
     };
+    let Some(tables) = size_named(&matches) else {
+        return Err(command.error(ErrorKind::ValueValidation, NO_SIZE)?);
+    };
     let Some(shown) = shown_named(&matches) else {
         return Err(command.error(ErrorKind::ValueValidation, NOT_SHOWN)?);
     };
     match origin_named(alloc, &matches) {
         Ok(origin) => Ok(Asked {
-            options: read_options(&matches, shown),
+            options: read_options(&matches, tables, shown),
             origin,
         }),
         Err(Refusal::Memory) => Err(Error::from(AllocError)),
@@ -98,6 +104,8 @@ Exit status:
   3  done, but the capture was cut off
   4  memory or device";
 
+const NO_SIZE: &str = "--tables takes standard or large";
+
 const NOT_SHOWN: &str = "--only takes pass or drop";
 
 fn command<'a>(alloc: Global) -> Result<Command<'a>, AllocError>
@@ -117,6 +125,7 @@ fn command_with_selections<'a>(alloc: Global) -> Result<Command<'a>, AllocError>
     ensures { IfOk result (λ c. app_of c ≡ with_selections) }
 {
     command_with_options(alloc)?
+        .arg(tables_option(alloc))?
         .arg(interface_option(alloc))?
         .arg(only_option(alloc))?
         .arg(summary_flag(alloc))
@@ -194,6 +203,17 @@ fn number_option<'a>(
         .help(help)
 }
 
+fn tables_option<'a>(alloc: Global) -> Arg<'a>
+    ensures rule { rule_of result ≡ tables_rule }
+    ensures local { result.global ≡ false }
+{
+    Arg::new(alloc, "tables")
+        .long("tables")
+        .action(ArgAction::Set)
+        .value_name("standard|large")
+        .help("Room for sessions, `large` for many flows [default: standard]")
+}
+
 fn interface_option<'a>(alloc: Global) -> Arg<'a>
     ensures rule { rule_of result ≡ line.interface_rule }
     ensures local { result.global ≡ false }
@@ -233,9 +253,10 @@ fn file_argument<'a>(alloc: Global, id: &'a str, help: &'a str) -> Arg<'a>
     Arg::new(alloc, id).action(ArgAction::Set).help(help)
 }
 
-fn read_options(matches: &ArgMatches<'_>, shown: Shown) -> Options
+fn read_options(matches: &ArgMatches<'_>, tables: TableSize, shown: Shown) -> Options
     requires { HoldsNumbers (one_text (found_of matches.now)) }
     ensures spelt { SpellsOptions (one_text (found_of matches.now)) (option_facts result) }
+    ensures tables { result.tables ≡ tables }
     ensures shown { result.shown ≡ shown }
 {
     let workers = number_at(matches, "workers");
@@ -249,6 +270,7 @@ fn read_options(matches: &ArgMatches<'_>, shown: Shown) -> Options
             transient,
             udp,
         },
+        tables,
         shown,
     }
 }

@@ -1,16 +1,13 @@
 -- Captures with numbers that are taken one after the other.
 use Rattle.std.specs.Prelude.{◌≡◌, ◌+◌, ◌≤◌, ◌++◌, ℕ, List, [], ◌∷◌, Option, None, Some, length}
 use Rattle.packet_view.specs.Captures.{PacketFacts}
-use Rattle.bihash_words.specs.declared.shape.Shape.{Ghosts}
-use Rattle.flow_filter.specs.declared.verdict.Verdict.{Verdict}
-use Rattle.flow_workers.specs.declared.workers.Workers.{Workers}
-use Rattle.flow_workers.specs.Progress.{AreAtRest, HaveAllSaid}
 use Rattle.racl_io.specs.declared.fault.Fault.{Fault}
 use Rattle.racl_io.specs.declared.input.Numbered as mark
 use Rattle.racl_io.specs.declared.report.Captured.{Captured}
 use Rattle.racl_io.specs.Faults.{IsFaultOfCaptures}
 use Rattle.racl_io.specs.Inputs.{AreCaptures, DigitsFacts, IsCut, NumberedFacts, most_bytes, numbered_facts}
 use Rattle.racl_cli.specs.declared.captures.Walk.{Walk}
+use Rattle.racl_cli.specs.Crews.{AreResting, AreSaid, orders_of}
 use Rattle.racl_cli.specs.Runs.{AreTaken, IsTaken, Outcome}
 
 -- a capture's number, and what follows its marker line
@@ -40,7 +37,7 @@ left_at (Some next) = length next.content + 1
 -- workers at rest may judge this capture's packets
 pub record CanTake {T : Type 0} (walk : Walk T) (capture : mark.Numbered) : Type 0 where
   pub packets : List PacketFacts
-  pub rest : AreAtRest packets walk.workers
+  pub rest : AreResting packets walk.workers
   pub few : length packets + length capture.content.now ≤ most_bytes
 
 -- this capture was taken, and its packets were judged
@@ -52,27 +49,22 @@ pub record HasTaken {T : Type 0} (old : Walk T) (capture : mark.Numbered) (new :
   pub taken : IsTaken old.seen.items (record { interface = capture.interface; digits = digits }) packets captured
   pub captures : new.captures.items ≡ old.captures.items ++ captured ∷ []
   pub seen : new.seen.items ≡ capture.interface ∷ old.seen.items
-  pub by : new.workers.setup ≡ old.workers.setup
-  pub rest : (before : List PacketFacts) → AreAtRest before old.workers → AreAtRest (before ++ packets) new.workers
+  pub by : orders_of new.workers ≡ orders_of old.workers
+  pub rest : (before : List PacketFacts) → AreResting before old.workers → AreResting (before ++ packets) new.workers
   pub few : length packets + left_at (numbered_facts new.next) ≤ length capture.content.now
 
 -- no capture was taken, and what follows isn't too much
 pub record MayTake {T : Type 0} (begun : Walk T) : Type 0 where
-  pub rest : AreAtRest [] begun.workers
+  pub rest : AreResting [] begun.workers
   pub captures : begun.captures.items ≡ []
   pub seen : begun.seen.items ≡ []
   pub few : left_at (numbered_facts begun.next) ≤ most_bytes + 1
-
--- these are the verdicts that workers set up like these gave
-abbrev pub SaidOf : {A B R G K L : Type 0} {ga : Ghosts A K} {gb : Ghosts B L} → Workers A B R G K L ga gb
-    → List PacketFacts → List Verdict → Type 0
-SaidOf {ga = ga} {gb = gb} all packets verdicts = HaveAllSaid ga gb all.setup packets verdicts
 
 -- all captures were taken, and these are the verdicts on their packets
 pub record HasTakenAll {T : Type 0} (begun : Walk T) (outcome : Outcome) : Type 0 where
   pub packets : List PacketFacts
   pub taken : AreTakenFrom [] (numbered_facts begun.next) packets outcome.captures
-  pub said : SaidOf begun.workers packets outcome.verdicts
+  pub said : AreSaid (orders_of begun.workers) packets outcome.verdicts
 
 abbrev pub IsFaultOfWalk : {T : Type 0} → Walk T → Fault → Type 0
 IsFaultOfWalk begun fault = IsFaultFrom [] (numbered_facts begun.next) fault

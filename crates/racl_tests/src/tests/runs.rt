@@ -1,5 +1,5 @@
 //! A whole input through the program, with devices that are slow or fail.
-use racl_cli::Options;
+use racl_cli::{Options, TableSize};
 use racl_io::Shown;
 use session_state::Timeouts;
 
@@ -41,5 +41,6 @@ const DEFAULTS: Options = Options {
         transient: 120,
         udp: 600,
     },
+    tables: TableSize::Standard,
     shown: Shown::Every,
 };

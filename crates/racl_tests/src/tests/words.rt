@@ -1,7 +1,7 @@
 //! Words of the command line, and what they ask for. `checks/rows/sessions.txt` has what timeouts do.
 use clap::Error;
 use racl_io::Shown;
-use racl_words::{CaptureFile, Files, Interfaces, Options, Origin, options, words_status};
+use racl_words::{CaptureFile, Files, Interfaces, Options, Origin, TableSize, options, words_status};
 use session_state::Timeouts;
 use std::alloc::{AllocError, Global};
 
@@ -68,7 +68,7 @@ fn words_name_captures_of_interfaces(rt: HostRuntime) {
     );
 }
 
-// The number of workers shows in no report.
+// The number of workers shows in no report, and the size of the tables only where they have little room.
 #[test]
 fn words_set_the_options(rt: HostRuntime) {
     let alloc = rt.alloc();
@@ -81,6 +81,7 @@ fn words_set_the_options(rt: HostRuntime) {
     let defaults = Options {
         workers: 1,
         times,
+        tables: TableSize::Standard,
         shown,
     };
     assert_eq!(rt; set_after(alloc, &["racl"]), Some(defaults));
@@ -91,9 +92,13 @@ fn words_set_the_options(rt: HostRuntime) {
     let most = Options {
         workers: 16,
         times,
+        tables: TableSize::Large,
         shown,
     };
-    assert_eq!(rt; set_after(alloc, &["racl", "--workers", "16"]), Some(most));
+    assert_eq!(rt;
+        set_after(alloc, &["racl", "--tables=large", "--workers", "16"]),
+        Some(most)
+    );
 }
 
 fn shown_after<'a>(alloc: Global, words: &'a [&'a str]) -> Option<Shown> {
@@ -122,6 +127,7 @@ fn other_words_end_with_a_status(rt: HostRuntime) {
     let alloc = rt.alloc();
     assert_eq!(rt; status_after(alloc, &["racl", "--help"]), Some(0));
     assert_eq!(rt; status_after(alloc, &["racl", "--udp", "0"]), Some(2));
+    assert_eq!(rt; status_after(alloc, &["racl", "--tables", "l"]), Some(2));
     assert_eq!(rt; status_after(alloc, &["racl", "p"]), Some(2));
     assert_eq!(rt; status_after(alloc, &["racl", "-", "-"]), Some(2));
     assert_eq!(rt; words_status(&Error::from(AllocError)), 4);

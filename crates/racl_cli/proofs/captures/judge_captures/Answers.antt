@@ -1,14 +1,15 @@
-use Rattle.std.proofs.Common.{◌∙◌, ℕ, List, [], Option, Some, ap, ap₂, inl, inr, refl, subst}
+use Rattle.std.proofs.Common.{◌∙◌, ℕ, List, [], Option, Some, ap, inl, inr, refl, subst}
 use Rattle.std.proofs.lemmas.Result.{IfErr-weaker, IfOk-weaker}
 use Rattle.acl_policy.specs.Policies.{policy_facts}
 use Rattle.flow_dealing.specs.Runs.{AreJudged, HavePages}
 use Rattle.flow_dealing.proofs.FewPackets.{pages_for_few}
 use Rattle.flow_dealing.proofs.OneReport.{one_report}
 use Rattle.racl_io.specs.Inputs.{NumberedFacts, numbered_facts}
+use Rattle.racl_cli.specs.Crews.{orders_of}
 use Rattle.racl_cli.specs.Runs.{ByOneThread, dealt_to}
 use Rattle.racl_cli.specs.inner.Captures.{AreTakenFrom, IsFaultFrom}
-use Rattle.racl_cli.proofs.OutcomeLemmas.{deal_of, given_by_workers, judged_as}
-use Rattle.racl_cli.proofs.TakenLemmas.{all_behind, answered, said_of}
+use Rattle.racl_cli.proofs.OutcomeLemmas.{given_by_workers, judged_as}
+use Rattle.racl_cli.proofs.TakenLemmas.{all_behind, answered}
 use Rattle.racl_cli.proofs.captures.judge_captures.Goals as goal
 
 abbrev first_at : ℕ → List ℕ → Option NumberedFacts
@@ -28,10 +29,9 @@ returns g c =
     (λ outcome has.
     let packets = has.packets in
     let verdicts = outcome.verdicts in
-    let judged : AreJudged (dealt_to workers) filter.times policy packets verdicts =
-    judged_as packets verdicts _ _ _ filter _ (ap₂ deal_of c.setup_of-setup.ensures.dealing c.setup_of-setup.ensures.workers)
-    c.setup_of-setup.ensures.filter c.in_ok-ready.ensures.times c.in_ok-ready.ensures.policy
-    (said_of c.at.result.workers _ packets verdicts (ap (λ all. all.setup) c.at.ensures.workers ∙ c.in-Ok-new.ensures.by) has.said) in (
+    let judged : AreJudged (dealt_to options.tables workers) filter.times policy packets verdicts =
+    judged_as packets verdicts _ _ _ c.in_ok-ready.ready filter workers (ap orders_of c.at.ensures.workers ∙ c.in-Ok-new.ensures.given) c.in-Ok.ensures.size
+    c.in_ok-ready.ensures.times c.in_ok-ready.ensures.policy has.said in (
       packets,
       subst (λ (content : List ℕ). AreTakenFrom [] (first_at number content) packets outcome.captures) (all_behind bytes from)
           (subst (λ next. AreTakenFrom [] (numbered_facts next) packets outcome.captures) c.at.ensures.next has.taken),
@@ -39,7 +39,7 @@ returns g c =
         by_workers = given_by_workers options filter.times policy packets verdicts workers c.requires.marked.times c.plan_for-expected.ensures.some
             c.plan_for-expected.ensures.few judged (pages_for_few _ _ _ _ _);
         by_one_thread =
-            subst (λ times. HavePages verdicts → ByOneThread times policy packets verdicts) c.requires.marked.times
+            subst (λ times. HavePages verdicts → ByOneThread options.tables times policy packets verdicts) c.requires.marked.times
             (one_report _ _ _ _ _ judged (inl refl));
         told = refl;
       },

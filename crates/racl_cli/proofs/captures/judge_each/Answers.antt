@@ -1,5 +1,5 @@
-use Rattle.std.proofs.Common.{◌∙◌, sym}
-use Rattle.flow_workers.proofs.RestLemmas.{said_by}
+use Rattle.std.proofs.Common.{◌∙◌, subst, sym}
+use Rattle.racl_cli.specs.Crews.{AreSaid}
 use Rattle.racl_cli.proofs.OutcomeLemmas.{judged_count}
 use Rattle.racl_cli.proofs.TakenLemmas.{all_taken, amid_next}
 use Rattle.racl_cli.proofs.captures.judge_each.Goals as goal
@@ -11,7 +11,7 @@ captures-preserved g c =
 pub invariant_of-result : goal.invariant_of-result
 invariant_of-result g c =
     let amid = c.captures-2.invariant in
-    let said = said_by _ _ c.captures-2.walk.workers c.args.begun.workers.setup amid.packets c.in-Ok.verdicts.items amid.by amid.rest c.in-Ok.ensures in
+    let said = subst (λ o. AreSaid o amid.packets c.in-Ok.verdicts.items) amid.by (c.in-Ok.ensures amid.packets amid.rest) in
     (amid.counted ∙ sym (judged_count _ _ _ amid.packets c.in-Ok.verdicts.items said), tt)
 
 pub returns-clause-ok : goal.returns-clause-ok
@@ -20,5 +20,5 @@ returns-clause-ok g c =
     record {
       packets = amid.packets;
       taken = all_taken c.args.begun c.captures-2.walk amid c.in_default.is;
-      said = said_by _ _ c.captures-2.walk.workers c.args.begun.workers.setup amid.packets c.in-Ok.verdicts.items amid.by amid.rest c.in-Ok.ensures;
+      said = subst (λ o. AreSaid o amid.packets c.in-Ok.verdicts.items) amid.by (c.in-Ok.ensures amid.packets amid.rest);
     }

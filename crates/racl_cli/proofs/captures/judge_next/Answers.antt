@@ -78,7 +78,7 @@ returns-in-Ok-clause-ok g c =
           c.in_ok-push.ensures.items
           ∙ ap (λ n. c.args.walk.captures.items ++ record { named = Some number; packets = n; truncated = truncated } ∷ []) c.count.ensures;
       seen = c.in_ok-insert.ensures.items;
-      by = c.in-Ok.ensures.by;
+      by = c.in-Ok.ensures.orders;
       rest = λ before at. c.in-Ok.ensures.rest before at;
       few = few_taken number c.args.capture.content.now digits c.deref-2.result.now (numbered_facts c.cut_digits.result.next)
           (packets_of records) truncated c.cut_digits.ensures.cut spelt

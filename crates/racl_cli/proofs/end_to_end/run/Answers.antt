@@ -31,7 +31,7 @@ pub returns-clause-accepts : goal.returns-clause-accepts
 returns-clause-accepts g c =
     let r = outcome_read c.args.options.now _ c.in_ok-judged.judged c.in_ok-judged.ensures.answers in
     let same = ap₂ outcome_of c.deref.ensures.value c.deref-2.ensures.value ∙ c.judged.view_is in
-    known_read _ _ r.bytes _ r.whole (λ one_thread has.
+    known_read _ _ _ r.bytes _ r.whole (λ one_thread has.
     has_reported _ _ _ r.bytes one_thread c.in_ok-judged.judged c.deref.result.now c.deref-2.result.now c.write_shown.result has same
     (r.answers.accepts has.policy has.packets one_thread.captures has.read) c.write_shown.ensures.whole c.write_shown.ensures.counted
     c.write_shown.ensures.fault)

@@ -4,7 +4,7 @@ use Rattle.clap.specs.declared.parser.matches.ArgMatches.{ArgMatches}
 use Rattle.racl_words.specs.Options.{facts_of}
 use Rattle.racl_words.specs.Origins.{Name, origin_facts}
 use Rattle.racl_words.specs.inner.Naming.{IsRefused}
-use Rattle.racl_words.proofs.CommandLemmas.{fails_by_fault, numbers_held, one_run, only_memory, same_names, same_options, same_shown}
+use Rattle.racl_words.proofs.CommandLemmas.{fails_by_fault, numbers_held, one_run, only_memory, same_names, same_options, same_shown, same_size}
 use Rattle.racl_words.proofs.SettingLemmas.{written_asks}
 use Rattle.racl_words.proofs.words.options.Goals as goal
 
@@ -20,7 +20,9 @@ returns-in-Ok-origin_named-clause-ok c = record {
   options = record {
     faultless = fails_by_fault c.in_ok-command.command _ (Ok c.in-Ok.matches) c.in_ok-command.ensures c.in-Ok.ensures.kinds;
     options = same_options c.in_ok-command.command _ c.in-Ok.matches _ c.in_ok-command.ensures c.in-Ok.ensures.ok.2 c.read_options.ensures.spelt;
-    shown = sym (same_shown c.in_ok-command.command _ c.in-Ok.matches c.in_ok-command.ensures c.in-Ok.ensures.ok.2) ∙ sym c.shown_named.ensures ∙ c.in-Some.is
+    tables = sym (same_size c.in_ok-command.command _ c.in-Ok.matches c.in_ok-command.ensures c.in-Ok.ensures.ok.2) ∙ sym c.size_named.ensures ∙ c.in-Some.is
+        ∙ ap Some (sym c.read_options.ensures.tables);
+    shown = sym (same_shown c.in_ok-command.command _ c.in-Ok.matches c.in_ok-command.ensures c.in-Ok.ensures.ok.2) ∙ sym c.shown_named.ensures ∙ c.in-Some-shown_named.is
         ∙ ap Some (sym c.read_options.ensures.shown);
   };
   names = subst (λ names. Name names (origin_facts c.in-Ok-origin_named.origin))
@@ -63,15 +65,31 @@ returns-in-Err-clause-written c program settings uses names origin are named say
 pub returns-in_default-clause-refuses : goal.returns-in_default-clause-refuses
 returns-in_default-clause-refuses c = inr (
   c.in_ok-error.ensures.kind,
-  inr (sym (same_shown c.in_ok-command.command _ c.in-Ok.matches c.in_ok-command.ensures c.in-Ok.ensures.ok.2) ∙ sym c.shown_named.ensures ∙ c.in_default.is),
+  inr (inl (sym (same_size c.in_ok-command.command _ c.in-Ok.matches c.in_ok-command.ensures c.in-Ok.ensures.ok.2) ∙ sym c.size_named.ensures ∙ c.in_default.is)),
 )
 
 pub returns-in_default-clause-accepts : goal.returns-in_default-clause-accepts
 returns-in_default-clause-accepts c facts origin asked =
-    let none = sym (same_shown c.in_ok-command.command _ c.in-Ok.matches c.in_ok-command.ensures c.in-Ok.ensures.ok.2) ∙ sym c.shown_named.ensures ∙ c.in_default.is in
-    let bad : None ≡ Some facts.shown = sym none ∙ asked.options.shown in
+    let none = sym (same_size c.in_ok-command.command _ c.in-Ok.matches c.in_ok-command.ensures c.in-Ok.ensures.ok.2) ∙ sym c.size_named.ensures ∙ c.in_default.is in
+    let bad : None ≡ Some facts.tables = sym none ∙ asked.options.tables in
     cc
 
 pub returns-in_default-clause-written : goal.returns-in_default-clause-written
 returns-in_default-clause-written c program settings uses names origin are named says is =
     returns-in_default-clause-accepts c (facts_of settings) origin (written_asks _ program settings uses names origin are named says is)
+
+pub returns-in_default-shown_named-clause-refuses : goal.returns-in_default-shown_named-clause-refuses
+returns-in_default-shown_named-clause-refuses c = inr (
+  c.in_ok-error-2.ensures.kind,
+  inr (inr (sym (same_shown c.in_ok-command.command _ c.in-Ok.matches c.in_ok-command.ensures c.in-Ok.ensures.ok.2) ∙ sym c.shown_named.ensures ∙ c.in_default-shown_named.is)),
+)
+
+pub returns-in_default-shown_named-clause-accepts : goal.returns-in_default-shown_named-clause-accepts
+returns-in_default-shown_named-clause-accepts c facts origin asked =
+    let none = sym (same_shown c.in_ok-command.command _ c.in-Ok.matches c.in_ok-command.ensures c.in-Ok.ensures.ok.2) ∙ sym c.shown_named.ensures ∙ c.in_default-shown_named.is in
+    let bad : None ≡ Some facts.shown = sym none ∙ asked.options.shown in
+    cc
+
+pub returns-in_default-shown_named-clause-written : goal.returns-in_default-shown_named-clause-written
+returns-in_default-shown_named-clause-written c program settings uses names origin are named says is =
+    returns-in_default-shown_named-clause-accepts c (facts_of settings) origin (written_asks _ program settings uses names origin are named says is)

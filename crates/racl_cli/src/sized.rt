@@ -1,0 +1,181 @@
+//! Session tables of the size that the words ask for, and workers over them.
+ghost use Rattle.std.specs.Prelude.{[], ◌≡◌, ◌≤◌, IfOk};
+ghost use Rattle.flow_dealing.specs.declared.dealing.Dealing.TheVariants.{Bucket};
+ghost use Rattle.racl_cli.specs.Crews.{AreAfter, AreFirstOf, HaveFollowedOn, HaveJudgedSome, HaveSaidOn, MayFollow};
+ghost use Rattle.racl_cli.specs.Crews.{orders_for, size_of};
+
+use bihash_words::{Shape, ShapeV4, ShapeV6, flow_shapes_are_sound};
+use flow_filter::{ReadyFilters, Verdict};
+use flow_workers::{Callers, Dealing, Gate, Setup, Tables, Workers, create_tables};
+use large_shapes::{LargeV4, LargeV6, large_shapes_are_sound};
+use packet_view::Packets;
+use racl_words::TableSize;
+use std::alloc::{AllocError, Global};
+use std::sync::Wait;
+use std::thread::Threads;
+
+/// From how many packets of a window on each worker judges them in a thread of its own.
+pub const MANY_PACKETS: usize = 65_536;
+
+/// Nothing waits before or after a packet is judged.
+pub struct OpenGate;
+
+impl Gate for OpenGate {
+    fn before(&self, _worker: usize, _packet: usize) {}
+
+    fn after(&self, _worker: usize, _packet: usize) {}
+}
+
+// What so many workers share, who judge by this filter over these tables. Packets are dealt by bucket.
+fn setup_of<'t, 'f, A: Shape, B: Shape, T: Wait>(
+    rt: &'t T,
+    filter: &'t ReadyFilters<'f>,
+    tables: &'t Tables<A, B>,
+    workers: usize,
+) -> Setup<'t, 'f, A, B, T, OpenGate>
+    ensures filter { result.filter.now ≡ filter.now }
+    ensures tables { result.tables.now ≡ tables.now }
+    ensures dealing { result.dealing ≡ Bucket }
+    ensures workers { result.workers ≡ workers }
+{
+    Setup {
+        rt,
+        gate: &OpenGate,
+        filter,
+        tables,
+        dealing: Dealing::Bucket,
+        workers,
+        many: MANY_PACKETS,
+    }
+}
+
+/// Session tables of one of the sizes.
+#[derive(Drop)]
+pub enum SizedTables {
+    Standard(Tables<ShapeV4, ShapeV6>),
+    Large(Tables<LargeV4, LargeV6>),
+}
+
+/// Callers of such tables.
+#[derive(Drop)]
+pub enum SizedCallers {
+    Standard(Callers<ShapeV4, ShapeV6>),
+    Large(Callers<LargeV4, LargeV6>),
+}
+
+/// Workers over such tables.
+#[derive(Drop)]
+pub enum SizedWorkers<'t, 'f, T: Wait> {
+    Standard(Workers<'t, 'f, ShapeV4, ShapeV6, T, OpenGate>),
+    Large(Workers<'t, 'f, LargeV4, LargeV6, T, OpenGate>),
+}
+
+/// New tables of this size, and callers of both families' that made no call. An error says that memory was refused.
+pub fn create_sized(
+    alloc: Global,
+    size: TableSize,
+) -> Result<(SizedTables, SizedCallers), AllocError>
+    ensures first { IfOk result (λ r. AreFirstOf r.0 r.1) }
+    ensures size { IfOk result (λ r. size_of r.0 ≡ size) }
+{
+    match size {
+        TableSize::Standard => {
+            flow_shapes_are_sound();
+            match create_tables(alloc) {
+                Ok((tables, callers)) => Ok((
+                    SizedTables::Standard(tables),
+                    SizedCallers::Standard(callers),
+                )),
+                Err(_) => Err(AllocError),
+            }
+        }
+        TableSize::Large => {
+            large_shapes_are_sound();
+            match create_tables(alloc) {
+                Ok((tables, callers)) => Ok((
+                    SizedTables::Large(tables),
+                    SizedCallers::Large(callers),
+                )),
+                Err(_) => Err(AllocError),
+            }
+        }
+    }
+}
+
+impl<'t, 'f, T: Wait> SizedWorkers<'t, 'f, T> {
+    /// So many workers that judged no packet, and judge by this filter. The callers are of the tables, and made no call.
+    /// An error says that memory was refused.
+    pub fn new(
+        rt: &'t T,
+        alloc: Global,
+        filter: &'t ReadyFilters<'f>,
+        tables: &'t SizedTables,
+        callers: SizedCallers,
+        workers: usize,
+    ) -> Result<SizedWorkers<'t, 'f, T>, AllocError>
+        requires first { AreFirstOf tables.now callers }
+        requires count { (1 ≤ workers) × (workers ≤ 16) }
+        ensures { IfOk result (AreAfter (orders_for (size_of tables.now) filter.now workers) []) }
+    {
+        match callers {
+            SizedCallers::Standard(callers) => {
+                let SizedTables::Standard(tables) = tables else {
+                    unreachable!()
+                };
+                flow_shapes_are_sound();
+                match Workers::new(alloc, setup_of(rt, filter, tables, workers), callers) {
+                    Ok(workers) => Ok(SizedWorkers::Standard(workers)),
+                    Err(_) => Err(AllocError),
+                }
+            }
+            SizedCallers::Large(callers) => {
+                let SizedTables::Large(tables) = tables else {
+                    unreachable!()
+                };
+                large_shapes_are_sound();
+                match Workers::new(alloc, setup_of(rt, filter, tables, workers), callers) {
+                    Ok(workers) => Ok(SizedWorkers::Large(workers)),
+                    Err(_) => Err(AllocError),
+                }
+            }
+        }
+    }
+
+    /// The verdicts on all packets, in their order. An error says that memory was refused.
+    pub fn end(self, alloc: Global) -> Result<Vec<Verdict>, AllocError>
+        requires { HaveJudgedSome self }
+        ensures { IfOk result (λ v. HaveSaidOn self.entry v.items) }
+    {
+        let said = match self {
+            SizedWorkers::Standard(workers) => workers.end(alloc),
+            SizedWorkers::Large(workers) => workers.end(alloc),
+        };
+        match said {
+            Ok(verdicts) => Ok(verdicts),
+            Err(_) => Err(AllocError),
+        }
+    }
+}
+
+impl<'t, 'f, T: Threads + Wait + Sync> SizedWorkers<'t, 'f, T> {
+    /// The workers after they judged these packets too, which follow those so far. An error says that memory was refused.
+    pub fn judge(
+        self,
+        alloc: Global,
+        packets: Packets<'_>,
+    ) -> Result<SizedWorkers<'t, 'f, T>, AllocError>
+        requires { MayFollow self packets }
+        ensures { IfOk result (HaveFollowedOn self.entry packets.entry) }
+    {
+        match self {
+            SizedWorkers::Standard(workers) => match workers.judge(alloc, packets) {
+                Ok(workers) => Ok(SizedWorkers::Standard(workers)),
+                Err(_) => Err(AllocError),
+            },
+            SizedWorkers::Large(workers) => match workers.judge(alloc, packets) {
+                Ok(workers) => Ok(SizedWorkers::Large(workers)),
+                Err(_) => Err(AllocError),
+            },
+        }
+    }
+}
