@@ -1,7 +1,9 @@
 //! Words of the command line, and what they ask for. `checks/rows/sessions.txt` has what timeouts do.
 use clap::Error;
 use racl_io::Shown;
-use racl_words::{CaptureFile, Files, Interfaces, Options, Origin, TableSize, options, words_status};
+use racl_words::{
+    CaptureFile, Files, Interfaces, Options, Origin, TableSize, options, words_status,
+};
 use session_state::Timeouts;
 use std::alloc::{AllocError, Global};
 
@@ -108,9 +110,18 @@ fn shown_after<'a>(alloc: Global, words: &'a [&'a str]) -> Option<Shown> {
 #[test]
 fn words_select_packets(rt: HostRuntime) {
     let alloc = rt.alloc();
-    assert_eq!(rt; shown_after(alloc, &["racl", "--only", "pass"]), Some(Shown::Passing));
-    assert_eq!(rt; shown_after(alloc, &["racl", "--only=drop"]), Some(Shown::Dropped));
-    assert_eq!(rt; shown_after(alloc, &["racl", "--only=drop", "--summary"]), Some(Shown::Nothing));
+    assert_eq!(rt;
+        shown_after(alloc, &["racl", "--only", "pass"]),
+        Some(Shown::Passing)
+    );
+    assert_eq!(rt;
+        shown_after(alloc, &["racl", "--only=drop"]),
+        Some(Shown::Dropped)
+    );
+    assert_eq!(rt;
+        shown_after(alloc, &["racl", "--only=drop", "--summary"]),
+        Some(Shown::Nothing)
+    );
     assert_eq!(rt; shown_after(alloc, &["racl", "--only", "deny"]), None);
 }
 
