@@ -97,17 +97,35 @@ fn lines_of_some_packets(rt: HostRuntime) -> Result<(), Fail> {
     let cut = "if 7 truncated after 1\n";
     let end = "packets 3 pass 2 drop 1\n";
     let cases = [
-        (Shown::Every, "1 if 7 pass session\n", "2 if 8 drop default\n3 if 8 pass not-ip\n"),
-        (Shown::Passing, "1 if 7 pass session\n", "3 if 8 pass not-ip\n"),
+        (
+            Shown::Every,
+            "1 if 7 pass session\n",
+            "2 if 8 drop default\n3 if 8 pass not-ip\n",
+        ),
+        (
+            Shown::Passing,
+            "1 if 7 pass session\n",
+            "3 if 8 pass not-ip\n",
+        ),
         (Shown::Dropped, "", "2 if 8 drop default\n"),
         (Shown::Nothing, "", ""),
     ];
     for (shown, first, second) in cases {
         let mut writer = Device::new(Vec::new(rt.alloc()));
         let text = format!(in rt.alloc(); "{first}{cut}{second}{end}")?;
-        let totals = write_shown(Some(&rt), rt.alloc(), &mut writer, shown, &verdicts, &captures)?;
+        let totals = write_shown(
+            Some(&rt),
+            rt.alloc(),
+            &mut writer,
+            shown,
+            &verdicts,
+            &captures,
+        )?;
         assert_eq!(rt; writer.inner.as_slice(), text.as_bytes());
-        assert_eq!(rt; (totals.passed, totals.dropped, totals.truncated), (2, 1, true));
+        assert_eq!(rt;
+            (totals.passed, totals.dropped, totals.truncated),
+            (2, 1, true)
+        );
     }
     Ok(())
 }
