@@ -1,3 +1,4 @@
+pub mod CheckLemmas
 pub mod CommandLemmas
 pub mod NameLemmas
 pub mod NameWalks
