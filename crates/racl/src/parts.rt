@@ -12,7 +12,8 @@ pub struct Parts {
     pub captures: Vec<Marked<Reader>>,
 }
 
-/// Opens a file that can be read, or standard input. Where it can't, that is told, and None is answered.
+/// Opens a file that can be read, or standard input. Where it can't, that is told, and None is answered. No clause says what
+/// a name opens, as of `opened`.
 pub fn opened_or_told(rt: &HostRuntime, name: &str) -> io::Result<Option<Reader>> {
     match opened(rt, name) {
         Ok(reader) => Ok(Some(reader)),
@@ -66,7 +67,8 @@ fn policy_name<'a>(origin: &Origin<'a>) -> &'a str {
     }
 }
 
-/// The name of the capture at this place, from 0; None where the origin has no such file.
+/// The name of the capture at this place, from 0; None where the origin has no such file. It is for the remark behind a
+/// fault, which `checks/run` looks at.
 pub fn name_at<'a>(origin: &Origin<'a>, place: usize) -> Option<&'a str> {
     match origin {
         Origin::Files(files) if place == 0 => Some(files.capture),
@@ -76,7 +78,7 @@ pub fn name_at<'a>(origin: &Origin<'a>, place: usize) -> Option<&'a str> {
 }
 
 /// Opens the files of an input in their order, from the policy on. Where one can't be opened that is told, and None is
-/// answered.
+/// answered. No clause says what names open: `checks/run` looks at it.
 pub fn opened_parts(
     rt: &HostRuntime,
     alloc: Global,
