@@ -127,8 +127,11 @@ fn say_remark(
 
 // Says what is to be said, and answers the status.
 fn said(rt: &HostRuntime, end: &Ending) -> io::Result<u8> {
-    if let Some(message) = &end.message {
-        rt.eprintln(message)?;
+    match &end.message {
+        None => Ok(end.status),
+        Some(message) => match rt.eprintln(message) {
+            Ok(()) => Ok(end.status),
+            Err(error) => Err(error),
+        },
     }
-    Ok(end.status)
 }
