@@ -1,5 +1,5 @@
 -- Remarks on a rule are remarks on its policy.
-use Rattle.std.proofs.Common.{◌≡◌, ℕ, ◌<◌, ◌+◌, ◌%◌, ◌^◌, ◌-◌, List, [], ◌∷◌, ◌++◌, length, map, get_or, Option, Some, None, IfSome, refl, sym, subst, ap, ◌∙◌, arith}
+use Rattle.std.proofs.Common.{◌≡◌, ℕ, ◌<◌, List, [], ◌++◌, length, map, get_or, Option, Some, None, IfSome, refl, sym, subst, ap, ◌∙◌}
 use Rattle.std.specs.Prelude.{All, option_map, option_to_list, slice_get}
 use Rattle.std.proofs.lemmas.Option.{slice_get-map, slice_get_read}
 use Rattle.std.proofs.lemmas.List.{append-nil, append_assoc}
@@ -8,7 +8,7 @@ use Rattle.packet_view.specs.declared.tuple.Direction.{Direction}
 use Rattle.acl_policy.specs.declared.policy.Section.{Section}
 use Rattle.acl_policy.specs.declared.rule.Rule.{Rule}
 use Rattle.acl_policy.specs.Policies.{PolicyFacts, SectionFacts, section_facts}
-use Rattle.acl_policy.specs.Rules.{RuleFacts, rule_facts}
+use Rattle.acl_policy.specs.Rules.{rule_facts}
 use Rattle.acl_policy.proofs.RulingLemmas.{slice_get-rule_facts}
 use Rattle.policy_check.specs.Remarks.{IsRemark, IsRuleRemark, IsSectionRemark}
 use Rattle.policy_check.specs.inner.Added.{Adds}

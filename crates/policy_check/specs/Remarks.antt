@@ -1,5 +1,5 @@
 -- What is right in a policy, but unlikely to be meant.
-use Rattle.std.specs.Prelude.{◌≡◌, ◌≢◌, ◌<◌, ℕ, ◌+◌, ◌-◌, ◌%◌, ◌^◌, List, [], All, slice_get, Option, Some, None}
+use Rattle.std.specs.Prelude.{◌≡◌, ◌≢◌, ◌<◌, ℕ, ◌+◌, ◌-◌, ◌%◌, ◌^◌, List, [], All, slice_get, Some, None}
 use Rattle.packet_view.specs.Tuples.{TupleFacts}
 use Rattle.packet_view.specs.declared.tuple.Direction.{Direction}
 use Rattle.packet_view.specs.declared.tuple.Family.{Family}
@@ -38,10 +38,14 @@ IsRuleRemark section direction place (DestBits interface way number) =
     (interface ≡ section.interface) × (way ≡ direction) × (number ≡ place + 1)
     × ((rule : RuleFacts) × (slice_get (rules_of direction section) place ≡ Some rule) × HasBits rule.family rule.dest)
 
+-- A section with rules for outbound packets and no own address, so that none of them is looked at.
+abbrev pub LacksMac : SectionFacts → Type 0
+LacksMac section = (section.own ≡ None) × (section.outbound ≢ [])
+
 -- What is said of a section.
 abbrev pub IsSectionRemark : SectionFacts → Remark → Type 0
 IsSectionRemark section NoRule = ⊥
-IsSectionRemark section (NoMac interface) = (interface ≡ section.interface) × (section.own ≡ None) × (section.outbound ≢ [])
+IsSectionRemark section (NoMac interface) = (interface ≡ section.interface) × LacksMac section
 IsSectionRemark section remark = (direction : Direction) × (place : ℕ) × IsRuleRemark section direction place remark
 
 -- a section without rules

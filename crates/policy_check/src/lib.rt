@@ -24,7 +24,7 @@ pub use complaint::{Checked, Complaint};
 pub use laws::checks_agree_with_runs;
 pub use reason::Reason;
 pub use remark::Remark;
-pub use remarks::remarks_on;
+pub use remarks::{no_mac, remarks_on};
 pub use shadow::takes_all;
 pub use source::check_source;
 pub use telling::{Told, tell};

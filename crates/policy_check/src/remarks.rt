@@ -1,9 +1,10 @@
 //! The remarks on a policy.
-ghost use Rattle.std.specs.Prelude.{◌≡◌, ◌≤◌, ◌<◌, ◌++◌, All, IfOk, IfSome, IsTrue, OnOk, length, map, option_to_list};
+ghost use Rattle.std.specs.Prelude.{◌≡◌, ◌≤◌, ◌<◌, ◌++◌, All, IfOk, IfSome, IsTrue, None, OnOk, length, map, option_to_list};
 ghost use Rattle.acl_policy.specs.Policies.{policy_facts, rules_of, section_facts};
 ghost use Rattle.acl_policy.specs.Rules.{rule_facts};
 ghost use Rattle.acl_policy.specs.Widths.{width};
-ghost use Rattle.policy_check.specs.Remarks.{HasBits, HasNoRule, IsRemark, IsRuleRemark, IsSectionRemark, IsShadowed};
+ghost use Rattle.policy_check.specs.Remarks.{HasBits, HasNoRule, IsRemark, IsRuleRemark, IsSectionRemark, IsShadowed, LacksMac};
+ghost use Rattle.policy_check.specs.declared.remark.Remark.TheVariants.{NoMac};
 ghost use Rattle.policy_check.specs.inner.Added.{Adds};
 
 use crate::remark::Remark;
@@ -108,8 +109,11 @@ fn add_rules(
     Ok(())
 }
 
-fn no_mac(section: &Section) -> Option<Remark>
-    ensures { IfSome result (IsSectionRemark (section_facts section.now)) }
+/// The remark that the section has rules for outbound packets and no own address; None where that isn't so.
+pub fn no_mac(section: &Section) -> Option<Remark>
+    ensures remark { IfSome result (λ remark. remark ≡ NoMac section.now.interface) }
+    ensures holds { IfSome result (IsSectionRemark (section_facts section.now)) }
+    ensures none { result ≡ None → LacksMac (section_facts section.now) → ⊥ }
 {
     if section.own.is_none() && !section.outbound.is_empty() {
         Some(Remark::NoMac(section.interface))

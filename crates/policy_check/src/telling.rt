@@ -7,7 +7,6 @@ use crate::complaint::{Checked, Complaint};
 use crate::remark::Remark;
 use crate::remarks::remarks_on;
 use acl_policy::Policy;
-use packet_view::Direction;
 use std::alloc::{AllocError, Global};
 
 /// The lines that tell what a check found, and whether the text is a policy.
@@ -54,43 +53,8 @@ fn push_complaint(
     push_text(out, format!(in alloc; " {}\n", told.reason)?.as_str())
 }
 
-fn way(direction: Direction) -> &'static str {
-    match direction {
-        Direction::Inbound => "in",
-        Direction::Outbound => "out",
-    }
-}
-
 fn push_remark(alloc: Global, out: &mut Vec<u8>, remark: &Remark) -> Result<(), AllocError> {
-    let text = match *remark {
-        Remark::NoRule => format!(in alloc; "there is no rule, so each packet of IP is dropped")?,
-        Remark::NoMac(interface) => {
-            format!(in alloc;
-                "interface {interface} has no mac line, so none of its out rules is looked at"
-            )?
-        }
-        Remark::Shadowed(interface, direction, rule, earlier) => {
-            let way = way(direction);
-            format!(in alloc;
-                "interface {interface}: {way} rule {rule} never decides, since rule {earlier} takes all its packets"
-            )?
-        }
-        Remark::SourceBits(interface, direction, rule) => {
-            let way = way(direction);
-            format!(in alloc;
-                "interface {interface}: the source of {way} rule {rule} has bits behind its prefix, which aren't looked at"
-            )?
-        }
-        Remark::DestBits(interface, direction, rule) => {
-            let way = way(direction);
-            format!(in alloc;
-                "interface {interface}: the destination of {way} rule {rule} has bits behind its prefix, which aren't looked at"
-            )?
-        }
-    };
-    push_text(out, "remark: ")?;
-    push_text(out, text.as_str())?;
-    push_text(out, "\n")
+    push_text(out, format!(in alloc; "remark: {remark}\n")?.as_str())
 }
 
 fn rule_count(policy: &Policy) -> usize {

@@ -4,18 +4,21 @@
 
 mod parts;
 mod reader;
+mod unlooked;
 
-use crate::parts::{name_at, opened_or_told, opened_parts};
-use crate::reader::Reader;
+use crate::parts::{name_at, opened_or_told, opened_parts, policy_name};
+use crate::reader::{Reader, held};
+use crate::unlooked::say_unlooked;
 use clap::Error;
 use policy_check::check_source;
 use racl_cli::{
-    Asked, Device, Ending, Fault, Joined, Origin, Remark, Totals, ending, failure_ending, options,
-    remark, run, words_ending,
+    Asked, Device, Ending, Fault, Hint, Joined, Origin, Remark, Totals, ending, failure_ending,
+    hint, options, remark, run, words_ending,
 };
 use racl_words::check_name;
 use std::alloc::Global;
 use std::io;
+use std::io::IsTerminal;
 use std::process::ExitCode;
 use std::sync::Wait;
 use std::thread::Threads;
@@ -98,12 +101,49 @@ fn status_of_run<T: Threads + Wait + Sync>(
         Ok(None) => return Ok(4),
         Err(error) => return Err(error),
     };
-    let mut reader = Joined::new(parts.policy, parts.captures);
+    let policy = match &asked.origin {
+        Origin::Standard => {
+            say_where_terminal(rt);
+            parts.policy
+        }
+        Origin::Files(_) | Origin::Interfaces(_) => match held(alloc, parts.policy) {
+            Ok(policy) => policy,
+            Err(fault) => return said(rt, &ending(&Err(fault))),
+        },
+    };
+    let mut reader = Joined::new(policy, parts.captures);
     let mut writer = Device::new(rt.stdout());
     let outcome = run(threads, alloc, &asked.options, &mut reader, &mut writer);
     let status = said(rt, &ending(&outcome))?;
-    say_remark(rt, &asked.origin, &reader, &outcome)?;
+    say_more(rt, alloc, &asked.origin, &reader, &outcome)?;
     Ok(status)
+}
+
+// Says that a terminal is read, where that is so. Where standard error fails, nothing is said.
+fn say_where_terminal(rt: &HostRuntime) {
+    if rt.stdin().is_terminal() {
+        let _ = rt.eprintln(&Hint::Terminal);
+    }
+}
+
+// Says behind a run on files what is likely to be wrong with them.
+fn say_more(
+    rt: &HostRuntime,
+    alloc: Global,
+    origin: &Origin<'_>,
+    reader: &Joined<Reader>,
+    outcome: &Result<Totals, Fault>,
+) -> io::Result<()> {
+    let Reader::Held(policy) = reader.policy() else {
+        return Ok(());
+    };
+    if outcome.is_ok() {
+        say_unlooked(rt, alloc, policy_name(origin), policy.get_ref().as_slice());
+    }
+    if let Some(hint) = hint(outcome, policy.get_ref().as_slice()) {
+        rt.eprintln(&hint)?;
+    }
+    say_remark(rt, origin, reader, outcome)
 }
 
 // Says which capture file isn't read for what it is, where the run ended with a fault of its header.

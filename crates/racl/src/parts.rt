@@ -58,8 +58,8 @@ fn pushed_all(
     }
 }
 
-// The name of what the policy comes from.
-fn policy_name<'a>(origin: &Origin<'a>) -> &'a str {
+/// The name of what the policy comes from.
+pub fn policy_name<'a>(origin: &Origin<'a>) -> &'a str {
     match origin {
         Origin::Standard => "-",
         Origin::Files(files) => files.policy,

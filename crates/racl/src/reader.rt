@@ -1,14 +1,17 @@
 //! Where a named input comes from.
 
+use racl_cli::{Device, Fault, MOST_BYTES, read_until};
+use std::alloc::Global;
 use std::fs::File;
 use std::io;
-use std::io::{ErrorKind, Read, Stdin};
+use std::io::{Cursor, ErrorKind, Read, Stdin};
 
-/// Standard input, or a file.
+/// Standard input, a file, or what one of these had.
 #[derive(Drop)]
 pub enum Reader {
     Standard(Stdin),
     File(File),
+    Held(Cursor<Vec<u8>>),
 }
 
 impl Read for Reader {
@@ -16,6 +19,7 @@ impl Read for Reader {
         match self {
             Reader::Standard(stdin) => stdin.read(buf),
             Reader::File(file) => file.read(buf),
+            Reader::Held(bytes) => bytes.read(buf),
         }
     }
 }
@@ -31,4 +35,13 @@ pub fn opened(rt: &HostRuntime, name: &str) -> io::Result<Reader> {
         return Err(io::Error::from(ErrorKind::IsADirectory));
     }
     Ok(Reader::File(file))
+}
+
+/// Reads all that an input may have, so that it can be looked at again.
+pub fn held(alloc: Global, reader: Reader) -> Result<Reader, Fault> {
+    let mut bytes = Vec::new(alloc);
+    match read_until(&mut Device::new(reader), &mut bytes, MOST_BYTES + 1) {
+        Ok(_) => Ok(Reader::Held(Cursor::new(bytes))),
+        Err(fault) => Err(fault),
+    }
 }

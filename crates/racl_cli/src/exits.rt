@@ -2,14 +2,14 @@
 ghost use Rattle.std.specs.Prelude.{◌≡◌, ◌≢◌, None, Some};
 ghost use Rattle.clap.specs.Words.{kind_of};
 ghost use Rattle.std.specs.IoError.{error_kind};
-ghost use Rattle.racl_cli.specs.Endings.{remark_on, said_after};
+ghost use Rattle.racl_cli.specs.Endings.{hint_on, remark_on, said_after};
 ghost use Rattle.racl_cli.specs.Statuses.{status_of};
 ghost use Rattle.racl_io.specs.declared.fault.Fault.TheVariants.{Memory, Write};
 ghost use Rattle.racl_words.specs.CommandLine.{IsRequest};
 
-use crate::message::{Ending, Message};
+use crate::message::{Ending, Hint, Message};
 use clap::error::ErrorKind;
-use racl_io::{Fault, Other, Totals, other_file};
+use racl_io::{Fault, Other, Totals, is_capture, other_file};
 use racl_words::words_status;
 use std::io;
 use std::io::ErrorKind as FailureKind;
@@ -47,6 +47,18 @@ pub fn remark(outcome: &Result<Totals, Fault>, front: &[u8]) -> Option<Other>
 {
     match outcome {
         Err(Fault::Magic | Fault::LinkType) => other_file(front),
+        _ => None,
+    }
+}
+
+/// What is told behind a fault that has a likely cause, of a run on a file of a policy that begins with these bytes: a record
+/// that is too long, and isn't the first, may be the header of another capture; and a policy that isn't UTF-8 may be one.
+pub fn hint(outcome: &Result<Totals, Fault>, policy: &[u8]) -> Option<Hint>
+    ensures { result ≡ hint_on outcome.now policy.now }
+{
+    match outcome {
+        Err(Fault::LongRecord(number)) if *number > 1 => Some(Hint::TwoCaptures),
+        Err(Fault::NotUtf8) if is_capture(policy) => Some(Hint::Swapped),
         _ => None,
     }
 }

@@ -14,10 +14,11 @@ mod sized;
 mod streaming;
 
 pub use end_to_end::run;
-pub use exits::{ending, failure_ending, remark, status, words_ending};
+pub use exits::{ending, failure_ending, hint, remark, status, words_ending};
 pub use laws::each_input_has_one_outcome;
-pub use message::{Ending, Message, Remark, Unopened};
+pub use message::{Ending, Hint, Message, Remark, Unopened};
 pub use racl_io::{
-    Device, DeviceFault, Fault, Form, Joined, Marked, Other, Sink, Source, Totals, marked,
+    Device, DeviceFault, Fault, Form, Joined, MOST_BYTES, Marked, Other, Sink, Source, Totals,
+    marked, read_until,
 };
 pub use racl_words::{Asked, Options, Origin, TableSize, options, words_status};

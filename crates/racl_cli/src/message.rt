@@ -38,3 +38,17 @@ pub struct Remark<'a> {
     pub name: &'a str,
     pub other: Other,
 }
+
+/// What is said where something else is likely to be meant.
+#[derive(Clone, Copy, Debug, PartialEq, Eq, Error)]
+pub enum Hint {
+    /// The header of a second capture, behind the records of a first one, is read as one of these.
+    #[error("racl: two captures put together by cat have such a record; one that is read is made by: mergecap -F pcap -w OUT A B")]
+    TwoCaptures,
+    /// The file of the policy is a capture.
+    #[error("racl: the file that is named as the policy is a capture; its words are: POLICY CAPTURE")]
+    Swapped,
+    /// Nothing is named, and a terminal is read.
+    #[error("racl: the policy and the capture are read from this terminal; racl --help says how files are named")]
+    Terminal,
+}

@@ -1,5 +1,6 @@
 //! A policy and captures from readers as one source.
 ghost use Rattle.std.specs.Prelude.{◌≡◌, IfOk, map, option_map};
+ghost use Rattle.std.specs.Io.Chain.{chain_first};
 ghost use Rattle.racl_io.specs.Joined as told;
 ghost use Rattle.racl_io.specs.Joined.{joined_bytes, marked_bytes};
 ghost use Rattle.racl_io.specs.Writings.{front_at, joined_left, marked_left};
@@ -57,6 +58,13 @@ impl<R: Read> Joined<R> {
         Joined {
             device: Device::new(policy.chain(InTurn::new(captures))),
         }
+    }
+
+    /// What the policy comes from.
+    pub fn policy(&self) -> &R
+        ensures { result.now ≡ chain_first self.now.device.inner }
+    {
+        self.device.inner.get_ref().0
     }
 
     /// The first bytes of the capture at this place that were read, up to 24; None where there are no so many captures.

@@ -25,7 +25,7 @@ pub use fault::Fault;
 pub use front::FrontKept;
 pub use input::{Digits, Form, Input, Numbered, cut_digits, parts};
 pub use joined::{Joined, Marked, marked};
-pub use other::{Other, other_file};
+pub use other::{Other, is_capture, other_file};
 pub use report::{Captured, Totals, write_report};
 pub use shown::{Shown, write_shown};
 pub use transfer::{MOST_BYTES, drain, read_until, write_all};

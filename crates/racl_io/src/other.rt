@@ -2,7 +2,7 @@
 ghost use Rattle.std.specs.Prelude.{◌≡◌, ◌≤◌, length};
 ghost use Rattle.packet_view.specs.Captures.{link_type, number_from};
 ghost use Rattle.packet_view.specs.declared.capture.Order.TheVariants.{Little, Big};
-ghost use Rattle.racl_io.specs.Others.{other_of};
+ghost use Rattle.racl_io.specs.Others.{is_capture, other_of};
 
 use byteorder::{BigEndian, ByteOrder, LittleEndian};
 use thiserror::Error;
@@ -16,6 +16,12 @@ pub enum Other {
     /// RFC 1952, section 2.3.1.
     #[error("compressed; the file that is read is made by: zcat IN > OUT")]
     Gzip,
+    /// The xz format, of version 1.
+    #[error("compressed; the file that is read is made by: xzcat IN > OUT")]
+    Xz,
+    /// RFC 8878, section 3.1.1.
+    #[error("compressed; the file that is read is made by: zstdcat IN > OUT")]
+    Zstd,
     /// Its records' headers are longer.
     #[error("modified pcap; capture one interface by its name: tcpdump -i NAME -w OUT")]
     Modified,
@@ -40,11 +46,16 @@ impl Marks {
         self.magic == 0xa1b2_cd34
     }
 
+    fn is_pcap(self) -> bool
+        ensures { result ≡ ((self.magic == 0xa1b2c3d4) || (self.magic == 0xa1b23c4d)) }
+    {
+        self.magic == 0xa1b2_c3d4 || self.magic == 0xa1b2_3c4d
+    }
+
     fn is_cooked(self) -> bool
         ensures { result ≡ (((self.magic == 0xa1b2c3d4) || (self.magic == 0xa1b23c4d)) && ((self.link == 113) || (self.link == 276))) }
     {
-        (self.magic == 0xa1b2_c3d4 || self.magic == 0xa1b2_3c4d)
-            && (self.link == 113 || self.link == 276)
+        self.is_pcap() && (self.link == 113 || self.link == 276)
     }
 }
 
@@ -84,6 +95,10 @@ pub fn other_file(bytes: &[u8]) -> Option<Other>
         Some(Other::Pcapng)
     } else if BigEndian::read_u16(bytes) == 0x1f8b {
         Some(Other::Gzip)
+    } else if big.magic == 0xfd37_7a58 {
+        Some(Other::Xz)
+    } else if big.magic == 0x28b5_2ffd {
+        Some(Other::Zstd)
     } else if little.is_modified() || big.is_modified() {
         Some(Other::Modified)
     } else if little.is_cooked() || big.is_cooked() {
@@ -91,4 +106,15 @@ pub fn other_file(bytes: &[u8]) -> Option<Other>
     } else {
         None
     }
+}
+
+/// Whether a file that begins with these bytes, of which the first 24 tell, is a classic pcap file, or one of which
+/// `other_file` tells what it is.
+pub fn is_capture(bytes: &[u8]) -> bool
+    ensures { result ≡ is_capture bytes.now }
+{
+    if bytes.len() < 24 {
+        return false;
+    }
+    little_marks(bytes).is_pcap() || big_marks(bytes).is_pcap() || other_file(bytes).is_some()
 }
