@@ -5,3 +5,4 @@ pub mod OutcomeLemmas
 pub mod ReadLemmas
 pub mod RunLemmas
 pub mod TakenLemmas
+pub mod ViewLemmas

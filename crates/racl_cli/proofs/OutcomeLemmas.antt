@@ -1,6 +1,6 @@
 -- What is answered of an input, and the report on it.
 use Rattle.std.specs.Io.KnownBytes.{Appends}
-use Rattle.std.proofs.Common.{◌≡◌, ◌≢◌, ◌∙◌, ◌≤◌, ◌⊎◌, All, ℕ, Bool, List, [], ◌∷◌, None, drop, length, Option, Result, Ok, Err, IfOk, IfErr, OnOk, MatchResult, IfSome, refl, sym, ap, ap₂, subst, inl, inr}
+use Rattle.std.proofs.Common.{◌≡◌, ◌≢◌, ◌∙◌, ◌≤◌, ◌++◌, ◌⊎◌, All, ℕ, Bool, List, [], ◌∷◌, None, drop, length, Option, Result, Ok, Err, IfOk, IfErr, OnOk, MatchResult, IfSome, refl, sym, ap, ap₂, subst, inl, inr}
 use Rattle.std.proofs.lemmas.List.{length-map}
 use Rattle.packet_view.specs.Captures.{End, AreRecords, IsCapture, IsCaptureFault, IsEnd, PacketFacts, RecordFacts, end_of, packets_at}
 use Rattle.packet_view.specs.declared.capture.CaptureFault.{CaptureFault}
@@ -31,8 +31,9 @@ use Rattle.racl_io.specs.Inputs.{IsContent, IsInput, InputFacts, most_bytes}
 use Rattle.racl_io.specs.Reports.{totals_of}
 use Rattle.racl_io.specs.ShownReports.{report_shown}
 use Rattle.racl_cli.specs.Crews.{AreSaid, Orders, orders_for}
-use Rattle.racl_cli.specs.Reads.{AnswersInput, IsOutcomeOf, IsReached, IsSaid, IsUnnumbered}
-use Rattle.racl_cli.specs.Runs.{ByWorkers, HasOutcome, HasReported, HasRun, IsRead, Outcome, dealt_to, layout_for, told_of}
+use Rattle.racl_cli.specs.Reads.{AnswersInput, HasKept, IsOutcomeOf, IsReached, IsSaid, IsUnnumbered}
+use Rattle.racl_cli.specs.inner.Views.{MayTell}
+use Rattle.racl_cli.specs.Runs.{AreHitsOn, ByWorkers, HasOutcome, HasReported, HasRun, IsRead, Outcome, dealt_to, layout_for, told_of}
 use Rattle.racl_cli.proofs.CaptureLaws.{alone_plain, fault_of_known, fault_plain, one_truncated, plain_alone, plain_fault}
 use Rattle.racl_cli.proofs.RunLemmas.{alone_in_capture, fault_of_known_parts, fault_of_right_policy, fault_of_wrong_policy, fault_without_parts, read_in}
 
@@ -181,16 +182,21 @@ module _ (options : Options) (bytes : List ℕ) (parts : InputFacts) (policy : P
 
 -- ---- the report
 
+-- what is told of hits on an input, where its bytes are kept
+abbrev pub TellsHits : Options → List ℕ → List Verdict → List ℕ → Type 0
+TellsHits options kept verdicts hits = (input : List ℕ) (policy : PolicyFacts) (packets : List PacketFacts) (captures : List Captured)
+    → MayTell options kept input → IsRead input policy packets captures → AreHitsOn options.hits input policy packets verdicts hits
+
 -- the report on what was reached was written, or a device failed
-pub has_run : (options : Options) (given old new : Option (List ℕ)) (bytes : List ℕ) (outcome : Outcome) (verdicts : List Verdict) (captures : List Captured) (result : Result Totals Fault)
-    → IfSome given (λ known. bytes ≡ known) → outcome_of verdicts captures ≡ outcome → IsOutcomeOf options bytes outcome
-    → OnOk result (Appends old new (report_shown options.shown verdicts captures)) → IfOk result (λ totals. totals ≡ totals_of verdicts captures)
+pub has_run : (options : Options) (given old new : Option (List ℕ)) (kept : List ℕ) (outcome : Outcome) (verdicts : List Verdict) (captures : List Captured) (hits : List ℕ) (result : Result Totals Fault)
+    → outcome_of verdicts captures ≡ outcome → HasKept options given kept outcome → TellsHits options kept verdicts hits
+    → OnOk result (Appends old new (report_shown options.shown verdicts captures ++ hits)) → IfOk result (λ totals. totals ≡ totals_of verdicts captures)
     → IfOk result (HasRun options given old new)
-has_run options given old new bytes outcome verdicts captures (Ok totals) known same was text counted =
-    let is : IsOutcomeOf options bytes (outcome_of verdicts captures) = subst (IsOutcomeOf options bytes) (sym same) was in
+has_run options given old new kept outcome verdicts captures hits (Ok totals) same k tells text counted =
+    let is : IsOutcomeOf options k.bytes (outcome_of verdicts captures) = subst (IsOutcomeOf options k.bytes) (sym same) k.answers.ok in
     record {
-      bytes = bytes;
-      known = known;
+      bytes = k.bytes;
+      known = k.known;
       policy = is.policy;
       packets = is.packets;
       captures = captures;
@@ -198,34 +204,38 @@ has_run options given old new bytes outcome verdicts captures (Ok totals) known 
       verdicts = verdicts;
       by_workers = is.reached.by_workers;
       by_one_thread = is.reached.by_one_thread;
+      hits = hits;
+      told = tells k.bytes is.policy is.packets captures k.same is.read;
       text = text;
       counted = counted;
     }
-has_run options given old new bytes outcome verdicts captures (Err fault) known same was text counted = tt
+has_run options given old new kept outcome verdicts captures hits (Err fault) same k tells text counted = tt
 
-pub has_reported : (options : Options) (old new : Option (List ℕ)) (bytes : List ℕ) (one_thread outcome : Outcome) (verdicts : List Verdict) (captures : List Captured) (result : Result Totals Fault)
-    → (has : HasOutcome options.tables options.times bytes one_thread) → outcome_of verdicts captures ≡ outcome → IsReached options has.policy has.packets one_thread.captures outcome
-    → OnOk result (Appends old new (report_shown options.shown verdicts captures)) → IfOk result (λ totals. totals ≡ totals_of verdicts captures)
-    → IfErr result (λ fault. (fault ≡ Memory) ⊎ (fault ≡ Write)) → MatchResult result (HasReported options bytes one_thread old new) IsSystemFault
-has_reported options old new bytes one_thread outcome verdicts captures (Ok totals) has same was text counted is =
+pub has_reported : (options : Options) (given old new : Option (List ℕ)) (kept : List ℕ) (one_thread outcome : Outcome) (verdicts : List Verdict) (captures : List Captured) (hits : List ℕ) (result : Result Totals Fault)
+    → outcome_of verdicts captures ≡ outcome → (k : HasKept options given kept outcome) → HasOutcome options.tables options.times k.bytes one_thread → TellsHits options kept verdicts hits
+    → OnOk result (Appends old new (report_shown options.shown verdicts captures ++ hits)) → IfOk result (λ totals. totals ≡ totals_of verdicts captures)
+    → IfErr result (λ fault. (fault ≡ Memory) ⊎ (fault ≡ Write)) → MatchResult result (HasReported options k.bytes one_thread old new) IsSystemFault
+has_reported options given old new kept one_thread outcome verdicts captures hits (Ok totals) same k has tells text counted is =
     let reached : IsReached options has.policy has.packets one_thread.captures (outcome_of verdicts captures) =
-    subst (IsReached options has.policy has.packets one_thread.captures) (sym same) was in
+    subst (IsReached options has.policy has.packets one_thread.captures) (sym same) (k.answers.accepts has.policy has.packets one_thread.captures has.read) in
     record {
       run = record {
-        bytes = bytes;
+        bytes = k.bytes;
         known = refl;
         policy = has.policy;
         packets = has.packets;
         captures = captures;
-        read = subst (λ told. IsRead bytes has.policy has.packets told) (sym reached.told) has.read;
+        read = subst (λ told. IsRead k.bytes has.policy has.packets told) (sym reached.told) has.read;
         verdicts = verdicts;
         by_workers = reached.by_workers;
         by_one_thread = reached.by_one_thread;
+        hits = hits;
+        told = tells k.bytes has.policy has.packets one_thread.captures k.same has.read;
         text = text;
         counted = counted;
       };
       same = λ paged.
           ap₂ outcome_of (one_verdicts (layout_for options.tables) options.times has.policy has.packets one_thread.verdicts verdicts has.verdicts (reached.by_one_thread paged)) (sym reached.told);
     }
-has_reported options old new bytes one_thread outcome verdicts captures (Err fault) has same was text counted (inl memory) = subst IsSystemFault (sym memory) tt
-has_reported options old new bytes one_thread outcome verdicts captures (Err fault) has same was text counted (inr write) = subst IsSystemFault (sym write) tt
+has_reported options given old new kept one_thread outcome verdicts captures hits (Err fault) same k has tells text counted (inl memory) = subst IsSystemFault (sym memory) tt
+has_reported options given old new kept one_thread outcome verdicts captures hits (Err fault) same k has tells text counted (inr write) = subst IsSystemFault (sym write) tt

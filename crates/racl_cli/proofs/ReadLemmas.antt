@@ -1,7 +1,7 @@
 -- An input that is read.
 use Rattle.std.specs.Io.KnownBytes.{Consumes, IsAtEnd}
 use Rattle.std.proofs.KnownBytes.{Consumes-all}
-use Rattle.std.proofs.Common.{◌≡◌, ◌∙◌, ◌+◌, ◌-◌, ◌<◌, ◌≤◌, ◌⊎◌, ℕ, Bool, true, false, List, [], ◌++◌, Option, Some, None, IfSome, Result, Ok, Err, length, append-nil, append_assoc, arith, refl, sym, ap, subst, inl, inr}
+use Rattle.std.proofs.Common.{◌≡◌, ◌∙◌, ◌+◌, ◌-◌, ◌<◌, ◌≤◌, ◌⊎◌, ℕ, Bool, true, false, List, [], ◌++◌, Option, Some, None, IfOk, IfSome, Result, Ok, Err, length, append-nil, append_assoc, arith, refl, sym, ap, subst, inl, inr}
 use Rattle.std.proofs.lemmas.List.{length-append}
 use Rattle.session_state.specs.declared.timeouts.Timeouts.{Timeouts}
 use Rattle.racl_words.specs.declared.settings.Options.{Options}
@@ -12,9 +12,9 @@ use Rattle.racl_io.specs.Faults.{IsInputFault, IsSystemFault}
 use Rattle.racl_io.specs.Transfers.{GaveAtMost, HasRead, HasReadWithin, failures_after_reads}
 use Rattle.racl_io.proofs.TransferLemmas.{gave_more}
 use Rattle.racl_io.specs.Inputs.{most_bytes}
-use Rattle.racl_cli.specs.Reads.{AnswersInput, AnswersRead, AreKnown, IsUnread}
+use Rattle.racl_cli.specs.Reads.{AnswersInput, AnswersRead, AreKnown, HasKept, IsUnread}
 use Rattle.racl_cli.specs.Runs.{HasOutcome, Outcome}
-use Rattle.racl_cli.proofs.RunLemmas.{IsWhole, device_or, excluded_by_input, fault_of_input, no_device}
+use Rattle.racl_cli.proofs.RunLemmas.{IsWhole, device_or, excluded_by_input, fault_of_input, no_device, steady}
 
 -- ---- bytes that a source had
 
@@ -174,3 +174,55 @@ unwritten options given fault (inl (other, same, inl memory)) write = let f : �
 unwritten options given fault (inl (other, same, inr (inl failed))) write = let f : ⊥ = cc in f
 unwritten options given fault (inl (other, same, inr (inr (large, many)))) write = let f : ⊥ = cc in f
 unwritten options given fault (inr whole) write = (no_device options whole.read fault whole.answers).1 write
+
+-- ---- bytes that are read once more
+
+known_as : (given : Option (List ℕ)) (bytes kept : List ℕ) → AreKnown given kept → bytes ≡ kept → AreKnown given bytes
+known_as None bytes kept known same = tt
+known_as (Some all) bytes kept known same = same ∙ known
+
+-- where hits aren't asked for, nothing need be kept
+pub kept_none : (options : Options) (given : Option (List ℕ)) (kept : List ℕ) (result : Result Outcome Fault) → options.hits ≡ false
+    → AnswersRead options [] given result → IfOk result (HasKept options given kept)
+kept_none options given kept (Ok outcome) off answers =
+    let r = outcome_read options given outcome answers in
+    record { bytes = r.bytes; known = r.whole.whole; few = r.whole.few; answers = r.answers; same = λ on. absurd (let f : false ≡ true = sym off ∙ on in cc) }
+kept_none options given kept (Err fault) off answers = tt
+
+-- what was kept is all
+pub kept_all : (options : Options) (given : Option (List ℕ)) (kept : List ℕ) (result : Result Outcome Fault) → AreKnown given kept
+    → AnswersRead options [] (Some kept) result → IfOk result (HasKept options given kept)
+kept_all options given kept (Ok outcome) known answers =
+    let r = outcome_read options (Some kept) outcome answers in
+    record {
+      bytes = r.bytes;
+      known = known_as given r.bytes kept known r.whole.whole;
+      few = r.whole.few;
+      answers = r.answers;
+      same = λ on. sym r.whole.whole;
+    }
+kept_all options given kept (Err fault) known answers = tt
+
+-- and is answered as the source's bytes are
+pub answers_again : (options : Options) (given : Option (List ℕ)) (kept : List ℕ) (result : Result Outcome Fault) → AreKnown given kept
+    → AnswersRead options [] (Some kept) result → AnswersRead options [] given result
+answers_again options given kept result known (inl (fault, same, inl memory)) = inl (fault, same, inl memory)
+answers_again options given kept result known (inl (fault, same, inr (inl failed))) = inl (fault, same, inr (inl failed))
+answers_again options None kept result known (inl (fault, same, inr (inr (large, many)))) = inl (fault, same, inr (inr (large, tt)))
+answers_again options (Some all) kept result known (inl (fault, same, inr (inr (large, many)))) =
+    inl (fault, same, inr (inr (large, subst (λ (b : List ℕ). most_bytes < 0 + length b) known many)))
+answers_again options given kept result known (inr whole) =
+    inr (record { read = whole.read; known = known_as given whole.read kept known whole.known; few = whole.few; answers = whole.answers })
+
+-- reading them never fails
+pub sound_again : (before after : ℕ) (result : Result Outcome Fault) → after ≡ before → 0 ≡ failures_after_reads 0 result
+    → after ≡ failures_after_reads before result
+sound_again before after (Ok outcome) same never = same
+sound_again before after (Err fault) same never =
+    same ∙ sym (steady before fault (λ is. absurd (let f : 0 ≡ 0 + 1 = subst (λ e. 0 ≡ failures_after_reads {X = Outcome} 0 (Err e)) is never in omega arith)))
+
+-- all that the source had is kept
+pub known_kept : (before after : Option (List ℕ)) (old kept : List ℕ) (least : ℕ) (at_end : Bool) → old ≡ [] → at_end ≡ true
+    → HasRead before after old kept least at_end → AreKnown before kept
+known_kept before after old kept least at_end empty ended has =
+    known_as before kept has.read (all_known before after has.read has.consumed (has.ended ended).0) (has.appended ∙ ap (λ (b : List ℕ). b ++ has.read) empty)

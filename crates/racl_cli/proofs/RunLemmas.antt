@@ -162,7 +162,7 @@ no_device options bytes fault answers = (
   (λ same. subst IsOfInput same (bytes_of_input bytes fault (answers.fault (λ memory. let f : ⊥ = cc in f)))),
 )
 
-steady : (n : ℕ) (fault : Fault) → (fault ≡ Read → ⊥) → failures_after_reads {X = Outcome} n (Err fault) ≡ n
+pub steady : (n : ℕ) (fault : Fault) → (fault ≡ Read → ⊥) → failures_after_reads {X = Outcome} n (Err fault) ≡ n
 steady n Read other = absurd (other refl)
 steady n Memory other = refl
 steady n Write other = refl

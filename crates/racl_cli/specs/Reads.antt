@@ -1,5 +1,5 @@
 -- What is answered of an input that is read, and what stands before the records of its captures.
-use Rattle.std.specs.Prelude.{◌≡◌, ◌≢◌, ◌+◌, ◌<◌, ◌≤◌, ◌⊎◌, ◌++◌, ℕ, Bool, true, is_some, List, [], ◌∷◌, Option, None, Some, IfSome, IfOk, IfErr, MatchResult, Result, Err, drop, length}
+use Rattle.std.specs.Prelude.{◌≡◌, ◌≢◌, ◌+◌, ◌<◌, ◌≤◌, ◌⊎◌, ◌++◌, ℕ, Bool, true, is_some, List, [], ◌∷◌, Option, None, Some, IfSome, IfOk, IfErr, MatchResult, Result, Ok, Err, drop, length}
 use Rattle.std.specs.Global.{Vec}
 use Rattle.std.specs.Io.KnownBytes.{IsAtEnd}
 use Rattle.packet_view.specs.Captures.{AreRecords, HasHeader, IsEnd, IsHeaderFault, PacketFacts, RecordFacts, end_of, packets_at}
@@ -53,6 +53,14 @@ pub record AnswersInput (options : Options) (bytes : List ℕ) (result : Result 
 -- the bytes that the source has are these, where they are known
 abbrev pub AreKnown : Option (List ℕ) → List ℕ → Type 0
 AreKnown given bytes = IfSome given (λ known. bytes ≡ known)
+
+-- this is the outcome of all bytes that the source had, which are kept where hits are asked for
+pub record HasKept (options : Options) (given : Option (List ℕ)) (kept : List ℕ) (outcome : Outcome) : Type 0 where
+  pub bytes : List ℕ
+  pub known : AreKnown given bytes
+  pub few : length bytes ≤ most_bytes
+  pub answers : AnswersInput options bytes (Ok outcome)
+  pub same : options.hits ≡ true → kept ≡ bytes
 
 -- memory ran out, reading failed, or there are too many bytes after so many
 abbrev pub IsUnread : ℕ → Option (List ℕ) → Fault → Type 0

@@ -21,6 +21,7 @@ use Rattle.racl_io.specs.declared.report.Totals.{Totals}
 use Rattle.racl_io.specs.Inputs.{AreCaptures, DigitsFacts, IsContent, IsInput, InputFacts, most_bytes}
 use Rattle.racl_io.specs.Reports.{totals_of}
 use Rattle.racl_io.specs.ShownReports.{report_shown}
+use Rattle.racl_views.specs.Hits.{AreHits}
 
 -- ---- inputs
 
@@ -124,8 +125,13 @@ pub record HasOutcome (size : TableSize) (times : Timeouts) (bytes : List ℕ) (
 
 -- ---- reports
 
+-- what is told of hits on the bytes of an input, where it is asked for
+abbrev pub AreHitsOn : Bool → List ℕ → PolicyFacts → List PacketFacts → List Verdict → List ℕ → Type 0
+AreHitsOn asked bytes policy packets verdicts told =
+    (parts : InputFacts) × IsInput bytes parts × AreHits asked policy parts.policy packets verdicts told
+
 -- An input was read, workers gave these verdicts on its packets, and after what was written before stands the report that
--- tells them. The verdicts are those of the one-thread filter where none of them says no-pages. Where it is known which
+-- tells them, and behind it what is told of hits. The verdicts are those of the one-thread filter where none of them says no-pages. Where it is known which
 -- bytes the reader gives, these are the input.
 pub record HasRun (options : Options) (given old new : Option (List ℕ)) (totals : Totals) : Type 0 where
   pub bytes : List ℕ
@@ -137,7 +143,9 @@ pub record HasRun (options : Options) (given old new : Option (List ℕ)) (total
   pub verdicts : List Verdict
   pub by_workers : ByWorkers options policy packets verdicts
   pub by_one_thread : HavePages verdicts → ByOneThread options.tables options.times policy packets verdicts
-  pub text : Appends old new (report_shown options.shown verdicts captures)
+  pub hits : List ℕ
+  pub told : AreHitsOn options.hits bytes policy packets verdicts hits
+  pub text : Appends old new (report_shown options.shown verdicts captures ++ hits)
   pub counted : totals ≡ totals_of verdicts captures
 
 -- what was reported on the bytes is the outcome of the one-thread filter, or one of workers that says no-pages

@@ -1,1 +1,2 @@
 pub mod Captures
+pub mod Views

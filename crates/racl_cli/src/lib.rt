@@ -2,6 +2,7 @@
 //! capture in, a verdict on each packet out. The program around it is the crate `racl`.
 #![tactic(auto)]
 
+mod at_hand;
 mod captures;
 mod crew;
 mod end_to_end;
@@ -12,6 +13,7 @@ mod opening;
 mod outcome;
 mod sized;
 mod streaming;
+mod viewing;
 
 pub use end_to_end::run;
 pub use exits::{ending, failure_ending, hint, remark, status, words_ending};

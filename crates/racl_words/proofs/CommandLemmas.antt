@@ -17,8 +17,8 @@ use Rattle.clap.specs.declared.parser.matches.ArgMatches.{ArgMatches}
 use Rattle.clap.proofs.OnLiterals.{clap_on_literals}
 use Rattle.clap.proofs.SimpleLemmas.{all_simple, plain_fields, simple_groups}
 use Rattle.clap.proofs.WalkLemmas.{first_value-rows, one_text-rows, raw_values-rows}
-use Rattle.racl_words.specs.CommandLine.{AskFor, HoldsNumber, HoldsNumbers, OptionFacts, OptionName, Workers, Established, Transient, Udp, Spells, SpellsOptions, capture_id, interface_id, most_of, name_of, number_of, option_rule, policy_id, racl, shown_at, size_at, text_at}
-use Rattle.racl_words.specs.Selections.{only_id, shown_by, summary_id}
+use Rattle.racl_words.specs.CommandLine.{AskFor, HoldsNumber, HoldsNumbers, OptionFacts, OptionName, Workers, Established, Transient, Udp, Spells, SpellsOptions, capture_id, interface_id, most_of, name_of, number_of, option_rule, policy_id, hits_at, racl, shown_at, size_at, text_at}
+use Rattle.racl_words.specs.Selections.{hits_id, is_given, only_id, shown_by, summary_id}
 use Rattle.racl_words.specs.Sizes.{size_by, tables_id}
 use Rattle.racl_words.specs.Origins.{AskForRun, OriginFacts, named_at}
 use Rattle.racl_words.specs.inner.Naming.{named_in}
@@ -57,39 +57,39 @@ module _ (c : Command) (is : app_of c ≡ racl) where
   rules_are : map rule_of (args_of c) ≡ racl.top.rules
   rules_are = ap (λ (a : App). a.top.rules) is
 
-  ten : length (args_of c) ≡ 10
-  ten = sym (length-map (args_of c) rule_of) ∙ ap length rules_are
+  eleven : length (args_of c) ≡ 11
+  eleven = sym (length-map (args_of c) rule_of) ∙ ap length rules_are
 
-  rule_at : (k : ℕ) (d : Arg) → k < 10 → rule_of (slice_index_or (args_of c) k d) ≡ slice_index_or racl.top.rules k (rule_of d)
+  rule_at : (k : ℕ) (d : Arg) → k < 11 → rule_of (slice_index_or (args_of c) k d) ≡ slice_index_or racl.top.rules k (rule_of d)
   rule_at k d lt =
-      let below : k < length (args_of c) = rw ten lt in
+      let below : k < length (args_of c) = rw eleven lt in
       sym (get_or-map rule_of (args_of c) k d (rule_of d) below) ∙ ap (λ rs. slice_index_or rs k (rule_of d)) rules_are
 
   -- where the id of an argument stands among the ids
-  id_at : (k : ℕ) (d : Arg) (t : Text) → k < 10 → slice_index_or ids (suc (suc (suc k))) t ≡ (slice_index_or (args_of c) k d).id.now
+  id_at : (k : ℕ) (d : Arg) (t : Text) → k < 11 → slice_index_or ids (suc (suc (suc k))) t ≡ (slice_index_or (args_of c) k d).id.now
   id_at k d t lt = get_or-map (λ (r : Rule). r.id) racl.top.rules k (rule_of d) t lt ∙ sym (ap (λ (r : Rule). r.id) (rule_at k d lt))
 
   -- no argument has the id of one that stands elsewhere
-  unique : (j k : ℕ) (d e : Arg) → j < 10 → k < 10 → (slice_index_or (args_of c) j e).id.now ≡ (slice_index_or (args_of c) k d).id.now → j ≡ k
+  unique : (j k : ℕ) (d e : Arg) → j < 11 → k < 11 → (slice_index_or (args_of c) j e).id.now ≡ (slice_index_or (args_of c) k d).id.now → j ≡ k
   unique j k d e j_in k_in same =
       let places : suc (suc (suc j)) ≡ suc (suc (suc k)) = same_place _ _ [] (omega arith) (omega arith) (id_at j e [] j_in ∙ same ∙ sym (id_at k d [] k_in)) in
       omega arith
 
   -- nor one of the ids that stand before the options'
-  own : (j k : ℕ) (d : Arg) → j < 3 → k < 10 → (slice_index_or (args_of c) k d).id.now ≡ slice_index_or ids j [] → ⊥
+  own : (j k : ℕ) (d : Arg) → j < 3 → k < 11 → (slice_index_or (args_of c) k d).id.now ≡ slice_index_or ids j [] → ⊥
   own j k d j_in k_in same =
       let places : j ≡ suc (suc (suc k)) = same_place _ _ [] (omega arith) (omega arith) (sym same ∙ sym (id_at k d [] k_in)) in
       absurd (omega arith)
 
   -- the matches hold a number for the option at a place
-  held_at : (m : ArgMatches) → IsParsedFrom c m → (k : ℕ) (d : Arg) (o : OptionName) → k < 10 → slice_index_or racl.top.rules k (rule_of d) ≡ option_rule o
+  held_at : (m : ArgMatches) → IsParsedFrom c m → (k : ℕ) (d : Arg) (o : OptionName) → k < 11 → slice_index_or racl.top.rules k (rule_of d) ≡ option_rule o
       → HoldsNumber (most_of o) (one_text (found_of m) (name_of o))
   held_at m p k d o lt here =
       let plain = plain_fields c (ap (λ (a : App). a.top.is_plain) is) in
       let simple : all_simple (shape_of c).rules ≡ true = ap (λ (a : App). all_simple a.top.rules) is in
       let option = option_by_rule o (slice_index_or (args_of c) k d) (rule_at k d lt ∙ here) in
-      number_held c m p plain.globals (simple_groups c simple) plain.groups k d o option (rw ten lt)
-      (λ j e low same. unique j k d e (rw ten at low) lt ((bytes_eq-Decides _ (name_of o)).0 same ∙ sym option.name))
+      number_held c m p plain.globals (simple_groups c simple) plain.groups k d o option (rw eleven lt)
+      (λ j e low same. unique j k d e (rw eleven at low) lt ((bytes_eq-Decides _ (name_of o)).0 same ∙ sym option.name))
       (λ empty. own 0 k d (omega arith) lt (option.name ∙ empty))
       (λ auto. elim auto [ inl h ↦ own 1 k d (omega arith) lt h | inr h ↦ own 2 k d (omega arith) lt h ])
 
@@ -100,7 +100,7 @@ numbers_held c m is p = go (args_of c) refl
     go : (xs : List Arg) → args_of c ≡ xs → HoldsNumbers (one_text (found_of m))
     go [] e =
         let none : length (args_of c) ≡ 0 = ap length e in
-        absurd (omega (arith, ten c is))
+        absurd (omega (arith, eleven c is))
     go (d ∷ rest) e = record {
       workers = held_at c is m p 0 d Workers (omega arith) refl;
       established = held_at c is m p 1 d Established (omega arith) refl;
@@ -138,6 +138,12 @@ same_shown c words m is has =
     let rows : rows_of (found_of m) ≡ matches_of racl words = (has (ap is_simple is ∙ racl_is_simple)).0 ∙ ap (λ a. matches_of a words) is in
     ap₂ shown_by (first_value-rows (found_of m) summary_id ∙ ap (first_of summary_id) rows) (first_value-rows (found_of m) only_id ∙ ap (first_of only_id) rows)
 
+-- and whether they ask for hits
+pub same_hits : (c : Command) (words : List Text) (m : ArgMatches) → app_of c ≡ racl → HasMatchesOf (app_of c) words m
+    → is_given (first_value (found_of m) hits_id) ≡ hits_at words
+same_hits c words m is has = ap is_given (first_value-rows (found_of m) hits_id
+    ∙ ap (first_of hits_id) ((has (ap is_simple is ∙ racl_is_simple)).0 ∙ ap (λ a. matches_of a words) is))
+
 -- no kind of error comes but those of the words' fault
 pub fails_by_fault : {T : Type 0} (c : Command) (words : List Text) (r : Result T Error) → app_of c ≡ racl
     → (is_simple_and_free (app_of c) ≡ true → FailsBy (fault_of (app_of c) words) r) → FailsBy (fault_of racl words) r
@@ -164,7 +170,8 @@ one_setting words a b p q =
     let tables : a.tables ≡ b.tables = cc in
     let both : Some a.shown ≡ Some b.shown = sym p.shown ∙ q.shown in
     let shown : a.shown ≡ b.shown = cc in
-    λ i. record { workers = workers i; established = established i; transient = transient i; udp = udp i; tables = tables i; shown = shown i }
+    let hits : a.hits ≡ b.hits = sym p.hits ∙ q.hits in
+    λ i. record { workers = workers i; established = established i; transient = transient i; udp = udp i; tables = tables i; shown = shown i; hits = hits i }
 
 -- words ask for one run
 pub one_run : (words : List Text) (a b : OptionFacts) (m n : OriginFacts) → AskForRun words a m → AskForRun words b n → (a ≡ b) × (m ≡ n)

@@ -15,8 +15,8 @@ use Rattle.clap.specs.declared.error.kind.ErrorKind.{ErrorKind}
 use Rattle.clap.specs.declared.parser.matches.ValueSource.TheVariants.{DefaultValue}
 use Rattle.clap.proofs.OnLiterals.{clap_on_literals}
 use Rattle.racl_words.specs.CommandLine.{OptionName, Workers, Established, Transient, Udp, default_of, name_of, racl}
-use Rattle.racl_words.proofs.SettingWalks.{at_row_missing, between, capture_filled, default_row, filled_rule, interface_filled, only_filled, policy_filled, summary_filled, tables_filled, top}
-use Rattle.racl_words.specs.Selections.{summary_id}
+use Rattle.racl_words.proofs.SettingWalks.{at_row_missing, between, capture_filled, default_row, filled_rule, hits_filled, interface_filled, only_filled, policy_filled, summary_filled, tables_filled, top}
+use Rattle.racl_words.specs.Selections.{hits_id, summary_id}
 
 or_right : (b : Bool) → (b || true) ≡ true
 or_right true = refl
@@ -38,6 +38,9 @@ default_passes Udp rows = pass_either _ _ refl
 
 summary_passes : (rows : List Row) → default_fault rows summary_filled ≡ []
 summary_passes rows = pass_either _ _ refl
+
+hits_passes : (rows : List Row) → default_fault rows hits_filled ≡ []
+hits_passes rows = pass_either _ _ refl
 
 -- nor does an argument that has none
 flag_passes : (r : Rule) (rows : List Row) → r.defaults ≡ [] → default_fault rows r ≡ []
@@ -68,8 +71,11 @@ only_passed rows = with_default (interface_passed rows) only_filled
 abbrev summary_passed : List Row → List Row
 summary_passed rows = with_default (only_passed rows) summary_filled
 
+abbrev hits_passed : List Row → List Row
+hits_passed rows = with_default (summary_passed rows) hits_filled
+
 abbrev policy_passed : List Row → List Row
-policy_passed rows = with_default (summary_passed rows) policy_filled
+policy_passed rows = with_default (hits_passed rows) policy_filled
 
 abbrev capture_passed : List Row → List Row
 capture_passed rows = with_default (policy_passed rows) capture_filled
@@ -82,9 +88,9 @@ unfolding clap_on_literals
 defaults_pass rows = both_pass (default_passes Workers rows) (both_pass (default_passes Established (workers_filled rows))
     (both_pass (default_passes Transient (established_filled rows)) (both_pass (default_passes Udp (transient_filled rows))
     (both_pass (flag_passes tables_filled (udp_filled rows) refl) (both_pass (flag_passes interface_filled (tables_passed rows) refl) (both_pass (flag_passes only_filled (interface_passed rows) refl)
-    (both_pass (summary_passes (only_passed rows)) (both_pass (flag_passes policy_filled (summary_passed rows) refl)
+    (both_pass (summary_passes (only_passed rows)) (both_pass (hits_passes (summary_passed rows)) (both_pass (flag_passes policy_filled (hits_passed rows) refl)
     (both_pass (flag_passes capture_filled (policy_passed rows) refl) (both_pass (flag_passes (filled help_rule) (capture_passed rows) refl)
-    (both_pass (flag_passes (filled version_rule) (help_passed rows) refl) refl)))))))))))
+    (both_pass (flag_passes (filled version_rule) (help_passed rows) refl) refl))))))))))))
 
 -- what the words come to in the end, by where the walk stopped
 abbrev pub end_fault : List ErrorKind → Walk → List ErrorKind
@@ -185,11 +191,14 @@ filled_by Udp rows = default_fills Udp (transient_filled rows)
 summary_keeps : (id : Text) (rows : List Row) → bytes_eq summary_id id ≡ false → find_row id (with_default rows summary_filled) ≡ find_row id rows
 summary_keeps id rows = keep_row id summary_id (codes "false") AsWritten rows
 
--- what has no default leaves the rows of the options and the flag
-all_but_options : (rows : List Row) → fold with_default rows top.rules ≡ with_default (udp_filled rows) summary_filled
+hits_keeps : (id : Text) (rows : List Row) → bytes_eq hits_id id ≡ false → find_row id (with_default rows hits_filled) ≡ find_row id rows
+hits_keeps id rows = keep_row id hits_id (codes "false") AsWritten rows
+
+-- what has no default leaves the rows of the options and the flags
+all_but_options : (rows : List Row) → fold with_default rows top.rules ≡ with_default (with_default (udp_filled rows) summary_filled) hits_filled
 all_but_options rows = flag_keeps (filled version_rule) (help_passed rows) refl ∙ flag_keeps (filled help_rule) (capture_passed rows) refl
-    ∙ flag_keeps capture_filled (policy_passed rows) refl ∙ flag_keeps policy_filled (summary_passed rows) refl
-    ∙ ap (λ rs. with_default rs summary_filled) (flag_keeps only_filled (interface_passed rows) refl
+    ∙ flag_keeps capture_filled (policy_passed rows) refl ∙ flag_keeps policy_filled (hits_passed rows) refl
+    ∙ ap (λ rs. with_default (with_default rs summary_filled) hits_filled) (flag_keeps only_filled (interface_passed rows) refl
     ∙ flag_keeps interface_filled (tables_passed rows) refl ∙ flag_keeps tables_filled (udp_filled rows) refl)
 
 no_summary : (o : OptionName) → bytes_eq summary_id (name_of o) ≡ false
@@ -198,24 +207,48 @@ no_summary Established = refl
 no_summary Transient = refl
 no_summary Udp = refl
 
--- the row of the flag that was left out
+no_hits : (o : OptionName) → bytes_eq hits_id (name_of o) ≡ false
+no_hits Workers = refl
+no_hits Established = refl
+no_hits Transient = refl
+no_hits Udp = refl
+
+-- the row of a flag that was left out
+abbrev flag_row : Text → Row
+flag_row id = record { id = id; values = codes "false" ∷ []; count = None; source = Some DefaultValue; reading = AsWritten }
+
 abbrev pub summary_row : Row
-summary_row = record { id = summary_id; values = codes "false" ∷ []; count = None; source = Some DefaultValue; reading = AsWritten }
+summary_row = flag_row summary_id
+
+abbrev pub hits_row : Row
+hits_row = flag_row hits_id
 
 pub all_filled : (o : OptionName) (rows : List Row) → find_row (name_of o) (fold with_default rows top.rules) ≡ option_or (find_row (name_of o) rows) (Some (default_row o))
-all_filled o rows = ap (find_row (name_of o)) (all_but_options rows) ∙ summary_keeps (name_of o) (udp_filled rows) (no_summary o) ∙ filled_by o rows
+all_filled o rows = ap (find_row (name_of o)) (all_but_options rows) ∙ hits_keeps (name_of o) (with_default (udp_filled rows) summary_filled) (no_hits o)
+    ∙ summary_keeps (name_of o) (udp_filled rows) (no_summary o) ∙ filled_by o rows
 
 -- the flag's row, or its default where the words left it out
 pub summary_fills : (rows : List Row) → ((o : OptionName) → bytes_eq (name_of o) summary_id ≡ false)
     → find_row summary_id (fold with_default rows top.rules) ≡ option_or (find_row summary_id rows) (Some summary_row)
-summary_fills rows apart = ap (find_row summary_id) (all_but_options rows) ∙ fill_row summary_id (codes "false") AsWritten (udp_filled rows) refl
+summary_fills rows apart = ap (find_row summary_id) (all_but_options rows) ∙ hits_keeps summary_id (with_default (udp_filled rows) summary_filled) refl
+    ∙ fill_row summary_id (codes "false") AsWritten (udp_filled rows) refl
     ∙ ap (λ found. option_or found (Some summary_row)) (id_keeps summary_id Udp (transient_filled rows) (apart Udp)
     ∙ id_keeps summary_id Transient (established_filled rows) (apart Transient) ∙ id_keeps summary_id Established (workers_filled rows) (apart Established)
     ∙ id_keeps summary_id Workers rows (apart Workers))
 
+pub hits_fills : (rows : List Row) → ((o : OptionName) → bytes_eq (name_of o) hits_id ≡ false)
+    → find_row hits_id (fold with_default rows top.rules) ≡ option_or (find_row hits_id rows) (Some hits_row)
+hits_fills rows apart = ap (find_row hits_id) (all_but_options rows)
+    ∙ fill_row hits_id (codes "false") AsWritten (with_default (udp_filled rows) summary_filled) refl
+    ∙ ap (λ found. option_or found (Some hits_row)) (summary_keeps hits_id (udp_filled rows) refl
+    ∙ id_keeps hits_id Udp (transient_filled rows) (apart Udp) ∙ id_keeps hits_id Transient (established_filled rows) (apart Transient)
+    ∙ id_keeps hits_id Established (workers_filled rows) (apart Established) ∙ id_keeps hits_id Workers rows (apart Workers))
+
 -- no default has another id
-pub no_other_filled : (id : Text) (rows : List Row) → ((o : OptionName) → bytes_eq (name_of o) id ≡ false) → bytes_eq summary_id id ≡ false → find_row id (fold with_default rows top.rules) ≡ find_row id rows
-no_other_filled id rows apart no_flag = ap (find_row id) (all_but_options rows) ∙ summary_keeps id (udp_filled rows) no_flag ∙ id_keeps id Udp (transient_filled rows) (apart Udp)
+pub no_other_filled : (id : Text) (rows : List Row) → ((o : OptionName) → bytes_eq (name_of o) id ≡ false) → bytes_eq summary_id id ≡ false → bytes_eq hits_id id ≡ false
+    → find_row id (fold with_default rows top.rules) ≡ find_row id rows
+no_other_filled id rows apart no_flag none = ap (find_row id) (all_but_options rows)
+    ∙ hits_keeps id (with_default (udp_filled rows) summary_filled) none ∙ summary_keeps id (udp_filled rows) no_flag ∙ id_keeps id Udp (transient_filled rows) (apart Udp)
     ∙ id_keeps id Transient (established_filled rows) (apart Transient) ∙ id_keeps id Established (workers_filled rows) (apart Established)
     ∙ id_keeps id Workers rows (apart Workers)
 

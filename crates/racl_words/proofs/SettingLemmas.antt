@@ -14,9 +14,9 @@ use Rattle.clap.specs.Walk.{Held, has_row, nothing_held, row_text, settled, walk
 use Rattle.clap.specs.Words.{IsSignedIn, Row, Text, matches_of, without_minus}
 use Rattle.clap.specs.declared.builder.value_parser.ValueParser.TheVariants.{Signed}
 use Rattle.clap.proofs.ValueTestLemmas.{Accepts-accepts}
-use Rattle.racl_words.specs.CommandLine.{IsInRange, OptionName, Workers, Established, Transient, Udp, Spells, capture_id, default_of, interface_id, most_of, most_seconds, name_of, number_of, policy_id, racl, shown_at, size_at, text_at}
+use Rattle.racl_words.specs.CommandLine.{IsInRange, OptionName, Workers, Established, Transient, Udp, Spells, capture_id, default_of, interface_id, most_of, most_seconds, hits_at, name_of, number_of, policy_id, racl, shown_at, size_at, text_at}
 use Rattle.racl_io.specs.declared.shown.Shown.TheVariants.{Every}
-use Rattle.racl_words.specs.Selections.{only_id, shown_by, summary_id}
+use Rattle.racl_words.specs.Selections.{hits_id, is_given, only_id, shown_by, summary_id}
 use Rattle.racl_words.specs.Sizes.{size_by, tables_id}
 use Rattle.racl_words.specs.declared.settings.TableSize.TheVariants.{Standard}
 use Rattle.racl_words.specs.Options.{AreInRange, AreNames, AreSettings, Setting, Use, facts_of, named_by, sets, times_set, value_at, words_as, words_of, words_of_use}
@@ -24,7 +24,7 @@ use Rattle.racl_words.specs.Origins.{AskForRun, Name, OriginFacts, named_at}
 use Rattle.racl_words.proofs.NameLemmas.{plain_uses}
 use Rattle.racl_words.proofs.NameWalks.{Ends, has_row_behind, names_end, rows_of_names, rows_of_uses, uses_go_on}
 use Rattle.racl_words.proofs.SettingWalks.{AreNew, GoesOn, Holds, IsFit, between, default_row, row_of, settings_go_on, top}
-use Rattle.racl_words.proofs.SettingDefaults.{all_filled, end_fault, ends_well, fault_is, find_both, find_row, no_other_filled, or_nothing, summary_fills, summary_row}
+use Rattle.racl_words.proofs.SettingDefaults.{all_filled, end_fault, ends_well, fault_is, find_both, find_row, hits_fills, hits_row, no_other_filled, or_nothing, summary_fills, summary_row}
 
 -- a number's text doesn't begin with a minus
 plain_value : (d : ℕ) (ds : Text) → IsNumeral 10 (without_leading_plus (d ∷ ds)) → (d == 45) ≡ false
@@ -178,6 +178,12 @@ no_flag Established = refl
 no_flag Transient = refl
 no_flag Udp = refl
 
+no_hits : IsOther hits_id
+no_hits Workers = refl
+no_hits Established = refl
+no_hits Transient = refl
+no_hits Udp = refl
+
 no_other_row : (id : Text) (ss : List Setting) → IsOther id → has_row id (map row_of ss) ≡ false
 no_other_row id [] other = refl
 no_other_row id (s ∷ rest) other = rw (other s.option) (no_other_row id rest other)
@@ -278,6 +284,14 @@ flag_is (u ∷ us) [] = refl
 flag_is (u ∷ us) (p ∷ []) = refl
 flag_is (u ∷ us) (p ∷ c ∷ names) = refl
 
+hits_is : (uses : List Use) (names : List Text) → find_row hits_id (other_rows uses names) ≡ None
+hits_is [] [] = refl
+hits_is [] (p ∷ []) = refl
+hits_is [] (p ∷ c ∷ names) = refl
+hits_is (u ∷ us) [] = refl
+hits_is (u ∷ us) (p ∷ []) = refl
+hits_is (u ∷ us) (p ∷ c ∷ names) = refl
+
 -- ---- all words
 
 -- words that set options and name files as a user writes them ask for what they say
@@ -290,6 +304,7 @@ words_ask program ss uses names origin are named says = record {
     options = record { workers = spelt Workers; established = spelt Established; transient = spelt Transient; udp = spelt Udp };
     tables = tables_are;
     shown = shown_is;
+    hits = hits_are;
   };
   names = subst (λ named. Name named origin) (sym named_is) says;
 }
@@ -329,24 +344,30 @@ words_ask program ss uses names origin are named says = record {
         let range = value_in_range o ss are.in_range in
         (value_at o ss, text o, range, refl)
 
-    other_row : (id : Text) → IsOther id → bytes_eq summary_id id ≡ false → find_row id (matches_of racl (program ∷ words)) ≡ find_row id (other_rows uses names)
-    other_row id other unlike = ap (find_row id) filled_rows ∙ no_other_filled id (map row_of ss ++ other_rows uses names) other unlike ∙ other_found id ss uses names other
+    other_row : (id : Text) → IsOther id → bytes_eq summary_id id ≡ false → bytes_eq hits_id id ≡ false → find_row id (matches_of racl (program ∷ words)) ≡ find_row id (other_rows uses names)
+    other_row id other unlike none = ap (find_row id) filled_rows ∙ no_other_filled id (map row_of ss ++ other_rows uses names) other unlike none ∙ other_found id ss uses names other
 
     tables_are : size_at (program ∷ words) ≡ Some Standard
-    tables_are = ap (λ (found : Option Row). size_by (option_and_then (λ r. slice_get r.values 0) found)) (other_row tables_id no_size refl ∙ size_is uses names)
+    tables_are = ap (λ (found : Option Row). size_by (option_and_then (λ r. slice_get r.values 0) found)) (other_row tables_id no_size refl refl ∙ size_is uses names)
 
     shown_is : shown_at (program ∷ words) ≡ Some Every
     shown_is =
         let flag = ap (find_row summary_id) filled_rows ∙ summary_fills (map row_of ss ++ other_rows uses names) no_flag
         ∙ ap (λ found. option_or found (Some summary_row)) (other_found summary_id ss uses names no_flag ∙ flag_is uses names) in
-        let only = other_row only_id no_only refl ∙ only_is uses names in
+        let only = other_row only_id no_only refl refl ∙ only_is uses names in
         ap₂ (λ (s o : Option Row). shown_by (option_and_then (λ r. slice_get r.values 0) s) (option_and_then (λ r. slice_get r.values 0) o)) flag only
+
+    hits_are : hits_at (program ∷ words) ≡ false
+    hits_are =
+        let flag = ap (find_row hits_id) filled_rows ∙ hits_fills (map row_of ss ++ other_rows uses names) no_hits
+        ∙ ap (λ found. option_or found (Some hits_row)) (other_found hits_id ss uses names no_hits ∙ hits_is uses names) in
+        ap (λ (h : Option Row). is_given (option_and_then (λ r. slice_get r.values 0) h)) flag
 
     named_is : named_at (program ∷ words) ≡ named_by uses names
     named_is =
-        let policy = ap (option_and_then (λ (r : Row). slice_get r.values 0)) (other_row policy_id no_policy refl) ∙ policy_is uses names in
-        let capture = ap (option_and_then (λ (r : Row). slice_get r.values 0)) (other_row capture_id no_capture refl) ∙ capture_is uses names in
-        let captures = ap (option_map (λ (r : Row). r.values)) (other_row interface_id no_interface refl) ∙ captures_are uses names in
+        let policy = ap (option_and_then (λ (r : Row). slice_get r.values 0)) (other_row policy_id no_policy refl refl) ∙ policy_is uses names in
+        let capture = ap (option_and_then (λ (r : Row). slice_get r.values 0)) (other_row capture_id no_capture refl refl) ∙ capture_is uses names in
+        let captures = ap (option_map (λ (r : Row). r.values)) (other_row interface_id no_interface refl refl) ∙ captures_are uses names in
         λ i. record { policy = policy i; capture = capture i; captures = captures i }
 
 pub written_asks : (words : List Text) (program : Text) (ss : List Setting) (uses : List Use) (names : List Text) (origin : OriginFacts) → AreSettings ss → AreNames names

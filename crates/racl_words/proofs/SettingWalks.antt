@@ -15,7 +15,7 @@ use Rattle.clap.specs.declared.parser.matches.ValueSource.TheVariants.{CommandLi
 use Rattle.clap.proofs.OnLiterals.{clap_on_literals}
 use Rattle.racl_words.specs.CommandLine.{OptionName, Workers, Established, Transient, Udp, capture_id, default_of, file_rule, interface_rule, most_of, name_of, option_rule, policy_id, racl}
 use Rattle.racl_words.specs.Options.{Setting, words_by, words_of}
-use Rattle.racl_words.specs.Selections.{only_rule, summary_rule}
+use Rattle.racl_words.specs.Selections.{hits_rule, only_rule, summary_rule}
 use Rattle.racl_words.specs.Sizes.{tables_rule}
 
 abbrev pub top : Shape
@@ -35,6 +35,9 @@ only_filled = filled only_rule
 
 abbrev pub summary_filled : Rule
 summary_filled = filled summary_rule
+
+abbrev pub hits_filled : Rule
+hits_filled = filled hits_rule
 
 abbrev pub policy_filled : Rule
 policy_filled = with_index 1 (filled (file_rule policy_id))

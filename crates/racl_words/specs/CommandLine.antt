@@ -1,5 +1,5 @@
 -- The command line: the command's options and arguments, and what the words say of the options.
-use Rattle.std.specs.Prelude.{◌≡◌, ◌≤◌, ◌⊎◌, ℕ, true, List, [], ◌∷◌, Option, Some, codes, pos}
+use Rattle.std.specs.Prelude.{◌≡◌, ◌≤◌, ◌⊎◌, ℕ, Bool, true, List, [], ◌∷◌, Option, Some, codes, pos}
 use Rattle.std.specs.Str.Parse.{IsNumeral, digits_value, without_leading_plus}
 use Rattle.clap.specs.Simple.{on_top}
 use Rattle.clap.specs.Words.{App, IsSignedIn, Rule, Text, fault_of, first_of, matches_of, new_app}
@@ -11,7 +11,7 @@ use Rattle.clap.specs.declared.error.kind.ErrorKind.TheVariants.{DisplayHelp, Di
 use Rattle.racl_io.specs.declared.shown.Shown.{Shown}
 use Rattle.racl_words.specs.declared.settings.Options.{Options}
 use Rattle.racl_words.specs.declared.settings.TableSize.{TableSize}
-use Rattle.racl_words.specs.Selections.{only_id, only_rule, shown_by, summary_id, summary_rule}
+use Rattle.racl_words.specs.Selections.{hits_id, hits_rule, is_given, only_id, only_rule, shown_by, summary_id, summary_rule}
 use Rattle.racl_words.specs.Sizes.{size_by, tables_id, tables_rule}
 
 -- ---- the command
@@ -91,9 +91,9 @@ abbrev pub with_selections : App
 with_selections = with_rule (with_rule (with_rule (with_rule with_options tables_rule) interface_rule) only_rule)
     summary_rule
 
--- and with the files
+-- and with the hits and the files
 abbrev pub racl : App
-racl = with_rule (with_rule with_selections (file_rule policy_id)) (file_rule capture_id)
+racl = with_rule (with_rule (with_rule with_selections hits_rule) (file_rule policy_id)) (file_rule capture_id)
 
 -- ---- what the words ask for
 
@@ -105,6 +105,7 @@ pub record OptionFacts : Type 0 where
   pub udp : ℕ
   pub tables : TableSize
   pub shown : Shown
+  pub hits : Bool
 
 abbrev pub option_facts : Options → OptionFacts
 option_facts o = record {
@@ -114,6 +115,7 @@ option_facts o = record {
   udp = o.times.udp;
   tables = o.tables;
   shown = o.shown;
+  hits = o.hits;
 }
 
 abbrev pub number_of : Text → ℕ
@@ -147,13 +149,18 @@ shown_at words = shown_by (first_of summary_id (matches_of racl words)) (first_o
 abbrev pub size_at : List Text → Option TableSize
 size_at words = size_by (first_of tables_id (matches_of racl words))
 
+-- whether they ask for hits
+abbrev pub hits_at : List Text → Bool
+hits_at words = is_given (first_of hits_id (matches_of racl words))
+
 -- the command finds no fault in the words, each option is the number spelt by the text that its
--- matches of the words hold for it, and this size and these packets are asked for
+-- matches of the words hold for it, and this size, these packets and these hits are asked for
 pub record AskFor (words : List Text) (facts : OptionFacts) : Type 0 where
   pub faultless : fault_of racl words ≡ []
   pub options : SpellsOptions (text_at words) facts
   pub tables : size_at words ≡ Some facts.tables
   pub shown : shown_at words ≡ Some facts.shown
+  pub hits : hits_at words ≡ facts.hits
 
 -- an error of this kind is a request for the help or for the version
 abbrev pub IsRequest : ErrorKind → Type 0

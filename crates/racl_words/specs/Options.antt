@@ -47,7 +47,7 @@ pub record AreSettings (settings : List Setting) : Type 0 where
   pub once : (option : OptionName) → times_set option settings ≤ 1
   pub in_range : AreInRange settings
 
--- the numbers to which they set the options; the tables are standard, and every packet is shown
+-- the numbers to which they set the options; the tables are standard, every packet is shown, and no hits are told
 abbrev pub facts_of : List Setting → OptionFacts
 facts_of settings = record {
   workers = number_of (value_at Workers settings);
@@ -56,6 +56,7 @@ facts_of settings = record {
   udp = number_of (value_at Udp settings);
   tables = Standard;
   shown = Every;
+  hits = false;
 }
 
 -- ---- captures of interfaces, and files

@@ -1,4 +1,4 @@
--- Which packets the words ask to be shown (this project's profile).
+-- Which packets the words ask to be shown, and whether they ask for hits (this project's profile).
 use Rattle.std.specs.Prelude.{Bool, false, Option, None, Some, codes, option_map, if◌then◌else◌}
 use Rattle.std.specs.Str.{bytes_eq}
 use Rattle.clap.specs.Words.{Rule, Text, new_rule}
@@ -19,6 +19,13 @@ summary_id = codes "summary"
 -- the flag `--summary`
 abbrev pub summary_rule : Rule
 summary_rule = record (new_rule summary_id) { long = Some summary_id; action = Some SetTrue }
+
+abbrev pub hits_id : Text
+hits_id = codes "hits"
+
+-- the flag `--hits`
+abbrev pub hits_rule : Rule
+hits_rule = record (new_rule hits_id) { long = Some hits_id; action = Some SetTrue }
 
 -- what the value of `--only` asks for; without one it is every packet
 abbrev pub shown_only : Option Text → Option Shown

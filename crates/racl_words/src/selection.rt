@@ -1,9 +1,9 @@
-//! The packets that the words ask to be shown.
+//! The packets that the words ask to be shown, and whether they ask for hits.
 ghost use Rattle.std.specs.Prelude.{◌≡◌, option_map};
 ghost use Rattle.std.specs.Borrow.{Bor};
 ghost use Rattle.clap.specs.Words.{Text, first_value, found_of};
 ghost use Rattle.racl_words.specs.Selections;
-ghost use Rattle.racl_words.specs.Selections.{only_id, shown_by, summary_id};
+ghost use Rattle.racl_words.specs.Selections.{hits_id, is_given, only_id, shown_by, summary_id};
 
 use clap::ArgMatches;
 use racl_io::Shown;
@@ -28,5 +28,15 @@ pub fn shown_named(matches: &ArgMatches<'_>) -> Option<Shown>
     match matches.get_str("summary") {
         Some("true") => Some(Shown::Nothing),
         _ => Some(shown),
+    }
+}
+
+/// Whether the matches ask for hits.
+pub fn hits_named(matches: &ArgMatches<'_>) -> bool
+    ensures { result ≡ is_given (first_value (found_of matches.now) hits_id) }
+{
+    match matches.get_str("hits") {
+        Some("true") => true,
+        _ => false,
     }
 }

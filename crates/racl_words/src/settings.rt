@@ -22,6 +22,8 @@ pub struct Options {
     pub tables: TableSize,
     /// Which packets have a line in the report.
     pub shown: Shown,
+    /// Whether the report tells how many packets each rule decided.
+    pub hits: bool,
     pub ghost few: { (1 ≤ workers) × (workers ≤ 16) },
 }
 

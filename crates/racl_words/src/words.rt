@@ -7,11 +7,11 @@ ghost use Rattle.racl_words.specs.CommandLine.{option_facts, racl, shown_at, siz
 ghost use Rattle.racl_words.specs.CommandLine as line;
 ghost use Rattle.racl_words.specs.Options.{AreNames, AreSettings, Setting, Use, facts_of, named_by, words_as};
 ghost use Rattle.racl_words.specs.Origins.{AskForRun, Name, NamesNone, OriginFacts, origin_facts};
-ghost use Rattle.racl_words.specs.Selections.{only_rule, summary_rule};
+ghost use Rattle.racl_words.specs.Selections.{hits_rule, only_rule, summary_rule};
 ghost use Rattle.racl_words.specs.Sizes.{tables_rule};
 
 use crate::naming::{Refusal, origin_named};
-use crate::selection::shown_named;
+use crate::selection::{hits_named, shown_named};
 use crate::settings::{Asked, Options, TableSize};
 use crate::size::size_named;
 use clap::error::ErrorKind;
@@ -55,7 +55,7 @@ pub fn options<'a>(alloc: Global, words: &'a [&'a str]) -> Result<Asked<'a>, Err
     };
     match origin_named(alloc, &matches) {
         Ok(origin) => Ok(Asked {
-            options: read_options(&matches, tables, shown),
+            options: read_options(&matches, tables, shown, hits_named(&matches)),
             origin,
         }),
         Err(Refusal::Memory) => Err(Error::from(AllocError)),
@@ -112,6 +112,7 @@ fn command<'a>(alloc: Global) -> Result<Command<'a>, AllocError>
     ensures { IfOk result (λ c. app_of c ≡ racl) }
 {
     command_with_selections(alloc)?
+        .arg(hits_flag(alloc))?
         .arg(file_argument(
             alloc,
             "POLICY",
@@ -120,7 +121,7 @@ fn command<'a>(alloc: Global) -> Result<Command<'a>, AllocError>
         .arg(file_argument(alloc, "CAPTURE", "The capture's file"))
 }
 
-// The command with its options, and no file yet.
+// The command with its options up to the flag for the hits, and no file yet.
 fn command_with_selections<'a>(alloc: Global) -> Result<Command<'a>, AllocError>
     ensures { IfOk result (λ c. app_of c ≡ with_selections) }
 {
@@ -246,6 +247,16 @@ fn summary_flag<'a>(alloc: Global) -> Arg<'a>
         .help("No lines of packets")
 }
 
+fn hits_flag<'a>(alloc: Global) -> Arg<'a>
+    ensures rule { rule_of result ≡ hits_rule }
+    ensures local { result.global ≡ false }
+{
+    Arg::new(alloc, "hits")
+        .long("hits")
+        .action(ArgAction::SetTrue)
+        .help("Behind the totals, how many packets each rule decided")
+}
+
 fn file_argument<'a>(alloc: Global, id: &'a str, help: &'a str) -> Arg<'a>
     ensures rule { rule_of result ≡ line.file_rule id.entry.now }
     ensures local { result.global ≡ false }
@@ -253,11 +264,17 @@ fn file_argument<'a>(alloc: Global, id: &'a str, help: &'a str) -> Arg<'a>
     Arg::new(alloc, id).action(ArgAction::Set).help(help)
 }
 
-fn read_options(matches: &ArgMatches<'_>, tables: TableSize, shown: Shown) -> Options
+fn read_options(
+    matches: &ArgMatches<'_>,
+    tables: TableSize,
+    shown: Shown,
+    hits: bool,
+) -> Options
     requires { HoldsNumbers (one_text (found_of matches.now)) }
     ensures spelt { SpellsOptions (one_text (found_of matches.now)) (option_facts result) }
     ensures tables { result.tables ≡ tables }
     ensures shown { result.shown ≡ shown }
+    ensures hits { result.hits ≡ hits }
 {
     let workers = number_at(matches, "workers");
     let established = number_at(matches, "tcp-established");
@@ -272,6 +289,7 @@ fn read_options(matches: &ArgMatches<'_>, tables: TableSize, shown: Shown) -> Op
         },
         tables,
         shown,
+        hits,
     }
 }
 

@@ -43,4 +43,5 @@ const DEFAULTS: Options = Options {
     },
     tables: TableSize::Standard,
     shown: Shown::Every,
+    hits: false,
 };

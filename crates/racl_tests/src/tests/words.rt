@@ -85,6 +85,7 @@ fn words_set_the_options(rt: HostRuntime) {
         times,
         tables: TableSize::Standard,
         shown,
+        hits: false,
     };
     assert_eq!(rt; set_after(alloc, &["racl"]), Some(defaults));
     assert_eq!(rt;
@@ -96,6 +97,7 @@ fn words_set_the_options(rt: HostRuntime) {
         times,
         tables: TableSize::Large,
         shown,
+        hits: false,
     };
     assert_eq!(rt;
         set_after(alloc, &["racl", "--tables=large", "--workers", "16"]),

@@ -4,7 +4,7 @@ use Rattle.clap.specs.declared.parser.matches.ArgMatches.{ArgMatches}
 use Rattle.racl_words.specs.Options.{facts_of}
 use Rattle.racl_words.specs.Origins.{Name, origin_facts}
 use Rattle.racl_words.specs.inner.Naming.{IsRefused}
-use Rattle.racl_words.proofs.CommandLemmas.{fails_by_fault, numbers_held, one_run, only_memory, same_names, same_options, same_shown, same_size}
+use Rattle.racl_words.proofs.CommandLemmas.{fails_by_fault, numbers_held, one_run, only_memory, same_hits, same_names, same_options, same_shown, same_size}
 use Rattle.racl_words.proofs.SettingLemmas.{written_asks}
 use Rattle.racl_words.proofs.words.options.Goals as goal
 
@@ -24,6 +24,8 @@ returns-in-Ok-origin_named-clause-ok c = record {
         ∙ ap Some (sym c.read_options.ensures.tables);
     shown = sym (same_shown c.in_ok-command.command _ c.in-Ok.matches c.in_ok-command.ensures c.in-Ok.ensures.ok.2) ∙ sym c.shown_named.ensures ∙ c.in-Some-shown_named.is
         ∙ ap Some (sym c.read_options.ensures.shown);
+    hits = sym (same_hits c.in_ok-command.command _ c.in-Ok.matches c.in_ok-command.ensures c.in-Ok.ensures.ok.2) ∙ sym c.hits_named.ensures
+        ∙ sym c.read_options.ensures.hits;
   };
   names = subst (λ names. Name names (origin_facts c.in-Ok-origin_named.origin))
       (same_names c.in_ok-command.command _ c.in-Ok.matches c.in_ok-command.ensures c.in-Ok.ensures.ok.2) c.in-Ok-origin_named.ensures;

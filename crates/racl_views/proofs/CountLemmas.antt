@@ -1,0 +1,44 @@
+-- Packets that are counted one after the other.
+use Rattle.std.proofs.Common.{◌≡◌, ◌∙◌, ◌++◌, ◌+◌, ◌<◌, ◌≤◌, ◌^◌, ℕ, suc, Bool, true, false, List, [], ◌∷◌, Option, append_assoc, append-nil, arith, ap, drop, get_or, length, refl, subst, sym, count_by, cond}
+use Rattle.std.proofs.Math.ListN.{drop_of_length-le}
+use Rattle.std.proofs.Math.Seq.{drop-cons}
+use Rattle.std.proofs.lemmas.List.Sums.{sum_by-append}
+use Rattle.packet_view.specs.Captures.{PacketFacts}
+use Rattle.acl_policy.specs.Policies.{PolicyFacts}
+use Rattle.flow_filter.specs.declared.verdict.Verdict.{Verdict}
+use Rattle.racl_views.specs.Deciding.{AreDecided, IsDecided}
+use Rattle.racl_views.specs.Hits.{decided_by, hits_on, rule_text, rules_text}
+use Rattle.racl_views.specs.declared.rule.RuleLine.{RuleLine}
+use Rattle.racl_views.specs.declared.rule.RuleName.{RuleName}
+use Rattle.racl_views.specs.inner.Counts.{Count}
+use Rattle.racl_views.specs.inner.Places.{place_of}
+
+-- what is left begins with the next one
+pub drop_one : {A : Type 0} (xs : List A) (k : ℕ) (d : A) → k < length xs → drop k xs ≡ get_or xs k d ∷ drop (k + 1) xs
+drop_one xs k d within = let one : suc k ≡ k + 1 = omega arith in drop-cons xs k d within ∙ ap (λ n. get_or xs k d ∷ drop n xs) one
+
+-- one more packet is decided
+pub decided_more : (policy : PolicyFacts) (packets all left now : List PacketFacts) (packet : PacketFacts) (verdicts : List Verdict) (k : ℕ) (verdict : Verdict)
+    (rules others : List (Option RuleName)) (rule : Option RuleName) → k < length verdicts → left ≡ packet ∷ now → IsDecided policy packet (get_or verdicts k verdict) rule
+    → ((more : List (Option RuleName)) → AreDecided policy left (drop k verdicts) more → AreDecided policy all verdicts (rules ++ more))
+    → AreDecided policy now (drop (k + 1) verdicts) others → AreDecided policy all verdicts ((rules ++ rule ∷ []) ++ others)
+decided_more policy packets all left now packet verdicts k verdict rules others rule within took is goes_on more =
+    let one : AreDecided policy (packet ∷ now) (get_or verdicts k verdict ∷ drop (k + 1) verdicts) (rule ∷ others) = (is, more) in
+    let two : AreDecided policy left (drop k verdicts) (rule ∷ others) =
+    subst (λ (ps : List PacketFacts). AreDecided policy ps (drop k verdicts) (rule ∷ others)) (sym took)
+    (subst (λ (vs : List Verdict). AreDecided policy (packet ∷ now) vs (rule ∷ others)) (sym (drop_one verdicts k verdict within)) one) in
+    subst (λ (rs : List (Option RuleName)). AreDecided policy all verdicts rs) (sym (append_assoc rules (rule ∷ []) others)) (goes_on (rule ∷ others) two)
+
+-- a rule's count after one more packet
+pub hits_more : (name : RuleName) (rules : List (Option RuleName)) (rule : Option RuleName)
+    → hits_on name (rules ++ rule ∷ []) ≡ hits_on name rules + cond (decided_by name rule) 1 0
+hits_more name rules rule = let parts = sum_by-append (λ (r : Option RuleName). cond (decided_by name r) 1 0) rules (rule ∷ []) in omega (arith, parts)
+
+-- what was decided is counted
+pub counted_all : (counts : List ℕ) (rules : List (Option RuleName)) → Count counts rules → Count counts (rules ++ [])
+counted_all counts rules counted name small = counted name small ∙ ap (hits_on name) (sym (append-nil rules))
+
+-- nothing is left to decide
+pub none_left : (policy : PolicyFacts) (packets : List PacketFacts) → AreDecided policy packets [] []
+none_left policy [] = refl
+none_left policy (packet ∷ packets) = refl

@@ -1,0 +1,5 @@
+pub mod CaptureLemmas
+pub mod CountLemmas
+pub mod LineLemmas
+pub mod PlaceLemmas
+pub mod TextLemmas

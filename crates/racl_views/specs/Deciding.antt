@@ -1,0 +1,44 @@
+-- Which rule decided a packet (this project's profile).
+use Rattle.std.specs.Prelude.{◌≡◌, ℕ, List, [], ◌∷◌, Option, None, Some, option_map}
+use Rattle.packet_view.specs.Captures.{PacketFacts}
+use Rattle.packet_view.specs.Frames.{FrameFacts, Ip, Malformed, NotIp, Short}
+use Rattle.acl_policy.specs.Policies.{PolicyFacts}
+use Rattle.flow_filter.specs.Readings.{IsSeen}
+use Rattle.flow_filter.specs.declared.verdict.Verdict.{Verdict}
+use Rattle.flow_filter.specs.declared.verdict.Verdict.TheVariants as verdict
+use Rattle.racl_views.specs.declared.rule.RuleName.{RuleName}
+
+-- the number of the rule that decided, where one did
+abbrev pub rule_number : Verdict → Option ℕ
+rule_number (verdict.Reflect number) = Some number
+rule_number (verdict.Permit number) = Some number
+rule_number (verdict.Deny number) = Some number
+rule_number verdict.Session = None
+rule_number verdict.ByDefault = None
+rule_number verdict.Worn = None
+rule_number verdict.Full = None
+rule_number verdict.NoPages = None
+rule_number verdict.NotIp = None
+rule_number verdict.Malformed = None
+rule_number verdict.Short = None
+
+-- the rule of the way that a packet goes
+abbrev pub rule_on : ℕ → FrameFacts → Verdict → Option RuleName
+rule_on interface NotIp verdict = None
+rule_on interface Malformed verdict = None
+rule_on interface Short verdict = None
+rule_on interface (Ip direction tuple) verdict =
+    option_map (λ number. record { interface = interface; direction = direction; number = number }) (rule_number verdict)
+
+-- the rule that decided a packet with this verdict, among those of its interface and its way
+abbrev pub IsDecided : PolicyFacts → PacketFacts → Verdict → Option RuleName → Type 0
+IsDecided policy packet verdict rule =
+    (view : FrameFacts) × IsSeen policy packet view × (rule ≡ rule_on packet.interface view verdict)
+
+-- each packet with its verdict was decided so
+abbrev pub AreDecided : PolicyFacts → List PacketFacts → List Verdict → List (Option RuleName) → Type 0
+AreDecided policy [] verdicts rules = rules ≡ []
+AreDecided policy (packet ∷ packets) [] rules = rules ≡ []
+AreDecided policy (packet ∷ packets) (verdict ∷ verdicts) [] = ⊥
+AreDecided policy (packet ∷ packets) (verdict ∷ verdicts) (rule ∷ rules) =
+    IsDecided policy packet verdict rule × AreDecided policy packets verdicts rules

@@ -1,0 +1,5 @@
+pub mod CapturePackets
+pub mod Deciding
+pub mod Hits
+pub mod RuleLines
+pub mod inner
