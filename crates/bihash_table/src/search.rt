@@ -4,10 +4,10 @@ ghost use Rattle.bihash_steps.specs.Views.{nothing_held};
 ghost use Rattle.bihash_table.specs.Calls.{TellsSearch, TellsSearchTry};
 
 use crate::contended::Contended;
-use crate::lock::look;
+use crate::hashed_key::HashedKey;
+use crate::lock::load_unlocked;
 use crate::reads::{find_pair, value_found};
 use crate::sessions::Sessions;
-use crate::site::Site;
 use bihash_steps::{Caller, Event};
 use bihash_words::{Change, Reply, Shape};
 use crossbeam_utils::Backoff;
@@ -22,20 +22,20 @@ impl<S: Shape> Sessions<S> {
         ensures { TellsSearchTry ⟦<S as Shape>⟧ caller.old.seat caller.new.seat key.now result }
     {
         self.row.is_sound();
-        let site = Site::of(key);
+        let hashed = HashedKey::of(key);
         let seat = &mut caller.seat;
-        let Some(word) = look(&self.row, seat, site.bucket) else {
+        let Some(word) = load_unlocked(&self.row, seat, hashed.bucket) else {
             return Err(Contended);
         };
-        let pair = find_pair(&self.row, seat, word, &site);
+        let pair = find_pair(&self.row, seat, word, &hashed);
         let found = value_found(pair);
         let event = Event {
-            key: site.key,
+            key: hashed.key,
             found,
             change: Change::Keep,
             reply: Reply::Kept(found),
         };
-        if self.row.validate(seat, site.bucket, word, &event) {
+        if self.row.validate(seat, hashed.bucket, word, &event) {
             return Ok(found);
         }
         Err(Contended)

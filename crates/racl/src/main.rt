@@ -26,7 +26,7 @@ fn main(rt: HostRuntime) -> ExitCode {
         Err(error) => {
             let end = failure_ending(&error);
             // Where standard error fails too, the status alone is left to tell.
-            let _ = said(&rt, &end);
+            let _ = say_ending(&rt, &end);
             ExitCode::from(end.status)
         }
     }
@@ -69,7 +69,7 @@ fn refused(rt: &HostRuntime, error: &Error) -> io::Result<u8> {
     if end.message.is_none() {
         error.print(rt)?;
     }
-    said(rt, &end)
+    say_ending(rt, &end)
 }
 
 // Checks the policy of a file.
@@ -82,7 +82,7 @@ fn status_of_check(rt: &HostRuntime, alloc: Global, name: &str) -> io::Result<u8
     match check_source(alloc, &mut reader, &mut writer) {
         Ok(true) => Ok(0),
         Ok(false) => Ok(1),
-        Err(fault) => said(rt, &ending(&Err(fault))),
+        Err(fault) => say_ending(rt, &ending(&Err(fault))),
     }
 }
 
@@ -101,7 +101,7 @@ fn status_of_run<T: Threads + Wait + Sync>(
     let mut reader = Joined::new(parts.policy, parts.captures);
     let mut writer = Device::new(rt.stdout());
     let outcome = run(threads, alloc, &asked.options, &mut reader, &mut writer);
-    let status = said(rt, &ending(&outcome))?;
+    let status = say_ending(rt, &ending(&outcome))?;
     say_remark(rt, &asked.origin, &reader, &outcome)?;
     Ok(status)
 }
@@ -126,7 +126,7 @@ fn say_remark(
 }
 
 // Says what is to be said, and answers the status.
-fn said(rt: &HostRuntime, end: &Ending) -> io::Result<u8> {
+fn say_ending(rt: &HostRuntime, end: &Ending) -> io::Result<u8> {
     if let Some(message) = &end.message {
         rt.eprintln(message)?;
     }

@@ -44,7 +44,7 @@ abbrev pub AreWritten : {A K : Type 0} → Ghosts A K → CallerState → Caller
 AreWritten g s t h ps = (words : List ℕ) × (t ≡ with_view s (with_words s.view h words)) × ArePlaces g ps words
 
 -- The caller of this row holds a block that begins at this page and has so many places at least.
-pub record HoldsBlock (z : Sizes) (row : _) (s : CallerState) (page count : ℕ) : Type 0 where
+pub record HoldsOwnBlock (z : Sizes) (row : _) (s : CallerState) (page count : ℕ) : Type 0 where
   pub own : s.row ≡ row
   pub sound : IsSound z
   pub block : HeldBlock
@@ -102,7 +102,7 @@ pub record HoldsOld (v : View) (n : LockedStore) (e : Extent) (words : List ℕ)
   pub settled : n.store.unpublished ≡ false
 
 -- The caller of this row has the allocation lock, and may give back this block.
-pub record MayReturn (z : Sizes) (row : _) (s : CallerState) (log2 page : ℕ) : Type 0 where
+pub record MayGiveBackBlock (z : Sizes) (row : _) (s : CallerState) (log2 page : ℕ) : Type 0 where
   pub own : s.row ≡ row
   pub sound : IsSound z
   pub small : log2 ≤ z.max_log2

@@ -1,6 +1,6 @@
 use Rattle.std.proofs.Common.{refl, ◌∙◌}
 use Rattle.bihash_words.specs.Sizes.{sizes_of}
-use Rattle.bihash_table.proofs.Composed.{again_answered}
+use Rattle.bihash_table.proofs.CallChains.{again_answered}
 use Rattle.bihash_table.proofs.SameCallers.{own_through, same_through}
 use Rattle.bihash_table.proofs.sessions.Sessions.search.Goals as goal
 
