@@ -44,12 +44,8 @@ own_writes reply = if is_changed reply then 1 else 0
 abbrev pub search_of : List ℕ → Option ℕ → Event
 search_of key found = event key found Keep (Kept found)
 
--- the same of an update that may remove an expired pair for its own: it bears the expiry where it asked it
+-- an update of a key that may remove an expired pair for its own: it bears the expiry where it asked it
 abbrev pub recycled_update : List ℕ → Option ℕ → Change → (ℕ → Bool) → Option (List ℕ) → Reply → Event
 recycled_update key found change is_expired removed reply = record (event key found change reply) {
   recycling = record { expired = expired_told removed reply (expired_words is_expired); removed = removed };
 }
-
--- an update of a key, decided on the value that was found
-abbrev pub update_event : List ℕ → Option ℕ → (Option ℕ → Change) → Reply → Event
-update_event key found decision reply = event key found (decision found) reply

@@ -1,9 +1,11 @@
 //! Places of keys and values that are written into a block.
-ghost use Rattle.std.specs.Prelude.{◌≡◌, ◌≢◌, ◌≤◌, ◌+◌, length};
+ghost use Rattle.std.specs.Prelude.{◌≡◌, ◌≢◌, ◌≤◌, ◌+◌, ℕ, List, length};
 ghost use Rattle.bihash_words.specs.Sizes.{sizes_of};
 ghost use Rattle.bihash_steps.specs.Blocks.{free, places};
+ghost use Rattle.bihash_steps.specs.Seats.{with_view};
 ghost use Rattle.bihash_steps.specs.declared.view.HeldBlock.{HeldBlock};
-ghost use Rattle.bihash_table.specs.inner.Copying.{AreWritten, HasBlock, HoldsOwnBlock, IsPlaced};
+ghost use Rattle.bihash_table.specs.inner.Copying.{HasBlock, HoldsOwnBlock, IsPlaced, with_words};
+ghost use Rattle.bihash_table.specs.inner.Places.{ArePlaces};
 
 use crate::places::FREE;
 use bihash_steps::{CallerSeat, Row};
@@ -19,7 +21,8 @@ pub(crate) fn write_block<S: Shape>(
     requires held { HoldsOwnBlock (sizes_of S.Shape) row.now seat.old page 0 }
     requires whole { (h : HeldBlock) → HasBlock (sizes_of S.Shape) seat.old.view page h → length block.now ≡ places page h.log2 }
     ensures { (h : HeldBlock) → HasBlock (sizes_of S.Shape) seat.old.view page h
-        → AreWritten ⟦<S as Shape>⟧ seat.old seat.new h block.now }
+        → (words : List ℕ) × (seat.new ≡ with_view seat.old (with_words seat.old.view h words))
+        × ArePlaces ⟦<S as Shape>⟧ block.now words }
 {
     for place in 0..block.len() {
         let (key, value) = &block[place];

@@ -2,7 +2,7 @@
 ghost use Rattle.std.specs.Prelude.{◌≡◌, ◌<◌};
 ghost use Rattle.bihash_words.specs.Sizes.{sizes_of};
 ghost use Rattle.bihash_steps.specs.Words.{buckets};
-ghost use Rattle.bihash_steps.specs.Views.{nothing_held};
+ghost use Rattle.bihash_steps.specs.CallerCalls.{IsIdle};
 ghost use Rattle.bihash_table.specs.inner.OpenReads.{HasOpen};
 ghost use Rattle.bihash_table.specs.inner.Seen.{TellsLockTry, TellsUnlocked};
 
@@ -15,8 +15,7 @@ pub(crate) fn load_unlocked<S: Shape>(
     seat: &mut CallerSeat<S>,
     bucket: usize,
 ) -> Option<BucketWord>
-    requires own { seat.old.row ≡ row.now }
-    requires free { seat.old.view.holds ≡ nothing_held }
+    requires idle { IsIdle row.now seat.old }
     requires inside { bucket < buckets (sizes_of S.Shape) }
     ensures { TellsUnlocked (sizes_of S.Shape) seat.old seat.new bucket result }
 {

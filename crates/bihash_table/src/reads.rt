@@ -1,9 +1,10 @@
 //! Searches of the block of an open bucket. What they find holds on the condition that the words they
 //! load are the block's, which a step on the bucket's word tells afterwards.
-ghost use Rattle.std.specs.Prelude.{◌≡◌, ◌+◌, ◌*◌, ◌^◌, ◌<◌, ◌≤◌};
+ghost use Rattle.std.specs.Prelude.{◌≡◌, ◌+◌, ◌*◌, ◌^◌, ◌<◌, ◌≤◌, slice_index};
 ghost use Rattle.bihash_words.specs.Sizes.{sizes_of};
+ghost use Rattle.bihash_steps.specs.Words.{place_words};
 ghost use Rattle.bihash_table.specs.inner.Scans.{NamesBlock, AreOpenPages};
-ghost use Rattle.bihash_table.specs.inner.OpenReads.{HasRead, MayRead, IsWordAt, LastWordTells, AreMarks, first_set, later_set, set_count, TellsValue, IsPairAmong, IsPairIn, IsFirstFreeIn, OtherPairTells, value_of};
+ghost use Rattle.bihash_table.specs.inner.OpenReads.{HasRead, MayRead, LastWordTells, AreMarks, first_set, later_set, set_count, TellsValue, IsPairAmong, IsPairIn, IsFirstFreeIn, OtherPairTells, value_of};
 
 use crate::hashed_key::HashedKey;
 use crate::places::{FREE, PAGE_PLACES, page_count, place_count};
@@ -95,7 +96,8 @@ pub(crate) fn load_word<S: Shape>(
 ) -> u64
     requires read { MayRead (sizes_of S.Shape) row.now seat.old word (place + 1) }
     requires inside { i ≤ S.WORDS }
-    ensures { HasRead seat.old seat.new (IsWordAt (sizes_of S.Shape) place i result) }
+    ensures { HasRead seat.old seat.new (λ _ block.
+        result ≡ slice_index block (place * place_words (sizes_of S.Shape) + i)) }
 {
     row.is_sound();
     row.load_open(seat, word.page(), place * (S::WORDS + 1) + i)

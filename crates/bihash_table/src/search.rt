@@ -1,6 +1,5 @@
 //! Searches: one try, and a search that waits for its turn.
-ghost use Rattle.std.specs.Prelude.{◌≡◌};
-ghost use Rattle.bihash_steps.specs.Views.{nothing_held};
+ghost use Rattle.bihash_steps.specs.CallerCalls.{IsIdle};
 ghost use Rattle.bihash_table.specs.Calls.{TellsSearch, TellsSearchTry};
 
 use crate::contended::Contended;
@@ -17,8 +16,7 @@ impl<S: Shape> Sessions<S> {
     /// The value of the key, `None` where it is absent. It takes no lock.
     #[inline(always)]
     pub fn try_search(&self, caller: &mut Caller<S>, key: &S::Key) -> Result<Option<u64>, Contended>
-        requires own { caller.old.seat.row ≡ self.now.row }
-        requires free { caller.old.seat.view.holds ≡ nothing_held }
+        requires { IsIdle self.now.row caller.old.seat }
         ensures { TellsSearchTry ⟦<S as Shape>⟧ caller.old.seat caller.new.seat key.now result }
     {
         self.row.is_sound();
@@ -43,8 +41,7 @@ impl<S: Shape> Sessions<S> {
 
     /// The same. It tries again until no other caller holds the bucket's lock or changes it meanwhile.
     pub fn search<R: Wait>(&self, rt: &R, caller: &mut Caller<S>, key: &S::Key) -> Option<u64>
-        requires own { caller.old.seat.row ≡ self.now.row }
-        requires free { caller.old.seat.view.holds ≡ nothing_held }
+        requires { IsIdle self.now.row caller.old.seat }
         ensures { TellsSearch ⟦<S as Shape>⟧ caller.old.seat caller.new.seat key.now result }
     {
         if let Ok(found) = self.try_search(caller, key) {
@@ -56,8 +53,7 @@ impl<S: Shape> Sessions<S> {
     // A search that met another caller. It stands apart, so that the first try keeps nothing for it.
     #[inline(never)]
     fn search_again<R: Wait>(&self, rt: &R, caller: &mut Caller<S>, key: &S::Key) -> Option<u64>
-        requires own { caller.old.seat.row ≡ self.now.row }
-        requires free { caller.old.seat.view.holds ≡ nothing_held }
+        requires { IsIdle self.now.row caller.old.seat }
         ensures { TellsSearch ⟦<S as Shape>⟧ caller.old.seat caller.new.seat key.now result }
     {
         let backoff = Backoff::new();

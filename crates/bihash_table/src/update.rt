@@ -4,7 +4,7 @@ ghost use Rattle.bihash_words.specs.Maps.{effect_of};
 ghost use Rattle.bihash_words.specs.Patches.{IsStorable};
 ghost use Rattle.bihash_words.specs.Words.{Bucket, FitsWord, packed};
 ghost use Rattle.bihash_words.specs.declared.patch.Change.TheVariants.{Keep};
-ghost use Rattle.bihash_steps.specs.Views.{nothing_held};
+ghost use Rattle.bihash_steps.specs.CallerCalls.{IsIdle};
 ghost use Rattle.bihash_table.specs.Calls.{TellsRecycleTry, TellsUpdateTry};
 ghost use Rattle.bihash_table.specs.inner.OpenReads.{value_of};
 ghost use Rattle.bihash_table.specs.inner.Seen.{Found, WantsChange};
@@ -33,8 +33,7 @@ impl<S: Shape> Sessions<S> {
         key: &S::Key,
         patch: &P,
     ) -> Result<Reply, Contended>
-        requires own { caller.old.seat.row ≡ self.now.row }
-        requires free { caller.old.seat.view.holds ≡ nothing_held }
+        requires { IsIdle self.now.row caller.old.seat }
         ensures { TellsUpdateTry ⟦<S as Shape>⟧ caller.old.seat caller.new.seat key.now (P.decision patch.now) result }
     {
         self.try_add_or_recycle(caller, key, patch, &Never)
@@ -51,8 +50,7 @@ impl<S: Shape> Sessions<S> {
         patch: &P,
         expiry: &E,
     ) -> Result<Reply, Contended>
-        requires own { caller.old.seat.row ≡ self.now.row }
-        requires free { caller.old.seat.view.holds ≡ nothing_held }
+        requires { IsIdle self.now.row caller.old.seat }
         ensures { TellsRecycleTry ⟦<S as Shape>⟧ caller.old.seat caller.new.seat key.now (P.decision patch.now)
             (E.is_expired expiry.now) result }
     {

@@ -12,8 +12,8 @@ use packet_view::Packets;
 use std::alloc::{AllocError, Global};
 use std::thread::Threads;
 
-/// The packets, whose numbers begin with this one, with the workers that judge them, in their order, in as many chunks as
-/// there are workers. Each chunk is found by a thread of its own, or by this one where no thread can be made.
+/// The packets, whose numbers begin with this one, with the workers that judge them, in their order, in as many chunks
+/// as there are workers. Each chunk is found by a thread of its own, or by this one where no thread can be made.
 pub fn deal_packets<'a, A: Shape + Send, B: Shape + Send, R: Threads + Sync>(
     rt: &R,
     alloc: Global,

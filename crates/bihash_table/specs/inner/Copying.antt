@@ -13,7 +13,6 @@ use Rattle.bihash_steps.specs.declared.view.LockedStore.{LockedStore}
 use Rattle.bihash_steps.specs.declared.view.HeldBlock.{HeldBlock}
 use Rattle.bihash_steps.specs.declared.view.PageStore.{PageStore}
 use Rattle.bihash_steps.specs.declared.view.View.{View}
-use Rattle.bihash_table.specs.inner.Places.{ArePlaces}
 use Rattle.bihash_table.specs.inner.Scans.{IsWordOf}
 
 -- the caller holds this block, which begins at this page, and has no note
@@ -38,10 +37,6 @@ pub record IsPlaced {A K : Type 0} (g : Ghosts A K) (s t : CallerState) (h : Hel
   pub key_is : value ≢ free → key_in (sizes_of g) words place ≡ g.words_of key
   pub value_is : value_in (sizes_of g) words place ≡ value
   pub before : (k : ℕ) → k < place * place_words (sizes_of g) → slice_index words k ≡ slice_index h.words k
-
--- these places were written into the held block, as many as it has
-abbrev pub AreWritten : {A K : Type 0} → Ghosts A K → CallerState → CallerState → HeldBlock → List (K × ℕ) → Type 0
-AreWritten g s t h ps = (words : List ℕ) × (t ≡ with_view s (with_words s.view h words)) × ArePlaces g ps words
 
 -- The caller of this row holds a block that begins at this page and has so many places at least.
 pub record HoldsOwnBlock (z : Sizes) (row : _) (s : CallerState) (page count : ℕ) : Type 0 where

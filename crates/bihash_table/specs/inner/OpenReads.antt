@@ -73,10 +73,6 @@ pub record MayRead (z : Sizes) (row : _) (s : CallerState) (word count : ℕ) : 
   pub block : NotesBlock z s.view word extent
   pub inside : count ≤ places extent.page extent.size.log2
 
--- word k of place i
-abbrev pub IsWordAt : Sizes → ℕ → ℕ → ℕ → Extent → List ℕ → Type 0
-IsWordAt z i k word e block = word ≡ slice_index block (i * place_words z + k)
-
 -- the key and the value that are at place i
 abbrev pub StandsAt : {A K : Type 0} → Ghosts A K → ℕ → K × ℕ → Extent → List ℕ → Type 0
 StandsAt g i pair e block = (key_in (sizes_of g) block i ≡ g.words_of pair.0) × (value_in (sizes_of g) block i ≡ pair.1)
