@@ -91,7 +91,7 @@ impl Expiry {
     }
 }
 
-fn told(answer: RawAnswer) -> Result<Answer, Contended> {
+fn answer_of(answer: RawAnswer) -> Result<Answer, Contended> {
     Ok(match answer.kind {
         0 => Answer::Absent,
         1 => Answer::Found(answer.value),
@@ -169,7 +169,7 @@ macro_rules! calls {
             /// The same in one try.
             pub fn $try_name(&mut self, key: &F::Key, $($given: $kind),*) -> Result<Answer, Contended> {
                 let ($h, $k) = (&mut self.held.handle, key);
-                told(unsafe { $call })
+                answer_of(unsafe { $call })
             }
         )*
     };

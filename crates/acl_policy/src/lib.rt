@@ -27,7 +27,7 @@ pub use line::{Line, action_of, direction_of, family_of, interface_of, line_of};
 pub use mac::mac_of;
 pub use matching::{first_match, has_prefix, is_match};
 pub use numeral::{number_of, octet_of};
-pub use parts::{flags_of, number_up_to, range_of};
+pub use parts::{flags_of_word, number_up_to, range_of};
 pub use policy::{Policy, PolicyFault, Section};
 pub use prefix::prefix_of;
 pub use reading::{add_line, empty_draft, read_policy};

@@ -40,7 +40,7 @@ pub fn range_of(word: &[u8], most: u16) -> Option<(u16, u16)>
 
 /// A value and a mask with `/` between them.
 #[tactic(auto, unfolding(crate::specs::inner::Reading::Traffic::flags_in))]
-pub fn flags_of(word: &[u8]) -> Option<(u8, u8)>
+pub fn flags_of_word(word: &[u8]) -> Option<(u8, u8)>
     ensures { result ≡ flags_in word.now }
 {
     let (value, mask) = cut_at(word, b'/')?;
@@ -84,7 +84,7 @@ pub fn flags_part(text: &[u8]) -> Option<((u8, u8), &[u8])>
         return Some(((0, 0), text));
     };
     let (word, rest) = next_word(rest)?;
-    let flags = flags_of(word)?;
+    let flags = flags_of_word(word)?;
     Some((flags, rest))
 }
 

@@ -74,7 +74,7 @@ fn bare(kind: u32) -> Answer
 }
 
 // The one answer where there was no value, the other where there was one.
-fn told(found: Option<u64>, none: u32, some: u32) -> Answer
+fn found_answer(found: Option<u64>, none: u32, some: u32) -> Answer
     ensures { result ≡ value_told found none some }
 {
     match found {
@@ -93,9 +93,9 @@ pub fn reply_answer(tried: Result<Reply, Contended>) -> Answer
     ensures { result ≡ answer_of tried }
 {
     match tried {
-        Ok(Reply::Kept(found)) => told(found, ABSENT, FOUND),
-        Ok(Reply::Changed(found)) => told(found, ADDED, REPLACED),
-        Ok(Reply::Worn(found)) => told(found, WORN, WORN_FOUND),
+        Ok(Reply::Kept(found)) => found_answer(found, ABSENT, FOUND),
+        Ok(Reply::Changed(found)) => found_answer(found, ADDED, REPLACED),
+        Ok(Reply::Worn(found)) => found_answer(found, WORN, WORN_FOUND),
         Ok(Reply::Full) => bare(FULL),
         Ok(Reply::NoPages { log2, left }) => Answer {
             kind: NO_PAGES,
@@ -112,7 +112,7 @@ pub fn search_answer(tried: Result<Option<u64>, Contended>) -> Answer
     ensures { result ≡ search_answer_of tried }
 {
     match tried {
-        Ok(found) => told(found, ABSENT, FOUND),
+        Ok(found) => found_answer(found, ABSENT, FOUND),
         Err(Contended) => bare(CONTENDED),
     }
 }

@@ -20,12 +20,12 @@ use Rattle.bihash_steps.specs.declared.view.Record.{Record}
 use Rattle.bihash_steps.specs.declared.view.Known.{Known}
 use Rattle.bihash_steps.specs.declared.view.View.{View}
 use Rattle.bihash_steps.proofs.Prefixes.{prefix_below}
-use Rattle.bihash_steps.proofs.Whole.{prefix_whole}
+use Rattle.bihash_steps.proofs.WholeHistories.{prefix_whole}
 use Rattle.bihash_steps.proofs.Lists.{at_end, within}
-use Rattle.bihash_steps.proofs.Pushed.{push-length}
+use Rattle.bihash_steps.proofs.PushedCalls.{push-length}
 use Rattle.bihash_table.specs.Answers.{entry_of, own_writes, with_locks}
-use Rattle.bihash_laws.specs.Runs.{IsLastWrite, IsLawfulAnswer, LearnsOnlyOwn, IsOneWriter}
-use Rattle.bihash_table.proofs.Composed.{learned_length}
+use Rattle.bihash_laws.specs.CallRuns.{IsLastWrite, IsLawfulAnswer, LearnsOnlyOwn, IsOneWriter}
+use Rattle.bihash_table.proofs.CallChains.{learned_length}
 use Rattle.bihash_laws.proofs.MapSteps.{after_next}
 
 -- what is put outside of a list is not there

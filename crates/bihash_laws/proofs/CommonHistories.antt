@@ -9,8 +9,8 @@ use Rattle.bihash_steps.specs.declared.view.Record.{Record}
 use Rattle.bihash_steps.specs.declared.view.Known.{Known}
 use Rattle.bihash_steps.specs.declared.view.View.{View}
 use Rattle.bihash_steps.proofs.Prefixes.{prefix_refl}
-use Rattle.bihash_steps.proofs.Lawful.{legal_longer}
-use Rattle.bihash_laws.specs.Runs.{AreLegal, IsCommonHistory}
+use Rattle.bihash_steps.proofs.LawfulCallers.{legal_longer}
+use Rattle.bihash_laws.specs.CallRuns.{AreLegal, IsCommonHistory}
 
 -- the calls of lawful records are legal on each history that continues what is known
 legal_on : (z : Sizes) (known : Known) (records : List Record) (b : ℕ) (opening : Pairs) (H : List Write) → IsLawful z known records

@@ -15,12 +15,12 @@ use Rattle.bihash_steps.specs.declared.view.Openings.{Openings}
 use Rattle.bihash_steps.specs.declared.view.Record.{Record}
 use Rattle.bihash_steps.specs.declared.view.View.{View}
 use Rattle.bihash_steps.proofs.Lists.{at_either}
-use Rattle.bihash_laws.specs.Runs.{IsCommonHistory}
+use Rattle.bihash_laws.specs.CallRuns.{IsCommonHistory}
 use Rattle.bihash_laws.specs.Serializations.{IsCommonSerialization, Operation}
 use Rattle.bihash_laws.proofs.CommonHistories.{common_history}
 use Rattle.bihash_laws.specs.Orders.{IsCommonLog}
 use Rattle.bihash_laws.proofs.LogOrders.{common_log}
-use Rattle.bihash_laws.proofs.Serializing.{AreLogged, serialized, operations}
+use Rattle.bihash_laws.proofs.BucketOrders.{AreLogged, serialized, operations}
 
 -- what holds of each element of two lists holds of each of both
 in_both : {A : Type 0} (P : A → Type 0) (xs ys : List A) → ((i : ℕ) (x : A) → get_elem? xs i ≡ some x → P x)

@@ -2,7 +2,7 @@
 use Rattle.std.proofs.Common.{◌≡◌, ◌∙◌, ◌<◌, ◌^◌, ℕ, Bool, true, false, List, ap, refl, sym, subst, inl, inr, Option, Some, None}
 use Rattle.std.specs.FinMap.{get}
 use Rattle.bihash_words.specs.Expiries.{expired_words}
-use Rattle.bihash_words.specs.Maps.{Answers, AnswersFull, Bounds, Case, Event, NewKey, NoRoom, OldKey, Pairs, Unchanged, WornOut, asked, removed_in, spare}
+use Rattle.bihash_words.specs.Maps.{Answers, AnswersFull, Bounds, Case, Event, NewKey, NoRoom, OldKey, Pairs, Unchanged, WornOut, expired_told, removed_in, spare}
 use Rattle.bihash_words.specs.Sizes.{Sizes}
 use Rattle.bihash_words.specs.declared.patch.Change.{Change}
 use Rattle.bihash_words.specs.declared.patch.Reply.{Reply}
@@ -15,7 +15,7 @@ use Rattle.bihash_steps.specs.BucketSteps.{map_now}
 use Rattle.bihash_steps.specs.declared.view.View.{View}
 use Rattle.bihash_table.specs.Answers.{recycled_update}
 use Rattle.bihash_laws.specs.Recyclings.{HasRecycled}
-use Rattle.bihash_laws.specs.Runs.{IsLawfulAnswer}
+use Rattle.bihash_laws.specs.CallRuns.{IsLawfulAnswer}
 use Rattle.bihash_laws.proofs.AnsweredCalls.{legal}
 use Rattle.bihash_laws.proofs.MapSteps.{after_next}
 
@@ -48,7 +48,7 @@ recycled_at NewKey b m n e gone removed h is = absurd (let clash = sym removed �
 recycled_at OldKey b m n e gone removed h is = absurd (let clash = sym removed ∙ is in let f : ⊥ = cc in f)
 
 -- a refusal for want of room bears its expiry
-asked_full : (removed : Option (List ℕ)) (words : List ℕ) → asked removed Full words ≡ words
+asked_full : (removed : Option (List ℕ)) (words : List ℕ) → expired_told removed Full words ≡ words
 asked_full None words = refl
 asked_full (Some gone) words = refl
 

@@ -1,4 +1,5 @@
 pub mod AnsweredCalls
+pub mod BucketOrders
 pub mod CommonHistories
 pub mod CommonSerializations
 pub mod ExpiredPairs
@@ -6,4 +7,3 @@ pub mod LogOrders
 pub mod LoggedCalls
 pub mod MapSteps
 pub mod OneWriter
-pub mod Serializing

@@ -20,7 +20,7 @@ use Rattle.bihash_steps.proofs.LogLemmas.{begin_at, begins_refl, calls_by-append
 use Rattle.bihash_steps.proofs.Prefixes.{after_longer}
 use Rattle.bihash_table.specs.Answers.{entry_of}
 use Rattle.bihash_laws.specs.Orders.{IsCommonLog, IsOneOrder, calls_there}
-use Rattle.bihash_laws.specs.Runs.{IsLawfulAnswer, IsRun, writes_after}
+use Rattle.bihash_laws.specs.CallRuns.{IsLawfulAnswer, IsCallRun, writes_after}
 use Rattle.bihash_laws.specs.Serializations.{AreStamped}
 use Rattle.bihash_laws.proofs.MapSteps.{after_next, no_more, one_more, step_changes, step_leaves}
 
@@ -36,7 +36,7 @@ module _ (z : Sizes) (openings : Openings) (b : ℕ) where
 
   -- these calls lead from the writes H to the writes K
   record Lead (H : List Write) (calls : List Call) (K : List Write) : Type 0 where
-    run : IsRun z (map_after H) (length H) calls (map_after K) (length K)
+    run : IsCallRun z (map_after H) (length H) calls (map_after K) (length K)
     stamps : AreStamped (length H) calls
 
   one_write : (H : List Write) (by : ℕ) (c : Call) (calls : List Call) (K : List Write) → is_changed c.reply ≡ true
@@ -60,7 +60,7 @@ module _ (z : Sizes) (openings : Openings) (b : ℕ) where
         run = (
           answer.0,
           answer.1,
-          subst (λ (q : Pairs × ℕ). IsRun z q.0 q.1 calls (map_after K) (length K)) (λ i. (sym leaves i, sym count i)) rest.run,
+          subst (λ (q : Pairs × ℕ). IsCallRun z q.0 q.1 calls (map_after K) (length K)) (λ i. (sym leaves i, sym count i)) rest.run,
         );
         stamps = (stamp ∙ sym count, subst (λ (k : ℕ). AreStamped k calls) (sym count) rest.stamps);
       }
@@ -75,7 +75,7 @@ module _ (z : Sizes) (openings : Openings) (b : ℕ) where
         run = (
           answer.0,
           answer.1,
-          subst (λ (q : Pairs × ℕ). IsRun z q.0 q.1 calls (map_after K) (length K)) (λ i. (sym leaves i, sym count i)) rest.run,
+          subst (λ (q : Pairs × ℕ). IsCallRun z q.0 q.1 calls (map_after K) (length K)) (λ i. (sym leaves i, sym count i)) rest.run,
         );
         stamps = (stamp ∙ sym count, subst (λ (k : ℕ). AreStamped k calls) (sym count) rest.stamps);
       }

@@ -10,7 +10,7 @@ use Rattle.bihash_steps.specs.declared.view.Call.{Call}
 use Rattle.bihash_steps.specs.declared.view.Entry.{Entry}
 use Rattle.bihash_steps.specs.declared.view.Openings.{Openings}
 use Rattle.bihash_steps.proofs.LogLemmas.{writes_on-append}
-use Rattle.bihash_laws.specs.Runs.{calls_on}
+use Rattle.bihash_laws.specs.CallRuns.{calls_on}
 
 -- ---- Under a number
 

@@ -15,7 +15,7 @@ use Rattle.bihash_steps.specs.declared.view.Call.{Call}
 use Rattle.bihash_steps.specs.declared.view.Record.{Record}
 use Rattle.bihash_steps.specs.declared.view.View.{View}
 use Rattle.bihash_steps.proofs.Lists.{there, within}
-use Rattle.bihash_laws.specs.Runs.{IsOneWriter, IsRun, calls_on, writes_after}
+use Rattle.bihash_laws.specs.CallRuns.{IsOneWriter, IsCallRun, calls_on, writes_after}
 use Rattle.bihash_laws.proofs.MapSteps.{after_next, no_more, one_more, step_changes, step_leaves}
 
 module _ (z : Sizes) (b : ℕ) (opening : Pairs) (H : List Write) (by : ℕ) where
@@ -88,7 +88,7 @@ module _ (z : Sizes) (b : ℕ) (opening : Pairs) (H : List Write) (by : ℕ) whe
   ]
 
   abbrev End : Pairs → ℕ → List Call → Type 0
-  End m n calls = IsRun z m n calls (after opening H (length H)) (length H)
+  End m n calls = IsCallRun z m n calls (after opening H (length H)) (length H)
 
   -- a call on the bucket is a step, and the others go on from the map that it leaves
   one_call : (c : Call) (cs : List Call) (n : ℕ) → AreLeft n (c ∷ cs) → c.bucket ≡ b
@@ -156,7 +156,7 @@ module _ (z : Sizes) (b : ℕ) (opening : Pairs) (H : List Write) (by : ℕ) whe
 
 pub one_map : (z : Sizes) (v : View) (i b : ℕ) (r : Record) → IsLawfulCaller z v → get_elem? v.records i ≡ some r → b < buckets z
     → IsOneWriter v.known b r.number
-    → IsRun z (opening_at v.known b) 0 (calls_on b r.calls) (map_now v b) (length (known_at v.known b))
+    → IsCallRun z (opening_at v.known b) 0 (calls_on b r.calls) (map_now v b) (length (known_at v.known b))
 one_map z v i b r caller at inside alone = run z b (opening_at v.known b) (known_at v.known b) r.number r.calls 0 record {
   passed = omega arith;
   legal = legal;

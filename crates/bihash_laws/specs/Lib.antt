@@ -1,4 +1,4 @@
+pub mod CallRuns
 pub mod Orders
 pub mod Recyclings
-pub mod Runs
 pub mod Serializations

@@ -12,7 +12,7 @@ use Rattle.bihash_steps.specs.declared.view.Entry.{Entry}
 use Rattle.bihash_steps.specs.declared.view.Openings.{Openings}
 use Rattle.bihash_steps.specs.declared.view.Record.{Record}
 use Rattle.bihash_steps.specs.declared.view.View.{View}
-use Rattle.bihash_laws.specs.Runs.{IsRun}
+use Rattle.bihash_laws.specs.CallRuns.{IsCallRun}
 use Rattle.bihash_laws.specs.Serializations.{AreStamped}
 
 -- the calls of a log on bucket b, in their order
@@ -23,7 +23,7 @@ calls_there b (e ∷ es) = call_if (e.call.bucket == b) e.call (calls_there b es
 -- The log is one sequential order of its calls on all buckets. Those on one bucket are what one bounded map answers, one
 -- after the other; the stamp of each is how many writes there are by then. Each record has its calls in it, and in its order.
 pub record IsOneOrder (z : Sizes) (openings : Openings) (records : List Record) (log : List Entry) : Type 0 where
-  pub run : (b : ℕ) → b < buckets z → IsRun z (opening_in openings b) 0 (calls_there b log)
+  pub run : (b : ℕ) → b < buckets z → IsCallRun z (opening_in openings b) 0 (calls_there b log)
       (after (opening_in openings b) (writes_on b log) (length (writes_on b log))) (length (writes_on b log))
   pub stamps : (b : ℕ) → b < buckets z → AreStamped 0 (calls_there b log)
   pub order : (i : ℕ) (r : Record) → get_elem? records i ≡ some r → calls_by r.number log ≡ r.calls

@@ -11,7 +11,7 @@ use Rattle.bihash_steps.specs.declared.view.Write.{Write}
 use Rattle.bihash_steps.specs.declared.view.Call.{Call}
 use Rattle.bihash_steps.specs.declared.view.Record.{Record}
 use Rattle.bihash_steps.specs.declared.view.View.{View}
-use Rattle.bihash_laws.specs.Runs.{IsCommonHistory, IsRun, calls_on, writes_after}
+use Rattle.bihash_laws.specs.CallRuns.{IsCommonHistory, IsCallRun, calls_on, writes_after}
 
 -- a call, and the caller number under which it was made
 pub record Operation : Type 0 where
@@ -39,7 +39,7 @@ AreStamped n (c ∷ cs) = (c.stamp ≡ writes_after n c) × AreStamped (writes_a
 pub record IsSerialization (z : Sizes) (b : ℕ) (opening : Pairs) (history : List Write) (records : List Record)
     (operations : List Operation) : Type 0 where
   -- each call is a step of the map that the one before it left
-  pub run : IsRun z opening 0 (calls_in operations) (after opening history (length history)) (length history)
+  pub run : IsCallRun z opening 0 (calls_in operations) (after opening history (length history)) (length history)
   -- the writes among them are the history
   pub writes : writes_in operations ≡ history
   -- each stamp is how many writes there are by then

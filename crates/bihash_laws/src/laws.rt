@@ -25,7 +25,7 @@ ghost use Rattle.bihash_table.specs.Answers.{entry_of, recycled_update};
 ghost use Rattle.bihash_laws.specs.Orders.{IsCommonLog, IsOneOrder};
 ghost use Rattle.bihash_laws.specs.Recyclings.{HasRecycled};
 ghost use Rattle.bihash_laws.specs.Serializations.{IsCalled, IsCommonSerialization, IsSerialization, Operation};
-ghost use Rattle.bihash_laws.specs.Runs.{IsCommonHistory, IsLastWrite, IsLawfulAnswer, LearnsOnlyOwn, IsOneWriter, IsRun, calls_on};
+ghost use Rattle.bihash_laws.specs.CallRuns.{IsCommonHistory, IsLastWrite, IsLawfulAnswer, LearnsOnlyOwn, IsOneWriter, IsCallRun, calls_on};
 
 /// To a caller each of whose known writes of a bucket was made under one number, the bucket is one bounded
 /// map: the calls of that number there, in their order, are a run of the map. It begins with the map that the
@@ -34,12 +34,12 @@ ghost use Rattle.bihash_laws.specs.Runs.{IsCommonHistory, IsLastWrite, IsLawfulA
 pub fn one_writer_has_one_map()
     ensures { (z : Sizes) (v : View) (i b : ℕ) (r : Record) → IsLawfulCaller z v → get_elem? v.records i ≡ some r
         → b < buckets z → IsOneWriter v.known b r.number
-        → IsRun z (opening_at v.known b) 0 (calls_on b r.calls) (map_now v b) (length (known_at v.known b)) }
+        → IsCallRun z (opening_at v.known b) 0 (calls_on b r.calls) (map_now v b) (length (known_at v.known b)) }
 {}
 
 /// A lawful caller's calls on a bucket, and the writes of others that it knows there, stand in one sequential
 /// order: a run of one bounded map in which each of its records has its calls in their order.
-#[tactic(auto, using(crate::proofs::Serializing::one_order))]
+#[tactic(auto, using(crate::proofs::BucketOrders::one_order))]
 pub fn calls_have_one_order()
     ensures { (z : Sizes) (v : View) (b : ℕ) → IsLawfulCaller z v → b < buckets z → (operations : List Operation)
         × IsSerialization z b (opening_at v.known b) (known_at v.known b) v.records operations }
@@ -64,7 +64,7 @@ pub fn answers_stand_after_what_was_known()
 {}
 
 /// A caller that made each write that it knows has such an order with no call but its own.
-#[tactic(auto, using(crate::proofs::Serializing::whole_order))]
+#[tactic(auto, using(crate::proofs::BucketOrders::whole_order))]
 pub fn whole_callers_have_one_order()
     ensures { (z : Sizes) (v : View) (b : ℕ) → IsLawfulCaller z v → HasMadeAll z v → b < buckets z
         → (operations : List Operation)
@@ -74,7 +74,7 @@ pub fn whole_callers_have_one_order()
 
 /// A caller that has each number up to the count of callers that it saw made each write that it knows, and so
 /// did a lone caller. Each of these writes is a call of one of its records, at its stamp.
-#[tactic(auto, using(crate::proofs::Serializing::whole_call, crate::proofs::Serializing::whole_made))]
+#[tactic(auto, using(crate::proofs::BucketOrders::whole_call, crate::proofs::BucketOrders::whole_made))]
 pub fn whole_callers_made_each_write()
     ensures whole { (z : Sizes) (v : View) → IsWhole v.records v.seen → HaveBearers z v → HasMadeAll z v }
     ensures lone { (z : Sizes) (v : View) → IsLawfulCaller z v → v.lone ≡ true → HasMadeAll z v }

@@ -5,7 +5,7 @@ use mathlib.Core.Option.{some}
 use prog.Atomic.{either}
 use Rattle.atomic_table.specs.Table.{State, Allows}
 use Rattle.bihash_words.specs.Sizes.{Sizes}
-use Rattle.bihash_words.specs.Words.{Bucket, Fits, packed}
+use Rattle.bihash_words.specs.Words.{Bucket, FitsWord, packed}
 use Rattle.bihash_steps.specs.Words.{buckets, bucket_at, page_at, page_words}
 use Rattle.bihash_steps.specs.Callers.{known_at}
 use Rattle.bihash_steps.specs.Buckets.{word_of, open_word}
@@ -35,7 +35,7 @@ tells holds slots id i m f t u more a s h wide at fits = let r = a s h wide at f
 
 -- the version in a lock is the number of the writes that are known
 abbrev pub HasVersion : View → Type 0
-HasVersion v = (l : LockedBucket) → v.holds.bucket ≡ Some l → Fits (word_of l.extent false l.version)
+HasVersion v = (l : LockedBucket) → v.holds.bucket ≡ Some l → FitsWord (word_of l.extent false l.version)
     × (l.version ≡ length (known_at v.known l.bucket))
 
 module _ (z : Sizes) where
@@ -53,7 +53,7 @@ module _ (z : Sizes) where
       (λ n m' t c e. subst (λ (k : ℕ). TellsBucket z k m n m') (same_bucket b c e) t) (loads_bucket z slots id b m inside acts))
 
   pub locks_at : (slots id at b word locked : ℕ) (x : Bucket) (m : ViewOfSeat) → at ≡ bucket_at z b → b < buckets z → 1 ≤ length m.0.records
-      → m.0.holds.bucket ≡ None → Fits x → word ≡ packed x → x.locked ≡ false → locked ≡ packed (record x { locked = true })
+      → m.0.holds.bucket ≡ None → FitsWord x → word ≡ packed x → x.locked ≡ false → locked ≡ packed (record x { locked = true })
       → Allows (WordRule z) slots id m at (λ n. either (eqb n word) locked n) (λ n m'. (c : ℕ) → at ≡ bucket_at z c → TellsLock z c word m n m')
   locks_at slots id at b word locked x m is inside acts free fits stood unset next =
       subst (λ (i : ℕ). Allows (WordRule z) slots id m i (λ n. either (eqb n word) locked n)
@@ -72,7 +72,7 @@ module _ (z : Sizes) where
 
   has_version : (s : State (Unit {0}) View) (r : WordRule z s) (id : ℕ) (v : View) → get_elem? s.views id ≡ some v → HasVersion v
   has_version s r id v seat l is = let h = held_bucket z s r id v l seat is in (
-    subst (λ (p : Extent × ℕ). Fits (word_of p.0 false p.1)) (λ i. (sym h.extent i, sym h.version i)) (bucket_fits z s r l.bucket h.inside false),
+    subst (λ (p : Extent × ℕ). FitsWord (word_of p.0 false p.1)) (λ i. (sym h.extent i, sym h.version i)) (bucket_fits z s r l.bucket h.inside false),
     h.version ∙ ap length (sym h.fresh),
   )
 

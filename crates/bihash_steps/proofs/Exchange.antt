@@ -13,7 +13,7 @@ use Rattle.bihash_steps.specs.StoreSteps.{unlisted, grown, relisted}
 use Rattle.bihash_steps.specs.declared.view.Extent.{Extent}
 use Rattle.bihash_steps.specs.declared.view.PageStore.{PageStore}
 use Rattle.bihash_steps.specs.declared.view.View.{View}
-use Rattle.bihash_steps.proofs.Runs.{run_some, run_set, run_set_other}
+use Rattle.bihash_steps.proofs.OwnedWords.{run_some, run_set, run_set_other}
 
 -- ---- Two owners exchange what they have
 

@@ -21,7 +21,7 @@ use Rattle.bihash_steps.specs.declared.view.Known.{Known}
 use Rattle.bihash_steps.specs.declared.view.Record.{Record}
 use Rattle.bihash_steps.specs.declared.view.View.{View}
 use Rattle.bihash_steps.proofs.Lists.{at_after, within}
-use Rattle.bihash_steps.proofs.Informed.{known_learned}
+use Rattle.bihash_steps.proofs.InformedViews.{known_learned}
 use Rattle.bihash_steps.proofs.CountWord.{others_apart}
 use Rattle.bihash_steps.proofs.LogLemmas.{writes_on-append, read_writes, write_here, write_else}
 use Rattle.bihash_steps.proofs.KnownLists.{BeginsEach}

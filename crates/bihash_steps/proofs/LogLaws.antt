@@ -24,7 +24,7 @@ use Rattle.bihash_steps.specs.declared.view.Entry.{Entry}
 use Rattle.bihash_steps.specs.declared.view.Record.{Record}
 use Rattle.bihash_steps.specs.declared.view.View.{View}
 use Rattle.bihash_steps.proofs.Lists.{at_after, there, within}
-use Rattle.bihash_steps.proofs.Pushed.{push_at, acting_is, renumbers_push}
+use Rattle.bihash_steps.proofs.PushedCalls.{push_at, acting_is, renumbers_push}
 use Rattle.bihash_steps.proofs.LogLemmas.{calls_by-append, writes_on-append, some_by, one_by, read_writes, begin_at, begin_below, begins_refl, begins_by_places}
 
 -- ---- The log only grows

@@ -15,13 +15,13 @@ use Rattle.bihash_steps.specs.Steps.{ViewOfSeat, first_numbers, joining, longer_
 use Rattle.bihash_steps.specs.BucketSteps.{Enters, entry_of, push_call}
 use Rattle.bihash_steps.specs.LogLaws.{Continues, IsAnswerStep, RowState, log_of}
 use Rattle.bihash_steps.specs.LogRuns
-use Rattle.bihash_steps.specs.LogRuns.{IsRun, IsSeatStep, IsStep, end_of}
+use Rattle.bihash_steps.specs.LogRuns.{IsStepRun, IsSeatStep, IsStep, end_of}
 use Rattle.bihash_steps.specs.declared.view.Call.{Call}
 use Rattle.bihash_steps.specs.declared.view.Entry.{Entry}
 use Rattle.bihash_steps.specs.declared.view.Record.{Record}
 use Rattle.bihash_steps.specs.declared.view.View.{View}
 use Rattle.bihash_steps.proofs.Lists.{at_after, at_either, within}
-use Rattle.bihash_steps.proofs.Pushed.{renumbers_push}
+use Rattle.bihash_steps.proofs.PushedCalls.{renumbers_push}
 use Rattle.bihash_steps.proofs.LogLemmas.{begin_at, begin_of_begin, begins_more, begins_refl, longer_logs}
 use Rattle.bihash_steps.proofs.LogLaws.{grows_law, real_time}
 use Rattle.bihash_steps.proofs.LogSteps.{counted_back}
@@ -200,7 +200,7 @@ module _ (z : Sizes) where
     whole = q.whole ∙ (ap (λ (l : List Entry). l ++ q.rest) p.whole ∙ append_assoc xs p.rest q.rest);
   }
 
-  run_rule : (s : RowState) (ts : List RowState) → WordRule z s → IsRun z s ts → WordRule z (end_of s ts)
+  run_rule : (s : RowState) (ts : List RowState) → WordRule z s → IsStepRun z s ts → WordRule z (end_of s ts)
   run_rule s [] r run = r
   run_rule s (t ∷ ts) r run = run_rule t ts run.0 run.2
 
@@ -210,19 +210,19 @@ module _ (z : Sizes) where
       let p = on o.0 n o.1 o.2 o.3 in
       (p.0, p.1, p.2, p.3, begins_through v.log o.1.log p.1.log o.4 p.4)
 
-  pub run_continues : (s : RowState) (ts : List RowState) → WordRule z s → IsRun z s ts → Continues s.views (end_of s ts).views
+  pub run_continues : (s : RowState) (ts : List RowState) → WordRule z s → IsStepRun z s ts → Continues s.views (end_of s ts).views
   run_continues s [] r run = λ j n v at has. (j, v, at, has, begins_refl v.log)
   run_continues s (t ∷ ts) r run = continues_through s.views t.views (end_of t ts).views (step_continues s t r run.1)
       (run_continues t ts run.0 run.2)
 
-  pub run_grows : (s : RowState) (ts : List RowState) (r : WordRule z s) → IsRun z s ts → (r' : WordRule z (end_of s ts))
+  pub run_grows : (s : RowState) (ts : List RowState) (r : WordRule z s) → IsStepRun z s ts → (r' : WordRule z (end_of s ts))
       → Begins (log_of r) (log_of r')
   run_grows s ts r run r' = grows_law z s (end_of s ts) r r' (run_continues s ts r run)
 
   -- what was answered before a run began stands before what a step after the run answers, in each state that comes later
-  pub run_in_order : (s t : RowState) (ts us : List RowState) (q : WordRule z s) → IsRun z s ts → (r : WordRule z (end_of s ts))
+  pub run_in_order : (s t : RowState) (ts us : List RowState) (q : WordRule z s) → IsStepRun z s ts → (r : WordRule z (end_of s ts))
       → (r' : WordRule z t) (id p : ℕ) (v w : View) (c : Call) (a : Entry) → IsAnswerStep (end_of s ts) t id v w c → get_elem? (log_of q) p ≡ some a
-      → IsRun z t us → (r'' : WordRule z (end_of t us)) → (p < length (log_of r)) × (get_elem? (log_of r'') p ≡ some a)
+      → IsStepRun z t us → (r'' : WordRule z (end_of t us)) → (p < length (log_of r)) × (get_elem? (log_of r'') p ≡ some a)
       × (get_elem? (log_of r'') (length (log_of r)) ≡ some (entry_of v c))
   run_in_order s t ts us q run r r' id p v w c a step at after r'' =
       let o = real_time z s (end_of s ts) t q r r' id p v w c a (run_continues s ts q run) step at in

@@ -21,7 +21,7 @@ use Rattle.bihash_steps.specs.declared.view.Entry.{Entry}
 use Rattle.bihash_steps.specs.declared.view.Record.{Record}
 use Rattle.bihash_steps.specs.declared.view.View.{View}
 use Rattle.bihash_steps.proofs.Lists.{at_after, at_drop, at_either, at_end, at_take, there, within}
-use Rattle.bihash_steps.proofs.Pushed.{push_at, acting_is, counted_at, renumbers_counted, renumbers_push, same_number}
+use Rattle.bihash_steps.proofs.PushedCalls.{push_at, acting_is, counted_at, renumbers_counted, renumbers_push, same_number}
 use Rattle.bihash_steps.proofs.LogLemmas.{calls_by-append, writes_on-append, none_by, one_by, other_by, begins_refl, begins_more, begin_at, follow_more, follow_fewer, longer_logs, one_begins_log}
 
 -- ---- What one view knows

@@ -4,12 +4,12 @@ use mathlib.Core.Logic.{dite}
 use native.Mathlib.Decide.{ℕ_discrete}
 use Rattle.std.specs.Prelude.{slice_index}
 use Rattle.bihash_words.specs.Sizes.{Sizes}
-use Rattle.bihash_words.specs.Words.{Bucket, Fits, packed}
+use Rattle.bihash_words.specs.Words.{Bucket, FitsWord, packed}
 use Rattle.bihash_words.specs.declared.block_size.BlockSize.{BlockSize}
 use Rattle.bihash_steps.specs.Words.{all_words, buckets, bucket_at}
 use Rattle.bihash_steps.specs.Renewals.{AreRenewedBelow}
 use Rattle.bihash_steps.proofs.CountWord.{front}
-use Rattle.bihash_steps.proofs.Runs.{bucket_inside}
+use Rattle.bihash_steps.proofs.OwnedWords.{bucket_inside}
 
 module _ (z : Sizes) where
   pub renewed_none : (words : List ℕ) → 0 < length words → AreRenewedBelow z 0 words (set words 0 1)
@@ -22,7 +22,7 @@ module _ (z : Sizes) where
   }
 
   renewed_at : (n word : ℕ) (words new : List ℕ) → n < buckets z → bucket_at z n < length new
-      → ((x : Bucket) → Fits x → slice_index words (bucket_at z n) ≡ packed x → word ≡ packed (record x { locked = false; version = 0 }))
+      → ((x : Bucket) → FitsWord x → slice_index words (bucket_at z n) ≡ packed x → word ≡ packed (record x { locked = false; version = 0 }))
       → AreRenewedBelow z n words new → AreRenewedBelow z (n + 1) words (set new (bucket_at z n) word)
   renewed_at n word words new inside within is old = let f = front z in record {
     wide = length-set new (bucket_at z n) word ∙ old.wide;
@@ -36,7 +36,7 @@ module _ (z : Sizes) where
   }
 
   pub renewed_more : (n at word : ℕ) (words new : List ℕ) → at ≡ bucket_at z n → n < buckets z → length words ≡ all_words z
-      → ((x : Bucket) → Fits x → slice_index words (bucket_at z n) ≡ packed x → word ≡ packed (record x { locked = false; version = 0 }))
+      → ((x : Bucket) → FitsWord x → slice_index words (bucket_at z n) ≡ packed x → word ≡ packed (record x { locked = false; version = 0 }))
       → AreRenewedBelow z n words new → AreRenewedBelow z (n + 1) words (set new at word)
   renewed_more n at word words new place inside long is old =
       subst (λ (i : ℕ). AreRenewedBelow z (n + 1) words (set new i word)) (sym place)

@@ -3,7 +3,7 @@ use Rattle.std.specs.Prelude.{◌≡◌, ◌⊎◌, ℕ, true, false, Bool, List
 use Rattle.bihash_words.specs.Expiries.{expired_words, no_recycling}
 use Rattle.bihash_words.specs.Maps
 use Rattle.bihash_words.specs.Sizes.{Sizes}
-use Rattle.bihash_words.specs.Words.{Bucket, Fits, packed}
+use Rattle.bihash_words.specs.Words.{Bucket, FitsWord, packed}
 use Rattle.bihash_words.specs.declared.patch.Change.{Change}
 use Rattle.bihash_words.specs.declared.patch.Reply.{Reply}
 use Rattle.bihash_words.specs.declared.shape.Shape.{Ghosts}
@@ -67,7 +67,7 @@ pub record FindsBucket (z : Sizes) (s t : CallerState) (b word : ℕ) : Type 0 w
 pub record MayLock (v : View) (word : ℕ) : Type 0 where
   pub free : v.holds ≡ nothing_held
   pub bucket : Bucket
-  pub fits : Fits bucket
+  pub fits : FitsWord bucket
   pub stood : word ≡ packed bucket
   pub unlocked : bucket.locked ≡ false
 

@@ -6,7 +6,7 @@ use Rattle.std.specs.FinMap.{get}
 use Rattle.std.specs.List.{last_or}
 use Rattle.bihash_words.specs.Maps.{Event, Pairs, written}
 use Rattle.bihash_words.specs.Sizes.{Sizes}
-use Rattle.bihash_words.specs.Words.{Fits, packed}
+use Rattle.bihash_words.specs.Words.{FitsWord, packed}
 use Rattle.bihash_words.specs.declared.patch.Reply.TheVariants.{Changed, NoPages}
 use Rattle.bihash_steps.specs.Words.{block_words}
 use Rattle.bihash_steps.specs.Histories.{IsKeyOf, IsPrefix, IsWrite, IsWriteList, IsAnswer, after, is_changed, store_of, write_of}
@@ -43,7 +43,7 @@ pub record IsFound (z : Sizes) (v : View) (b word : ℕ) (history : List Write) 
     (block : List ℕ) : Type 0 where
   pub begins : IsPrefix (known_at v.known b) history
   pub writes : IsWriteList z b (opening_at v.known b) history
-  pub fits : Fits (word_of extent false (length history))
+  pub fits : FitsWord (word_of extent false (length history))
   pub stood : word ≡ packed (word_of extent false (length history))
   pub near : extent.page + 2 ^ extent.size.log2 ≤ z.pages + 1
   pub size : length block ≡ block_words z extent.page extent.size.log2
@@ -73,7 +73,7 @@ pub record SeesOpen (z : Sizes) (v : View) (b word : ℕ) (w : View) : Type 0 wh
 pub record SeesLocked (v : View) (word : ℕ) (w : View) : Type 0 where
   pub extent : Extent
   pub version : ℕ
-  pub fits : Fits (word_of extent true version)
+  pub fits : FitsWord (word_of extent true version)
   pub stood : word ≡ packed (word_of extent true version)
   pub is : w ≡ without_notes v
 
@@ -261,7 +261,7 @@ pub record MayWrite (z : Sizes) (v : View) (b word : ℕ) (c : Call) : Type 0 wh
   pub held : v.holds.bucket ≡ Some lock
   pub bucket : lock.bucket ≡ b
   pub version : lock.version ≡ length (known_at v.known b)
-  pub fits : Fits (word_of lock.extent false lock.version)
+  pub fits : FitsWord (word_of lock.extent false lock.version)
   pub stood : word ≡ packed (word_of lock.extent false lock.version)
   pub unworn : length (known_at v.known b) < z.limit
   pub call : c.bucket ≡ b
@@ -322,7 +322,7 @@ pub record MayValidate (z : Sizes) (v : View) (b word : ℕ) (c : Call) : Type 0
   pub open_bucket : OpenBucket
   pub noted : v.notes.open_bucket ≡ Some open_bucket
   pub home : open_bucket.bucket ≡ b
-  pub fits : Fits (word_of open_bucket.extent false open_bucket.version)
+  pub fits : FitsWord (word_of open_bucket.extent false open_bucket.version)
   pub stood : word ≡ open_word open_bucket
   pub version : open_bucket.version ≡ length (known_at v.known b)
   pub bucket : c.bucket ≡ b

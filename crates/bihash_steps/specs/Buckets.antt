@@ -5,7 +5,7 @@ use lib.ListN.{get_elem?}
 use mathlib.Core.Option.{some}
 use Rattle.bihash_words.specs.Sizes.{Sizes}
 use Rattle.bihash_words.specs.Maps.{Pairs}
-use Rattle.bihash_words.specs.Words.{Bucket, Fits, packed}
+use Rattle.bihash_words.specs.Words.{Bucket, FitsWord, packed}
 use Rattle.bihash_steps.specs.Words.{buckets, bucket_at, page_at, block_words, Stands}
 use Rattle.bihash_steps.specs.Histories.{after, IsWriteList}
 use Rattle.bihash_steps.specs.Callers.{known_at}
@@ -92,7 +92,7 @@ open_word o = packed (word_of o.extent false o.version)
 -- were read are those of the block.
 pub record IsOpen (z : Sizes) (o : OpenBucket) (x : BucketState) : Type 0 where
   pub inside : o.bucket < buckets z
-  pub fits : Fits (word_of o.extent false o.version)
+  pub fits : FitsWord (word_of o.extent false o.version)
   pub past : o.version ≤ length x.history
   pub extent : o.version ≡ length x.history → o.extent ≡ x.extent
   pub block : o.version ≡ length x.history → o.block ≡ x.block

@@ -57,9 +57,9 @@ pub data IsStep (z : Sizes) (views views' : List View) : Type 0 where
       → views' ≡ slice_set (slice_set views id (joining v w)) other (view_after_spending z) → IsStep z views views'
 
 -- each of these states follows the one before it by a step, and the word rule holds of it
-abbrev pub IsRun : Sizes → RowState → List RowState → Type 0
-IsRun z s [] = Unit {0}
-IsRun z s (t ∷ ts) = WordRule z t × IsStep z s.views t.views × IsRun z t ts
+abbrev pub IsStepRun : Sizes → RowState → List RowState → Type 0
+IsStepRun z s [] = Unit {0}
+IsStepRun z s (t ∷ ts) = WordRule z t × IsStep z s.views t.views × IsStepRun z t ts
 
 -- the state that a run ends in
 abbrev pub end_of : RowState → List RowState → RowState

@@ -5,7 +5,7 @@ use mathlib.Core.Option.{some}
 use Rattle.std.specs.FinMap.{entries}
 use Rattle.atomic_table.specs.Table.{State}
 use Rattle.bihash_words.specs.Sizes.{Sizes}
-use Rattle.bihash_words.specs.Words.{Bucket, Fits, packed}
+use Rattle.bihash_words.specs.Words.{Bucket, FitsWord, packed}
 use Rattle.bihash_steps.specs.Words.{count_of, front_words, buckets, bucket_at, all_words}
 use Rattle.bihash_steps.specs.Callers.{IsLawfulCaller, known_writes, opening_at}
 use Rattle.bihash_steps.specs.PageStores.{most_used}
@@ -65,13 +65,13 @@ openings_after z v used = record { pairs = each_below (λ b. entries (map_now v 
 
 -- the words of the buckets have fields
 abbrev pub HaveFields : Sizes → List ℕ → Type 0
-HaveFields z words = (b : ℕ) → b < buckets z → (x : Bucket) × Fits x × (slice_index words (bucket_at z b) ≡ packed x)
+HaveFields z words = (b : ℕ) → b < buckets z → (x : Bucket) × FitsWord x × (slice_index words (bucket_at z b) ≡ packed x)
 
 -- the same words, where none of the first n buckets is locked or has a version, and there is one caller
 pub record AreRenewedBelow (z : Sizes) (n : ℕ) (words new : List ℕ) : Type 0 where
   pub wide : length new ≡ length words
   pub one : count_of new ≡ 1
-  pub bucket : (b : ℕ) (x : Bucket) → b < n → Fits x → slice_index words (bucket_at z b) ≡ packed x
+  pub bucket : (b : ℕ) (x : Bucket) → b < n → FitsWord x → slice_index words (bucket_at z b) ≡ packed x
       → slice_index new (bucket_at z b) ≡ packed (record x { locked = false; version = 0 })
   pub front : (i : ℕ) → 1 ≤ i → i < front_words z → slice_index new i ≡ slice_index words i
   pub pages : (i : ℕ) → front_words z + buckets z ≤ i → slice_index new i ≡ slice_index words i

@@ -14,7 +14,7 @@ ghost use Rattle.atomic_table.specs.Table.{Allows};
 ghost use Rattle.bihash_steps.specs.Steps.{ViewOfSeat};
 ghost use Rattle.bihash_steps.specs.BucketSteps.{Enters, entry_of, push_call};
 ghost use Rattle.bihash_steps.specs.LogLaws.{Continues, IsAnswerStep, IsEntered, Recalls, RowState, log_of};
-ghost use Rattle.bihash_steps.specs.LogRuns.{IsRun, end_of};
+ghost use Rattle.bihash_steps.specs.LogRuns.{IsStepRun, end_of};
 ghost use Rattle.bihash_steps.specs.declared.view.Call.{Call};
 ghost use Rattle.bihash_steps.specs.declared.view.Entry.{Entry};
 ghost use Rattle.bihash_steps.specs.declared.view.View.{View};
@@ -45,14 +45,14 @@ pub fn calls_stand_in_real_time()
 /// are answers (`answers`), and what had been answered when it began stands before each call that is answered after its
 /// end, in the log of each later state.
 pub fn runs_answer_in_real_time()
-    ensures grows { (z : Sizes) (s : RowState) (ts : List RowState) (r : WordRule z s) → IsRun z s ts
+    ensures grows { (z : Sizes) (s : RowState) (ts : List RowState) (r : WordRule z s) → IsStepRun z s ts
         → (r' : WordRule z (end_of s ts)) → Begins (log_of r) (log_of r') }
     ensures answers { (z : Sizes) (s s' : RowState) (id : ℕ) (v after w : View) (c : Call) → get_elem? s.views id ≡ some v
         → 1 ≤ length v.records → s'.views ≡ slice_set s.views id w → Enters z v c after w
         → after.records ≡ push_call c v.records → IsAnswerStep s s' id v w c }
-    ensures order { (z : Sizes) (s t : RowState) (ts us : List RowState) (q : WordRule z s) → IsRun z s ts
+    ensures order { (z : Sizes) (s t : RowState) (ts us : List RowState) (q : WordRule z s) → IsStepRun z s ts
         → (r : WordRule z (end_of s ts)) (r' : WordRule z t) (id p : ℕ) (v w : View) (c : Call) (a : Entry)
-        → IsAnswerStep (end_of s ts) t id v w c → get_elem? (log_of q) p ≡ some a → IsRun z t us
+        → IsAnswerStep (end_of s ts) t id v w c → get_elem? (log_of q) p ≡ some a → IsStepRun z t us
         → (r'' : WordRule z (end_of t us)) → (p < length (log_of r)) × (get_elem? (log_of r'') p ≡ some a)
         × (get_elem? (log_of r'') (length (log_of r)) ≡ some (entry_of v c)) }
 {}

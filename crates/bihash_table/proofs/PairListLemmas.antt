@@ -24,7 +24,7 @@ use Rattle.bihash_steps.specs.declared.view.Extent.{Extent}
 use Rattle.bihash_table.specs.Closing.{ArePairsOf, keys_of, map_in}
 use Rattle.bihash_table.specs.inner.PairLists.{InBucketsBelow, InPart, InPlacesBelow, IsBlockIn, ListsBuckets, ListsPairs}
 use Rattle.bihash_steps.proofs.Homes.{key_home}
-use Rattle.bihash_table.proofs.Sorting.{sorted_strictly}
+use Rattle.bihash_table.proofs.SortedPairs.{sorted_strictly}
 
 -- ---- Any list
 

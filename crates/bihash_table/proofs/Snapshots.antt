@@ -12,7 +12,7 @@ use Rattle.bihash_table.specs.inner.OpenReads.{HasRead, NotesBlock, StandsAt}
 use Rattle.bihash_table.specs.inner.Places.{ArePlaces}
 use Rattle.bihash_table.proofs.Copies.{AreRead, read_more, read_none, read_place_more, words_counted}
 use Rattle.bihash_table.proofs.PlaceReads.{all_same}
-use Rattle.bihash_table.proofs.Seeing.{note_extent, note_size, read_as, read_nothing, read_then}
+use Rattle.bihash_table.proofs.OpenReadLemmas.{note_extent, note_size, read_as, read_nothing, read_then}
 
 -- ---- The words of a place
 

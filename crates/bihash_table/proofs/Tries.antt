@@ -1,7 +1,7 @@
 -- One try of an update: answered without the lock, contended, or answered under the lock.
 use Rattle.std.proofs.Common.{◌≡◌, ◌≢◌, ◌∙◌, ◌<◌, ℕ, Bool, true, false, true≢false, List, length, Option, Some, None, Result, Ok, Err, refl, sym, ap, subst, eq-eqb}
 use Rattle.std.specs.Prelude.{IfOk, if◌then◌else◌}
-use Rattle.bihash_words.specs.Maps.{Event, asked, effect_of}
+use Rattle.bihash_words.specs.Maps.{Event, expired_told, effect_of}
 use Rattle.bihash_words.specs.Patches.{IsStorable}
 use Rattle.bihash_words.specs.Sizes.{Sizes, sizes_of}
 use Rattle.bihash_words.specs.declared.shape.Shape.{Ghosts}
@@ -23,16 +23,16 @@ use Rattle.bihash_table.specs.Answers.{locks_of, recycled_update}
 use Rattle.bihash_table.specs.Promise.{IsAnswered, IsContended, IsRecycled, IsUpdated, IsUpdatedOver}
 use Rattle.bihash_table.specs.inner.Locked.{IsPairBeside, UnderLock}
 use Rattle.bihash_table.specs.inner.OpenReads.{HasRead, IsPairIn, OtherPairTells, value_of}
-use Rattle.bihash_table.specs.inner.Seen.{Found, HasSeen, IsValueOf, TellsLock, WantsChange}
+use Rattle.bihash_table.specs.inner.Seen.{Found, HasSeen, IsValueOf, TellsLockTry, WantsChange}
 use Rattle.bihash_table.specs.OutOfPages.{IsOutOfPages}
 use Rattle.bihash_table.specs.Tries.{Finished, FinishedOver, Tried, TriedOver, TookAtMost, is_without_lock, try_locks}
 use Rattle.bihash_table.specs.declared.contended.Contended.{Contended}
-use Rattle.bihash_table.proofs.Composed.{IsAhead, ahead_answered, ahead_contended, locked_ahead}
+use Rattle.bihash_table.proofs.CallChains.{IsAhead, ahead_answered, ahead_contended, locked_ahead}
 use Rattle.bihash_table.proofs.LockCounts.{took_after, took_no_lock, took_one_lock, took_then}
-use Rattle.bihash_table.proofs.LookedAt.{pair_value}
-use Rattle.bihash_table.proofs.Opened.{not_taken}
+use Rattle.bihash_table.proofs.PairReads.{pair_value}
+use Rattle.bihash_table.proofs.LocklessCalls.{not_taken}
 use Rattle.bihash_table.proofs.SameCallers.{own_through, same_but_view, same_through, view_is}
-use Rattle.bihash_table.proofs.Sights.{answer_locks, answer_seen, saw_ahead, saw_known, saw_records, seen_as, told_locked}
+use Rattle.bihash_table.proofs.SeenBuckets.{answer_locks, answer_seen, saw_ahead, saw_known, saw_records, seen_as, told_locked}
 
 -- to set another value is no change that keeps the one that was found
 pub other_value : (value old : ℕ) → effect_of (Set value) (Some old) ≢ Keep → value ≢ old
@@ -80,7 +80,7 @@ module _ {A K : Type 0} (g : Ghosts A K) (s t : CallerState) (b : ℕ) (key : K)
   }
 
   -- the lock was not taken
-  pub tried_not : {word : ℕ} {won : Bool} (refused : Contended) → TellsLock (sizes_of g) s t b word won → won ≡ false
+  pub tried_not : {word : ℕ} {won : Bool} (refused : Contended) → TellsLockTry (sizes_of g) s t b word won → won ≡ false
       → Tried g s t key found change (Err refused)
   tried_not refused told lost = tried_away refused told.same (told.contended lost) (ap locks_of (told.no_lock lost))
       (λ lone. true≢false (sym (told.lone lone) ∙ lost)) told.lawful
@@ -187,7 +187,7 @@ tried_read g s u t b key found change read home = tried_seen g s u t b key found
 
 -- the lock was taken before
 module _ {A K : Type 0} (g : Ghosts A K) (s u t : CallerState) (b word : ℕ) (key : K) (found : Option ℕ) (change : Change)
-    {won : Bool} (told : TellsLock (sizes_of g) s u b word won) (taken : won ≡ true)
+    {won : Bool} (told : TellsLockTry (sizes_of g) s u b word won) (taken : won ≡ true)
     (home : bucket_of (sizes_of g) (g.words_of key) ≡ b) where
   took_one : locks_of t.view.records ≡ locks_of u.view.records → TookAtMost s.view t.view 1
   took_one locks = took_then s.view u.view t.view 1 0 (took_one_lock s.view u.view (sizes_of g) b word (told.locked taken).locked)
@@ -204,7 +204,7 @@ module _ {A K : Type 0} (g : Ghosts A K) (s u t : CallerState) (b word : ℕ) (k
 -- what was seen is told under the lock, and the change may be made there
 pub under_lock : {A K : Type 0} (g : Ghosts A K) {row : _} (s u : CallerState) (b word : ℕ) (change : Change) {won : Bool} {P : Extent → List ℕ → Type 0}
     → s.row ≡ row → length (known_at s.view.known b) < g.LIMIT → IsStorable change → HasSeen (sizes_of g) s.view b word P
-    → TellsLock (sizes_of g) s u b word won → won ≡ true → UnderLock (sizes_of g) row u b word change P
+    → TellsLockTry (sizes_of g) s u b word won → won ≡ true → UnderLock (sizes_of g) row u b word change P
 under_lock g s u b word change own unworn storable h told taken = let k = told.locked taken in record {
   own = own_through s u u.view told.same own;
   lock = k.locked.lock;
@@ -317,7 +317,7 @@ over_read g s u t b key found change is_expired read home = over_seen g s u t b 
 
 -- the lock was taken before
 pub over_locked : {A K : Type 0} (g : Ghosts A K) (s u t : CallerState) (b word : ℕ) (key : K) (found : Option ℕ) (change : Change)
-    (is_expired : ℕ → Bool) {won : Bool} (told : TellsLock (sizes_of g) s u b word won) (taken : won ≡ true)
+    (is_expired : ℕ → Bool) {won : Bool} (told : TellsLockTry (sizes_of g) s u b word won) (taken : won ≡ true)
     → bucket_of (sizes_of g) (g.words_of key) ≡ b → (reply : Reply) → FinishedOver g u t key found change is_expired reply
     → TriedOver g s t key found change is_expired (Ok reply)
 over_locked g s u t b word key found change is_expired told taken home reply h =
@@ -357,7 +357,7 @@ never_asked : (key : List ℕ) (found : Option ℕ) (change : Change) (removed :
     → recycled_update key found change (λ _. false) removed reply ≡ event key found change reply
 never_asked key found change None reply none =
     λ i. record (event key found change reply) {
-      recycling = record { expired = (ap (asked None reply) no_words ∙ asks_nothing None reply) i; removed = None };
+      recycling = record { expired = (ap (expired_told None reply) no_words ∙ asks_nothing None reply) i; removed = None };
     }
 never_asked key found change (Some gone) reply none = absurd (true≢false (sym (none gone refl).1))
 

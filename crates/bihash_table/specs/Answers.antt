@@ -1,7 +1,7 @@
 -- The entry of an answered call, and what is counted of it.
 use Rattle.std.specs.Prelude.{ℕ, Bool, if◌then◌else◌, List, [], ◌∷◌, Option}
 use Rattle.bihash_words.specs.Expiries.{expired_words}
-use Rattle.bihash_words.specs.Maps.{Event, asked}
+use Rattle.bihash_words.specs.Maps.{Event, expired_told}
 use Rattle.bihash_words.specs.Sizes.{Sizes}
 use Rattle.bihash_words.specs.declared.patch.Change.{Change}
 use Rattle.bihash_words.specs.declared.patch.Change.TheVariants.{Keep}
@@ -44,12 +44,8 @@ own_writes reply = if is_changed reply then 1 else 0
 abbrev pub search_of : List ℕ → Option ℕ → Event
 search_of key found = event key found Keep (Kept found)
 
--- the same of an update that may remove an expired pair for its own: it bears the expiry where it asked it
+-- an update of a key that may remove an expired pair for its own: it bears the expiry where it asked it
 abbrev pub recycled_update : List ℕ → Option ℕ → Change → (ℕ → Bool) → Option (List ℕ) → Reply → Event
 recycled_update key found change is_expired removed reply = record (event key found change reply) {
-  recycling = record { expired = asked removed reply (expired_words is_expired); removed = removed };
+  recycling = record { expired = expired_told removed reply (expired_words is_expired); removed = removed };
 }
-
--- an update of a key, decided on the value that was found
-abbrev pub update_of : List ℕ → Option ℕ → (Option ℕ → Change) → Reply → Event
-update_of key found decision reply = event key found (decision found) reply

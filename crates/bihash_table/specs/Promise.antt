@@ -6,6 +6,7 @@ use Rattle.bihash_words.specs.Sizes.{Sizes}
 use Rattle.bihash_words.specs.declared.patch.Change.{Change}
 use Rattle.bihash_words.specs.declared.patch.Reply.{Reply}
 use Rattle.bihash_steps.specs.Histories.{IsPrefix, bucket_of}
+use Rattle.bihash_steps.specs.BucketCalls.{event}
 use Rattle.bihash_steps.specs.Callers.{known_at}
 use Rattle.bihash_steps.specs.Logs.{Begins, writes_on}
 use Rattle.bihash_steps.specs.Views.{nothing_held}
@@ -15,7 +16,7 @@ use Rattle.bihash_steps.specs.declared.view.Entry.{Entry}
 use Rattle.bihash_steps.specs.declared.view.Write.{Write}
 use Rattle.bihash_steps.specs.declared.view.PageStore.{PageStore}
 use Rattle.bihash_steps.specs.declared.view.View.{View}
-use Rattle.bihash_table.specs.Answers.{entry_of, own_writes, recycled_update, update_of, with_locks}
+use Rattle.bihash_table.specs.Answers.{entry_of, own_writes, recycled_update, with_locks}
 
 -- The call is the last entry of this log, under this number, behind all that was known of the log before. The
 -- writes on its bucket that stand in the log are this history.
@@ -70,7 +71,7 @@ pub record IsRecycled (z : Sizes) (v w : View) (key : List ℕ) (found : Option 
 pub record IsUpdated (z : Sizes) (v w : View) (key : List ℕ) (decision : Option ℕ → Change)
     (reply : Reply) : Type 0 where
   pub found : Option ℕ
-  pub answered : IsAnswered z v w (update_of key found decision reply)
+  pub answered : IsAnswered z v w (event key found (decision found) reply)
 
 -- the same with an expiry
 pub record IsUpdatedOver (z : Sizes) (v w : View) (key : List ℕ) (decision : Option ℕ → Change) (is_expired : ℕ → Bool)

@@ -15,10 +15,10 @@ ghost use Rattle.bihash_table.specs.Tries.{Finished, Tried};
 
 use crate::contended::Contended;
 use crate::grow::remove_last;
-use crate::lock::lock_seen;
+use crate::hashed_key::SeenBucket;
+use crate::lock::lock_if_unchanged;
 use crate::places::FREE;
 use crate::reads::has_other_pair;
-use crate::site::Seen;
 use bihash_steps::{CallerSeat, Event, Row};
 use bihash_words::{BucketWord, Change, Reply, Shape};
 
@@ -26,22 +26,22 @@ use bihash_words::{BucketWord, Change, Reply, Shape};
 pub(crate) fn answer<S: Shape>(
     row: &Row<S>,
     seat: &mut CallerSeat<S>,
-    seen: &Seen<'_, S>,
+    seen: &SeenBucket<'_, S>,
     found: Option<u64>,
     change: Change,
     reply: Reply,
 ) -> Result<Reply, Contended>
-    requires { MayReply ⟦<S as Shape>⟧ row.now seat.old seen.now.site.bucket seen.now.word seen.now.site.key.now
+    requires { MayReply ⟦<S as Shape>⟧ row.now seat.old seen.now.hashed.bucket seen.now.word seen.now.hashed.key.now
         found change reply }
-    ensures { Tried ⟦<S as Shape>⟧ seat.old seat.new seen.now.site.key.now found change result }
+    ensures { Tried ⟦<S as Shape>⟧ seat.old seat.new seen.now.hashed.key.now found change result }
 {
     let event = Event {
-        key: seen.site.key,
+        key: seen.hashed.key,
         found,
         change,
         reply,
     };
-    if !row.validate(seat, seen.site.bucket, seen.word, &event) {
+    if !row.validate(seat, seen.hashed.bucket, seen.word, &event) {
         return Err(Contended);
     }
     Ok(reply)
@@ -51,23 +51,23 @@ pub(crate) fn answer<S: Shape>(
 pub(crate) fn overwrite<S: Shape>(
     row: &Row<S>,
     seat: &mut CallerSeat<S>,
-    seen: &Seen<'_, S>,
+    seen: &SeenBucket<'_, S>,
     pair: (usize, u64),
     value: u64,
 ) -> Reply
-    requires held { UnderLock (sizes_of S.Shape) row.now seat.old seen.now.site.bucket seen.now.word (Set value)
-        (IsPairIn (sizes_of S.Shape) (S.words_of seen.now.site.key.now) (Some pair)) }
+    requires held { UnderLock (sizes_of S.Shape) row.now seat.old seen.now.hashed.bucket seen.now.word (Set value)
+        (IsPairIn (sizes_of S.Shape) (S.words_of seen.now.hashed.key.now) (Some pair)) }
     requires other { value ≢ pair.1 }
-    ensures { Finished ⟦<S as Shape>⟧ seat.old seat.new seen.now.site.key.now (Some pair.1) (Set value) (Ok result) }
+    ensures { Finished ⟦<S as Shape>⟧ seat.old seat.new seen.now.hashed.key.now (Some pair.1) (Set value) (Ok result) }
 {
     store_word(row, seat, seen.word, pair.0, S::WORDS, value);
     let event = Event {
-        key: seen.site.key,
+        key: seen.hashed.key,
         found: Some(pair.1),
         change: Change::Set(value),
         reply: Reply::Changed(Some(pair.1)),
     };
-    row.publish(seat, seen.site.bucket, seen.word, &event);
+    row.publish(seat, seen.hashed.bucket, seen.word, &event);
     Reply::Changed(Some(pair.1))
 }
 
@@ -75,23 +75,23 @@ pub(crate) fn overwrite<S: Shape>(
 pub(crate) fn fill<S: Shape>(
     row: &Row<S>,
     seat: &mut CallerSeat<S>,
-    seen: &Seen<'_, S>,
+    seen: &SeenBucket<'_, S>,
     place: usize,
     value: u64,
 ) -> Reply
-    requires { UnderLock (sizes_of S.Shape) row.now seat.old seen.now.site.bucket seen.now.word (Set value)
-        (IsPlaceForNew (sizes_of S.Shape) (S.words_of seen.now.site.key.now) place) }
-    ensures { Finished ⟦<S as Shape>⟧ seat.old seat.new seen.now.site.key.now None (Set value) (Ok result) }
+    requires { UnderLock (sizes_of S.Shape) row.now seat.old seen.now.hashed.bucket seen.now.word (Set value)
+        (IsPlaceForNew (sizes_of S.Shape) (S.words_of seen.now.hashed.key.now) place) }
+    ensures { Finished ⟦<S as Shape>⟧ seat.old seat.new seen.now.hashed.key.now None (Set value) (Ok result) }
 {
     store_key(row, seat, seen, place);
     store_word(row, seat, seen.word, place, S::WORDS, value);
     let event = Event {
-        key: seen.site.key,
+        key: seen.hashed.key,
         found: None,
         change: Change::Set(value),
         reply: Reply::Changed(None),
     };
-    row.publish(seat, seen.site.bucket, seen.word, &event);
+    row.publish(seat, seen.hashed.bucket, seen.word, &event);
     Reply::Changed(None)
 }
 
@@ -100,15 +100,15 @@ pub(crate) fn fill<S: Shape>(
 pub(crate) fn remove<S: Shape>(
     row: &Row<S>,
     seat: &mut CallerSeat<S>,
-    seen: &Seen<'_, S>,
+    seen: &SeenBucket<'_, S>,
     pair: (usize, u64),
 ) -> Result<Reply, Contended>
-    requires { WantsChange ⟦<S as Shape>⟧ row.now seat.old seen.now.site.bucket seen.now.word seen.now.site.key.now
+    requires { WantsChange ⟦<S as Shape>⟧ row.now seat.old seen.now.hashed.bucket seen.now.word seen.now.hashed.key.now
         (Some pair) Remove }
-    ensures { Tried ⟦<S as Shape>⟧ seat.old seat.new seen.now.site.key.now (Some pair.1) Remove result }
+    ensures { Tried ⟦<S as Shape>⟧ seat.old seat.new seen.now.hashed.key.now (Some pair.1) Remove result }
 {
     let other = has_other_pair(row, seat, seen.word, pair.0);
-    if !lock_seen(row, seat, seen.site.bucket, seen.word) {
+    if !lock_if_unchanged(row, seat, seen.hashed.bucket, seen.word) {
         return Err(Contended);
     }
     if !other {
@@ -121,21 +121,21 @@ pub(crate) fn remove<S: Shape>(
 fn vacate<S: Shape>(
     row: &Row<S>,
     seat: &mut CallerSeat<S>,
-    seen: &Seen<'_, S>,
+    seen: &SeenBucket<'_, S>,
     pair: (usize, u64),
 ) -> Reply
-    requires { UnderLock (sizes_of S.Shape) row.now seat.old seen.now.site.bucket seen.now.word Remove
-        (IsPairBeside (sizes_of S.Shape) (S.words_of seen.now.site.key.now) pair true) }
-    ensures { Finished ⟦<S as Shape>⟧ seat.old seat.new seen.now.site.key.now (Some pair.1) Remove (Ok result) }
+    requires { UnderLock (sizes_of S.Shape) row.now seat.old seen.now.hashed.bucket seen.now.word Remove
+        (IsPairBeside (sizes_of S.Shape) (S.words_of seen.now.hashed.key.now) pair true) }
+    ensures { Finished ⟦<S as Shape>⟧ seat.old seat.new seen.now.hashed.key.now (Some pair.1) Remove (Ok result) }
 {
     store_word(row, seat, seen.word, pair.0, S::WORDS, FREE);
     let event = Event {
-        key: seen.site.key,
+        key: seen.hashed.key,
         found: Some(pair.1),
         change: Change::Remove,
         reply: Reply::Changed(Some(pair.1)),
     };
-    row.publish(seat, seen.site.bucket, seen.word, &event);
+    row.publish(seat, seen.hashed.bucket, seen.word, &event);
     Reply::Changed(Some(pair.1))
 }
 
@@ -144,18 +144,18 @@ fn vacate<S: Shape>(
 pub(crate) fn store_key<S: Shape>(
     row: &Row<S>,
     seat: &mut CallerSeat<S>,
-    seen: &Seen<'_, S>,
+    seen: &SeenBucket<'_, S>,
     place: usize,
 )
     requires own { seat.old.row ≡ row.now }
-    requires lock { (l : LockedBucket) × HasLock (sizes_of S.Shape) seat.old.view seen.now.site.bucket seen.now.word l
+    requires lock { (l : LockedBucket) × HasLock (sizes_of S.Shape) seat.old.view seen.now.hashed.bucket seen.now.word l
         × (place < places l.extent.page l.extent.size.log2) }
     ensures same { seat.new ≡ with_view seat.old seat.new.view }
-    ensures stored { (l : LockedBucket) → HasLock (sizes_of S.Shape) seat.old.view seen.now.site.bucket seen.now.word l
-        → HasStored (sizes_of S.Shape) seat.old.view seat.new.view l place (S.words_of seen.now.site.key.now) S.WORDS }
+    ensures stored { (l : LockedBucket) → HasLock (sizes_of S.Shape) seat.old.view seen.now.hashed.bucket seen.now.word l
+        → HasStored (sizes_of S.Shape) seat.old.view seat.new.view l place (S.words_of seen.now.hashed.key.now) S.WORDS }
 {
     for i in 0..S::WORDS {
-        let part = S::word(seen.site.key, i);
+        let part = S::word(seen.hashed.key, i);
         if held_word(row, seat, seen.word, place, i) == part {
             continue;
         }

@@ -6,8 +6,9 @@ ghost use Rattle.std.specs.List.Sorted.{IsSortedBy};
 ghost use Rattle.bihash_words.specs.Sizes.{sizes_of};
 ghost use Rattle.bihash_steps.specs.Words.{buckets};
 ghost use Rattle.bihash_steps.specs.Callers.{IsLawfulCaller};
-ghost use Rattle.bihash_steps.specs.Views.{no_notes, nothing_held};
+ghost use Rattle.bihash_steps.specs.Views.{no_notes};
 ghost use Rattle.bihash_steps.specs.Seats.{with_view};
+ghost use Rattle.bihash_steps.specs.CallerCalls.{IsIdle};
 ghost use Rattle.bihash_table.specs.Closing.{ArePairsOf, IsCloseRefused, WasWhole};
 ghost use Rattle.bihash_table.specs.inner.OpenReads.{StandsAt};
 ghost use Rattle.bihash_table.specs.inner.PairLists.{AddsBlock, IsIdleAndLone, ListsBuckets};
@@ -30,8 +31,7 @@ impl<S: Shape> Sessions<S> {
         alloc: Global,
         mut caller: Caller<S>,
     ) -> Result<Vec<(S::Key, u64)>, (CloseFault, Sessions<S>, Caller<S>)>
-        requires own { caller.seat.row ≡ self.row }
-        requires free { caller.seat.view.holds ≡ nothing_held }
+        requires { IsIdle self.row caller.seat }
         ensures pairs { IfOk result (λ ps. ArePairsOf ⟦<S as Shape>⟧ caller.seat.view.known ps.items) }
         ensures whole { IfOk result (λ _. WasWhole (sizes_of S.Shape) caller.seat.view) }
         ensures refused { IfErr result (λ r. (r.1.row ≡ self.row)

@@ -12,11 +12,11 @@ ghost use Rattle.bihash_table.specs.Tries.{Finished, TriedOver};
 use crate::block::write_block;
 use crate::contended::Contended;
 use crate::entrant::Entrant;
-use crate::lock::lock_seen;
+use crate::hashed_key::SeenBucket;
+use crate::lock::lock_if_unchanged;
 use crate::pages::{give_back, take_block};
 use crate::places::{place_count, places_of};
 use crate::recycling::recycle_or_refuse;
-use crate::site::Seen;
 use crate::snapshot::read_block;
 use bihash_plan::{Plan, larger, lay};
 use bihash_steps::view::Extent;
@@ -29,12 +29,12 @@ use bihash_words::{BlockSize, BucketWord, Change, Expiry, Reply, Shape};
 pub(crate) fn enter_larger<S: Shape, E: Expiry>(
     row: &Row<S>,
     caller: &mut Caller<S>,
-    seen: &Seen<'_, S>,
+    seen: &SeenBucket<'_, S>,
     entrant: &Entrant<'_, E>,
 ) -> Result<Reply, Contended>
-    requires { WantsRoom ⟦<S as Shape>⟧ row.now caller.old.seat seen.now.site.bucket seen.now.word seen.now.site.key.now
+    requires { WantsRoom ⟦<S as Shape>⟧ row.now caller.old.seat seen.now.hashed.bucket seen.now.word seen.now.hashed.key.now
         entrant.now.value }
-    ensures { TriedOver ⟦<S as Shape>⟧ caller.old.seat caller.new.seat seen.now.site.key.now None (Set entrant.now.value)
+    ensures { TriedOver ⟦<S as Shape>⟧ caller.old.seat caller.new.seat seen.now.hashed.key.now None (Set entrant.now.value)
         (E.is_expired entrant.now.expiry.now) result }
 {
     let seat = &mut caller.seat;
@@ -48,26 +48,26 @@ pub(crate) fn enter_larger<S: Shape, E: Expiry>(
 fn enter_as_planned<S: Shape, E: Expiry>(
     row: &Row<S>,
     seat: &mut CallerSeat<S>,
-    seen: &Seen<'_, S>,
+    seen: &SeenBucket<'_, S>,
     entrant: &Entrant<'_, E>,
     old: &mut [(S::Key, u64)],
     new: &mut [(S::Key, u64)],
 ) -> Result<Reply, Contended>
-    requires wants { WantsRoom ⟦<S as Shape>⟧ row.now seat.old seen.now.site.bucket seen.now.word seen.now.site.key.now
+    requires wants { WantsRoom ⟦<S as Shape>⟧ row.now seat.old seen.now.hashed.bucket seen.now.word seen.now.hashed.key.now
         entrant.now.value }
     requires room { (length old.old ≡ 4 * 2 ^ S.MAX_LOG2) × (length new.old ≡ 4 * 2 ^ S.MAX_LOG2) }
-    ensures { TriedOver ⟦<S as Shape>⟧ seat.old seat.new seen.now.site.key.now None (Set entrant.now.value)
+    ensures { TriedOver ⟦<S as Shape>⟧ seat.old seat.new seen.now.hashed.key.now None (Set entrant.now.value)
         (E.is_expired entrant.now.expiry.now) result }
 {
     row.is_sound();
     let old = &mut old[..place_count::<S>(seen.word)];
     read_block(row, seat, seen.word, old);
-    let Plan::Grow(size) = larger::<S>(old, seen.word.block_size(), seen.site.key) else {
+    let Plan::Grow(size) = larger::<S>(old, seen.word.block_size(), seen.hashed.key) else {
         return recycle_or_refuse(row, seat, seen, entrant, old);
     };
     let new = &mut new[..places_of(size.log2)];
-    lay::<S>(old, seen.site.key, entrant.value, size, new);
-    if !lock_seen(row, seat, seen.site.bucket, seen.word) {
+    lay::<S>(old, seen.hashed.key, entrant.value, size, new);
+    if !lock_if_unchanged(row, seat, seen.hashed.bucket, seen.word) {
         return Err(Contended);
     }
     enter(row, seat, seen, entrant.value, size, new)
@@ -77,19 +77,19 @@ fn enter_as_planned<S: Shape, E: Expiry>(
 fn enter<S: Shape>(
     row: &Row<S>,
     seat: &mut CallerSeat<S>,
-    seen: &Seen<'_, S>,
+    seen: &SeenBucket<'_, S>,
     value: u64,
     size: BlockSize,
     block: &[(S::Key, u64)],
 ) -> Result<Reply, Contended>
-    requires { IsLaidFor ⟦<S as Shape>⟧ row.now seat.old seen.now.site.bucket seen.now.word seen.now.site.key.now
+    requires { IsLaidFor ⟦<S as Shape>⟧ row.now seat.old seen.now.hashed.bucket seen.now.word seen.now.hashed.key.now
         value size block.now }
-    ensures { Finished ⟦<S as Shape>⟧ seat.old seat.new seen.now.site.key.now None (Set value) result }
+    ensures { Finished ⟦<S as Shape>⟧ seat.old seat.new seen.now.hashed.key.now None (Set value) result }
 {
     row.is_sound();
-    let bucket = seen.site.bucket;
+    let bucket = seen.hashed.bucket;
     let word = seen.word;
-    let key = seen.site.key;
+    let key = seen.hashed.key;
     if !row.pool_lock(seat) {
         row.release(seat, bucket, word);
         return Err(Contended);
@@ -153,16 +153,16 @@ fn give_back_old<S: Shape>(row: &Row<S>, seat: &mut CallerSeat<S>, word: BucketW
 pub(crate) fn remove_last<S: Shape>(
     row: &Row<S>,
     seat: &mut CallerSeat<S>,
-    seen: &Seen<'_, S>,
+    seen: &SeenBucket<'_, S>,
     pair: (usize, u64),
 ) -> Result<Reply, Contended>
-    requires { UnderLock (sizes_of S.Shape) row.now seat.old seen.now.site.bucket seen.now.word Remove
-        (IsPairBeside (sizes_of S.Shape) (S.words_of seen.now.site.key.now) pair false) }
-    ensures { Finished ⟦<S as Shape>⟧ seat.old seat.new seen.now.site.key.now (Some pair.1) Remove result }
+    requires { UnderLock (sizes_of S.Shape) row.now seat.old seen.now.hashed.bucket seen.now.word Remove
+        (IsPairBeside (sizes_of S.Shape) (S.words_of seen.now.hashed.key.now) pair false) }
+    ensures { Finished ⟦<S as Shape>⟧ seat.old seat.new seen.now.hashed.key.now (Some pair.1) Remove result }
 {
     row.is_sound();
     if !row.pool_lock(seat) {
-        row.release(seat, seen.site.bucket, seen.word);
+        row.release(seat, seen.hashed.bucket, seen.word);
         return Err(Contended);
     }
     let none = Extent {
@@ -173,12 +173,12 @@ pub(crate) fn remove_last<S: Shape>(
         },
     };
     let event = Event {
-        key: seen.site.key,
+        key: seen.hashed.key,
         found: Some(pair.1),
         change: Change::Remove,
         reply: Reply::Changed(Some(pair.1)),
     };
-    row.publish_block(seat, seen.site.bucket, seen.word, none, &event);
+    row.publish_block(seat, seen.hashed.bucket, seen.word, none, &event);
     leave_store(row, seat, seen.word);
     Ok(Reply::Changed(Some(pair.1)))
 }

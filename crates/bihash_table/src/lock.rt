@@ -2,23 +2,22 @@
 ghost use Rattle.std.specs.Prelude.{◌≡◌, ◌<◌};
 ghost use Rattle.bihash_words.specs.Sizes.{sizes_of};
 ghost use Rattle.bihash_steps.specs.Words.{buckets};
-ghost use Rattle.bihash_steps.specs.Views.{nothing_held};
+ghost use Rattle.bihash_steps.specs.CallerCalls.{IsIdle};
 ghost use Rattle.bihash_table.specs.inner.OpenReads.{HasOpen};
-ghost use Rattle.bihash_table.specs.inner.Seen.{TellsLock, TellsLook};
+ghost use Rattle.bihash_table.specs.inner.Seen.{TellsLockTry, TellsUnlocked};
 
 use bihash_steps::{CallerSeat, Row};
 use bihash_words::{BucketWord, Shape};
 
 /// The word of a bucket that no other caller has locked, whose block may be read then.
-pub(crate) fn look<S: Shape>(
+pub(crate) fn load_unlocked<S: Shape>(
     row: &Row<S>,
     seat: &mut CallerSeat<S>,
     bucket: usize,
 ) -> Option<BucketWord>
-    requires own { seat.old.row ≡ row.now }
-    requires free { seat.old.view.holds ≡ nothing_held }
+    requires idle { IsIdle row.now seat.old }
     requires inside { bucket < buckets (sizes_of S.Shape) }
-    ensures { TellsLook (sizes_of S.Shape) seat.old seat.new bucket result }
+    ensures { TellsUnlocked (sizes_of S.Shape) seat.old seat.new bucket result }
 {
     let word = row.load_bucket(seat, bucket);
     if word.locked() {
@@ -29,7 +28,7 @@ pub(crate) fn look<S: Shape>(
 
 /// Locks a bucket that was seen, from the word that it was seen with. What was read of its block since holds
 /// then.
-pub(crate) fn lock_seen<S: Shape>(
+pub(crate) fn lock_if_unchanged<S: Shape>(
     row: &Row<S>,
     seat: &mut CallerSeat<S>,
     bucket: usize,
@@ -37,7 +36,7 @@ pub(crate) fn lock_seen<S: Shape>(
 ) -> bool
     requires own { seat.old.row ≡ row.now }
     requires seen { HasOpen (sizes_of S.Shape) seat.old.view bucket word }
-    ensures { TellsLock (sizes_of S.Shape) seat.old seat.new bucket word result }
+    ensures { TellsLockTry (sizes_of S.Shape) seat.old seat.new bucket word result }
 {
     row.lock_from(seat, bucket, word)
 }

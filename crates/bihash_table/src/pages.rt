@@ -5,7 +5,7 @@ ghost use Rattle.bihash_steps.specs.Seats.{with_view};
 ghost use Rattle.bihash_steps.specs.StoreSteps.{holding, relisted};
 ghost use Rattle.bihash_steps.specs.declared.view.LockedStore.{LockedStore};
 ghost use Rattle.bihash_steps.specs.declared.view.HeldBlock.{HeldBlock};
-ghost use Rattle.bihash_table.specs.inner.Copying.{MayGiveBack, MayReturn, MayTake, TellsTake};
+ghost use Rattle.bihash_table.specs.inner.Copying.{MayGiveBack, MayGiveBackBlock, MayTake, TellsTake};
 
 use bihash_steps::{CallerSeat, PoolWord, Row};
 use bihash_words::Shape;
@@ -37,7 +37,7 @@ pub(crate) fn take_block<S: Shape>(
 
 /// Gives back the block of `2^log2` pages that the caller holds, which begins at this page.
 pub(crate) fn give_back<S: Shape>(row: &Row<S>, seat: &mut CallerSeat<S>, log2: u64, page: u64)
-    requires { MayReturn (sizes_of S.Shape) row.now seat.old log2 page }
+    requires { MayGiveBackBlock (sizes_of S.Shape) row.now seat.old log2 page }
     ensures { (n : LockedStore) (h : HeldBlock) → MayGiveBack seat.old.view log2 page n h → seat.new ≡ with_view seat.old
         (holding seat.old.view (Some (record { store = relisted n.store log2 page; listed = None })) None) }
 {

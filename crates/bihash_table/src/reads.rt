@@ -1,12 +1,13 @@
 //! Searches of the block of an open bucket. What they find holds on the condition that the words they
 //! load are the block's, which a step on the bucket's word tells afterwards.
-ghost use Rattle.std.specs.Prelude.{◌≡◌, ◌+◌, ◌*◌, ◌^◌, ◌<◌, ◌≤◌};
+ghost use Rattle.std.specs.Prelude.{◌≡◌, ◌+◌, ◌*◌, ◌^◌, ◌<◌, ◌≤◌, slice_index};
 ghost use Rattle.bihash_words.specs.Sizes.{sizes_of};
+ghost use Rattle.bihash_steps.specs.Words.{place_words};
 ghost use Rattle.bihash_table.specs.inner.Scans.{NamesBlock, AreOpenPages};
-ghost use Rattle.bihash_table.specs.inner.OpenReads.{HasRead, MayRead, IsWordAt, LastWordTells, AreMarks, first_set, later_set, set_count, TellsValue, IsPairAmong, IsPairIn, IsFirstFreeIn, OtherPairTells, value_of};
+ghost use Rattle.bihash_table.specs.inner.OpenReads.{HasRead, MayRead, LastWordTells, AreMarks, first_set, later_set, set_count, TellsValue, IsPairAmong, IsPairIn, IsFirstFreeIn, OtherPairTells, value_of};
 
+use crate::hashed_key::HashedKey;
 use crate::places::{FREE, PAGE_PLACES, page_count, place_count};
-use crate::site::Site;
 use bihash_steps::{CallerSeat, Row};
 use bihash_words::{BucketWord, Shape};
 
@@ -17,22 +18,22 @@ pub(crate) fn find_pair<S: Shape>(
     row: &Row<S>,
     seat: &mut CallerSeat<S>,
     word: BucketWord,
-    site: &Site<'_, S>,
+    hashed: &HashedKey<'_, S>,
 ) -> Option<(usize, u64)>
     requires { MayRead (sizes_of S.Shape) row.now seat.old word 0 }
-    ensures { HasRead seat.old seat.new (IsPairIn (sizes_of S.Shape) (S.words_of site.now.key.now) result) }
+    ensures { HasRead seat.old seat.new (IsPairIn (sizes_of S.Shape) (S.words_of hashed.now.key.now) result) }
 {
     row.is_sound();
     if !word.linear() {
-        let (from, to) = open_pages(word, site);
+        let (from, to) = open_pages(word, hashed);
         if from == to {
             return None;
         }
         if from + 1 == to {
-            return pair_in_page(row, seat, word, from, site);
+            return pair_in_page(row, seat, word, from, hashed);
         }
     }
-    pair_in_pages(row, seat, word, site)
+    pair_in_pages(row, seat, word, hashed)
 }
 
 /// The value of the pair that was found.
@@ -48,13 +49,13 @@ pub(crate) fn find_free<S: Shape>(
     row: &Row<S>,
     seat: &mut CallerSeat<S>,
     word: BucketWord,
-    site: &Site<'_, S>,
+    hashed: &HashedKey<'_, S>,
 ) -> Option<usize>
     requires { MayRead (sizes_of S.Shape) row.now seat.old word 0 }
-    ensures { HasRead seat.old seat.new (IsFirstFreeIn (sizes_of S.Shape) (S.words_of site.now.key.now) result) }
+    ensures { HasRead seat.old seat.new (IsFirstFreeIn (sizes_of S.Shape) (S.words_of hashed.now.key.now) result) }
 {
     row.is_sound();
-    let (from, to) = open_pages(word, site);
+    let (from, to) = open_pages(word, hashed);
     for place in PAGE_PLACES * from..PAGE_PLACES * to {
         if load_word(row, seat, word, place, S::WORDS) == FREE {
             return Some(place);
@@ -95,7 +96,8 @@ pub(crate) fn load_word<S: Shape>(
 ) -> u64
     requires read { MayRead (sizes_of S.Shape) row.now seat.old word (place + 1) }
     requires inside { i ≤ S.WORDS }
-    ensures { HasRead seat.old seat.new (IsWordAt (sizes_of S.Shape) place i result) }
+    ensures { HasRead seat.old seat.new (λ _ block.
+        result ≡ slice_index block (place * place_words (sizes_of S.Shape) + i)) }
 {
     row.is_sound();
     row.load_open(seat, word.page(), place * (S::WORDS + 1) + i)
@@ -103,9 +105,9 @@ pub(crate) fn load_word<S: Shape>(
 
 // The pages of an open block that may hold the key, as the first of them and the one after the last: the
 // one that its hash names or, where the block is linear, each.
-fn open_pages<S: Shape>(word: BucketWord, site: &Site<'_, S>) -> (usize, usize)
+fn open_pages<S: Shape>(word: BucketWord, hashed: &HashedKey<'_, S>) -> (usize, usize)
     requires { NamesBlock (sizes_of S.Shape) word }
-    ensures { AreOpenPages (sizes_of S.Shape) word (S.words_of site.now.key.now) result.0 result.1 }
+    ensures { AreOpenPages (sizes_of S.Shape) word (S.words_of hashed.now.key.now) result.0 result.1 }
 {
     if word.page() == 0 {
         return (0, 0);
@@ -113,7 +115,7 @@ fn open_pages<S: Shape>(word: BucketWord, site: &Site<'_, S>) -> (usize, usize)
     if word.linear() {
         return (0, page_count(word.log2()));
     }
-    let page = site.page(word.log2());
+    let page = hashed.page(word.log2());
     (page, page + 1)
 }
 
@@ -125,18 +127,18 @@ fn pair_in_page<S: Shape>(
     seat: &mut CallerSeat<S>,
     word: BucketWord,
     page: usize,
-    site: &Site<'_, S>,
+    hashed: &HashedKey<'_, S>,
 ) -> Option<(usize, u64)>
     requires read { MayRead (sizes_of S.Shape) row.now seat.old word (4 * (page + 1)) }
     requires few { page < 2 ^ 24 }
-    ensures { HasRead seat.old seat.new (IsPairAmong (sizes_of S.Shape) (S.words_of site.now.key.now)
+    ensures { HasRead seat.old seat.new (IsPairAmong (sizes_of S.Shape) (S.words_of hashed.now.key.now)
         (4 * page) (4 * (page + 1)) result) }
 {
     let first = PAGE_PLACES * page;
-    let mut marks = marks(row, seat, word, first, site);
+    let mut marks = marks(row, seat, word, first, hashed);
     'marked: while count_marks(marks) > 0 {
         let place = first + first_mark(marks);
-        if let Some(value) = value_at(row, seat, word, place, site) {
+        if let Some(value) = value_at(row, seat, word, place, hashed) {
             return Some((place, value));
         }
         marks = later_marks(marks);
@@ -150,15 +152,15 @@ fn pair_in_pages<S: Shape>(
     row: &Row<S>,
     seat: &mut CallerSeat<S>,
     word: BucketWord,
-    site: &Site<'_, S>,
+    hashed: &HashedKey<'_, S>,
 ) -> Option<(usize, u64)>
     requires { MayRead (sizes_of S.Shape) row.now seat.old word 0 }
-    ensures { HasRead seat.old seat.new (IsPairIn (sizes_of S.Shape) (S.words_of site.now.key.now) result) }
+    ensures { HasRead seat.old seat.new (IsPairIn (sizes_of S.Shape) (S.words_of hashed.now.key.now) result) }
 {
     row.is_sound();
-    let (from, to) = open_pages(word, site);
+    let (from, to) = open_pages(word, hashed);
     for page in from..to {
-        if let Some(pair) = pair_in_page(row, seat, word, page, site) {
+        if let Some(pair) = pair_in_page(row, seat, word, page, hashed) {
             return Some(pair);
         }
     }
@@ -204,15 +206,15 @@ fn marks<S: Shape>(
     seat: &mut CallerSeat<S>,
     word: BucketWord,
     first: usize,
-    site: &Site<'_, S>,
+    hashed: &HashedKey<'_, S>,
 ) -> (bool, bool, bool, bool)
     requires { MayRead (sizes_of S.Shape) row.now seat.old word (first + 4) }
-    ensures { HasRead seat.old seat.new (AreMarks (sizes_of S.Shape) (S.words_of site.now.key.now) first result) }
+    ensures { HasRead seat.old seat.new (AreMarks (sizes_of S.Shape) (S.words_of hashed.now.key.now) first result) }
 {
-    let a = has_last(row, seat, word, first, site);
-    let b = has_last(row, seat, word, first + 1, site);
-    let c = has_last(row, seat, word, first + 2, site);
-    let d = has_last(row, seat, word, first + 3, site);
+    let a = has_last(row, seat, word, first, hashed);
+    let b = has_last(row, seat, word, first + 1, hashed);
+    let c = has_last(row, seat, word, first + 2, hashed);
+    let d = has_last(row, seat, word, first + 3, hashed);
     (a, b, c, d)
 }
 
@@ -222,13 +224,13 @@ fn has_last<S: Shape>(
     seat: &mut CallerSeat<S>,
     word: BucketWord,
     place: usize,
-    site: &Site<'_, S>,
+    hashed: &HashedKey<'_, S>,
 ) -> bool
     requires { MayRead (sizes_of S.Shape) row.now seat.old word (place + 1) }
-    ensures { HasRead seat.old seat.new (LastWordTells (sizes_of S.Shape) (S.words_of site.now.key.now) place result) }
+    ensures { HasRead seat.old seat.new (LastWordTells (sizes_of S.Shape) (S.words_of hashed.now.key.now) place result) }
 {
     row.is_sound();
-    load_word(row, seat, word, place, S::WORDS - 1) == site.last
+    load_word(row, seat, word, place, S::WORDS - 1) == hashed.last
 }
 
 // The value of the key's pair at a place where the last word of the key stands. A free place may show the
@@ -238,14 +240,14 @@ fn value_at<S: Shape>(
     seat: &mut CallerSeat<S>,
     word: BucketWord,
     place: usize,
-    site: &Site<'_, S>,
+    hashed: &HashedKey<'_, S>,
 ) -> Option<u64>
     requires { MayRead (sizes_of S.Shape) row.now seat.old word (place + 1) }
-    ensures { HasRead seat.old seat.new (TellsValue (sizes_of S.Shape) (S.words_of site.now.key.now) place result) }
+    ensures { HasRead seat.old seat.new (TellsValue (sizes_of S.Shape) (S.words_of hashed.now.key.now) place result) }
 {
     row.is_sound();
     for i in 0..S::WORDS - 1 {
-        if load_word(row, seat, word, place, i) != S::word(site.key, i) {
+        if load_word(row, seat, word, place, i) != S::word(hashed.key, i) {
             return None;
         }
     }

@@ -12,8 +12,8 @@ ghost use Rattle.bihash_table.specs.inner.Seen.{MayRefuse, WantsPlace};
 use crate::change::{store_key, store_word};
 use crate::contended::Contended;
 use crate::entrant::Entrant;
-use crate::lock::lock_seen;
-use crate::site::Seen;
+use crate::hashed_key::SeenBucket;
+use crate::lock::lock_if_unchanged;
 use bihash_plan::recycle;
 use bihash_steps::{CallerSeat, Event, Recycled, Row};
 use bihash_words::{Change, Expiry, Reply, Shape};
@@ -31,21 +31,21 @@ pub(crate) struct Going<'k, S: Shape> {
 pub(crate) fn recycle_or_refuse<S: Shape, E: Expiry>(
     row: &Row<S>,
     seat: &mut CallerSeat<S>,
-    seen: &Seen<'_, S>,
+    seen: &SeenBucket<'_, S>,
     entrant: &Entrant<'_, E>,
     places: &[(S::Key, u64)],
 ) -> Result<Reply, Contended>
-    requires { WantsPlace ⟦<S as Shape>⟧ row.now seat.old seen.now.site.bucket seen.now.word seen.now.site.key.now
+    requires { WantsPlace ⟦<S as Shape>⟧ row.now seat.old seen.now.hashed.bucket seen.now.word seen.now.hashed.key.now
         entrant.now.value places.now }
-    ensures { TriedOver ⟦<S as Shape>⟧ seat.old seat.new seen.now.site.key.now None (Set entrant.now.value)
+    ensures { TriedOver ⟦<S as Shape>⟧ seat.old seat.new seen.now.hashed.key.now None (Set entrant.now.value)
         (E.is_expired entrant.now.expiry.now) result }
 {
     row.is_sound();
     let size = seen.word.block_size();
-    let Some(spare) = recycle::<S, E>(places, size, seen.site.key, entrant.expiry) else {
+    let Some(spare) = recycle::<S, E>(places, size, seen.hashed.key, entrant.expiry) else {
         return refuse(row, seat, seen, entrant);
     };
-    if !lock_seen(row, seat, seen.site.bucket, seen.word) {
+    if !lock_if_unchanged(row, seat, seen.hashed.bucket, seen.word) {
         return Err(Contended);
     }
     let going = Going {
@@ -60,22 +60,22 @@ pub(crate) fn recycle_or_refuse<S: Shape, E: Expiry>(
 fn refuse<S: Shape, E: Expiry>(
     row: &Row<S>,
     seat: &mut CallerSeat<S>,
-    seen: &Seen<'_, S>,
+    seen: &SeenBucket<'_, S>,
     entrant: &Entrant<'_, E>,
 ) -> Result<Reply, Contended>
-    requires { MayRefuse ⟦<S as Shape>⟧ row.now seat.old seen.now.site.bucket seen.now.word
-        (recycled_update (S.words_of seen.now.site.key.now) None (Set entrant.now.value)
+    requires { MayRefuse ⟦<S as Shape>⟧ row.now seat.old seen.now.hashed.bucket seen.now.word
+        (recycled_update (S.words_of seen.now.hashed.key.now) None (Set entrant.now.value)
         (E.is_expired entrant.now.expiry.now) None Full) }
-    ensures { TriedOver ⟦<S as Shape>⟧ seat.old seat.new seen.now.site.key.now None (Set entrant.now.value)
+    ensures { TriedOver ⟦<S as Shape>⟧ seat.old seat.new seen.now.hashed.key.now None (Set entrant.now.value)
         (E.is_expired entrant.now.expiry.now) result }
 {
     let event = Event {
-        key: seen.site.key,
+        key: seen.hashed.key,
         found: None,
         change: Change::Set(entrant.value),
         reply: Reply::Full,
     };
-    if !row.validate_full(seat, seen.site.bucket, seen.word, &event, entrant.expiry) {
+    if !row.validate_full(seat, seen.hashed.bucket, seen.word, &event, entrant.expiry) {
         return Err(Contended);
     }
     Ok(Reply::Full)
@@ -85,20 +85,20 @@ fn refuse<S: Shape, E: Expiry>(
 fn replace<S: Shape, E: Expiry>(
     row: &Row<S>,
     seat: &mut CallerSeat<S>,
-    seen: &Seen<'_, S>,
+    seen: &SeenBucket<'_, S>,
     entrant: &Entrant<'_, E>,
     going: &Going<'_, S>,
 ) -> Reply
-    requires { UnderLock (sizes_of S.Shape) row.now seat.old seen.now.site.bucket seen.now.word (Set entrant.now.value)
-        (TakesPlace (sizes_of S.Shape) (S.words_of seen.now.site.key.now) (S.words_of going.now.key.now)
+    requires { UnderLock (sizes_of S.Shape) row.now seat.old seen.now.hashed.bucket seen.now.word (Set entrant.now.value)
+        (TakesPlace (sizes_of S.Shape) (S.words_of seen.now.hashed.key.now) (S.words_of going.now.key.now)
         (E.is_expired entrant.now.expiry.now) going.now.linear going.now.place) }
-    ensures { FinishedOver ⟦<S as Shape>⟧ seat.old seat.new seen.now.site.key.now None (Set entrant.now.value)
+    ensures { FinishedOver ⟦<S as Shape>⟧ seat.old seat.new seen.now.hashed.key.now None (Set entrant.now.value)
         (E.is_expired entrant.now.expiry.now) result }
 {
     store_key(row, seat, seen, going.place);
     store_word(row, seat, seen.word, going.place, S::WORDS, entrant.value);
     let event = Event {
-        key: seen.site.key,
+        key: seen.hashed.key,
         found: None,
         change: Change::Set(entrant.value),
         reply: Reply::Changed(None),
@@ -109,6 +109,6 @@ fn replace<S: Shape, E: Expiry>(
         expiry: entrant.expiry,
         linear: going.linear,
     };
-    row.publish_recycled(seat, seen.site.bucket, seen.word, &recycled);
+    row.publish_recycled(seat, seen.hashed.bucket, seen.word, &recycled);
     Reply::Changed(None)
 }

@@ -4,7 +4,8 @@ ghost use Rattle.bihash_words.specs.Sizes.{sizes_of};
 ghost use Rattle.bihash_steps.specs.Callers.{IsLawfulCaller};
 ghost use Rattle.bihash_steps.specs.Renewals.{AreRowWords, IsRenewed};
 ghost use Rattle.bihash_steps.specs.Seats.{with_view};
-ghost use Rattle.bihash_steps.specs.Views.{no_notes, nothing_held};
+ghost use Rattle.bihash_steps.specs.Views.{no_notes};
+ghost use Rattle.bihash_steps.specs.CallerCalls.{IsIdle};
 ghost use Rattle.bihash_table.specs.Closing.{WasWhole};
 ghost use Rattle.bihash_table.specs.Renewing.{IsRenewRefused};
 ghost use Rattle.bihash_table.specs.inner.PairLists.{IsIdleAndLone};
@@ -26,8 +27,7 @@ impl<S: Shape> Sessions<S> {
         alloc: Global,
         mut caller: Caller<S>,
     ) -> Result<(Sessions<S>, Caller<S>), (RenewFault, Sessions<S>, Caller<S>)>
-        requires own { caller.seat.row ≡ self.row }
-        requires free { caller.seat.view.holds ≡ nothing_held }
+        requires { IsIdle self.row caller.seat }
         ensures own { IfOk result (λ r. r.1.seat.row ≡ r.0.row) }
         ensures renewed { IfOk result (λ r. IsRenewed (sizes_of S.Shape) caller.seat.view r.1.seat.view) }
         ensures whole { IfOk result (λ _. WasWhole (sizes_of S.Shape) caller.seat.view) }

@@ -1,13 +1,12 @@
 //! Searches: one try, and a search that waits for its turn.
-ghost use Rattle.std.specs.Prelude.{◌≡◌};
-ghost use Rattle.bihash_steps.specs.Views.{nothing_held};
+ghost use Rattle.bihash_steps.specs.CallerCalls.{IsIdle};
 ghost use Rattle.bihash_table.specs.Calls.{TellsSearch, TellsSearchTry};
 
 use crate::contended::Contended;
-use crate::lock::look;
+use crate::hashed_key::HashedKey;
+use crate::lock::load_unlocked;
 use crate::reads::{find_pair, value_found};
 use crate::sessions::Sessions;
-use crate::site::Site;
 use bihash_steps::{Caller, Event};
 use bihash_words::{Change, Reply, Shape};
 use crossbeam_utils::Backoff;
@@ -17,25 +16,24 @@ impl<S: Shape> Sessions<S> {
     /// The value of the key, `None` where it is absent. It takes no lock.
     #[inline(always)]
     pub fn try_search(&self, caller: &mut Caller<S>, key: &S::Key) -> Result<Option<u64>, Contended>
-        requires own { caller.old.seat.row ≡ self.now.row }
-        requires free { caller.old.seat.view.holds ≡ nothing_held }
+        requires { IsIdle self.now.row caller.old.seat }
         ensures { TellsSearchTry ⟦<S as Shape>⟧ caller.old.seat caller.new.seat key.now result }
     {
         self.row.is_sound();
-        let site = Site::of(key);
+        let hashed = HashedKey::of(key);
         let seat = &mut caller.seat;
-        let Some(word) = look(&self.row, seat, site.bucket) else {
+        let Some(word) = load_unlocked(&self.row, seat, hashed.bucket) else {
             return Err(Contended);
         };
-        let pair = find_pair(&self.row, seat, word, &site);
+        let pair = find_pair(&self.row, seat, word, &hashed);
         let found = value_found(pair);
         let event = Event {
-            key: site.key,
+            key: hashed.key,
             found,
             change: Change::Keep,
             reply: Reply::Kept(found),
         };
-        if self.row.validate(seat, site.bucket, word, &event) {
+        if self.row.validate(seat, hashed.bucket, word, &event) {
             return Ok(found);
         }
         Err(Contended)
@@ -43,8 +41,7 @@ impl<S: Shape> Sessions<S> {
 
     /// The same. It tries again until no other caller holds the bucket's lock or changes it meanwhile.
     pub fn search<R: Wait>(&self, rt: &R, caller: &mut Caller<S>, key: &S::Key) -> Option<u64>
-        requires own { caller.old.seat.row ≡ self.now.row }
-        requires free { caller.old.seat.view.holds ≡ nothing_held }
+        requires { IsIdle self.now.row caller.old.seat }
         ensures { TellsSearch ⟦<S as Shape>⟧ caller.old.seat caller.new.seat key.now result }
     {
         if let Ok(found) = self.try_search(caller, key) {
@@ -56,8 +53,7 @@ impl<S: Shape> Sessions<S> {
     // A search that met another caller. It stands apart, so that the first try keeps nothing for it.
     #[inline(never)]
     fn search_again<R: Wait>(&self, rt: &R, caller: &mut Caller<S>, key: &S::Key) -> Option<u64>
-        requires own { caller.old.seat.row ≡ self.now.row }
-        requires free { caller.old.seat.view.holds ≡ nothing_held }
+        requires { IsIdle self.now.row caller.old.seat }
         ensures { TellsSearch ⟦<S as Shape>⟧ caller.old.seat caller.new.seat key.now result }
     {
         let backoff = Backoff::new();

@@ -1,9 +1,9 @@
 //! The shared table, and its callers.
 ghost use Rattle.std.specs.Prelude.{◌≡◌, ◌<◌, ◌≤◌, ℕ, IfOk, IfErr};
 ghost use Rattle.bihash_words.specs.Sizes.{sizes_of, IsSound};
-ghost use Rattle.bihash_steps.specs.CallerCalls.{AreIdle, AreInformed, IsJoined};
+ghost use Rattle.bihash_steps.specs.CallerCalls.{AreIdle, AreInformed, IsIdle, IsJoined};
 ghost use Rattle.bihash_steps.specs.Callers.{IsLawfulCaller, Agrees};
-ghost use Rattle.bihash_steps.specs.Views.{first_view, nothing_held};
+ghost use Rattle.bihash_steps.specs.Views.{first_view};
 ghost use Rattle.bihash_steps.specs.Steps.{parent, newcomer, IsRefused};
 ghost use Rattle.bihash_steps.specs.Seats.{with_view, stamp_of};
 ghost use Rattle.bihash_table.specs.Calls.{TellsLone};
@@ -46,8 +46,7 @@ impl<S: Shape> Sessions<S> {
         alloc: Global,
         caller: Caller<S>,
     ) -> Result<(Caller<S>, Caller<S>), (SplitFault, Caller<S>)>
-        requires own { caller.seat.row ≡ self.now.row }
-        requires free { caller.seat.view.holds ≡ nothing_held }
+        requires { IsIdle self.now.row caller.seat }
         ensures split { IfOk result (λ r. (count : ℕ) × (caller.seat.view.seen ≤ count) × (count < S.CALLERS)
             × (r.0.seat ≡ with_view caller.seat (parent caller.seat.view count))
             × (r.1.seat.row ≡ caller.seat.row) × (r.1.seat.view ≡ newcomer caller.seat.view count)) }

@@ -2,9 +2,9 @@
 ghost use Rattle.std.specs.Prelude.{◌≡◌, ◌≢◌, ◌==◌, true, false, None, Option, Some};
 ghost use Rattle.bihash_words.specs.Maps.{effect_of};
 ghost use Rattle.bihash_words.specs.Patches.{IsStorable};
-ghost use Rattle.bihash_words.specs.Words.{Bucket, Fits, packed};
+ghost use Rattle.bihash_words.specs.Words.{Bucket, FitsWord, packed};
 ghost use Rattle.bihash_words.specs.declared.patch.Change.TheVariants.{Keep};
-ghost use Rattle.bihash_steps.specs.Views.{nothing_held};
+ghost use Rattle.bihash_steps.specs.CallerCalls.{IsIdle};
 ghost use Rattle.bihash_table.specs.Calls.{TellsRecycleTry, TellsUpdateTry};
 ghost use Rattle.bihash_table.specs.inner.OpenReads.{value_of};
 ghost use Rattle.bihash_table.specs.inner.Seen.{Found, WantsChange};
@@ -14,11 +14,11 @@ use crate::change::{answer, fill, overwrite, remove};
 use crate::contended::Contended;
 use crate::entrant::Entrant;
 use crate::grow::enter_larger;
-use crate::lock::{lock_seen, look};
+use crate::hashed_key::{HashedKey, SeenBucket};
+use crate::lock::{load_unlocked, lock_if_unchanged};
 use crate::never::Never;
 use crate::reads::{find_free, find_pair, value_found};
 use crate::sessions::Sessions;
-use crate::site::{Seen, Site};
 use bihash_steps::{Caller, CallerSeat, Row};
 use bihash_words::{BucketWord, Change, Expiry, Patch, Reply, Shape};
 
@@ -33,8 +33,7 @@ impl<S: Shape> Sessions<S> {
         key: &S::Key,
         patch: &P,
     ) -> Result<Reply, Contended>
-        requires own { caller.old.seat.row ≡ self.now.row }
-        requires free { caller.old.seat.view.holds ≡ nothing_held }
+        requires { IsIdle self.now.row caller.old.seat }
         ensures { TellsUpdateTry ⟦<S as Shape>⟧ caller.old.seat caller.new.seat key.now (P.decision patch.now) result }
     {
         self.try_add_or_recycle(caller, key, patch, &Never)
@@ -51,20 +50,19 @@ impl<S: Shape> Sessions<S> {
         patch: &P,
         expiry: &E,
     ) -> Result<Reply, Contended>
-        requires own { caller.old.seat.row ≡ self.now.row }
-        requires free { caller.old.seat.view.holds ≡ nothing_held }
+        requires { IsIdle self.now.row caller.old.seat }
         ensures { TellsRecycleTry ⟦<S as Shape>⟧ caller.old.seat caller.new.seat key.now (P.decision patch.now)
             (E.is_expired expiry.now) result }
     {
         self.row.is_sound();
-        let site = Site::of(key);
-        let Some(word) = look(&self.row, &mut caller.seat, site.bucket) else {
+        let hashed = HashedKey::of(key);
+        let Some(word) = load_unlocked(&self.row, &mut caller.seat, hashed.bucket) else {
             return Err(Contended);
         };
-        let pair = find_pair(&self.row, &mut caller.seat, word, &site);
+        let pair = find_pair(&self.row, &mut caller.seat, word, &hashed);
         let found = value_found(pair);
         let change = patch.decide(found);
-        let seen = Seen { word, site };
+        let seen = SeenBucket { word, hashed };
         make(&self.row, caller, &seen, pair, change, expiry)
     }
 }
@@ -74,14 +72,14 @@ impl<S: Shape> Sessions<S> {
 fn make<S: Shape, E: Expiry>(
     row: &Row<S>,
     caller: &mut Caller<S>,
-    seen: &Seen<'_, S>,
+    seen: &SeenBucket<'_, S>,
     pair: Option<(usize, u64)>,
     change: Change,
     expiry: &E,
 ) -> Result<Reply, Contended>
-    requires found { Found ⟦<S as Shape>⟧ row.now caller.old.seat seen.now.site.bucket seen.now.word seen.now.site.key.now pair }
+    requires found { Found ⟦<S as Shape>⟧ row.now caller.old.seat seen.now.hashed.bucket seen.now.word seen.now.hashed.key.now pair }
     requires storable { IsStorable change }
-    ensures { TriedOver ⟦<S as Shape>⟧ caller.old.seat caller.new.seat seen.now.site.key.now (value_of pair) change
+    ensures { TriedOver ⟦<S as Shape>⟧ caller.old.seat caller.new.seat seen.now.hashed.key.now (value_of pair) change
         (E.is_expired expiry.now) result }
 {
     let found = value_found(pair);
@@ -113,7 +111,7 @@ fn is_idle(change: Change, found: Option<u64>) -> bool
 
 // Whether the version of a bucket is used up.
 fn is_worn<S: Shape>(word: BucketWord) -> bool
-    ensures { (x : Bucket) → Fits x → word ≡ packed x → result ≡ (x.version == S.LIMIT) }
+    ensures { (x : Bucket) → FitsWord x → word ≡ packed x → result ≡ (x.version == S.LIMIT) }
 {
     word.version() == S::LIMIT
 }
@@ -123,17 +121,17 @@ fn is_worn<S: Shape>(word: BucketWord) -> bool
 fn change_pair<S: Shape>(
     row: &Row<S>,
     seat: &mut CallerSeat<S>,
-    seen: &Seen<'_, S>,
+    seen: &SeenBucket<'_, S>,
     pair: (usize, u64),
     change: Change,
 ) -> Result<Reply, Contended>
-    requires { WantsChange ⟦<S as Shape>⟧ row.now seat.old seen.now.site.bucket seen.now.word seen.now.site.key.now
+    requires { WantsChange ⟦<S as Shape>⟧ row.now seat.old seen.now.hashed.bucket seen.now.word seen.now.hashed.key.now
         (Some pair) change }
-    ensures { Tried ⟦<S as Shape>⟧ seat.old seat.new seen.now.site.key.now (Some pair.1) change result }
+    ensures { Tried ⟦<S as Shape>⟧ seat.old seat.new seen.now.hashed.key.now (Some pair.1) change result }
 {
     match change {
         Change::Set(value) => {
-            if !lock_seen(row, seat, seen.site.bucket, seen.word) {
+            if !lock_if_unchanged(row, seat, seen.hashed.bucket, seen.word) {
                 return Err(Contended);
             }
             Ok(overwrite(row, seat, seen, pair, value))
@@ -148,22 +146,22 @@ fn change_pair<S: Shape>(
 fn enter_new<S: Shape, E: Expiry>(
     row: &Row<S>,
     caller: &mut Caller<S>,
-    seen: &Seen<'_, S>,
+    seen: &SeenBucket<'_, S>,
     change: Change,
     expiry: &E,
 ) -> Result<Reply, Contended>
-    requires { WantsChange ⟦<S as Shape>⟧ row.now caller.old.seat seen.now.site.bucket seen.now.word seen.now.site.key.now
+    requires { WantsChange ⟦<S as Shape>⟧ row.now caller.old.seat seen.now.hashed.bucket seen.now.word seen.now.hashed.key.now
         None change }
-    ensures { TriedOver ⟦<S as Shape>⟧ caller.old.seat caller.new.seat seen.now.site.key.now None change
+    ensures { TriedOver ⟦<S as Shape>⟧ caller.old.seat caller.new.seat seen.now.hashed.key.now None change
         (E.is_expired expiry.now) result }
 {
     let Change::Set(value) = change else {
         unreachable!();
     };
     let seat = &mut caller.seat;
-    match find_free(row, seat, seen.word, &seen.site) {
+    match find_free(row, seat, seen.word, &seen.hashed) {
         Some(place) => {
-            if !lock_seen(row, seat, seen.site.bucket, seen.word) {
+            if !lock_if_unchanged(row, seat, seen.hashed.bucket, seen.word) {
                 return Err(Contended);
             }
             Ok(fill(row, seat, seen, place, value))

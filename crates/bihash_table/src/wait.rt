@@ -1,8 +1,8 @@
 //! Updates that wait for their turn: one of any decision, and the four fixed ones.
-ghost use Rattle.std.specs.Prelude.{◌≡◌, ◌≢◌};
+ghost use Rattle.std.specs.Prelude.{◌≢◌};
 ghost use Rattle.bihash_words.specs.Patches.{free_mark, set_if_absent, set_if_present};
 ghost use Rattle.bihash_words.specs.declared.patch.Change.TheVariants.{Set, Remove};
-ghost use Rattle.bihash_steps.specs.Views.{nothing_held};
+ghost use Rattle.bihash_steps.specs.CallerCalls.{IsIdle};
 ghost use Rattle.bihash_table.specs.Calls.{TellsRecycle, TellsUpdate};
 
 use crate::sessions::Sessions;
@@ -22,8 +22,7 @@ impl<S: Shape> Sessions<S> {
         key: &S::Key,
         patch: &P,
     ) -> Reply
-        requires own { caller.old.seat.row ≡ self.now.row }
-        requires free { caller.old.seat.view.holds ≡ nothing_held }
+        requires { IsIdle self.now.row caller.old.seat }
         ensures { TellsUpdate ⟦<S as Shape>⟧ caller.old.seat caller.new.seat key.now (P.decision patch.now) result }
     {
         let backoff = Backoff::new();
@@ -47,8 +46,7 @@ impl<S: Shape> Sessions<S> {
         patch: &P,
         expiry: &E,
     ) -> Reply
-        requires own { caller.old.seat.row ≡ self.now.row }
-        requires free { caller.old.seat.view.holds ≡ nothing_held }
+        requires { IsIdle self.now.row caller.old.seat }
         ensures { TellsRecycle ⟦<S as Shape>⟧ caller.old.seat caller.new.seat key.now (P.decision patch.now)
             (E.is_expired expiry.now) result }
     {
@@ -64,8 +62,7 @@ impl<S: Shape> Sessions<S> {
 
     /// Sets the value, whatever was found.
     pub fn add<R: Wait>(&self, rt: &R, caller: &mut Caller<S>, key: &S::Key, value: u64) -> Reply
-        requires own { caller.old.seat.row ≡ self.now.row }
-        requires free { caller.old.seat.view.holds ≡ nothing_held }
+        requires idle { IsIdle self.now.row caller.old.seat }
         requires storable { value ≢ free_mark }
         ensures { TellsUpdate ⟦<S as Shape>⟧ caller.old.seat caller.new.seat key.now (λ _. Set value) result }
     {
@@ -80,8 +77,7 @@ impl<S: Shape> Sessions<S> {
         key: &S::Key,
         value: u64,
     ) -> Reply
-        requires own { caller.old.seat.row ≡ self.now.row }
-        requires free { caller.old.seat.view.holds ≡ nothing_held }
+        requires idle { IsIdle self.now.row caller.old.seat }
         requires storable { value ≢ free_mark }
         ensures { TellsUpdate ⟦<S as Shape>⟧ caller.old.seat caller.new.seat key.now (set_if_absent value) result }
     {
@@ -90,8 +86,7 @@ impl<S: Shape> Sessions<S> {
 
     /// Sets the value where there is one.
     pub fn touch<R: Wait>(&self, rt: &R, caller: &mut Caller<S>, key: &S::Key, value: u64) -> Reply
-        requires own { caller.old.seat.row ≡ self.now.row }
-        requires free { caller.old.seat.view.holds ≡ nothing_held }
+        requires idle { IsIdle self.now.row caller.old.seat }
         requires storable { value ≢ free_mark }
         ensures { TellsUpdate ⟦<S as Shape>⟧ caller.old.seat caller.new.seat key.now (set_if_present value) result }
     {
@@ -100,8 +95,7 @@ impl<S: Shape> Sessions<S> {
 
     /// Removes the value.
     pub fn remove<R: Wait>(&self, rt: &R, caller: &mut Caller<S>, key: &S::Key) -> Reply
-        requires own { caller.old.seat.row ≡ self.now.row }
-        requires free { caller.old.seat.view.holds ≡ nothing_held }
+        requires { IsIdle self.now.row caller.old.seat }
         ensures { TellsUpdate ⟦<S as Shape>⟧ caller.old.seat caller.new.seat key.now (λ _. Remove) result }
     {
         self.update(rt, caller, key, &Delete)

@@ -6,7 +6,7 @@ use Rattle.bihash_words.specs.declared.patch.Reply.{Reply}
 use Rattle.bihash_words.specs.declared.patch.Reply.TheVariants.{Changed, Full, Kept, NoPages, Worn}
 use Rattle.bihash_words.specs.declared.recycling.Recycling.{Recycling}
 use Rattle.bihash_words.specs.Refusals.{IsNoRefusal}
-use Rattle.bihash_words.specs.Maps.{Answers, AnswersFull, Bounds, NoRoom, NewKey, Event, WornOut, Unchanged, Pairs, OldKey, Case, IsEvent, changed, effect_of, case_with, removed_in, spare, asked, HasExpiry}
+use Rattle.bihash_words.specs.Maps.{Answers, AnswersFull, Bounds, NoRoom, NewKey, Event, WornOut, Unchanged, Pairs, OldKey, Case, IsEvent, changed, effect_of, case_with, removed_in, spare, expired_told, HasExpiry}
 
 abbrev event : List ℕ → Option ℕ → Change → Reply → Recycling → Event
 event key found change reply recycling = record { key = key; found = found; change = change; reply = reply; recycling = recycling }
@@ -27,7 +27,7 @@ borne OldKey words = []
 
 -- an answer in this case that removes this key
 abbrev IsSomeAnswer : Case → Bounds → Pairs → List ℕ → Option ℕ → Change → List ℕ → Option (List ℕ) → Reply → Pairs → Type 0
-IsSomeAnswer r b m key found change words removed reply n = IsNoRefusal reply × (borne r words ≡ asked removed reply words)
+IsSomeAnswer r b m key found change words removed reply n = IsNoRefusal reply × (borne r words ≡ expired_told removed reply words)
     × Answers r b m (event key found change reply (recycled (borne r words) removed)) n
 
 full_answer : (removed : Option (List ℕ)) (b : Bounds) (m : Pairs) (key : List ℕ) (found : Option ℕ) (change : Change)
@@ -46,19 +46,19 @@ some_answer OldKey b m key found change words = (Changed found, changed m key ch
 
 -- what a call bears goes with its case
 full_bears : (removed : Option (List ℕ)) (m n : Pairs) (e : Event) (words : List ℕ) → AnswersFull removed m e n
-    → asked removed e.reply words ≡ words
-full_bears None m n e words h = ap (λ r. asked None r words) h.0
+    → expired_told removed e.reply words ≡ words
+full_bears None m n e words h = ap (λ r. expired_told None r words) h.0
 full_bears (Some gone) m n e words h = refl
 
 bears : (r : Case) (b : Bounds) (m n : Pairs) (e : Event) (words : List ℕ)
     → e.recycling.removed ≡ removed_in r m e.recycling.expired → HasExpiry words e → Answers r b m e n
     → e.recycling.expired ≡ borne r words
-bears Unchanged b m n e words none is h = is ∙ (λ i. asked (none i) (h.0 i) words)
-bears WornOut b m n e words none is h = is ∙ (λ i. asked (none i) (h.0 i) words)
+bears Unchanged b m n e words none is h = is ∙ (λ i. expired_told (none i) (h.0 i) words)
+bears WornOut b m n e words none is h = is ∙ (λ i. expired_told (none i) (h.0 i) words)
 bears NoRoom b m n e words none is h = is ∙ full_bears e.recycling.removed m n e words h
-bears NewKey b m n e words none is (inl h) = is ∙ (λ i. asked (none i) (h.0 i) words)
-bears NewKey b m n e words none is (inr h) = is ∙ (λ i. asked (none i) (h.0.2 i) words)
-bears OldKey b m n e words none is h = is ∙ (λ i. asked (none i) (h.0 i) words)
+bears NewKey b m n e words none is (inl h) = is ∙ (λ i. expired_told (none i) (h.0 i) words)
+bears NewKey b m n e words none is (inr h) = is ∙ (λ i. expired_told (none i) (h.0.2 i) words)
+bears OldKey b m n e words none is h = is ∙ (λ i. expired_told (none i) (h.0 i) words)
 
 one_full : (removed : Option (List ℕ)) (m n o : Pairs) (key : List ℕ) (found : Option ℕ) (change : Change) (reply other : Reply)
     (recycling : Recycling) → AnswersFull removed m (event key found change reply recycling) n
@@ -81,7 +81,7 @@ one_answer OldKey b m n o key found change reply other recycling paged paged' h 
 -- a call of a key that decides by what it finds has an answer
 pub some_call : (b : Bounds) (m : Pairs) (w : ℕ) (key : List ℕ) (decision : Option ℕ → Change) (words : List ℕ)
     → (reply : Reply) × (recycling : Recycling) × (n : Pairs) × IsNoRefusal reply
-    × (recycling.expired ≡ asked recycling.removed reply words)
+    × (recycling.expired ≡ expired_told recycling.removed reply words)
     × IsEvent b m w (record {
       key = key;
       found = get m key;
@@ -133,7 +133,7 @@ one_call b m n o w decision words e f keys decided decided' has has' paged paged
     (same ∙ ap (λ k. event k f.found f.change f.reply f.recycling) keys, both.1)
 
 -- a call bears nothing where nothing counts as expired
-pub asks_nothing : (removed : Option (List ℕ)) (reply : Reply) → asked removed reply [] ≡ []
+pub asks_nothing : (removed : Option (List ℕ)) (reply : Reply) → expired_told removed reply [] ≡ []
 asks_nothing (Some gone) reply = refl
 asks_nothing None (Kept found) = refl
 asks_nothing None (Changed found) = refl

@@ -133,14 +133,14 @@ pub record IsEvent (b : Bounds) (m : Pairs) (w : ℕ) (e : Event) (m' : Pairs) :
 
 -- The words that an entry bears as expired ones, where the call has an expiry that counts these: they are told where
 -- it was asked, for a new key that found no room.
-abbrev pub asked : Option (List ℕ) → Reply → List ℕ → List ℕ
-asked (Some gone) reply expired = expired
-asked None (Kept found) expired = []
-asked None (Changed found) expired = []
-asked None (Worn found) expired = []
-asked None Full expired = expired
-asked None (NoPages log2 left) expired = []
+abbrev pub expired_told : Option (List ℕ) → Reply → List ℕ → List ℕ
+expired_told (Some gone) reply expired = expired
+expired_told None (Kept found) expired = []
+expired_told None (Changed found) expired = []
+expired_told None (Worn found) expired = []
+expired_told None Full expired = expired
+expired_told None (NoPages log2 left) expired = []
 
 -- the call has an expiry that counts these words as expired; it counts none where it has no expiry
 abbrev pub HasExpiry : List ℕ → Event → Type 0
-HasExpiry expired e = e.recycling.expired ≡ asked e.recycling.removed e.reply expired
+HasExpiry expired e = e.recycling.expired ≡ expired_told e.recycling.removed e.reply expired

@@ -15,7 +15,7 @@ pub record Bucket : Type 0 where
   pub version : ℕ
 
 -- each field fits its bits
-pub record Fits (b : Bucket) : Type 0 where
+pub record FitsWord (b : Bucket) : Type 0 where
   pub page : b.page < 2 ^ 24
   pub log2 : b.log2 < 2 ^ 5
   pub version : b.version < 2 ^ 33

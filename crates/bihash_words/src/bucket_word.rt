@@ -1,6 +1,6 @@
 //! The word of a bucket: what one load tells of its block, its lock and its version.
 ghost use Rattle.std.specs.Prelude.{◌≡◌, ◌<◌, ◌+◌, ◌-◌, ◌^◌, true, false};
-ghost use Rattle.bihash_words.specs.Words.{Bucket, Fits, packed, version_of};
+ghost use Rattle.bihash_words.specs.Words.{Bucket, FitsWord, packed, version_of};
 
 use crate::block_size::BlockSize;
 use std::marker::Model;
@@ -49,28 +49,28 @@ impl BucketWord {
 
     /// The number of the block's first page, 0 where the bucket has no block.
     pub fn page(self) -> u64
-        ensures { (b : Bucket) → Fits b → self ≡ packed b → result ≡ b.page }
+        ensures { (b : Bucket) → FitsWord b → self ≡ packed b → result ≡ b.page }
     {
         self.0 & 0xff_ffff
     }
 
     /// The log2 of the block's pages.
     pub fn log2(self) -> u64
-        ensures { (b : Bucket) → Fits b → self ≡ packed b → result ≡ b.log2 }
+        ensures { (b : Bucket) → FitsWord b → self ≡ packed b → result ≡ b.log2 }
     {
         (self.0 >> 24) & 31
     }
 
     /// Whether any place of the block may hold any key of the bucket.
     pub fn linear(self) -> bool
-        ensures { (b : Bucket) → Fits b → self ≡ packed b → result ≡ b.linear }
+        ensures { (b : Bucket) → FitsWord b → self ≡ packed b → result ≡ b.linear }
     {
         (self.0 >> 29) & 1 == 1
     }
 
     /// The size of the block, and whether it is linear.
     pub fn block_size(self) -> BlockSize
-        ensures { (b : Bucket) → Fits b → self ≡ packed b → result ≡ record { log2 = b.log2; linear = b.linear } }
+        ensures { (b : Bucket) → FitsWord b → self ≡ packed b → result ≡ record { log2 = b.log2; linear = b.linear } }
     {
         BlockSize {
             log2: self.log2(),
@@ -80,21 +80,21 @@ impl BucketWord {
 
     /// Whether a writer holds the bucket.
     pub fn locked(self) -> bool
-        ensures { (b : Bucket) → Fits b → self ≡ packed b → result ≡ b.locked }
+        ensures { (b : Bucket) → FitsWord b → self ≡ packed b → result ≡ b.locked }
     {
         (self.0 >> 30) & 1 == 1
     }
 
     /// How often the bucket's map was changed.
     pub fn version(self) -> u64
-        ensures { (b : Bucket) → Fits b → self ≡ packed b → result ≡ b.version }
+        ensures { (b : Bucket) → FitsWord b → self ≡ packed b → result ≡ b.version }
     {
         self.0 >> 31
     }
 
     /// The same word with its lock bit set.
     pub fn with_lock(self) -> BucketWord
-        ensures { (b : Bucket) → Fits b → self ≡ packed b → result ≡ packed (record b { locked = true }) }
+        ensures { (b : Bucket) → FitsWord b → self ≡ packed b → result ≡ packed (record b { locked = true }) }
     {
         if (self.0 >> 30) & 1 == 1 {
             return self;
@@ -107,7 +107,7 @@ impl BucketWord {
         requires page { page < 2 ^ 24 }
         requires log2 { size.log2 < 2 ^ 5 }
         requires version { version_of self < 2 ^ 33 - 1 }
-        ensures { (b : Bucket) → Fits b → self ≡ packed b
+        ensures { (b : Bucket) → FitsWord b → self ≡ packed b
             → result ≡ packed (record { page = page; log2 = size.log2; linear = size.linear; locked = false; version = b.version + 1 }) }
     {
         let version = self.0 >> 31;

@@ -2,7 +2,7 @@
 ghost use Rattle.std.specs.Prelude.{◌≡◌, ◌≤◌, ◌<◌, ◌^◌, ℕ, slice_index};
 ghost use Rattle.bihash_words.specs.Hash.{hash_of, mix};
 ghost use Rattle.bihash_words.specs.Sizes.{IsSound, sizes_of};
-ghost use Rattle.bihash_words.specs.Words.{Bucket, Fits, packed};
+ghost use Rattle.bihash_words.specs.Words.{Bucket, FitsWord, packed};
 
 use crate::flow_shapes::{ShapeV4, ShapeV6};
 use crate::shape::Shape;
@@ -60,8 +60,8 @@ pub fn tiny_is_sound<const P: u64, const L: u64>()
 
 /// A word holds one bucket's fields, and every word some bucket's.
 pub fn words_pack_exactly()
-    ensures once { (a b : Bucket) → Fits a → Fits b → packed a ≡ packed b → a ≡ b }
-    ensures each { (word : ℕ) → word < 2 ^ 64 → (b : Bucket) × Fits b × (word ≡ packed b) }
+    ensures once { (a b : Bucket) → FitsWord a → FitsWord b → packed a ≡ packed b → a ≡ b }
+    ensures each { (word : ℕ) → word < 2 ^ 64 → (b : Bucket) × FitsWord b × (word ≡ packed b) }
 {}
 
 /// The published values of the mixing step.

@@ -2,7 +2,7 @@
 ghost use Rattle.std.specs.Prelude.{◌≡◌, ◌≢◌, ◌<◌, ◌≤◌, ◌↔◌, ◌++◌, ◌^◌, ℕ, Bool, false, List, Option, Some, None};
 ghost use Rattle.std.specs.FinMap.{get, len};
 ghost use Rattle.bihash_words.specs.Expiries.{expired_words, is_among};
-ghost use Rattle.bihash_words.specs.Maps.{Bounds, Event, Pairs, IsEvent, IsSpare, HasExpiry, asked, found_by, most_pairs, spare};
+ghost use Rattle.bihash_words.specs.Maps.{Bounds, Event, Pairs, IsEvent, IsSpare, HasExpiry, expired_told, found_by, most_pairs, spare};
 ghost use Rattle.bihash_words.specs.Refusals.{IsNoRefusal, IsTaken};
 ghost use Rattle.bihash_words.specs.Runs.{IsRun};
 ghost use Rattle.bihash_words.specs.declared.patch.Change.{Change};
@@ -62,7 +62,7 @@ pub fn runs_join_and_part()
 pub fn each_call_has_one_answer()
     ensures some { (b : Bounds) (m : Pairs) (w : ℕ) (key : List ℕ) (decision : Option ℕ → Change) (expired : List ℕ)
         → (reply : Reply) × (recycling : Recycling) × (n : Pairs) × IsNoRefusal reply
-        × (recycling.expired ≡ asked recycling.removed reply expired)
+        × (recycling.expired ≡ expired_told recycling.removed reply expired)
         × IsEvent b m w (record {
           key = key;
           found = get m key;

@@ -8,7 +8,7 @@ use Rattle.packet_view.specs.CheckedCaptures.{records_of}
 use Rattle.packet_view.specs.declared.capture.Order.{Order}
 use Rattle.packet_view.specs.declared.front.Stop.{Stop}
 use Rattle.packet_view.specs.declared.front.Stop.TheVariants.{End, TooLong, Truncated}
-use Rattle.packet_view.specs.declared.packets.Packets.TheVariants.{Standing}
+use Rattle.packet_view.specs.declared.packets.Packets.TheVariants as kind
 use Rattle.packet_view.specs.declared.records.Records.{Records}
 use Rattle.packet_view.proofs.FrontLemmas.{records_appended, records_joined}
 use Rattle.packet_view.proofs.RecordLemmas.{number_from-append}
@@ -69,7 +69,7 @@ front_few Became walk may =
     omega arith
 
 pub front_follow : {J : Type 0} (Became : J → List PacketFacts → J → Type 0) (walk : Walk J) (records : Records) → MayAdvance Became walk
-    → records_of records ≡ records_ahead walk → CanFollow Became walk.judges (Standing records)
+    → records_of records ≡ records_ahead walk → CanFollow Became walk.judges (kind.Records records)
 front_follow Became walk records may same =
     let count = packets_count walk.order walk.found.count (ahead_of walk) in
     let size = ap length same in

@@ -1,3 +1,3 @@
 pub mod Found
-pub mod Parts
 pub mod Walks
+pub mod Windows

@@ -1,7 +1,7 @@
 //! Who judges packets.
 ghost use Rattle.std.specs.Prelude.{IfOk, List};
 ghost use Rattle.packet_view.specs.Captures.{PacketFacts};
-ghost use Rattle.packet_view.specs.CheckedCaptures.{held};
+ghost use Rattle.packet_view.specs.CheckedCaptures.{remaining};
 ghost use Rattle.capture_stream.specs.Judging.{CanFollow, HaveFollowed};
 
 use packet_view::Packets;
@@ -15,5 +15,5 @@ pub trait Judges {
     /// Those who judged these packets too, which follow the ones so far. An error says that memory was refused.
     fn judge(self, packets: Packets<'_>) -> Result<Self, AllocError>
         requires { CanFollow became self packets }
-        ensures { IfOk result (HaveFollowed became self (held packets.entry)) };
+        ensures { IfOk result (HaveFollowed became self (remaining packets.entry)) };
 }

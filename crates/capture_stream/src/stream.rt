@@ -141,7 +141,7 @@ fn last_window<J: Judges + Drop>(walk: Walk<J>) -> Result<Streamed<J>, Fault>
         interface: 0,
         count: found.count,
     };
-    let judges = judges.judge(Packets::Standing(records))?;
+    let judges = judges.judge(Packets::Records(records))?;
     Ok(Streamed { judges, truncated })
 }
 

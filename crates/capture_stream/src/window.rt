@@ -1,10 +1,10 @@
 //! One window of a capture, and the next one.
 ghost use Rattle.std.specs.Prelude.{◌≤◌, IfOk};
 ghost use Rattle.packet_view.specs.CheckedCaptures.{packets_of};
-ghost use Rattle.packet_view.specs.declared.packets.Packets.TheVariants.{Standing};
+ghost use Rattle.packet_view.specs.declared.packets.Packets.TheVariants as kind;
 ghost use Rattle.capture_stream.specs.Judging.{CanFollow, HaveFollowed};
 ghost use Rattle.capture_stream.specs.inner.Found.{HaveFound};
-ghost use Rattle.capture_stream.specs.inner.Parts.{CanJudge, HasReadMore, HaveJudged, MayRead};
+ghost use Rattle.capture_stream.specs.inner.Windows.{CanJudge, HasReadMore, HaveJudged, MayRead};
 
 use crate::judges::Judges;
 use packet_view::{Front, Order, Packets, Records, Stop, front_records};
@@ -15,21 +15,21 @@ use std::thread::{Threads, join_mut};
 
 // Those who are to judge packets, or what they answered.
 #[derive(Drop)]
-enum Part<J> {
+enum WindowJudges<J> {
     Ahead(J),
     Under,
     Over(Result<J, AllocError>),
 }
 
 // Those who are ahead of these packets judge them.
-fn judge_part<J: Judges + Drop>(part: &mut Part<J>, records: Records<'_>)
-    requires { CanJudge J.became part.old (Standing records) }
-    ensures { HaveJudged J.became part.old (packets_of records.entry) part.new }
+fn judge_window<J: Judges + Drop>(judging: &mut WindowJudges<J>, records: Records<'_>)
+    requires { CanJudge J.became judging.old (kind.Records records) }
+    ensures { HaveJudged J.became judging.old (packets_of records.entry) judging.new }
 {
-    let Part::Ahead(judges) = mem::replace(part, Part::Under) else {
+    let WindowJudges::Ahead(judges) = mem::replace(judging, WindowJudges::Under) else {
         unreachable!()
     };
-    *part = Part::Over(judges.judge(Packets::Standing(records)));
+    *judging = WindowJudges::Over(judges.judge(Packets::Records(records)));
 }
 
 /// How many bytes a window gets beside those that the one before left, at least and at most, while the input has more.
@@ -117,17 +117,17 @@ pub fn judge_and_read<J: Judges + Drop, T: Threads, R: Source + Send>(
     next: &mut Vec<u8>,
     least: usize,
 ) -> (Result<J, AllocError>, Result<NextWindow, Fault>)
-    requires can { CanFollow J.became judges (Standing records) }
+    requires can { CanFollow J.became judges (kind.Records records) }
     requires may { MayRead (R.failures reader.old) least }
     ensures judged { IfOk result.0 (HaveFollowed J.became judges (packets_of records.entry)) }
     ensures read { HasReadMore R.bytes R.failures reader.old reader.new next.old.items next.new.items least records.entry.order result.1 }
 {
     let order = records.order;
     let Some(rt) = beside else {
-        let judged = judges.judge(Packets::Standing(records));
+        let judged = judges.judge(Packets::Records(records));
         return (judged, read_and_find(reader, next, least, order));
     };
-    let mut part = Part::Ahead(judges);
+    let mut judging = WindowJudges::Ahead(judges);
     let (read, ()) = join_mut(
         rt,
         &mut ||
@@ -135,15 +135,15 @@ pub fn judge_and_read<J: Judges + Drop, T: Threads, R: Source + Send>(
             ensures { HasReadMore R.bytes R.failures reader.entry.now reader.exit.now next.entry.now.items next.exit.now.items least order result }
         { read_and_find(reader, next, least, order) },
         &mut ||
-            requires { CanJudge J.became part (Standing records) }
-            ensures { HaveJudged J.became part.entry (packets_of records.entry) part.exit }
+            requires { CanJudge J.became judging (kind.Records records) }
+            ensures { HaveJudged J.became judging.entry (packets_of records.entry) judging.exit }
         {
-            judge_part(&mut part, records);
+            judge_window(&mut judging, records);
         },
     );
-    match part {
-        Part::Over(judged) => (judged, read),
-        Part::Ahead(_judges) => unreachable!(),
-        Part::Under => unreachable!(),
+    match judging {
+        WindowJudges::Over(judged) => (judged, read),
+        WindowJudges::Ahead(_judges) => unreachable!(),
+        WindowJudges::Under => unreachable!(),
     }
 }

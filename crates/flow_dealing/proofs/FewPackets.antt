@@ -36,10 +36,10 @@ use Rattle.flow_filter.specs.Judged.{IsAsked, Judged, readings_of, verdict_on}
 use Rattle.flow_filter.specs.OneThread.{HasPages, family_of, same_family, sizes_in}
 use Rattle.flow_filter.proofs.HomeLemmas.{family_as_itself, families_are_one}
 use Rattle.flow_dealing.specs.Views.{view_in}
-use Rattle.flow_dealing.specs.Dealings.{Deal, flow_in, worker_of}
-use Rattle.flow_dealing.specs.Runs.{AreFew, AreJudged, AreRecorded, HasPagesIn, HavePages, add_in, events_by, is_in, keyed}
-use Rattle.flow_dealing.proofs.Counting.{IsLabelled, at_least, sum_at, sum_one, sum_zero}
-use Rattle.flow_dealing.proofs.Merging.{events_by-cons, events_by-nil}
+use Rattle.flow_dealing.specs.Dealings.{Deal, flow_of_reading, worker_of}
+use Rattle.flow_dealing.specs.WorkerRecords.{AreFew, AreJudged, AreRecorded, HasPagesIn, HavePages, add_in, events_by, is_in, keyed}
+use Rattle.flow_dealing.proofs.ListCounts.{IsLabelled, at_least, sum_at, sum_one, sum_zero}
+use Rattle.flow_dealing.proofs.TraceMerges.{events_by-cons, events_by-nil}
 use Rattle.flow_dealing.proofs.PacketCalls.{IsFlowEvent, asked_flow, call_of_packet}
 use Rattle.flow_dealing.proofs.Places.{after_map, all_at, all_from, at_front}
 use Rattle.flow_dealing.proofs.Refusals.{paged_is_told, wants}
@@ -132,7 +132,7 @@ module _ (d : Deal) (times : Timeouts) (family : Family) where
   its_count n js w = length (events_by d times family w n js)
 
   one_packet : (n : ℕ) (j : Judged) (js : List Judged) (w : ℕ) → its_count n (j ∷ js) w
-      ≤ cond (worker_of d n (flow_in j.reading) == w)
+      ≤ cond (worker_of d n (flow_of_reading j.reading) == w)
       (its_count (n + 1) js w + cond (is_in family (update_of times j.reading)) 1 0) (its_count (n + 1) js w)
   one_packet n j js w =
       subst (λ es. length es ≤ cond test (its_count (n + 1) js w + cond (is_in family (update_of times j.reading)) 1 0)
@@ -140,7 +140,7 @@ module _ (d : Deal) (times : Timeouts) (family : Family) where
       (sym (events_by-cons d times family w n j js)) (go test)
     where
       test : Bool
-      test = worker_of d n (flow_in j.reading) == w
+      test = worker_of d n (flow_of_reading j.reading) == w
 
       E : List Event
       E = events_by d times family w (n + 1) js
@@ -156,7 +156,7 @@ module _ (d : Deal) (times : Timeouts) (family : Family) where
   no_more_events w workers n (j ∷ js) =
       let x : ℕ = cond (is_in family (update_of times j.reading)) 1 0 in
       let one =
-      sum_one (worker_of d n (flow_in j.reading)) x (its_count (n + 1) js) (its_count n (j ∷ js))
+      sum_one (worker_of d n (flow_of_reading j.reading)) x (its_count (n + 1) js) (its_count n (j ∷ js))
       (one_packet n j js) w workers in
       let more = no_more_events w workers (n + 1) js in
       let all : keyed times family (j ∷ js) ≡ x + keyed times family js =
@@ -174,7 +174,7 @@ module _ (d : Deal) (times : Timeouts) (family : Family) where
 
   -- the flow of a packet of the family
   pub flow_inside : (reading : Reading) → is_in family (update_of times reading) ≡ true
-      → (flow : Flow) × (flow_in reading ≡ Some flow) × (family_of flow.key ≡ family)
+      → (flow : Flow) × (flow_of_reading reading ≡ Some flow) × (family_of flow.key ≡ family)
   flow_inside (Framed said) is = let f : ⊥ = cc in absurd f
   flow_inside (Ruled moment tuple ruling) is = go (flow_of tuple) is
     where
@@ -183,7 +183,7 @@ module _ (d : Deal) (times : Timeouts) (family : Family) where
       go None clash = let f : ⊥ = cc in absurd f
       go (Some flow) same = (flow, refl, sym (families_are_one family (family_of flow.key) same))
 
-inside_flow : (times : Timeouts) (reading : Reading) (flow : Flow) → flow_in reading ≡ Some flow
+inside_flow : (times : Timeouts) (reading : Reading) (flow : Flow) → flow_of_reading reading ≡ Some flow
     → is_in (family_of flow.key) (update_of times reading) ≡ true
 inside_flow times (Framed said) flow has = let f : ⊥ = cc in absurd f
 inside_flow times (Ruled moment tuple ruling) flow has =
@@ -265,9 +265,9 @@ verdicts_for_few d times policy packets verdicts are few =
     told_else d times policy packets verdicts are k j at (λ e its. has_pages k j at e its))))
   where
     has_pages : (k : ℕ) (j : Judged) → get_elem? are.judged k ≡ some j → HasPages j
-    has_pages k j at e its = go (flow_in j.reading) refl
+    has_pages k j at e its = go (flow_of_reading j.reading) refl
       where
-        go : (f : Option Flow) → flow_in j.reading ≡ f → IsNoRefusal e.reply
+        go : (f : Option Flow) → flow_of_reading j.reading ≡ f → IsNoRefusal e.reply
         go None is =
             let none : j.event ≡ None =
             subst (λ f. IsFlowEvent f j.event) is

@@ -1,9 +1,9 @@
-pub mod Counting
 pub mod FewPackets
-pub mod Merging
+pub mod ListCounts
 pub mod OneOwner
 pub mod OneReport
 pub mod PacketCalls
 pub mod Passing
 pub mod Places
 pub mod Refusals
+pub mod TraceMerges

@@ -20,7 +20,7 @@ use Rattle.bihash_steps.specs.declared.view.Call.{Call}
 use Rattle.bihash_steps.specs.declared.view.Record.{Record}
 use Rattle.bihash_steps.specs.declared.view.View.{View}
 use Rattle.bihash_steps.proofs.Lists.{there}
-use Rattle.bihash_laws.specs.Runs.{IsOneWriter, calls_on}
+use Rattle.bihash_laws.specs.CallRuns.{IsOneWriter, calls_on}
 use Rattle.bihash_laws.proofs.OneWriter.{one_map}
 use Rattle.session_state.specs.declared.flow.Flow.{Flow}
 use Rattle.session_state.specs.declared.timeouts.Timeouts.{Timeouts}
@@ -30,9 +30,9 @@ use Rattle.flow_filter.specs.OneThread.{Home, bounds_in, events_at, family_of, h
 use Rattle.flow_filter.proofs.HomeLemmas.{families_are_one}
 use Rattle.flow_dealing.specs.declared.dealing.Dealing.{Dealing}
 use Rattle.flow_dealing.specs.declared.dealing.Dealing.TheVariants.{Bucket}
-use Rattle.flow_dealing.specs.Dealings.{Deal, flow_in, worker_by, worker_of}
-use Rattle.flow_dealing.specs.Runs.{AreRecorded, events_by}
-use Rattle.flow_dealing.proofs.Merging.{events_by-nil, worker_few}
+use Rattle.flow_dealing.specs.Dealings.{Deal, flow_of_reading, worker_of}
+use Rattle.flow_dealing.specs.WorkerRecords.{AreRecorded, events_by}
+use Rattle.flow_dealing.proofs.TraceMerges.{events_by-nil, worker_few}
 use Rattle.flow_dealing.proofs.Places.{after_map}
 use Rattle.flow_dealing.proofs.PacketCalls.{IsFlowEvent, add_event-flow, add_flow, add_flow_at, asked_flow, events_by-flow, packet_of_event, some_worker}
 use Rattle.flow_dealing.proofs.Refusals.{legal_call}
@@ -50,7 +50,7 @@ owner d home some_worker (inl by_bucket) = (
   home.bucket % d.workers,
   record {
     few = mod-lt home.bucket some_worker;
-    each = λ number flow is. ap (λ (g : Dealing). worker_by g d.layout d.workers number (Some flow)) by_bucket
+    each = λ number flow is. ap (λ (g : Dealing). worker_of (record d { dealing = g }) number (Some flow)) by_bucket
         ∙ ap (λ (h : Home). h.bucket % d.workers) is;
   },
 )
@@ -161,7 +161,7 @@ module _ (d : Deal) (times : Timeouts) (family : Family) (b w : ℕ)
   its_events n [] asked = ap (events_on z b) (events_by-nil d times family w n)
   its_events n (j ∷ js) asked =
       ap (events_on z b) (events_by-flow d times family w n j js)
-      ∙ (one_more n (flow_in j.reading) j.event (events_by d times family w (n + 1) js)
+      ∙ (one_more n (flow_of_reading j.reading) j.event (events_by d times family w (n + 1) js)
       (events_at d.layout times home js)
       (asked_flow times j (All-head (IsAsked times) j js asked))
       (its_events (n + 1) js (All-tail (IsAsked times) j js asked))

@@ -16,8 +16,8 @@ use Rattle.flow_filter.specs.Judged.{IsAsked, Judged, verdict_on}
 use Rattle.flow_filter.specs.OneThread.{AreVerdicts, HasPages, family_of, sizes_in}
 use Rattle.flow_dealing.specs.declared.dealing.Dealing.TheVariants.{Bucket}
 use Rattle.flow_dealing.specs.Views.{view_in}
-use Rattle.flow_dealing.specs.Dealings.{Deal, flow_in, worker_of}
-use Rattle.flow_dealing.specs.Runs.{AreJudged, HavePages}
+use Rattle.flow_dealing.specs.Dealings.{Deal, flow_of_reading, worker_of}
+use Rattle.flow_dealing.specs.WorkerRecords.{AreJudged, HavePages}
 use Rattle.flow_dealing.proofs.OneOwner.{owner, runs_at}
 use Rattle.flow_dealing.proofs.PacketCalls.{IsFlowEvent, asked_flow, call_of_packet, some_worker}
 use Rattle.flow_dealing.proofs.Places.{after_map, all_at, all_from}
@@ -28,12 +28,12 @@ module _ (d : Deal) (times : Timeouts) (policy : PolicyFacts) (packets : List Pa
   -- a packet whose event was refused for want of pages is told so
   refused : (k : ℕ) (j : Judged) (e : Event) (log2 left : ℕ) → get_elem? are.judged k ≡ some j → j.event ≡ Some e
       → e.reply ≡ reply.NoPages log2 left → verdict_on times j ≡ verdict.NoPages
-  refused k j e log2 left at its short = go (flow_in j.reading) refl
+  refused k j e log2 left at its short = go (flow_of_reading j.reading) refl
     where
       asked : IsAsked times j
       asked = all_at (IsAsked times) are.judged k j are.asked at
 
-      go : (f : Option Flow) → flow_in j.reading ≡ f → verdict_on times j ≡ verdict.NoPages
+      go : (f : Option Flow) → flow_of_reading j.reading ≡ f → verdict_on times j ≡ verdict.NoPages
       go None is =
           let none : j.event ≡ None = subst (λ f. IsFlowEvent f j.event) is (asked_flow times j asked) in
           let clash = sym none ∙ its in let f : ⊥ = cc in absurd f

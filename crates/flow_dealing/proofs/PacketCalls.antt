@@ -20,9 +20,9 @@ use Rattle.flow_filter.specs.Updates.{update_in, update_of, words_of}
 use Rattle.flow_filter.specs.Judged.{AreAsked, IsAsked, IsAskedBy, Judged}
 use Rattle.flow_filter.specs.OneThread.{Home, Layout, add_event, family_of, home_of, same_family, same_home}
 use Rattle.flow_filter.proofs.HomeLemmas.{families_are_one, family_as_itself}
-use Rattle.flow_dealing.specs.Dealings.{Deal, flow_in, worker_of}
-use Rattle.flow_dealing.specs.Runs.{AreRecorded, add_in, events_by}
-use Rattle.flow_dealing.proofs.Merging.{events_by-cons, events_by-nil, worker_few}
+use Rattle.flow_dealing.specs.Dealings.{Deal, flow_of_reading, worker_of}
+use Rattle.flow_dealing.specs.WorkerRecords.{AreRecorded, add_in, events_by}
+use Rattle.flow_dealing.proofs.TraceMerges.{events_by-cons, events_by-nil, worker_few}
 use Rattle.flow_dealing.proofs.Places.{before_map}
 
 -- ---- A packet's event, by its flow
@@ -43,7 +43,7 @@ IsFlowEvent None event = event ≡ None
 IsFlowEvent (Some flow) event = (e : Event) × (event ≡ Some e) × (e.key ≡ words_of flow.key)
 
 add_in-flow : (family : Family) (times : Timeouts) (reading : Reading) (event : Option Event) (events : List Event)
-    → add_in family (update_of times reading) event events ≡ add_flow family (flow_in reading) event events
+    → add_in family (update_of times reading) event events ≡ add_flow family (flow_of_reading reading) event events
 add_in-flow family times (Framed verdict) event events = refl
 add_in-flow family times (Ruled moment tuple ruling) event events = go (flow_of tuple) event
   where
@@ -55,7 +55,7 @@ add_in-flow family times (Ruled moment tuple ruling) event events = go (flow_of 
 
 pub add_event-flow : (l : Layout) (home : Home) (times : Timeouts) (reading : Reading) (event : Option Event)
     (events : List Event)
-    → add_event l home (update_of times reading) event events ≡ add_flow_at l home (flow_in reading) event events
+    → add_event l home (update_of times reading) event events ≡ add_flow_at l home (flow_of_reading reading) event events
 add_event-flow l home times (Framed verdict) event events = refl
 add_event-flow l home times (Ruled moment tuple ruling) event events = go (flow_of tuple) event
   where
@@ -67,7 +67,7 @@ add_event-flow l home times (Ruled moment tuple ruling) event events = go (flow_
     go (Some flow) (Some e) = refl
 
 asked_in : (times : Timeouts) (reading : Reading) (event : Option Event) → IsAskedBy (update_of times reading) event
-    → IsFlowEvent (flow_in reading) event
+    → IsFlowEvent (flow_of_reading reading) event
 asked_in times (Framed verdict) event asked = asked
 asked_in times (Ruled moment tuple ruling) event asked = go (flow_of tuple) asked
   where
@@ -75,16 +75,16 @@ asked_in times (Ruled moment tuple ruling) event asked = go (flow_of tuple) aske
     go None a = a
     go (Some flow) a = (a.0, a.1, a.2.key)
 
-pub asked_flow : (times : Timeouts) (j : Judged) → IsAsked times j → IsFlowEvent (flow_in j.reading) j.event
+pub asked_flow : (times : Timeouts) (j : Judged) → IsAsked times j → IsFlowEvent (flow_of_reading j.reading) j.event
 asked_flow times j asked = asked_in times j.reading j.event asked
 
 -- a worker's events, whether the first packet is its own, by the packet's flow
 pub events_by-flow : (d : Deal) (times : Timeouts) (family : Family) (w n : ℕ) (j : Judged) (js : List Judged)
-    → events_by d times family w n (j ∷ js) ≡ cond (worker_of d n (flow_in j.reading) == w)
-    (add_flow family (flow_in j.reading) j.event (events_by d times family w (n + 1) js))
+    → events_by d times family w n (j ∷ js) ≡ cond (worker_of d n (flow_of_reading j.reading) == w)
+    (add_flow family (flow_of_reading j.reading) j.event (events_by d times family w (n + 1) js))
     (events_by d times family w (n + 1) js)
 events_by-flow d times family w n j js = events_by-cons d times family w n j js
-    ∙ ap (λ es. cond (worker_of d n (flow_in j.reading) == w) es (events_by d times family w (n + 1) js))
+    ∙ ap (λ es. cond (worker_of d n (flow_of_reading j.reading) == w) es (events_by d times family w (n + 1) js))
     (add_in-flow family times j.reading j.event (events_by d times family w (n + 1) js))
 
 module _ (d : Deal) (times : Timeouts) (family : Family) where
@@ -122,19 +122,19 @@ module _ (d : Deal) (times : Timeouts) (family : Family) where
       → get_elem? (events_by d times family w n js) k ≡ some e → IsFrom w e
   packet_of_event w n [] asked k e at =
       absurd (some-ne-none e (sym (ap (λ es. get_elem? es k) (sym (events_by-nil d times family w n)) ∙ at)))
-  packet_of_event w n (j ∷ js) asked k e at = elim (eqb_tells (worker_of d n (flow_in j.reading)) w) [
-    | inl (test, mine) ↦ from_first w n k (flow_in j.reading) j.event E e
+  packet_of_event w n (j ∷ js) asked k e at = elim (eqb_tells (worker_of d n (flow_of_reading j.reading)) w) [
+    | inl (test, mine) ↦ from_first w n k (flow_of_reading j.reading) j.event E e
         (asked_flow times j (All-head (IsAsked times) j js asked)) mine
-        (ap (λ b. get_elem? (cond b (add_flow family (flow_in j.reading) j.event E) E) k) (sym test) ∙ here)
+        (ap (λ b. get_elem? (cond b (add_flow family (flow_of_reading j.reading) j.event E) E) k) (sym test) ∙ here)
         (λ m there. packet_of_event w (n + 1) js (All-tail (IsAsked times) j js asked) m e there)
     | inr (test, other) ↦ packet_of_event w (n + 1) js (All-tail (IsAsked times) j js asked) k e
-        (ap (λ b. get_elem? (cond b (add_flow family (flow_in j.reading) j.event E) E) k) (sym test) ∙ here)
+        (ap (λ b. get_elem? (cond b (add_flow family (flow_of_reading j.reading) j.event E) E) k) (sym test) ∙ here)
   ]
     where
       E : List Event
       E = events_by d times family w (n + 1) js
 
-      here : get_elem? (cond (worker_of d n (flow_in j.reading) == w) (add_flow family (flow_in j.reading) j.event E) E)
+      here : get_elem? (cond (worker_of d n (flow_of_reading j.reading) == w) (add_flow family (flow_of_reading j.reading) j.event E) E)
           k ≡ some e
       here = ap (λ es. get_elem? es k) (sym (events_by-flow d times family w n j js)) ∙ at
 
@@ -155,22 +155,22 @@ module _ (d : Deal) (times : Timeouts) (family : Family) where
 
   pub event_of_packet : (w n : ℕ) (js : List Judged) (k : ℕ) (j : Judged) (flow : Flow) (e : Event)
       → get_elem? js k ≡ some j
-      → flow_in j.reading ≡ Some flow → family_of flow.key ≡ family → j.event ≡ Some e
+      → flow_of_reading j.reading ≡ Some flow → family_of flow.key ≡ family → j.event ≡ Some e
       → worker_of d (n + k) (Some flow) ≡ w → Stands (events_by d times family w n js) e
   event_of_packet w n [] k j flow e at has inside its mine = absurd (some-ne-none j (sym at))
   event_of_packet w n (x ∷ js) zero j flow e at has inside its mine =
       let same : x ≡ j = some-injective x j at in
-      let own : worker_of d n (flow_in x.reading) ≡ w = ap (λ (y : Judged). worker_of d n (flow_in y.reading)) same
+      let own : worker_of d n (flow_of_reading x.reading) ≡ w = ap (λ (y : Judged). worker_of d n (flow_of_reading y.reading)) same
       ∙ (ap (worker_of d n) has ∙ (let z : n ≡ n + 0 = omega arith in ap (λ m. worker_of d m (Some flow)) z ∙ mine)) in
       let E : List Event = events_by d times family w (n + 1) js in
-      let first : add_flow family (flow_in x.reading) x.event E ≡ e ∷ E =
-      ap₂ (λ f ev. add_flow family f ev E) (ap (λ (y : Judged). flow_in y.reading) same ∙ has)
+      let first : add_flow family (flow_of_reading x.reading) x.event E ≡ e ∷ E =
+      ap₂ (λ f ev. add_flow family f ev E) (ap (λ (y : Judged). flow_of_reading y.reading) same ∙ has)
       (ap (λ (y : Judged). y.event) same ∙ its)
       ∙ ap (λ (b : Bool). if b then e ∷ E else E) (ap (same_family family) inside ∙ family_as_itself family) in (
         0,
         ap (λ es. get_elem? es 0) (events_by-flow d times family w n x js)
-            ∙ (ap (λ (b : Bool). get_elem? (cond b (add_flow family (flow_in x.reading) x.event E) E) 0)
-            (elim (eqb_tells (worker_of d n (flow_in x.reading)) w) [
+            ∙ (ap (λ (b : Bool). get_elem? (cond b (add_flow family (flow_of_reading x.reading) x.event E) E) 0)
+            (elim (eqb_tells (worker_of d n (flow_of_reading x.reading)) w) [
               | inl (test, _) ↦ test
               | inr (test, other) ↦
                   absurd (other own)
@@ -179,15 +179,15 @@ module _ (d : Deal) (times : Timeouts) (family : Family) where
       )
   event_of_packet w n (x ∷ js) (suc k) j flow e at has inside its mine =
       subst (λ es. Stands es e) (sym (events_by-flow d times family w n x js))
-      (later (worker_of d n (flow_in x.reading) == w)
+      (later (worker_of d n (flow_of_reading x.reading) == w)
       (event_of_packet w (n + 1) js k j flow e at has inside its
       (let z : n + 1 + k ≡ n + suc k = omega arith in ap (λ m. worker_of d m (Some flow)) z ∙ mine)))
     where
       E : List Event
       E = events_by d times family w (n + 1) js
 
-      later : (b : Bool) → Stands E e → Stands (cond b (add_flow family (flow_in x.reading) x.event E) E) e
-      later true s = behind (flow_in x.reading) x.event E e s
+      later : (b : Bool) → Stands E e → Stands (cond b (add_flow family (flow_of_reading x.reading) x.event E) E) e
+      later true s = behind (flow_of_reading x.reading) x.event E e s
       later false s = s
 
   -- ---- The call of a packet
@@ -205,7 +205,7 @@ module _ (d : Deal) (times : Timeouts) (family : Family) where
     some_worker = let acts = recorded.lawful.acts in let count = recorded.count in omega arith
 
     pub call_of_packet : (k : ℕ) (j : Judged) (flow : Flow) (e : Event) → get_elem? js k ≡ some j
-        → flow_in j.reading ≡ Some flow → family_of flow.key ≡ family → j.event ≡ Some e
+        → flow_of_reading j.reading ≡ Some flow → family_of flow.key ≡ family → j.event ≡ Some e
         → IsCallFor v (worker_of d k (Some flow)) e
     call_of_packet k j flow e at has inside its =
         let w : ℕ = worker_of d k (Some flow) in

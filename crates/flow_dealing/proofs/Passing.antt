@@ -25,9 +25,9 @@ use Rattle.flow_filter.specs.Verdicts.{passes}
 use Rattle.flow_filter.proofs.HomeLemmas.{family_as_itself}
 use Rattle.flow_filter.proofs.PassingLemmas.{pass_by_reading}
 use Rattle.flow_dealing.specs.Views.{view_in}
-use Rattle.flow_dealing.specs.Dealings.{Deal, flow_in, worker_of}
+use Rattle.flow_dealing.specs.Dealings.{Deal, flow_of_reading, worker_of}
 use Rattle.flow_dealing.specs.Places.{HasPlace, PassesAtPlace}
-use Rattle.flow_dealing.specs.Runs.{AreJudged, is_in}
+use Rattle.flow_dealing.specs.WorkerRecords.{AreJudged, is_in}
 use Rattle.flow_dealing.proofs.FewPackets.{flow_inside}
 use Rattle.flow_dealing.proofs.PacketCalls.{call_of_packet}
 use Rattle.flow_dealing.proofs.Places.{all_at}
@@ -90,9 +90,9 @@ pass_at_place d times policy packets verdicts are k j moment tuple ruling u at r
     let inside : is_in family (update_of times j.reading) ≡ true = ap (is_in family) updates ∙ family_as_itself family in
     let (flow, has, home) = flow_inside d times family j.reading inside in
     let c = call_of_packet d times family are.judged v recorded k j flow e at has home its in
-    let own : worker_of d k (flow_in j.reading) ≡ worker_of d k (Some flow) = ap (worker_of d k) has in
+    let own : worker_of d k (flow_of_reading j.reading) ≡ worker_of d k (Some flow) = ap (worker_of d k) has in
     let stands = ap (get_elem? v.records) own ∙ c.stands in
-    let p = place_of (sizes_in d.layout family) v e (worker_of d k (flow_in j.reading)) c.place c.record_at c.call recorded.lawful
+    let p = place_of (sizes_in d.layout family) v e (worker_of d k (flow_of_reading j.reading)) c.place c.record_at c.call recorded.lawful
     stands c.called c.event in
     let there : Pairs = after (opening_at v.known c.call.bucket) (known_at v.known c.call.bucket) p.before in
     record {

@@ -33,7 +33,7 @@ use Rattle.flow_filter.specs.Updates.{Update, reflects, update_in, update_of}
 use Rattle.flow_filter.specs.Judged.{IsAskedBy, Judged, verdict_by_event, verdict_on, verdict_with}
 use Rattle.flow_filter.specs.Verdicts.{verdict_by, verdict_entered, verdict_of, verdict_of_rules, verdict_reflected}
 use Rattle.flow_filter.specs.OneThread.{HasPages}
-use Rattle.flow_dealing.specs.Dealings.{flow_in}
+use Rattle.flow_dealing.specs.Dealings.{flow_of_reading}
 
 -- ---- On the map
 
@@ -151,7 +151,7 @@ refused_is_told patch ruling starts found r log2 left is absent sure short =
 -- a packet whose event was refused for want of pages has that verdict
 pub refusal_is_verdict : (times : Timeouts) (reading : Reading) (event : Option Event) (flow : Flow) (e : Event)
     (b : Bounds) (log2 left : ℕ)
-    → flow_in reading ≡ Some flow → IsAskedBy (update_of times reading) event → event ≡ Some e
+    → flow_of_reading reading ≡ Some flow → IsAskedBy (update_of times reading) event → event ≡ Some e
     → IsWant b e.found e.change log2 left
     → e.reply ≡ reply.NoPages log2 left → verdict_with times reading event ≡ verdict.NoPages
 refusal_is_verdict times (Framed said) event flow e b log2 left has asked its want short = let f : ⊥ = cc in absurd f

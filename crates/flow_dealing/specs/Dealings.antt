@@ -19,21 +19,22 @@ abbrev pub worker_by_bucket : Layout → ℕ → Option Flow → ℕ
 worker_by_bucket l workers None = 0
 worker_by_bucket l workers (Some flow) = (home_of l flow.key).bucket % workers
 
-abbrev pub worker_by : Dealing → Layout → ℕ → ℕ → Option Flow → ℕ
-worker_by Round l workers number flow = number % workers
-worker_by Bucket l workers number flow = worker_by_bucket l workers flow
+-- of so many workers, the one of the packet with this number and this flow, or none
+abbrev pub worker_by_dealing : Dealing → Layout → ℕ → ℕ → Option Flow → ℕ
+worker_by_dealing Round l workers number flow = number % workers
+worker_by_dealing Bucket l workers number flow = worker_by_bucket l workers flow
 
 -- the worker of the packet with this number, from 0, and this flow, or none
 abbrev pub worker_of : Deal → ℕ → Option Flow → ℕ
-worker_of d number flow = worker_by d.dealing d.layout d.workers number flow
+worker_of d number flow = worker_by_dealing d.dealing d.layout d.workers number flow
 
 -- the flow of a packet
-abbrev pub flow_in : Reading → Option Flow
-flow_in (Framed verdict) = None
-flow_in (Ruled moment tuple ruling) = flow_of tuple
+abbrev pub flow_of_reading : Reading → Option Flow
+flow_of_reading (Framed verdict) = None
+flow_of_reading (Ruled moment tuple ruling) = flow_of tuple
 
-abbrev pub flow_shown : frames.FrameFacts → Option Flow
-flow_shown frames.NotIp = None
-flow_shown frames.Malformed = None
-flow_shown frames.Short = None
-flow_shown (frames.Ip direction tuple) = flow_of tuple
+abbrev pub flow_of_frame : frames.FrameFacts → Option Flow
+flow_of_frame frames.NotIp = None
+flow_of_frame frames.Malformed = None
+flow_of_frame frames.Short = None
+flow_of_frame (frames.Ip direction tuple) = flow_of tuple

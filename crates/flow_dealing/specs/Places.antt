@@ -20,8 +20,8 @@ use Rattle.flow_filter.specs.Readings.{Ruled, Ruling}
 use Rattle.flow_filter.specs.Updates.{Update, update_of}
 use Rattle.flow_filter.specs.Verdicts.{passes}
 use Rattle.flow_filter.specs.declared.verdict.Verdict.{Verdict}
-use Rattle.flow_dealing.specs.Dealings.{Deal, flow_in, worker_of}
-use Rattle.flow_dealing.specs.Runs.{AreJudged}
+use Rattle.flow_dealing.specs.Dealings.{Deal, flow_of_reading, worker_of}
+use Rattle.flow_dealing.specs.WorkerRecords.{AreJudged}
 use Rattle.flow_dealing.specs.Views.{Views, view_in}
 
 -- the event is a call of this worker's record, after `before` writes of its bucket, and leads from the map there to
@@ -45,7 +45,7 @@ pub record PassesAtPlace (d : Deal) (times : Timeouts) (views : Views) (number :
   pub e : Event
   pub its : j.event ≡ Some e
   pub stands : HasPlace (sizes_in d.layout (family_of u.key)) (view_in views (family_of u.key))
-      (worker_of d number (flow_in j.reading)) e
+      (worker_of d number (flow_of_reading j.reading)) e
   pub exactly : (passes (verdict_on times j) ≡ true)
       ↔ (HoldsLive u (after (opening_at (view_in views (family_of u.key)).known stands.call.bucket)
       (known_at (view_in views (family_of u.key)).known stands.call.bucket) stands.before)

@@ -21,7 +21,7 @@ use Rattle.flow_filter.specs.Readings.{IsReading, IsSeen, Reading}
 use Rattle.flow_filter.specs.Updates.{Update, update_of}
 use Rattle.flow_filter.specs.Judged.{IsAsked, Judged, verdict_on}
 use Rattle.flow_filter.specs.OneThread.{Layout, family_of, home_of, same_family, sizes_in}
-use Rattle.flow_dealing.specs.Dealings.{Deal, flow_in, flow_shown, worker_of}
+use Rattle.flow_dealing.specs.Dealings.{Deal, flow_of_reading, flow_of_frame, worker_of}
 use Rattle.flow_dealing.specs.Wanted.{HaveWanted}
 
 -- a packet by its number, from 0, its reading, and the call that it made
@@ -53,7 +53,7 @@ pub record IsItemOf (d : Deal) (worker : ℕ) (policy : PolicyFacts) (packets : 
   pub packet : PacketFacts
   pub there : slice_get packets i.packet ≡ Some packet
   pub read : IsReading policy packet i.reading
-  pub dealt : worker_of d i.packet (flow_in i.reading) ≡ worker
+  pub dealt : worker_of d i.packet (flow_of_reading i.reading) ≡ worker
 
 abbrev pub call_in : Family → Option Update → Option Call → List Call → List Call
 call_in family None call calls = calls
@@ -66,14 +66,14 @@ calls_in times family [] = []
 calls_in times family (i ∷ is) = call_in family (update_of times i.reading) i.call (calls_in times family is)
 
 -- what each packet's frame turns out to be
-abbrev pub AreViews : PolicyFacts → List PacketFacts → List frames.FrameFacts → Type 0
-AreViews policy packets views = AllZip (IsSeen policy) packets views
+abbrev pub AreFrames : PolicyFacts → List PacketFacts → List frames.FrameFacts → Type 0
+AreFrames policy packets views = AllZip (IsSeen policy) packets views
 
 -- the numbers of a worker's packets, from a number on
 unfoldable pub numbers_from : Deal → ℕ → ℕ → List frames.FrameFacts → List ℕ
 numbers_from d worker at [] = []
 numbers_from d worker at (view ∷ views) =
-    if worker_of d at (flow_shown view) == worker then at ∷ numbers_from d worker (at + 1) views
+    if worker_of d at (flow_of_frame view) == worker then at ∷ numbers_from d worker (at + 1) views
     else numbers_from d worker (at + 1) views
 
 abbrev pub numbers_of : List Item → List ℕ
@@ -84,7 +84,7 @@ pub record IsTrace (d : Deal) (times : Timeouts) (worker : ℕ) (policy : Policy
     (trace : List Item) : Type 0 where
   pub items : All (IsItem d.layout times) trace
   pub of : All (IsItemOf d worker policy packets) trace
-  pub dealt : (views : List frames.FrameFacts) → AreViews policy packets views
+  pub dealt : (views : List frames.FrameFacts) → AreFrames policy packets views
       → numbers_of trace ≡ numbers_from d worker 0 views
 
 -- the record has the calls of this trace

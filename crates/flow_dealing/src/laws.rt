@@ -13,7 +13,7 @@ ghost use Rattle.flow_dealing.specs.Views.{Views, view_in};
 ghost use Rattle.flow_dealing.specs.Dealings.{Deal};
 ghost use Rattle.flow_dealing.specs.Traces.{AreGathered, ArePlaced, AreTraces, Item};
 ghost use Rattle.flow_dealing.specs.Places.{PassAtPlaces};
-ghost use Rattle.flow_dealing.specs.Runs.{AreFew, AreJudged, HasPagesIn, HavePages};
+ghost use Rattle.flow_dealing.specs.WorkerRecords.{AreFew, AreJudged, HasPagesIn, HavePages};
 
 /// Where each worker judged the packets that were dealt to it, each packet was judged once, and its event
 /// is in the record of its worker.

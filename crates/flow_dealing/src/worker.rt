@@ -3,7 +3,7 @@ ghost use Rattle.std.specs.Prelude.{◌≡◌, ◌<◌, ◌%◌, length};
 ghost use Rattle.bihash_words.specs.Sizes;
 ghost use Rattle.bihash_words.specs.Sizes.{IsSound, sizes_of};
 ghost use Rattle.flow_filter.specs.OneThread.{IsFlowLayout, home_of, layout_of};
-ghost use Rattle.flow_dealing.specs.Dealings.{worker_by};
+ghost use Rattle.flow_dealing.specs.Dealings;
 
 use crate::dealing::Dealing;
 use bihash_words::{Shape, bucket_of};
@@ -55,7 +55,8 @@ pub fn worker_of<A: Shape, B: Shape>(
     requires six { IsSound (sizes_of ⟦<B as Shape>⟧) }
     requires keys { IsFlowLayout (layout_of ⟦<A as Shape>⟧ ⟦<B as Shape>⟧) }
     requires some { 0 < workers }
-    ensures worker { result ≡ worker_by dealing (layout_of ⟦<A as Shape>⟧ ⟦<B as Shape>⟧) workers number flow }
+    ensures worker { result ≡ Dealings.worker_of
+        (record { layout = layout_of ⟦<A as Shape>⟧ ⟦<B as Shape>⟧; dealing = dealing; workers = workers }) number flow }
     ensures one { result < workers }
 {
     match (dealing, flow) {

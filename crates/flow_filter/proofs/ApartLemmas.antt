@@ -7,7 +7,7 @@ use Rattle.std.specs.Ordering.{nat_cmp}
 use Rattle.std.specs.Prelude.{if◌then◌else◌, option_map}
 use Rattle.packet_view.specs.Captures.{PacketFacts}
 use Rattle.acl_policy.specs.Policies.{PolicyFacts}
-use Rattle.bihash_words.specs.Maps.{Bounds, Event, Pairs, asked, most_pairs}
+use Rattle.bihash_words.specs.Maps.{Bounds, Event, Pairs, expired_told, most_pairs}
 use Rattle.bihash_words.specs.declared.patch.Reply.{Reply}
 use Rattle.bihash_words.specs.declared.patch.Reply.TheVariants.{Kept, Changed, Worn, Full, NoPages}
 use Rattle.bihash_words.proofs.MapLemmas.{stays_bounded}
@@ -49,7 +49,7 @@ abbrev singles_of : ℕ → List PacketFacts → List Judged → List Judged
 singles_of interface packets js = map single (those_of interface packets js)
 
 -- a call that was taken and removed no key bears no expired words
-asks_none : (reply : Reply) (words : List ℕ) → IsTaken reply → [] ≡ asked None reply words
+asks_none : (reply : Reply) (words : List ℕ) → IsTaken reply → [] ≡ expired_told None reply words
 asks_none (Kept found) words taken = refl
 asks_none (Changed found) words taken = refl
 asks_none (Worn found) words taken = absurd taken

@@ -5,7 +5,7 @@ use Rattle.std.specs.Prelude.{◌↔◌, if◌then◌else◌, nat_lt, List}
 use Rattle.std.proofs.lemmas.Bool.{ltb-true, ltb-false, lt-ltb, le-ltb}
 use Rattle.packet_view.specs.Tuples.{TupleFacts}
 use Rattle.acl_policy.specs.declared.rule.Action.TheVariants.{Deny, Permit, Reflect}
-use Rattle.bihash_words.specs.Maps.{Answers, AnswersFull, Bounds, Case, Event, NewKey, NoRoom, Pairs, OldKey, WornOut, IsEvent, asked, case_with, effect_of, found_by, most_pairs, removed_in, spare}
+use Rattle.bihash_words.specs.Maps.{Answers, AnswersFull, Bounds, Case, Event, NewKey, NoRoom, Pairs, OldKey, WornOut, IsEvent, expired_told, case_with, effect_of, found_by, most_pairs, removed_in, spare}
 use Rattle.bihash_words.specs.declared.patch.Change.{Change}
 use Rattle.bihash_words.specs.declared.patch.Change.TheVariants.{Keep, Set, Remove}
 use Rattle.bihash_words.specs.declared.patch.Reply.{Reply}
@@ -108,7 +108,7 @@ module _ (u : Update) (ruling : Ruling) (b : Bounds) (m n : Pairs) (w : ℕ) (e 
       let absent : e.found ≡ None = found_is_told b m n w e step ∙ ap found_by full in
       let refused = refused_full b m n w e step full absent in
       let words : e.recycling.expired ≡ expired_for u.patch =
-      of.expiry ∙ (λ i. asked (refused.stays i) (full i) (expired_for u.patch)) in record {
+      of.expiry ∙ (λ i. expired_told (refused.stays i) (full i) (expired_for u.patch)) in record {
         starts = starts;
         absent = sym words_are ∙ absent;
         may_change = ltb-true w b.limit refused.may_change;
@@ -130,7 +130,7 @@ module _ (u : Update) (ruling : Ruling) (b : Bounds) (m n : Pairs) (w : ℕ) (e 
   by_going stuck None is named h = h.0
   by_going stuck (Some gone) is named h =
       let words : e.recycling.expired ≡ expired_for u.patch =
-      of.expiry ∙ ap (λ removed. asked removed e.reply (expired_for u.patch)) is in
+      of.expiry ∙ ap (λ removed. expired_told removed e.reply (expired_for u.patch)) is in
       let clash = sym is ∙ named ∙ ap (spare m) words ∙ none_while_live u.patch m stuck.live in
       absurd (let f : ⊥ = cc in f)
 

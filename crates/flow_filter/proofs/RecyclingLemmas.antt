@@ -4,7 +4,7 @@ use Rattle.std.proofs.lemmas.Bool.{eqb-true}
 use Rattle.std.specs.Prelude.{if◌then◌else◌, not}
 use Rattle.std.specs.FinMap.{get}
 use Rattle.bihash_words.specs.Expiries.{expired_words, is_among, words_below}
-use Rattle.bihash_words.specs.Maps.{Bounds, Event, Pairs, IsEvent, asked, spare}
+use Rattle.bihash_words.specs.Maps.{Bounds, Event, Pairs, IsEvent, expired_told, spare}
 use Rattle.bihash_words.proofs.MapLemmas.{removed_was_spare}
 use Rattle.bihash_words.proofs.SpareLemmas.{among_words, counted_told, none_spare, spare_tells}
 use Rattle.session_state.specs.Decisions.{PatchFacts, is_live_for}
@@ -58,7 +58,7 @@ pub made_room : (u : Update) (b : Bounds) (m n : Pairs) (w : ℕ) (e : Event) (g
 made_room u b m n w e gone of step is =
     let went = removed_was_spare b m n w e gone step is in
     let words : e.recycling.expired ≡ expired_for u.patch =
-    of.expiry ∙ ap (λ removed. asked removed e.reply (expired_for u.patch)) is in record {
+    of.expiry ∙ ap (λ removed. expired_told removed e.reply (expired_for u.patch)) is in record {
       word = went.value;
       stands = went.stands;
       ended = ended_for u.patch went.value (subst (λ ws. is_among went.value ws ≡ true) words went.counts);

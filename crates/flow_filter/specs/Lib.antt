@@ -1,15 +1,15 @@
 pub mod Apart
 pub mod Deciders
 pub mod Filters
+pub mod InterfaceFilters
 pub mod Judged
 pub mod LazyPatches
 pub mod Liveness
 pub mod OneThread
 pub mod PacketFlows
 pub mod Passing
-pub mod PreparedRules
 pub mod Readings
-pub mod ReadyFilters
+pub mod RuleIndexes
 pub mod RuleSearches
 pub mod Rulesets
 pub mod Updates

@@ -11,8 +11,8 @@ ghost use Rattle.flow_filter.specs.PacketFlows.{IsRulingOn};
 ghost use Rattle.flow_filter.specs.Rulesets.{rules_in};
 
 use crate::decider::Decider;
-use crate::filter::ReadyFilter;
-use crate::packet_flow::{PacketFlow, copied};
+use crate::filter::InterfaceFilter;
+use crate::packet_flow::{PacketFlow, tuple_copy};
 use crate::ruleset::Ruleset;
 use crate::update::patch_of;
 use crate::verdict::Verdict;
@@ -42,7 +42,7 @@ impl HasReading for Brand {
 
 /// What that packet found when it was asked last, and whether it is a live session.
 #[derive(Drop)]
-struct Seen<D: HasReading> {
+struct LastFound<D: HasReading> {
     found: Option<u64>,
     is_live: bool,
     of: PhantomData<D>,
@@ -61,7 +61,7 @@ struct Decided<D: HasReading> {
 // Few packets of a busy flow come here, so it is kept out of their way, and what they are told by stays out of memory.
 #[cold]
 #[inline(never)]
-fn asked(rules: Ruleset<'_>, tuple: Tuple) -> Option<(usize, Action)>
+fn ask_rules(rules: Ruleset<'_>, tuple: Tuple) -> Option<(usize, Action)>
     ensures only { (other : Ruling) → IsRuling (rules_in rules.entry) (tuple_facts tuple) other → other ≡ result }
     ensures decided { IsRuling (rules_in rules.entry) (tuple_facts tuple) result }
     ensures few { ForSome result (λ decided. decided.0 < most_rules) }
@@ -73,10 +73,10 @@ fn asked(rules: Ruleset<'_>, tuple: Tuple) -> Option<(usize, Action)>
 /// session is live.
 #[derive(Drop)]
 pub struct LazyPatch<'a, D: HasReading> {
-    filter: &'a ReadyFilter<'a>,
+    filter: &'a InterfaceFilter<'a>,
     packet: PacketFlow<'a>,
     decided: Cell<Option<Decided<D>>>,
-    seen: Cell<Option<Seen<D>>>,
+    seen: Cell<Option<LastFound<D>>>,
     ghost lives: { IsForeseen filter.now.times packet.moment D.is_live },
     ghost said: { (d : Ruling) → IsRulingOn (section_in filter.now) packet d → d ≡ D.ruling },
 }
@@ -91,7 +91,7 @@ impl<'a, D: HasReading> LazyPatch<'a, D> {
     ghost use Rattle.bihash_words.specs.Maps.{found_by};
 
     #[inline]
-    pub fn new(filter: &'a ReadyFilter<'a>, packet: PacketFlow<'a>) -> LazyPatch<'a, D>
+    pub fn new(filter: &'a InterfaceFilter<'a>, packet: PacketFlow<'a>) -> LazyPatch<'a, D>
         requires ruling { IsRulingOn (section_in filter.now) packet D.ruling }
         requires lives { IsForeseen filter.now.times packet.moment D.is_live }
         ensures { facts_of ⟦<D as HasReading>⟧ result ≡ (update_by filter.now.times packet.entry D.ruling).patch }
@@ -107,9 +107,9 @@ impl<'a, D: HasReading> LazyPatch<'a, D> {
     #[inline(always)]
     fn ask(&self) -> Decided<D> {
         Decided {
-            ruling: asked(
+            ruling: ask_rules(
                 self.filter.rules_of(self.packet.direction),
-                copied(self.packet.tuple),
+                tuple_copy(self.packet.tuple),
             ),
             of: PhantomData,
         }
@@ -193,7 +193,7 @@ impl<'a, D: HasReading> Patch for LazyPatch<'a, D> {
     #[inline(always)]
     fn decide(&self, old: Option<u64>) -> Change {
         let decider = self.decider(old);
-        self.seen.set(Some(Seen {
+        self.seen.set(Some(LastFound {
             found: old,
             is_live: matches!(decider, Decider::Session(_)),
             of: PhantomData,

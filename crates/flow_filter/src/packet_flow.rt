@@ -21,7 +21,7 @@ pub struct PacketFlow<'a> {
 /// The tuple again. A copy of the whole would take the bytes between its fields along, and a reference to where a
 /// packet was viewed would keep each packet's tuple in memory.
 #[inline(always)]
-pub fn copied(tuple: &Tuple) -> Tuple
+pub fn tuple_copy(tuple: &Tuple) -> Tuple
     ensures { tuple_facts result ≡ tuple_facts tuple.now }
 {
     Tuple {

@@ -3,12 +3,12 @@ ghost use Rattle.std.specs.Prelude.{◌≡◌, [], IfOk, map};
 ghost use Rattle.std.specs.List.{AllZip};
 ghost use Rattle.acl_policy.specs.Policies.{empty_section, section_among, section_facts};
 ghost use Rattle.flow_filter.specs.Filters.{section_in};
-ghost use Rattle.flow_filter.specs.PreparedRules.{ArePrepared, ArePreparedFor};
+ghost use Rattle.flow_filter.specs.RuleIndexes.{ArePrepared, ArePreparedFor};
 ghost use Rattle.flow_filter.specs.Rulesets.{rules_in};
 
-use crate::filter::{Filter, ReadyFilter};
-use crate::prepared_rules::{PreparedRules, index_of, searched};
-use crate::ready_filters::ReadyFilters;
+use crate::filter::{Filter, InterfaceFilter};
+use crate::interface_filters::InterfaceFilters;
+use crate::rule_indexes::{RuleIndexes, index_of, searched};
 use crate::rule_search::RuleSearch;
 use crate::ruleset::Ruleset;
 use acl_policy::Section;
@@ -25,11 +25,11 @@ fn no_rules<'a>() -> Ruleset<'a>
 }
 
 // The filter at an interface of which the policy says nothing.
-fn unruled<'a>(interface: u8, times: Timeouts) -> ReadyFilter<'a>
+fn unruled<'a>(interface: u8, times: Timeouts) -> InterfaceFilter<'a>
     ensures section { section_in result ≡ empty_section interface }
     ensures times { result.times ≡ times }
 {
-    ReadyFilter {
+    InterfaceFilter {
         interface,
         own: None,
         inbound: no_rules(),
@@ -39,11 +39,11 @@ fn unruled<'a>(interface: u8, times: Timeouts) -> ReadyFilter<'a>
 }
 
 // The filter at a section's interface, whose rules are searched one after the other.
-fn listed(section: &Section, times: Timeouts) -> ReadyFilter<'_>
+fn listed(section: &Section, times: Timeouts) -> InterfaceFilter<'_>
     ensures section { section_in result ≡ section_facts section.now }
     ensures times { result.times ≡ times }
 {
-    ReadyFilter {
+    InterfaceFilter {
         interface: section.interface,
         own: section.own,
         inbound: Ruleset {
@@ -59,14 +59,14 @@ fn listed(section: &Section, times: Timeouts) -> ReadyFilter<'_>
 // The filter at a section's interface, whose rules are searched as they were prepared.
 fn indexed<'a>(
     section: &'a Section,
-    prepared: &'a PreparedRules,
+    prepared: &'a RuleIndexes,
     times: Timeouts,
-) -> ReadyFilter<'a>
+) -> InterfaceFilter<'a>
     requires { ArePrepared section.now prepared.now }
     ensures section { section_in result ≡ section_facts section.now }
     ensures times { result.times ≡ times }
 {
-    ReadyFilter {
+    InterfaceFilter {
         interface: section.interface,
         own: section.own,
         inbound: searched(&section.inbound, &prepared.inbound),
@@ -80,22 +80,22 @@ fn prepare_section(
     alloc: Global,
     section: &Section,
     packets: usize,
-) -> Result<PreparedRules, AllocError>
+) -> Result<RuleIndexes, AllocError>
     ensures indexes { IfOk result (ArePrepared section.now) }
     ensures when { IfOk result (ArePreparedFor packets section.now) }
 {
     let inbound = index_of(alloc, &section.inbound, packets)?;
     let outbound = index_of(alloc, &section.outbound, packets)?;
-    Ok(PreparedRules { inbound, outbound })
+    Ok(RuleIndexes { inbound, outbound })
 }
 
 // The filter at an interface, by the first of these sections that is of it.
 fn ready_at<'a>(
     sections: &'a [Section],
-    prepared: &'a [PreparedRules],
+    prepared: &'a [RuleIndexes],
     interface: u8,
     times: Timeouts,
-) -> ReadyFilter<'a>
+) -> InterfaceFilter<'a>
     requires { AllZip ArePrepared sections.now prepared.now }
     ensures section { section_in result ≡ section_among interface (map section_facts sections.now) }
     ensures times { result.times ≡ times }
@@ -117,10 +117,10 @@ impl Filter {
     ghost use Rattle.std.specs.List.{AllZip};
     ghost use Rattle.acl_policy.specs.Policies.{policy_facts, section_of};
     ghost use Rattle.flow_filter.specs.Filters.{section_in};
-    ghost use Rattle.flow_filter.specs.PreparedRules.{ArePrepared, ArePreparedFor};
+    ghost use Rattle.flow_filter.specs.RuleIndexes.{ArePrepared, ArePreparedFor};
 
     /// The filter at an interface, whose rules are searched one after the other.
-    pub fn ready(&self, interface: u8) -> ReadyFilter<'_>
+    pub fn ready(&self, interface: u8) -> InterfaceFilter<'_>
         ensures section { section_in result ≡ section_of interface (policy_facts self.now.policy) }
         ensures times { result.times ≡ self.now.times }
     {
@@ -131,7 +131,7 @@ impl Filter {
     }
 
     /// The rules of each section, prepared for this many packets where that pays.
-    pub fn prepare(&self, alloc: Global, packets: usize) -> Result<Vec<PreparedRules>, AllocError>
+    pub fn prepare(&self, alloc: Global, packets: usize) -> Result<Vec<RuleIndexes>, AllocError>
         ensures indexes { IfOk result (λ all. AllZip ArePrepared self.now.policy.sections.items all.items) }
         ensures when { IfOk result (λ all.
             AllZip (ArePreparedFor packets) self.now.policy.sections.items all.items) }
@@ -147,8 +147,8 @@ impl Filter {
     pub fn ready_with<'a>(
         &'a self,
         alloc: Global,
-        prepared: &'a [PreparedRules],
-    ) -> Result<ReadyFilters<'a>, AllocError>
+        prepared: &'a [RuleIndexes],
+    ) -> Result<InterfaceFilters<'a>, AllocError>
         requires { AllZip ArePrepared self.now.policy.sections.items prepared.now }
         ensures policy { IfOk result (λ r. r.policy.now ≡ self.now.policy) }
         ensures times { IfOk result (λ r. r.times ≡ self.now.times) }
@@ -157,7 +157,7 @@ impl Filter {
         for number in 0..256usize {
             places.push(ready_at(&self.policy.sections, prepared, number as u8, self.times))?;
         }
-        Ok(ReadyFilters {
+        Ok(InterfaceFilters {
             policy: &self.policy,
             times: self.times,
             places,
@@ -165,13 +165,13 @@ impl Filter {
     }
 }
 
-impl<'a> ReadyFilters<'a> {
+impl<'a> InterfaceFilters<'a> {
     ghost use Rattle.acl_policy.specs.Policies.{policy_facts};
-    ghost use Rattle.flow_filter.specs.ReadyFilters.{IsReadyAt};
+    ghost use Rattle.flow_filter.specs.InterfaceFilters.{IsReadyAt};
 
     /// The filter at an interface.
     #[inline(always)]
-    pub fn at(&self, interface: u8) -> &ReadyFilter<'a>
+    pub fn at(&self, interface: u8) -> &InterfaceFilter<'a>
         ensures { IsReadyAt (policy_facts self.now.policy.now) self.now.times interface result.now }
     {
         &self.places[usize::from(interface)]

@@ -15,10 +15,10 @@ use Rattle.bihash_table.specs.Promise.{IsAnswered, IsUpdatedOver}
 use Rattle.bihash_table.specs.OutOfPages.{IsOutOfPages}
 use Rattle.bihash_table.specs.Tries.{TookAtMost, try_locks}
 use Rattle.bihash_table.specs.declared.contended.Contended.{Contended}
-use Rattle.bihash_laws.specs.Runs.{IsLawfulAnswer}
+use Rattle.bihash_laws.specs.CallRuns.{IsLawfulAnswer}
 use Rattle.bihash_laws.proofs.AnsweredCalls.{legal}
 use Rattle.flow_workers.specs.Judging.{TookByOneTry}
-use Rattle.flow_workers.specs.inner.Updates.{IsTold, told}
+use Rattle.flow_workers.specs.inner.Updates.{IsTold, told_event}
 
 found_in : (z : Sizes) (v w : View) (e : Event) → IsAnswered z v w e → IsLawfulCaller z w → e.found ≡ found_by e.reply
 found_in z v w e answered lawful = go (is_changed e.reply) refl
@@ -41,7 +41,7 @@ pub as_told : (z : Sizes) (v w : View) (key words : List ℕ) (decision : Option
 as_told z v w key words decision is_expired reply same updated lawful =
     let recycled = updated.answered in (
       recycled.removed,
-      subst (λ k. IsAnswered z v w (told k decision is_expired recycled.removed reply)) same
+      subst (λ k. IsAnswered z v w (told_event k decision is_expired recycled.removed reply)) same
           (subst (λ found. IsAnswered z v w
           (recycled_update key found (decision found) is_expired recycled.removed reply))
           (found_in z v w _ recycled.answered lawful) recycled.answered),

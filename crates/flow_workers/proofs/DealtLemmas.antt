@@ -4,7 +4,7 @@ use Rattle.std.specs.Prelude.{slice_index}
 use Rattle.std.proofs.lemmas.List.{drop_all, drop_more, length-drop}
 use Rattle.std.proofs.lemmas.Option.{slice_get_within}
 use Rattle.packet_view.specs.Captures.{PacketFacts}
-use Rattle.packet_view.specs.CheckedCaptures.{held}
+use Rattle.packet_view.specs.CheckedCaptures.{remaining}
 use Rattle.packet_view.specs.Frames.{FrameFacts, frame_facts}
 use Rattle.packet_view.specs.Interfaces.{Interface}
 use Rattle.packet_view.specs.inner.FrameSteps.{view_of}
@@ -13,19 +13,19 @@ use Rattle.acl_policy.specs.Policies.{SectionFacts, section_of}
 use Rattle.bihash_table.specs.Tries.{TookByTries}
 use Rattle.bihash_words.specs.declared.shape.Shape.{Ghosts}
 use Rattle.flow_filter.specs.Readings.{IsSeenAt}
-use Rattle.flow_filter.specs.ReadyFilters.{IsReadyAt}
-use Rattle.flow_filter.specs.declared.filter.ReadyFilter.{ReadyFilter}
+use Rattle.flow_filter.specs.InterfaceFilters.{IsReadyAt}
+use Rattle.flow_filter.specs.declared.filter.InterfaceFilter.{InterfaceFilter}
 use Rattle.flow_filter.specs.declared.verdict.Verdict.{Verdict}
 use Rattle.packet_dealing.proofs.DealtLists.{next_there, some_left, stands_at, there_behind}
 use Rattle.packet_dealing.specs.Dealt.{AreDealt, IsDealtTo}
-use Rattle.packet_dealing.specs.declared.dealt_part.DealtPart.{DealtPart}
-use Rattle.flow_workers.specs.declared.share.Run.{Run}
+use Rattle.packet_dealing.specs.declared.dealt_chunk.DealtChunk.{DealtChunk}
+use Rattle.flow_workers.specs.declared.share.Batch.{Batch}
 use Rattle.flow_workers.specs.declared.share.Share.{Share}
 use Rattle.flow_workers.specs.declared.tables.Callers.{Callers}
 use Rattle.flow_workers.specs.declared.viewed_packet.ViewedPacket.{ViewedPacket}
 use Rattle.flow_workers.specs.Callers.{AreIdle}
 use Rattle.flow_workers.specs.Verdicts.{HasVerdict}
-use Rattle.flow_workers.specs.inner.Jobs.{AreDealtFrom, HasWorkedOn, IsPartOf, IsViewedAt, IsWorkerOf, MayJudge, MayJudgeViewed, StandAmong, dealer_of, policy_of, run_facts}
+use Rattle.flow_workers.specs.inner.Jobs.{AreDealtFrom, HasWorkedOn, IsChunkAt, IsViewedAt, IsWorkerOf, MayJudgePacket, MayJudgeViewed, StandAmong, dealer_of, policy_of, run_facts}
 use Rattle.flow_workers.specs.inner.ViewedPackets.{IsViewed, TellsViewed}
 use Rattle.flow_workers.proofs.WorkSteps.{IsAt, one_more, work_passed}
 
@@ -37,45 +37,45 @@ front_only (x ∷ xs) ys (suc k) inside = front_only xs ys k (omega arith)
 front_there : {X : Type 0} (xs ys : List X) (k : ℕ) (x : X) → slice_get xs k ≡ Some x → slice_get (xs ++ ys) k ≡ Some x
 front_there xs ys k x at = front_only xs ys k (slice_get_within xs k x at) ∙ at
 
-module _ {A B R G K L : Type 0} (ga : Ghosts A K) (gb : Ghosts B L) (run : Run A B R G K L) where
-  -- ---- One part
+module _ {A B R G K L : Type 0} (ga : Ghosts A K) (gb : Ghosts B L) (batch : Batch A B R G K L) where
+  -- ---- One chunk
 
-  -- a packet of the run stands among all packets
-  pub stands_among : (all : List PacketFacts) → StandAmong run all → (at : ℕ) (packet : PacketFacts)
-      → slice_get (held run.packets) at ≡ Some packet → slice_get all (run.first + at) ≡ Some packet
-  stands_among all among at packet there = sym (there_behind all run.first at)
-      ∙ (ap (λ xs. slice_get xs at) among.stand ∙ front_there (held run.packets) among.behind at packet there)
+  -- a packet of the batch stands among all packets
+  pub stands_among : (all : List PacketFacts) → StandAmong batch all → (at : ℕ) (packet : PacketFacts)
+      → slice_get (remaining batch.packets) at ≡ Some packet → slice_get all (batch.first + at) ≡ Some packet
+  stands_among all among at packet there = sym (there_behind all batch.first at)
+      ∙ (ap (λ xs. slice_get xs at) among.stand ∙ front_there (remaining batch.packets) among.behind at packet there)
 
-  -- the part ends within the run
-  pub part_few : (first : ℕ) (part : DealtPart) → IsPartOf ga gb run first part → first ≤ length (held run.packets)
-      → first + length part.workers.items ≤ length (held run.packets)
-  part_few first part is inside =
-      let few = is.workers.inside in let left = length-drop first (held run.packets) in omega arith
+  -- the chunk ends within the batch
+  pub chunk_few : (first : ℕ) (chunk : DealtChunk) → IsChunkAt ga gb batch first chunk → first ≤ length (remaining batch.packets)
+      → first + length chunk.workers.items ≤ length (remaining batch.packets)
+  chunk_few first chunk is inside =
+      let few = is.workers.inside in let left = length-drop first (remaining batch.packets) in omega arith
 
-  -- behind fewer packets than a part has is one of its own
-  pub part_left : (first k : ℕ) (part : DealtPart) → IsPartOf ga gb run first part → k < length part.workers.items
-      → drop (first + k) (held run.packets) ≡ [] → ⊥
-  part_left first k part is below =
-      let inside = is.workers.inside in let left = length-drop first (held run.packets) in
-      some_left (held run.packets) (first + k) (omega arith)
+  -- behind fewer packets than a chunk has is one of its own
+  pub chunk_left : (first k : ℕ) (chunk : DealtChunk) → IsChunkAt ga gb batch first chunk → k < length chunk.workers.items
+      → drop (first + k) (remaining batch.packets) ≡ [] → ⊥
+  chunk_left first k chunk is below =
+      let inside = is.workers.inside in let left = length-drop first (remaining batch.packets) in
+      some_left (remaining batch.packets) (first + k) (omega arith)
 
-  pub part_mine : (first k : ℕ) (part : DealtPart) (packet : PacketFacts) (behind : List PacketFacts)
-      → IsPartOf ga gb run first part → k < length part.workers.items
-      → drop (first + k) (held run.packets) ≡ packet ∷ behind
-      → IsDealtTo ga gb (dealer_of run.setup) (run.first + (first + k)) packet
-      (slice_index part.workers.items k)
-  part_mine first k part packet behind is below here =
-      subst (λ n. IsDealtTo ga gb (dealer_of run.setup) n packet (slice_index part.workers.items k))
-      (let e : run.first + first + k ≡ run.first + (first + k) = omega arith in e)
-      (is.workers.each k packet below (next_there (held run.packets) behind first k packet here))
+  pub chunk_mine : (first k : ℕ) (chunk : DealtChunk) (packet : PacketFacts) (behind : List PacketFacts)
+      → IsChunkAt ga gb batch first chunk → k < length chunk.workers.items
+      → drop (first + k) (remaining batch.packets) ≡ packet ∷ behind
+      → IsDealtTo ga gb (dealer_of batch.setup) (batch.first + (first + k)) packet
+      (slice_index chunk.workers.items k)
+  chunk_mine first k chunk packet behind is below here =
+      subst (λ n. IsDealtTo ga gb (dealer_of batch.setup) n packet (slice_index chunk.workers.items k))
+      (let e : batch.first + first + k ≡ batch.first + (first + k) = omega arith in e)
+      (is.workers.each k packet below (next_there (remaining batch.packets) behind first k packet here))
 
   -- a packet that turned out to be this may be judged as it was viewed
-  pub may_judge_viewed : (worker at : ℕ) (packet : PacketFacts) (filter : ReadyFilter) (viewed : ViewedPacket)
-      (frame : FrameFacts) (share : Share A B K L ga gb) → MayJudge ga gb run worker at packet share
-      → IsReadyAt (policy_of run.setup) run.setup.filter.now.times packet.interface filter
+  pub may_judge_viewed : (worker at : ℕ) (packet : PacketFacts) (filter : InterfaceFilter) (viewed : ViewedPacket)
+      (frame : FrameFacts) (share : Share A B K L ga gb) → MayJudgePacket ga gb batch worker at packet share
+      → IsReadyAt (policy_of batch.setup) batch.setup.filter.now.times packet.interface filter
       → IsViewed filter.own packet viewed → frame ≡ frame_facts viewed.frame.now → IsSeenAt filter.own packet frame
       → ((other : FrameFacts) → IsSeenAt filter.own packet other → other ≡ frame)
-      → MayJudgeViewed ga gb run worker at filter viewed share
+      → MayJudgeViewed ga gb batch worker at filter viewed share
   may_judge_viewed worker at packet filter viewed frame share may ready seen same shown only = record {
     shapes = may.shapes;
     idle = may.idle;
@@ -87,13 +87,13 @@ module _ {A B R G K L : Type 0} (ga : Ghosts A K) (gb : Ghosts B L) (run : Run A
       seen = seen;
       only = λ other is. only other is ∙ same;
     };
-    mine = subst (λ f. IsWorkerOf ga gb run at f worker) same (may.mine filter.own frame shown);
+    mine = subst (λ f. IsWorkerOf ga gb batch at f worker) same (may.mine filter.own frame shown);
   }
 
   -- it is that packet among all, by what the policy says of its interface
-  pub viewed_among : (all : List PacketFacts) → StandAmong run all → (at : ℕ) (filter : ReadyFilter)
-      (viewed : ViewedPacket) (stands : IsViewedAt run at filter viewed)
-      → IsAt (run_facts ga gb run.setup all) (run.first + at) stands.packet (frame_facts viewed.frame.now)
+  pub viewed_among : (all : List PacketFacts) → StandAmong batch all → (at : ℕ) (filter : InterfaceFilter)
+      (viewed : ViewedPacket) (stands : IsViewedAt batch at filter viewed)
+      → IsAt (run_facts ga gb batch.setup all) (batch.first + at) stands.packet (frame_facts viewed.frame.now)
   viewed_among all among at filter viewed stands = record {
     stands = stands_among all among at stands.packet stands.there;
     shown = subst (λ (section : SectionFacts). IsSeenAt section.own stands.packet (frame_facts viewed.frame.now))
@@ -103,42 +103,42 @@ module _ {A B R G K L : Type 0} (ga : Ghosts A K) (gb : Ghosts B L) (run : Run A
   }
 
   -- and is judged by the policy
-  pub judged_among : (at : ℕ) (filter : ReadyFilter) (viewed : ViewedPacket)
-      (stands : IsViewedAt run at filter viewed) (old new : Callers A B K L ga gb) (verdict : Verdict)
-      → TellsViewed TookByTries filter viewed run.setup.tables.now old new verdict
-      → HasVerdict ga gb TookByTries run.setup.filter.now.times (policy_of run.setup) stands.packet old new verdict
+  pub judged_among : (at : ℕ) (filter : InterfaceFilter) (viewed : ViewedPacket)
+      (stands : IsViewedAt batch at filter viewed) (old new : Callers A B K L ga gb) (verdict : Verdict)
+      → TellsViewed TookByTries filter viewed batch.setup.tables.now old new verdict
+      → HasVerdict ga gb TookByTries batch.setup.filter.now.times (policy_of batch.setup) stands.packet old new verdict
   judged_among at filter viewed stands old new verdict tells =
-      subst (λ times. HasVerdict ga gb TookByTries times (policy_of run.setup) stands.packet old new verdict)
-      stands.ready.lives (tells.judged (policy_of run.setup) stands.packet
+      subst (λ times. HasVerdict ga gb TookByTries times (policy_of batch.setup) stands.packet old new verdict)
+      stands.ready.lives (tells.judged (policy_of batch.setup) stands.packet
       (record { section = stands.ready.section; seen = stands.seen }))
 
-  pub worked_none : (w at : ℕ) (share : Share A B K L ga gb) → AreIdle ga gb run.setup.tables.now share.callers
-      → HasWorkedOn ga gb run w at at share share
+  pub worked_none : (w at : ℕ) (share : Share A B K L ga gb) → AreIdle ga gb batch.setup.tables.now share.callers
+      → HasWorkedOn ga gb batch w at at share share
   worked_none w at share idle = record { idle = idle; work = λ all among v done. done }
 
   pub worked_on : (w first mid last : ℕ) (old between new : Share A B K L ga gb)
-      → HasWorkedOn ga gb run w first mid old between → HasWorkedOn ga gb run w mid last between new
-      → HasWorkedOn ga gb run w first last old new
+      → HasWorkedOn ga gb batch w first mid old between → HasWorkedOn ga gb batch w mid last between new
+      → HasWorkedOn ga gb batch w first last old new
   worked_on w first mid last old between new before behind = record {
     idle = behind.idle;
     work = λ all among v done. behind.work all among v (before.work all among v done);
   }
 
   pub worked_to : (w first last other : ℕ) (old new : Share A B K L ga gb) → last ≡ other
-      → HasWorkedOn ga gb run w first last old new → HasWorkedOn ga gb run w first other old new
-  worked_to w first last other old new same = subst (λ n. HasWorkedOn ga gb run w first n old new) same
+      → HasWorkedOn ga gb batch w first last old new → HasWorkedOn ga gb batch w first other old new
+  worked_to w first last other old new same = subst (λ n. HasWorkedOn ga gb batch w first n old new) same
 
   -- the worker passes by a packet of another
   pub passed_by : (w at other : ℕ) (packet : PacketFacts) (share : Share A B K L ga gb)
-      → slice_get (held run.packets) at ≡ Some packet
-      → IsDealtTo ga gb (dealer_of run.setup) (run.first + at) packet other → other ≢ w
-      → AreIdle ga gb run.setup.tables.now share.callers → HasWorkedOn ga gb run w at (at + 1) share share
+      → slice_get (remaining batch.packets) at ≡ Some packet
+      → IsDealtTo ga gb (dealer_of batch.setup) (batch.first + at) packet other → other ≢ w
+      → AreIdle ga gb batch.setup.tables.now share.callers → HasWorkedOn ga gb batch w at (at + 1) share share
   passed_by w at other packet share there dealt differ idle =
-      let own = (section_of packet.interface (policy_of run.setup)).own in
+      let own = (section_of packet.interface (policy_of batch.setup)).own in
       let at_own : Interface = record { number = packet.interface; own = own } in
       record {
         idle = idle;
-        work = λ all among v done. one_more _ w run.first at v _ _
+        work = λ all among v done. one_more _ w batch.first at v _ _
             (work_passed _ _ _ _ _ _ packet (view_of packet.frame at_own)
             (record {
               stands = stands_among all among at packet there;
@@ -149,36 +149,36 @@ module _ {A B R G K L : Type 0} (ga : Ghosts A K) (gb : Ghosts B L) (run : Run A
             done);
       }
 
-  -- the same in a part
-  pub worked_past : (w first k : ℕ) (part : DealtPart) (packet : PacketFacts) (behind : List PacketFacts)
-      (share : Share A B K L ga gb) → IsPartOf ga gb run first part → k < length part.workers.items
-      → drop (first + k) (held run.packets) ≡ packet ∷ behind → slice_index part.workers.items k ≢ w
-      → AreIdle ga gb run.setup.tables.now share.callers
-      → HasWorkedOn ga gb run w (first + k) (first + k + 1) share share
-  worked_past w first k part packet behind share is below here other idle =
-      passed_by w (first + k) (slice_index part.workers.items k) packet share
-      (stands_at (held run.packets) behind (first + k) packet here)
-      (part_mine first k part packet behind is below here) other idle
+  -- the same in a chunk
+  pub worked_past : (w first k : ℕ) (chunk : DealtChunk) (packet : PacketFacts) (behind : List PacketFacts)
+      (share : Share A B K L ga gb) → IsChunkAt ga gb batch first chunk → k < length chunk.workers.items
+      → drop (first + k) (remaining batch.packets) ≡ packet ∷ behind → slice_index chunk.workers.items k ≢ w
+      → AreIdle ga gb batch.setup.tables.now share.callers
+      → HasWorkedOn ga gb batch w (first + k) (first + k + 1) share share
+  worked_past w first k chunk packet behind share is below here other idle =
+      passed_by w (first + k) (slice_index chunk.workers.items k) packet share
+      (stands_at (remaining batch.packets) behind (first + k) packet here)
+      (chunk_mine first k chunk packet behind is below here) other idle
 
-  -- ---- All parts
+  -- ---- All chunks
 
-  pub part_first : (first i : ℕ) (parts : List DealtPart) (d : DealtPart) → i < length parts
-      → AreDealtFrom ga gb run first (drop i parts) → IsPartOf ga gb run first (get_or parts i d)
-  part_first first i parts d inside dealt =
-      (subst (λ ps. AreDealtFrom ga gb run first ps) (drop_more parts i d inside) dealt).0
+  pub chunk_first : (first i : ℕ) (chunks : List DealtChunk) (d : DealtChunk) → i < length chunks
+      → AreDealtFrom ga gb batch first (drop i chunks) → IsChunkAt ga gb batch first (get_or chunks i d)
+  chunk_first first i chunks d inside dealt =
+      (subst (λ ps. AreDealtFrom ga gb batch first ps) (drop_more chunks i d inside) dealt).0
 
-  pub parts_behind : (first i : ℕ) (parts : List DealtPart) (d : DealtPart) → i < length parts
-      → AreDealtFrom ga gb run first (drop i parts)
-      → AreDealtFrom ga gb run (first + length (get_or parts i d).workers.items) (drop (i + 1) parts)
-  parts_behind first i parts d inside dealt =
-      let n = length (get_or parts i d).workers.items in
-      subst (λ m. AreDealt ga gb (dealer_of run.setup) m (drop (i + 1) parts) (drop (first + n) (held run.packets)))
-      (let e : run.first + first + n ≡ run.first + (first + n) = omega arith in e)
-      (subst (λ ps. AreDealt ga gb (dealer_of run.setup) (run.first + first + n) (drop (i + 1) parts) ps)
-      (drop-drop n first (held run.packets))
-      (subst (λ ps. AreDealtFrom ga gb run first ps) (drop_more parts i d inside) dealt).1)
+  pub chunks_behind : (first i : ℕ) (chunks : List DealtChunk) (d : DealtChunk) → i < length chunks
+      → AreDealtFrom ga gb batch first (drop i chunks)
+      → AreDealtFrom ga gb batch (first + length (get_or chunks i d).workers.items) (drop (i + 1) chunks)
+  chunks_behind first i chunks d inside dealt =
+      let n = length (get_or chunks i d).workers.items in
+      subst (λ m. AreDealt ga gb (dealer_of batch.setup) m (drop (i + 1) chunks) (drop (first + n) (remaining batch.packets)))
+      (let e : batch.first + first + n ≡ batch.first + (first + n) = omega arith in e)
+      (subst (λ ps. AreDealt ga gb (dealer_of batch.setup) (batch.first + first + n) (drop (i + 1) chunks) ps)
+      (drop-drop n first (remaining batch.packets))
+      (subst (λ ps. AreDealtFrom ga gb batch first ps) (drop_more chunks i d inside) dealt).1)
 
-  pub all_taken : (first i : ℕ) (parts : List DealtPart) → length parts ≤ i
-      → AreDealtFrom ga gb run first (drop i parts) → drop first (held run.packets) ≡ []
-  all_taken first i parts past dealt =
-      subst (λ ps. AreDealtFrom ga gb run first ps) (drop_all i parts past) dealt
+  pub all_taken : (first i : ℕ) (chunks : List DealtChunk) → length chunks ≤ i
+      → AreDealtFrom ga gb batch first (drop i chunks) → drop first (remaining batch.packets) ≡ []
+  all_taken first i chunks past dealt =
+      subst (λ ps. AreDealtFrom ga gb batch first ps) (drop_all i chunks past) dealt

@@ -8,7 +8,7 @@ use Rattle.packet_view.specs.Frames.{FrameFacts, frame_facts}
 use Rattle.acl_policy.specs.Policies.{PolicyFacts, SectionFacts, rules_of, section_of}
 use Rattle.acl_policy.proofs.RulingLaws.{some_ruling_of}
 use Rattle.bihash_words.specs.Expiries.{expired_words}
-use Rattle.bihash_words.specs.Maps.{Event, HasExpiry, asked, found_by}
+use Rattle.bihash_words.specs.Maps.{Event, HasExpiry, expired_told, found_by}
 use Rattle.bihash_words.specs.declared.patch.Reply.{Reply}
 use Rattle.bihash_steps.specs.declared.view.View.{View}
 use Rattle.session_state.specs.declared.timeouts.Timeouts.{Timeouts}
@@ -16,7 +16,7 @@ use Rattle.session_state.specs.declared.flow.Flow.{Flow}
 use Rattle.session_state.specs.Decisions.{decision_of}
 use Rattle.session_state.specs.Flows.{flow_of}
 use Rattle.session_state.specs.Sessions.{is_expired_at}
-use Rattle.flow_filter.specs.declared.filter.ReadyFilter.{ReadyFilter}
+use Rattle.flow_filter.specs.declared.filter.InterfaceFilter.{InterfaceFilter}
 use Rattle.flow_filter.specs.declared.verdict.Verdict.{Verdict}
 use Rattle.flow_filter.specs.Filters.{section_in}
 use Rattle.flow_filter.specs.Readings.{IsReading, IsReadingOf, Reading, Ruling}
@@ -26,9 +26,9 @@ use Rattle.flow_filter.specs.Judged.{IsAskedBy, expired_for, verdict_by_event, v
 use Rattle.flow_filter.specs.OneThread.{Layout}
 use Rattle.flow_dealing.specs.Views.{Views}
 use Rattle.flow_workers.specs.declared.viewed_packet.ViewedPacket.{ViewedPacket}
-use Rattle.flow_workers.specs.Judging.{IsAway, IsEnteredBy, IsJudged, IsRefused}
-use Rattle.flow_workers.specs.inner.Preparing.{IsFrameRuling, reading_with}
-use Rattle.flow_workers.specs.inner.Updates.{IsToldFlow, told}
+use Rattle.flow_workers.specs.Judging.{IsAway, IsEnteredBy, IsJudged, IsPacketRefused}
+use Rattle.flow_workers.specs.inner.PacketPlans.{IsFrameRuling, reading_with}
+use Rattle.flow_workers.specs.inner.Updates.{IsToldFlow, told_event}
 use Rattle.flow_workers.specs.inner.ViewedPackets.{IsViewed, IsViewedBy}
 
 -- what the rules say of a packet, where they are asked
@@ -56,7 +56,7 @@ pub record IsRuled (policy : PolicyFacts) (s : PacketFacts) (p : ViewedPacket) (
   pub seen : IsViewed (section_of s.interface policy).own s p
   pub ruled : IsFrameRuling (section_of s.interface policy) (frame_facts p.frame.now) ruling
 
-pub ruled_by : (filter : ReadyFilter) (policy : PolicyFacts) (s : PacketFacts) (p : ViewedPacket) (ruling : Ruling)
+pub ruled_by : (filter : InterfaceFilter) (policy : PolicyFacts) (s : PacketFacts) (p : ViewedPacket) (ruling : Ruling)
     → IsViewedBy policy filter s p → IsFrameRuling (section_in filter) (frame_facts p.frame.now) ruling
     → IsRuled policy s p ruling
 ruled_by filter policy s p ruling by ruled = record {
@@ -130,15 +130,15 @@ answered l took times policy s p ruling v w verdict u reply is asks entered said
 }
   where
     event : Event
-    event = told (words_of u.key) (decision_of u.patch) (is_expired_at times p.moment) entered.0 reply
+    event = told_event (words_of u.key) (decision_of u.patch) (is_expired_at times p.moment) entered.0 reply
 
     expiry : HasExpiry (expired_for u.patch) event
-    expiry = ap (asked entered.0 reply) (timed_by times p.moment (frame_facts p.frame.now) ruling u asks)
+    expiry = ap (expired_told entered.0 reply) (timed_by times p.moment (frame_facts p.frame.now) ruling u asks)
 
 pub refused : (l : Layout) (times : Timeouts) (policy : PolicyFacts) (s : PacketFacts) (p : ViewedPacket)
     (ruling : Ruling) (v w : Views) (u : Update)
     → IsRuled policy s p ruling → update_of times (reading_in p ruling) ≡ Some u → IsAway l u.key v w
-    → IsRefused l times policy s v w
+    → IsPacketRefused l times policy s v w
 refused l times policy s p ruling v w u is asks away = record {
   reading = reading_in p ruling;
   read = reads policy s p ruling is;

@@ -1,10 +1,9 @@
 pub mod AnsweredUpdates
+pub mod CallerSplitLemmas
 pub mod DealtLemmas
 pub mod JudgedPackets
-pub mod NumberLemmas
+pub mod MergeLemmas
 pub mod OwnLemmas
-pub mod PartLemmas
-pub mod PlacingLemmas
 pub mod RenewalLemmas
 pub mod RestLemmas
 pub mod ShortPackets
@@ -13,3 +12,4 @@ pub mod TurnLemmas
 pub mod ViewedPacketLemmas
 pub mod WantedLemmas
 pub mod WorkSteps
+pub mod WorkerResultLemmas

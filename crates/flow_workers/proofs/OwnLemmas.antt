@@ -1,42 +1,42 @@
--- A worker at its own packets of a part.
+-- A worker at its own packets of a chunk.
 use Rattle.std.proofs.Common.{◌≡◌, ◌≢◌, ◌∙◌, ◌+◌, ◌<◌, ◌≤◌, Fits, w64, ℕ, List, [], ◌∷◌, Some, ap, arith, drop, get_or, inl, inr, length, map, refl, slice_get, subst, sym}
 use Rattle.std.proofs.lemmas.Bool.Decides.{eqb_tells}
 use Rattle.std.specs.Prelude.{◌^◌}
 use Rattle.std.proofs.lemmas.List.{drop_all, drop_more}
 use Rattle.std.proofs.lemmas.Option.{slice_get_within}
 use Rattle.packet_view.specs.Captures.{PacketFacts, packet_facts}
-use Rattle.packet_view.specs.CheckedCaptures.{held}
+use Rattle.packet_view.specs.CheckedCaptures.{remaining}
 use Rattle.bihash_words.specs.declared.shape.Shape.{Ghosts}
 use Rattle.packet_dealing.proofs.DealtLists.{left_behind, none_left, stands_at}
 use Rattle.packet_dealing.proofs.HandedPackets.{none_picked, none_there, picked_mine, picked_other}
 use Rattle.packet_dealing.specs.Dealt.{IsDealtTo, picked, placed_facts}
-use Rattle.packet_dealing.specs.declared.dealt_part.DealtPacket.{DealtPacket}
-use Rattle.packet_dealing.specs.declared.dealt_part.DealtPart.{DealtPart}
-use Rattle.flow_workers.specs.declared.share.Run.{Run}
+use Rattle.packet_dealing.specs.declared.dealt_chunk.DealtPacket.{DealtPacket}
+use Rattle.packet_dealing.specs.declared.dealt_chunk.DealtChunk.{DealtChunk}
+use Rattle.flow_workers.specs.declared.share.Batch.{Batch}
 use Rattle.flow_workers.specs.declared.share.Share.{Share}
 use Rattle.flow_workers.specs.Callers.{AreIdle}
-use Rattle.flow_workers.specs.inner.Jobs.{HasWorkedOn, IsPartOf, dealer_of}
-use Rattle.flow_workers.proofs.DealtLemmas.{part_left, part_mine, worked_none, worked_on, worked_past, worked_to}
+use Rattle.flow_workers.specs.inner.Jobs.{HasWorkedOn, IsChunkAt, dealer_of}
+use Rattle.flow_workers.proofs.DealtLemmas.{chunk_left, chunk_mine, worked_none, worked_on, worked_past, worked_to}
 use Rattle.flow_workers.proofs.WorkSteps.{taken_inside}
 
--- The worker has looked at the packets of the part before one of its places, and these are its own of the others.
-pub record HasLeft {A B R G K L : Type 0} (ga : Ghosts A K) (gb : Ghosts B L) (run : Run A B R G K L) (w first : ℕ)
-    (part : DealtPart) (left : List DealtPacket) (old new : Share A B K L ga gb) : Type 0 where
+-- The worker has looked at the packets of the chunk before one of its places, and these are its own of the others.
+pub record HasLeft {A B R G K L : Type 0} (ga : Ghosts A K) (gb : Ghosts B L) (batch : Batch A B R G K L) (w first : ℕ)
+    (chunk : DealtChunk) (left : List DealtPacket) (old new : Share A B K L ga gb) : Type 0 where
   pub place : ℕ
-  pub inside : place ≤ length part.workers.items
+  pub inside : place ≤ length chunk.workers.items
   pub own : map placed_facts left
-      ≡ picked w place (drop place part.workers.items) (drop (first + place) (held run.packets))
-  pub worked : HasWorkedOn ga gb run w first (first + place) old new
+      ≡ picked w place (drop place chunk.workers.items) (drop (first + place) (remaining batch.packets))
+  pub worked : HasWorkedOn ga gb batch w first (first + place) old new
 
 -- The worker has looked at the packets before this one, which is its own, and these are its own behind it.
-pub record IsNext {A B R G K L : Type 0} (ga : Ghosts A K) (gb : Ghosts B L) (run : Run A B R G K L) (w first : ℕ)
-    (part : DealtPart) (at : ℕ) (packet : PacketFacts) (left : List (ℕ × PacketFacts))
+pub record IsNext {A B R G K L : Type 0} (ga : Ghosts A K) (gb : Ghosts B L) (batch : Batch A B R G K L) (w first : ℕ)
+    (chunk : DealtChunk) (at : ℕ) (packet : PacketFacts) (left : List (ℕ × PacketFacts))
     (old new : Share A B K L ga gb) : Type 0 where
-  pub inside : at < length part.workers.items
-  pub there : slice_get (held run.packets) (first + at) ≡ Some packet
-  pub mine : IsDealtTo ga gb (dealer_of run.setup) (run.first + (first + at)) packet w
-  pub own : left ≡ picked w (at + 1) (drop (at + 1) part.workers.items) (drop (first + (at + 1)) (held run.packets))
-  pub worked : HasWorkedOn ga gb run w first (first + at) old new
+  pub inside : at < length chunk.workers.items
+  pub there : slice_get (remaining batch.packets) (first + at) ≡ Some packet
+  pub mine : IsDealtTo ga gb (dealer_of batch.setup) (batch.first + (first + at)) packet w
+  pub own : left ≡ picked w (at + 1) (drop (at + 1) chunk.workers.items) (drop (first + (at + 1)) (remaining batch.packets))
+  pub worked : HasWorkedOn ga gb batch w first (first + at) old new
 
 same_front : {X : Type 0} (x y : X) (xs ys : List X) → x ∷ xs ≡ y ∷ ys → x ≡ y
 same_front x y xs ys e = cc
@@ -46,47 +46,47 @@ front_is : {X : Type 0} (xs ys : List X) (k : ℕ) (x d : X) → drop k xs ≡ x
 front_is xs ys k x d here =
     let more = sym (drop_more xs k d (taken_inside xs ys k x here)) ∙ here in cc
 
-module _ {A B R G K L : Type 0} (ga : Ghosts A K) (gb : Ghosts B L) (run : Run A B R G K L) (w first : ℕ)
-    (part : DealtPart) (is : IsPartOf ga gb run first part) (old new : Share A B K L ga gb) where
-  -- the packets behind a place of the part's, where one more is passed
-  one_behind : (k : ℕ) (packet : PacketFacts) (ps : List PacketFacts) → drop (first + k) (held run.packets) ≡ packet ∷ ps
-      → drop (first + (k + 1)) (held run.packets) ≡ ps
+module _ {A B R G K L : Type 0} (ga : Ghosts A K) (gb : Ghosts B L) (batch : Batch A B R G K L) (w first : ℕ)
+    (chunk : DealtChunk) (is : IsChunkAt ga gb batch first chunk) (old new : Share A B K L ga gb) where
+  -- the packets behind a place of the chunk's, where one more is passed
+  one_behind : (k : ℕ) (packet : PacketFacts) (ps : List PacketFacts) → drop (first + k) (remaining batch.packets) ≡ packet ∷ ps
+      → drop (first + (k + 1)) (remaining batch.packets) ≡ ps
   one_behind k packet ps here =
-      ap (λ n. drop n (held run.packets)) (let e : first + (k + 1) ≡ first + k + 1 = omega arith in e)
-      ∙ left_behind (held run.packets) ps (first + k) packet here
+      ap (λ n. drop n (remaining batch.packets)) (let e : first + (k + 1) ≡ first + k + 1 = omega arith in e)
+      ∙ left_behind (remaining batch.packets) ps (first + k) packet here
 
   -- another's packet is passed by
-  past : (k x : ℕ) (ws : List ℕ) (packet : PacketFacts) (ps : List PacketFacts) → drop k part.workers.items ≡ x ∷ ws
-      → drop (first + k) (held run.packets) ≡ packet ∷ ps → x ≢ w → HasWorkedOn ga gb run w first (first + k) old new
-      → HasWorkedOn ga gb run w first (first + (k + 1)) old new
+  past : (k x : ℕ) (ws : List ℕ) (packet : PacketFacts) (ps : List PacketFacts) → drop k chunk.workers.items ≡ x ∷ ws
+      → drop (first + k) (remaining batch.packets) ≡ packet ∷ ps → x ≢ w → HasWorkedOn ga gb batch w first (first + k) old new
+      → HasWorkedOn ga gb batch w first (first + (k + 1)) old new
   past k x ws packet ps at here other worked =
-      worked_to ga gb run w first (first + k + 1) (first + (k + 1)) old new (omega arith)
-      (worked_on ga gb run w first (first + k) (first + k + 1) old new new worked
-      (worked_past ga gb run w first k part packet ps new is (taken_inside part.workers.items ws k x at) here
-      (λ same. other (sym (front_is part.workers.items ws k x 0 at) ∙ same)) worked.idle))
+      worked_to ga gb batch w first (first + k + 1) (first + (k + 1)) old new (omega arith)
+      (worked_on ga gb batch w first (first + k) (first + k + 1) old new new worked
+      (worked_past ga gb batch w first k chunk packet ps new is (taken_inside chunk.workers.items ws k x at) here
+      (λ same. other (sym (front_is chunk.workers.items ws k x 0 at) ∙ same)) worked.idle))
 
   -- the packet at a place is the worker's
-  is_next : (k x : ℕ) (ws : List ℕ) (packet : PacketFacts) (ps : List PacketFacts) → drop k part.workers.items ≡ x ∷ ws
-      → drop (first + k) (held run.packets) ≡ packet ∷ ps → x ≡ w → HasWorkedOn ga gb run w first (first + k) old new
-      → IsNext ga gb run w first part k packet (picked w (k + 1) ws ps) old new
+  is_next : (k x : ℕ) (ws : List ℕ) (packet : PacketFacts) (ps : List PacketFacts) → drop k chunk.workers.items ≡ x ∷ ws
+      → drop (first + k) (remaining batch.packets) ≡ packet ∷ ps → x ≡ w → HasWorkedOn ga gb batch w first (first + k) old new
+      → IsNext ga gb batch w first chunk k packet (picked w (k + 1) ws ps) old new
   is_next k x ws packet ps at here mine worked =
-      let inside = taken_inside part.workers.items ws k x at in
+      let inside = taken_inside chunk.workers.items ws k x at in
       record {
         inside = inside;
-        there = stands_at (held run.packets) ps (first + k) packet here;
-        mine = subst (IsDealtTo ga gb (dealer_of run.setup) (run.first + (first + k)) packet)
-            (front_is part.workers.items ws k x 0 at ∙ mine) (part_mine ga gb run first k part packet ps is inside here);
+        there = stands_at (remaining batch.packets) ps (first + k) packet here;
+        mine = subst (IsDealtTo ga gb (dealer_of batch.setup) (batch.first + (first + k)) packet)
+            (front_is chunk.workers.items ws k x 0 at ∙ mine) (chunk_mine ga gb batch first k chunk packet ps is inside here);
         own = ap (λ qs. picked w (k + 1) ws qs) (sym (one_behind k packet ps here))
-            ∙ ap (λ vs. picked w (k + 1) vs (drop (first + (k + 1)) (held run.packets)))
-            (sym (left_behind part.workers.items ws k x at));
+            ∙ ap (λ vs. picked w (k + 1) vs (drop (first + (k + 1)) (remaining batch.packets)))
+            (sym (left_behind chunk.workers.items ws k x at));
         worked = worked;
       }
 
   -- the first one of those that are left is the worker's next packet
   found : (ws : List ℕ) (ps : List PacketFacts) (k at : ℕ) (packet : PacketFacts) (left : List (ℕ × PacketFacts))
-      → drop k part.workers.items ≡ ws → drop (first + k) (held run.packets) ≡ ps
-      → (at, packet) ∷ left ≡ picked w k ws ps → HasWorkedOn ga gb run w first (first + k) old new
-      → IsNext ga gb run w first part at packet left old new
+      → drop k chunk.workers.items ≡ ws → drop (first + k) (remaining batch.packets) ≡ ps
+      → (at, packet) ∷ left ≡ picked w k ws ps → HasWorkedOn ga gb batch w first (first + k) old new
+      → IsNext ga gb batch w first chunk at packet left old new
   found [] ps k at packet left behind here own worked =
       absurd (let e = own ∙ none_picked w k ps in let f : ⊥ = cc in f)
   found (x ∷ ws) [] k at packet left behind here own worked =
@@ -95,71 +95,71 @@ module _ {A B R G K L : Type 0} (ga : Ghosts A K) (gb : Ghosts B L) (run : Run A
     | inl (test, same) ↦
         let e : (at, packet) ∷ left ≡ (k, p) ∷ picked w (k + 1) ws ps = own ∙ picked_mine w k x ws p ps same in
         let front = same_front (k, p) (at, packet) _ _ (sym e) in
-        subst (λ n. IsNext ga gb run w first part n packet left old new) (ap (λ (f : ℕ × PacketFacts). f.0) front)
-        (subst (λ q. IsNext ga gb run w first part k q left old new) (ap (λ (f : ℕ × PacketFacts). f.1) front)
-        (subst (λ ls. IsNext ga gb run w first part k p ls old new) (let f : picked w (k + 1) ws ps ≡ left = cc in f)
+        subst (λ n. IsNext ga gb batch w first chunk n packet left old new) (ap (λ (f : ℕ × PacketFacts). f.0) front)
+        (subst (λ q. IsNext ga gb batch w first chunk k q left old new) (ap (λ (f : ℕ × PacketFacts). f.1) front)
+        (subst (λ ls. IsNext ga gb batch w first chunk k p ls old new) (let f : picked w (k + 1) ws ps ≡ left = cc in f)
         (is_next k x ws p ps behind here same worked)))
     | inr (test, differ) ↦
-        found ws ps (k + 1) at packet left (left_behind part.workers.items ws k x behind) (one_behind k p ps here)
+        found ws ps (k + 1) at packet left (left_behind chunk.workers.items ws k x behind) (one_behind k p ps here)
         (own ∙ picked_other w k x ws p ps differ) (past k x ws p ps behind here differ worked)
   ]
 
   -- where none is left, the others are passed by
-  passed : (ws : List ℕ) (ps : List PacketFacts) (k : ℕ) → k ≤ length part.workers.items
-      → drop k part.workers.items ≡ ws → drop (first + k) (held run.packets) ≡ ps
-      → [] ≡ picked w k ws ps → HasWorkedOn ga gb run w first (first + k) old new
-      → HasWorkedOn ga gb run w first (first + length part.workers.items) old new
+  passed : (ws : List ℕ) (ps : List PacketFacts) (k : ℕ) → k ≤ length chunk.workers.items
+      → drop k chunk.workers.items ≡ ws → drop (first + k) (remaining batch.packets) ≡ ps
+      → [] ≡ picked w k ws ps → HasWorkedOn ga gb batch w first (first + k) old new
+      → HasWorkedOn ga gb batch w first (first + length chunk.workers.items) old new
   passed [] ps k inside behind here own worked =
-      worked_to ga gb run w first (first + k) (first + length part.workers.items) old new
-      (let all = none_left part.workers.items k behind in omega arith) worked
+      worked_to ga gb batch w first (first + k) (first + length chunk.workers.items) old new
+      (let all = none_left chunk.workers.items k behind in omega arith) worked
   passed (x ∷ ws) [] k inside behind here own worked =
-      absurd (part_left ga gb run first k part is (taken_inside part.workers.items ws k x behind) here)
+      absurd (chunk_left ga gb batch first k chunk is (taken_inside chunk.workers.items ws k x behind) here)
   passed (x ∷ ws) (p ∷ ps) k inside behind here own worked = elim (eqb_tells x w) [
     | inl (test, same) ↦ absurd (let e = own ∙ picked_mine w k x ws p ps same in let f : ⊥ = cc in f)
     | inr (test, differ) ↦
-        passed ws ps (k + 1) (let more = taken_inside part.workers.items ws k x behind in omega arith)
-        (left_behind part.workers.items ws k x behind) (one_behind k p ps here)
+        passed ws ps (k + 1) (let more = taken_inside chunk.workers.items ws k x behind in omega arith)
+        (left_behind chunk.workers.items ws k x behind) (one_behind k p ps here)
         (own ∙ picked_other w k x ws p ps differ) (past k x ws p ps behind here differ worked)
   ]
 
   -- the packet that the worker judges next
   pub next_own : (own : List DealtPacket) (i : ℕ) (d : DealtPacket) → i < length own
-      → HasLeft ga gb run w first part (drop i own) old new
-      → IsNext ga gb run w first part (get_or own i d).at (packet_facts (get_or own i d).packet)
+      → HasLeft ga gb batch w first chunk (drop i own) old new
+      → IsNext ga gb batch w first chunk (get_or own i d).at (packet_facts (get_or own i d).packet)
       (map placed_facts (drop (i + 1) own)) old new
   next_own own i d inside has =
-      found (drop has.place part.workers.items) (drop (first + has.place) (held run.packets)) has.place (get_or own i d).at
+      found (drop has.place chunk.workers.items) (drop (first + has.place) (remaining batch.packets)) has.place (get_or own i d).at
       (packet_facts (get_or own i d).packet) (map placed_facts (drop (i + 1) own)) refl refl
       (ap (map placed_facts) (sym (drop_more own i d inside)) ∙ has.own) has.worked
 
-  -- it stands within the run
+  -- it stands within the batch
   pub next_fits : (own : List DealtPacket) (i : ℕ) (d : DealtPacket) → i < length own
-      → HasLeft ga gb run w first part (drop i own) old new → run.first + length (held run.packets) < 2 ^ 64
+      → HasLeft ga gb batch w first chunk (drop i own) old new → batch.first + length (remaining batch.packets) < 2 ^ 64
       → Fits w64 (first + (get_or own i d).at)
   next_fits own i d inside has fits =
       let within =
-      slice_get_within (held run.packets) (first + (get_or own i d).at) (packet_facts (get_or own i d).packet)
+      slice_get_within (remaining batch.packets) (first + (get_or own i d).at) (packet_facts (get_or own i d).packet)
       (next_own own i d inside has).there in
       omega arith
 
   -- the worker judged its own packets, all of them
-  pub own_over : (own : List DealtPacket) (i : ℕ) → length own ≤ i → HasLeft ga gb run w first part (drop i own) old new
-      → HasWorkedOn ga gb run w first (first + length part.workers.items) old new
+  pub own_over : (own : List DealtPacket) (i : ℕ) → length own ≤ i → HasLeft ga gb batch w first chunk (drop i own) old new
+      → HasWorkedOn ga gb batch w first (first + length chunk.workers.items) old new
   own_over own i past has =
-      passed (drop has.place part.workers.items) (drop (first + has.place) (held run.packets)) has.place has.inside refl
+      passed (drop has.place chunk.workers.items) (drop (first + has.place) (remaining batch.packets)) has.place has.inside refl
       refl (ap (map placed_facts) (sym (drop_all i own past)) ∙ has.own) has.worked
 
-module _ {A B R G K L : Type 0} (ga : Ghosts A K) (gb : Ghosts B L) (run : Run A B R G K L) (w first : ℕ)
-    (part : DealtPart) where
+module _ {A B R G K L : Type 0} (ga : Ghosts A K) (gb : Ghosts B L) (batch : Batch A B R G K L) (w first : ℕ)
+    (chunk : DealtChunk) where
   -- all of the worker's own packets are left
   pub all_left : (own : List DealtPacket) (share : Share A B K L ga gb)
-      → map placed_facts own ≡ picked w 0 part.workers.items (drop first (held run.packets))
-      → AreIdle ga gb run.setup.tables.now share.callers → HasLeft ga gb run w first part own share share
+      → map placed_facts own ≡ picked w 0 chunk.workers.items (drop first (remaining batch.packets))
+      → AreIdle ga gb batch.setup.tables.now share.callers → HasLeft ga gb batch w first chunk own share share
   all_left own share are idle = record {
     place = 0;
     inside = omega arith;
-    own = are ∙ ap (λ n. picked w 0 part.workers.items (drop n (held run.packets))) start;
-    worked = worked_to ga gb run w first first (first + 0) share share start (worked_none ga gb run w first share idle);
+    own = are ∙ ap (λ n. picked w 0 chunk.workers.items (drop n (remaining batch.packets))) start;
+    worked = worked_to ga gb batch w first first (first + 0) share share start (worked_none ga gb batch w first share idle);
   }
     where
       start : first ≡ first + 0
@@ -167,12 +167,12 @@ module _ {A B R G K L : Type 0} (ga : Ghosts A K) (gb : Ghosts B L) (run : Run A
 
   -- the next one was judged
   pub left_next : (at : ℕ) (packet : PacketFacts) (left : List DealtPacket) (old between new : Share A B K L ga gb)
-      → IsNext ga gb run w first part at packet (map placed_facts left) old between
-      → HasWorkedOn ga gb run w (first + at) (first + at + 1) between new → HasLeft ga gb run w first part left old new
+      → IsNext ga gb batch w first chunk at packet (map placed_facts left) old between
+      → HasWorkedOn ga gb batch w (first + at) (first + at + 1) between new → HasLeft ga gb batch w first chunk left old new
   left_next at packet left old between new next judged = record {
     place = at + 1;
     inside = let inside = next.inside in omega arith;
     own = next.own;
-    worked = worked_to ga gb run w first (first + at + 1) (first + (at + 1)) old new (omega arith)
-        (worked_on ga gb run w first (first + at) (first + at + 1) old between new next.worked judged);
+    worked = worked_to ga gb batch w first (first + at + 1) (first + (at + 1)) old new (omega arith)
+        (worked_on ga gb batch w first (first + at) (first + at + 1) old between new next.worked judged);
   }

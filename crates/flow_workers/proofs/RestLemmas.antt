@@ -1,31 +1,31 @@
--- Workers between parts of the packets.
+-- Workers between batches of packets.
 use Rattle.std.proofs.Common.{◌≡◌, ◌⊎◌, ◌∙◌, ◌+◌, ◌-◌, ◌<◌, ◌≤◌, ◌^◌, ℕ, zero, suc, List, [], ◌∷◌, ◌++◌, ap, append_assoc, drop, length, get_or, slice_get, refl, subst, sym, arith, inl, inr}
 use Rattle.std.specs.Global.{Vec}
 use Rattle.std.specs.Prelude.{slice_index}
 use Rattle.std.proofs.lemmas.List.{get_or_append_left, get_or-append_right, length-append, length-drop}
 use Rattle.std.proofs.Math.Seq.{drop-append_seam}
 use Rattle.packet_view.specs.Captures.{PacketFacts}
-use Rattle.packet_view.specs.CheckedCaptures.{held}
+use Rattle.packet_view.specs.CheckedCaptures.{remaining}
 use Rattle.bihash_words.specs.declared.shape.Shape.{Ghosts}
 use Rattle.acl_policy.specs.Policies.{PolicyFacts}
 use Rattle.session_state.specs.declared.timeouts.Timeouts.{Timeouts}
 use Rattle.flow_filter.specs.declared.verdict.Verdict.{Verdict}
 use Rattle.flow_dealing.specs.Dealings.{Deal}
-use Rattle.flow_dealing.specs.Runs.{AreJudged}
+use Rattle.flow_dealing.specs.WorkerRecords.{AreJudged}
 use Rattle.packet_dealing.proofs.DealtLists.{there_behind}
 use Rattle.packet_dealing.specs.Dealt.{AreDealt, AreWorkers, IsDealtTo}
 use Rattle.packet_dealing.specs.declared.dealer.Dealer.{Dealer}
-use Rattle.packet_dealing.specs.declared.dealt_part.DealtPart.{DealtPart}
+use Rattle.packet_dealing.specs.declared.dealt_chunk.DealtChunk.{DealtChunk}
 use Rattle.flow_workers.specs.declared.setup.Setup.{Setup}
-use Rattle.flow_workers.specs.declared.share.Run.{Run}
+use Rattle.flow_workers.specs.declared.share.Batch.{Batch}
 use Rattle.flow_workers.specs.declared.share.Share.{Share}
 use Rattle.flow_workers.specs.Callers.{AreIdle, views_of}
 use Rattle.flow_workers.specs.declared.workers.Workers.{Workers}
 use Rattle.flow_workers.specs.Progress.{AreAtRest, HaveAllSaid, HaveSaid, IsAtRest}
 use Rattle.flow_workers.specs.inner.Jobs.{HasDone, HasWorked, StandAmong, dealer_of, run_facts}
 use Rattle.flow_workers.specs.inner.Shares.{IsUnused, workers_in}
-use Rattle.flow_workers.specs.inner.Together.{HaveNoted, HaveRun}
-use Rattle.flow_workers.specs.inner.Turns.{MayRun}
+use Rattle.flow_workers.specs.inner.Together.{HaveNoted, HaveJudgedBatch}
+use Rattle.flow_workers.specs.inner.Turns.{MayJudgeBatch}
 use Rattle.flow_workers.specs.inner.Work.{IsWorkUntil}
 use Rattle.flow_workers.proofs.DealtLemmas.{front_only}
 use Rattle.flow_workers.proofs.WorkSteps.{work_none}
@@ -66,19 +66,19 @@ module _ {A B K L : Type 0} (ga : Ghosts A K) (gb : Ghosts B L) (dealer : Dealer
     ];
   }
 
-  pub workers_dealt : (first : ℕ) (parts : List DealtPart) (packets : List PacketFacts)
-      → AreDealt ga gb dealer first parts packets
-      → AreWorkers ga gb dealer first (workers_in parts) packets × (length (workers_in parts) ≡ length packets)
+  pub workers_dealt : (first : ℕ) (chunks : List DealtChunk) (packets : List PacketFacts)
+      → AreDealt ga gb dealer first chunks packets
+      → AreWorkers ga gb dealer first (workers_in chunks) packets × (length (workers_in chunks) ≡ length packets)
   workers_dealt first [] packets none = (
     record { inside = omega arith; each = λ k packet below there. absurd (omega arith) },
     sym (ap length none),
   )
-  workers_dealt first (part ∷ parts) packets (one, more) =
-      let rest = workers_dealt (first + length part.workers.items) parts (drop (length part.workers.items) packets) more
+  workers_dealt first (chunk ∷ chunks) packets (one, more) =
+      let rest = workers_dealt (first + length chunk.workers.items) chunks (drop (length chunk.workers.items) packets) more
       in (
-        workers_joined first part.workers.items (workers_in parts) packets one.workers rest.0,
-        let n = length-append part.workers.items (workers_in parts) in
-            let m = length-drop (length part.workers.items) packets in let i = one.workers.inside in let e = rest.1 in
+        workers_joined first chunk.workers.items (workers_in chunks) packets one.workers rest.0,
+        let n = length-append chunk.workers.items (workers_in chunks) in
+            let m = length-drop (length chunk.workers.items) packets in let i = one.workers.inside in let e = rest.1 in
             omega arith,
       )
 
@@ -91,11 +91,11 @@ module _ {A B K L : Type 0} (ga : Ghosts A K) (gb : Ghosts B L) (dealer : Dealer
   }
 
   -- packets that were dealt are noted with their workers
-  pub dealt_noted : (first : ℕ) (parts : List DealtPart) (packets : List PacketFacts) (old new : List ℕ)
-      → AreDealt ga gb dealer first parts packets → new ≡ old ++ workers_in parts
+  pub dealt_noted : (first : ℕ) (chunks : List DealtChunk) (packets : List PacketFacts) (old new : List ℕ)
+      → AreDealt ga gb dealer first chunks packets → new ≡ old ++ workers_in chunks
       → HaveNoted ga gb dealer first packets old new
-  dealt_noted first parts packets old new dealt is = let d = workers_dealt first parts packets dealt in record {
-    workers = workers_in parts;
+  dealt_noted first chunks packets old new dealt is = let d = workers_dealt first chunks packets dealt in record {
+    workers = workers_in chunks;
     noted = is;
     are = d.0;
     many = d.1;
@@ -132,39 +132,39 @@ module _ {A B R G K L : Type 0} (ga : Ghosts A K) (gb : Ghosts B L) (setup : Set
         (work_none (run_facts ga gb setup more) w (views_of ga gb share.callers));
   }
 
-  pub rest_judged : (packets : List PacketFacts) (run : Run A B R G K L) (w : ℕ) (old new : Share A B K L ga gb)
-      → run.setup ≡ setup → run.first ≡ length packets → IsAtRest ga gb setup packets w old
-      → HasWorked ga gb run w old new → IsAtRest ga gb setup (packets ++ held run.packets) w new
-  rest_judged packets run w old new same first rest worked = record {
+  pub rest_judged : (packets : List PacketFacts) (batch : Batch A B R G K L) (w : ℕ) (old new : Share A B K L ga gb)
+      → batch.setup ≡ setup → batch.first ≡ length packets → IsAtRest ga gb setup packets w old
+      → HasWorked ga gb batch w old new → IsAtRest ga gb setup (packets ++ remaining batch.packets) w new
+  rest_judged packets batch w old new same first rest worked = record {
     idle = subst (λ s. AreIdle ga gb s.tables.now new.callers) same worked.idle;
     began = rest.began;
     fresh = rest.fresh;
     work = λ more.
-        let all = packets ++ (held run.packets ++ more) in
-        let among : StandAmong run all = record {
+        let all = packets ++ (remaining batch.packets ++ more) in
+        let among : StandAmong batch all = record {
           behind = more;
-          stand = ap (λ n. drop n all) first ∙ drop-append_seam packets (held run.packets ++ more);
+          stand = ap (λ n. drop n all) first ∙ drop-append_seam packets (remaining batch.packets ++ more);
         } in
-        let before : HasDone ga gb run.setup all w (run.first + 0) rest.began old =
-        subst (λ s. HasDone ga gb s all w (run.first + 0) rest.began old) (sym same)
+        let before : HasDone ga gb batch.setup all w (batch.first + 0) rest.began old =
+        subst (λ s. HasDone ga gb s all w (batch.first + 0) rest.began old) (sym same)
         (subst (λ n. HasDone ga gb setup all w n rest.began old)
-        (let e : length packets ≡ run.first + 0 = omega arith in e) (rest.work (held run.packets ++ more))) in
-        subst (λ xs. HasDone ga gb setup xs w (length (packets ++ held run.packets)) rest.began new)
-        (sym (append_assoc packets (held run.packets) more))
+        (let e : length packets ≡ batch.first + 0 = omega arith in e) (rest.work (remaining batch.packets ++ more))) in
+        subst (λ xs. HasDone ga gb setup xs w (length (packets ++ remaining batch.packets)) rest.began new)
+        (sym (append_assoc packets (remaining batch.packets) more))
         (subst (λ n. HasDone ga gb setup all w n rest.began new)
-        (let e = length-append packets (held run.packets) in
-        let f : run.first + length (held run.packets) ≡ length (packets ++ held run.packets) = omega arith in f)
-        (subst (λ s. HasDone ga gb s all w (run.first + length (held run.packets)) rest.began new) same
+        (let e = length-append packets (remaining batch.packets) in
+        let f : batch.first + length (remaining batch.packets) ≡ length (packets ++ remaining batch.packets) = omega arith in f)
+        (subst (λ s. HasDone ga gb s all w (batch.first + length (remaining batch.packets)) rest.began new) same
         (worked.work all among rest.began before)));
   }
 
 -- ---- All workers
 
 module _ {A B R G K L : Type 0} (ga : Ghosts A K) (gb : Ghosts B L) (old : Workers A B R G K L ga gb)
-    (packets : List PacketFacts) (rest : AreAtRest packets old) (run : Run A B R G K L) (same : run.setup ≡ old.setup)
-    (first : run.first ≡ old.count) where
-  pub may_run : length packets + length (held run.packets) < 2 ^ 64 → MayRun run old.shares.items
-  may_run fits = record {
+    (packets : List PacketFacts) (rest : AreAtRest packets old) (batch : Batch A B R G K L) (same : batch.setup ≡ old.setup)
+    (first : batch.first ≡ old.count) where
+  pub may_judge_batch : length packets + length (remaining batch.packets) < 2 ^ 64 → MayJudgeBatch batch old.shares.items
+  may_judge_batch fits = record {
     shapes = rest.sound.shapes;
     some = subst (λ (s : Setup A B R G K L). 1 ≤ s.workers) (sym same) rest.sound.some;
     few = subst (λ (s : Setup A B R G K L). s.workers ≤ 16) (sym same) rest.sound.few;
@@ -176,23 +176,23 @@ module _ {A B R G K L : Type 0} (ga : Ghosts A K) (gb : Ghosts B L) (old : Worke
   }
 
   pub rest_more : (shares : Vec (Share A B K L ga gb)) (judges : Vec ℕ) (count : ℕ)
-      → HaveRun run old.shares.items shares.items old.judges.items judges.items
-      → count ≡ old.count + length (held run.packets)
-      → AreAtRest (packets ++ held run.packets)
+      → HaveJudgedBatch batch old.shares.items shares.items old.judges.items judges.items
+      → count ≡ old.count + length (remaining batch.packets)
+      → AreAtRest (packets ++ remaining batch.packets)
       (record { setup = old.setup; shares = shares; judges = judges; count = count })
   rest_more shares judges count ran counted =
       let are =
-      workers_noted ga gb (dealer_of old.setup) old.judges.items judges.items packets (held run.packets)
+      workers_noted ga gb (dealer_of old.setup) old.judges.items judges.items packets (remaining batch.packets)
       rest.noted.count rest.noted.workers
-      (subst (λ n. HaveNoted ga gb (dealer_of old.setup) n (held run.packets) old.judges.items judges.items)
+      (subst (λ n. HaveNoted ga gb (dealer_of old.setup) n (remaining batch.packets) old.judges.items judges.items)
       (first ∙ rest.count)
-      (subst (λ (s : Setup A B R G K L). HaveNoted ga gb (dealer_of s) run.first (held run.packets) old.judges.items
+      (subst (λ (s : Setup A B R G K L). HaveNoted ga gb (dealer_of s) batch.first (remaining batch.packets) old.judges.items
       judges.items) same ran.noted)) in
       record {
         sound = rest.sound;
-        count = let e = rest.count in let n = length-append packets (held run.packets) in omega arith;
+        count = let e = rest.count in let n = length-append packets (remaining batch.packets) in omega arith;
         shares = ran.worked.count ∙ rest.shares;
-        each = λ i d inside. rest_judged ga gb old.setup packets run i (get_or old.shares.items i d)
+        each = λ i d inside. rest_judged ga gb old.setup packets batch i (get_or old.shares.items i d)
             (get_or shares.items i d) same (first ∙ rest.count) (rest.each i d inside)
             (ran.worked.each i d d (subst (λ n. i < n) (sym rest.shares) inside));
         noted = record { count = are.0; workers = are.1 };

@@ -32,11 +32,11 @@ use Rattle.flow_filter.specs.Updates.{Update, update_in, update_of}
 use Rattle.flow_filter.specs.Verdicts.{verdict_by, verdict_entered, verdict_of, verdict_of_rules, verdict_reflected}
 use Rattle.flow_filter.specs.Judged.{verdict_by_event, verdict_with}
 use Rattle.flow_filter.specs.OneThread.{Layout}
-use Rattle.flow_dealing.specs.Dealings.{flow_shown}
+use Rattle.flow_dealing.specs.Dealings.{flow_of_frame}
 use Rattle.flow_dealing.specs.Views.{Views}
 use Rattle.flow_workers.specs.declared.viewed_packet.ViewedPacket.{ViewedPacket}
-use Rattle.flow_workers.specs.inner.Preparing.{reading_with}
-use Rattle.flow_workers.specs.Judging.{IsEntered}
+use Rattle.flow_workers.specs.inner.PacketPlans.{reading_with}
+use Rattle.flow_workers.specs.Judging.{IsFlowEntry}
 use Rattle.flow_workers.specs.OutOfPages.{HasLastReply, IsFlowOutOfPages, IsFlowReply, IsPacketOutOfPages}
 use Rattle.flow_workers.specs.inner.ViewedPackets.{IsViewed}
 use Rattle.flow_workers.proofs.JudgedPackets.{reading_in}
@@ -89,7 +89,7 @@ settled_has_pages times moment (frames.Ip direction tuple) ruling said is e =
 -- the update is that of the packet's flow
 pub flow_updated : (times : Timeouts) (moment : ℕ) (view : FrameFacts) (ruling : Ruling) (u : Update)
     → update_of times (reading_with moment view ruling) ≡ Some u
-    → (flow : Flow) × (flow_shown view ≡ Some flow) × (flow.key ≡ u.key)
+    → (flow : Flow) × (flow_of_frame view ≡ Some flow) × (flow.key ≡ u.key)
 flow_updated times moment frames.NotIp ruling u is = absurd (let f : ⊥ = cc in f)
 flow_updated times moment frames.Malformed ruling u is = absurd (let f : ⊥ = cc in f)
 flow_updated times moment frames.Short ruling u is = absurd (let f : ⊥ = cc in f)
@@ -118,7 +118,7 @@ last_reply z v w e answered some =
     )
 
 pub flow_reply : (l : Layout) (took : View → View → Reply → Type 0) (key : FlowKey) (e : Event) (v w : Views)
-    → IsEntered l took key e v w → 1 ≤ length w.four.records → 1 ≤ length w.six.records → IsFlowReply key w e.reply
+    → IsFlowEntry l took key e v w → 1 ≤ length w.four.records → 1 ≤ length w.six.records → IsFlowReply key w e.reply
 flow_reply l took (Four key) e v w entered four six = last_reply l.four v.four w.four e entered.0 four
 flow_reply l took (Six key) e v w entered four six = last_reply l.six v.six w.six e entered.0 six
 

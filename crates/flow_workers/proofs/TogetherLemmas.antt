@@ -3,12 +3,12 @@ use Rattle.std.proofs.Common.{◌≡◌, ◌∙◌, ◌+◌, ◌<◌, ℕ, zero,
 use Rattle.std.proofs.lemmas.Bool.Decides.{eqb_tells}
 use Rattle.std.proofs.lemmas.List.{get_or-set_other, get_or-set_same, length-set, length_push}
 use Rattle.packet_view.specs.Captures.{PacketFacts}
-use Rattle.packet_view.specs.CheckedCaptures.{held}
+use Rattle.packet_view.specs.CheckedCaptures.{remaining}
 use Rattle.bihash_words.specs.declared.shape.Shape.{Ghosts}
 use Rattle.packet_dealing.proofs.DealtLists.{workers_push}
 use Rattle.packet_dealing.specs.Dealt.{IsDealtTo}
 use Rattle.packet_dealing.specs.declared.dealer.Dealer.{Dealer}
-use Rattle.flow_workers.specs.declared.share.Run.{Run}
+use Rattle.flow_workers.specs.declared.share.Batch.{Batch}
 use Rattle.flow_workers.specs.declared.share.Share.{Share}
 use Rattle.flow_workers.specs.Callers.{AreIdle}
 use Rattle.flow_workers.specs.inner.Jobs.{HasWorkedOn, dealer_of}
@@ -22,48 +22,48 @@ same_there [] i d e inside = absurd (omega arith)
 same_there (x ∷ xs) zero d e inside = refl
 same_there (x ∷ xs) (suc i) d e inside = same_there xs i d e (omega arith)
 
-module _ {A B R G K L : Type 0} (ga : Ghosts A K) (gb : Ghosts B L) (run : Run A B R G K L) where
+module _ {A B R G K L : Type 0} (ga : Ghosts A K) (gb : Ghosts B L) (batch : Batch A B R G K L) where
   abbrev all_idle : List (Share A B K L ga gb) → Type 0
   all_idle shares = (i : ℕ) (d : Share A B K L ga gb) → i < length shares
-      → AreIdle ga gb run.setup.tables.now (get_or shares i d).callers
+      → AreIdle ga gb batch.setup.tables.now (get_or shares i d).callers
 
   pub all_worked_on : (first mid last : ℕ) (old between new : List (Share A B K L ga gb))
-      → HaveWorkedOn run first mid old between → HaveWorkedOn run mid last between new
-      → HaveWorkedOn run first last old new
+      → HaveWorkedOn batch first mid old between → HaveWorkedOn batch mid last between new
+      → HaveWorkedOn batch first last old new
   all_worked_on first mid last old between new before behind = record {
     count = behind.count ∙ before.count;
-    each = λ i d e inside. worked_on ga gb run i first mid last (get_or old i d) (get_or between i d) (get_or new i e)
+    each = λ i d e inside. worked_on ga gb batch i first mid last (get_or old i d) (get_or between i d) (get_or new i e)
         (before.each i d d inside) (behind.each i d e (subst (λ n. i < n) (sym before.count) inside));
   }
 
   pub all_worked_to : (first last other : ℕ) (old new : List (Share A B K L ga gb)) → last ≡ other
-      → HaveWorkedOn run first last old new → HaveWorkedOn run first other old new
-  all_worked_to first last other old new same = subst (λ n. HaveWorkedOn run first n old new) same
+      → HaveWorkedOn batch first last old new → HaveWorkedOn batch first other old new
+  all_worked_to first last other old new same = subst (λ n. HaveWorkedOn batch first n old new) same
 
   -- all hold nothing after they judged
-  pub idle_after : (first last : ℕ) (old new : List (Share A B K L ga gb)) → HaveWorkedOn run first last old new
+  pub idle_after : (first last : ℕ) (old new : List (Share A B K L ga gb)) → HaveWorkedOn batch first last old new
       → all_idle new
   idle_after first last old new worked i d inside = (worked.each i d d (subst (λ n. i < n) worked.count inside)).idle
 
   -- a packet's worker judges it, and the others pass by it
   pub next_worked : (at worker : ℕ) (packet : PacketFacts) (old : List (Share A B K L ga gb))
-      (before share : Share A B K L ga gb) → all_idle old → slice_get (held run.packets) at ≡ Some packet
-      → IsDealtTo ga gb (dealer_of run.setup) (run.first + at) packet worker → worker < length old
-      → get_or old worker before ≡ before → HasWorkedOn ga gb run worker at (at + 1) before share
-      → HaveWorkedOn run at (at + 1) old (set old worker share)
+      (before share : Share A B K L ga gb) → all_idle old → slice_get (remaining batch.packets) at ≡ Some packet
+      → IsDealtTo ga gb (dealer_of batch.setup) (batch.first + at) packet worker → worker < length old
+      → get_or old worker before ≡ before → HasWorkedOn ga gb batch worker at (at + 1) before share
+      → HaveWorkedOn batch at (at + 1) old (set old worker share)
   next_worked at worker packet old before share idle there dealt one is worked = record {
     count = length-set old worker share;
     each = λ i d e inside. elim (eqb_tells i worker) [
       | inl (test, same) ↦
-          subst (λ w. HasWorkedOn ga gb run w at (at + 1) (get_or old w d) (get_or (set old worker share) w e)) (sym same)
-          (subst (HasWorkedOn ga gb run worker at (at + 1) (get_or old worker d))
+          subst (λ w. HasWorkedOn ga gb batch w at (at + 1) (get_or old w d) (get_or (set old worker share) w e)) (sym same)
+          (subst (HasWorkedOn ga gb batch worker at (at + 1) (get_or old worker d))
           (sym (get_or-set_same old worker share e one))
-          (subst (λ s. HasWorkedOn ga gb run worker at (at + 1) s share)
+          (subst (λ s. HasWorkedOn ga gb batch worker at (at + 1) s share)
           (sym (same_there old worker d before one ∙ is)) worked))
       | inr (test, differ) ↦
-          subst (HasWorkedOn ga gb run i at (at + 1) (get_or old i d))
+          subst (HasWorkedOn ga gb batch i at (at + 1) (get_or old i d))
           (same_there old i d e inside ∙ sym (get_or-set_other old worker i share e differ))
-          (passed_by ga gb run i at worker packet (get_or old i d) there dealt (λ same. differ (sym same)) (idle i d inside))
+          (passed_by ga gb batch i at worker packet (get_or old i d) there dealt (λ same. differ (sym same)) (idle i d inside))
     ];
   }
 

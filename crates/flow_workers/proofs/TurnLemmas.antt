@@ -1,4 +1,4 @@
--- Turns of a run, ahead and over.
+-- Turns of a batch, ahead and over.
 use Rattle.std.proofs.Common.{◌≡◌, ◌∙◌, ◌+◌, ◌<◌, ℕ, zero, suc, List, [], ◌∷◌, ◌++◌, length, get_or, map, IfOk, Result, Ok, Err, ap, refl, sym, subst, arith, length-append}
 use Rattle.std.specs.List.{All, AllZip}
 use Rattle.std.proofs.lemmas.List.{get_or-map, get_or_append_left, length-map}
@@ -15,14 +15,14 @@ use Rattle.flow_dealing.specs.Traces.{HasCalls, HaveTraces, Item, calls_in}
 use Rattle.flow_dealing.specs.Wanted.{HaveWanted}
 use Rattle.flow_workers.specs.declared.share.Dealt.{Dealt}
 use Rattle.flow_workers.specs.declared.share.Job.{Job}
-use Rattle.flow_workers.specs.declared.share.Run.{Run}
+use Rattle.flow_workers.specs.declared.share.Batch.{Batch}
 use Rattle.flow_workers.specs.declared.share.Share.{Share}
 use Rattle.flow_workers.specs.declared.turn.Turn.{Turn}
 use Rattle.flow_workers.specs.declared.turn.Turn.TheVariants.{Ahead, Over}
-use Rattle.flow_workers.specs.inner.Fresh.{IsFresh}
-use Rattle.flow_workers.specs.inner.Work.{Continues}
+use Rattle.flow_workers.specs.inner.Fresh.{IsFreshView}
+use Rattle.flow_workers.specs.inner.Work.{RecordContinues}
 use Rattle.flow_workers.specs.inner.Jobs.{AreDealtFrom, CanWork}
-use Rattle.flow_workers.specs.inner.Turns.{AreAhead, AreTurns, Becomes, CanTake, HaveWorked, IsPast, MayRun}
+use Rattle.flow_workers.specs.inner.Turns.{AreTurnsAhead, AreTurns, BecomesWorked, CanTakeTurn, HaveWorked, IsTurnPast, MayJudgeBatch}
 use Rattle.flow_workers.proofs.WantedLemmas.{fresh_wanted}
 
 -- a fact of each element, when one more comes
@@ -49,8 +49,8 @@ pub if_ok : {X E : Type 0} (P Q : X → Type 0) (r : Result X E) → ((x : X) �
 if_ok P Q (Ok x) f h = f x h
 if_ok P Q (Err e) f h = tt
 
-pub fresh_trace : (z : Sizes) (times : Timeouts) (family : Family) (v w : View) (t : List Item) → IsFresh v
-    → Continues v w (calls_in times family t) → (HaveWanted z v → HaveWanted z w) → HaveTraces z times family (t ∷ []) w
+pub fresh_trace : (z : Sizes) (times : Timeouts) (family : Family) (v w : View) (t : List Item) → IsFreshView v
+    → RecordContinues v w (calls_in times family t) → (HaveWanted z v → HaveWanted z w) → HaveTraces z times family (t ∷ []) w
 fresh_trace z times family v w t fresh goes wanted =
     let r = goes.calls (empty_record fresh.number) fresh.records in
     record {
@@ -61,22 +61,22 @@ fresh_trace z times family v w t fresh goes wanted =
 
 -- ---- Turns, ahead and over
 
-module _ {A B R G K L : Type 0} (ga : Ghosts A K) (gb : Ghosts B L) (run : Run A B R G K L) (dealt : Dealt) where
+module _ {A B R G K L : Type 0} (ga : Ghosts A K) (gb : Ghosts B L) (batch : Batch A B R G K L) (dealt : Dealt) where
   -- what this worker does
   abbrev job_of : ℕ → Share A B K L ga gb → Job A B R G K L ga gb
-  job_of i share = record { run = run; dealt = dealt; worker = i; share = share }
+  job_of i share = record { batch = batch; dealt = dealt; worker = i; share = share }
 
   abbrev turn_of : ℕ → Share A B K L ga gb → Turn A B R G K L ga gb
   turn_of i share = Ahead (job_of i share)
 
-  pub no_turns : AreTurns {ga = ga} {gb = gb} run dealt [] []
+  pub no_turns : AreTurns {ga = ga} {gb = gb} batch dealt [] []
   no_turns = record { count = refl; each = λ i d e inside. absurd (omega arith) }
 
   pub turns_push : (shares : List (Share A B K L ga gb)) (share : Share A B K L ga gb)
-      (turns longer : List (Turn A B R G K L ga gb)) (again : Run A B R G K L) (worker : ℕ)
-      → AreTurns run dealt shares turns
-      → longer ≡ turns ++ Ahead (record { run = again; dealt = dealt; worker = worker; share = share }) ∷ [] → again ≡ run
-      → worker ≡ length shares → AreTurns run dealt (shares ++ share ∷ []) longer
+      (turns longer : List (Turn A B R G K L ga gb)) (again : Batch A B R G K L) (worker : ℕ)
+      → AreTurns batch dealt shares turns
+      → longer ≡ turns ++ Ahead (record { batch = again; dealt = dealt; worker = worker; share = share }) ∷ [] → again ≡ batch
+      → worker ≡ length shares → AreTurns batch dealt (shares ++ share ∷ []) longer
   turns_push shares share turns longer again worker old is same last = record {
     count = let counted = old.count in let n = ap length is ∙ length-append turns (t ∷ []) in
         let m = length-append shares (share ∷ []) in omega arith;
@@ -88,19 +88,19 @@ module _ {A B R G K L : Type 0} (ga : Ghosts A K) (gb : Ghosts B L) (run : Run A
   }
     where
       t : Turn A B R G K L ga gb
-      t = Ahead (record { run = again; dealt = dealt; worker = worker; share = share })
+      t = Ahead (record { batch = again; dealt = dealt; worker = worker; share = share })
 
       here : (e : Share A B K L ga gb) → t ≡ turn_of (length turns) (get_or (shares ++ share ∷ []) (length turns) e)
       here e =
-          ap (λ r. Ahead (record { run = r; dealt = dealt; worker = worker; share = share })) same
+          ap (λ r. Ahead (record { batch = r; dealt = dealt; worker = worker; share = share })) same
           ∙ (ap (λ n. turn_of n share) (last ∙ sym old.count)
           ∙ ap (turn_of (length turns)) (sym (ap (λ n. get_or (shares ++ share ∷ []) n e) old.count
           ∙ get_or-append_seam shares share [] e)))
 
-module _ {A B R G K L : Type 0} (ga : Ghosts A K) (gb : Ghosts B L) (run : Run A B R G K L) (dealt : Dealt)
-    (shares : List (Share A B K L ga gb)) (may : MayRun run shares) where
-  can_work : AreDealtFrom ga gb run 0 dealt.parts.now.items → (i : ℕ) (d : Share A B K L ga gb) → i < length shares
-      → CanWork ga gb (job_of ga gb run dealt i (get_or shares i d))
+module _ {A B R G K L : Type 0} (ga : Ghosts A K) (gb : Ghosts B L) (batch : Batch A B R G K L) (dealt : Dealt)
+    (shares : List (Share A B K L ga gb)) (may : MayJudgeBatch batch shares) where
+  can_work : AreDealtFrom ga gb batch 0 dealt.chunks.now.items → (i : ℕ) (d : Share A B K L ga gb) → i < length shares
+      → CanWork ga gb (job_of ga gb batch dealt i (get_or shares i d))
   can_work are i d inside = record {
     shapes = may.shapes;
     few = subst (λ n. i < n) may.count inside;
@@ -109,37 +109,37 @@ module _ {A B R G K L : Type 0} (ga : Ghosts A K) (gb : Ghosts B L) (run : Run A
     dealt = are;
   }
 
-  pub all_ahead : AreDealtFrom ga gb run 0 dealt.parts.now.items → (turns : List (Turn A B R G K L ga gb))
-      → AreTurns run dealt shares turns → AreAhead run dealt shares turns
-  all_ahead parts turns are = record {
-    ready = all_each (CanTake ga gb) turns (λ i d inside.
+  pub all_ahead : AreDealtFrom ga gb batch 0 dealt.chunks.now.items → (turns : List (Turn A B R G K L ga gb))
+      → AreTurns batch dealt shares turns → AreTurnsAhead batch dealt shares turns
+  all_ahead chunks turns are = record {
+    ready = all_each (CanTakeTurn ga gb) turns (λ i d inside.
         let few = subst (λ n. i < n) are.count inside in
         let s = there shares i few in
-        subst (CanTake ga gb) (sym (are.each i d s.0 few)) (can_work parts i s.0 few));
+        subst (CanTakeTurn ga gb) (sym (are.each i d s.0 few)) (can_work chunks i s.0 few));
     are = are;
   }
 
-  past : (t u : Turn A B R G K L ga gb) (job : Job A B R G K L ga gb) → t ≡ Ahead job → Becomes ga gb t u → IsPast ga gb u
-  past t u job is did = past_of u (subst (λ x. Becomes ga gb x u) is did)
+  past : (t u : Turn A B R G K L ga gb) (job : Job A B R G K L ga gb) → t ≡ Ahead job → BecomesWorked ga gb t u → IsTurnPast ga gb u
+  past t u job is did = past_of u (subst (λ x. BecomesWorked ga gb x u) is did)
     where
-      past_of : (v : Turn A B R G K L ga gb) → Becomes ga gb (Ahead job) v → IsPast ga gb v
+      past_of : (v : Turn A B R G K L ga gb) → BecomesWorked ga gb (Ahead job) v → IsTurnPast ga gb v
       past_of (Ahead other) became = became
       past_of (Over done) became = tt
 
-  pub all_past : (turns over : List (Turn A B R G K L ga gb)) → AreTurns run dealt shares turns → length over ≡ length turns
-      → ((i : ℕ) (d e : Turn A B R G K L ga gb) → i < length turns → Becomes ga gb (get_or turns i e) (get_or over i d))
-      → All (IsPast ga gb) over
-  all_past turns over ahead count did = all_each (IsPast ga gb) over (λ i d inside.
+  pub all_past : (turns over : List (Turn A B R G K L ga gb)) → AreTurns batch dealt shares turns → length over ≡ length turns
+      → ((i : ℕ) (d e : Turn A B R G K L ga gb) → i < length turns → BecomesWorked ga gb (get_or turns i e) (get_or over i d))
+      → All (IsTurnPast ga gb) over
+  all_past turns over ahead count did = all_each (IsTurnPast ga gb) over (λ i d inside.
       let some = subst (λ n. i < n) count inside in
       let few = subst (λ n. i < n) ahead.count some in
       let s = there shares i few in
-      past (get_or turns i d) (get_or over i d) (job_of ga gb run dealt i (get_or shares i s.0)) (ahead.each i d s.0 few)
+      past (get_or turns i d) (get_or over i d) (job_of ga gb batch dealt i (get_or shares i s.0)) (ahead.each i d s.0 few)
       (did i d d some))
 
   pub have_worked : (turns over : List (Turn A B R G K L ga gb)) (news : List (Share A B K L ga gb))
-      → AreTurns run dealt shares turns → length over ≡ length turns
-      → ((i : ℕ) (d e : Turn A B R G K L ga gb) → i < length turns → Becomes ga gb (get_or turns i e) (get_or over i d))
-      → over ≡ map (λ share. Over (Ok share)) news → HaveWorked run shares news
+      → AreTurns batch dealt shares turns → length over ≡ length turns
+      → ((i : ℕ) (d e : Turn A B R G K L ga gb) → i < length turns → BecomesWorked ga gb (get_or turns i e) (get_or over i d))
+      → over ≡ map (λ share. Over (Ok share)) news → HaveWorked batch shares news
   have_worked turns over news ahead count did are = record {
     count = many;
     each = λ i d e inside.
@@ -148,8 +148,8 @@ module _ {A B R G K L : Type 0} (ga : Ghosts A K) (gb : Ghosts B L) (run : Run A
         let few = subst (λ n. i < n) (sym many) inside in
         let last : get_or over i ended ≡ Over (Ok (get_or news i e)) =
         ap (λ ts. get_or ts i ended) are ∙ get_or-map (λ share. Over (Ok share)) news i e ended few in
-        subst (Becomes ga gb (turn_of ga gb run dealt i (get_or shares i d))) last
-        (subst (λ t. Becomes ga gb t (get_or over i ended)) (ahead.each i ended d inside) (did i ended ended some));
+        subst (BecomesWorked ga gb (turn_of ga gb batch dealt i (get_or shares i d))) last
+        (subst (λ t. BecomesWorked ga gb t (get_or over i ended)) (ahead.each i ended d inside) (did i ended ended some));
   }
     where
       many : length news ≡ length shares

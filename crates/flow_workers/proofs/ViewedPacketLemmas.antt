@@ -9,7 +9,7 @@ use Rattle.bihash_steps.specs.declared.view.View.{View}
 use Rattle.session_state.specs.Decisions.{decision_of}
 use Rattle.session_state.specs.Sessions.{is_expired_at}
 use Rattle.session_state.specs.declared.flow.FlowKey.{FlowKey}
-use Rattle.flow_filter.specs.declared.filter.ReadyFilter.{ReadyFilter}
+use Rattle.flow_filter.specs.declared.filter.InterfaceFilter.{InterfaceFilter}
 use Rattle.flow_filter.specs.declared.verdict.Verdict.{Verdict}
 use Rattle.flow_filter.specs.Filters.{section_in}
 use Rattle.flow_filter.specs.Judged.{verdict_with}
@@ -21,7 +21,7 @@ use Rattle.flow_workers.specs.declared.tables.Tables.{Tables}
 use Rattle.flow_workers.specs.declared.viewed_packet.ViewedPacket.{ViewedPacket}
 use Rattle.flow_workers.specs.Callers.{AreIdle}
 use Rattle.flow_workers.specs.Judging.{TookByOneTry}
-use Rattle.flow_workers.specs.inner.Preparing.{IsFrameRuling}
+use Rattle.flow_workers.specs.inner.PacketPlans.{IsFrameRuling}
 use Rattle.flow_workers.specs.inner.Updates.{TellsFlow, TellsFlowTry}
 use Rattle.flow_workers.specs.inner.ViewedPackets.{TellsViewed, TellsViewedTry}
 use Rattle.flow_workers.proofs.JudgedPackets.{answered, reading_in, ruled_by, settled}
@@ -29,7 +29,7 @@ use Rattle.flow_workers.proofs.ShortPackets.{flow_reply, settled_has_pages, shor
 
 -- of a packet without an update, whose callers stay as they are
 pub told_settled : {A B K L : Type 0} (ga : Ghosts A K) (gb : Ghosts B L) (took : View → View → Reply → Type 0)
-    (filter : ReadyFilter) (packet : ViewedPacket) (ruling : Ruling) (tables : Tables A B K L)
+    (filter : InterfaceFilter) (packet : ViewedPacket) (ruling : Ruling) (tables : Tables A B K L)
     (callers : Callers A B K L ga gb) (verdict : Verdict) → AreIdle ga gb tables callers
     → IsFrameRuling (section_in filter) (frame_facts packet.frame.now) ruling
     → (update_of filter.times (reading_in packet ruling) ≡ None)
@@ -48,7 +48,7 @@ told_settled ga gb took filter packet ruling tables callers verdict idle ruled k
 
 -- of a packet whose update told this
 pub told_answered : {A B K L : Type 0} (ga : Ghosts A K) (gb : Ghosts B L) (took : View → View → Reply → Type 0)
-    (filter : ReadyFilter) (packet : ViewedPacket) (ruling : Ruling) (tables : Tables A B K L)
+    (filter : InterfaceFilter) (packet : ViewedPacket) (ruling : Ruling) (tables : Tables A B K L)
     (old new : Callers A B K L ga gb) (u : Update) (reply : Reply) (verdict : Verdict)
     → IsFrameRuling (section_in filter) (frame_facts packet.frame.now) ruling
     → update_of filter.times (reading_in packet ruling) ≡ Some u
@@ -84,7 +84,7 @@ try_answered tables old new key decision is_expired reply told =
     }
 
 -- what is told of a verdict is told by a try that gave it
-pub try_judged : {A B K L : Type 0} {ga : Ghosts A K} {gb : Ghosts B L} (filter : ReadyFilter)
+pub try_judged : {A B K L : Type 0} {ga : Ghosts A K} {gb : Ghosts B L} (filter : InterfaceFilter)
     (packet : ViewedPacket) (tables : Tables A B K L) (old new : Callers A B K L ga gb) (verdict : Verdict)
     → TellsViewed TookByOneTry filter packet tables old new verdict
     → TellsViewedTry filter packet tables old new (Ok verdict)

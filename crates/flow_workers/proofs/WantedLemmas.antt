@@ -36,10 +36,10 @@ use Rattle.bihash_steps.proofs.Prefixes.{after_longer, longer_known, prefix_leng
 use Rattle.bihash_table.specs.Answers.{entry_of, with_locks}
 use Rattle.bihash_table.specs.OutOfPages.{IsOutOfPages, IsPlanned}
 use Rattle.bihash_table.specs.Promise.{IsAnswered, IsUpdatedOver}
-use Rattle.bihash_laws.specs.Runs.{IsLawfulAnswer}
+use Rattle.bihash_laws.specs.CallRuns.{IsLawfulAnswer}
 use Rattle.bihash_laws.proofs.AnsweredCalls.{continues, openings_same, others_known}
 use Rattle.flow_dealing.specs.Wanted.{HasWanted, HaveWanted, WantsBlock}
-use Rattle.flow_workers.specs.inner.Fresh.{IsFresh}
+use Rattle.flow_workers.specs.inner.Fresh.{IsFreshView}
 use Rattle.flow_workers.proofs.ShortPackets.{pushed_last}
 
 -- ---- A plan, in words
@@ -228,7 +228,7 @@ all_still z k m grows rs had =
 
 -- ---- Callers that begin, and that are joined
 
-pub fresh_wanted : (z : Sizes) (v : View) → IsFresh v → HaveWanted z v
+pub fresh_wanted : (z : Sizes) (v : View) → IsFreshView v → HaveWanted z v
 fresh_wanted z v fresh = subst (All (λ r. All (HasWanted z v.known) r.calls)) (sym fresh.records)
     (All-cons (λ r. All (HasWanted z v.known) r.calls) (empty_record fresh.number) []
     (All-nil (HasWanted z v.known)) (All-nil (λ r. All (HasWanted z v.known) r.calls)))

@@ -29,27 +29,27 @@ use Rattle.flow_filter.specs.Updates.{Update, update_of, words_of}
 use Rattle.flow_filter.specs.Judged.{IsAskedBy, verdict_on}
 use Rattle.flow_filter.specs.OneThread.{Layout, family_of, home_of, same_family}
 use Rattle.flow_dealing.specs.Views.{Views}
-use Rattle.flow_dealing.specs.Dealings.{Deal, flow_in, flow_shown, worker_of}
-use Rattle.flow_dealing.proofs.Merging.{worker_few}
-use Rattle.flow_dealing.specs.Traces.{AreViews, IsCallAt, IsItem, IsItemOf, Item, call_in, calls_in, numbers_from, numbers_of, verdict_in}
-use Rattle.flow_workers.specs.Judging.{IsEntered, IsEnteredBy, IsJudged}
-use Rattle.flow_workers.specs.inner.Work.{AreSaid, Continues, IsWork, IsWorkUntil, RunFacts}
+use Rattle.flow_dealing.specs.Dealings.{Deal, flow_of_reading, flow_of_frame, worker_of}
+use Rattle.flow_dealing.proofs.TraceMerges.{worker_few}
+use Rattle.flow_dealing.specs.Traces.{AreFrames, IsCallAt, IsItem, IsItemOf, Item, call_in, calls_in, numbers_from, numbers_of, verdict_in}
+use Rattle.flow_workers.specs.Judging.{IsFlowEntry, IsEnteredBy, IsJudged}
+use Rattle.flow_workers.specs.inner.Work.{AreSaid, RecordContinues, IsWork, IsWorkUntil, RunFacts}
 use Rattle.flow_workers.specs.inner.Wanted.{KeepWanted}
 
 -- ---- Records that go on
 
-pub continues_none : (v : View) → Continues v v []
+pub continues_none : (v : View) → RecordContinues v v []
 continues_none v = record {
   calls = λ r one. (r.locks, one ∙ ap (λ cs. record r { calls = cs; locks = r.locks } ∷ []) (sym (append-nil r.calls)));
   openings = refl;
 }
 
-continues_same : (v u w : View) (cs : List Call) → w ≡ u → Continues v u cs → Continues v w (cs ++ [])
+continues_same : (v u w : View) (cs : List Call) → w ≡ u → RecordContinues v u cs → RecordContinues v w (cs ++ [])
 continues_same v u w cs same old =
-    subst (λ k. Continues v w k) (sym (append-nil cs)) (subst (λ x. Continues v x cs) (sym same) old)
+    subst (λ k. RecordContinues v w k) (sym (append-nil cs)) (subst (λ x. RecordContinues v x cs) (sym same) old)
 
-continues_push : (z : Sizes) (v u w : View) (cs : List Call) (e : Event) (a : IsAnswered z u w e) → Continues v u cs
-    → Continues v w (cs ++ entry_of z (length a.history) e a.noted ∷ [])
+continues_push : (z : Sizes) (v u w : View) (cs : List Call) (e : Event) (a : IsAnswered z u w e) → RecordContinues v u cs
+    → RecordContinues v w (cs ++ entry_of z (length a.history) e a.noted ∷ [])
 continues_push z v u w cs e a old = record {
   calls = λ r one. let before = old.calls r one in (
     a.locks,
@@ -68,12 +68,12 @@ record Left (l : Layout) (update : Option Update) (event : Option Event) (v w : 
   call : Option Call
   is : option_map event_of call ≡ event
   placed : IsCallAt l update call
-  four : Continues v.four w.four (c4 ++ call_in V4 update call [])
-  six : Continues v.six w.six (c6 ++ call_in V6 update call [])
+  four : RecordContinues v.four w.four (c4 ++ call_in V4 update call [])
+  six : RecordContinues v.six w.six (c6 ++ call_in V6 update call [])
 
 by_key : (l : Layout) (u : Update) (key : FlowKey) (e : Event) (v x w : Views) (c4 c6 : List Call)
-    → u.key ≡ key → e.key ≡ words_of key → IsEntered l TookByTries key e x w
-    → Continues v.four x.four c4 → Continues v.six x.six c6 → Left l (Some u) (Some e) v w c4 c6
+    → u.key ≡ key → e.key ≡ words_of key → IsFlowEntry l TookByTries key e x w
+    → RecordContinues v.four x.four c4 → RecordContinues v.six x.six c6 → Left l (Some u) (Some e) v w c4 c6
 by_key l u (Four words) e v x w c4 c6 same asked entered four six =
     let c : Call = entry_of l.four (length entered.0.history) e entered.0.noted in
     record {
@@ -81,9 +81,9 @@ by_key l u (Four words) e v x w c4 c6 same asked entered four six =
       is = refl;
       placed = subst (λ k. c.bucket ≡ (home_of l k).bucket) (sym same) (ap (λ k. (home_of l (Four k)).bucket) asked);
       four =
-          subst (λ k. Continues v.four w.four (c4 ++ (if same_family V4 (family_of k) then c ∷ [] else []))) (sym same)
+          subst (λ k. RecordContinues v.four w.four (c4 ++ (if same_family V4 (family_of k) then c ∷ [] else []))) (sym same)
           (continues_push l.four v.four x.four w.four c4 e entered.0 four);
-      six = subst (λ k. Continues v.six w.six (c6 ++ (if same_family V6 (family_of k) then c ∷ [] else []))) (sym same)
+      six = subst (λ k. RecordContinues v.six w.six (c6 ++ (if same_family V6 (family_of k) then c ∷ [] else []))) (sym same)
           (continues_same v.six x.six w.six c6 entered.1 six);
     }
 by_key l u (Six words) e v x w c4 c6 same asked entered four six =
@@ -93,9 +93,9 @@ by_key l u (Six words) e v x w c4 c6 same asked entered four six =
       is = refl;
       placed = subst (λ k. c.bucket ≡ (home_of l k).bucket) (sym same) (ap (λ k. (home_of l (Six k)).bucket) asked);
       four =
-          subst (λ k. Continues v.four w.four (c4 ++ (if same_family V4 (family_of k) then c ∷ [] else []))) (sym same)
+          subst (λ k. RecordContinues v.four w.four (c4 ++ (if same_family V4 (family_of k) then c ∷ [] else []))) (sym same)
           (continues_same v.four x.four w.four c4 entered.1 four);
-      six = subst (λ k. Continues v.six w.six (c6 ++ (if same_family V6 (family_of k) then c ∷ [] else []))) (sym same)
+      six = subst (λ k. RecordContinues v.six w.six (c6 ++ (if same_family V6 (family_of k) then c ∷ [] else []))) (sym same)
           (continues_push l.six v.six x.six w.six c6 e entered.0 six);
     }
 
@@ -105,7 +105,7 @@ event_key u e asked = let same : asked.0 ≡ e = let s = asked.1 in cc in
 
 left_by : (l : Layout) (update : Option Update) (event : Option Event) (v x w : Views) (c4 c6 : List Call)
     → IsAskedBy update event → IsEnteredBy l TookByTries update event x w
-    → Continues v.four x.four c4 → Continues v.six x.six c6 → Left l update event v w c4 c6
+    → RecordContinues v.four x.four c4 → RecordContinues v.six x.six c6 → Left l update event v w c4 c6
 left_by l None event v x w c4 c6 asked entered four six = record {
   call = None;
   is = sym asked;
@@ -142,7 +142,7 @@ calls_push times family (x ∷ xs) i =
 
 pub numbers_cons : (d : Deal) (w at : ℕ) (view : frames.FrameFacts) (views : List frames.FrameFacts)
     → numbers_from d w at (view ∷ views)
-    ≡ cond (worker_of d at (flow_shown view) == w) (at ∷ numbers_from d w (at + 1) views)
+    ≡ cond (worker_of d at (flow_of_frame view) == w) (at ∷ numbers_from d w (at + 1) views)
     (numbers_from d w (at + 1) views)
 unfolding numbers_from
 numbers_cons d w at view views = refl
@@ -153,7 +153,7 @@ no_numbers d w at = refl
 
 -- the view at a place
 view_there : (policy : PolicyFacts) (packets : List PacketFacts) (views : List frames.FrameFacts) (at : ℕ)
-    (packet : PacketFacts) (this : frames.FrameFacts) → AreViews policy packets views
+    (packet : PacketFacts) (this : frames.FrameFacts) → AreFrames policy packets views
     → slice_get packets at ≡ Some packet → ((other : frames.FrameFacts) → IsSeen policy packet other → other ≡ this)
     → drop at views ≡ this ∷ drop (suc at) views
 view_there policy [] [] at packet this all stands only = let f : ⊥ = cc in absurd f
@@ -166,7 +166,7 @@ view_there policy (p ∷ ps) (view ∷ views) (suc at) packet this all stands on
     view_there policy ps views at packet this all.1 stands only
 
 view_at : (policy : PolicyFacts) (packets : List PacketFacts) (views : List frames.FrameFacts) (at : ℕ)
-    (packet : PacketFacts) (this : frames.FrameFacts) → AreViews policy packets views
+    (packet : PacketFacts) (this : frames.FrameFacts) → AreFrames policy packets views
     → slice_get packets at ≡ Some packet → ((other : frames.FrameFacts) → IsSeen policy packet other → other ≡ this)
     → drop at views ≡ this ∷ drop (at + 1) views
 view_at policy packets views at packet this all stands only = view_there policy packets views at packet this all stands only
@@ -174,12 +174,12 @@ view_at policy packets views at packet this all stands only = view_there policy 
 
 -- ---- A worker's packet, and another's
 
-flow_of_reading : (section : SectionFacts) (moment : ℕ) (view : frames.FrameFacts) (reading : Reading)
-    → IsReadingOf section moment view reading → flow_in reading ≡ flow_shown view
-flow_of_reading section moment frames.NotIp reading is = ap flow_in is
-flow_of_reading section moment frames.Malformed reading is = ap flow_in is
-flow_of_reading section moment frames.Short reading is = ap flow_in is
-flow_of_reading section moment (frames.Ip direction tuple) reading is = ap flow_in is.2
+flow_of_its_frame : (section : SectionFacts) (moment : ℕ) (view : frames.FrameFacts) (reading : Reading)
+    → IsReadingOf section moment view reading → flow_of_reading reading ≡ flow_of_frame view
+flow_of_its_frame section moment frames.NotIp reading is = ap flow_of_reading is
+flow_of_its_frame section moment frames.Malformed reading is = ap flow_of_reading is
+flow_of_its_frame section moment frames.Short reading is = ap flow_of_reading is
+flow_of_its_frame section moment (frames.Ip direction tuple) reading is = ap flow_of_reading is.2
 
 -- what is known of the packet at a place, and of its frame
 pub record IsAt (run : RunFacts) (at : ℕ) (packet : PacketFacts) (view : frames.FrameFacts) : Type 0 where
@@ -189,9 +189,9 @@ pub record IsAt (run : RunFacts) (at : ℕ) (packet : PacketFacts) (view : frame
 
 -- the flow that a packet's reading has is the one that its frame shows
 pub flow_at : (run : RunFacts) (at : ℕ) (packet : PacketFacts) (view : frames.FrameFacts) (reading : Reading)
-    → IsAt run at packet view → IsReading run.policy packet reading → flow_in reading ≡ flow_shown view
+    → IsAt run at packet view → IsReading run.policy packet reading → flow_of_reading reading ≡ flow_of_frame view
 flow_at run at packet view reading is read =
-    flow_of_reading (section_of packet.interface run.policy) packet.moment read.0 reading read.2 ∙ ap flow_shown (is.only read.0 read.1)
+    flow_of_its_frame (section_of packet.interface run.policy) packet.moment read.0 reading read.2 ∙ ap flow_of_frame (is.only read.0 read.1)
 
 pub work_none : (run : RunFacts) (w : ℕ) (v : Views) → IsWorkUntil run w 0 v v []
 work_none run w v = record {
@@ -208,7 +208,7 @@ work_none run w v = record {
 -- the numbers from a packet on, where its view is known
 pub numbers_at : (run : RunFacts) (w at : ℕ) (packet : PacketFacts) (view : frames.FrameFacts) → IsAt run at packet view
     → (views : List frames.FrameFacts)
-    → AreViews run.policy run.packets views → (t : Bool) → (worker_of run.deal at (flow_shown view) == w) ≡ t
+    → AreFrames run.policy run.packets views → (t : Bool) → (worker_of run.deal at (flow_of_frame view) == w) ≡ t
     → numbers_from run.deal w at (drop at views)
     ≡ cond t (at ∷ numbers_from run.deal w (at + 1) (drop (at + 1) views))
     (numbers_from run.deal w (at + 1) (drop (at + 1) views))
@@ -220,7 +220,7 @@ numbers_at run w at packet view is views all t test =
 
 pub work_passed : (run : RunFacts) (w at : ℕ) (v x : Views) (verdicts : List Verdict)
     (packet : PacketFacts) (view : frames.FrameFacts)
-    → IsAt run at packet view → worker_of run.deal at (flow_shown view) ≢ w
+    → IsAt run at packet view → worker_of run.deal at (flow_of_frame view) ≢ w
     → IsWorkUntil run w at v x verdicts → IsWorkUntil run w (at + 1) v x verdicts
 work_passed run w at v x verdicts packet view is other old = record {
   trace = old.trace;
@@ -244,7 +244,7 @@ said_push run trace i verdicts verdict old is =
     ∙ sym (map-append (verdict_in run.times) trace (i ∷ [])))
 
 pub work_push : (run : RunFacts) (w at : ℕ) (v x y : Views) (verdicts : List Verdict) (packet : PacketFacts) (view : frames.FrameFacts)
-    (verdict : Verdict) → IsAt run at packet view → worker_of run.deal at (flow_shown view) ≡ w
+    (verdict : Verdict) → IsAt run at packet view → worker_of run.deal at (flow_of_frame view) ≡ w
     → IsJudged run.deal.layout TookByTries run.times run.policy packet x y verdict → KeepWanted run.deal.layout x y
     → IsWorkUntil run w at v x verdicts → IsWorkUntil run w (at + 1) v y (verdicts ++ verdict ∷ [])
 work_push run w at v x y verdicts packet view verdict is mine j keep old = record {
@@ -266,8 +266,8 @@ work_push run w at v x y verdicts packet view verdict is mine j keep old = recor
       ∙ (ap (λ ns. numbers_of old.trace ++ ns)
       (sym (numbers_at run w at packet view is views all true (eq-eqb _ _ mine)))
       ∙ old.dealt views all));
-  four = subst (λ cs. Continues v.four y.four cs) (sym (calls_push run.times V4 old.trace item)) left.four;
-  six = subst (λ cs. Continues v.six y.six cs) (sym (calls_push run.times V6 old.trace item)) left.six;
+  four = subst (λ cs. RecordContinues v.four y.four cs) (sym (calls_push run.times V4 old.trace item)) left.four;
+  six = subst (λ cs. RecordContinues v.six y.six cs) (sym (calls_push run.times V6 old.trace item)) left.six;
   wanted = (λ had. keep.0 (old.wanted.0 had), λ had. keep.1 (old.wanted.1 had));
   said = said_push run old.trace item verdicts verdict old.said said;
 }
@@ -318,7 +318,7 @@ nothing_left (x ∷ xs) at none = absurd (let f : ⊥ = cc in f)
 
 -- after all packets nothing is left to look at
 no_views : (policy : PolicyFacts) (packets : List PacketFacts) (views : List frames.FrameFacts) (at : ℕ)
-    → AreViews policy packets views → drop at packets ≡ [] → drop at views ≡ []
+    → AreFrames policy packets views → drop at packets ≡ [] → drop at views ≡ []
 no_views policy [] [] at all none = nothing_left [] at refl
 no_views policy [] (view ∷ views) at all none = absurd all
 no_views policy (p ∷ ps) [] at all none = absurd all
@@ -328,7 +328,7 @@ no_views policy (p ∷ ps) (view ∷ views) (suc at) all none = no_views policy 
 all_looked_at : (run : RunFacts) (w at : ℕ) (v u : Views) (verdicts : List Verdict)
     → drop at run.packets ≡ []
     → (work : IsWorkUntil run w at v u verdicts) (views : List frames.FrameFacts)
-    → AreViews run.policy run.packets views → numbers_of work.trace ≡ numbers_from run.deal w 0 views
+    → AreFrames run.policy run.packets views → numbers_of work.trace ≡ numbers_from run.deal w 0 views
 all_looked_at run w at v u verdicts none work views all =
     sym (ap (λ vs. numbers_of work.trace ++ numbers_from run.deal w at vs)
     (no_views run.policy run.packets views at all none)

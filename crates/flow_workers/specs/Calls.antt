@@ -1,7 +1,7 @@
 -- What judging a packet asks of callers of both families' tables, and what it tells of them, all said together.
 use Rattle.std.specs.Prelude.{◌≡◌, true, Result, IfOk, IfErr, is_ok}
 use Rattle.packet_view.specs.Captures.{packet_facts}
-use Rattle.packet_view.specs.declared.capture.Packet.{Packet}
+use Rattle.packet_view.specs.declared.packet.Packet.{Packet}
 use Rattle.acl_policy.specs.Policies.{policy_facts}
 use Rattle.bihash_words.specs.declared.shape.Shape.{Ghosts}
 use Rattle.bihash_table.specs.Tries.{TookByTries}

@@ -25,17 +25,17 @@ TookByOneTry v w reply = TookAtMost v w (try_locks (Ok reply))
 
 -- The event was one call of the caller of its key's family, which took locks of buckets as `took` says of its
 -- reply; the other caller made none.
-abbrev pub IsEntered : Layout → (View → View → Reply → Type 0) → FlowKey → Event → Views → Views → Type 0
-IsEntered l took (Four key) e v w =
+abbrev pub IsFlowEntry : Layout → (View → View → Reply → Type 0) → FlowKey → Event → Views → Views → Type 0
+IsFlowEntry l took (Four key) e v w =
     IsAnswered l.four v.four w.four e × (w.six ≡ v.six) × took v.four w.four e.reply
-IsEntered l took (Six key) e v w =
+IsFlowEntry l took (Six key) e v w =
     IsAnswered l.six v.six w.six e × (w.four ≡ v.four) × took v.six w.six e.reply
 
 -- a packet without a flow made no call
 abbrev pub IsEnteredBy : Layout → (View → View → Reply → Type 0) → Option Update → Option Event → Views → Views → Type 0
 IsEnteredBy l took None event v w = w ≡ v
 IsEnteredBy l took (Some u) None v w = ⊥
-IsEnteredBy l took (Some u) (Some e) v w = IsEntered l took u.key e v w
+IsEnteredBy l took (Some u) (Some e) v w = IsFlowEntry l took u.key e v w
 
 -- The packet was judged: it asked once where it has a flow, by one call that is in its family's record now and
 -- took locks as `took` says, and else not at all; and the verdict is that of what it found and was answered.
@@ -55,7 +55,7 @@ IsAway l (Six key) v w =
     IsContended l.six v.six w.six (bucket_of l.six key) × (w.four ≡ v.four) × TookAtMost v.six w.six 1
 
 -- The packet met another caller's change or lock; only a packet with a flow can.
-pub record IsRefused (l : Layout) (times : Timeouts) (policy : PolicyFacts) (packet : PacketFacts)
+pub record IsPacketRefused (l : Layout) (times : Timeouts) (policy : PolicyFacts) (packet : PacketFacts)
     (v w : Views) : Type 0 where
   pub reading : Reading
   pub read : IsReading policy packet reading

@@ -15,7 +15,7 @@ use Rattle.session_state.specs.declared.flow.Flow.{Flow}
 use Rattle.session_state.specs.declared.flow.FlowKey.{FlowKey}
 use Rattle.session_state.specs.declared.flow.FlowKey.TheVariants.{Four, Six}
 use Rattle.flow_filter.specs.Readings.{IsSeen}
-use Rattle.flow_dealing.specs.Dealings.{flow_shown}
+use Rattle.flow_dealing.specs.Dealings.{flow_of_frame}
 use Rattle.flow_dealing.specs.Views.{Views}
 
 -- the last call of the caller of this key's family found too few pages for a block of 2 ^ log2 of them
@@ -40,7 +40,7 @@ pub record IsPacketOutOfPages {A B K L : Type 0} (ga : Ghosts A K) (gb : Ghosts 
   pub view : FrameFacts
   pub framed : IsSeen policy packet view
   pub flow : Flow
-  pub shown : flow_shown view ≡ Some flow
+  pub shown : flow_of_frame view ≡ Some flow
   pub log2 : ℕ
   pub left : ℕ
   pub replied : IsFlowReply flow.key w (NoPages log2 left)

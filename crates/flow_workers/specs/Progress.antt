@@ -1,12 +1,12 @@
 -- What workers begin with, what they have after the packets that they judged so far, and what they say in the end.
 use Rattle.std.specs.Prelude.{◌≡◌, ◌≤◌, ◌<◌, ◌+◌, ◌++◌, ◌^◌, ℕ, List, [], length, slice_index_or}
 use Rattle.packet_view.specs.Captures.{PacketFacts}
-use Rattle.packet_view.specs.CheckedCaptures.{held}
+use Rattle.packet_view.specs.CheckedCaptures.{remaining}
 use Rattle.packet_view.specs.declared.packets.Packets.{Packets}
 use Rattle.bihash_words.specs.declared.shape.Shape.{Ghosts}
 use Rattle.flow_filter.specs.OneThread.{layout_of}
 use Rattle.flow_filter.specs.declared.verdict.Verdict.{Verdict}
-use Rattle.flow_dealing.specs.Runs.{AreJudged}
+use Rattle.flow_dealing.specs.WorkerRecords.{AreJudged}
 use Rattle.flow_dealing.specs.Views.{Views}
 use Rattle.packet_dealing.specs.Dealt.{AreWorkers}
 use Rattle.flow_workers.specs.declared.setup.Setup.{Setup}
@@ -14,12 +14,12 @@ use Rattle.flow_workers.specs.declared.share.Share.{Share}
 use Rattle.flow_workers.specs.declared.tables.Callers.{Callers}
 use Rattle.flow_workers.specs.declared.workers.Workers.{Workers}
 use Rattle.flow_workers.specs.Callers.{AreIdle, AreShapes}
-use Rattle.flow_workers.specs.inner.Fresh.{IsFresh}
+use Rattle.flow_workers.specs.inner.Fresh.{IsFreshView}
 use Rattle.flow_workers.specs.inner.Jobs.{HasDone, dealer_of, policy_of}
 use Rattle.flow_workers.specs.inner.Shares.{AreFresh}
 
 -- from 1 to 16 workers, over tables whose keys are those of flows
-pub record IsSound {A B R G K L : Type 0} (ga : Ghosts A K) (gb : Ghosts B L) (setup : Setup A B R G K L)
+pub record IsSoundSetup {A B R G K L : Type 0} (ga : Ghosts A K) (gb : Ghosts B L) (setup : Setup A B R G K L)
     : Type 0 where
   pub shapes : AreShapes ga gb
   pub some : 1 ≤ setup.workers
@@ -28,7 +28,7 @@ pub record IsSound {A B R G K L : Type 0} (ga : Ghosts A K) (gb : Ghosts B L) (s
 -- workers begin with callers of their tables that made no call
 pub record MayBegin {A B R G K L : Type 0} {ga : Ghosts A K} {gb : Ghosts B L} (setup : Setup A B R G K L)
     (callers : Callers A B K L ga gb) : Type 0 where
-  pub sound : IsSound ga gb setup
+  pub sound : IsSoundSetup ga gb setup
   pub fresh : AreFresh setup.tables.now callers
 
 -- A worker after these packets: it holds nothing, and whatever packets follow them, it has looked at these and judged
@@ -37,7 +37,7 @@ pub record IsAtRest {A B R G K L : Type 0} (ga : Ghosts A K) (gb : Ghosts B L) (
     (packets : List PacketFacts) (worker : ℕ) (share : Share A B K L ga gb) : Type 0 where
   pub idle : AreIdle ga gb setup.tables.now share.callers
   pub began : Views
-  pub fresh : IsFresh began.four × IsFresh began.six
+  pub fresh : IsFreshView began.four × IsFreshView began.six
   pub work : (more : List PacketFacts) → HasDone ga gb setup (packets ++ more) worker (length packets) began share
 
 -- these are the workers of these packets
@@ -49,7 +49,7 @@ pub record AreNoted {A B R G K L : Type 0} (ga : Ghosts A K) (gb : Ghosts B L) (
 -- all workers after these packets
 pub record AreAtRest {A B R G K L : Type 0} {ga : Ghosts A K} {gb : Ghosts B L} (packets : List PacketFacts)
     (all : Workers A B R G K L ga gb) : Type 0 where
-  pub sound : IsSound ga gb all.setup
+  pub sound : IsSoundSetup ga gb all.setup
   pub count : all.count ≡ length packets
   pub shares : length all.shares.items ≡ all.setup.workers
   pub each : (i : ℕ) (d : Share A B K L ga gb) → i < all.setup.workers
@@ -67,13 +67,13 @@ pub record CanJudge {A B R G K L : Type 0} {ga : Ghosts A K} {gb : Ghosts B L} (
     (more : Packets) : Type 0 where
   pub packets : List PacketFacts
   pub rest : AreAtRest packets all
-  pub fits : length packets + length (held more) < 2 ^ 64
+  pub fits : length packets + length (remaining more) < 2 ^ 64
 
 -- they judged these packets too
 pub record HaveJudged {A B R G K L : Type 0} {ga : Ghosts A K} {gb : Ghosts B L} (old : Workers A B R G K L ga gb)
     (more : Packets) (new : Workers A B R G K L ga gb) : Type 0 where
   pub by : new.setup ≡ old.setup
-  pub rest : (packets : List PacketFacts) → AreAtRest packets old → AreAtRest (packets ++ held more) new
+  pub rest : (packets : List PacketFacts) → AreAtRest packets old → AreAtRest (packets ++ remaining more) new
 
 -- they judged some packets
 abbrev pub CanEnd : {A B R G K L : Type 0} {ga : Ghosts A K} {gb : Ghosts B L} → Workers A B R G K L ga gb → Type 0

@@ -11,10 +11,10 @@ use Rattle.flow_filter.specs.declared.verdict.Verdict.{Verdict}
 use Rattle.flow_filter.specs.declared.verdict.Verdict.TheVariants.{NoPages}
 use Rattle.flow_filter.specs.OneThread.{layout_of}
 use Rattle.flow_filter.specs.Readings.{IsSeen}
-use Rattle.flow_dealing.specs.Dealings.{flow_shown}
+use Rattle.flow_dealing.specs.Dealings.{flow_of_frame}
 use Rattle.flow_workers.specs.declared.tables.Callers.{Callers}
 use Rattle.flow_workers.specs.Callers.{views_of}
-use Rattle.flow_workers.specs.Judging.{IsJudged, IsRefused}
+use Rattle.flow_workers.specs.Judging.{IsJudged, IsPacketRefused}
 use Rattle.flow_workers.specs.OutOfPages.{IsPacketOutOfPages}
 
 -- the packet was judged, by a call that took locks of buckets as `took` says
@@ -27,13 +27,13 @@ HasVerdict ga gb took times policy s old new verdict =
 abbrev pub HasNoVerdict : {A B K L : Type 0} (ga : Ghosts A K) (gb : Ghosts B L) → Timeouts → PolicyFacts → PacketFacts
     → Callers A B K L ga gb → Callers A B K L ga gb → Type 0
 HasNoVerdict ga gb times policy s old new =
-    IsRefused (layout_of ga gb) times policy s (views_of ga gb old) (views_of ga gb new)
+    IsPacketRefused (layout_of ga gb) times policy s (views_of ga gb old) (views_of ga gb new)
 
 -- the packet takes no part in sessions
 pub record HasNoFlow (policy : PolicyFacts) (packet : PacketFacts) : Type 0 where
   pub view : FrameFacts
   pub framed : IsSeen policy packet view
-  pub shown : flow_shown view ≡ None
+  pub shown : flow_of_frame view ≡ None
 
 -- no pages are said where there were too few
 abbrev pub ShowsOutOfPages : {A B K L : Type 0} (ga : Ghosts A K) (gb : Ghosts B L) → PolicyFacts → PacketFacts

@@ -1,10 +1,9 @@
 -- Definitions that go as the code goes. No promise is said by them.
+pub mod CallerSplits
 pub mod Fresh
 pub mod Jobs
-pub mod Numbers
-pub mod Parts
-pub mod Placing
-pub mod Preparing
+pub mod Merges
+pub mod PacketPlans
 pub mod Shares
 pub mod Together
 pub mod Turns
@@ -12,3 +11,4 @@ pub mod Updates
 pub mod ViewedPackets
 pub mod Wanted
 pub mod Work
+pub mod WorkerResults

@@ -4,17 +4,17 @@ ghost use Rattle.bihash_table.specs.Tries.{TookByTries};
 ghost use Rattle.flow_filter.specs.Filters.{section_in};
 ghost use Rattle.flow_filter.specs.Liveness.{IsForeseen};
 ghost use Rattle.flow_workers.specs.Calls.{MayAsk, TellsVerdict, TellsVerdictTry};
-ghost use Rattle.flow_workers.specs.inner.Preparing.{IsFrameRuling};
+ghost use Rattle.flow_workers.specs.inner.PacketPlans.{IsFrameRuling};
 ghost use Rattle.flow_workers.specs.inner.ViewedPackets.{TellsViewed, TellsViewedTry};
 
-use crate::prepared::Prepared;
+use crate::packet_plan::PacketPlan;
 use crate::tables::{Callers, Tables};
 use crate::updates::{try_update, update};
 use crate::viewed_packet::ViewedPacket;
 use bihash_table::Contended;
 use bihash_words::Shape;
-use flow_filter::{Filter, HasReading, ReadyFilter, Verdict};
-use packet_dealing::flow_in;
+use flow_filter::{Filter, HasReading, InterfaceFilter, Verdict};
+use packet_dealing::flow_of_frame;
 use packet_view::{Packet, view};
 use session_state::SessionExpiry;
 use std::marker::Brand;
@@ -22,7 +22,7 @@ use std::sync::Wait;
 
 // One try, under what the rules will say of the packet.
 fn try_judge_as<A: Shape, B: Shape, D: HasReading>(
-    filter: &ReadyFilter<'_>,
+    filter: &InterfaceFilter<'_>,
     tables: &Tables<A, B>,
     callers: &mut Callers<A, B>,
     packet: &ViewedPacket<'_>,
@@ -32,9 +32,9 @@ fn try_judge_as<A: Shape, B: Shape, D: HasReading>(
     requires lives { IsForeseen filter.now.times packet.now.moment D.is_live }
     ensures { TellsViewedTry filter.now packet.now tables.now callers.old callers.new result }
 {
-    match Prepared::<D>::new(filter, packet) {
-        Prepared::Settled(verdict) => Ok(verdict),
-        Prepared::Asks(key, patch) => {
+    match PacketPlan::<D>::new(filter, packet) {
+        PacketPlan::Settled(verdict) => Ok(verdict),
+        PacketPlan::Asks(key, patch) => {
             let expiry = SessionExpiry {
                 moment: packet.moment,
                 times: filter.times,
@@ -51,7 +51,7 @@ fn try_judge_as<A: Shape, B: Shape, D: HasReading>(
 #[inline(always)]
 fn judge_as<A: Shape, B: Shape, D: HasReading, R: Wait>(
     rt: &R,
-    filter: &ReadyFilter<'_>,
+    filter: &InterfaceFilter<'_>,
     tables: &Tables<A, B>,
     callers: &mut Callers<A, B>,
     packet: &ViewedPacket<'_>,
@@ -61,9 +61,9 @@ fn judge_as<A: Shape, B: Shape, D: HasReading, R: Wait>(
     requires lives { IsForeseen filter.now.times packet.now.moment D.is_live }
     ensures { TellsViewed TookByTries filter.now packet.now tables.now callers.old callers.new result }
 {
-    match Prepared::<D>::new(filter, packet) {
-        Prepared::Settled(verdict) => verdict,
-        Prepared::Asks(key, patch) => {
+    match PacketPlan::<D>::new(filter, packet) {
+        PacketPlan::Settled(verdict) => verdict,
+        PacketPlan::Asks(key, patch) => {
             let expiry = SessionExpiry {
                 moment: packet.moment,
                 times: filter.times,
@@ -78,7 +78,7 @@ fn judge_as<A: Shape, B: Shape, D: HasReading, R: Wait>(
 #[inline(always)]
 pub fn judge_viewed<A: Shape, B: Shape, R: Wait>(
     rt: &R,
-    filter: &ReadyFilter<'_>,
+    filter: &InterfaceFilter<'_>,
     tables: &Tables<A, B>,
     callers: &mut Callers<A, B>,
     packet: &ViewedPacket<'_>,
@@ -102,7 +102,7 @@ pub fn judge<A: Shape, B: Shape, R: Wait>(
 {
     let filter = filter.ready(packet.interface);
     let frame = view(packet.frame, packet.interface, filter.own);
-    let flow = flow_in(&frame);
+    let flow = flow_of_frame(&frame);
     let packet = ViewedPacket::new(packet, &frame, &flow);
     judge_viewed(rt, &filter, tables, callers, &packet)
 }
@@ -119,7 +119,7 @@ pub fn try_judge<A: Shape, B: Shape>(
 {
     let filter = filter.ready(packet.interface);
     let frame = view(packet.frame, packet.interface, filter.own);
-    let flow = flow_in(&frame);
+    let flow = flow_of_frame(&frame);
     let packet = ViewedPacket::new(packet, &frame, &flow);
     try_judge_as::<A, B, Brand>(&filter, tables, callers, &packet)
 }

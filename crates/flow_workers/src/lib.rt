@@ -1,13 +1,12 @@
 //! Packets judged by many workers over session tables that they share.
 #![tactic(auto)]
 
+mod batches;
+mod caller_split;
 mod gate;
 mod judging;
-mod numbers;
-mod part_runs;
-mod parts;
-mod placing;
-mod prepared;
+mod merge;
+mod packet_plan;
 mod renewal;
 mod run_fault;
 mod runs;
@@ -20,6 +19,7 @@ mod turns;
 mod updates;
 mod viewed_packet;
 mod work;
+mod worker_results;
 mod workers;
 
 pub use flow_dealing::Dealing;

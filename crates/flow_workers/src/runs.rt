@@ -1,12 +1,12 @@
 //! All packets at once.
 ghost use Rattle.std.specs.Prelude.{◌≡◌, ◌⊎◌, ◌≤◌, ◌<◌, ◌^◌, All, IfOk, length};
-ghost use Rattle.packet_view.specs.CheckedCaptures.{held};
+ghost use Rattle.packet_view.specs.CheckedCaptures.{remaining};
 ghost use Rattle.packet_view.specs.declared.tuple.Family.{Family};
 ghost use Rattle.acl_policy.specs.Policies.{policy_facts};
 ghost use Rattle.flow_filter.specs.OneThread.{AreVerdicts, layout_of};
 ghost use Rattle.flow_dealing.specs.declared.dealing.Dealing.TheVariants.{Bucket};
 ghost use Rattle.flow_dealing.specs.Places.{PassAtPlaces};
-ghost use Rattle.flow_dealing.specs.Runs.{AreFew, AreJudged, HasPagesIn, HavePages};
+ghost use Rattle.flow_dealing.specs.WorkerRecords.{AreFew, AreJudged, HasPagesIn, HavePages};
 ghost use Rattle.flow_workers.specs.Callers.{AreShapes};
 ghost use Rattle.flow_workers.specs.Progress.{HaveAllSaid, MayBegin};
 
@@ -39,8 +39,8 @@ where
     A::Key: Send + Sync,
     B::Key: Send + Sync,
     requires begin { MayBegin setup callers }
-    requires fits { length (held packets) < 2 ^ 64 }
-    ensures { IfOk result (λ v. HaveAllSaid ⟦<A as Shape>⟧ ⟦<B as Shape>⟧ setup.entry (held packets.entry) v.items) }
+    requires fits { length (remaining packets) < 2 ^ 64 }
+    ensures { IfOk result (λ v. HaveAllSaid ⟦<A as Shape>⟧ ⟦<B as Shape>⟧ setup.entry (remaining packets.entry) v.items) }
 {
     match Workers::new(alloc, setup, callers) {
         Ok(begun) => match begun.judge(alloc, packets) {
@@ -75,16 +75,16 @@ where
     requires few { workers ≤ 16 }
     ensures judged { IfOk result (λ v. AreJudged
         (record { layout = layout_of ⟦<A as Shape>⟧ ⟦<B as Shape>⟧; dealing = dealing; workers = workers })
-        filter.now.times (policy_facts filter.now.policy) (held packets.entry) v.items) }
+        filter.now.times (policy_facts filter.now.policy) (remaining packets.entry) v.items) }
     ensures one_report { IfOk result (λ v. (dealing ≡ Bucket) ⊎ (workers ≡ 1) → HavePages v.items
         → AreVerdicts (layout_of ⟦<A as Shape>⟧ ⟦<B as Shape>⟧) filter.now.times (policy_facts filter.now.policy)
-        (held packets.entry) v.items) }
+        (remaining packets.entry) v.items) }
     ensures places { IfOk result (λ v. PassAtPlaces
         (record { layout = layout_of ⟦<A as Shape>⟧ ⟦<B as Shape>⟧; dealing = dealing; workers = workers })
-        filter.now.times (policy_facts filter.now.policy) (held packets.entry) v.items) }
+        filter.now.times (policy_facts filter.now.policy) (remaining packets.entry) v.items) }
     ensures pages { IfOk result (λ v. (are : AreJudged
         (record { layout = layout_of ⟦<A as Shape>⟧ ⟦<B as Shape>⟧; dealing = dealing; workers = workers })
-        filter.now.times (policy_facts filter.now.policy) (held packets.entry) v.items) (family : Family)
+        filter.now.times (policy_facts filter.now.policy) (remaining packets.entry) v.items) (family : Family)
         → AreFew (layout_of ⟦<A as Shape>⟧ ⟦<B as Shape>⟧) filter.now.times family are.judged
         → All (HasPagesIn filter.now.times family) are.judged) }
 {

@@ -3,7 +3,7 @@ use crate::gate::Gate;
 use crate::tables::Tables;
 use bihash_words::Shape;
 use flow_dealing::Dealing;
-use flow_filter::ReadyFilters;
+use flow_filter::InterfaceFilters;
 use packet_dealing::Dealer;
 use std::sync::Wait;
 
@@ -12,7 +12,7 @@ use std::sync::Wait;
 pub struct Setup<'t, 'f, A: Shape, B: Shape, R: Wait, G: Gate> {
     pub rt: &'t R,
     pub gate: &'t G,
-    pub filter: &'t ReadyFilters<'f>,
+    pub filter: &'t InterfaceFilters<'f>,
     pub tables: &'t Tables<A, B>,
     pub dealing: Dealing,
     /// How many workers there are.

@@ -15,11 +15,11 @@ pub enum Turn<'t, 'f, 'a, A: Shape, B: Shape, R: Wait, G: Gate> {
 }
 
 impl<'t, 'f, 'a, A: Shape, B: Shape, R: Wait, G: Gate> Task for Turn<'t, 'f, 'a, A, B, R, G> {
-    ghost use Rattle.flow_workers.specs.inner.Turns.{Becomes, CanTake};
+    ghost use Rattle.flow_workers.specs.inner.Turns.{BecomesWorked, CanTakeTurn};
 
-    ghost can_run = { CanTake ⟦<A as Shape>⟧ ⟦<B as Shape>⟧ };
+    ghost can_run = { CanTakeTurn ⟦<A as Shape>⟧ ⟦<B as Shape>⟧ };
 
-    ghost becomes = { Becomes ⟦<A as Shape>⟧ ⟦<B as Shape>⟧ };
+    ghost becomes = { BecomesWorked ⟦<A as Shape>⟧ ⟦<B as Shape>⟧ };
 
     fn run(self) -> Turn<'t, 'f, 'a, A, B, R, G> {
         match self {

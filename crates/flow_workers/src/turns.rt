@@ -2,10 +2,10 @@
 ghost use Rattle.std.specs.Prelude.{◌≡◌, ◌≤◌, All, IfOk, map, Ok};
 ghost use Rattle.flow_workers.specs.declared.turn.Turn.TheVariants.{Over};
 ghost use Rattle.flow_workers.specs.inner.Jobs.{AreDealtFrom};
-ghost use Rattle.flow_workers.specs.inner.Turns.{AreAhead, AreTurns, HaveWorked, IsPast, MayRun};
+ghost use Rattle.flow_workers.specs.inner.Turns.{AreTurnsAhead, AreTurns, HaveWorked, IsTurnPast, MayJudgeBatch};
 
 use crate::gate::Gate;
-use crate::share::{Dealt, Job, Run, Share};
+use crate::share::{Batch, Dealt, Job, Share};
 use crate::turn::Turn;
 use bihash_words::Shape;
 use packet_dealing::run_all;
@@ -16,17 +16,17 @@ use std::thread::Threads;
 // The turns of workers that have these shares, in their order.
 fn turns_of<'t, 'f, 'a, A: Shape, B: Shape, R: Wait, G: Gate>(
     alloc: Global,
-    run: Run<'t, 'f, 'a, A, B, R, G>,
+    batch: Batch<'t, 'f, 'a, A, B, R, G>,
     dealt: Dealt<'t, 'a>,
     shares: Vec<Share<A, B>>,
 ) -> Result<Vec<Turn<'t, 'f, 'a, A, B, R, G>>, AllocError>
-    ensures { IfOk result (λ v. AreTurns run.entry dealt.entry shares.items v.items) }
+    ensures { IfOk result (λ v. AreTurns batch.entry dealt.entry shares.items v.items) }
 {
     let mut turns = Vec::with_capacity(alloc, shares.len())?;
     let mut worker = 0;
     for share in shares {
         turns.push(Turn::Ahead(Job {
-            run: run.again(),
+            batch: batch.again(),
             dealt,
             worker,
             share,
@@ -36,18 +36,18 @@ fn turns_of<'t, 'f, 'a, A: Shape, B: Shape, R: Wait, G: Gate>(
     Ok(turns)
 }
 
-// They are ready where each worker may judge the packets of the run.
+// They are ready where each worker may judge the packets of the batch.
 fn turns_ahead<'t, 'f, 'a, A: Shape, B: Shape, R: Wait, G: Gate>(
     alloc: Global,
-    run: Run<'t, 'f, 'a, A, B, R, G>,
+    batch: Batch<'t, 'f, 'a, A, B, R, G>,
     dealt: Dealt<'t, 'a>,
     shares: Vec<Share<A, B>>,
 ) -> Result<Vec<Turn<'t, 'f, 'a, A, B, R, G>>, AllocError>
-    requires may { MayRun run shares.items }
-    requires dealt { AreDealtFrom ⟦<A as Shape>⟧ ⟦<B as Shape>⟧ run 0 dealt.parts.now.items }
-    ensures { IfOk result (λ v. AreAhead run.entry dealt.entry shares.items v.items) }
+    requires may { MayJudgeBatch batch shares.items }
+    requires dealt { AreDealtFrom ⟦<A as Shape>⟧ ⟦<B as Shape>⟧ batch 0 dealt.chunks.now.items }
+    ensures { IfOk result (λ v. AreTurnsAhead batch.entry dealt.entry shares.items v.items) }
 {
-    turns_of(alloc, run, dealt, shares)
+    turns_of(alloc, batch, dealt, shares)
 }
 
 // The shares after all turns, where none of them was refused memory.
@@ -55,7 +55,7 @@ fn shares_over<'t, 'f, 'a, A: Shape, B: Shape, R: Wait, G: Gate>(
     alloc: Global,
     turns: Vec<Turn<'t, 'f, 'a, A, B, R, G>>,
 ) -> Result<Vec<Share<A, B>>, AllocError>
-    requires { All (IsPast ⟦<A as Shape>⟧ ⟦<B as Shape>⟧) turns.items }
+    requires { All (IsTurnPast ⟦<A as Shape>⟧ ⟦<B as Shape>⟧) turns.items }
     ensures { IfOk result (λ v. turns.entry.items ≡ map (λ share. Over (Ok share)) v.items) }
 {
     let mut shares = Vec::with_capacity(alloc, turns.len())?;
@@ -68,7 +68,7 @@ fn shares_over<'t, 'f, 'a, A: Shape, B: Shape, R: Wait, G: Gate>(
     Ok(shares)
 }
 
-/// The shares of all workers after each judged its packets of a run in a thread of its own, or in this one where none can
+/// The shares of all workers after each judged its packets of a batch in a thread of its own, or in this one where none can
 /// be made.
 pub fn run_shares<
     't,
@@ -80,19 +80,19 @@ pub fn run_shares<
     G: Gate + Sync,
 >(
     alloc: Global,
-    run: Run<'t, 'f, 'a, A, B, R, G>,
+    batch: Batch<'t, 'f, 'a, A, B, R, G>,
     dealt: Dealt<'t, 'a>,
     shares: Vec<Share<A, B>>,
 ) -> Result<Vec<Share<A, B>>, AllocError>
 where
     A::Key: Send + Sync,
     B::Key: Send + Sync,
-    requires may { MayRun run shares.items }
-    requires dealt { AreDealtFrom ⟦<A as Shape>⟧ ⟦<B as Shape>⟧ run 0 dealt.parts.now.items }
-    ensures { IfOk result (λ v. HaveWorked run.entry shares.items v.items) }
+    requires may { MayJudgeBatch batch shares.items }
+    requires dealt { AreDealtFrom ⟦<A as Shape>⟧ ⟦<B as Shape>⟧ batch 0 dealt.chunks.now.items }
+    ensures { IfOk result (λ v. HaveWorked batch.entry shares.items v.items) }
 {
-    let rt = run.setup.rt;
-    let ahead = turns_ahead(alloc, run, dealt, shares)?;
+    let rt = batch.setup.rt;
+    let ahead = turns_ahead(alloc, batch, dealt, shares)?;
     let over = run_all(rt, ahead)?;
     shares_over(alloc, over)
 }

@@ -2,7 +2,7 @@
 ghost use Rattle.std.specs.Prelude.{◌≡◌, ◌<◌};
 ghost use Rattle.std.specs.Option.{ForSome};
 ghost use Rattle.packet_view.specs.Frames.{frame_facts};
-ghost use Rattle.flow_dealing.specs.Dealings.{flow_shown};
+ghost use Rattle.flow_dealing.specs.Dealings.{flow_of_frame};
 
 use packet_view::{Frame, Packet};
 use session_state::Flow;
@@ -15,7 +15,7 @@ pub struct ViewedPacket<'a> {
     pub frame: &'a Frame,
     /// `None`: the packet takes no part in sessions.
     pub flow: &'a Option<Flow>,
-    pub ghost shown: { flow.now ≡ flow_shown (frame_facts frame.now) },
+    pub ghost shown: { flow.now ≡ flow_of_frame (frame_facts frame.now) },
     pub ghost of_two: { ForSome flow.now (λ f. f.side < 2) },
 }
 
@@ -25,12 +25,12 @@ impl<'a> ViewedPacket<'a> {
     ghost use Rattle.packet_view.specs.Frames.{frame_facts};
     ghost use Rattle.packet_view.specs.declared.tuple.Mac.{Mac};
     ghost use Rattle.flow_filter.specs.Readings.{IsSeenAt};
-    ghost use Rattle.flow_dealing.specs.Dealings.{flow_shown};
+    ghost use Rattle.flow_dealing.specs.Dealings.{flow_of_frame};
     ghost use Rattle.flow_workers.specs.inner.ViewedPackets.{IsViewed};
 
     /// The packet, whose frame turned out to be this and shows this flow.
     pub fn new(packet: &Packet<'_>, frame: &'a Frame, flow: &'a Option<Flow>) -> ViewedPacket<'a>
-        requires shown { flow.now ≡ flow_shown (frame_facts frame.now) }
+        requires shown { flow.now ≡ flow_of_frame (frame_facts frame.now) }
         requires side { ForSome flow.now (λ f. f.side < 2) }
         ensures seen { (own : Option Mac) → IsSeenAt own (packet_facts packet.now) (frame_facts frame.now)
             → IsViewed own (packet_facts packet.now) result }

@@ -1,35 +1,35 @@
 //! One worker: each packet that is dealt to it is judged, in the order of the file.
 ghost use Rattle.std.specs.Prelude.{◌≡◌, ◌≢◌, ◌+◌, ◌<◌, ◌++◌, ◌∷◌, [], false, IfOk, length};
 ghost use Rattle.packet_view.specs.Captures.{packet_facts};
-ghost use Rattle.flow_workers.specs.inner.Jobs.{CanWork, HasWorkedOn, HasWorkedOnPart, IsShareOf, MayJudge, MayJudgePart, MayJudgeViewed};
+ghost use Rattle.flow_workers.specs.inner.Jobs.{CanWork, HasWorkedOn, IsShareOf, MayJudgePacket, MayJudgeChunk, MayJudgeViewed};
 
 use crate::gate::Gate;
 use crate::judging::judge_viewed;
-use crate::share::{Job, Run, Share};
+use crate::share::{Batch, Job, Share};
 use crate::viewed_packet::ViewedPacket;
 use bihash_words::Shape;
-use flow_filter::ReadyFilter;
-use packet_dealing::{DealtPart, flow_in};
+use flow_filter::InterfaceFilter;
+use packet_dealing::{DealtChunk, flow_of_frame};
 use packet_view::{Packet, plain_frame, view};
 use std::alloc::AllocError;
 use std::sync::Wait;
 
-// Judges a packet of the worker, which stands at this place among those of the run and was viewed, by the filter at its
+// Judges a packet of the worker, which stands at this place among those of the batch and was viewed, by the filter at its
 // interface, and says its verdict.
 #[inline(always)]
-fn judge_own_viewed<A: Shape, B: Shape, R: Wait, G: Gate>(
-    run: &Run<'_, '_, '_, A, B, R, G>,
+fn record_verdict<A: Shape, B: Shape, R: Wait, G: Gate>(
+    batch: &Batch<'_, '_, '_, A, B, R, G>,
     worker: usize,
     at: usize,
-    filter: &ReadyFilter<'_>,
+    filter: &InterfaceFilter<'_>,
     packet: &ViewedPacket<'_>,
     share: &mut Share<A, B>,
 ) -> Result<(), AllocError>
-    requires { MayJudgeViewed ⟦<A as Shape>⟧ ⟦<B as Shape>⟧ run.now worker at filter.now packet.now share.old }
-    ensures { IfOk result (λ _. HasWorkedOn ⟦<A as Shape>⟧ ⟦<B as Shape>⟧ run.now worker at (at + 1) share.old share.new) }
+    requires { MayJudgeViewed ⟦<A as Shape>⟧ ⟦<B as Shape>⟧ batch.now worker at filter.now packet.now share.old }
+    ensures { IfOk result (λ _. HasWorkedOn ⟦<A as Shape>⟧ ⟦<B as Shape>⟧ batch.now worker at (at + 1) share.old share.new) }
 {
-    let setup = &run.setup;
-    let number = run.first + at;
+    let setup = &batch.setup;
+    let number = batch.first + at;
     setup.gate.before(worker, number);
     let verdict = judge_viewed(setup.rt, filter, setup.tables, &mut share.callers, packet);
     setup.gate.after(worker, number);
@@ -40,59 +40,60 @@ fn judge_own_viewed<A: Shape, B: Shape, R: Wait, G: Gate>(
 // Judges a packet of the worker by the view of its frame. Few frames aren't plain, and what is done with the others is
 // shorter without this.
 #[inline(never)]
-fn judge_own_slowly<A: Shape, B: Shape, R: Wait, G: Gate>(
-    run: &Run<'_, '_, '_, A, B, R, G>,
+fn judge_slow_path<A: Shape, B: Shape, R: Wait, G: Gate>(
+    batch: &Batch<'_, '_, '_, A, B, R, G>,
     worker: usize,
     at: usize,
     packet: &Packet<'_>,
     share: &mut Share<A, B>,
 ) -> Result<(), AllocError>
-    requires { MayJudge ⟦<A as Shape>⟧ ⟦<B as Shape>⟧ run.now worker at (packet_facts packet.now) share.old }
-    ensures { IfOk result (λ _. HasWorkedOn ⟦<A as Shape>⟧ ⟦<B as Shape>⟧ run.now worker at (at + 1) share.old share.new) }
+    requires { MayJudgePacket ⟦<A as Shape>⟧ ⟦<B as Shape>⟧ batch.now worker at (packet_facts packet.now) share.old }
+    ensures { IfOk result (λ _. HasWorkedOn ⟦<A as Shape>⟧ ⟦<B as Shape>⟧ batch.now worker at (at + 1) share.old share.new) }
 {
-    let filter = run.setup.filter.at(packet.interface);
+    let filter = batch.setup.filter.at(packet.interface);
     let frame = view(packet.frame, packet.interface, filter.own);
-    let flow = flow_in(&frame);
+    let flow = flow_of_frame(&frame);
     let viewed = ViewedPacket::new(packet, &frame, &flow);
-    judge_own_viewed(run, worker, at, filter, &viewed, share)
+    record_verdict(batch, worker, at, filter, &viewed, share)
 }
 
-/// Judges a packet of the worker, which stands at this place among those of the run, and says its verdict. All that it
+/// Judges a packet of the worker, which stands at this place among those of the batch, and says its verdict. All that it
 /// does with a plain frame is within the loops in which it is called: as a call it took a fifth more instructions.
 #[inline(always)]
-pub fn judge_own<A: Shape, B: Shape, R: Wait, G: Gate>(
-    run: &Run<'_, '_, '_, A, B, R, G>,
+pub fn judge_packet<A: Shape, B: Shape, R: Wait, G: Gate>(
+    batch: &Batch<'_, '_, '_, A, B, R, G>,
     worker: usize,
     at: usize,
     packet: &Packet<'_>,
     share: &mut Share<A, B>,
 ) -> Result<(), AllocError>
-    requires { MayJudge ⟦<A as Shape>⟧ ⟦<B as Shape>⟧ run.now worker at (packet_facts packet.now) share.old }
-    ensures { IfOk result (λ _. HasWorkedOn ⟦<A as Shape>⟧ ⟦<B as Shape>⟧ run.now worker at (at + 1) share.old share.new) }
+    requires { MayJudgePacket ⟦<A as Shape>⟧ ⟦<B as Shape>⟧ batch.now worker at (packet_facts packet.now) share.old }
+    ensures { IfOk result (λ _. HasWorkedOn ⟦<A as Shape>⟧ ⟦<B as Shape>⟧ batch.now worker at (at + 1) share.old share.new) }
 {
-    let filter = run.setup.filter.at(packet.interface);
+    let filter = batch.setup.filter.at(packet.interface);
     let Some(frame) = plain_frame(packet.frame, packet.interface, filter.own) else {
-        return judge_own_slowly(run, worker, at, packet, share);
+        return judge_slow_path(batch, worker, at, packet, share);
     };
-    let flow = flow_in(&frame);
+    let flow = flow_of_frame(&frame);
     let viewed = ViewedPacket::new(packet, &frame, &flow);
-    judge_own_viewed(run, worker, at, filter, &viewed, share)
+    record_verdict(batch, worker, at, filter, &viewed, share)
 }
 
-// Judges the worker's packets of a dealt part, which begins at this place among those of the run.
-fn judge_part<'a, A: Shape, B: Shape, R: Wait, G: Gate>(
-    run: &Run<'_, '_, 'a, A, B, R, G>,
+// Judges the worker's packets of a dealt chunk, which begins at this place among those of the batch.
+fn judge_chunk<'a, A: Shape, B: Shape, R: Wait, G: Gate>(
+    batch: &Batch<'_, '_, 'a, A, B, R, G>,
     worker: usize,
     first: usize,
-    part: &DealtPart<'a>,
+    chunk: &DealtChunk<'a>,
     share: &mut Share<A, B>,
 ) -> Result<(), AllocError>
-    requires { MayJudgePart ⟦<A as Shape>⟧ ⟦<B as Shape>⟧ run.now worker first part.now share.old }
-    ensures { IfOk result (λ _. HasWorkedOnPart ⟦<A as Shape>⟧ ⟦<B as Shape>⟧ run.now worker first part.now share.old share.new) }
+    requires { MayJudgeChunk ⟦<A as Shape>⟧ ⟦<B as Shape>⟧ batch.now worker first chunk.now share.old }
+    ensures { IfOk result (λ _. HasWorkedOn ⟦<A as Shape>⟧ ⟦<B as Shape>⟧ batch.now worker first
+        (first + length chunk.now.workers.items) share.old share.new) }
 {
-    let own = part.own[worker].as_slice();
+    let own = chunk.own[worker].as_slice();
     for dealt in own {
-        judge_own(run, worker, first + dealt.at, &dealt.packet, share)?;
+        judge_packet(batch, worker, first + dealt.at, &dealt.packet, share)?;
     }
     Ok(())
 }
@@ -105,16 +106,18 @@ pub fn work<'t, 'f, 'a, A: Shape, B: Shape, R: Wait, G: Gate>(
     ensures { IfOk result (λ share. IsShareOf ⟦<A as Shape>⟧ ⟦<B as Shape>⟧ job.entry share) }
 {
     let Job {
-        run,
+        batch,
         dealt,
         worker,
         mut share,
     } = job;
-    share.said.reserve(run.packets.count() / run.setup.workers)?;
+    share
+        .said
+        .reserve(batch.packets.count() / batch.setup.workers)?;
     let mut first = 0;
-    for part in dealt.parts.as_slice() {
-        judge_part(&run, worker, first, part, &mut share)?;
-        first += part.workers.len();
+    for chunk in dealt.chunks.as_slice() {
+        judge_chunk(&batch, worker, first, chunk, &mut share)?;
+        first += chunk.workers.len();
     }
     Ok(share)
 }

@@ -1,16 +1,16 @@
-//! Workers that judge packets in parts.
+//! Workers that judge packets in batches.
 ghost use Rattle.std.specs.Prelude.{IfOk};
 ghost use Rattle.flow_workers.specs.inner.Shares.{AreSplit, MaySplit};
 
+use crate::batches::judge_batch;
+use crate::caller_split::{join_whole, split_one};
 use crate::gate::Gate;
-use crate::numbers::{join_whole, split_one};
-use crate::part_runs::judge_run;
-use crate::parts::parts_of;
-use crate::placing::in_order;
+use crate::merge::merge_verdicts;
 use crate::run_fault::RunFault;
 use crate::setup::Setup;
-use crate::share::{Parts, Run, Share};
+use crate::share::{Batch, Share, WorkerResults};
 use crate::tables::{Callers, Tables};
+use crate::worker_results::results_of;
 use bihash_words::Shape;
 use flow_filter::Verdict;
 use packet_view::Packets;
@@ -98,10 +98,10 @@ impl<'t, 'f, A: Shape, B: Shape, R: Wait, G: Gate> Workers<'t, 'f, A, B, R, G> {
             judges,
             count,
         } = self;
-        let Parts { four, six, said } = parts_of(alloc, shares)?;
+        let WorkerResults { four, six, said } = results_of(alloc, shares)?;
         join_whole(setup.rt, &setup.tables.four, four);
         join_whole(setup.rt, &setup.tables.six, six);
-        Ok(in_order(alloc, said, judges.as_slice(), count)?)
+        Ok(merge_verdicts(alloc, said, judges.as_slice(), count)?)
     }
 }
 
@@ -137,12 +137,12 @@ where
             count,
         } = self;
         let next = count + packets.count();
-        let run = Run {
+        let batch = Batch {
             setup: setup.again(),
             first: count,
             packets,
         };
-        match judge_run(alloc, run, shares, &mut judges) {
+        match judge_batch(alloc, batch, shares, &mut judges) {
             Ok(shares) => Ok(Workers {
                 setup,
                 shares,

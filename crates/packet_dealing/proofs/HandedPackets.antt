@@ -6,14 +6,14 @@ use Rattle.std.proofs.lemmas.Bool.{ne_eqb}
 use Rattle.std.proofs.lemmas.Bool.Decides.{eqb_tells}
 use Rattle.std.proofs.lemmas.List.{map_push}
 use Rattle.packet_view.specs.Captures.{PacketFacts, packet_facts}
-use Rattle.packet_view.specs.declared.capture.Packet.{Packet}
+use Rattle.packet_view.specs.declared.packet.Packet.{Packet}
 use Rattle.bihash_words.specs.declared.shape.Shape.{Ghosts}
 use Rattle.packet_dealing.proofs.DealtLists.{workers_push}
-use Rattle.packet_dealing.specs.Dealt.{AreWorkers, HaveOwn, IsDealtPart, IsDealtTo, picked, placed_facts}
+use Rattle.packet_dealing.specs.Dealt.{AreWorkers, HaveOwn, IsDealtChunk, IsDealtTo, picked, placed_facts}
 use Rattle.packet_dealing.specs.declared.dealer.Dealer.{Dealer}
-use Rattle.packet_dealing.specs.declared.dealt_part.DealtPacket.{DealtPacket}
-use Rattle.packet_dealing.specs.declared.dealt_part.DealtPart.{DealtPart}
-use Rattle.packet_dealing.specs.inner.OwnPackets.{HasHanded, IsEmptyPart}
+use Rattle.packet_dealing.specs.declared.dealt_chunk.DealtPacket.{DealtPacket}
+use Rattle.packet_dealing.specs.declared.dealt_chunk.DealtChunk.{DealtChunk}
+use Rattle.packet_dealing.specs.inner.OwnPackets.{HasHanded, IsEmptyChunk}
 
 pub none_picked : (worker at : ℕ) (packets : List PacketFacts) → picked worker at [] packets ≡ []
 unfolding picked
@@ -94,15 +94,15 @@ other_push worker at w (x ∷ xs) packet (p ∷ ps) there other = elim (eqb_tell
       ∙ (other_push worker (at + 1) w xs packet ps there other ∙ sym (picked_other worker at x xs p ps differ))
 ]
 
--- ---- Parts
+-- ---- Chunks
 
 -- no packet was handed out
-none_own : (count : ℕ) (part : DealtPart) (packets : List PacketFacts) → IsEmptyPart count part
-    → HaveOwn count part packets
-none_own count part packets empty = record {
+none_own : (count : ℕ) (chunk : DealtChunk) (packets : List PacketFacts) → IsEmptyChunk count chunk
+    → HaveOwn count chunk packets
+none_own count chunk packets empty = record {
   lists = empty.count;
   each = λ w d inside.
-      ap (map placed_facts) (all_at (λ (list : Vec DealtPacket). list.items ≡ []) part.own.items empty.each w d
+      ap (map placed_facts) (all_at (λ (list : Vec DealtPacket). list.items ≡ []) chunk.own.items empty.each w d
       (subst (λ n. w < n) (sym empty.count) inside))
       ∙ sym (ap (λ ws. picked w 0 ws packets) empty.none ∙ none_picked w 0 packets);
 }
@@ -111,7 +111,7 @@ none_own count part packets empty = record {
     all_at P xs all i d inside = all i d inside
 
 -- the next packet was handed to its worker
-own_push : (count : ℕ) (old new : DealtPart) (worker : ℕ) (packet : Packet) (packets : List PacketFacts)
+own_push : (count : ℕ) (old new : DealtChunk) (worker : ℕ) (packet : Packet) (packets : List PacketFacts)
     → worker < count → HaveOwn count old packets
     → slice_get packets (length old.workers.items) ≡ Some (packet_facts packet) → HasHanded old worker packet new
     → HaveOwn count new packets
@@ -140,20 +140,20 @@ own_push count old new worker packet packets one own there did = record {
 
 module _ {A B K L : Type 0} (ga : Ghosts A K) (gb : Ghosts B L) (dealer : Dealer) (first : ℕ)
     (packets : List PacketFacts) where
-  pub none_dealt : (part : DealtPart) → IsEmptyPart dealer.workers part → IsDealtPart ga gb dealer first part packets
-  none_dealt part empty = record {
+  pub none_dealt : (chunk : DealtChunk) → IsEmptyChunk dealer.workers chunk → IsDealtChunk ga gb dealer first chunk packets
+  none_dealt chunk empty = record {
     workers = record {
       inside = let none = ap length empty.none in omega arith;
       each = λ k packet below there. absurd (let none = ap length empty.none in omega arith);
     };
-    own = none_own dealer.workers part packets empty;
+    own = none_own dealer.workers chunk packets empty;
   }
 
-  pub dealt_push : (old new : DealtPart) (worker : ℕ) (packet : Packet) → worker < dealer.workers
-      → IsDealtPart ga gb dealer first old packets
+  pub dealt_push : (old new : DealtChunk) (worker : ℕ) (packet : Packet) → worker < dealer.workers
+      → IsDealtChunk ga gb dealer first old packets
       → slice_get packets (length old.workers.items) ≡ Some (packet_facts packet)
       → IsDealtTo ga gb dealer (first + length old.workers.items) (packet_facts packet) worker
-      → HasHanded old worker packet new → IsDealtPart ga gb dealer first new packets
+      → HasHanded old worker packet new → IsDealtChunk ga gb dealer first new packets
   dealt_push old new worker packet one before there dealt did = record {
     workers = subst (λ ws. AreWorkers ga gb dealer first ws packets) (sym did.noted)
         (workers_push ga gb dealer first packets old.workers.items worker (packet_facts packet) before.workers there dealt);

@@ -1,4 +1,4 @@
+pub mod ChunkLemmas
 pub mod DealtLists
 pub mod HandedPackets
 pub mod OwnAddresses
-pub mod PartLemmas

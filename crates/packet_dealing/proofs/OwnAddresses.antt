@@ -7,17 +7,17 @@ use Rattle.packet_view.specs.declared.tuple.Mac.{Mac}
 use Rattle.packet_view.specs.inner.FrameSteps.{direction_of}
 use Rattle.packet_view.proofs.FrameLemmas.{goes_of, view_only}
 use Rattle.flow_filter.specs.Readings.{IsSeenAt}
-use Rattle.flow_dealing.specs.Dealings.{flow_shown}
+use Rattle.flow_dealing.specs.Dealings.{flow_of_frame}
 
 module _ (packet : PacketFacts) (own : Option Mac) (view : FrameFacts) (seen : IsSeenAt own packet view) where
   abbrev at : Interface
   at = record { number = packet.interface; own = own }
 
-  same : (other : FrameFacts) → IsSeenAt own packet other → flow_shown other ≡ flow_shown view
-  same other is = ap flow_shown (view_only packet.frame at other is ∙ sym (view_only packet.frame at view seen))
+  same : (other : FrameFacts) → IsSeenAt own packet other → flow_of_frame other ≡ flow_of_frame view
+  same other is = ap flow_of_frame (view_only packet.frame at other is ∙ sym (view_only packet.frame at view seen))
 
   pub same_flow_shown : (before : Option Mac) (other : FrameFacts) → IsSeenAt before packet other
-      → flow_shown other ≡ flow_shown view
+      → flow_of_frame other ≡ flow_of_frame view
   same_flow_shown before NotIp is = same NotIp is
   same_flow_shown before Malformed is = same Malformed is
   same_flow_shown before Short is = same Short is

@@ -8,10 +8,10 @@ use Rattle.bihash_words.specs.Sizes.{IsSound, sizes_of}
 use Rattle.bihash_words.specs.declared.shape.Shape.{Ghosts}
 use Rattle.flow_filter.specs.OneThread.{IsFlowLayout, layout_of}
 use Rattle.flow_filter.specs.Readings.{IsSeenAt}
-use Rattle.flow_dealing.specs.Dealings.{flow_shown, worker_by}
+use Rattle.flow_dealing.specs.Dealings.{Deal, flow_of_frame, worker_of}
 use Rattle.packet_dealing.specs.declared.dealer.Dealer.{Dealer}
-use Rattle.packet_dealing.specs.declared.dealt_part.DealtPacket.{DealtPacket}
-use Rattle.packet_dealing.specs.declared.dealt_part.DealtPart.{DealtPart}
+use Rattle.packet_dealing.specs.declared.dealt_chunk.DealtPacket.{DealtPacket}
+use Rattle.packet_dealing.specs.declared.dealt_chunk.DealtChunk.{DealtChunk}
 
 -- the shapes are sound, and their keys are those of flows
 pub record AreShapes {A B K L : Type 0} (ga : Ghosts A K) (gb : Ghosts B L) : Type 0 where
@@ -19,10 +19,14 @@ pub record AreShapes {A B K L : Type 0} (ga : Ghosts A K) (gb : Ghosts B L) : Ty
   pub six : IsSound (sizes_of gb)
   pub keys : IsFlowLayout (layout_of ga gb)
 
+-- what packets are dealt by, over tables of these shapes
+abbrev pub deal_of : {A B K L : Type 0} (ga : Ghosts A K) (gb : Ghosts B L) → Dealer → Deal
+deal_of ga gb dealer = record { layout = layout_of ga gb; dealing = dealer.dealing; workers = dealer.workers }
+
 -- the worker that judges the packet with this number, from 0, whatever the own address of its interface
 abbrev pub IsDealtTo : {A B K L : Type 0} (ga : Ghosts A K) (gb : Ghosts B L) → Dealer → ℕ → PacketFacts → ℕ → Type 0
 IsDealtTo ga gb dealer number packet worker = (own : Option Mac) (seen : FrameFacts) → IsSeenAt own packet seen
-    → worker ≡ worker_by dealer.dealing (layout_of ga gb) dealer.workers number (flow_shown seen)
+    → worker ≡ worker_of (deal_of ga gb dealer) number (flow_of_frame seen)
 
 -- these are the workers of the first of the packets, whose numbers begin with this one
 pub record AreWorkers {A B K L : Type 0} (ga : Ghosts A K) (gb : Ghosts B L) (dealer : Dealer) (first : ℕ)
@@ -43,20 +47,20 @@ picked worker at (w ∷ ws) (packet ∷ packets) =
     if w == worker then (at, packet) ∷ picked worker (at + 1) ws packets else picked worker (at + 1) ws packets
 
 -- Each of so many workers has a list of the packets that are its own.
-pub record HaveOwn (count : ℕ) (part : DealtPart) (packets : List PacketFacts) : Type 0 where
-  pub lists : length part.own.items ≡ count
+pub record HaveOwn (count : ℕ) (chunk : DealtChunk) (packets : List PacketFacts) : Type 0 where
+  pub lists : length chunk.own.items ≡ count
   pub each : (w : ℕ) (d : Vec DealtPacket) → w < count
-      → map placed_facts (slice_index_or part.own.items w d).items ≡ picked w 0 part.workers.items packets
+      → map placed_facts (slice_index_or chunk.own.items w d).items ≡ picked w 0 chunk.workers.items packets
 
--- the part has the workers of the first of these packets, whose numbers begin with this one, and for each worker its own
-pub record IsDealtPart {A B K L : Type 0} (ga : Ghosts A K) (gb : Ghosts B L) (dealer : Dealer) (first : ℕ)
-    (part : DealtPart) (packets : List PacketFacts) : Type 0 where
-  pub workers : AreWorkers ga gb dealer first part.workers.items packets
-  pub own : HaveOwn dealer.workers part packets
+-- the chunk has the workers of the first of these packets, whose numbers begin with this one, and for each worker its own
+pub record IsDealtChunk {A B K L : Type 0} (ga : Ghosts A K) (gb : Ghosts B L) (dealer : Dealer) (first : ℕ)
+    (chunk : DealtChunk) (packets : List PacketFacts) : Type 0 where
+  pub workers : AreWorkers ga gb dealer first chunk.workers.items packets
+  pub own : HaveOwn dealer.workers chunk packets
 
 -- these are all packets, whose numbers begin with this one, each with its worker
-abbrev pub AreDealt : {A B K L : Type 0} (ga : Ghosts A K) (gb : Ghosts B L) → Dealer → ℕ → List DealtPart
+abbrev pub AreDealt : {A B K L : Type 0} (ga : Ghosts A K) (gb : Ghosts B L) → Dealer → ℕ → List DealtChunk
     → List PacketFacts → Type 0
 AreDealt ga gb dealer first [] packets = packets ≡ []
-AreDealt ga gb dealer first (part ∷ parts) packets = IsDealtPart ga gb dealer first part packets
-    × AreDealt ga gb dealer (first + length part.workers.items) parts (drop (length part.workers.items) packets)
+AreDealt ga gb dealer first (chunk ∷ chunks) packets = IsDealtChunk ga gb dealer first chunk packets
+    × AreDealt ga gb dealer (first + length chunk.workers.items) chunks (drop (length chunk.workers.items) packets)

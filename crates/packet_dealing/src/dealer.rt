@@ -3,7 +3,7 @@ ghost use Rattle.std.specs.Prelude.{◌≡◌, ◌<◌};
 ghost use Rattle.std.specs.Option.{ForSome};
 ghost use Rattle.packet_view.specs.Captures.{packet_facts};
 ghost use Rattle.packet_view.specs.Frames.{frame_facts};
-ghost use Rattle.flow_dealing.specs.Dealings.{flow_shown};
+ghost use Rattle.flow_dealing.specs.Dealings;
 ghost use Rattle.packet_dealing.specs.Dealt.{AreShapes, IsDealtTo};
 
 use bihash_words::Shape;
@@ -20,8 +20,8 @@ pub struct Dealer {
 
 /// The flow of a packet with this frame. `None`: it takes no part in sessions.
 #[inline(always)]
-pub fn flow_in(frame: &Frame) -> Option<Flow>
-    ensures shown { result ≡ flow_shown (frame_facts frame.now) }
+pub fn flow_of_frame(frame: &Frame) -> Option<Flow>
+    ensures shown { result ≡ Dealings.flow_of_frame (frame_facts frame.now) }
     ensures side { ForSome result (λ f. f.side < 2) }
 {
     match frame {
@@ -33,18 +33,22 @@ pub fn flow_in(frame: &Frame) -> Option<Flow>
 // Who judges the packet with this number, by the view of its frame at any own address. Few frames aren't plain, and the
 // path of the others is shorter without this.
 #[inline(never)]
-fn dealt_by_view<A: Shape, B: Shape>(dealer: &Dealer, number: usize, packet: &Packet<'_>) -> usize
+fn worker_by_view<A: Shape, B: Shape>(dealer: &Dealer, number: usize, packet: &Packet<'_>) -> usize
     requires shapes { AreShapes ⟦<A as Shape>⟧ ⟦<B as Shape>⟧ }
     requires some { 0 < dealer.now.workers }
     ensures dealt { IsDealtTo ⟦<A as Shape>⟧ ⟦<B as Shape>⟧ dealer.now number (packet_facts packet.now) result }
     ensures one { result < dealer.now.workers }
 {
-    let flow = flow_in(&view(packet.frame, packet.interface, None));
+    let flow = flow_of_frame(&view(packet.frame, packet.interface, None));
     worker_of::<A, B>(dealer.dealing, dealer.workers, number, flow)
 }
 
 /// Who judges the packet with this number, from 0. A plain frame isn't viewed for it.
-pub fn dealt_to<A: Shape, B: Shape>(dealer: &Dealer, number: usize, packet: &Packet<'_>) -> usize
+pub fn worker_of_packet<A: Shape, B: Shape>(
+    dealer: &Dealer,
+    number: usize,
+    packet: &Packet<'_>,
+) -> usize
     requires shapes { AreShapes ⟦<A as Shape>⟧ ⟦<B as Shape>⟧ }
     requires some { 0 < dealer.now.workers }
     ensures dealt { IsDealtTo ⟦<A as Shape>⟧ ⟦<B as Shape>⟧ dealer.now number (packet_facts packet.now) result }
@@ -55,6 +59,6 @@ pub fn dealt_to<A: Shape, B: Shape>(dealer: &Dealer, number: usize, packet: &Pac
             let flow = Some(plain_flow(said, packet.interface));
             worker_of::<A, B>(dealer.dealing, dealer.workers, number, flow)
         }
-        None => dealt_by_view::<A, B>(dealer, number, packet),
+        None => worker_by_view::<A, B>(dealer, number, packet),
     }
 }

@@ -1,15 +1,15 @@
 //! The packets of a capture, each with the worker that judges it, which several threads find at once.
 #![tactic(auto)]
 
+mod chunk;
+mod chunks;
 mod dealer;
 mod deals;
-mod dealt_part;
-mod one_part;
-mod part;
-mod parts;
+mod dealt_chunk;
+mod one_chunk;
 mod task;
 
-pub use dealer::{Dealer, dealt_to, flow_in};
+pub use dealer::{Dealer, flow_of_frame, worker_of_packet};
 pub use deals::deal_packets;
-pub use dealt_part::{DealtPacket, DealtPart};
+pub use dealt_chunk::{DealtChunk, DealtPacket};
 pub use task::{Task, run_all};

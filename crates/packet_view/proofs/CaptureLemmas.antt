@@ -6,7 +6,7 @@ use Rattle.packet_view.specs.declared.capture.CheckedCapture.{CheckedCapture}
 use Rattle.packet_view.specs.declared.capture.CaptureFault.{CaptureFault}
 use Rattle.packet_view.specs.declared.capture.CaptureFault.TheVariants as fault
 use Rattle.packet_view.specs.CheckedCaptures.{records_of}
-use Rattle.packet_view.specs.Captures.{AreRecords, End, HasHeader, HasRecord, IsCapture, IsCaptureFault, IsEnd, IsHeaderFault, IsTooLong, PieceFacts, Nothing, Cut, TooLong, PacketFacts, RecordFacts, Truncated, Whole, end_of, packets_at}
+use Rattle.packet_view.specs.Captures.{AreRecords, End, HasFileHeader, HasRecord, IsCapture, IsCaptureFault, IsEnd, IsHeaderFault, IsTooLong, PieceFacts, Nothing, Cut, TooLong, PacketFacts, RecordFacts, Truncated, Whole, end_of, packets_at}
 use Rattle.packet_view.specs.inner.RecordSteps.{Checks, part_of}
 use Rattle.packet_view.proofs.RecordLemmas.{IsStop, HasNoRecord, part_only, records_once}
 
@@ -50,8 +50,8 @@ not_both order rest Truncated h long = let e = end_part order rest Truncated h i
 
 -- the header is in one order, and has no fault
 pub record IsHeaderOf (order : Order) (bytes : List ℕ) : Type 0 where
-  pub right : HasHeader order bytes
-  pub one : (other : Order) → HasHeader other bytes → other ≡ order
+  pub right : HasFileHeader order bytes
+  pub one : (other : Order) → HasFileHeader other bytes → other ≡ order
   pub none : (found : CaptureFault) → IsHeaderFault bytes found → ⊥
 
 module _ (order : Order) (bytes : List ℕ) (header : IsHeaderOf order bytes) where

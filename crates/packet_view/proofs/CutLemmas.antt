@@ -9,7 +9,7 @@ use Rattle.packet_view.specs.declared.capture.CaptureFault.TheVariants as fault
 use Rattle.packet_view.specs.declared.capture.Order.{Order}
 use Rattle.packet_view.specs.declared.capture.Order.TheVariants.{Little, Big}
 use Rattle.packet_view.specs.Bytes.{AreBytes}
-use Rattle.packet_view.specs.Captures.{AreRecords, End, HasHeader, HasMagic, IsCapture, IsCaptureFault, IsEnd, IsHeaderFault, IsRecord, RecordFacts, Truncated, Whole, kept_length, kept_limit, link_type, version}
+use Rattle.packet_view.specs.Captures.{AreRecords, End, HasFileHeader, HasMagic, IsCapture, IsCaptureFault, IsEnd, IsHeaderFault, IsRecord, RecordFacts, Truncated, Whole, kept_length, kept_limit, link_type, version}
 use Rattle.packet_view.proofs.CaptureLemmas.{IsHeaderOf, ended_accepts, ended_is_right}
 use Rattle.packet_view.proofs.FrontLemmas.{HaveOneHead, head_appended, header_too}
 use Rattle.packet_view.proofs.RecordLemmas.{number_from-append, number_from-take}
@@ -27,7 +27,7 @@ one_order bytes fits Big Big h g = refl
 one_order bytes fits Little Big h g = absurd (magic_apart bytes fits h g)
 one_order bytes fits Big Little h g = absurd (magic_apart bytes fits g h)
 
-pub no_fault : (bytes : List ℕ) → AreBytes bytes → (order : Order) → HasHeader order bytes → (found : CaptureFault) → IsHeaderFault bytes found → ⊥
+pub no_fault : (bytes : List ℕ) → AreBytes bytes → (order : Order) → HasFileHeader order bytes → (found : CaptureFault) → IsHeaderFault bytes found → ⊥
 no_fault bytes fits order header fault.Short short = omega (arith, header.whole, short)
 no_fault bytes fits order header fault.Magic (long, none) = none order header.magic
 no_fault bytes fits order header fault.Version (long, other, magic, newer) =
@@ -37,7 +37,7 @@ no_fault bytes fits order header fault.LinkType (long, other, magic, two, foreig
 no_fault bytes fits order header (fault.LongRecord number) h = h
 no_fault bytes fits order header fault.Memory h = h
 
-pub header_of : (bytes : List ℕ) → AreBytes bytes → (order : Order) → HasHeader order bytes → IsHeaderOf order bytes
+pub header_of : (bytes : List ℕ) → AreBytes bytes → (order : Order) → HasFileHeader order bytes → IsHeaderOf order bytes
 header_of bytes fits order header = record {
   right = header;
   one = λ other h. one_order bytes fits other order h.magic header.magic;
@@ -121,7 +121,7 @@ cut_records order (packet ∷ packets) bytes rest end kept (others, (header, spe
     ]
 
 -- a cut leaves the header
-header_stays : (order : Order) (bytes : List ℕ) (kept : ℕ) → HasHeader order bytes → 24 ≤ kept → kept ≤ length bytes → HasHeader order (take kept bytes)
+header_stays : (order : Order) (bytes : List ℕ) (kept : ℕ) → HasFileHeader order bytes → 24 ≤ kept → kept ≤ length bytes → HasFileHeader order (take kept bytes)
 header_stays order bytes kept header long within =
     let front : 24 ≤ length (take kept bytes) = let size = length-take-le kept bytes within in omega arith in
     header_too bytes (take kept bytes)

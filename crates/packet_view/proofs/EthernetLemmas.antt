@@ -7,7 +7,7 @@ use Rattle.std.proofs.lemmas.List.{append-nil, drop-drop, drop_at, length-append
 use Rattle.byteorder.specs.Endian.{big_number}
 use Rattle.byteorder.specs.Numbers.{big_from-append, big_from-take}
 use Rattle.packet_view.specs.Bytes.{number_from}
-use Rattle.packet_view.specs.Ethernet.{EndsInTag, IsCut, IsEthernet, IsTag, is_tag_type}
+use Rattle.packet_view.specs.Ethernet.{EndsInTag, IsCutFrame, IsEthernet, IsTag, is_tag_type}
 use Rattle.packet_view.specs.inner.FrameSteps.{after_tag, content_of}
 
 -- what is found where a type or a tag begins, and after that
@@ -137,7 +137,7 @@ whole_only frame source kind content e =
           ∙ take_at source behind 6 e.source_length,
     )
 
-pub cut_only : (frame : List ℕ) → IsCut frame → content_of frame ≡ None
+pub cut_only : (frame : List ℕ) → IsCutFrame frame → content_of frame ≡ None
 cut_only frame (inl short) = cond-true _ _ _ (lt-ltb (length frame) 14 short)
 cut_only frame (inr e) =
     let body : drop 12 frame ≡ concat e.tags ++ e.rest = ap (drop 12) e.spelt ∙ drop_at e.addresses (concat e.tags ++ e.rest) 12 e.addresses_length in
@@ -147,7 +147,7 @@ cut_only frame (inr e) =
 -- every frame is one or the other
 pub data Content (frame : List ℕ) : Type 0 where
   IsWhole : (kind : ℕ) (content : List ℕ) → IsEthernet frame (slice_range frame 6 12) kind content → content_of frame ≡ Some (kind, content) → Content frame
-  Ends : IsCut frame → content_of frame ≡ None → Content frame
+  Ends : IsCutFrame frame → content_of frame ≡ None → Content frame
 
 -- the addresses before the rest
 addresses : (frame : List ℕ) → take 6 frame ++ (take 6 (drop 6 frame) ++ drop 12 frame) ≡ frame

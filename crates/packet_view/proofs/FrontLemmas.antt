@@ -4,7 +4,7 @@ use Rattle.std.proofs.lemmas.List.{drop-append-le, length-append}
 use Rattle.packet_view.specs.declared.capture.CaptureFault.{CaptureFault}
 use Rattle.packet_view.specs.declared.capture.CaptureFault.TheVariants as fault
 use Rattle.packet_view.specs.declared.capture.Order.{Order}
-use Rattle.packet_view.specs.Captures.{AreRecords, HasHeader, HasMagic, IsHeaderFault, IsPiece, RecordFacts, Record, number_from}
+use Rattle.packet_view.specs.Captures.{AreRecords, HasFileHeader, HasMagic, IsHeaderFault, IsPiece, RecordFacts, Record, number_from}
 use Rattle.packet_view.proofs.CaptureLemmas.{IsHeaderOf}
 use Rattle.packet_view.proofs.RecordLemmas.{number_from-append}
 
@@ -48,7 +48,7 @@ head_appended bytes more long = record {
 magic_too : (bytes others : List ℕ) → HaveOneHead bytes others → (order : Order) → HasMagic order bytes → HasMagic order others
 magic_too bytes others head order = subst (λ (n : ℕ). (n ≡ 0xa1b2c3d4) ⊎ (n ≡ 0xa1b23c4d)) (head.same order 0 4 (omega arith))
 
-pub header_too : (bytes others : List ℕ) → HaveOneHead bytes others → (order : Order) → HasHeader order bytes → HasHeader order others
+pub header_too : (bytes others : List ℕ) → HaveOneHead bytes others → (order : Order) → HasFileHeader order bytes → HasFileHeader order others
 header_too bytes others head order header = record {
   whole = head.whole_too;
   magic = magic_too bytes others head order header.magic;

@@ -6,15 +6,15 @@ use Rattle.std.proofs.lemmas.Bool.Decides.{nat_tests}
 use Rattle.std.proofs.lemmas.List.{drop_at, length-drop, length-take-le, take-append-drop, take_at}
 use Rattle.std.proofs.lemmas.List.Folds.{drop_split}
 use Rattle.packet_view.specs.declared.tuple.Family.TheVariants.{V4}
-use Rattle.packet_view.specs.Ipv4.{Carries, HasHeader, HasPayload, IsMalformed, dest, fragment_offset, header_length, protocol, source, total_length, version}
-use Rattle.packet_view.specs.Packets.{Upper, LaterFragment, Payload, extent}
-use Rattle.packet_view.proofs.PacketLemmas.{extent_holds, extent_within}
+use Rattle.packet_view.specs.Ipv4.{Carries, HasIpv4Header, HasPayload, IsMalformed, dest, fragment_offset, header_length, protocol, source, total_length, version}
+use Rattle.packet_view.specs.IpPackets.{Upper, LaterFragment, Payload, extent}
+use Rattle.packet_view.proofs.IpPacketLemmas.{extent_holds, extent_within}
 use Rattle.packet_view.specs.inner.FrameSteps.{IpPacketFacts, is_malformed_v4, packet_of_v4, upper_of_v4}
 
 abbrev read : List ℕ → Upper → IpPacketFacts
 read bytes upper = record { family = V4; source = source bytes; dest = dest bytes; upper = upper }
 
-right_header : (bytes : List ℕ) → HasHeader bytes → is_malformed_v4 bytes ≡ false
+right_header : (bytes : List ℕ) → HasIpv4Header bytes → is_malformed_v4 bytes ≡ false
 right_header bytes h = grind (arith, nat_tests, h.holds_header)
 
 wrong_header : (bytes : List ℕ) → IsMalformed bytes → is_malformed_v4 bytes ≡ true
@@ -31,7 +31,7 @@ total_cases total header =
       ]
     ]
 
-header_cases : (bytes : List ℕ) → IsMalformed bytes ⊎ HasHeader bytes
+header_cases : (bytes : List ℕ) → IsMalformed bytes ⊎ HasIpv4Header bytes
 header_cases bytes =
     elim (cases_lt (length bytes) 20) [
       | inl short ↦ inl (inl short)
@@ -56,7 +56,7 @@ payload_only bytes payload h =
     let size : length payload ≡ extent (total_length bytes) (length bytes) - header_length bytes = omega (arith, h.header_end, h.packet_end) in
     ap (take (extent (total_length bytes) (length bytes) - header_length bytes)) behind ∙ take_at payload h.trailer (extent (total_length bytes) (length bytes) - header_length bytes) size
 
-pub payload_shown : (bytes : List ℕ) → HasHeader bytes → HasPayload bytes (slice_range bytes (header_length bytes) (extent (total_length bytes) (length bytes)))
+pub payload_shown : (bytes : List ℕ) → HasIpv4Header bytes → HasPayload bytes (slice_range bytes (header_length bytes) (extent (total_length bytes) (length bytes)))
 payload_shown bytes h =
     let order = extent_holds (header_length bytes) (total_length bytes) (length bytes) h.whole h.holds_header in
     let within = extent_within (total_length bytes) (length bytes) in
@@ -72,7 +72,7 @@ payload_shown bytes h =
       packet_end = omega arith;
     }
 
-is_read : (bytes : List ℕ) → HasHeader bytes → packet_of_v4 bytes ≡ Some (read bytes (upper_of_v4 bytes))
+is_read : (bytes : List ℕ) → HasIpv4Header bytes → packet_of_v4 bytes ≡ Some (read bytes (upper_of_v4 bytes))
 is_read bytes h = cond-false (is_malformed_v4 bytes) _ _ (right_header bytes h)
 
 pub carries_only : (bytes : List ℕ) (upper : Upper) → Carries bytes upper → packet_of_v4 bytes ≡ Some (read bytes upper)
@@ -91,7 +91,7 @@ pub data Reading (bytes : List ℕ) : Type 0 where
   Right : (upper : Upper) → Carries bytes upper → packet_of_v4 bytes ≡ Some (read bytes upper) → Reading bytes
   Wrong : IsMalformed bytes → packet_of_v4 bytes ≡ None → Reading bytes
 
-carries : (bytes : List ℕ) → HasHeader bytes → (upper : Upper) × Carries bytes upper
+carries : (bytes : List ℕ) → HasIpv4Header bytes → (upper : Upper) × Carries bytes upper
 carries bytes h =
     elim (cases_eq (fragment_offset bytes) 0) [
       | inl first ↦ (Payload (protocol bytes) (slice_range bytes (header_length bytes) (extent (total_length bytes) (length bytes))), (h, first, refl, payload_shown bytes h))

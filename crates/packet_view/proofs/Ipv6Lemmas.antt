@@ -9,9 +9,9 @@ use Rattle.byteorder.specs.Endian.{big_number}
 use Rattle.byteorder.specs.Numbers.{big_from-append}
 use Rattle.packet_view.specs.declared.tuple.Family.TheVariants.{V6}
 use Rattle.packet_view.specs.Ipv6.{Carries, IsChain, IsMalformed, IsSkipped, Skips, dest, extension_length, fragment_offset, is_extension, next_header, payload_length, source, version}
-use Rattle.packet_view.specs.Packets.{Upper, LaterFragment, Payload, extent}
+use Rattle.packet_view.specs.IpPackets.{Upper, LaterFragment, Payload, extent}
 use Rattle.packet_view.specs.inner.FrameSteps.{IpPacketFacts, Skipped, Last, after_header, header_of, is_malformed_v6, packet_of_v6, walk}
-use Rattle.packet_view.proofs.PacketLemmas.{extent_within}
+use Rattle.packet_view.proofs.IpPacketLemmas.{extent_within}
 use Rattle.packet_view.proofs.Walks.{walk_ends, walk_skips, walk_full, walk_last}
 
 -- no extension header has less than eight bytes

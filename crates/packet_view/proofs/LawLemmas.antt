@@ -5,7 +5,7 @@ use Rattle.packet_view.specs.Ethernet.{IsEthernet}
 use Rattle.packet_view.specs.Frames.{Carries, EndsWithin, IsFrame, FrameFacts, ether_type}
 use Rattle.packet_view.specs.Interfaces.{Interface}
 use Rattle.packet_view.specs.inner.FrameSteps.{IpPacketFacts, Way, direction_of, view_of, view_of_packet, view_of_upper, way_of}
-use Rattle.packet_view.specs.Packets.{Upper}
+use Rattle.packet_view.specs.IpPackets.{Upper}
 use Rattle.packet_view.proofs.FrameLemmas.{Reading, Right, Wrong, carried, goes_in, goes_of, malformed_only, read, reading, right_view, view_only, view_shown}
 use Rattle.packet_view.proofs.TrailingLemmas.{carries_more, dest_more, ethernet_more, malformed_more, source_more}
 

@@ -1,13 +1,13 @@
-pub mod AheadLemmas
+pub mod BurstLemmas
 pub mod CaptureLemmas
 pub mod CutLemmas
 pub mod EthernetLemmas
 pub mod FrameLemmas
 pub mod FrontLemmas
+pub mod IpPacketLemmas
 pub mod Ipv4Lemmas
 pub mod Ipv6Lemmas
 pub mod LawLemmas
-pub mod PacketLemmas
 pub mod PlainLemmas
 pub mod ReadingLemmas
 pub mod RecordLemmas

@@ -14,16 +14,16 @@ use Rattle.packet_view.specs.declared.plain_packet.PlainPacket.{PlainPacket}
 use Rattle.packet_view.specs.Bytes.{number_from}
 use Rattle.packet_view.specs.Frames.{FrameFacts, Ip, IsFrame}
 use Rattle.packet_view.specs.Interfaces.{Interface}
-use Rattle.packet_view.specs.Ipv4.{Carries, HasHeader, HasPayload, header_length, protocol, total_length}
+use Rattle.packet_view.specs.Ipv4.{Carries, HasIpv4Header, HasPayload, header_length, protocol, total_length}
 use Rattle.packet_view.specs.Ipv4 as header
-use Rattle.packet_view.specs.Packets.{Payload, extent}
+use Rattle.packet_view.specs.IpPackets.{Payload, extent}
 use Rattle.packet_view.specs.PlainFrames.{ArePortsOf, IsPlain, IsTupleOf}
 use Rattle.packet_view.specs.Transport.{HasFields}
 use Rattle.packet_view.specs.Tuples.{TupleFacts}
 use Rattle.packet_view.specs.inner.FrameSteps.{after_tag, content_of, direction_of, view_of, view_of_content, view_of_packet, way_of, with_fields}
 use Rattle.packet_view.proofs.FrameLemmas.{read, tuple_view, view_shown}
 use Rattle.packet_view.proofs.Ipv4Lemmas.{carries_only, payload_shown, total_cases}
-use Rattle.packet_view.proofs.PacketLemmas.{number_from-append}
+use Rattle.packet_view.proofs.IpPacketLemmas.{number_from-append}
 use Rattle.packet_view.proofs.TransportLemmas.{fields_only}
 
 -- the number that is read from this place of a frame on
@@ -136,7 +136,7 @@ module _ (frame : List ℕ) (packet : PlainPacket) (h : IsRead frame packet) whe
     | inr (udp, long, _) ↦ long
   ]
 
-  right : HasHeader (bytes_of frame)
+  right : HasIpv4Header (bytes_of frame)
   right =
       let size = size_is in
       let twenty = header_is in

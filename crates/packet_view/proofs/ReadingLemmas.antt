@@ -7,7 +7,7 @@ use Rattle.packet_view.specs.declared.capture.CaptureFault.TheVariants as fault
 use Rattle.packet_view.specs.declared.capture.Order.{Order}
 use Rattle.packet_view.specs.declared.capture.Order.TheVariants.{Little, Big}
 use Rattle.packet_view.specs.Bytes.{AreBytes}
-use Rattle.packet_view.specs.Captures.{AreRecords, Cut, End, HasHeader, HasMagic, IsCapture, IsCaptureFault, IsEnd, IsHeaderFault, IsPiece, IsTooLong, Nothing, PieceFacts, Record, RecordFacts, TooLong, Truncated, Whole, link_type, number_from, version}
+use Rattle.packet_view.specs.Captures.{AreRecords, Cut, End, HasFileHeader, HasMagic, IsCapture, IsCaptureFault, IsEnd, IsHeaderFault, IsPiece, IsTooLong, Nothing, PieceFacts, Record, RecordFacts, TooLong, Truncated, Whole, link_type, number_from, version}
 use Rattle.packet_view.specs.inner.RecordSteps.{part_of}
 use Rattle.packet_view.proofs.CaptureLemmas.{fault_of_header, long_refuses}
 use Rattle.packet_view.proofs.CutLemmas.{header_of, no_fault, one_order}
@@ -15,7 +15,7 @@ use Rattle.packet_view.proofs.RecordLemmas.{part_shown}
 
 -- the bytes begin with a header, or have the fault of one
 abbrev HasHeaderOrFault : List ℕ → Type 0
-HasHeaderOrFault bytes = ((order : Order) × HasHeader order bytes) ⊎ ((found : CaptureFault) × IsHeaderFault bytes found)
+HasHeaderOrFault bytes = ((order : Order) × HasFileHeader order bytes) ⊎ ((found : CaptureFault) × IsHeaderFault bytes found)
 
 after_magic : (bytes : List ℕ) (order : Order) → 24 ≤ length bytes → HasMagic order bytes → HasHeaderOrFault bytes
 after_magic bytes order long magic =

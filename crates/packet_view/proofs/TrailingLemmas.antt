@@ -9,8 +9,8 @@ use Rattle.packet_view.specs.Ethernet.{IsEthernet}
 use Rattle.packet_view.specs.Frames.{Carries, EndsWithin, IsMalformed, dest_of, source_of}
 use Rattle.packet_view.specs.Ipv4 as ipv4
 use Rattle.packet_view.specs.Ipv6 as ipv6
-use Rattle.packet_view.specs.Packets.{Upper, LaterFragment, Payload, extent}
-use Rattle.packet_view.proofs.PacketLemmas.{extent_is, number_from-append, slice_index-append}
+use Rattle.packet_view.specs.IpPackets.{Upper, LaterFragment, Payload, extent}
+use Rattle.packet_view.proofs.IpPacketLemmas.{extent_is, number_from-append, slice_index-append}
 
 pub ethernet_more : (frame source : List ℕ) (kind : ℕ) (content more : List ℕ) → IsEthernet frame source kind content
     → IsEthernet (frame ++ more) source kind (content ++ more)
@@ -57,7 +57,7 @@ module _ (packet more : List ℕ) where
       ap (λ (n : ℕ). extent n (length (packet ++ more))) (v4_total (four_bytes ends))
       ∙ extent_is (ipv4.total_length packet) (length (packet ++ more)) ends.0 within ∙ sym (extent_is (ipv4.total_length packet) (length packet) ends.0 ends.1)
 
-  v4_right : EndsWithin V4 packet → ipv4.HasHeader packet → ipv4.HasHeader (packet ++ more)
+  v4_right : EndsWithin V4 packet → ipv4.HasIpv4Header packet → ipv4.HasIpv4Header (packet ++ more)
   v4_right ends h =
       let header = v4_header (four_bytes ends) in
       let total = v4_total (four_bytes ends) in

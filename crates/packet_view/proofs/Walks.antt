@@ -2,7 +2,7 @@
 use Rattle.std.proofs.Common.{◌≡◌, ℕ, suc, ◌+◌, true, false, List, Option, Some, None, refl, sym, ◌∙◌, ap, arith}
 use Rattle.std.proofs.lemmas.Bool.{cond-true, cond-false}
 use Rattle.packet_view.specs.Ipv6.{is_extension}
-use Rattle.packet_view.specs.Packets.{Upper, Payload}
+use Rattle.packet_view.specs.IpPackets.{Upper, Payload}
 use Rattle.packet_view.specs.inner.FrameSteps.{Skipped, Last, walk, go_on, header_of}
 
 pub walk-suc : (k number : ℕ) (bytes : List ℕ) → walk (suc k) number bytes ≡ go_on (walk k) (header_of number bytes)

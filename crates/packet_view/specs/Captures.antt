@@ -3,7 +3,7 @@ use Rattle.std.specs.Prelude.{◌≡◌, ◌≢◌, ◌≤◌, ◌<◌, ◌⊎�
 use Rattle.byteorder.specs.Endian.{big_number, little_number}
 use Rattle.packet_view.specs.declared.capture.Order.{Order}
 use Rattle.packet_view.specs.declared.capture.Order.TheVariants.{Little, Big}
-use Rattle.packet_view.specs.declared.capture.Packet.{Packet}
+use Rattle.packet_view.specs.declared.packet.Packet.{Packet}
 use Rattle.packet_view.specs.declared.capture.Piece.{Piece}
 use Rattle.packet_view.specs.declared.capture.Piece.TheVariants as piece
 use Rattle.packet_view.specs.declared.capture.CaptureFault.{CaptureFault}
@@ -63,7 +63,7 @@ abbrev pub link_type : Order → List ℕ → ℕ
 link_type order bytes = number_from order 20 4 bytes % 2 ^ 16
 
 -- the bytes begin with a header in this order, of version 2 and for Ethernet
-pub record HasHeader (order : Order) (bytes : List ℕ) : Type 0 where
+pub record HasFileHeader (order : Order) (bytes : List ℕ) : Type 0 where
   pub whole : 24 ≤ length bytes
   pub magic : HasMagic order bytes
   pub two : version order bytes ≡ 2
@@ -89,8 +89,8 @@ abbrev pub IsTooLong : Order → List ℕ → Type 0
 IsTooLong order bytes = (16 ≤ length bytes) × (kept_limit < kept_length order bytes)
 
 -- the bytes are the front of a record, and neither all of it nor nothing
-abbrev pub IsCut : Order → List ℕ → Type 0
-IsCut order bytes =
+abbrev pub IsCutRecord : Order → List ℕ → Type 0
+IsCutRecord order bytes =
     ((0 < length bytes) × (length bytes < 16))
     ⊎ ((16 ≤ length bytes) × (kept_length order bytes ≤ kept_limit) × (length bytes < 16 + kept_length order bytes))
 
@@ -111,7 +111,7 @@ piece_facts piece.TooLong = TooLong
 abbrev pub IsPiece : Order → List ℕ → PieceFacts → Type 0
 IsPiece order bytes (Record packet rest) = (header : List ℕ) × (bytes ≡ header ++ (packet.frame ++ rest)) × IsRecord order header packet
 IsPiece order bytes Nothing = bytes ≡ []
-IsPiece order bytes Cut = IsCut order bytes
+IsPiece order bytes Cut = IsCutRecord order bytes
 IsPiece order bytes TooLong = IsTooLong order bytes
 
 -- the bytes are the records of these packets, one after another, and then the rest
@@ -122,17 +122,17 @@ AreRecords order bytes (packet ∷ packets) rest =
 
 -- after a header the bytes go on with a whole record
 abbrev pub HasRecord : List ℕ → Type 0
-HasRecord bytes = (order : Order) × (packet : RecordFacts) × (rest : List ℕ) × HasHeader order bytes × IsPiece order (drop 24 bytes) (Record packet rest)
+HasRecord bytes = (order : Order) × (packet : RecordFacts) × (rest : List ℕ) × HasFileHeader order bytes × IsPiece order (drop 24 bytes) (Record packet rest)
 
 -- what is left after the whole records
 abbrev pub IsEnd : Order → List ℕ → End → Type 0
 IsEnd order rest Whole = rest ≡ []
-IsEnd order rest Truncated = IsCut order rest
+IsEnd order rest Truncated = IsCutRecord order rest
 
 -- all the bytes are a capture of these packets with this end
 abbrev pub IsCapture : List ℕ → List RecordFacts → End → Type 0
 IsCapture bytes packets end =
-    (order : Order) × (rest : List ℕ) × HasHeader order bytes × AreRecords order (drop 24 bytes) packets rest × IsEnd order rest end
+    (order : Order) × (rest : List ℕ) × HasFileHeader order bytes × AreRecords order (drop 24 bytes) packets rest × IsEnd order rest end
 
 -- all the bytes are a capture that was taken at the interface with this number, of these packets
 abbrev pub IsCaptureAt : ℕ → List ℕ → List PacketFacts → End → Type 0
@@ -152,6 +152,6 @@ IsHeaderFault bytes fault.Memory = ⊥
 -- the fault is in the capture, and no earlier one is; records are counted from 1
 abbrev pub IsCaptureFault : List ℕ → CaptureFault → Type 0
 IsCaptureFault bytes (fault.LongRecord number) =
-    (order : Order) × (packets : List RecordFacts) × (rest : List ℕ) × HasHeader order bytes × AreRecords order (drop 24 bytes) packets rest
+    (order : Order) × (packets : List RecordFacts) × (rest : List ℕ) × HasFileHeader order bytes × AreRecords order (drop 24 bytes) packets rest
     × IsTooLong order rest × (number ≡ length packets + 1)
 IsCaptureFault bytes header_fault = IsHeaderFault bytes header_fault

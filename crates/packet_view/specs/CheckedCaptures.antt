@@ -3,7 +3,7 @@ use Rattle.std.specs.Prelude.{ℕ, List, map}
 use Rattle.packet_view.specs.Captures.{PacketFacts, RecordFacts, packet_facts, packets_at}
 use Rattle.packet_view.specs.RecordLists.{records_from}
 use Rattle.packet_view.specs.declared.packets.Packets.{Packets}
-use Rattle.packet_view.specs.declared.packets.Packets.TheVariants.{Listed, Standing}
+use Rattle.packet_view.specs.declared.packets.Packets.TheVariants as kind
 use Rattle.packet_view.specs.declared.records.Records.{Records}
 
 -- the records that are left
@@ -15,11 +15,11 @@ abbrev pub packets_of : Records → List PacketFacts
 packets_of records = packets_at records.interface (records_of records)
 
 -- the packets that are left
-abbrev pub held : Packets → List PacketFacts
-held (Listed packets) = map packet_facts packets.now
-held (Standing records) = packets_of records
+abbrev pub remaining : Packets → List PacketFacts
+remaining (kind.Slice packets) = map packet_facts packets.now
+remaining (kind.Records records) = packets_of records
 
 -- packets of which some may be found already: those that are left, and how many of them are found
-pub record AheadFacts : Type 0 where
+pub record BurstFacts : Type 0 where
   pub left : List PacketFacts
   pub ready : ℕ

@@ -40,5 +40,5 @@ pub record EndsInTag (frame : List ℕ) : Type 0 where
   pub cut : length rest < 6
 
 -- a frame that ends before its content begins
-abbrev pub IsCut : List ℕ → Type 0
-IsCut frame = (length frame < 14) ⊎ EndsInTag frame
+abbrev pub IsCutFrame : List ℕ → Type 0
+IsCutFrame frame = (length frame < 14) ⊎ EndsInTag frame

@@ -8,11 +8,11 @@ use Rattle.packet_view.specs.declared.tuple.Fields.TheVariants.{Absent}
 use Rattle.packet_view.specs.declared.tuple.Mac.{Mac}
 use Rattle.packet_view.specs.declared.frame.Frame.{Frame}
 use Rattle.packet_view.specs.declared.frame.Frame.TheVariants as frame
-use Rattle.packet_view.specs.Ethernet.{IsEthernet, IsCut}
+use Rattle.packet_view.specs.Ethernet.{IsEthernet, IsCutFrame}
 use Rattle.packet_view.specs.Interfaces.{Interface}
 use Rattle.packet_view.specs.Ipv4 as ipv4
 use Rattle.packet_view.specs.Ipv6 as ipv6
-use Rattle.packet_view.specs.Packets.{Upper, LaterFragment, Payload}
+use Rattle.packet_view.specs.IpPackets.{Upper, LaterFragment, Payload}
 use Rattle.packet_view.specs.Transport.{HasFields, IsShort}
 use Rattle.packet_view.specs.Tuples.{TupleFacts, tuple_facts}
 
@@ -69,7 +69,7 @@ IsFrame frame at NotIp =
     (source : List ℕ) × (kind : ℕ) × (content : List ℕ) × IsEthernet frame source kind content
     × (kind ≢ ether_type V4) × (kind ≢ ether_type V6)
 IsFrame frame at Malformed =
-    IsCut frame
+    IsCutFrame frame
     ⊎ ((source : List ℕ) × (family : Family) × (packet : List ℕ) × IsEthernet frame source (ether_type family) packet × IsMalformed family packet)
 IsFrame frame at Short =
     (source : List ℕ) × (family : Family) × (packet : List ℕ) × IsEthernet frame source (ether_type family) packet

@@ -1,6 +1,6 @@
 -- The whole records at the front of some bytes: what they are, what is behind them, and why they end there.
 use Rattle.std.specs.Prelude.{◌≡◌, ◌+◌, ◌-◌, ℕ, List, [], drop, length}
-use Rattle.packet_view.specs.Captures.{IsCut, IsTooLong}
+use Rattle.packet_view.specs.Captures.{IsCutRecord, IsTooLong}
 use Rattle.packet_view.specs.RecordLists.{bytes_of}
 use Rattle.packet_view.specs.declared.capture.Order.{Order}
 use Rattle.packet_view.specs.declared.front.Front.{Front}
@@ -10,7 +10,7 @@ use Rattle.packet_view.specs.declared.front.Stop.TheVariants.{End, Truncated, To
 -- what the bytes behind the whole records are
 abbrev pub Stops : Order → List ℕ → Stop → Type 0
 Stops order rest End = rest ≡ []
-Stops order rest Truncated = IsCut order rest
+Stops order rest Truncated = IsCutRecord order rest
 Stops order rest TooLong = IsTooLong order rest
 
 -- the records stand where the bytes begin, and the rest where they end

@@ -1,7 +1,7 @@
 -- IPv4 packets (RFC 791, section 3.1).
 use Rattle.std.specs.Prelude.{◌≡◌, ◌≢◌, ◌≤◌, ◌<◌, ◌⊎◌, ℕ, ◌+◌, ◌*◌, ◌/◌, ◌%◌, List, ◌++◌, length, slice_index}
 use Rattle.packet_view.specs.Bytes.{number_from}
-use Rattle.packet_view.specs.Packets.{Upper, LaterFragment, Payload, extent}
+use Rattle.packet_view.specs.IpPackets.{Upper, LaterFragment, Payload, extent}
 
 abbrev pub version : List ℕ → ℕ
 version packet = slice_index packet 0 / 16
@@ -27,7 +27,7 @@ abbrev pub dest : List ℕ → ℕ
 dest packet = number_from 16 4 packet
 
 -- a header that is whole, and a total length that holds it or is 0
-pub record HasHeader (packet : List ℕ) : Type 0 where
+pub record HasIpv4Header (packet : List ℕ) : Type 0 where
   pub least : 20 ≤ length packet
   pub four : version packet ≡ 4
   pub five_words : 20 ≤ header_length packet
@@ -51,6 +51,6 @@ pub record HasPayload (packet payload : List ℕ) : Type 0 where
 
 -- a fragment other than the first has an offset
 abbrev pub Carries : List ℕ → Upper → Type 0
-Carries packet (LaterFragment proto) = HasHeader packet × (fragment_offset packet ≢ 0) × (proto ≡ protocol packet)
+Carries packet (LaterFragment proto) = HasIpv4Header packet × (fragment_offset packet ≢ 0) × (proto ≡ protocol packet)
 Carries packet (Payload proto payload) =
-    HasHeader packet × (fragment_offset packet ≡ 0) × (proto ≡ protocol packet) × HasPayload packet payload
+    HasIpv4Header packet × (fragment_offset packet ≡ 0) × (proto ≡ protocol packet) × HasPayload packet payload

@@ -2,7 +2,7 @@
 use Rattle.std.specs.Prelude.{◌≡◌, ◌≢◌, ◌≤◌, ◌<◌, ◌⊎◌, ℕ, ◌+◌, ◌-◌, ◌*◌, ◌/◌, Bool, false, ◌||◌, ◌==◌, if◌then◌else◌, List, [], ◌∷◌, ◌++◌, length, slice_index, IsTrue}
 use Rattle.std.specs.List.{concat}
 use Rattle.packet_view.specs.Bytes.{number_from}
-use Rattle.packet_view.specs.Packets.{Upper, LaterFragment, Payload, extent}
+use Rattle.packet_view.specs.IpPackets.{Upper, LaterFragment, Payload, extent}
 
 abbrev pub version : List ℕ → ℕ
 version packet = slice_index packet 0 / 16

@@ -6,9 +6,9 @@ pub mod Ethernet
 pub mod Frames
 pub mod Fronts
 pub mod Interfaces
+pub mod IpPackets
 pub mod Ipv4
 pub mod Ipv6
-pub mod Packets
 pub mod PlainFrames
 pub mod RecordLists
 pub mod Transport

@@ -2,7 +2,7 @@
 ghost use Rattle.std.specs.Prelude.{◌≡◌, ◌≤◌, ◌+◌, ◌⊎◌, ◌≢◌, length, List, Ok, Err, IsTrue, ◌↔◌, IfOk, IfErr, MatchResult, map};
 ghost use Rattle.packet_view.specs.Captures.{
   End,
-  HasHeader,
+  HasFileHeader,
   HasMagic,
   HasRecord,
   IsCapture,
@@ -25,6 +25,7 @@ ghost use Rattle.packet_view.specs.declared.capture.CaptureFault.TheVariants.{Me
 ghost use Rattle.packet_view.specs.declared.capture.Order.{Order};
 
 use crate::front::{Front, Stop, front_records};
+use crate::packet::Packet;
 use crate::records::Records;
 use byteorder::{BigEndian, ByteOrder, LittleEndian};
 use std::alloc::{AllocError, AllocFailed, Global};
@@ -37,14 +38,6 @@ const KEPT_LIMIT: usize = 262_144;
 pub enum Order {
     Little,
     Big,
-}
-
-/// A frame, the number of the interface where it was seen, and the whole seconds at which it was.
-#[derive(Clone, Copy, Debug)]
-pub struct Packet<'a> {
-    pub interface: u8,
-    pub moment: u32,
-    pub frame: &'a [u8],
 }
 
 /// What is at the front of the records that are left.
@@ -150,9 +143,9 @@ fn has_magic(order: Order, bytes: &[u8]) -> bool
 
 /// The byte order of the capture whose header these bytes begin with.
 pub fn capture_header(bytes: &[u8]) -> Result<Order, CaptureFault>
-    ensures ok { IfOk result (λ order. HasHeader order bytes.now) }
+    ensures ok { IfOk result (λ order. HasFileHeader order bytes.now) }
     ensures fault { IfErr result (λ fault. IsHeaderFault bytes.now fault) }
-    ensures accepts { (order : Order) → HasHeader order bytes.now → result ≡ Ok order }
+    ensures accepts { (order : Order) → HasFileHeader order bytes.now → result ≡ Ok order }
     ensures refuses { (fault : CaptureFault) → IsHeaderFault bytes.now fault → result ≡ Err fault }
 {
     if bytes.len() < 24 {

@@ -5,7 +5,7 @@ ghost use Rattle.packet_view.specs.Frames.{IsFrame, FrameFacts, frame_facts};
 ghost use Rattle.packet_view.specs.Interfaces.{Interface};
 ghost use Rattle.packet_view.specs.inner.FrameSteps.{direction_of, packets, view_of, view_of_packet};
 
-use crate::packet::{IpPacket, Upper};
+use crate::ip_packet::{IpPacket, Upper};
 use crate::plain_packet::plain;
 use crate::tuple::{Direction, Fields, Mac, Tuple};
 use crate::{ethernet, ipv4, ipv6, transport};

@@ -32,17 +32,17 @@ pub struct Front<'a> {
 // Where the record at the front is whole and keeps so many bytes, the bytes after it. They are found from that
 // number and not from the one that was read: so the walk goes on before the read is done.
 #[inline(always)]
-fn behind_alike(rest: &[u8], order: Order, likely: usize) -> Option<&[u8]>
-    requires { likely ≤ 262144 }
+fn rest_if_len(rest: &[u8], order: Order, predicted_len: usize) -> Option<&[u8]>
+    requires { predicted_len ≤ 262144 }
     ensures { IfSome result (λ behind. part_of order rest.now ≡ Record (front_record order rest.now) behind.now) }
 {
-    if rest.len() < 16 || rest.len() - 16 < likely {
+    if rest.len() < 16 || rest.len() - 16 < predicted_len {
         return None;
     }
-    if u32_in(order, &rest[8..]) as usize != likely {
+    if u32_in(order, &rest[8..]) as usize != predicted_len {
         return None;
     }
-    Some(&rest[16 + likely..])
+    Some(&rest[16 + predicted_len..])
 }
 
 /// The records in this order that stand whole at the front of the bytes, of a capture that was taken at the interface
@@ -56,9 +56,9 @@ pub fn front_records(bytes: &[u8], order: Order, interface: u8) -> Front<'_>
     let mut rest = bytes;
     let mut count = 0;
     // Most records keep as many bytes as the one before. Nothing but speed depends on this guess.
-    let mut likely = 0;
+    let mut predicted_len = 0;
     'records: loop {
-        if let Some(behind) = behind_alike(rest, order, likely) {
+        if let Some(behind) = rest_if_len(rest, order, predicted_len) {
             rest = behind;
             count += 1;
             continue;
@@ -69,7 +69,7 @@ pub fn front_records(bytes: &[u8], order: Order, interface: u8) -> Front<'_>
                 rest: behind,
                 ..
             } => {
-                likely = frame.len();
+                predicted_len = frame.len();
                 rest = behind;
                 count += 1;
                 continue;

@@ -2,7 +2,7 @@
 ghost use Rattle.std.specs.Prelude.{◌≡◌};
 ghost use Rattle.packet_view.specs.inner.FrameSteps.{packet_of_v4, packets};
 
-use crate::packet::{IpPacket, Upper, extent};
+use crate::ip_packet::{IpPacket, Upper, extent};
 use crate::tuple::Family;
 use byteorder::{BigEndian, ByteOrder};
 

@@ -3,7 +3,7 @@ ghost use Rattle.std.specs.Prelude.{◌≡◌};
 ghost use Rattle.packet_view.specs.Ipv6;
 ghost use Rattle.packet_view.specs.inner.FrameSteps.{header_of, header_facts, packet_of_v6, packets, uppers, walk};
 
-use crate::packet::{IpPacket, Upper, extent};
+use crate::ip_packet::{IpPacket, Upper, extent};
 use crate::tuple::Family;
 use byteorder::{BigEndian, ByteOrder};
 

@@ -1,11 +1,12 @@
 //! Captures of the classic pcap format, and Ethernet frames as IP packets with their five-tuples.
 #![tactic(auto)]
 
-mod ahead;
+mod bursts;
 mod capture;
 mod ethernet;
 mod frame;
 mod front;
+mod ip_packet;
 mod ipv4;
 mod ipv6;
 mod laws;
@@ -16,9 +17,9 @@ mod records;
 mod transport;
 mod tuple;
 
-pub use ahead::PacketsAhead;
+pub use bursts::PacketBursts;
 pub use capture::{
-    Capture, CaptureFault, CheckedCapture, Order, Packet, Piece, capture_header, check_capture,
+    Capture, CaptureFault, CheckedCapture, Order, Piece, capture_header, check_capture,
     next_record, read_capture,
 };
 pub use frame::{Frame, plain_frame, view};
@@ -27,6 +28,7 @@ pub use laws::{
     a_cut_capture_keeps_its_front, bytes_after_the_packet_are_not_seen,
     each_capture_has_one_reading, each_frame_has_one_view, own_address_decides_the_way_alone,
 };
+pub use packet::Packet;
 pub use packets::Packets;
 pub use plain_packet::{PlainPacket, plain};
 pub use records::Records;

@@ -1,47 +1,47 @@
 //! Packets that are taken one by one.
 ghost use Rattle.std.specs.Prelude.{◌≡◌, ◌≤◌, ◌++◌, [], length, map, take};
 ghost use Rattle.packet_view.specs.Captures.{Takes, packet_facts};
-ghost use Rattle.packet_view.specs.CheckedCaptures.{held};
+ghost use Rattle.packet_view.specs.CheckedCaptures.{remaining};
 
-use crate::capture::Packet;
-use crate::records::{AHEAD, Records};
+use crate::packet::Packet;
+use crate::records::{BURST, Records};
 
 /// Packets that are taken one by one, in their order. A copy has a front of its own.
 #[derive(Clone, Copy, Debug)]
 pub enum Packets<'a> {
     /// From a list.
-    Listed(&'a [Packet<'a>]),
+    Slice(&'a [Packet<'a>]),
     /// From a capture's records, where they stand.
-    Standing(Records<'a>),
+    Records(Records<'a>),
 }
 
 impl<'a> Packets<'a> {
     /// How many packets are left.
     pub fn count(&self) -> usize
-        ensures { result ≡ length (held self.now) }
+        ensures { result ≡ length (remaining self.now) }
     {
         match self {
-            Packets::Listed(packets) => packets.len(),
-            Packets::Standing(records) => records.count(),
+            Packets::Slice(packets) => packets.len(),
+            Packets::Records(records) => records.count(),
         }
     }
 
     /// Takes the first packet that is left.
     #[inline]
     pub fn next(&mut self) -> Option<Packet<'a>>
-        ensures { Takes (held self.old) result (held self.new) }
+        ensures { Takes (remaining self.old) result (remaining self.new) }
     {
         match *self {
-            Packets::Listed(packets) => {
+            Packets::Slice(packets) => {
                 if packets.is_empty() {
                     return None;
                 }
-                *self = Packets::Listed(&packets[1..]);
+                *self = Packets::Slice(&packets[1..]);
                 Some(packets[0])
             }
-            Packets::Standing(mut records) => {
+            Packets::Records(mut records) => {
                 let packet = records.next();
-                *self = Packets::Standing(records);
+                *self = Packets::Records(records);
                 packet
             }
         }
@@ -49,21 +49,21 @@ impl<'a> Packets<'a> {
 
     /// Takes the first packets that are left, and puts them into these places from the first on. It answers how many
     /// they are: none only where none is left.
-    pub(crate) fn take_into(&mut self, places: &mut [Packet<'a>; AHEAD]) -> usize
+    pub(crate) fn take_into(&mut self, places: &mut [Packet<'a>; BURST]) -> usize
         ensures fits { (result ≤ 64) × (length places.new ≡ 64) }
-        ensures taken { map packet_facts (take result places.new) ++ held self.new ≡ held self.old }
-        ensures none { result ≡ 0 → held self.old ≡ [] }
+        ensures taken { map packet_facts (take result places.new) ++ remaining self.new ≡ remaining self.old }
+        ensures none { result ≡ 0 → remaining self.old ≡ [] }
     {
         match *self {
-            Packets::Listed(packets) => {
-                let count = packets.len().min(AHEAD);
+            Packets::Slice(packets) => {
+                let count = packets.len().min(BURST);
                 places[..count].copy_from_slice(&packets[..count]);
-                *self = Packets::Listed(&packets[count..]);
+                *self = Packets::Slice(&packets[count..]);
                 count
             }
-            Packets::Standing(mut records) => {
+            Packets::Records(mut records) => {
                 let count = records.take_into(places);
-                *self = Packets::Standing(records);
+                *self = Packets::Records(records);
                 count
             }
         }

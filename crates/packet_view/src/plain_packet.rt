@@ -2,7 +2,7 @@
 ghost use Rattle.std.specs.Prelude.{◌≤◌, IfSome, length};
 ghost use Rattle.packet_view.specs.PlainFrames.{IsPlain, IsTcpOrUdp};
 
-use crate::packet::extent;
+use crate::ip_packet::extent;
 use crate::tuple::{Family, Fields, Tuple};
 use byteorder::{BigEndian, ByteOrder};
 

@@ -3,7 +3,8 @@ ghost use Rattle.std.specs.Prelude.{◌≡◌, ◌≤◌, length, drop};
 ghost use Rattle.packet_view.specs.Captures.{kept_length, packet_at, packet_facts};
 ghost use Rattle.packet_view.specs.RecordLists.{bytes_of, front_record, record_length};
 
-use crate::capture::{Order, Packet, u32_in};
+use crate::capture::{Order, u32_in};
+use crate::packet::Packet;
 
 // How many bytes of its frame the record at the front keeps.
 #[inline(always)]
@@ -31,7 +32,7 @@ fn front_of<'a>(bytes: &'a [u8], order: Order, interface: u8, kept: usize) -> (P
 }
 
 /// How many packets are taken at once.
-pub(crate) const AHEAD: usize = 64;
+pub(crate) const BURST: usize = 64;
 
 /// Records that are known to be whole, and the bytes after them.
 #[derive(Clone, Copy, Debug)]
@@ -73,19 +74,19 @@ impl<'a> Records<'a> {
     // Takes the packet of the first record that is left, where that keeps so many bytes of its frame. They are found
     // from that number and not from the one that was read: so a walk goes on before the read is done.
     #[inline(always)]
-    fn next_alike(&mut self, likely: usize) -> Option<Packet<'a>>
+    fn next_if_len(&mut self, predicted_len: usize) -> Option<Packet<'a>>
         ensures taken { IfSome result (λ packet. packets_of self.old ≡ packet_facts packet ∷ packets_of self.new) }
         ensures none { IfNone result (self.new ≡ self.old) }
     {
-        if self.count == 0 || kept_in(self.bytes, self.order) != likely {
+        if self.count == 0 || kept_in(self.bytes, self.order) != predicted_len {
             return None;
         }
-        Some(self.take(likely))
+        Some(self.take(predicted_len))
     }
 
     /// Takes the packets of the first records that are left, and puts them into these places from the first on. It
     /// answers how many they are: none only where none is left.
-    pub(crate) fn take_into(&mut self, places: &mut [Packet<'a>; AHEAD]) -> usize
+    pub(crate) fn take_into(&mut self, places: &mut [Packet<'a>; BURST]) -> usize
         ensures fits { (result ≤ 64) × (length places.new ≡ 64) }
         ensures taken { map packet_facts (take result places.new) ++ packets_of self.new ≡ packets_of self.old }
         ensures none { result ≡ 0 → packets_of self.old ≡ [] }
@@ -93,9 +94,9 @@ impl<'a> Records<'a> {
         let mut left = *self;
         let mut count = 0;
         // Most records keep as many bytes as the one before. Nothing but speed depends on this guess.
-        let mut likely = places[AHEAD - 1].frame.len();
-        'taken: while count < AHEAD {
-            if let Some(packet) = left.next_alike(likely) {
+        let mut predicted_len = places[BURST - 1].frame.len();
+        'taken: while count < BURST {
+            if let Some(packet) = left.next_if_len(predicted_len) {
                 places[count] = packet;
                 count += 1;
                 continue;
@@ -103,7 +104,7 @@ impl<'a> Records<'a> {
             let Some(packet) = left.next() else {
                 break;
             };
-            likely = packet.frame.len();
+            predicted_len = packet.frame.len();
             places[count] = packet;
             count += 1;
         }

@@ -82,7 +82,7 @@ pub fn range(word: &[u8], most: u16) -> Option<(u16, u16)>
 pub fn flags(word: &[u8]) -> Option<(u8, u8)>
     ensures { Reads result (IsFlags word.now) }
 {
-    acl_policy::flags_of(word)
+    acl_policy::flags_of_word(word)
 }
 
 pub fn mac(word: &[u8]) -> Option<Mac>

@@ -29,7 +29,7 @@ fn main(rt: HostRuntime) -> ExitCode {
         Err(error) => {
             let end = failure_ending(&error);
             // Where standard error fails too, the status alone is left to tell.
-            let _ = said(&rt, &end);
+            let _ = say_ending(&rt, &end);
             ExitCode::from(end.status)
         }
     }
@@ -72,7 +72,7 @@ fn refused(rt: &HostRuntime, error: &Error) -> io::Result<u8> {
     if end.message.is_none() {
         error.print(rt)?;
     }
-    said(rt, &end)
+    say_ending(rt, &end)
 }
 
 // Checks the policy of a file.
@@ -85,7 +85,7 @@ fn status_of_check(rt: &HostRuntime, alloc: Global, name: &str) -> io::Result<u8
     match check_source(alloc, &mut reader, &mut writer) {
         Ok(true) => Ok(0),
         Ok(false) => Ok(1),
-        Err(fault) => said(rt, &ending(&Err(fault))),
+        Err(fault) => say_ending(rt, &ending(&Err(fault))),
     }
 }
 
@@ -108,13 +108,13 @@ fn status_of_run<T: Threads + Wait + Sync>(
         }
         Origin::Files(_) | Origin::Interfaces(_) => match held(alloc, parts.policy) {
             Ok(policy) => policy,
-            Err(fault) => return said(rt, &ending(&Err(fault))),
+            Err(fault) => return say_ending(rt, &ending(&Err(fault))),
         },
     };
     let mut reader = Joined::new(policy, parts.captures);
     let mut writer = Device::new(rt.stdout());
     let outcome = run(threads, alloc, &asked.options, &mut reader, &mut writer);
-    let status = said(rt, &ending(&outcome))?;
+    let status = say_ending(rt, &ending(&outcome))?;
     say_more(rt, alloc, &asked.origin, &reader, &outcome)?;
     Ok(status)
 }
@@ -166,7 +166,7 @@ fn say_remark(
 }
 
 // Says what is to be said, and answers the status.
-fn said(rt: &HostRuntime, end: &Ending) -> io::Result<u8> {
+fn say_ending(rt: &HostRuntime, end: &Ending) -> io::Result<u8> {
     match &end.message {
         None => Ok(end.status),
         Some(message) => match rt.eprintln(message) {

@@ -7,7 +7,7 @@ use Rattle.std.proofs.lemmas.List.{drop-append-le, length-append}
 use Rattle.std.proofs.lemmas.List.Filters.{length-filter_both}
 use Rattle.std.specs.Prelude.{not}
 use Rattle.hex.proofs.HexLemmas.{decode_of-ok}
-use Rattle.packet_view.specs.Captures.{AreRecords, HasHeader, IsCaptureFault, IsHeaderFault}
+use Rattle.packet_view.specs.Captures.{AreRecords, HasFileHeader, IsCaptureFault, IsHeaderFault}
 use Rattle.packet_view.specs.declared.capture.CaptureFault.{CaptureFault}
 use Rattle.packet_view.specs.declared.capture.CaptureFault.TheVariants as capture
 use Rattle.packet_view.specs.declared.capture.Order.{Order}
@@ -90,7 +90,7 @@ content_behind bytes parts is = elim is.content [
 
 -- ---- a capture whose header is refused
 
-header_one : (bytes : List ℕ) (found : CaptureFault) → ((order : Order) → HasHeader order bytes → ⊥)
+header_one : (bytes : List ℕ) (found : CaptureFault) → ((order : Order) → HasFileHeader order bytes → ⊥)
     → ((cause : CaptureFault) → IsHeaderFault bytes cause → found ≡ cause) → (cause : CaptureFault) → IsCaptureFault bytes cause → found ≡ cause
 header_one bytes found none one capture.Short is = one capture.Short is
 header_one bytes found none one capture.Magic is = one capture.Magic is
@@ -101,7 +101,7 @@ header_one bytes found none one capture.Memory is = absurd is
 
 pub header_answers : (options : Options) (bytes : List ℕ) (parts : InputFacts) (policy : PolicyFacts) → IsInput bytes parts → IsSaid parts.policy policy
     → IsUnnumbered parts.form → (capture : List ℕ) → IsContent parts.form parts.content capture → (found : CaptureFault) → IsHeaderFault capture found
-    → ((order : Order) → HasHeader order capture → ⊥) → ((cause : CaptureFault) → IsHeaderFault capture cause → found ≡ cause)
+    → ((order : Order) → HasFileHeader order capture → ⊥) → ((cause : CaptureFault) → IsHeaderFault capture cause → found ≡ cause)
     → AnswersInput options bytes (Err (capture_fault found))
 header_answers options bytes parts policy parted said plain capture spelt found is none one =
     capture_answers options bytes parts policy parted said plain capture spelt found (λ packets end all. none all.0 all.2)

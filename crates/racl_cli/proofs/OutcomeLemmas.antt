@@ -12,13 +12,13 @@ use Rattle.acl_policy.specs.declared.policy.PolicyFault.{PolicyFault}
 use Rattle.acl_policy.specs.declared.policy.PolicyFault.TheVariants as policy
 use Rattle.session_state.specs.declared.timeouts.Timeouts.{Timeouts}
 use Rattle.flow_filter.specs.declared.filter.Filter.{Filter}
-use Rattle.flow_filter.specs.declared.ready_filters.ReadyFilters.{ReadyFilters}
+use Rattle.flow_filter.specs.declared.interface_filters.InterfaceFilters.{InterfaceFilters}
 use Rattle.flow_filter.specs.declared.verdict.Verdict.{Verdict}
 use Rattle.flow_filter.proofs.OneThreadLemmas.{one_verdicts}
 use Rattle.flow_filter.specs.Judged.{readings_of, verdict_on}
 use Rattle.flow_filter.specs.Readings.{IsReading}
 use Rattle.flow_dealing.specs.Dealings.{Deal}
-use Rattle.flow_dealing.specs.Runs.{AreFew, AreJudged, HasPagesIn}
+use Rattle.flow_dealing.specs.WorkerRecords.{AreFew, AreJudged, HasPagesIn}
 use Rattle.flow_dealing.proofs.Places.{zip_count}
 use Rattle.racl_words.specs.declared.settings.Options.{Options}
 use Rattle.racl_words.specs.declared.settings.TableSize.{TableSize}
@@ -33,7 +33,7 @@ use Rattle.racl_io.specs.ShownReports.{report_shown}
 use Rattle.racl_cli.specs.Crews.{AreSaid, Orders, orders_for}
 use Rattle.racl_cli.specs.Reads.{AnswersInput, HasKept, IsOutcomeOf, IsReached, IsSaid, IsUnnumbered}
 use Rattle.racl_cli.specs.inner.Views.{MayTell}
-use Rattle.racl_cli.specs.Runs.{AreHitsOn, ByWorkers, HasOutcome, HasReported, HasRun, IsRead, Outcome, dealt_to, layout_for, told_of}
+use Rattle.racl_cli.specs.Runs.{AreHitsOn, ByWorkers, HasOutcome, HasReported, HasRun, IsRead, Outcome, bucket_deal, layout_for, told_of}
 use Rattle.racl_cli.proofs.CaptureLaws.{alone_plain, fault_of_known, fault_plain, one_truncated, plain_alone, plain_fault}
 use Rattle.racl_cli.proofs.RunLemmas.{alone_in_capture, fault_of_known_parts, fault_of_right_policy, fault_of_wrong_policy, fault_without_parts, read_in}
 
@@ -42,22 +42,22 @@ outcome_of verdicts captures = record { verdicts = verdicts; captures = captures
 
 -- what the workers say of their verdicts, where sessions live as long as the words ask for
 pub given_by_workers : (options : Options) (times : Timeouts) (policy : PolicyFacts) (packets : List PacketFacts) (verdicts : List Verdict) (workers : ℕ)
-    → times ≡ options.times → 1 ≤ workers → workers ≤ options.workers → AreJudged (dealt_to options.tables workers) times policy packets verdicts
-    → ((are : AreJudged (dealt_to options.tables workers) times policy packets verdicts) (family : Family) → AreFew (layout_for options.tables) times family are.judged → All (HasPagesIn times family) are.judged)
+    → times ≡ options.times → 1 ≤ workers → workers ≤ options.workers → AreJudged (bucket_deal options.tables workers) times policy packets verdicts
+    → ((are : AreJudged (bucket_deal options.tables workers) times policy packets verdicts) (family : Family) → AreFew (layout_for options.tables) times family are.judged → All (HasPagesIn times family) are.judged)
     → ByWorkers options policy packets verdicts
 given_by_workers options times policy packets verdicts workers same some few judged paged =
-    let moved = subst (λ t. (are : AreJudged (dealt_to options.tables workers) t policy packets verdicts) × ((family : Family) → AreFew (layout_for options.tables) t family are.judged → All (HasPagesIn t family) are.judged))
+    let moved = subst (λ t. (are : AreJudged (bucket_deal options.tables workers) t policy packets verdicts) × ((family : Family) → AreFew (layout_for options.tables) t family are.judged → All (HasPagesIn t family) are.judged))
     same (judged, paged judged) in
     record { workers = workers; some = some; few = few; judged = moved.0; paged = moved.1 }
 
 -- what workers said who had orders of this size of tables, these timeouts and this policy
-pub judged_as : (packets : List PacketFacts) (verdicts : List Verdict) (orders : Orders) (size asked : TableSize) (ready : ReadyFilters) (set : Filter) (workers : ℕ)
+pub judged_as : (packets : List PacketFacts) (verdicts : List Verdict) (orders : Orders) (size asked : TableSize) (ready : InterfaceFilters) (set : Filter) (workers : ℕ)
     → orders ≡ orders_for size ready workers → size ≡ asked → ready.times ≡ set.times → ready.policy.now ≡ set.policy → AreSaid orders packets verdicts
-    → AreJudged (dealt_to asked workers) set.times (policy_facts set.policy) packets verdicts
+    → AreJudged (bucket_deal asked workers) set.times (policy_facts set.policy) packets verdicts
 judged_as packets verdicts orders size asked ready set workers given sized times policy said =
-    subst (λ s. AreJudged (dealt_to s workers) set.times (policy_facts set.policy) packets verdicts) sized
-    (subst (λ t. AreJudged (dealt_to size workers) t (policy_facts set.policy) packets verdicts) times
-    (subst (λ p. AreJudged (dealt_to size workers) ready.times (policy_facts p) packets verdicts) policy
+    subst (λ s. AreJudged (bucket_deal s workers) set.times (policy_facts set.policy) packets verdicts) sized
+    (subst (λ t. AreJudged (bucket_deal size workers) t (policy_facts set.policy) packets verdicts) times
+    (subst (λ p. AreJudged (bucket_deal size workers) ready.times (policy_facts p) packets verdicts) policy
     (subst (λ o. AreSaid o packets verdicts) given said)))
 
 -- each packet has a verdict

@@ -16,7 +16,7 @@ use Rattle.racl_io.specs.declared.input.Form.TheVariants.{Hexadecimal, Numbered}
 use Rattle.racl_io.specs.declared.input.Numbered as mark
 use Rattle.racl_io.specs.declared.report.Captured.{Captured}
 use Rattle.racl_io.specs.Faults.{IsFaultOfBytes, IsFaultOfContent, IsFaultOfOne, IsRight}
-use Rattle.racl_io.specs.Inputs.{AreCaptures, DigitsFacts, IsContent, IsCut, IsMarked, NumberedFacts, most_bytes, numbered_facts}
+use Rattle.racl_io.specs.Inputs.{AreCaptures, DigitsFacts, IsContent, AreCutDigits, IsMarked, NumberedFacts, most_bytes, numbered_facts}
 use Rattle.racl_io.specs.Reports.{packets_in}
 use Rattle.racl_io.proofs.PartingLemmas.{some_captures}
 use Rattle.racl_cli.specs.declared.captures.Walk.{Walk}
@@ -62,7 +62,7 @@ digits_at number digits = record { interface = number; digits = digits }
 
 -- the capture and those behind it
 pub taken_from : (seen : List ℕ) (number : ℕ) (content digits : List ℕ) (next : Option NumberedFacts) (packets : List PacketFacts) (captured : Captured)
-    → IsCut content digits next → IsTaken seen (digits_at number digits) packets captured → (more : List PacketFacts) (others : List Captured)
+    → AreCutDigits content digits next → IsTaken seen (digits_at number digits) packets captured → (more : List PacketFacts) (others : List Captured)
     → AreTakenFrom (number ∷ seen) next more others → AreTakenFrom seen (from_here number content) (packets ++ more) (captured ∷ others)
 taken_from seen number content digits None packets captured cut is more others (none, nothing) =
     (digits_at number digits ∷ [], (refl, None, cut, refl), (packets, more, captured, others, refl, refl, is, (none, nothing)))
@@ -70,20 +70,20 @@ taken_from seen number content digits (Some behind) packets captured cut is more
     (digits_at number digits ∷ all, (refl, Some behind, cut, cuts), (packets, more, captured, others, refl, refl, is, taken))
 
 pub fault_behind : (seen : List ℕ) (number : ℕ) (content digits : List ℕ) (next : Option NumberedFacts) (packets : List PacketFacts)
-    (captured : Captured) → IsCut content digits next → IsTaken seen (digits_at number digits) packets captured → (fault : Fault)
+    (captured : Captured) → AreCutDigits content digits next → IsTaken seen (digits_at number digits) packets captured → (fault : Fault)
     → IsFaultFrom (number ∷ seen) next fault → IsFaultFrom seen (from_here number content) fault
 fault_behind seen number content digits None packets captured cut is fault of = absurd of
 fault_behind seen number content digits (Some behind) packets captured cut is fault (all, cuts, of) =
     let right : IsRight digits = (is.capture, is.records.0, end_of is.truncated, is.spelt, is.records.1) in
     (digits_at number digits ∷ all, (refl, Some behind, cut, cuts), inr (is.first, inr (right, of)))
 
-others_behind : (number : ℕ) (content digits : List ℕ) (next : Option NumberedFacts) → IsCut content digits next
+others_behind : (number : ℕ) (content digits : List ℕ) (next : Option NumberedFacts) → AreCutDigits content digits next
     → (others : List DigitsFacts) × AreCaptures number content (digits_at number digits ∷ others)
 others_behind number content digits None cut = ([], (refl, None, cut, refl))
 others_behind number content digits (Some behind) cut =
     let all = some_captures behind.interface behind.content in (all.0, (refl, Some behind, cut, all.1))
 
-pub own_fault : (seen : List ℕ) (number : ℕ) (content digits : List ℕ) (next : Option NumberedFacts) → IsCut content digits next
+pub own_fault : (seen : List ℕ) (number : ℕ) (content digits : List ℕ) (next : Option NumberedFacts) → AreCutDigits content digits next
     → (IsAmong number seen → ⊥) → (fault : Fault) → IsFaultOfOne Hexadecimal digits fault → IsFaultFrom seen (from_here number content) fault
 own_fault seen number content digits next cut first fault of =
     let behind = others_behind number content digits next cut in
@@ -103,7 +103,7 @@ marked_long form content marked (inl (line, marker, same)) =
     let whole = ap length same in let sizes = length-append line (10 ∷ content) in omega arith
 marked_long form content marked (inr (word, none)) = let empty = ap length none in omega arith
 
-cut_short : (content digits : List ℕ) (next : Option NumberedFacts) → IsCut content digits next → 1 ≤ length digits
+cut_short : (content digits : List ℕ) (next : Option NumberedFacts) → AreCutDigits content digits next → 1 ≤ length digits
     → length digits + left_at next ≤ length content + 1
 cut_short content digits None cut some = let same = ap length cut.0 in omega arith
 cut_short content digits (Some behind) cut some =
@@ -114,7 +114,7 @@ cut_short content digits (Some behind) cut some =
 
 -- a capture has fewer packets than digits
 pub few_taken : (number : ℕ) (content digits capture : List ℕ) (next : Option NumberedFacts) (packets : List PacketFacts) (truncated : Bool)
-    → IsCut content digits next → IsContent Hexadecimal digits capture → IsCaptureAt number capture packets (end_of truncated)
+    → AreCutDigits content digits next → IsContent Hexadecimal digits capture → IsCaptureAt number capture packets (end_of truncated)
     → length packets + left_at next ≤ length content
 few_taken number content digits capture next packets truncated cut spelt (records, is, same) =
     let listed = ap length same in

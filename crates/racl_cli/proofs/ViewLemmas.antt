@@ -4,7 +4,7 @@ use Rattle.packet_view.specs.Captures.{IsCaptureAt, PacketFacts, end_of}
 use Rattle.racl_io.specs.declared.report.Captured.{Captured}
 use Rattle.racl_io.specs.declared.input.Form.{Form}
 use Rattle.racl_io.specs.declared.input.Form.TheVariants.{Hexadecimal}
-use Rattle.racl_io.specs.Inputs.{AreCaptures, DigitsFacts, IsContent, IsCut, NumberedFacts}
+use Rattle.racl_io.specs.Inputs.{AreCaptures, DigitsFacts, IsContent, AreCutDigits, NumberedFacts}
 use Rattle.racl_io.proofs.InputLemmas.{one_captures}
 use Rattle.racl_io.proofs.PartingLemmas.{some_captures}
 use Rattle.racl_views.specs.CapturePackets.{HavePackets}
@@ -33,7 +33,7 @@ pub record HasNext (seen : List ℕ) (number : ℕ) (digits : List ℕ) (next : 
   pub left : AreTakenFrom (number ∷ seen) next rest told
 
 pub next_of : (seen : List ℕ) (number : ℕ) (content digits : List ℕ) (next : Option NumberedFacts) (packets : List PacketFacts) (captures : List Captured)
-    → IsCut content digits next → AreTakenFrom seen (here number content) packets captures → HasNext seen number digits next packets
+    → AreCutDigits content digits next → AreTakenFrom seen (here number content) packets captures → HasNext seen number digits next packets
 next_of seen number content digits None packets captures cut (all, cuts, taken) =
     let mine : AreCaptures number content (digits_at number digits ∷ []) = (refl, None, cut, refl) in
     let (own, rest, captured, told, same, told_is, is, left) =
@@ -48,7 +48,7 @@ next_of seen number content digits (Some behind) packets captures cut (all, cuts
 
 -- one more capture
 pub amid_more : (all now : List CaptureBytes) (capture : CaptureBytes) (content digits : List ℕ) (next : Option NumberedFacts) (packets : List PacketFacts)
-    → (amid : AreAmid all (here capture.interface content) packets) → IsCut content digits next → IsContent Hexadecimal digits capture.bytes.items
+    → (amid : AreAmid all (here capture.interface content) packets) → AreCutDigits content digits next → IsContent Hexadecimal digits capture.bytes.items
     → now ≡ all ++ capture ∷ [] → AreAmid now next packets
 amid_more all now capture content digits next packets amid cut spelt more =
     let one = next_of amid.seen capture.interface content digits next amid.left amid.told cut amid.taken in

@@ -1,16 +1,16 @@
 -- Tables of the size that the words ask for, and workers over them after the packets that they judged.
 use Rattle.std.specs.Prelude.{◌≡◌, ◌+◌, ◌++◌, ◌<◌, ◌^◌, ℕ, List, length}
 use Rattle.packet_view.specs.Captures.{PacketFacts}
-use Rattle.packet_view.specs.CheckedCaptures.{held}
+use Rattle.packet_view.specs.CheckedCaptures.{remaining}
 use Rattle.packet_view.specs.declared.packets.Packets.{Packets}
 use Rattle.acl_policy.specs.Policies.{PolicyFacts, policy_facts}
 use Rattle.bihash_words.specs.declared.shape.Shape.{Ghosts}
 use Rattle.session_state.specs.declared.timeouts.Timeouts.{Timeouts}
 use Rattle.flow_filter.specs.OneThread.{layout_of}
-use Rattle.flow_filter.specs.declared.ready_filters.ReadyFilters.{ReadyFilters}
+use Rattle.flow_filter.specs.declared.interface_filters.InterfaceFilters.{InterfaceFilters}
 use Rattle.flow_filter.specs.declared.verdict.Verdict.{Verdict}
 use Rattle.flow_dealing.specs.Dealings.{Deal}
-use Rattle.flow_dealing.specs.Runs.{AreJudged}
+use Rattle.flow_dealing.specs.WorkerRecords.{AreJudged}
 use Rattle.flow_workers.specs.Callers.{AreIdle, first_views, views_of}
 use Rattle.flow_workers.specs.Progress.{AreAtRest}
 use Rattle.flow_workers.specs.declared.tables.Callers.{Callers}
@@ -18,7 +18,7 @@ use Rattle.flow_workers.specs.declared.tables.Tables.{Tables}
 use Rattle.flow_workers.specs.declared.workers.Workers.{Workers}
 use Rattle.racl_words.specs.declared.settings.TableSize.{TableSize}
 use Rattle.racl_words.specs.declared.settings.TableSize.TheVariants as asked
-use Rattle.racl_cli.specs.Runs.{dealt_to}
+use Rattle.racl_cli.specs.Runs.{bucket_deal}
 use Rattle.racl_cli.specs.declared.sized.SizedCallers.{SizedCallers}
 use Rattle.racl_cli.specs.declared.sized.SizedCallers.TheVariants as called
 use Rattle.racl_cli.specs.declared.sized.SizedTables.{SizedTables}
@@ -51,8 +51,8 @@ pub record Orders : Type 0 where
   pub times : Timeouts
   pub policy : PolicyFacts
 
-abbrev pub orders_for : TableSize → ReadyFilters → ℕ → Orders
-orders_for size filter workers = record { deal = dealt_to size workers; times = filter.times; policy = policy_facts filter.policy.now }
+abbrev pub orders_for : TableSize → InterfaceFilters → ℕ → Orders
+orders_for size filter workers = record { deal = bucket_deal size workers; times = filter.times; policy = policy_facts filter.policy.now }
 
 -- those of workers whatever the size of their tables
 abbrev orders_in : {A B R G K L : Type 0} {ga : Ghosts A K} {gb : Ghosts B L} → Workers A B R G K L ga gb → Orders
@@ -80,12 +80,12 @@ pub record AreAfter {T : Type 0} (orders : Orders) (packets : List PacketFacts) 
 pub record MayFollow {T : Type 0} (workers : SizedWorkers T) (more : Packets) : Type 0 where
   pub packets : List PacketFacts
   pub rest : AreResting packets workers
-  pub fits : length packets + length (held more) < 2 ^ 64
+  pub fits : length packets + length (remaining more) < 2 ^ 64
 
 -- they judged these packets too
 pub record HaveFollowedOn {T : Type 0} (old : SizedWorkers T) (more : Packets) (new : SizedWorkers T) : Type 0 where
   pub orders : orders_of new ≡ orders_of old
-  pub rest : (packets : List PacketFacts) → AreResting packets old → AreResting (packets ++ held more) new
+  pub rest : (packets : List PacketFacts) → AreResting packets old → AreResting (packets ++ remaining more) new
 
 -- they judged some packets
 abbrev pub HaveJudgedSome : {T : Type 0} → SizedWorkers T → Type 0

@@ -2,13 +2,13 @@
 use Rattle.std.specs.Prelude.{◌≡◌, ◌≢◌, ◌+◌, ◌<◌, ◌≤◌, ◌⊎◌, ◌++◌, ℕ, Bool, true, is_some, List, [], ◌∷◌, Option, None, Some, IfSome, IfOk, IfErr, MatchResult, Result, Ok, Err, drop, length}
 use Rattle.std.specs.Global.{Vec}
 use Rattle.std.specs.Io.KnownBytes.{IsAtEnd}
-use Rattle.packet_view.specs.Captures.{AreRecords, HasHeader, IsEnd, IsHeaderFault, PacketFacts, RecordFacts, end_of, packets_at}
+use Rattle.packet_view.specs.Captures.{AreRecords, HasFileHeader, IsEnd, IsHeaderFault, PacketFacts, RecordFacts, end_of, packets_at}
 use Rattle.packet_view.specs.declared.capture.CaptureFault.{CaptureFault}
 use Rattle.packet_view.specs.declared.capture.Order.{Order}
 use Rattle.acl_policy.specs.Policies.{IsPolicyFault, IsPolicyText, PolicyFacts, policy_facts}
 use Rattle.acl_policy.specs.declared.policy.PolicyFault.{PolicyFault}
 use Rattle.flow_filter.specs.declared.filter.Filter.{Filter}
-use Rattle.flow_dealing.specs.Runs.{HavePages}
+use Rattle.flow_dealing.specs.WorkerRecords.{HavePages}
 use Rattle.racl_words.specs.declared.settings.Options.{Options}
 use Rattle.racl_io.specs.declared.fault.Fault.{Fault}
 use Rattle.racl_io.specs.declared.fault.Fault.TheVariants.{Memory, Read, TooLarge}
@@ -89,8 +89,8 @@ pub record IsSaid (text : List ℕ) (policy : PolicyFacts) : Type 0 where
 
 -- a capture begins with a header in this order, and in no other
 pub record IsHeaded (order : Order) (capture : List ℕ) : Type 0 where
-  pub right : HasHeader order capture
-  pub one : (other : Order) → HasHeader other capture → other ≡ order
+  pub right : HasFileHeader order capture
+  pub one : (other : Order) → HasFileHeader other capture → other ≡ order
   pub none : (cause : CaptureFault) → IsHeaderFault capture cause → ⊥
 
 -- The records of the capture begin in the input, which has the capture as it is; or in the capture that its digits stand for.

@@ -10,7 +10,7 @@ use Rattle.flow_filter.specs.declared.verdict.Verdict.{Verdict}
 use Rattle.flow_filter.specs.OneThread.{AreVerdicts, Layout}
 use Rattle.flow_dealing.specs.declared.dealing.Dealing.TheVariants.{Bucket}
 use Rattle.flow_dealing.specs.Dealings.{Deal}
-use Rattle.flow_dealing.specs.Runs.{AreFew, AreJudged, HasPagesIn, HavePages}
+use Rattle.flow_dealing.specs.WorkerRecords.{AreFew, AreJudged, HasPagesIn, HavePages}
 use Rattle.racl_words.specs.declared.settings.Options.{Options}
 use Rattle.racl_words.specs.declared.settings.TableSize.{TableSize}
 use Rattle.racl_words.specs.declared.settings.TableSize.TheVariants.{Standard, Large}
@@ -93,8 +93,8 @@ layout_for Standard = standard_layout
 layout_for Large = large_layout
 
 -- packets are dealt by bucket to so many workers
-abbrev pub dealt_to : TableSize → ℕ → Deal
-dealt_to size workers = record { layout = layout_for size; dealing = Bucket; workers = workers }
+abbrev pub bucket_deal : TableSize → ℕ → Deal
+bucket_deal size workers = record { layout = layout_for size; dealing = Bucket; workers = workers }
 
 -- those of the one-thread filter
 abbrev pub ByOneThread : TableSize → Timeouts → PolicyFacts → List PacketFacts → List Verdict → Type 0
@@ -106,7 +106,7 @@ pub record ByWorkers (options : Options) (policy : PolicyFacts) (packets : List 
   pub workers : ℕ
   pub some : 1 ≤ workers
   pub few : workers ≤ options.workers
-  pub judged : AreJudged (dealt_to options.tables workers) options.times policy packets verdicts
+  pub judged : AreJudged (bucket_deal options.tables workers) options.times policy packets verdicts
   pub paged : (family : Family) → AreFew (layout_for options.tables) options.times family judged.judged → All (HasPagesIn options.times family) judged.judged
 
 -- ---- outcomes

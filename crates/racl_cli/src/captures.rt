@@ -11,7 +11,7 @@ use crate::outcome::Judged;
 use crate::sized::{SizedWorkers, create_sized};
 use crate::streaming::plan_for;
 use packet_view::{CheckedCapture, Packets, check_capture};
-use racl_io::{Captured, Digits, Fault, Numbered, cut_digits, decoded};
+use racl_io::{Captured, Digits, Fault, Numbered, cut_digits, decode_digits};
 use racl_words::Options;
 use std::alloc::Global;
 use std::sync::Wait;
@@ -83,7 +83,7 @@ fn judge_next<'t, 'f, 'b, T: Threads + Wait + Sync>(
         return Err(Fault::Twice(number));
     }
     let Digits { digits, next } = cut_digits(capture.content);
-    let bytes = decoded(alloc, digits)?;
+    let bytes = decode_digits(alloc, digits)?;
     let CheckedCapture { records, truncated } = check_capture(&bytes, number)?;
     captures.push(Captured {
         named: Some(number),
@@ -91,7 +91,7 @@ fn judge_next<'t, 'f, 'b, T: Threads + Wait + Sync>(
         truncated,
     })?;
     seen.insert(0, number)?;
-    match workers.judge(alloc, Packets::Standing(records)) {
+    match workers.judge(alloc, Packets::Records(records)) {
         Ok(workers) => Ok(Walk {
             workers,
             captures,

@@ -5,7 +5,7 @@ ghost use Rattle.racl_cli.specs.Reads.{AnswersInput, HasOpened};
 use acl_policy::read_policy;
 use flow_workers::Filter;
 use packet_view::{Order, capture_header};
-use racl_io::{Fault, Form, decoded, parts};
+use racl_io::{Fault, Form, decode_digits, split_input};
 use racl_words::Options;
 use std::alloc::Global;
 
@@ -46,7 +46,7 @@ pub fn open_input(alloc: Global, options: &Options, bytes: &[u8]) -> Result<Open
     ensures ok { IfOk result (HasOpened options.now bytes.now) }
     ensures fault { IfErr result (λ fault. AnswersInput options.now bytes.now (Err fault)) }
 {
-    let Some(input) = parts(bytes) else {
+    let Some(input) = split_input(bytes) else {
         return Err(Fault::NoCapture);
     };
     let policy = read_policy(alloc, input.policy)?;
@@ -65,7 +65,7 @@ pub fn open_input(alloc: Global, options: &Options, bytes: &[u8]) -> Result<Open
             }))
         }
         Form::Hexadecimal => {
-            let capture = decoded(alloc, input.content)?;
+            let capture = decode_digits(alloc, input.content)?;
             let order = capture_header(&capture)?;
             Ok(Opened::One(Headed {
                 filter,

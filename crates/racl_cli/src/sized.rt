@@ -5,7 +5,7 @@ ghost use Rattle.racl_cli.specs.Crews.{AreAfter, AreFirstOf, HaveFollowedOn, Hav
 ghost use Rattle.racl_cli.specs.Crews.{orders_for, size_of};
 
 use bihash_words::{Shape, ShapeV4, ShapeV6, flow_shapes_are_sound};
-use flow_filter::{ReadyFilters, Verdict};
+use flow_filter::{InterfaceFilters, Verdict};
 use flow_workers::{Callers, Dealing, Gate, Setup, Tables, Workers, create_tables};
 use large_shapes::{LargeV4, LargeV6, large_shapes_are_sound};
 use packet_view::Packets;
@@ -29,7 +29,7 @@ impl Gate for OpenGate {
 // What so many workers share, who judge by this filter over these tables. Packets are dealt by bucket.
 fn setup_of<'t, 'f, A: Shape, B: Shape, T: Wait>(
     rt: &'t T,
-    filter: &'t ReadyFilters<'f>,
+    filter: &'t InterfaceFilters<'f>,
     tables: &'t Tables<A, B>,
     workers: usize,
 ) -> Setup<'t, 'f, A, B, T, OpenGate>
@@ -108,7 +108,7 @@ impl<'t, 'f, T: Wait> SizedWorkers<'t, 'f, T> {
     pub fn new(
         rt: &'t T,
         alloc: Global,
-        filter: &'t ReadyFilters<'f>,
+        filter: &'t InterfaceFilters<'f>,
         tables: &'t SizedTables,
         callers: SizedCallers,
         workers: usize,

@@ -12,7 +12,7 @@ ghost use Rattle.racl_cli.specs.inner.Views.{MayTell};
 use acl_policy::read_policy;
 use flow_workers::Verdict;
 use packet_view::Packets;
-use racl_io::{Digits, Fault, Form, Input, Numbered, cut_digits, decoded, parts};
+use racl_io::{Digits, Fault, Form, Input, Numbered, cut_digits, decode_digits, split_input};
 use racl_views::{CaptureBytes, hits_text, packets_in};
 use racl_words::Options;
 use std::alloc::Global;
@@ -31,7 +31,7 @@ fn numbered_captures(alloc: Global, first: Numbered<'_>) -> Result<Vec<CaptureBy
         } = cut_digits(capture.content);
         all.push(CaptureBytes {
             interface: capture.interface,
-            bytes: decoded(alloc, digits)?,
+            bytes: decode_digits(alloc, digits)?,
         })?;
         next = behind;
     }
@@ -58,7 +58,7 @@ fn captures_of(alloc: Global, input: Input<'_>) -> Result<Vec<CaptureBytes>, Fau
 {
     match input.form {
         Form::Binary => one_capture(alloc, Vec::from_slice(alloc, input.content)?),
-        Form::Hexadecimal => one_capture(alloc, decoded(alloc, input.content)?),
+        Form::Hexadecimal => one_capture(alloc, decode_digits(alloc, input.content)?),
         Form::Numbered(interface) => {
             let first = Numbered {
                 interface,
@@ -74,7 +74,7 @@ fn hits_on(alloc: Global, bytes: &[u8], verdicts: &[Verdict]) -> Result<Vec<u8>,
     ensures { (policy : PolicyFacts) (packets : List PacketFacts) (captures : List Captured) → IsRead bytes.now policy packets captures
         → IfOk result (λ told. AreHitsOn true bytes.now policy packets verdicts.now told.items) }
 {
-    let Some(input) = parts(bytes) else {
+    let Some(input) = split_input(bytes) else {
         return Err(Fault::NoCapture);
     };
     let policy = read_policy(alloc, input.policy)?;
@@ -84,7 +84,7 @@ fn hits_on(alloc: Global, bytes: &[u8], verdicts: &[Verdict]) -> Result<Vec<u8>,
         alloc,
         &policy,
         input.policy,
-        Packets::Listed(&packets),
+        Packets::Slice(&packets),
         verdicts,
     )?;
     Ok(told)

@@ -6,7 +6,7 @@ use Rattle.racl_io.specs.declared.input.Form.{Form}
 use Rattle.racl_io.specs.declared.input.Form.TheVariants.{Binary, Hexadecimal, Numbered}
 use Rattle.racl_io.specs.declared.input.Marks.{Marks}
 use Rattle.racl_io.specs.declared.input.Marks.TheVariants.{Every, Numbers}
-use Rattle.racl_io.specs.Inputs.{AreCaptures, Counts, DigitsFacts, InputFacts, IsCut, IsFirstLine, IsInput, IsMarked, IsMarker, IsParted, IsPlain, IsWord, HasNoFeed, NumberedFacts, joined}
+use Rattle.racl_io.specs.Inputs.{AreCaptures, Counts, DigitsFacts, InputFacts, AreCutDigits, IsFirstLine, IsInput, IsMarked, IsMarker, IsParted, IsPlainLine, IsWord, HasNoFeed, NumberedFacts, joined}
 use Rattle.acl_policy.specs.inner.Reading.Numerals.{octet_in}
 use Rattle.acl_policy.proofs.NumeralLaws.{Lacks, octet_in-complete, octet_in-sound}
 use Rattle.acl_policy.proofs.PieceLaws.{Lacks-IsOctet}
@@ -14,7 +14,7 @@ use Rattle.acl_policy.proofs.PieceLaws.{Lacks-IsOctet}
 -- what stands before the rest are lines that are no markers
 pub record IsFront (marks : Marks) (bytes rest : List ℕ) : Type 0 where
   pub lines : List (List ℕ)
-  pub plain : AllByRecursion (IsPlain marks) lines
+  pub plain : AllByRecursion (IsPlainLine marks) lines
   pub parted : bytes ≡ joined lines ++ rest
 
 pub front_of_all : (marks : Marks) (bytes : List ℕ) → IsFront marks bytes bytes
@@ -27,7 +27,7 @@ joined-push (first ∷ lines) line rest =
     ∙ ap (λ more. first ++ 10 ∷ more) (joined-push lines line rest)
     ∙ sym (append_assoc first (10 ∷ joined lines) (line ++ 10 ∷ rest))
 
-plain-push : (marks : Marks) (lines : List (List ℕ)) (line : List ℕ) → AllByRecursion (IsPlain marks) lines → IsPlain marks line → AllByRecursion (IsPlain marks) (lines ++ line ∷ [])
+plain-push : (marks : Marks) (lines : List (List ℕ)) (line : List ℕ) → AllByRecursion (IsPlainLine marks) lines → IsPlainLine marks line → AllByRecursion (IsPlainLine marks) (lines ++ line ∷ [])
 plain-push marks [] line all one = (one, tt)
 plain-push marks (first ∷ lines) line all one = (all.0, plain-push marks lines line all.1 one)
 
@@ -91,7 +91,7 @@ marker_has_no_feed form line (inr (word, is, same)) =
     subst HasNoFeed (sym same) (no_feed_append word (13 ∷ []) (word_has_no_feed form word is) ((λ e. omega (arith, e)), tt))
 
 -- after a plain line no marker is at the front
-plain_is_not_marked : (marks : Marks) (form : Form) (content line rest : List ℕ) → Counts marks form → IsPlain marks line → IsMarked form content (line ++ 10 ∷ rest) → ⊥
+plain_is_not_marked : (marks : Marks) (form : Form) (content line rest : List ℕ) → Counts marks form → IsPlainLine marks line → IsMarked form content (line ++ 10 ∷ rest) → ⊥
 plain_is_not_marked marks form content line rest counts plain (inl (other, marker, same)) =
     let heads = one_first_line line other rest content plain.whole (marker_has_no_feed form other marker) same in
     plain.unmarked form counts (subst (IsMarker form) (sym heads.0) marker)
@@ -107,7 +107,7 @@ ended : (line : List ℕ) (lines : List (List ℕ)) (rest : List ℕ) → joined
 ended line lines rest = append_assoc line (10 ∷ joined lines) rest
 
 no_marker : (marks : Marks) (form : Form) (content : List ℕ) (lines others : List (List ℕ)) (rest marked : List ℕ) → Counts marks form
-    → AllByRecursion (IsPlain marks) lines → AllByRecursion (IsPlain marks) others
+    → AllByRecursion (IsPlainLine marks) lines → AllByRecursion (IsPlainLine marks) others
     → HasNoFeed rest → ((f : Form) → Counts marks f → IsWord f rest → ⊥) → joined lines ++ rest ≡ joined others ++ marked → IsMarked form content marked → ⊥
 no_marker marks form content [] [] rest marked counts plain plains none unmarked same is =
     unmarked_end marks form content rest counts none unmarked (subst (IsMarked form content) (sym same) is)
@@ -229,7 +229,7 @@ one_marked one other x y bytes (inr (word, empty)) (inr (word', empty')) =
     (one_word one other bytes word word', empty ∙ sym empty')
 
 one_front : (marks : Marks) (one other : Form) (x y : List ℕ) (lines others : List (List ℕ)) (marked marked' : List ℕ) → Counts marks one → Counts marks other
-    → AllByRecursion (IsPlain marks) lines → AllByRecursion (IsPlain marks) others
+    → AllByRecursion (IsPlainLine marks) lines → AllByRecursion (IsPlainLine marks) others
     → joined lines ++ marked ≡ joined others ++ marked' → IsMarked one x marked → IsMarked other y marked' → (lines ≡ others) × (one ≡ other) × (x ≡ y)
 one_front marks one other x y [] [] marked marked' counts counts' plain plains same is is' =
     let both = one_marked one other x y marked is (subst (IsMarked other y) (sym same) is') in (refl, both.0, both.1)
@@ -259,7 +259,7 @@ pub one_input : (bytes : List ℕ) (a b : InputFacts) → IsInput bytes a → Is
 one_input bytes a b is other = one_parting Every bytes a b is other
 
 -- content is cut in one way
-one_cut : (content digits others : List ℕ) (a b : Option NumberedFacts) → IsCut content digits a → IsCut content others b → (digits ≡ others) × (a ≡ b)
+one_cut : (content digits others : List ℕ) (a b : Option NumberedFacts) → AreCutDigits content digits a → AreCutDigits content others b → (digits ≡ others) × (a ≡ b)
 one_cut content digits others None None (is, none) (are, nor) = (is ∙ sym are, refl)
 one_cut content digits others None (Some b) (is, none) cut = absurd (none _ cut)
 one_cut content digits others (Some a) None cut (is, none) = absurd (none _ cut)

@@ -51,7 +51,7 @@ Counts Numbers Hexadecimal = ⊥
 Counts Numbers (Numbered number) = Unit {0}
 
 -- a line without its line feed that is no marker which counts
-pub record IsPlain (marks : Marks) (line : List ℕ) : Type 0 where
+pub record IsPlainLine (marks : Marks) (line : List ℕ) : Type 0 where
   pub whole : HasNoFeed line
   pub unmarked : (form : Form) → Counts marks form → IsMarker form line → ⊥
 
@@ -68,7 +68,7 @@ IsMarked form content bytes =
 -- the first marker line that counts parts the bytes
 pub record IsParted (marks : Marks) (bytes : List ℕ) (parts : InputFacts) : Type 0 where
   pub lines : List (List ℕ)
-  pub plain : AllByRecursion (IsPlain marks) lines
+  pub plain : AllByRecursion (IsPlainLine marks) lines
   pub policy : parts.policy ≡ joined lines
   pub marked : List ℕ
   pub parted : bytes ≡ parts.policy ++ marked
@@ -88,9 +88,9 @@ abbrev pub numbered_facts : Option mark.Numbered → Option NumberedFacts
 numbered_facts next = option_map (λ n. record { interface = n.interface; content = n.content.now }) next
 
 -- the digits are what stands before the next marker line with a number, or all where there is none
-abbrev pub IsCut : List ℕ → List ℕ → Option NumberedFacts → Type 0
-IsCut content digits None = (digits ≡ content) × ((parts : InputFacts) → IsParted Numbers content parts → ⊥)
-IsCut content digits (Some next) =
+abbrev pub AreCutDigits : List ℕ → List ℕ → Option NumberedFacts → Type 0
+AreCutDigits content digits None = (digits ≡ content) × ((parts : InputFacts) → IsParted Numbers content parts → ⊥)
+AreCutDigits content digits (Some next) =
     IsParted Numbers content (record { policy = digits; form = Numbered next.interface; content = next.content })
 
 -- the digits of one interface's capture
@@ -104,7 +104,7 @@ abbrev pub AreCaptures : ℕ → List ℕ → List DigitsFacts → Type 0
 AreCaptures number content [] = ⊥
 AreCaptures number content (first ∷ others) =
     (first.interface ≡ number)
-    × (next : Option NumberedFacts) × IsCut content first.digits next
+    × (next : Option NumberedFacts) × AreCutDigits content first.digits next
     × MatchOption next (others ≡ []) (λ behind. AreCaptures behind.interface behind.content others)
 
 -- what isn't looked at among hexadecimal digits: tab, line feed, carriage return and space

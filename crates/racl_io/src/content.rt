@@ -27,7 +27,7 @@ fn digits(alloc: Global, content: &[u8]) -> Result<Vec<u8>, AllocError>
 
 /// The bytes that hexadecimal digits stand for, two digits a byte, high digit first; spaces, tabs,
 /// carriage returns and line feeds among them aren't looked at.
-pub fn decoded(alloc: Global, content: &[u8]) -> Result<Vec<u8>, Fault>
+pub fn decode_digits(alloc: Global, content: &[u8]) -> Result<Vec<u8>, Fault>
     ensures ok { IfOk result (λ v. IsContent Hexadecimal content.now v.items) }
     ensures err { IfErr result (λ e. (e ≡ Memory) ⊎ ((e ≡ Hex) × ((capture : List ℕ) → IsContent Hexadecimal content.now capture → ⊥))) }
 {

@@ -1,7 +1,7 @@
 //! The parts of the input: a policy text, a marker line, and the capture as bytes or as digits; or the captures of several
 //! interfaces as digits, each after a marker line with its interface's number.
 ghost use Rattle.std.specs.Prelude.{◌≡◌, ◌≢◌, ◌<◌, ◌++◌, ℕ, List, IfSome, IfNone, codes, length, slice_index};
-ghost use Rattle.racl_io.specs.Inputs.{Counts, InputFacts, input_facts, IsCut, IsInput, IsMarker, IsParted, IsFirstLine, IsWord, HasNoFeed, numbered_facts};
+ghost use Rattle.racl_io.specs.Inputs.{Counts, InputFacts, input_facts, AreCutDigits, IsInput, IsMarker, IsParted, IsFirstLine, IsWord, HasNoFeed, numbered_facts};
 
 use acl_policy::octet_of;
 
@@ -153,7 +153,7 @@ fn parted(bytes: &[u8], marks: Marks) -> Option<Input<'_>>
 ///
 /// A line ends with a line feed, and one carriage return before it is dropped. A marker word may
 /// also end the input.
-pub fn parts(bytes: &[u8]) -> Option<Input<'_>>
+pub fn split_input(bytes: &[u8]) -> Option<Input<'_>>
     ensures some { IfSome result (λ input. IsInput bytes.now (input_facts input)) }
     ensures none { IfNone result ((parts : InputFacts) → IsInput bytes.now parts → ⊥) }
 {
@@ -163,7 +163,7 @@ pub fn parts(bytes: &[u8]) -> Option<Input<'_>>
 /// Cuts what follows a marker line with a number: into the digits of its capture, and the next such line with what
 /// follows it.
 pub fn cut_digits(content: &[u8]) -> Digits<'_>
-    ensures cut { IsCut content.now result.digits.now (numbered_facts result.next) }
+    ensures cut { AreCutDigits content.now result.digits.now (numbered_facts result.next) }
     ensures shorter { IfSome result.next (λ next. length next.content.now < length content.now) }
 {
     let Some(cut) = parted(content, Marks::Numbers) else {

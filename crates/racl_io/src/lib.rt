@@ -19,11 +19,11 @@ mod shown;
 mod transfer;
 mod written;
 
-pub use content::decoded;
+pub use content::decode_digits;
 pub use device::{Device, DeviceFault, Sink, Source};
 pub use fault::Fault;
 pub use front::FrontKept;
-pub use input::{Digits, Form, Input, Numbered, cut_digits, parts};
+pub use input::{Digits, Form, Input, Numbered, cut_digits, split_input};
 pub use joined::{Joined, Marked, marked};
 pub use other::{Other, is_capture, other_file};
 pub use report::{Captured, Totals, write_report};

@@ -2,7 +2,7 @@
 use Rattle.std.proofs.Common.{◌≡◌, ◌∙◌, ◌++◌, ◌+◌, ◌<◌, ℕ, List, [], ◌∷◌, append_assoc, ap, drop, get_or, length, map, subst, sym}
 use Rattle.std.proofs.lemmas.List.{map-append}
 use Rattle.packet_view.specs.Captures.{End, IsCaptureAt, PacketFacts, packet_facts}
-use Rattle.packet_view.specs.declared.capture.Packet.{Packet}
+use Rattle.packet_view.specs.declared.packet.Packet.{Packet}
 use Rattle.racl_views.specs.CapturePackets.{HavePackets}
 use Rattle.racl_views.specs.declared.capture_bytes.CaptureBytes.{CaptureBytes}
 use Rattle.racl_views.proofs.CountLemmas.{drop_one}

@@ -1,6 +1,6 @@
 //! How many packets each rule decided.
 ghost use Rattle.std.specs.Prelude.{◌≡◌, ◌+◌, ◌-◌, ◌<◌, ◌≤◌, ◌==◌, ◌^◌, ℕ, IfOk, IfSome, OnOk, get_or, if◌then◌else◌};
-ghost use Rattle.packet_view.specs.CheckedCaptures.{held};
+ghost use Rattle.packet_view.specs.CheckedCaptures.{remaining};
 ghost use Rattle.acl_policy.specs.Policies.{policy_facts};
 ghost use Rattle.racl_views.specs.declared.rule.RuleName as code;
 ghost use Rattle.racl_views.specs.inner.Places;
@@ -78,7 +78,7 @@ pub fn count_packets(
     packets: Packets<'_>,
     verdicts: &[Verdict],
 ) -> Result<Vec<u64>, AllocError>
-    ensures { IfOk result (λ counts. AreCounts (policy_facts policy.now) (held packets.entry) verdicts.now counts.items) }
+    ensures { IfOk result (λ counts. AreCounts (policy_facts policy.now) (remaining packets.entry) verdicts.now counts.items) }
 {
     let mut counts = Vec::new(alloc);
     let mut left = packets;

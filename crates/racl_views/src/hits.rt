@@ -1,6 +1,6 @@
 //! What is told of hits, line by line.
 ghost use Rattle.std.specs.Prelude.{◌≡◌, ◌++◌, List, Option, OnOk, IfOk, count_by};
-ghost use Rattle.packet_view.specs.CheckedCaptures.{held};
+ghost use Rattle.packet_view.specs.CheckedCaptures.{remaining};
 ghost use Rattle.acl_policy.specs.Policies.{IsPolicyText, policy_facts};
 ghost use Rattle.racl_views.specs.Hits;
 ghost use Rattle.racl_views.specs.Hits.{IsHits, all_others, numbered, other_text, others_text, rule_text, rules_text};
@@ -133,7 +133,7 @@ pub fn hits_text(
     verdicts: &[Verdict],
 ) -> Result<Vec<u8>, AllocError>
     ensures { IfOk result (λ told. IsPolicyText text.now (policy_facts policy.now)
-        → IsHits (policy_facts policy.now) text.now (held packets.entry) verdicts.now told.items) }
+        → IsHits (policy_facts policy.now) text.now (remaining packets.entry) verdicts.now told.items) }
 {
     let rules = rule_lines(alloc, text)?;
     let counts = count_packets(alloc, policy, packets, verdicts)?;

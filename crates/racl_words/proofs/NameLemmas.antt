@@ -17,7 +17,7 @@ use Rattle.acl_policy.proofs.NumeralLaws.{octet_in-complete, octet_in-sound}
 use Rattle.racl_words.specs.declared.settings.CaptureFile.{CaptureFile}
 use Rattle.racl_words.specs.Options.{Use, named_by}
 use Rattle.racl_words.specs.Origins.{AreApart, AreNamed, CaptureFacts, IsNamed, Name, NamedFacts, OriginFacts, capture_facts, is_standard, FromStandard, FromFiles, FromInterfaces}
-use Rattle.racl_words.proofs.NameWalks.{ArePlain, IsPlain}
+use Rattle.racl_words.proofs.NameWalks.{ArePlain, IsPlainValue}
 
 -- digits have no equals sign (61)
 digits_lack : (word : Text) → AllDigits 10 word → Lacks 61 word
@@ -70,10 +70,10 @@ one_origin named (FromInterfaces policy captures) (FromInterfaces policy' captur
 
 -- ---- values that name captures begin with a digit
 
-plain_value : (value : Text) (capture : CaptureFacts) → IsNamed value capture → IsPlain value
+plain_value : (value : Text) (capture : CaptureFacts) → IsNamed value capture → IsPlainValue value
 plain_value value capture is = go is.0 is.1 is.2.0.0
   where
-    go : (digits : Text) → value ≡ digits ++ 61 ∷ capture.name → IsNumeral 10 digits → IsPlain value
+    go : (digits : Text) → value ≡ digits ++ 61 ∷ capture.name → IsNumeral 10 digits → IsPlainValue value
     go [] e numeral = absurd (omega (arith, numeral.0))
     go (d ∷ ds) e numeral = (d, ds ++ 61 ∷ capture.name, e, ne_eqb d 45 (λ same. omega (arith, same, digit_from_value d numeral.1.0)))
 

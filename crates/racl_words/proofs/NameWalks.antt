@@ -91,11 +91,11 @@ given_passes : (v : Text) (h : Held) → settle_fault top.rules false (given v h
 given_passes v h = refl
 
 -- the value doesn't begin with a minus
-abbrev pub IsPlain : Text → Type 0
-IsPlain v = (d : ℕ) × (ds : Text) × (v ≡ d ∷ ds) × ((d == 45) ≡ false)
+abbrev pub IsPlainValue : Text → Type 0
+IsPlainValue v = (d : ℕ) × (ds : Text) × (v ≡ d ∷ ds) × ((d == 45) ≡ false)
 
 -- a use changes the rows
-use_goes_on : (v : Text) (in_one : Bool) (rows after : List Row) (h : Held) → Holds rows h → used interface_filled (v ∷ []) rows ≡ after → IsPlain v
+use_goes_on : (v : Text) (in_one : Bool) (rows after : List Row) (h : Held) → Holds rows h → used interface_filled (v ∷ []) rows ≡ after → IsPlainValue v
     → (e : Held) × Holds after e × GoesOn h (use_by v in_one) e
 unfolding walk_fault
 use_goes_on v true rows after h holds becomes plain = (
@@ -141,7 +141,7 @@ used_again v values rows none = at_last_row interface_id (more_values CommandLin
 
 abbrev pub ArePlain : List Use → Type 0
 ArePlain [] = Unit {0}
-ArePlain (u ∷ rest) = IsPlain u.value × ArePlain rest
+ArePlain (u ∷ rest) = IsPlainValue u.value × ArePlain rest
 
 further_uses_go_on : (us : List Use) (values : List Text) (rows : List Row) (h : Held) → has_row interface_id rows ≡ false
     → Holds (rows ++ interface_row values ∷ []) h → ArePlain us

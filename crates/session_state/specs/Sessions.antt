@@ -17,8 +17,8 @@ pub record IsSession (session : SessionFacts) : Type 0 where
   pub second : IsKept session.second_flags
 
 -- the flags seen of a side
-abbrev pub flags_of : SessionFacts → ℕ → ℕ
-flags_of session side = if side == 0 then session.first_flags else session.second_flags
+abbrev pub flags_seen : SessionFacts → ℕ → ℕ
+flags_seen session side = if side == 0 then session.first_flags else session.second_flags
 
 -- the session with more flags seen of a side
 abbrev pub with_flags : SessionFacts → ℕ → ℕ → SessionFacts

@@ -1,7 +1,7 @@
 //! What is kept of a flow, and its form as the value of a table.
 ghost use Rattle.std.specs.Prelude.{◌≡◌, ◌<◌, ◌↔◌, IsTrue, ℕ, Option, Some, IfSome};
 ghost use Rattle.session_state.specs.Flags.{IsKept};
-ghost use Rattle.session_state.specs.Sessions.{SessionFacts, IsSession, IsLive, flags_of, new_session, session_of, session_word, timeout_of, touched_session, with_flags};
+ghost use Rattle.session_state.specs.Sessions.{SessionFacts, IsSession, IsLive, flags_seen, new_session, session_of, session_word, timeout_of, touched_session, with_flags};
 
 use crate::flags::{joined, kept};
 use crate::timeouts::Timeouts;
@@ -116,7 +116,7 @@ impl Session {
     /// The flags seen of side 0 or 1.
     pub fn flags_seen(&self, side: u8) -> u8
         requires { side < 2 }
-        ensures { result ≡ flags_of self.now side }
+        ensures { result ≡ flags_seen self.now side }
     {
         if side == 0 {
             self.first_flags

@@ -30,13 +30,13 @@ fn made_and_closed(rt: &HostRuntime) -> io::Result<bool> {
         return Ok(false);
     };
     let caller = fill(rt, &table, caller)?;
-    let Some((first, second)) = part(rt, &table, caller)? else {
+    let Some((first, second)) = split_twice(rt, &table, caller)? else {
         return Ok(false);
     };
     let Err((table, first)) = close(rt, table, first)? else {
         return Ok(false);
     };
-    let both = told(rt, &table, table.join(first, second))?;
+    let both = show_caller(rt, &table, table.join(first, second))?;
     let Some((table, caller)) = open_again(rt, table, both)? else {
         return Ok(false);
     };
@@ -76,11 +76,11 @@ fn fill(
         let reply = table.try_update(&mut caller, &[key, 0], &Add { value });
         println!(rt; "add {key}: {reply:?}")?;
     }
-    told(rt, table, caller)
+    show_caller(rt, table, caller)
 }
 
 // Two callers of the one, at the second attempt where memory was refused to the first.
-fn part(
+fn split_twice(
     rt: &HostRuntime,
     table: &Sessions<Small>,
     caller: Caller<Small>,
@@ -112,12 +112,12 @@ fn split(
     match table.split(rt.alloc(), caller) {
         Ok((first, second)) => {
             println!(rt; "split: done")?;
-            Ok(Ok((told(rt, table, first)?, second)))
+            Ok(Ok((show_caller(rt, table, first)?, second)))
         }
         Err((fault, caller)) => {
             let refused = fault == SplitFault::Memory;
             println!(rt; "split: {}", if refused { "no memory" } else { "refused" })?;
-            Ok(Err(told(rt, table, caller)?))
+            Ok(Err(show_caller(rt, table, caller)?))
         }
     }
 }
@@ -155,7 +155,7 @@ fn renew(
             println!(rt; "renew: done")?;
             let reply = table.try_update(&mut caller, &[2, 0], &Add { value: 6 });
             println!(rt; "add 2: {reply:?}")?;
-            let caller = told(rt, &table, caller)?;
+            let caller = show_caller(rt, &table, caller)?;
             Ok(Ok((table, caller)))
         }
         Err((fault, table, caller)) => {
@@ -164,7 +164,7 @@ fn renew(
                 "renew: {}",
                 if refused { "no memory" } else { "strangers" }
             )?;
-            let caller = told(rt, &table, caller)?;
+            let caller = show_caller(rt, &table, caller)?;
             Ok(Err((table, caller)))
         }
     }
@@ -192,14 +192,14 @@ fn close(
                 "close: {}",
                 if refused { "no memory" } else { "strangers" }
             )?;
-            let caller = told(rt, &table, caller)?;
+            let caller = show_caller(rt, &table, caller)?;
             Ok(Err((table, caller)))
         }
     }
 }
 
 // The caller, after a line on its last stamp, its numbers, whether it is lone, and what it finds under the last added key.
-fn told(
+fn show_caller(
     rt: &HostRuntime,
     table: &Sessions<Small>,
     mut caller: Caller<Small>,

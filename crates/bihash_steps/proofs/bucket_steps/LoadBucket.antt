@@ -7,7 +7,7 @@ use lib.ListN.{get_elem?}
 use Rattle.std.specs.Prelude.{slice_index, is_some}
 use Rattle.atomic_table.specs.Table.{State, Act, keeps, Valid, stepped, carried_after, Allows}
 use Rattle.bihash_words.specs.Sizes.{Sizes}
-use Rattle.bihash_words.specs.Words.{Fits, packed}
+use Rattle.bihash_words.specs.Words.{FitsWord, packed}
 use Rattle.bihash_steps.specs.Words.{count_of, buckets, bucket_at}
 use Rattle.bihash_steps.specs.Histories.{IsWriteList, after}
 use Rattle.bihash_steps.specs.Callers.{Openings, known_at, opening_in}
@@ -26,9 +26,9 @@ use Rattle.bihash_steps.proofs.KnownLists.{lawful_here, logged_at}
 use Rattle.bihash_steps.proofs.Lists.{there, no_row}
 use Rattle.bihash_steps.proofs.CountWord.{held_still, not_lone, others_apart, stays_at, kept_log}
 use Rattle.bihash_steps.proofs.NotedViews.{unnoted_view}
-use Rattle.bihash_steps.proofs.Runs.{extent_near_end}
-use Rattle.bihash_steps.proofs.Whole.{whole_known}
-use Rattle.bihash_steps.proofs.Informed.{known_learned, known_else, learned_informed}
+use Rattle.bihash_steps.proofs.OwnedWords.{extent_near_end}
+use Rattle.bihash_steps.proofs.WholeHistories.{whole_known}
+use Rattle.bihash_steps.proofs.InformedViews.{known_learned, known_else, learned_informed}
 
 -- ---- What the word of a bucket says
 
@@ -37,7 +37,7 @@ module _ (z : Sizes) (s : State (Unit {0}) View) (r : WordRule z s) (b : ℕ) (i
   near_block = extent_near_end z r.table.store.store.used (runs_now r.table.bucket r.table.store.store s.views) r.parted (of_bucket b)
       (r.table.bucket b).extent refl (r.each_bucket b inside).pairs.absent
 
-  pub bucket_fits : (locked : Bool) → Fits (word_of (r.table.bucket b).extent locked (length (r.table.bucket b).history))
+  pub bucket_fits : (locked : Bool) → FitsWord (word_of (r.table.bucket b).extent locked (length (r.table.bucket b).history))
   bucket_fits locked = let sound = r.sound in let ok = r.each_bucket b inside in record {
     page = let few = sound.few_pages in let near = near_block in let some_page = pow_pos (r.table.bucket b).extent.size.log2 in omega arith;
     log2 = let few = sound.few_buckets in let small = ok.pairs.rule.small in omega arith;

@@ -8,7 +8,7 @@ use prog.Atomic.{either}
 use Rattle.std.specs.Prelude.{slice_index}
 use Rattle.atomic_table.specs.Table.{State, Act, keeps, Valid, stepped, carried_after, Allows}
 use Rattle.bihash_words.specs.Sizes.{Sizes}
-use Rattle.bihash_words.specs.Words.{Bucket, Fits, packed}
+use Rattle.bihash_words.specs.Words.{Bucket, FitsWord, packed}
 use Rattle.bihash_steps.specs.Words.{count_of, buckets, bucket_at}
 use Rattle.bihash_steps.specs.Buckets.{StandsStillIf, word_of}
 use Rattle.bihash_steps.specs.PageStores.{all_used, runs_now}
@@ -21,10 +21,10 @@ use Rattle.bihash_steps.proofs.KnownLists.{lawful_here, lawful_set, logged_at}
 use Rattle.bihash_steps.proofs.CountWord.{kept_log, stays_at, others_apart}
 use Rattle.bihash_steps.proofs.NotedViews.{unnoted_view}
 use Rattle.bihash_steps.proofs.Frames.{free_none, free_own}
-use Rattle.bihash_steps.proofs.Runs.{beside_bucket, block_keeps, front_still, store_still, count_still, bucket_after, bucket_inside}
-use Rattle.bihash_steps.proofs.Pushed.{counted_numbers, counted_whole, counted_number, counted_short, counted-length}
-use Rattle.bihash_steps.proofs.Whole.{whole_known}
-use Rattle.bihash_steps.proofs.Informed.{known_learned, learned_informed, counted_informed}
+use Rattle.bihash_steps.proofs.OwnedWords.{beside_bucket, block_keeps, front_still, store_still, count_still, bucket_after, bucket_inside}
+use Rattle.bihash_steps.proofs.PushedCalls.{counted_numbers, counted_whole, counted_number, counted_short, counted-length}
+use Rattle.bihash_steps.proofs.WholeHistories.{whole_known}
+use Rattle.bihash_steps.proofs.InformedViews.{known_learned, learned_informed, counted_informed}
 use Rattle.bihash_steps.proofs.LogSteps.{set_logged, counted_calls, counted_back}
 use Rattle.bihash_steps.proofs.bucket_steps.Relocks.{relocked_rule}
 use Rattle.bihash_steps.proofs.bucket_steps.LoadBucket.{is_found}
@@ -91,7 +91,7 @@ module _ (z : Sizes) where
       }
 
   pub locks_bucket : (slots id b word word' : ℕ) (x : Bucket) (m : ViewOfSeat) → b < buckets z → 1 ≤ length m.0.records
-      → m.0.holds.bucket ≡ None → Fits x → word ≡ packed x → x.locked ≡ false → word' ≡ packed (record x { locked = true })
+      → m.0.holds.bucket ≡ None → FitsWord x → word ≡ packed x → x.locked ≡ false → word' ≡ packed (record x { locked = true })
       → Allows (WordRule z) slots id m (bucket_at z b) (λ n. either (eqb n word) word' n) (TellsLock z b word m)
   locks_bucket slots id b word word' x m inside acts none fits stood unset value s r deep at fits' =
       dite (ℕ_discrete found word) (λ e. taken e) (λ ne. lost ne)

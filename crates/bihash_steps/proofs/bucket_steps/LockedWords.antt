@@ -21,7 +21,7 @@ use Rattle.bihash_steps.specs.declared.view.HeldBlock.{HeldBlock}
 use Rattle.bihash_steps.specs.declared.view.View.{View}
 use Rattle.bihash_steps.proofs.CountWord.{kept_log, stays_at, others_apart}
 use Rattle.bihash_steps.proofs.Frames.{Beside, free_own, stands_beside}
-use Rattle.bihash_steps.proofs.Runs.{beside_block, stored_stands, store_still, count_still, bucket_after, page_after, word_of_block}
+use Rattle.bihash_steps.proofs.OwnedWords.{beside_block, stored_stands, store_still, count_still, bucket_after, page_after, word_of_block}
 use Rattle.bihash_steps.proofs.bucket_steps.Relocks.{relocked_rule}
 
 module _ (z : Sizes) (s : State (Unit {0}) View) (r : WordRule z s) (id : ℕ) (v : View) (l : LockedBucket) (at : get_elem? s.views id ≡ some v)

@@ -2,7 +2,7 @@
 use Rattle.std.proofs.Common.{◌≡◌, ℕ, ◌+◌, ◌-◌, ◌^◌, ◌<◌, Bool, true, false, length, sym, ap, ◌∙◌, arith, Option, Some}
 use Rattle.bihash_words.specs.declared.block_size.BlockSize.{BlockSize}
 use Rattle.bihash_words.specs.Sizes.{Sizes, IsSound}
-use Rattle.bihash_words.specs.Words.{Bucket, Fits, packed, version_of}
+use Rattle.bihash_words.specs.Words.{Bucket, FitsWord, packed, version_of}
 use Rattle.bihash_steps.specs.Callers.{known_at}
 use Rattle.bihash_steps.specs.Buckets.{word_of, open_word}
 use Rattle.bihash_steps.specs.BucketSteps.{MayAnswer, MayWrite, TellsEntry, view_after_answer, push_call, MayValidate, TellsValid}
@@ -38,7 +38,7 @@ module _ (z : Sizes) (v : View) (b word : ℕ) (c : Call) (may : MayWrite z v b 
 
 -- a seat counts the write
 pub counted_write : (z : Sizes) (after : View → View) (m m' : ViewOfSeat) (c : Call) (b word version numbers : ℕ) (old : Option (ℕ × ℕ))
-    → MayWrite z m.0 b word c → ((x : Bucket) → Fits x → word ≡ packed x → version ≡ x.version) → TellsEntry z after c m m'
+    → MayWrite z m.0 b word c → ((x : Bucket) → FitsWord x → word ≡ packed x → version ≡ x.version) → TellsEntry z after c m m'
     → (after m.0).records ≡ push_call c m.0.records → IsCounted m numbers old → IsCounted m' numbers (Some (b, version + 1))
 counted_write z after m m' c b word version numbers old may read told same h =
     let is = read (word_of may.lock.extent false may.lock.version) may.fits may.stood in
@@ -48,7 +48,7 @@ counted_write z after m m' c b word version numbers old may read told same h =
 
 -- and the answer of a call that is no write
 pub counted_answer : (z : Sizes) (m m' : ViewOfSeat) (c : Call) (b word version numbers : ℕ) (old : Option (ℕ × ℕ)) → MayAnswer z m.0 b word c
-    → HasVersion m.0 → ((x : Bucket) → Fits x → word ≡ packed x → version ≡ x.version) → TellsEntry z (λ v. view_after_answer v c) c m m'
+    → HasVersion m.0 → ((x : Bucket) → FitsWord x → word ≡ packed x → version ≡ x.version) → TellsEntry z (λ v. view_after_answer v c) c m m'
     → IsCounted m numbers old → IsCounted m' numbers (Some (b, version))
 counted_answer z m m' c b word version numbers old may has read told h =
     let lock = may.clean.lock in
@@ -61,7 +61,7 @@ counted_answer z m m' c b word version numbers old may has read told h =
 
 -- and of one that was answered without a lock
 pub counted_valid : (z : Sizes) (m m' : ViewOfSeat) (c : Call) (b word version found numbers : ℕ) (old : Option (ℕ × ℕ))
-    → MayValidate z m.0 b word c → ((x : Bucket) → Fits x → word ≡ packed x → version ≡ x.version)
+    → MayValidate z m.0 b word c → ((x : Bucket) → FitsWord x → word ≡ packed x → version ≡ x.version)
     → ((o : OpenBucket) → m.0.notes.open_bucket ≡ Some o → TellsValid z (open_word o) c m found m')
     → found ≡ word → IsCounted m numbers old → IsCounted m' numbers (Some (b, version))
 counted_valid z m m' c b word version found numbers old may read told here h =

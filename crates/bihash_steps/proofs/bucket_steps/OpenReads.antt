@@ -27,9 +27,9 @@ use Rattle.bihash_steps.proofs.Lists.{there, no_row}
 use Rattle.bihash_steps.proofs.CountWord.{stays_at, others_apart, kept_log}
 use Rattle.bihash_steps.proofs.LogEvents.{read_rule, read_enters, read_is_logged}
 use Rattle.bihash_steps.proofs.NotedViews.{seen_view, unnoted_view}
-use Rattle.bihash_steps.proofs.Pushed.{push_numbers, push_whole, push_short, push-length, push_renumbers}
-use Rattle.bihash_steps.proofs.Whole.{prefix_whole}
-use Rattle.bihash_steps.proofs.Informed.{answered_informed, bears_own}
+use Rattle.bihash_steps.proofs.PushedCalls.{push_numbers, push_whole, push_short, push-length, push_renumbers}
+use Rattle.bihash_steps.proofs.WholeHistories.{prefix_whole}
+use Rattle.bihash_steps.proofs.InformedViews.{answered_informed, bears_own}
 use Rattle.bihash_steps.proofs.bucket_steps.WordFields.{unlocked_word}
 
 module _ (z : Sizes) (s : State (Unit {0}) View) (r : WordRule z s) where

@@ -31,9 +31,9 @@ use Rattle.bihash_steps.specs.declared.view.View.{View}
 use Rattle.bihash_steps.proofs.KnownLists.{lawful_set}
 use Rattle.bihash_steps.proofs.Lists.{there, no_row}
 use Rattle.bihash_steps.proofs.Frames.{Keeps, Undisturbed, store_keeps, store_lock_beside, more_writes, used_more, more_short, moved}
-use Rattle.bihash_steps.proofs.Runs.{beside_bucket, block_keeps, front_still, store_still, count_still, bucket_after, bucket_inside, runs_still}
+use Rattle.bihash_steps.proofs.OwnedWords.{beside_bucket, block_keeps, front_still, store_still, count_still, bucket_after, bucket_inside, runs_still}
 use Rattle.bihash_steps.proofs.Put.{put, put_here, put_else}
-use Rattle.bihash_steps.proofs.Pushed.{push-length, push_numbers, push_whole, push_number, push_short, acting_is}
+use Rattle.bihash_steps.proofs.PushedCalls.{push-length, push_numbers, push_whole, push_number, push_short, acting_is}
 use Rattle.bihash_steps.proofs.LogEvents.{write_rule, write_enters}
 use Rattle.bihash_steps.proofs.bucket_steps.Written.{after_last, list_more, bearers_more, written_informed}
 

@@ -28,10 +28,10 @@ use Rattle.bihash_steps.specs.declared.view.HeldBlock.{HeldBlock}
 use Rattle.bihash_steps.specs.declared.view.View.{View}
 use Rattle.bihash_steps.proofs.KnownLists.{lawful_set}
 use Rattle.bihash_steps.proofs.Frames.{free_own, more_writes, used_more, store_keeps, store_lock_beside}
-use Rattle.bihash_steps.proofs.Runs.{front_still, store_still}
+use Rattle.bihash_steps.proofs.OwnedWords.{front_still, store_still}
 use Rattle.bihash_steps.proofs.Exchange.{passes}
 use Rattle.bihash_steps.proofs.Put.{put, put_here, put_else}
-use Rattle.bihash_steps.proofs.Pushed.{push-length}
+use Rattle.bihash_steps.proofs.PushedCalls.{push-length}
 use Rattle.bihash_steps.proofs.bucket_steps.Publish.{state_after, no_shorter, held_bucket, bucket_in, Settles, writes_word, written_enters}
 
 -- ---- One write more

@@ -23,9 +23,9 @@ use Rattle.bihash_steps.specs.declared.view.Extent.{Extent}
 use Rattle.bihash_steps.specs.declared.view.View.{View}
 use Rattle.bihash_steps.proofs.KnownLists.{lawful_here, logged_at}
 use Rattle.bihash_steps.proofs.Frames.{free_none, free_own}
-use Rattle.bihash_steps.proofs.Runs.{beside_bucket, block_keeps, front_still, store_still, count_still, bucket_after, bucket_inside}
-use Rattle.bihash_steps.proofs.Pushed.{push_numbers, push_whole, push_number, push_short, push-length}
-use Rattle.bihash_steps.proofs.Informed.{answered_informed, bears_own}
+use Rattle.bihash_steps.proofs.OwnedWords.{beside_bucket, block_keeps, front_still, store_still, count_still, bucket_after, bucket_inside}
+use Rattle.bihash_steps.proofs.PushedCalls.{push_numbers, push_whole, push_number, push_short, push-length}
+use Rattle.bihash_steps.proofs.InformedViews.{answered_informed, bears_own}
 use Rattle.bihash_steps.proofs.CountWord.{kept_log}
 use Rattle.bihash_steps.proofs.LogEvents.{read_rule, read_enters, read_is_logged}
 use Rattle.bihash_steps.proofs.bucket_steps.Relocks.{relocking, relocked_rule}

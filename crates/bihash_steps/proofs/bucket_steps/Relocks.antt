@@ -27,7 +27,7 @@ use Rattle.bihash_steps.proofs.Lists.{no_row}
 use Rattle.bihash_steps.proofs.LogSteps.{histories_logged}
 use Rattle.bihash_steps.proofs.Put.{put, put_here, put_else}
 use Rattle.bihash_steps.proofs.Frames.{Grows, Keeps, Beside, Free, grows_not, store_keeps, store_lock_beside, moved}
-use Rattle.bihash_steps.proofs.Runs.{runs_still}
+use Rattle.bihash_steps.proofs.OwnedWords.{runs_still}
 
 -- as many writes where no history grows
 pub same_writes : (x x' : ℕ → BucketState) → ((c : ℕ) → (x' c).history ≡ (x c).history) → (n : ℕ) → writes_in x' n ≡ writes_in x n

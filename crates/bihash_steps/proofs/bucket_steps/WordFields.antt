@@ -3,7 +3,7 @@ use Rattle.std.proofs.Common.{◌≡◌, ℕ, ◌+◌, ◌*◌, ◌^◌, ◌<◌
 use Rattle.std.specs.Prelude.{slice_index, is_some}
 use Rattle.atomic_table.specs.Table.{State}
 use Rattle.bihash_words.specs.Sizes.{Sizes}
-use Rattle.bihash_words.specs.Words.{Bucket, Fits, bit, packed}
+use Rattle.bihash_words.specs.Words.{Bucket, FitsWord, bit, packed}
 use Rattle.bihash_steps.specs.Words.{buckets, bucket_at}
 use Rattle.bihash_steps.specs.Buckets.{word_of}
 use Rattle.bihash_steps.specs.WordRule.{WordRule}
@@ -20,7 +20,7 @@ bit_once true false e = absurd (omega arith)
 bit_once false true e = absurd (omega arith)
 bit_once false false e = refl
 
-pub packed_once : (x y : Bucket) → Fits x → Fits y → packed x ≡ packed y → x ≡ y
+pub packed_once : (x y : Bucket) → FitsWord x → FitsWord y → packed x ≡ packed y → x ≡ y
 packed_once x y fits fits' same =
     let p = fits.page in let p' = fits'.page in
     let l = fits.log2 in let l' = fits'.log2 in
@@ -44,7 +44,7 @@ none_of None e = refl
 none_of (Some j) e = absurd (true≢false e)
 
 -- a bucket whose word has no lock bit has this extent and version, and nobody has its lock
-pub unlocked_word : (z : Sizes) (s : State (Unit {0}) View) (r : WordRule z s) (b : ℕ) (x : Bucket) → b < buckets z → Fits x → x.locked ≡ false
+pub unlocked_word : (z : Sizes) (s : State (Unit {0}) View) (r : WordRule z s) (b : ℕ) (x : Bucket) → b < buckets z → FitsWord x → x.locked ≡ false
     → slice_index s.words (bucket_at z b) ≡ packed x
     → ((r.table.bucket b).lock ≡ None) × (word_of (r.table.bucket b).extent false (length (r.table.bucket b).history) ≡ x)
 unlocked_word z s r b x inside fits unset here =

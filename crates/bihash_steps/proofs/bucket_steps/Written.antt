@@ -20,9 +20,9 @@ use Rattle.bihash_steps.specs.declared.view.Known.{Known}
 use Rattle.bihash_steps.specs.declared.view.View.{View}
 use Rattle.bihash_steps.proofs.Lists.{within, there, at_end}
 use Rattle.bihash_steps.proofs.Prefixes.{prefix_refl, after_longer}
-use Rattle.bihash_steps.proofs.Lawful.{still_legal}
-use Rattle.bihash_steps.proofs.Pushed.{push-length, push_renumbers, acting_is}
-use Rattle.bihash_steps.proofs.Informed.{known_learned, known_else, learned_grows, MayPush, bears_own, pushed_lawful}
+use Rattle.bihash_steps.proofs.LawfulCallers.{still_legal}
+use Rattle.bihash_steps.proofs.PushedCalls.{push-length, push_renumbers, acting_is}
+use Rattle.bihash_steps.proofs.InformedViews.{known_learned, known_else, learned_grows, MayPush, bears_own, pushed_lawful}
 
 -- ---- A history with one write more
 

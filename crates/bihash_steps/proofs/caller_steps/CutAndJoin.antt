@@ -22,7 +22,7 @@ use Rattle.bihash_steps.specs.declared.view.Holdings.{Holdings}
 use Rattle.bihash_steps.specs.declared.view.View.{View}
 use Rattle.bihash_steps.proofs.Lists.{at_end, at_either, at_take, at_drop, no_row, within}
 use Rattle.bihash_steps.proofs.Prefixes.{prefix_refl}
-use Rattle.bihash_steps.proofs.Lawful.{IsPart, first_part, other_part, part_informed, part_lawful, part_numbers, both_informed, both_numbers}
+use Rattle.bihash_steps.proofs.LawfulCallers.{IsPart, first_part, other_part, part_informed, part_lawful, part_numbers, both_informed, both_numbers}
 use Rattle.bihash_steps.specs.Logs.{IsLogged}
 use Rattle.bihash_steps.proofs.LogLemmas.{begins_refl}
 use Rattle.bihash_steps.proofs.LogSteps.{cut_logged, joined_logged, log_begins, one_log}

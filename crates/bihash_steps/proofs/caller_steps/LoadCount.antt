@@ -26,10 +26,10 @@ use Rattle.bihash_steps.specs.declared.view.Meeting.{Meeting}
 use Rattle.bihash_steps.specs.declared.view.View.{View}
 use Rattle.bihash_steps.proofs.KnownLists.{known_bearers, lawful_here, lawful_set, logged_at, none_past}
 use Rattle.bihash_steps.proofs.Lists.{at_end, there}
-use Rattle.bihash_steps.proofs.Whole.{prefix_whole}
+use Rattle.bihash_steps.proofs.WholeHistories.{prefix_whole}
 use Rattle.bihash_steps.proofs.Prefixes.{one_begins}
 use Rattle.bihash_steps.proofs.Numbers.{few_numbers, whole_by_count}
-use Rattle.bihash_steps.proofs.Lawful.{more_informed, more_numbers, parts_apart, wider}
+use Rattle.bihash_steps.proofs.LawfulCallers.{more_informed, more_numbers, parts_apart, wider}
 use Rattle.bihash_steps.proofs.LogSteps.{numbered_logged}
 use Rattle.bihash_steps.proofs.NotedViews.{counted_view, recounted_view, unnoted_view}
 use Rattle.bihash_steps.proofs.CountWord.{SameButCount, kept_log, still_lock, still_pool, still_block, one_moved, stays, some_words, others_apart, not_lone}

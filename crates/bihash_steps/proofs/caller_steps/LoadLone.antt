@@ -16,7 +16,7 @@ use Rattle.bihash_steps.specs.declared.view.View.{View}
 use Rattle.bihash_steps.proofs.KnownLists.{lawful_here, logged_at}
 use Rattle.bihash_steps.proofs.CountWord.{kept_log, others_apart, stays_at}
 use Rattle.bihash_steps.proofs.NotedViews.{seen_view}
-use Rattle.bihash_steps.proofs.Runs.{at_same}
+use Rattle.bihash_steps.proofs.OwnedWords.{at_same}
 
 -- the first words, and the next one
 stands_more : (words xs : List ℕ) (at : ℕ) → at ≡ length xs → Stands words 0 xs → Stands words 0 (xs ++ slice_index words at ∷ [])

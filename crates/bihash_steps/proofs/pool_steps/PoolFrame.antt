@@ -26,7 +26,7 @@ use Rattle.bihash_steps.proofs.CountWord.{held_still, others_apart, stays_at, ke
 use Rattle.bihash_steps.proofs.NotedViews.{unnoted_view}
 use Rattle.bihash_steps.proofs.Frames.{Free, free_none, free_own, grows_not, keeps_refl, moved}
 use Rattle.bihash_steps.proofs.bucket_steps.Relocks.{same_informed}
-use Rattle.bihash_steps.proofs.Runs.{beside_store, front_still, count_still}
+use Rattle.bihash_steps.proofs.OwnedWords.{beside_store, front_still, count_still}
 
 -- seat id has stored this word at i, and has the view w
 abbrev pub after_store : State (Unit {0}) View → ℕ → View → ℕ → ℕ → State (Unit {0}) View

@@ -23,7 +23,7 @@ use Rattle.bihash_steps.specs.declared.view.View.{View}
 use Rattle.bihash_steps.proofs.Lists.{there}
 use Rattle.bihash_steps.proofs.CountWord.{front, not_lone}
 use Rattle.bihash_steps.proofs.Frames.{free_none, free_own}
-use Rattle.bihash_steps.proofs.Runs.{block_keeps, runs_still}
+use Rattle.bihash_steps.proofs.OwnedWords.{block_keeps, runs_still}
 use Rattle.bihash_steps.proofs.pool_steps.PoolWords.{list_still}
 use Rattle.bihash_steps.proofs.pool_steps.PoolFrame.{after_store, unnoted_rule, word_inside, held_store, store_moved}
 

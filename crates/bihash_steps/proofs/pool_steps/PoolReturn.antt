@@ -18,7 +18,7 @@ use Rattle.bihash_steps.specs.declared.view.HeldBlock.{HeldBlock}
 use Rattle.bihash_steps.specs.declared.view.View.{View}
 use Rattle.bihash_steps.proofs.CountWord.{front}
 use Rattle.bihash_steps.proofs.Frames.{list_inside}
-use Rattle.bihash_steps.proofs.Runs.{block_keeps, runs_still}
+use Rattle.bihash_steps.proofs.OwnedWords.{block_keeps, runs_still}
 use Rattle.bihash_steps.proofs.Exchange.{parted_relisted}
 use Rattle.bihash_steps.proofs.pool_steps.PoolWords.{list_after, list_still, same_list}
 use Rattle.bihash_steps.proofs.pool_steps.PoolFrame.{after_store, word_inside, held_store, known_store, known_runs, held_moved}

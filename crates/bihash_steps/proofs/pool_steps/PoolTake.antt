@@ -18,7 +18,7 @@ use Rattle.bihash_steps.specs.declared.view.LockedStore.{LockedStore}
 use Rattle.bihash_steps.specs.declared.view.HeldBlock.{HeldBlock}
 use Rattle.bihash_steps.specs.declared.view.View.{View}
 use Rattle.bihash_steps.proofs.CountWord.{front}
-use Rattle.bihash_steps.proofs.Runs.{word_of_block}
+use Rattle.bihash_steps.proofs.OwnedWords.{word_of_block}
 use Rattle.bihash_steps.proofs.Exchange.{returned_run, parted_unlisted, parted_grown}
 use Rattle.bihash_steps.proofs.pool_steps.PoolWords.{same_power, list_still, span, span_long, span_still}
 use Rattle.bihash_steps.proofs.pool_steps.PoolFrame.{after_store, word_inside, known_store, known_runs, held_moved}

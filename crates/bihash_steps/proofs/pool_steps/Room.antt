@@ -21,7 +21,7 @@ use Rattle.bihash_steps.specs.WordRule.{WordRule}
 use Rattle.bihash_steps.specs.declared.view.PageStore.{PageStore}
 use Rattle.bihash_steps.specs.declared.view.HeldBlock.{HeldBlock}
 use Rattle.bihash_steps.specs.declared.view.View.{View}
-use Rattle.bihash_steps.proofs.Runs.{page_below}
+use Rattle.bihash_steps.proofs.OwnedWords.{page_below}
 use Rattle.bihash_steps.proofs.Exchange.{returned_run, parted_relisted}
 
 -- ---- n numbers below m that differ are at most m

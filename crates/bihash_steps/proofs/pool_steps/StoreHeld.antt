@@ -20,7 +20,7 @@ use Rattle.bihash_steps.specs.declared.view.View.{View}
 use Rattle.bihash_steps.proofs.Lists.{no_row}
 use Rattle.bihash_steps.proofs.CountWord.{front, kept_log}
 use Rattle.bihash_steps.proofs.Frames.{Beside, free_none, grows_not, keeps_refl, stands_beside, store_keeps, store_lock_beside, moved}
-use Rattle.bihash_steps.proofs.Runs.{near_end, run_word, beside_block, stored_stands, store_still, count_still, page_after, word_of_block, runs_still}
+use Rattle.bihash_steps.proofs.OwnedWords.{near_end, run_word, beside_block, stored_stands, store_still, count_still, page_after, word_of_block, runs_still}
 
 module _ (z : Sizes) (s : State (Unit {0}) View) (r : WordRule z s) (id : ℕ) (v : View) (at : get_elem? s.views id ≡ some v)
     (acts : 1 ≤ length v.records) (h : HeldBlock) (held : v.holds.block ≡ Some h) (k n : ℕ) (below : k < block_words z h.page h.log2) where

@@ -5,7 +5,7 @@ ghost use Rattle.bihash_words.specs.Sizes.{sizes_of};
 ghost use Rattle.bihash_words.specs.Expiries.{no_recycling};
 ghost use Rattle.bihash_words.specs.declared.patch.Change.TheVariants.{Keep};
 ghost use Rattle.bihash_words.specs.declared.patch.Reply.TheVariants.{Full};
-ghost use Rattle.bihash_words.specs.Words.{Fits};
+ghost use Rattle.bihash_words.specs.Words.{FitsWord};
 ghost use Rattle.bihash_steps.specs.Callers.{known_at};
 ghost use Rattle.bihash_steps.specs.Buckets.{word_of, open_word};
 ghost use Rattle.bihash_steps.specs.Words.{bucket_at, page_at};
@@ -86,7 +86,7 @@ pub(crate) struct Answers<S, E> {
 
 impl<S: Shape, E: Calling> Play<(), View> for Answers<S, E> {
     ghost then = { λ _ me _ next. TellsEntry (sizes_of S.Shape) (λ v. view_after_answer v E.call) E.call me next
-        × ((l : LockedBucket) → me.0.holds.bucket ≡ Some l → Fits (word_of l.extent false l.version)
+        × ((l : LockedBucket) → me.0.holds.bucket ≡ Some l → FitsWord (word_of l.extent false l.version)
         × (l.version ≡ length (known_at me.0.known l.bucket))) };
 }
 

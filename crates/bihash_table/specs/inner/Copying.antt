@@ -13,7 +13,6 @@ use Rattle.bihash_steps.specs.declared.view.LockedStore.{LockedStore}
 use Rattle.bihash_steps.specs.declared.view.HeldBlock.{HeldBlock}
 use Rattle.bihash_steps.specs.declared.view.PageStore.{PageStore}
 use Rattle.bihash_steps.specs.declared.view.View.{View}
-use Rattle.bihash_table.specs.inner.Places.{ArePlaces}
 use Rattle.bihash_table.specs.inner.Scans.{IsWordOf}
 
 -- the caller holds this block, which begins at this page, and has no note
@@ -39,12 +38,8 @@ pub record IsPlaced {A K : Type 0} (g : Ghosts A K) (s t : CallerState) (h : Hel
   pub value_is : value_in (sizes_of g) words place ≡ value
   pub before : (k : ℕ) → k < place * place_words (sizes_of g) → slice_index words k ≡ slice_index h.words k
 
--- these places were written into the held block, as many as it has
-abbrev pub AreWritten : {A K : Type 0} → Ghosts A K → CallerState → CallerState → HeldBlock → List (K × ℕ) → Type 0
-AreWritten g s t h ps = (words : List ℕ) × (t ≡ with_view s (with_words s.view h words)) × ArePlaces g ps words
-
 -- The caller of this row holds a block that begins at this page and has so many places at least.
-pub record HoldsBlock (z : Sizes) (row : _) (s : CallerState) (page count : ℕ) : Type 0 where
+pub record HoldsOwnBlock (z : Sizes) (row : _) (s : CallerState) (page count : ℕ) : Type 0 where
   pub own : s.row ≡ row
   pub sound : IsSound z
   pub block : HeldBlock
@@ -102,7 +97,7 @@ pub record HoldsOld (v : View) (n : LockedStore) (e : Extent) (words : List ℕ)
   pub settled : n.store.unpublished ≡ false
 
 -- The caller of this row has the allocation lock, and may give back this block.
-pub record MayReturn (z : Sizes) (row : _) (s : CallerState) (log2 page : ℕ) : Type 0 where
+pub record MayGiveBackBlock (z : Sizes) (row : _) (s : CallerState) (log2 page : ℕ) : Type 0 where
   pub own : s.row ≡ row
   pub sound : IsSound z
   pub small : log2 ≤ z.max_log2

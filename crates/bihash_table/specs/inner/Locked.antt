@@ -10,7 +10,7 @@ use Rattle.std.specs.Prelude.{◌≡◌, ◌≢◌, ℕ, ◌+◌, ◌^◌, ◌<�
 use Rattle.bihash_words.specs.Patches.{IsStorable}
 use Rattle.bihash_words.specs.Sizes.{Sizes}
 use Rattle.bihash_words.specs.declared.patch.Change.{Change}
-use Rattle.bihash_words.specs.Words.{Fits, packed}
+use Rattle.bihash_words.specs.Words.{FitsWord, packed}
 use Rattle.bihash_steps.specs.Words.{buckets, block_words}
 use Rattle.bihash_steps.specs.Histories.{IsPrefix, IsWriteList, bounds_of}
 use Rattle.bihash_steps.specs.Callers.{known_at, opening_at}
@@ -33,7 +33,7 @@ pub record HasLock (z : Sizes) (v : View) (b word : ℕ) (l : LockedBucket) : Ty
   pub held : v.holds ≡ record nothing_held { bucket = Some l }
   pub bucket : l.bucket ≡ b
   pub version : l.version ≡ length (known_at v.known b)
-  pub fits : Fits (word_of l.extent false l.version)
+  pub fits : FitsWord (word_of l.extent false l.version)
   pub stood : word ≡ packed (word_of l.extent false l.version)
   pub clean : l.stored ≡ false
   pub near : l.extent.page + 2 ^ l.extent.size.log2 ≤ z.pages + 1

@@ -2,7 +2,7 @@
 use Rattle.std.specs.Prelude.{◌≡◌, ◌≢◌, ℕ, ◌+◌, ◌-◌, ◌*◌, ◌^◌, ◌<◌, ◌≤◌, Bool, true, false, List, length, slice_index, Option, Some, None}
 use Rattle.bihash_words.specs.Sizes.{Sizes, sizes_of}
 use Rattle.bihash_words.specs.declared.shape.Shape.{Ghosts}
-use Rattle.bihash_words.specs.Words.{Fits, packed}
+use Rattle.bihash_words.specs.Words.{FitsWord, packed}
 use Rattle.bihash_steps.specs.Words.{buckets, block_words, place_words}
 use Rattle.bihash_steps.specs.Histories.{IsPrefix}
 use Rattle.bihash_steps.specs.Callers.{known_at}
@@ -24,7 +24,7 @@ pub record NotesBlock (z : Sizes) (v : View) (word : ℕ) (e : Extent) : Type 0 
   pub open_bucket : OpenBucket
   pub noted : v.notes.open_bucket ≡ Some open_bucket
   pub extent : open_bucket.extent ≡ e
-  pub fits : Fits (word_of e false open_bucket.version)
+  pub fits : FitsWord (word_of e false open_bucket.version)
   pub stood : word ≡ packed (word_of e false open_bucket.version)
   pub small : e.size.log2 ≤ z.max_log2
   pub near : e.page + 2 ^ e.size.log2 ≤ z.pages + 1
@@ -72,10 +72,6 @@ pub record MayRead (z : Sizes) (row : _) (s : CallerState) (word count : ℕ) : 
   pub extent : Extent
   pub block : NotesBlock z s.view word extent
   pub inside : count ≤ places extent.page extent.size.log2
-
--- word k of place i
-abbrev pub IsWordAt : Sizes → ℕ → ℕ → ℕ → Extent → List ℕ → Type 0
-IsWordAt z i k word e block = word ≡ slice_index block (i * place_words z + k)
 
 -- the key and the value that are at place i
 abbrev pub StandsAt : {A K : Type 0} → Ghosts A K → ℕ → K × ℕ → Extent → List ℕ → Type 0

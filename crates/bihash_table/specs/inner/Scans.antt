@@ -1,7 +1,7 @@
 -- What the word of a bucket tells a search of its block, and which places a search looks at.
 use Rattle.std.specs.Prelude.{◌≡◌, ◌↔◌, ℕ, ◌*◌, ◌^◌, ◌<◌, ◌≤◌, false, List}
 use Rattle.bihash_words.specs.Sizes.{Sizes, IsSound}
-use Rattle.bihash_words.specs.Words.{Fits, packed}
+use Rattle.bihash_words.specs.Words.{FitsWord, packed}
 use Rattle.bihash_steps.specs.Blocks.{places}
 use Rattle.bihash_steps.specs.Buckets.{word_of}
 use Rattle.bihash_steps.specs.declared.view.Extent.{Extent}
@@ -10,7 +10,7 @@ use Rattle.bihash_table.specs.inner.Places.{IsOpenTo}
 -- the unlocked word of a bucket that has this block
 pub record IsWordOf (z : Sizes) (word : ℕ) (e : Extent) : Type 0 where
   pub version : ℕ
-  pub fits : Fits (word_of e false version)
+  pub fits : FitsWord (word_of e false version)
   pub stood : word ≡ packed (word_of e false version)
   pub small : e.size.log2 ≤ z.max_log2
 

@@ -55,7 +55,7 @@ pub record LocksSeen (z : Sizes) (v w : View) (b word : ℕ) : Type 0 where
   pub reads : AreReadIn bucket.reads bucket.block
 
 -- a look at bucket b, which a lone caller finds unlocked: its word where it was
-pub record TellsLook (z : Sizes) (s t : CallerState) (b : ℕ) (r : Option ℕ) : Type 0 where
+pub record TellsUnlocked (z : Sizes) (s t : CallerState) (b : ℕ) (r : Option ℕ) : Type 0 where
   pub same : t ≡ with_view s t.view
   pub opened : IfSome r (IsOpened z s.view t.view b)
   pub contended : IfNone r (IsContended z s.view t.view b)
@@ -64,7 +64,7 @@ pub record TellsLook (z : Sizes) (s t : CallerState) (b : ℕ) (r : Option ℕ) 
   pub lawful : IsLawfulCaller z t.view
 
 -- a try to lock bucket b from the word that it was seen with, at which a lone caller succeeds
-pub record TellsLock (z : Sizes) (s t : CallerState) (b word : ℕ) (won : Bool) : Type 0 where
+pub record TellsLockTry (z : Sizes) (s t : CallerState) (b word : ℕ) (won : Bool) : Type 0 where
   pub same : t ≡ with_view s t.view
   pub locked : won ≡ true → LocksSeen z s.view t.view b word
   pub contended : won ≡ false → IsContended z s.view t.view b

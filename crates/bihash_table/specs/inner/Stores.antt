@@ -1,7 +1,7 @@
 -- Words that were stored at one place of a locked block.
 use Rattle.std.specs.Prelude.{◌≡◌, ◌⊎◌, ℕ, ◌+◌, ◌*◌, ◌^◌, ◌<◌, ◌≤◌, Bool, false, List, length, slice_index, Some}
 use Rattle.bihash_words.specs.Sizes.{Sizes}
-use Rattle.bihash_words.specs.Words.{Fits, packed}
+use Rattle.bihash_words.specs.Words.{FitsWord, packed}
 use Rattle.bihash_steps.specs.Words.{place_words}
 use Rattle.bihash_steps.specs.Blocks.{places}
 use Rattle.bihash_steps.specs.Buckets.{word_of}
@@ -13,7 +13,7 @@ use Rattle.bihash_steps.specs.declared.view.View.{View}
 pub record HoldsPlace (z : Sizes) (v : View) (word place : ℕ) : Type 0 where
   pub lock : LockedBucket
   pub held : v.holds.bucket ≡ Some lock
-  pub fits : Fits (word_of lock.extent false lock.version)
+  pub fits : FitsWord (word_of lock.extent false lock.version)
   pub stood : word ≡ packed (word_of lock.extent false lock.version)
   pub near : lock.extent.page + 2 ^ lock.extent.size.log2 ≤ z.pages + 1
   pub small : lock.extent.size.log2 ≤ z.max_log2

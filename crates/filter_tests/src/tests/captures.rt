@@ -1,7 +1,7 @@
 //! Captures byte by byte, with the packets that the format gives them, of which `checks/rows/captures.txt` has more.
 use super::frames::UDP;
 use packet_view::{
-    Order, Packet, Packets, PacketsAhead, Piece, Stop, capture_header, check_capture,
+    Order, Packet, PacketBursts, Packets, Piece, Stop, capture_header, check_capture,
     front_records, next_record, read_capture,
 };
 use std::test::Fail;
@@ -60,7 +60,7 @@ fn finds_the_whole_records_at_the_front(rt: HostRuntime) {
     assert_eq!(rt; (front.records.count(), front.rest.len()), (2, 5));
     assert_eq!(rt; front.stop, Stop::Truncated);
     assert_eq!(rt;
-        front_of(Packets::Standing(front.records)),
+        front_of(Packets::Records(front.records)),
         (2, Some(100), 1)
     );
 }
@@ -77,7 +77,7 @@ fn reads_the_packets_of_a_capture(rt: HostRuntime) -> Result<(), Fail> {
 fn takes_the_packets_of_a_capture_where_they_stand(rt: HostRuntime) -> Result<(), Fail> {
     let checked = check_capture(&LITTLE[..197], 0)?;
     assert!(rt; checked.truncated);
-    let records = Packets::Standing(checked.records);
+    let records = Packets::Records(checked.records);
     assert_eq!(rt; front_of(records), (2, Some(100), 1));
     Ok(())
 }
@@ -90,7 +90,7 @@ fn front_of(mut packets: Packets<'_>) -> (usize, Option<u32>, usize) {
 }
 
 fn front_of_list<'a>(packets: &'a [Packet<'a>]) -> (usize, Option<u32>, usize) {
-    front_of(Packets::Listed(packets))
+    front_of(Packets::Slice(packets))
 }
 
 // How many bytes the frame of this number has: every tenth is longer than the others.
@@ -99,7 +99,7 @@ fn frame_length(number: u8) -> u8 {
 }
 
 // Whether these are the packets of the frames 0 to 149, each at the second of its number, with bytes of its number.
-fn are_numbered(mut packets: PacketsAhead<'_>) -> bool {
+fn are_numbered(mut packets: PacketBursts<'_>) -> bool {
     for number in 0..150u8 {
         let Some(packet) = packets.next() else {
             return false;
@@ -116,7 +116,7 @@ fn are_numbered(mut packets: PacketsAhead<'_>) -> bool {
 }
 
 fn are_listed_by_number<'a>(packets: &'a [Packet<'a>]) -> bool {
-    are_numbered(PacketsAhead::new(Packets::Listed(packets)))
+    are_numbered(PacketBursts::new(Packets::Slice(packets)))
 }
 
 #[test]
@@ -133,7 +133,7 @@ fn takes_packets_that_are_found_ahead(rt: HostRuntime) -> Result<(), Fail> {
     let checked = check_capture(&bytes, 0)?;
     assert_eq!(rt; checked.records.count(), 150);
     assert!(rt; !checked.truncated);
-    assert!(rt; are_numbered(PacketsAhead::new(Packets::Standing(checked.records))));
+    assert!(rt; are_numbered(PacketBursts::new(Packets::Records(checked.records))));
     let capture = read_capture(rt.alloc(), &bytes, 0)?;
     assert!(rt; are_listed_by_number(&capture.packets));
     Ok(())

@@ -8,7 +8,9 @@ use super::matching::{rule, udp};
 use super::{EVERY, TIMES};
 use acl_policy::Action;
 use bihash_words::{Change, Patch, Reply};
-use flow_filter::{HasReading, LazyPatch, PacketFlow, ReadyFilter, RuleSearch, Ruleset, Verdict};
+use flow_filter::{
+    HasReading, InterfaceFilter, LazyPatch, PacketFlow, RuleSearch, Ruleset, Verdict,
+};
 use packet_view::Direction;
 use session_state::orient;
 use std::marker::Brand;
@@ -25,7 +27,7 @@ struct Outcome {
 }
 
 fn outcome_as<D: HasReading>(
-    filter: &ReadyFilter<'_>,
+    filter: &InterfaceFilter<'_>,
     packet: PacketFlow<'_>,
     reply: Reply,
     found: Option<u64>,
@@ -43,7 +45,7 @@ fn outcome_as<D: HasReading>(
 }
 
 fn outcome_of(
-    filter: &ReadyFilter<'_>,
+    filter: &InterfaceFilter<'_>,
     packet: PacketFlow<'_>,
     reply: Reply,
     found: Option<u64>,
@@ -56,7 +58,7 @@ fn udp_outcome(action: Action, moment: u32, reply: Reply, found: Option<u64>) ->
     let rules = [rule(action, 17, EVERY, EVERY, (0, 0))];
     let search = RuleSearch::Listed(&rules);
     let listed = Ruleset { search };
-    let filter = ReadyFilter {
+    let filter = InterfaceFilter {
         interface: 0,
         own: None,
         inbound: listed,

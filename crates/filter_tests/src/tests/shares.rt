@@ -3,7 +3,7 @@ ghost use Rattle.std.specs.Prelude.{◌≤◌, ◌<◌, ◌+◌, ◌^◌, length
 
 use bihash_words::{ShapeV4, ShapeV6, flow_shapes_are_sound};
 use flow_dealing::Dealing;
-use packet_dealing::{Dealer, DealtPacket, DealtPart, deal_packets, dealt_to};
+use packet_dealing::{Dealer, DealtChunk, DealtPacket, deal_packets, worker_of_packet};
 use packet_view::{Packet, Packets};
 use std::alloc::{AllocError, Global};
 use std::process::Abort;
@@ -48,14 +48,14 @@ fn deal<'a, R: Threads + Sync>(
     workers: usize,
     number: usize,
     packets: &'a [Packet<'a>],
-) -> Result<Vec<DealtPart<'a>>, AllocError>
+) -> Result<Vec<DealtChunk<'a>>, AllocError>
     requires some { 1 ≤ workers }
     requires few { workers ≤ 16 }
     requires fits { number + length packets.now < 2 ^ 64 }
 {
     flow_shapes_are_sound();
     let dealer = Dealer { dealing, workers };
-    deal_packets::<ShapeV4, ShapeV6, R>(rt, alloc, dealer, number, Packets::Listed(packets))
+    deal_packets::<ShapeV4, ShapeV6, R>(rt, alloc, dealer, number, Packets::Slice(packets))
 }
 
 // These are a worker's packets, of those from this place on that have these workers, and no others.
@@ -88,7 +88,7 @@ fn expect_own<'a, R: Abort>(
 // These are the packets, in their order, each with its worker, and in its list alone.
 fn expect_packets<'a, R: Abort>(
     rt: &R,
-    parts: Vec<DealtPart<'a>>,
+    parts: Vec<DealtChunk<'a>>,
     packets: &'a [Packet<'a>],
     judges: [u8; 7],
 ) {
@@ -151,7 +151,10 @@ fn one_packet_has_its_worker(rt: HostRuntime) {
     };
     let request = four(17, 1, 2, [0x03, 0xe8, 0, 53]);
     let (first, second, third) = (seen(100, &request), seen(100, &ARP), seen(100, &SIX));
-    assert_eq!(rt; dealt_to::<ShapeV4, ShapeV6>(&dealer, 9, &first), 1);
-    assert_eq!(rt; dealt_to::<ShapeV4, ShapeV6>(&dealer, 9, &second), 0);
-    assert_eq!(rt; dealt_to::<ShapeV4, ShapeV6>(&dealer, 9, &third), 2);
+    assert_eq!(rt; worker_of_packet::<ShapeV4, ShapeV6>(&dealer, 9, &first), 1);
+    assert_eq!(rt;
+        worker_of_packet::<ShapeV4, ShapeV6>(&dealer, 9, &second),
+        0
+    );
+    assert_eq!(rt; worker_of_packet::<ShapeV4, ShapeV6>(&dealer, 9, &third), 2);
 }

@@ -109,7 +109,7 @@ fn verdicts<'a, R: Threads + Wait + Sync, G: Gate + Sync>(
         rt,
         alloc,
         filter,
-        Packets::Listed(packets),
+        Packets::Slice(packets),
         workers,
         gate,
         dealing,
@@ -148,10 +148,10 @@ fn verdicts_on_parts<R: Threads + Wait + Sync, G: Gate + Sync>(
     let Ok(begun) = Workers::new(alloc, setup, callers) else {
         return Err(RunFault::Memory);
     };
-    let Ok(once) = begun.judge(alloc, Packets::Listed(first)) else {
+    let Ok(once) = begun.judge(alloc, Packets::Slice(first)) else {
         return Err(RunFault::Memory);
     };
-    let Ok(twice) = once.judge(alloc, Packets::Listed(second)) else {
+    let Ok(twice) = once.judge(alloc, Packets::Slice(second)) else {
         return Err(RunFault::Memory);
     };
     twice.end(alloc)

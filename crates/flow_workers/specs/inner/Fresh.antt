@@ -4,7 +4,7 @@ use Rattle.bihash_steps.specs.Views.{empty_record, no_openings}
 use Rattle.bihash_steps.specs.declared.view.View.{View}
 
 -- a caller of one number without calls, of a table whose buckets began empty
-pub record IsFresh (v : View) : Type 0 where
+pub record IsFreshView (v : View) : Type 0 where
   pub number : ℕ
   pub records : v.records ≡ empty_record number ∷ []
   pub openings : v.known.openings ≡ no_openings

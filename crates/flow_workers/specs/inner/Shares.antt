@@ -1,18 +1,18 @@
--- The shares of workers that judged nothing, and the workers of packets in parts.
+-- The shares of workers that judged nothing, and the workers of packets in chunks.
 use Rattle.std.specs.Prelude.{◌≡◌, ◌≤◌, ◌<◌, ◌++◌, ℕ, List, [], ◌∷◌, length, slice_index_or}
 use Rattle.bihash_words.specs.declared.shape.Shape.{Ghosts}
-use Rattle.packet_dealing.specs.declared.dealt_part.DealtPart.{DealtPart}
+use Rattle.packet_dealing.specs.declared.dealt_chunk.DealtChunk.{DealtChunk}
 use Rattle.flow_workers.specs.declared.share.Share.{Share}
 use Rattle.flow_workers.specs.declared.tables.Callers.{Callers}
 use Rattle.flow_workers.specs.declared.tables.Tables.{Tables}
 use Rattle.flow_workers.specs.Callers.{AreIdle}
-use Rattle.flow_workers.specs.inner.Fresh.{IsFresh}
+use Rattle.flow_workers.specs.inner.Fresh.{IsFreshView}
 
 -- callers of these tables that hold nothing and made no call
 pub record AreFresh {A B K L : Type 0} {ga : Ghosts A K} {gb : Ghosts B L} (tables : Tables A B K L)
     (callers : Callers A B K L ga gb) : Type 0 where
   pub idle : AreIdle ga gb tables callers
-  pub fresh : IsFresh callers.four.seat.view × IsFresh callers.six.seat.view
+  pub fresh : IsFreshView callers.four.seat.view × IsFreshView callers.six.seat.view
 
 -- they can be split among so many workers
 pub record MaySplit {A B K L : Type 0} {ga : Ghosts A K} {gb : Ghosts B L} (tables : Tables A B K L)
@@ -32,7 +32,7 @@ pub record AreSplit {A B K L : Type 0} {ga : Ghosts A K} {gb : Ghosts B L} (tabl
   pub count : length shares ≡ workers
   pub each : (i : ℕ) (d : Share A B K L ga gb) → i < workers → IsUnused tables (slice_index_or shares i d)
 
--- the workers that these parts have, in their order
-abbrev pub workers_in : List DealtPart → List ℕ
+-- the workers that these chunks have, in their order
+abbrev pub workers_in : List DealtChunk → List ℕ
 workers_in [] = []
-workers_in (part ∷ parts) = part.workers.items ++ workers_in parts
+workers_in (chunk ∷ chunks) = chunk.workers.items ++ workers_in chunks

@@ -1,12 +1,12 @@
--- All workers at packets of a run that are judged one after the other.
+-- All workers at packets of a batch that are judged one after the other.
 use Rattle.std.specs.Prelude.{◌≡◌, ◌≤◌, ◌<◌, ◌+◌, ◌++◌, ◌^◌, ℕ, List, Some, length, slice_get, slice_index_or}
 use Rattle.packet_view.specs.Captures.{PacketFacts}
-use Rattle.packet_view.specs.CheckedCaptures.{held}
+use Rattle.packet_view.specs.CheckedCaptures.{remaining}
 use Rattle.bihash_words.specs.declared.shape.Shape.{Ghosts}
 use Rattle.packet_dealing.specs.Dealt.{AreWorkers, IsDealtTo}
 use Rattle.packet_dealing.specs.declared.dealer.Dealer.{Dealer}
 use Rattle.flow_workers.specs.declared.setup.Setup.{Setup}
-use Rattle.flow_workers.specs.declared.share.Run.{Run}
+use Rattle.flow_workers.specs.declared.share.Batch.{Batch}
 use Rattle.flow_workers.specs.declared.share.Share.{Share}
 use Rattle.flow_workers.specs.Callers.{AreIdle, AreShapes}
 use Rattle.flow_workers.specs.inner.Jobs.{dealer_of}
@@ -17,22 +17,22 @@ pub record MayChoose {A B R G K L : Type 0} (ga : Ghosts A K) (gb : Ghosts B L) 
   pub shapes : AreShapes ga gb
   pub some : 1 ≤ setup.workers
 
--- the packet at this place of the run may be judged by its worker, whichever it is: all hold nothing
-pub record MayJudgeNext {A B R G K L : Type 0} (ga : Ghosts A K) (gb : Ghosts B L) (run : Run A B R G K L) (at : ℕ)
+-- the packet at this place of the batch may be judged by its worker, whichever it is: all hold nothing
+pub record MayJudgeNext {A B R G K L : Type 0} (ga : Ghosts A K) (gb : Ghosts B L) (batch : Batch A B R G K L) (at : ℕ)
     (packet : PacketFacts) (shares : List (Share A B K L ga gb)) : Type 0 where
-  pub choose : MayChoose ga gb run.setup
-  pub count : length shares ≡ run.setup.workers
+  pub choose : MayChoose ga gb batch.setup
+  pub count : length shares ≡ batch.setup.workers
   pub idle : (i : ℕ) (d : Share A B K L ga gb) → i < length shares
-      → AreIdle ga gb run.setup.tables.now (slice_index_or shares i d).callers
-  pub fits : run.first + length (held run.packets) < 2 ^ 64
-  pub there : slice_get (held run.packets) at ≡ Some packet
+      → AreIdle ga gb batch.setup.tables.now (slice_index_or shares i d).callers
+  pub fits : batch.first + length (remaining batch.packets) < 2 ^ 64
+  pub there : slice_get (remaining batch.packets) at ≡ Some packet
 
 -- its worker judged it, and the others passed by it
-pub record HasJudgedNext {A B R G K L : Type 0} (ga : Ghosts A K) (gb : Ghosts B L) (run : Run A B R G K L) (at : ℕ)
+pub record HasJudgedNext {A B R G K L : Type 0} (ga : Ghosts A K) (gb : Ghosts B L) (batch : Batch A B R G K L) (at : ℕ)
     (packet : PacketFacts) (old new : List (Share A B K L ga gb)) (worker : ℕ) : Type 0 where
-  pub worked : HaveWorkedOn run at (at + 1) old new
-  pub dealt : IsDealtTo ga gb (dealer_of run.setup) (run.first + at) packet worker
-  pub one : worker < run.setup.workers
+  pub worked : HaveWorkedOn batch at (at + 1) old new
+  pub dealt : IsDealtTo ga gb (dealer_of batch.setup) (batch.first + at) packet worker
+  pub one : worker < batch.setup.workers
 
 -- the workers of so many of these packets, whose numbers begin with this one, were noted after others
 pub record HaveNotedSome {A B K L : Type 0} (ga : Ghosts A K) (gb : Ghosts B L) (dealer : Dealer) (first : ℕ)
@@ -47,8 +47,8 @@ abbrev pub HaveNoted : {A B K L : Type 0} (ga : Ghosts A K) (gb : Ghosts B L) �
     → List ℕ → Type 0
 HaveNoted ga gb dealer first packets = HaveNotedSome ga gb dealer first packets (length packets)
 
--- the packets of the run were judged, and their workers noted
-pub record HaveRun {A B R G K L : Type 0} {ga : Ghosts A K} {gb : Ghosts B L} (run : Run A B R G K L)
+-- the packets of the batch were judged, and their workers noted
+pub record HaveJudgedBatch {A B R G K L : Type 0} {ga : Ghosts A K} {gb : Ghosts B L} (batch : Batch A B R G K L)
     (old new : List (Share A B K L ga gb)) (judges more : List ℕ) : Type 0 where
-  pub worked : HaveWorked run old new
-  pub noted : HaveNoted ga gb (dealer_of run.setup) run.first (held run.packets) judges more
+  pub worked : HaveWorked batch old new
+  pub noted : HaveNoted ga gb (dealer_of batch.setup) batch.first (remaining batch.packets) judges more

@@ -22,20 +22,20 @@ use Rattle.flow_dealing.specs.Wanted.{HaveWanted}
 use Rattle.flow_workers.specs.declared.tables.Callers.{Callers}
 use Rattle.flow_workers.specs.declared.tables.Tables.{Tables}
 use Rattle.flow_workers.specs.Callers.{AreIdle, AreSame, views_of}
-use Rattle.flow_workers.specs.Judging.{IsAway, IsEntered, TookByOneTry}
+use Rattle.flow_workers.specs.Judging.{IsAway, IsFlowEntry, TookByOneTry}
 use Rattle.flow_workers.specs.OutOfPages.{IsFlowOutOfPages}
 use Rattle.flow_workers.specs.inner.Wanted.{KeepWanted}
 
 -- An update of a key by this decision, on the value that its reply tells, with this expiry. It removed a key for its
 -- own, or none.
-abbrev pub told : List ℕ → (Option ℕ → Change) → (ℕ → Bool) → Option (List ℕ) → Reply → Event
-told key decision is_expired removed reply =
+abbrev pub told_event : List ℕ → (Option ℕ → Change) → (ℕ → Bool) → Option (List ℕ) → Reply → Event
+told_event key decision is_expired removed reply =
     recycled_update key (found_by reply) (decision (found_by reply)) is_expired removed reply
 
 -- from the view v to w an update with this expiry was answered so
 abbrev pub IsTold : Sizes → View → View → List ℕ → (Option ℕ → Change) → (ℕ → Bool) → Reply → Type 0
 IsTold z v w words decision is_expired reply =
-    (removed : Option (List ℕ)) × IsAnswered z v w (told words decision is_expired removed reply)
+    (removed : Option (List ℕ)) × IsAnswered z v w (told_event words decision is_expired removed reply)
 
 -- an update of the key of these words that was answered so: s is the caller before it, t after it
 pub record TellsWords {A K : Type 0} (g : Ghosts A K) (s t : CallerState) (words : List ℕ)
@@ -65,7 +65,7 @@ pub record TellsWordsTry {A K : Type 0} (g : Ghosts A K) (s t : CallerState) (wo
 abbrev pub IsToldFlow : Layout → (View → View → Reply → Type 0) → FlowKey → (Option ℕ → Change) → (ℕ → Bool) → Views
     → Views → Reply → Type 0
 IsToldFlow l took key decision is_expired v w reply =
-    (removed : Option (List ℕ)) × IsEntered l took key (told (words_of key) decision is_expired removed reply) v w
+    (removed : Option (List ℕ)) × IsFlowEntry l took key (told_event (words_of key) decision is_expired removed reply) v w
 
 -- an update of a flow's key that was answered so, in the table of its family, and took locks as `took` says
 pub record TellsFlow {A B K L : Type 0} {ga : Ghosts A K} {gb : Ghosts B L} (took : View → View → Reply → Type 0)

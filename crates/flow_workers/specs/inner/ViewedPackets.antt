@@ -9,11 +9,11 @@ use Rattle.bihash_words.specs.declared.shape.Shape.{Ghosts}
 use Rattle.bihash_steps.specs.declared.view.View.{View}
 use Rattle.bihash_table.specs.declared.contended.Contended.{Contended}
 use Rattle.flow_filter.specs.Filters.{section_in}
-use Rattle.flow_filter.specs.declared.filter.ReadyFilter.{ReadyFilter}
+use Rattle.flow_filter.specs.declared.filter.InterfaceFilter.{InterfaceFilter}
 use Rattle.flow_filter.specs.declared.verdict.Verdict.{Verdict}
 use Rattle.flow_filter.specs.OneThread.{layout_of}
 use Rattle.flow_filter.specs.Readings.{IsSeenAt}
-use Rattle.flow_dealing.specs.Dealings.{flow_shown}
+use Rattle.flow_dealing.specs.Dealings.{flow_of_frame}
 use Rattle.flow_workers.specs.declared.tables.Callers.{Callers}
 use Rattle.flow_workers.specs.declared.tables.Tables.{Tables}
 use Rattle.flow_workers.specs.declared.viewed_packet.ViewedPacket.{ViewedPacket}
@@ -27,7 +27,7 @@ abbrev pub IsViewed : Option Mac → PacketFacts → ViewedPacket → Type 0
 IsViewed own packet v = (packet.moment ≡ v.moment) × IsSeenAt own packet (frame_facts v.frame.now)
 
 -- the packet was viewed so, and the filter goes by what the policy says of its interface
-pub record IsViewedBy (policy : PolicyFacts) (filter : ReadyFilter) (packet : PacketFacts) (v : ViewedPacket)
+pub record IsViewedBy (policy : PolicyFacts) (filter : InterfaceFilter) (packet : PacketFacts) (v : ViewedPacket)
     : Type 0 where
   pub section : section_in filter ≡ section_of packet.interface policy
   pub seen : IsViewed filter.own packet v
@@ -35,7 +35,7 @@ pub record IsViewedBy (policy : PolicyFacts) (filter : ReadyFilter) (packet : Pa
 -- the verdict on each packet that was viewed so (`TellsVerdict` says it of one), by a call that took locks as
 -- `took` says
 pub record TellsViewed {A B K L : Type 0} {ga : Ghosts A K} {gb : Ghosts B L} (took : View → View → Reply → Type 0)
-    (filter : ReadyFilter) (packet : ViewedPacket) (tables : Tables A B K L) (old new : Callers A B K L ga gb)
+    (filter : InterfaceFilter) (packet : ViewedPacket) (tables : Tables A B K L) (old new : Callers A B K L ga gb)
     (verdict : Verdict) : Type 0 where
   pub same : AreSame ga gb old new
   pub idle : AreIdle ga gb tables new
@@ -46,7 +46,7 @@ pub record TellsViewed {A B K L : Type 0} {ga : Ghosts A K} {gb : Ghosts B L} (t
   pub wanted : KeepWanted (layout_of ga gb) (views_of ga gb old) (views_of ga gb new)
 
 -- one try (`TellsVerdictTry` says it of one packet)
-pub record TellsViewedTry {A B K L : Type 0} {ga : Ghosts A K} {gb : Ghosts B L} (filter : ReadyFilter)
+pub record TellsViewedTry {A B K L : Type 0} {ga : Ghosts A K} {gb : Ghosts B L} (filter : InterfaceFilter)
     (packet : ViewedPacket) (tables : Tables A B K L) (old new : Callers A B K L ga gb) (r : Result Verdict Contended)
     : Type 0 where
   pub same : AreSame ga gb old new
@@ -58,4 +58,4 @@ pub record TellsViewedTry {A B K L : Type 0} {ga : Ghosts A K} {gb : Ghosts B L}
   pub refused : IfErr r (λ _. (policy : PolicyFacts) (s : PacketFacts) → IsViewedBy policy filter s packet
       → HasNoVerdict ga gb filter.times policy s old new)
   pub lone : old.four.seat.view.lone ≡ true → old.six.seat.view.lone ≡ true → is_ok r ≡ true
-  pub settled : flow_shown (frame_facts packet.frame.now) ≡ None → is_ok r ≡ true
+  pub settled : flow_of_frame (frame_facts packet.frame.now) ≡ None → is_ok r ≡ true

@@ -11,7 +11,7 @@ use Rattle.session_state.specs.declared.timeouts.Timeouts.{Timeouts}
 use Rattle.flow_filter.specs.declared.verdict.Verdict.{Verdict}
 use Rattle.flow_dealing.specs.Views.{Views}
 use Rattle.flow_dealing.specs.Dealings.{Deal}
-use Rattle.flow_dealing.specs.Traces.{AreViews, IsItem, IsItemOf, IsTrace, Item, calls_in, numbers_from, numbers_of, verdict_in}
+use Rattle.flow_dealing.specs.Traces.{AreFrames, IsItem, IsItemOf, IsTrace, Item, calls_in, numbers_from, numbers_of, verdict_in}
 use Rattle.flow_workers.specs.inner.Wanted.{KeepWanted}
 
 -- what the verdicts of a run rest on
@@ -22,7 +22,7 @@ pub record RunFacts : Type 0 where
   pub packets : List PacketFacts
 
 -- the caller's one record has these calls more, and its buckets began as before
-pub record Continues (v w : View) (more : List Call) : Type 0 where
+pub record RecordContinues (v w : View) (more : List Call) : Type 0 where
   pub calls : (r : Record) → v.records ≡ r ∷ []
       → (locks : ℕ) × (w.records ≡ record r { calls = r.calls ++ more; locks = locks } ∷ [])
   pub openings : w.known.openings ≡ v.known.openings
@@ -37,10 +37,10 @@ pub record IsWorkUntil (run : RunFacts) (worker at : ℕ) (v w : Views)
   pub trace : List Item
   pub items : All (IsItem run.deal.layout run.times) trace
   pub of : All (IsItemOf run.deal worker run.policy run.packets) trace
-  pub dealt : (views : List frames.FrameFacts) → AreViews run.policy run.packets views
+  pub dealt : (views : List frames.FrameFacts) → AreFrames run.policy run.packets views
       → numbers_of trace ++ numbers_from run.deal worker at (drop at views) ≡ numbers_from run.deal worker 0 views
-  pub four : Continues v.four w.four (calls_in run.times V4 trace)
-  pub six : Continues v.six w.six (calls_in run.times V6 trace)
+  pub four : RecordContinues v.four w.four (calls_in run.times V4 trace)
+  pub six : RecordContinues v.six w.six (calls_in run.times V6 trace)
   pub wanted : KeepWanted run.deal.layout v w
   pub said : AreSaid run trace verdicts
 
@@ -50,7 +50,7 @@ pub record IsWork (run : RunFacts) (worker : ℕ) (v w : Views)
     (verdicts : List Verdict) : Type 0 where
   pub trace : List Item
   pub is : IsTrace run.deal run.times worker run.policy run.packets trace
-  pub four : Continues v.four w.four (calls_in run.times V4 trace)
-  pub six : Continues v.six w.six (calls_in run.times V6 trace)
+  pub four : RecordContinues v.four w.four (calls_in run.times V4 trace)
+  pub six : RecordContinues v.six w.six (calls_in run.times V6 trace)
   pub wanted : KeepWanted run.deal.layout v w
   pub said : AreSaid run trace verdicts

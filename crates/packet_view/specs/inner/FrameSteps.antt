@@ -9,9 +9,9 @@ use Rattle.packet_view.specs.declared.tuple.Family.TheVariants.{V4, V6}
 use Rattle.packet_view.specs.declared.tuple.Fields.{Fields}
 use Rattle.packet_view.specs.declared.tuple.Fields.TheVariants.{Absent, Ports, Tcp, Icmp}
 use Rattle.packet_view.specs.declared.tuple.Mac.{Mac}
-use Rattle.packet_view.specs.declared.packet.Upper.{Upper}
-use Rattle.packet_view.specs.declared.packet.Upper.TheVariants as upper
-use Rattle.packet_view.specs.declared.packet.IpPacket.{IpPacket}
+use Rattle.packet_view.specs.declared.ip_packet.Upper.{Upper}
+use Rattle.packet_view.specs.declared.ip_packet.Upper.TheVariants as upper
+use Rattle.packet_view.specs.declared.ip_packet.IpPacket.{IpPacket}
 use Rattle.packet_view.specs.declared.ipv6.Header.{Header}
 use Rattle.packet_view.specs.declared.ipv6.Header.TheVariants as header
 use Rattle.packet_view.specs.Addresses.{icmp_of}
@@ -21,8 +21,8 @@ use Rattle.packet_view.specs.Frames.{FrameFacts, NotIp, Malformed, Short, Ip}
 use Rattle.packet_view.specs.Interfaces.{Interface}
 use Rattle.packet_view.specs.Ipv4 as ipv4
 use Rattle.packet_view.specs.Ipv6 as ipv6
-use Rattle.packet_view.specs.Packets as carried
-use Rattle.packet_view.specs.Packets.{extent}
+use Rattle.packet_view.specs.IpPackets as carried
+use Rattle.packet_view.specs.IpPackets.{extent}
 
 -- a type and the bytes under it, as values
 abbrev pub contents : Option (ℕ × Bor (List ℕ)) → Option (ℕ × List ℕ)

@@ -5,7 +5,7 @@ use Rattle.racl_io.specs.declared.fault.Fault.{Fault}
 use Rattle.racl_io.specs.declared.input.Numbered as mark
 use Rattle.racl_io.specs.declared.report.Captured.{Captured}
 use Rattle.racl_io.specs.Faults.{IsFaultOfCaptures}
-use Rattle.racl_io.specs.Inputs.{AreCaptures, DigitsFacts, IsCut, NumberedFacts, most_bytes, numbered_facts}
+use Rattle.racl_io.specs.Inputs.{AreCaptures, DigitsFacts, AreCutDigits, NumberedFacts, most_bytes, numbered_facts}
 use Rattle.racl_cli.specs.declared.captures.Walk.{Walk}
 use Rattle.racl_cli.specs.Crews.{AreResting, AreSaid, orders_of}
 use Rattle.racl_cli.specs.Runs.{AreTaken, IsTaken, Outcome}
@@ -43,7 +43,7 @@ pub record CanTake {T : Type 0} (walk : Walk T) (capture : mark.Numbered) : Type
 -- this capture was taken, and its packets were judged
 pub record HasTaken {T : Type 0} (old : Walk T) (capture : mark.Numbered) (new : Walk T) : Type 0 where
   pub digits : List ℕ
-  pub cut : IsCut capture.content.now digits (numbered_facts new.next)
+  pub cut : AreCutDigits capture.content.now digits (numbered_facts new.next)
   pub packets : List PacketFacts
   pub captured : Captured
   pub taken : IsTaken old.seen.items (record { interface = capture.interface; digits = digits }) packets captured

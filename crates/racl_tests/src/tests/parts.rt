@@ -1,11 +1,11 @@
 //! The parts of an input, and the bytes that its digits stand for.
 
-use racl_io::{Fault, Form, cut_digits, decoded, parts};
+use racl_io::{Fault, Form, cut_digits, decode_digits, split_input};
 use std::test::Fail;
 
 #[test]
 fn an_input_has_three_parts(rt: HostRuntime) {
-    let input = parts(b"# one\nhex\nd4 c3\n").expect(&rt, "a marker line");
+    let input = split_input(b"# one\nhex\nd4 c3\n").expect(&rt, "a marker line");
     assert_eq!(rt; input.policy, b"# one\n".as_slice());
     assert_eq!(rt; input.form, Form::Hexadecimal);
     assert_eq!(rt; input.content, b"d4 c3\n".as_slice());
@@ -15,7 +15,7 @@ fn an_input_has_three_parts(rt: HostRuntime) {
 #[test]
 fn captures_have_numbers(rt: HostRuntime) {
     let text = b"hex 300\nhex 007\r\nd4\nhex\nhex 255\nc3 hex 1\nhex 256\n";
-    let input = parts(text).expect(&rt, "a marker line");
+    let input = split_input(text).expect(&rt, "a marker line");
     assert_eq!(rt; input.policy, b"hex 300\n".as_slice());
     assert_eq!(rt; input.form, Form::Numbered(7));
     let first = cut_digits(input.content);
@@ -25,17 +25,17 @@ fn captures_have_numbers(rt: HostRuntime) {
     let second = cut_digits(next.content);
     assert_eq!(rt; second.digits, b"c3 hex 1\nhex 256\n".as_slice());
     assert!(rt; second.next.is_none());
-    let ended = parts(b"mac\nhex 0").expect(&rt, "a marker word at the end");
+    let ended = split_input(b"mac\nhex 0").expect(&rt, "a marker word at the end");
     assert_eq!(rt; ended.form, Form::Numbered(0));
-    assert!(rt; parts(b"hex  1\nhex 1x\nhex \nhex 0001\nhex 1\r").is_none());
+    assert!(rt; split_input(b"hex  1\nhex 1x\nhex \nhex 0001\nhex 1\r").is_none());
 }
 
 #[test]
 fn digits_stand_for_bytes(rt: HostRuntime) -> Result<(), Fail> {
     let alloc = rt.alloc();
-    let bytes = decoded(alloc, b"d4 C3\tb2\r\na 1")?;
+    let bytes = decode_digits(alloc, b"d4 C3\tb2\r\na 1")?;
     assert_eq!(rt; bytes.as_slice(), [0xd4, 0xc3, 0xb2, 0xa1].as_slice());
-    assert_eq!(rt; decoded(alloc, b"d4c").err(), Some(Fault::Hex));
-    assert_eq!(rt; decoded(alloc, b"0x00").err(), Some(Fault::Hex));
+    assert_eq!(rt; decode_digits(alloc, b"d4c").err(), Some(Fault::Hex));
+    assert_eq!(rt; decode_digits(alloc, b"0x00").err(), Some(Fault::Hex));
     Ok(())
 }

@@ -43,7 +43,7 @@ fn second_number(fields: &Fields) -> Option<u128>
 }
 
 /// The flags of a packet of TCP.
-fn flags_of(fields: &Fields) -> Option<u8>
+fn tcp_flags(fields: &Fields) -> Option<u8>
     ensures { IfSome result (IsFlagsOf fields.now) }
 {
     match fields {
@@ -93,7 +93,7 @@ impl RuleIndex {
             protocol,
             first: self.first.row_or(first_number(&tuple.fields), protocol),
             second: self.second.row_or(second_number(&tuple.fields), protocol),
-            flags: self.flags.row_or(flags_of(&tuple.fields), protocol),
+            flags: self.flags.row_or(tcp_flags(&tuple.fields), protocol),
         }
     }
 

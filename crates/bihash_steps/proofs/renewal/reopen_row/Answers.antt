@@ -8,7 +8,7 @@ use Rattle.bihash_steps.specs.WordRule.{WordRule}
 use Rattle.bihash_steps.specs.Renewals.{AreRenewed, IsRenewed}
 use Rattle.bihash_steps.specs.Steps.{ViewOfSeat}
 use Rattle.bihash_steps.specs.declared.view.Openings.{Openings}
-use Rattle.bihash_steps.proofs.Renewed.{reopens, renewed_lawful, is_renewed, has_fields}
+use Rattle.bihash_steps.proofs.RenewedRows.{reopens, renewed_lawful, is_renewed, has_fields}
 use Rattle.bihash_steps.proofs.renewal.reopen_row.Goals as goal
 
 pub renewed_words-requires-clause-wide : goal.renewed_words-requires-clause-wide

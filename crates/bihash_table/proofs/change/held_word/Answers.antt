@@ -1,7 +1,7 @@
 use Rattle.std.proofs.Common.{◌+◌, ◌*◌, ℕ, subst, sym}
 use Rattle.bihash_words.specs.Sizes.{sizes_of}
 use Rattle.bihash_steps.specs.BucketSteps.{IsLockedWord}
-use Rattle.bihash_table.proofs.Storing.{locked_word}
+use Rattle.bihash_table.proofs.StoredWords.{locked_word}
 use Rattle.bihash_table.proofs.change.held_word.Goals as goal
 
 pub load_locked-requires-clause-own : goal.load_locked-requires-clause-own

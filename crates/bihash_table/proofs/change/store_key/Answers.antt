@@ -9,15 +9,15 @@ use Rattle.bihash_steps.specs.declared.view.LockedBucket.{LockedBucket}
 use Rattle.bihash_table.specs.inner.Stores.{HasStored, HoldsWord}
 use Rattle.bihash_table.proofs.PlaceReads.{same_lock}
 use Rattle.bihash_table.proofs.SameCallers.{own_through, same_through}
-use Rattle.bihash_table.proofs.Storing.{held_now, holds_stored, stored_more, stored_none, stored_same, view_stored}
+use Rattle.bihash_table.proofs.StoredWords.{held_now, holds_stored, stored_more, stored_none, stored_same, view_stored}
 use Rattle.bihash_table.proofs.change.store_key.Goals as goal
 
 pub held_word-requires : goal.held_word-requires
 held_word-requires g c =
-    let lock = c.requires.lock in let key = g.S.Shape.words_of c.args.seen.now.site.key.now in
+    let lock = c.requires.lock in let key = g.S.Shape.words_of c.args.seen.now.hashed.key.now in
     record {
       own = own_through c.args.seat.now _ _ c.loop-i.invariant.0 c.requires.own;
-      held = holds_stored (sizes_of g.S.Shape) c.args.seat.now.view c.args.seen.now.site.bucket c.args.seen.now.word lock.0 lock.1
+      held = holds_stored (sizes_of g.S.Shape) c.args.seat.now.view c.args.seen.now.hashed.bucket c.args.seen.now.word lock.0 lock.1
           c.loop-i.seat.view c.args.place lock.2 key c.loop-i.i (c.loop-i.invariant.1 lock.0 lock.1);
       inside = let below = c.loop-i-test.true in let same = c.WORDS-i-end.ensures in omega arith;
     }
@@ -25,11 +25,11 @@ held_word-requires g c =
 pub store_word-requires : goal.store_word-requires
 store_word-requires g c =
     let z = sizes_of g.S.Shape in
-    let lock = c.requires.lock in let key = g.S.Shape.words_of c.args.seen.now.site.key.now in
+    let lock = c.requires.lock in let key = g.S.Shape.words_of c.args.seen.now.hashed.key.now in
     subst (λ (s : CallerState). HoldsWord z c.args.row.now s c.args.seen.now.word c.args.place c.loop-i.i) (sym c.held_word.ensures.same)
     record {
       own = own_through c.args.seat.now _ _ c.loop-i.invariant.0 c.requires.own;
-      held = holds_stored z c.args.seat.now.view c.args.seen.now.site.bucket c.args.seen.now.word lock.0 lock.1 c.loop-i.seat.view
+      held = holds_stored z c.args.seat.now.view c.args.seen.now.hashed.bucket c.args.seen.now.word lock.0 lock.1 c.loop-i.seat.view
           c.args.place lock.2 key c.loop-i.i (c.loop-i.invariant.1 lock.0 lock.1);
       inside = let below = c.loop-i-test.true in let same = c.WORDS-i-end.ensures in omega arith;
     }
@@ -37,14 +37,14 @@ store_word-requires g c =
 pub loop-i-init : goal.loop-i-init
 loop-i-init g c = (
   refl,
-  λ lock has. stored_none (sizes_of g.S.Shape) c.args.seat.now.view c.args.seen.now.site.bucket c.args.seen.now.word lock has c.args.place
-      (g.S.Shape.words_of c.args.seen.now.site.key.now),
+  λ lock has. stored_none (sizes_of g.S.Shape) c.args.seat.now.view c.args.seen.now.hashed.bucket c.args.seen.now.word lock has c.args.place
+      (g.S.Shape.words_of c.args.seen.now.hashed.key.now),
 )
 
 pub loop-i-preserved-then-held_word-part : goal.loop-i-preserved-then-held_word-part
 loop-i-preserved-then-held_word-part g c =
     let z = sizes_of g.S.Shape in let v = c.args.seat.now.view in let w = c.loop-i.seat.view in
-    let key = g.S.Shape.words_of c.args.seen.now.site.key.now in let b = c.args.seen.now.site.bucket in
+    let key = g.S.Shape.words_of c.args.seen.now.hashed.key.now in let b = c.args.seen.now.hashed.bucket in
     let word = c.args.seen.now.word in let i = c.args.place in
     let back = sym c.held_word.ensures.same in (
       subst (λ (s : CallerState). s ≡ with_view c.args.seat.now s.view) back c.loop-i.invariant.0,
@@ -62,7 +62,7 @@ loop-i-preserved-then-held_word-part g c =
 pub loop-i-preserved : goal.loop-i-preserved
 loop-i-preserved g c =
     let z = sizes_of g.S.Shape in let v = c.args.seat.now.view in let w = c.loop-i.seat.view in
-    let key = g.S.Shape.words_of c.args.seen.now.site.key.now in let b = c.args.seen.now.site.bucket in
+    let key = g.S.Shape.words_of c.args.seen.now.hashed.key.now in let b = c.args.seen.now.hashed.bucket in
     let word = c.args.seen.now.word in let i = c.args.place in
     let own = c.requires.lock in let mine = c.loop-i.invariant.1 own.0 own.1 in
     let small : c.loop-i.i < g.S.Shape.WORDS =

@@ -9,5 +9,5 @@ use Rattle.bihash_table.proofs.change.store_key.Given as goal
 -- the words so far are stored
 abbrev pub invariant-loop-i : goal.invariant-loop-i
 invariant-loop-i g l = (l.seat ≡ with_view l.fn.seat l.seat.view)
-    × ((lock : LockedBucket) → HasLock (sizes_of g.S.Shape) l.fn.seat.view l.seen.site.bucket l.seen.word lock
-    → HasStored (sizes_of g.S.Shape) l.fn.seat.view l.seat.view lock l.place (g.S.Shape.words_of l.seen.site.key.now) l.i)
+    × ((lock : LockedBucket) → HasLock (sizes_of g.S.Shape) l.fn.seat.view l.seen.hashed.bucket l.seen.word lock
+    → HasStored (sizes_of g.S.Shape) l.fn.seat.view l.seat.view lock l.place (g.S.Shape.words_of l.seen.hashed.key.now) l.i)

@@ -2,8 +2,8 @@ use Rattle.std.proofs.Common.{◌≡◌, ◌∙◌, ◌+◌, ◌-◌, ◌*◌, �
 use Rattle.std.proofs.Math.ListN.{take}
 use Rattle.bihash_words.specs.Sizes.{sizes_of}
 use Rattle.bihash_steps.specs.Words.{page_at}
-use Rattle.bihash_table.proofs.Closings.{last_in_row, place_there, some_page}
-use Rattle.bihash_table.proofs.Stores.{page_is}
+use Rattle.bihash_table.proofs.BlockPairs.{last_in_row, place_there, some_page}
+use Rattle.bihash_table.proofs.StoreLemmas.{page_is}
 use Rattle.bihash_table.proofs.close.pair_at.Goals as goal
 
 pub page_at-at-requires-clause-some_page : goal.page_at-at-requires-clause-some_page

@@ -3,9 +3,9 @@ use Rattle.bihash_words.specs.Sizes.{sizes_of}
 use Rattle.bihash_steps.specs.Renewals.{AreRowWords}
 use Rattle.bihash_steps.specs.Seats.{CallerState}
 use Rattle.bihash_steps.specs.declared.view.Known.{Known}
-use Rattle.bihash_steps.proofs.Runs.{bucket_inside}
+use Rattle.bihash_steps.proofs.OwnedWords.{bucket_inside}
 use Rattle.bihash_table.specs.inner.PairLists.{ListsBuckets}
-use Rattle.bihash_table.proofs.Closings.{bucket_added, bucket_below, has_block, row_wide}
+use Rattle.bihash_table.proofs.BlockPairs.{bucket_added, bucket_below, has_block, row_wide}
 use Rattle.bihash_table.proofs.PairListLemmas.{buckets_none}
 use Rattle.bihash_table.proofs.close.read_all.Goals as goal
 

@@ -3,7 +3,7 @@ use Rattle.bihash_words.specs.Sizes.{sizes_of}
 use Rattle.bihash_steps.specs.declared.view.Extent.{Extent}
 use Rattle.bihash_table.specs.inner.PairLists.{AddsPlaces}
 use Rattle.bihash_table.specs.inner.RowWords.{OfBlockIn}
-use Rattle.bihash_table.proofs.Closings.{added_none, added_free, added_pair, added_not, added_all}
+use Rattle.bihash_table.proofs.BlockPairs.{added_none, added_free, added_pair, added_not, added_all}
 use Rattle.bihash_table.proofs.close.read_pairs.Goals as goal
 
 pub place_count-place-end-requires : goal.place_count-place-end-requires

@@ -1,6 +1,6 @@
 use Rattle.std.proofs.Common.{◌∙◌, arith, refl, sym}
 use Rattle.bihash_words.specs.Sizes.{sizes_of}
-use Rattle.bihash_table.proofs.Stores.{left_none, left_some, log2_is, may_give_back, page_is}
+use Rattle.bihash_table.proofs.StoreLemmas.{left_none, left_some, log2_is, may_give_back, page_is}
 use Rattle.bihash_table.proofs.grow.give_back_old.Goals as goal
 
 pub returns-then-page-eq0 : goal.returns-then-page-eq0

@@ -1,6 +1,6 @@
 use Rattle.std.proofs.Common.{◌∙◌, ap}
 use Rattle.bihash_steps.specs.Seats.{CallerState}
-use Rattle.bihash_table.proofs.Stores.{released}
+use Rattle.bihash_table.proofs.StoreLemmas.{released}
 use Rattle.bihash_table.proofs.grow.leave_store.Goals as goal
 
 pub give_back_old-requires : goal.give_back_old-requires

@@ -1,7 +1,7 @@
 use Rattle.std.proofs.Common.{◌∙◌, ◌≤◌, ◌*◌, ◌^◌, ap, arith, pow_mono, sym}
 use Rattle.bihash_words.specs.Sizes.{sizes_of}
 use Rattle.bihash_table.proofs.OpenPlaces.{some_places}
-use Rattle.bihash_table.proofs.Stores.{log2_is, no_places, page_is}
+use Rattle.bihash_table.proofs.StoreLemmas.{log2_is, no_places, page_is}
 use Rattle.bihash_table.proofs.places.place_count.Goals as goal
 
 pub returns-then-page-eq0 : goal.returns-then-page-eq0

@@ -1,7 +1,7 @@
 use Rattle.std.proofs.Common.{arith}
 use Rattle.bihash_words.specs.Sizes.{sizes_of}
-use Rattle.bihash_table.proofs.LookedAt.{none_free_yet, none_free_more, first_free, all_taken, read_value}
-use Rattle.bihash_table.proofs.Seeing.{may_still, names_block, word_notes}
+use Rattle.bihash_table.proofs.PairReads.{none_free_yet, none_free_more, first_free, all_taken, read_value}
+use Rattle.bihash_table.proofs.OpenReadLemmas.{may_still, names_block, word_notes}
 use Rattle.bihash_table.proofs.reads.find_free.Goals as goal
 
 pub open_pages-from-requires : goal.open_pages-from-requires
@@ -26,7 +26,7 @@ returns-then-load_word g c =
     let h = c.requires in
     let low = c.loop-place-test.true in
     first_free z _ _ _ _ _ _ c.loop-place.invariant.read (read_value z _ _ _ _ _ c.WORDS.ensures c.load_word.ensures)
-    (g.S.Shape.words_of c.args.site.now.key.now) _ _ h.extent h.block
+    (g.S.Shape.words_of c.args.hashed.now.key.now) _ _ h.extent h.block
     (c.open_pages-from.ensures.pages h.extent (word_notes z _ _ _ h.block)) c.loop-place.invariant.behind low c.if-load_word.true
 
 pub loop-place-preserved : goal.loop-place-preserved
@@ -41,5 +41,5 @@ returns g c =
     let z = sizes_of g.S.Shape in
     let h = c.requires in
     let past = c.loop-place-test.false in
-    all_taken z _ _ (g.S.Shape.words_of c.args.site.now.key.now) _ _ _ _ h.extent h.block
+    all_taken z _ _ (g.S.Shape.words_of c.args.hashed.now.key.now) _ _ _ _ h.extent h.block
     (c.open_pages-from.ensures.pages h.extent (word_notes z _ _ _ h.block)) (omega arith) c.loop-place.invariant.read

@@ -1,7 +1,7 @@
 use Rattle.std.proofs.Common.{◌≤◌, ◌*◌}
 use Rattle.bihash_words.specs.Sizes.{sizes_of}
 use Rattle.bihash_table.specs.inner.OpenReads.{HasRead}
-use Rattle.bihash_table.proofs.LookedAt.{NoneFree}
+use Rattle.bihash_table.proofs.PairReads.{NoneFree}
 use Rattle.bihash_table.proofs.reads.find_free.Given as goal
 
 -- no place so far is free

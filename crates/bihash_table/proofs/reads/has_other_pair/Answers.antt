@@ -1,7 +1,7 @@
 use Rattle.std.proofs.Common.{arith}
 use Rattle.bihash_words.specs.Sizes.{sizes_of}
-use Rattle.bihash_table.proofs.LookedAt.{no_other_yet, no_other_here, no_other_free, other_there, no_other, read_value}
-use Rattle.bihash_table.proofs.Seeing.{may_still, names_block, word_notes}
+use Rattle.bihash_table.proofs.PairReads.{no_other_yet, no_other_here, no_other_free, other_there, no_other, read_value}
+use Rattle.bihash_table.proofs.OpenReadLemmas.{may_still, names_block, word_notes}
 use Rattle.bihash_table.proofs.reads.has_other_pair.Goals as goal
 
 pub place_count-k-end-requires : goal.place_count-k-end-requires

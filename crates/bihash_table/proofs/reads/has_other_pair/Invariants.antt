@@ -1,6 +1,6 @@
 use Rattle.bihash_words.specs.Sizes.{sizes_of}
 use Rattle.bihash_table.specs.inner.OpenReads.{HasRead}
-use Rattle.bihash_table.proofs.LookedAt.{NoOther}
+use Rattle.bihash_table.proofs.PairReads.{NoOther}
 use Rattle.bihash_table.proofs.reads.has_other_pair.Given as goal
 
 -- no place so far has a pair but this one

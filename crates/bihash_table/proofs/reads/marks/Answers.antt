@@ -1,7 +1,7 @@
 use Rattle.std.proofs.Common.{arith}
 use Rattle.bihash_words.specs.Sizes.{sizes_of}
-use Rattle.bihash_table.proofs.Seeing.{may_less, may_still}
-use Rattle.bihash_table.proofs.LookedAt.{all_marks}
+use Rattle.bihash_table.proofs.OpenReadLemmas.{may_less, may_still}
+use Rattle.bihash_table.proofs.PairReads.{all_marks}
 use Rattle.bihash_table.proofs.reads.marks.Goals as goal
 
 pub has_last-a-requires : goal.has_last-a-requires
@@ -19,5 +19,5 @@ has_last-d-requires g c = let room = c.requires.inside in
     may_still c.has_last-c.ensures (may_still c.has_last-b.ensures (may_still c.has_last-a.ensures c.requires room) room) (omega arith)
 
 pub returns : goal.returns
-returns g c = all_marks (sizes_of g.S.Shape) (g.S.Shape.words_of c.args.site.now.key.now) c.args.first _ _ _ _ _ _ _ _ _
+returns g c = all_marks (sizes_of g.S.Shape) (g.S.Shape.words_of c.args.hashed.now.key.now) c.args.first _ _ _ _ _ _ _ _ _
     c.has_last-a.ensures c.has_last-b.ensures c.has_last-c.ensures c.has_last-d.ensures

@@ -9,12 +9,12 @@ use Rattle.bihash_plan.proofs.Places.{pair_inside}
 use Rattle.bihash_steps.specs.Blocks.{places}
 use Rattle.bihash_steps.specs.Histories.{bounds_of}
 use Rattle.bihash_table.proofs.Bridge.{sized}
-use Rattle.bihash_table.proofs.LookedAt.{pair_value}
+use Rattle.bihash_table.proofs.PairReads.{pair_value}
 use Rattle.bihash_table.proofs.OpenPlaces.{word_tells}
-use Rattle.bihash_table.proofs.Recycled.{none_goes, refuses, spare_for, under_lock_as}
-use Rattle.bihash_table.proofs.Seeing.{word_notes}
-use Rattle.bihash_table.proofs.Sights.{seen_as}
-use Rattle.bihash_table.proofs.Stores.{linear_is, log2_is}
+use Rattle.bihash_table.proofs.ExpiredPairs.{none_goes, refuses, spare_for, under_lock_as}
+use Rattle.bihash_table.proofs.OpenReadLemmas.{word_notes}
+use Rattle.bihash_table.proofs.SeenBuckets.{seen_as}
+use Rattle.bihash_table.proofs.StoreLemmas.{linear_is, log2_is}
 use Rattle.bihash_table.proofs.Tries.{over, over_locked, tried_not}
 use Rattle.bihash_table.proofs.recycling.recycle_or_refuse.Goals as goal
 
@@ -38,7 +38,7 @@ refuse-requires g c =
     let h = c.requires.seen in
     let e = h.seen.extent in
     let block = h.seen.block.open_bucket.block in
-    let key = c.args.seen.now.site.key.now in record {
+    let key = c.args.seen.now.hashed.key.now in record {
       own = c.requires.own;
       seen = seen_as z _ _ _ h (λ told m pairs. (
         m,
@@ -50,9 +50,9 @@ refuse-requires g c =
       ));
     }
 
-pub returns-then-not-lock_seen : goal.returns-then-not-lock_seen
-returns-then-not-lock_seen g c = over g.S.Shape _ _ _ _ _ _ (Err _)
-    (tried_not g.S.Shape _ _ _ _ _ _ (sym c.args.seen.now.site.home) _ c.lock_seen.ensures c.if-not-lock_seen.true)
+pub returns-then-not-lock_if_unchanged : goal.returns-then-not-lock_if_unchanged
+returns-then-not-lock_if_unchanged g c = over g.S.Shape _ _ _ _ _ _ (Err _)
+    (tried_not g.S.Shape _ _ _ _ _ _ (sym c.args.seen.now.hashed.home) _ c.lock_if_unchanged.ensures c.if-not-lock_if_unchanged.true)
 
 pub offset_bounds-places-spare : goal.offset_bounds-places-spare
 offset_bounds-places-spare g c = let inside = pair_inside c.in-Some.ensures.place.pair in omega arith
@@ -63,34 +63,34 @@ bounds-places-spare g c = pair_inside c.in-Some.ensures.place.pair
 pub replace-requires : goal.replace-requires
 replace-requires g c =
     let z = sizes_of g.S.Shape in
-    let site = c.args.seen.now.site in
+    let hashed = c.args.seen.now.hashed in
     let word = c.args.seen.now.word in
-    let u = c.lock_seen.new.seat in
+    let u = c.lock_if_unchanged.new.seat in
     let h = c.requires in
     let r = c.in-Some.spare in
     let least = c.in-Some.ensures.place in
-    let k = c.lock_seen.ensures.locked c.if-not-lock_seen.false in
+    let k = c.lock_if_unchanged.ensures.locked c.if-not-lock_if_unchanged.false in
     let e = k.locked.lock.extent in
     let size = c.block_size-size.result in
-    let tells = word_tells z u.view site.bucket word k.locked.lock k.locked.has in
+    let tells = word_tells z u.view hashed.bucket word k.locked.lock k.locked.has in
     let log2_at : size.log2 ≡ e.size.log2 = log2_is z word e tells size.log2
     (λ x fits is. ap (λ (s : BlockSize). s.log2) (c.block_size-size.ensures x fits is)) in
     let linear_at : size.linear ≡ e.size.linear = linear_is z word e tells size.linear
     (λ x fits is. ap (λ (s : BlockSize). s.linear) (c.block_size-size.ensures x fits is)) in
-    under_lock_as g.S.Shape c.args.seat.now u site.bucket word (Set c.args.entrant.now.value) h.own h.unworn h.storable h.seen
-    c.lock_seen.ensures c.if-not-lock_seen.false (λ told. (
+    under_lock_as g.S.Shape c.args.seat.now u hashed.bucket word (Set c.args.entrant.now.value) h.own h.unworn h.storable h.seen
+    c.lock_if_unchanged.ensures c.if-not-lock_if_unchanged.false (λ told. (
       told.0.0,
       told.2,
-      spare_for g.S.Shape e k.locked.lock.now c.args.places.now told.1 told.3 site.key.now
+      spare_for g.S.Shape e k.locked.lock.now c.args.places.now told.1 told.3 hashed.key.now
           (g.E.Expiry.is_expired c.args.entrant.now.expiry.now) r _ least
           (c.in-Some.ensures.mark
-          ∙ (λ i. linear_at i || not (r.place / 4 == page_of (paging_of g.S.Shape) (log2_at i) site.key.now)))
+          ∙ (λ i. linear_at i || not (r.place / 4 == page_of (paging_of g.S.Shape) (log2_at i) hashed.key.now)))
           (ap (λ p. p.0) (get_or_from_slice_get c.args.places.now r.place (least.key, least.value) c.index-places-spare.result least.pair.at)),
     ))
 
 pub returns : goal.returns
 returns g c =
-    let site = c.args.seen.now.site in
-    over_locked g.S.Shape c.args.seat.now c.lock_seen.new.seat c.replace.new.seat site.bucket c.args.seen.now.word site.key.now None
-    (Set c.args.entrant.now.value) (g.E.Expiry.is_expired c.args.entrant.now.expiry.now) c.lock_seen.ensures c.if-not-lock_seen.false
-    (sym site.home) c.replace.result c.replace.ensures
+    let hashed = c.args.seen.now.hashed in
+    over_locked g.S.Shape c.args.seat.now c.lock_if_unchanged.new.seat c.replace.new.seat hashed.bucket c.args.seen.now.word hashed.key.now None
+    (Set c.args.entrant.now.value) (g.E.Expiry.is_expired c.args.entrant.now.expiry.now) c.lock_if_unchanged.ensures c.if-not-lock_if_unchanged.false
+    (sym hashed.home) c.replace.result c.replace.ensures

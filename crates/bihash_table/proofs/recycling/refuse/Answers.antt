@@ -4,7 +4,7 @@ use Rattle.bihash_words.specs.declared.patch.Change.TheVariants.{Set}
 use Rattle.bihash_words.specs.declared.patch.Reply.TheVariants.{Full}
 use Rattle.bihash_steps.specs.BucketSteps.{map_now}
 use Rattle.bihash_table.specs.Answers.{recycled_update}
-use Rattle.bihash_table.proofs.Sights.{seen_answer}
+use Rattle.bihash_table.proofs.SeenBuckets.{seen_answer}
 use Rattle.bihash_table.proofs.Tries.{over, over_full, tried_invalid}
 use Rattle.bihash_table.proofs.recycling.refuse.Goals as goal
 
@@ -13,20 +13,20 @@ validate_full-requires-clause-at g c = record { own = c.requires.own; inside = c
 
 pub validate_full-requires-clause-may : goal.validate_full-requires-clause-may
 validate_full-requires-clause-may g c =
-    let site = c.args.seen.now.site in
+    let hashed = c.args.seen.now.hashed in
     let h = c.requires.seen in
-    seen_answer (sizes_of g.S.Shape) c.args.seat.now.view site.bucket c.args.seen.now.word h
-    (recycled_update (g.S.Shape.words_of site.key.now) None (Set c.args.entrant.now.value)
+    seen_answer (sizes_of g.S.Shape) c.args.seat.now.view hashed.bucket c.args.seen.now.word h
+    (recycled_update (g.S.Shape.words_of hashed.key.now) None (Set c.args.entrant.now.value)
     (g.E.Expiry.is_expired c.args.entrant.now.expiry.now) None Full)
-    (record { long = site.counted; home = sym site.home }) refl (λ log2 left e. let c : ⊥ = cc in c)
-    (λ told. told (map_now c.args.seat.now.view site.bucket) h.seen.pairs)
+    (record { long = hashed.counted; home = sym hashed.home }) refl (λ log2 left e. let c : ⊥ = cc in c)
+    (λ told. told (map_now c.args.seat.now.view hashed.bucket) h.seen.pairs)
 
 pub returns-then-not-validate_full : goal.returns-then-not-validate_full
 returns-then-not-validate_full g c = over g.S.Shape _ _ _ _ _ _ (Err _)
-    (tried_invalid g.S.Shape _ _ _ _ _ _ (sym c.args.seen.now.site.home) _ c.requires.seen c.validate_full.ensures.lawful _
+    (tried_invalid g.S.Shape _ _ _ _ _ _ (sym c.args.seen.now.hashed.home) _ c.requires.seen c.validate_full.ensures.lawful _
     (c.validate_full.ensures.not c.if-not-validate_full.true)
     (λ lone. true≢false (sym (c.validate_full.ensures.lone lone) ∙ c.if-not-validate_full.true)))
 
 pub returns : goal.returns
-returns g c = over_full g.S.Shape _ _ _ _ c.args.entrant.now.value _ (sym c.args.seen.now.site.home) _ c.requires.seen
+returns g c = over_full g.S.Shape _ _ _ _ c.args.entrant.now.value _ (sym c.args.seen.now.hashed.home) _ c.requires.seen
     c.validate_full.ensures.lawful c.validate_full.ensures.same (c.validate_full.ensures.valid c.if-not-validate_full.false)

@@ -3,11 +3,11 @@ use Rattle.bihash_words.specs.Sizes.{sizes_of}
 use Rattle.bihash_steps.specs.Seats.{CallerState}
 use Rattle.bihash_steps.specs.declared.view.View.{View}
 use Rattle.bihash_table.specs.Answers.{locks_of}
-use Rattle.bihash_table.proofs.Changes.{value_is_stored}
+use Rattle.bihash_table.proofs.PlaceWrites.{value_is_stored}
 use Rattle.bihash_table.proofs.LockCounts.{locks_pushed}
-use Rattle.bihash_table.proofs.Recycled.{finished_recycled, may_recycle, recycled}
+use Rattle.bihash_table.proofs.ExpiredPairs.{finished_recycled, may_recycle, recycled}
 use Rattle.bihash_table.proofs.SameCallers.{entered_as, own_through, same_through}
-use Rattle.bihash_table.proofs.Storing.{holds_stored, store_told}
+use Rattle.bihash_table.proofs.StoredWords.{holds_stored, store_told}
 use Rattle.bihash_table.proofs.recycling.replace.Goals as goal
 
 pub store_key-requires-clause-own : goal.store_key-requires-clause-own
@@ -19,29 +19,29 @@ store_key-requires-clause-lock g c = (c.requires.lock, c.requires.has, c.require
 pub store_word-requires : goal.store_word-requires
 store_word-requires g c = let h = c.requires in record {
   own = own_through c.args.seat.now _ _ c.store_key.ensures.same h.own;
-  held = holds_stored (sizes_of g.S.Shape) c.args.seat.now.view c.args.seen.now.site.bucket c.args.seen.now.word h.lock h.has
-      c.store_key.new.seat.view c.args.going.now.place h.told.2.pair.pair.0 (g.S.Shape.words_of c.args.seen.now.site.key.now) g.S.Shape.WORDS
+  held = holds_stored (sizes_of g.S.Shape) c.args.seat.now.view c.args.seen.now.hashed.bucket c.args.seen.now.word h.lock h.has
+      c.store_key.new.seat.view c.args.going.now.place h.told.2.pair.pair.0 (g.S.Shape.words_of c.args.seen.now.hashed.key.now) g.S.Shape.WORDS
       (c.store_key.ensures.stored h.lock h.has);
   inside = let same = c.WORDS.ensures in omega arith;
 }
 
 pub publish_recycled-requires-clause-at : goal.publish_recycled-requires-clause-at
 publish_recycled-requires-clause-at g c =
-    let z = sizes_of g.S.Shape in let v = c.args.seat.now.view in let site = c.args.seen.now.site in
+    let z = sizes_of g.S.Shape in let v = c.args.seat.now.view in let hashed = c.args.seen.now.hashed in
     let h = c.requires in
     let k = c.store_key.ensures.stored h.lock h.has in
-    let step = store_told z v site.bucket c.args.seen.now.word h.lock h.has c.store_key.new.seat.view c.args.going.now.place h.told.2.pair.pair.0 _ _ k
+    let step = store_told z v hashed.bucket c.args.seen.now.word h.lock h.has c.store_key.new.seat.view c.args.going.now.place h.told.2.pair.pair.0 _ _ k
     c.store_key.new.seat c.store_word.new.seat refl _ _ c.store_word.ensures in
     record { own = own_through c.store_key.new.seat _ _ step (own_through c.args.seat.now _ _ c.store_key.ensures.same h.own); inside = h.has.inside }
 
 pub publish_recycled-requires-clause-may : goal.publish_recycled-requires-clause-may
 publish_recycled-requires-clause-may g c =
-    let z = sizes_of g.S.Shape in let v = c.args.seat.now.view in let site = c.args.seen.now.site in
+    let z = sizes_of g.S.Shape in let v = c.args.seat.now.view in let hashed = c.args.seen.now.hashed in
     let h = c.requires in
     let k = c.store_key.ensures.stored h.lock h.has in
-    let step = store_told z v site.bucket c.args.seen.now.word h.lock h.has c.store_key.new.seat.view c.args.going.now.place h.told.2.pair.pair.0 _ _ k
+    let step = store_told z v hashed.bucket c.args.seen.now.word h.lock h.has c.store_key.new.seat.view c.args.going.now.place h.told.2.pair.pair.0 _ _ k
     c.store_key.new.seat c.store_word.new.seat refl _ _ c.store_word.ensures in
-    may_recycle z v site.bucket c.args.seen.now.word h.lock h.has (g.S.Shape.words_of site.key.now) site.counted (sym site.home) h.unworn
+    may_recycle z v hashed.bucket c.args.seen.now.word h.lock h.has (g.S.Shape.words_of hashed.key.now) hashed.counted (sym hashed.home) h.unworn
     (g.S.Shape.words_of c.args.going.now.key.now) (g.E.Expiry.is_expired c.args.entrant.now.expiry.now) c.args.going.now.linear
     c.args.going.now.place c.args.entrant.now.value h.told h.storable c.store_key.new.seat.view k c.store_word.new.seat.view
     (value_is_stored z c.store_key.new.seat c.store_word.new.seat (record h.lock { now = k.now; stored = k.stored })
@@ -49,13 +49,13 @@ publish_recycled-requires-clause-may g c =
 
 pub returns : goal.returns
 returns g c =
-    let z = sizes_of g.S.Shape in let v = c.args.seat.now.view in let site = c.args.seen.now.site in
+    let z = sizes_of g.S.Shape in let v = c.args.seat.now.view in let hashed = c.args.seen.now.hashed in
     let h = c.requires in
     let k = c.store_key.ensures.stored h.lock h.has in
-    let step = store_told z v site.bucket c.args.seen.now.word h.lock h.has c.store_key.new.seat.view c.args.going.now.place h.told.2.pair.pair.0 _ _ k
+    let step = store_told z v hashed.bucket c.args.seen.now.word h.lock h.has c.store_key.new.seat.view c.args.going.now.place h.told.2.pair.pair.0 _ _ k
     c.store_key.new.seat c.store_word.new.seat refl _ _ c.store_word.ensures in
     let done = entered_as c.publish_recycled.ensures in
-    finished_recycled g.S.Shape c.args.seat.now c.publish_recycled.new.caller site.key.now c.args.entrant.now.value
+    finished_recycled g.S.Shape c.args.seat.now c.publish_recycled.new.caller hashed.key.now c.args.entrant.now.value
     (g.E.Expiry.is_expired c.args.entrant.now.expiry.now) (g.S.Shape.words_of c.args.going.now.key.now)
     h.told.2.value h.told.2.expired
     (same_through c.args.seat.now c.store_word.new.seat c.publish_recycled.new.caller _
@@ -63,7 +63,7 @@ returns g c =
     c.publish_recycled.ensures.lawful
     (locks_pushed _ _ _ (ap (λ (c : CallerState). c.view.records) done)
     ∙ (ap (λ (c : CallerState). locks_of c.view.records) step ∙ ap (λ (v : View). locks_of v.records) k.is))
-    (recycled z v site.bucket c.args.seen.now.word h.lock h.has (g.S.Shape.words_of site.key.now) site.counted (sym site.home) h.unworn
+    (recycled z v hashed.bucket c.args.seen.now.word h.lock h.has (g.S.Shape.words_of hashed.key.now) hashed.counted (sym hashed.home) h.unworn
     (g.S.Shape.words_of c.args.going.now.key.now) (g.E.Expiry.is_expired c.args.entrant.now.expiry.now) c.args.going.now.linear
     c.args.going.now.place c.args.entrant.now.value h.told h.storable c.store_key.new.seat.view k c.store_word.new.seat.view
     (value_is_stored z c.store_key.new.seat c.store_word.new.seat (record h.lock { now = k.now; stored = k.stored })

@@ -2,7 +2,7 @@ use Rattle.std.proofs.Common.{refl, ◌∙◌, arith}
 use Rattle.std.proofs.lemmas.List.{length-set}
 use Rattle.bihash_words.specs.Sizes.{sizes_of}
 use Rattle.bihash_table.proofs.Snapshots.{no_places, more_places, all_places}
-use Rattle.bihash_table.proofs.Seeing.{may_still, word_notes}
+use Rattle.bihash_table.proofs.OpenReadLemmas.{may_still, word_notes}
 use Rattle.bihash_table.proofs.snapshot.read_block.Goals as goal
 
 pub loop-place-init : goal.loop-place-init

@@ -2,7 +2,7 @@ use Rattle.std.proofs.Common.{refl, ◌∙◌, arith}
 use Rattle.std.proofs.lemmas.List.{length-set}
 use Rattle.bihash_words.specs.Sizes.{sizes_of}
 use Rattle.bihash_table.proofs.Snapshots.{more_words, read_place}
-use Rattle.bihash_table.proofs.Seeing.{may_still, read_nothing}
+use Rattle.bihash_table.proofs.OpenReadLemmas.{may_still, read_nothing}
 use Rattle.bihash_table.proofs.snapshot.read_place.Goals as goal
 
 pub loop-i-init : goal.loop-i-init

@@ -4,49 +4,49 @@ use Rattle.bihash_words.specs.declared.patch.Change.{Change}
 use Rattle.bihash_table.specs.inner.Seen.{WantsChange}
 use Rattle.bihash_table.specs.Tries.{Tried, TriedOver}
 use Rattle.bihash_table.proofs.SameCallers.{own_through}
-use Rattle.bihash_table.proofs.Seeing.{may_read}
-use Rattle.bihash_table.proofs.Sights.{seen_more}
+use Rattle.bihash_table.proofs.OpenReadLemmas.{may_read}
+use Rattle.bihash_table.proofs.SeenBuckets.{seen_more}
 use Rattle.bihash_table.proofs.Tries.{over, over_read, tried_locked, tried_not, tried_read, under_as, under_lock, unworn_read}
 use Rattle.bihash_table.proofs.update.enter_new.Goals as goal
 
 pub find_free-requires : goal.find_free-requires
 find_free-requires g c = may_read c.requires.own c.requires.seen.seen
 
-pub lock_seen-requires-clause-own : goal.lock_seen-requires-clause-own
-lock_seen-requires-clause-own g c = own_through c.args.caller.now.seat _ _ c.find_free.ensures.same c.requires.own
+pub lock_if_unchanged-requires-clause-own : goal.lock_if_unchanged-requires-clause-own
+lock_if_unchanged-requires-clause-own g c = own_through c.args.caller.now.seat _ _ c.find_free.ensures.same c.requires.own
 
-pub lock_seen-requires-clause-seen : goal.lock_seen-requires-clause-seen
-lock_seen-requires-clause-seen g c = (seen_more (sizes_of g.S.Shape) _ _ _ _ c.in-Some.ensures.saw c.requires.seen).seen
+pub lock_if_unchanged-requires-clause-seen : goal.lock_if_unchanged-requires-clause-seen
+lock_if_unchanged-requires-clause-seen g c = (seen_more (sizes_of g.S.Shape) _ _ _ _ c.in-Some.ensures.saw c.requires.seen).seen
 
-pub returns-then-not-lock_seen : goal.returns-then-not-lock_seen
-returns-then-not-lock_seen g c = let site = c.args.seen.now.site in
-    over g.S.Shape _ _ _ _ _ _ (Err _) (tried_read g.S.Shape c.args.caller.now.seat c.find_free.new.seat c.lock_seen.new.seat site.bucket site.key.now None c.args.change
-    c.in-Some.ensures (sym site.home) (Err _)
-    (tried_not g.S.Shape _ _ _ _ _ _ (sym site.home) _ c.lock_seen.ensures c.if-not-lock_seen.true))
+pub returns-then-not-lock_if_unchanged : goal.returns-then-not-lock_if_unchanged
+returns-then-not-lock_if_unchanged g c = let hashed = c.args.seen.now.hashed in
+    over g.S.Shape _ _ _ _ _ _ (Err _) (tried_read g.S.Shape c.args.caller.now.seat c.find_free.new.seat c.lock_if_unchanged.new.seat hashed.bucket hashed.key.now None c.args.change
+    c.in-Some.ensures (sym hashed.home) (Err _)
+    (tried_not g.S.Shape _ _ _ _ _ _ (sym hashed.home) _ c.lock_if_unchanged.ensures c.if-not-lock_if_unchanged.true))
 
 pub fill-requires : goal.fill-requires
 fill-requires g c =
-    let h = subst (λ (d : Change). WantsChange g.S.Shape c.args.row.now c.args.caller.now.seat c.args.seen.now.site.bucket c.args.seen.now.word
-    c.args.seen.now.site.key.now None d) c.in-Set.is c.requires in
+    let h = subst (λ (d : Change). WantsChange g.S.Shape c.args.row.now c.args.caller.now.seat c.args.seen.now.hashed.bucket c.args.seen.now.word
+    c.args.seen.now.hashed.key.now None d) c.in-Set.is c.requires in
     let read = c.in-Some.ensures in
     under_as (under_lock g.S.Shape c.find_free.new.seat _ _ _ _ (own_through c.args.caller.now.seat _ _ read.same h.own)
     (unworn_read g.S.Shape c.args.caller.now.seat _ _ read h.unworn) h.storable (seen_more (sizes_of g.S.Shape) _ _ _ _ read.saw h.seen)
-    c.lock_seen.ensures c.if-not-lock_seen.false) (λ told. (told.0, told.1.0))
+    c.lock_if_unchanged.ensures c.if-not-lock_if_unchanged.false) (λ told. (told.0, told.1.0))
 
-pub returns-else-not-lock_seen : goal.returns-else-not-lock_seen
-returns-else-not-lock_seen g c = let site = c.args.seen.now.site in
+pub returns-else-not-lock_if_unchanged : goal.returns-else-not-lock_if_unchanged
+returns-else-not-lock_if_unchanged g c = let hashed = c.args.seen.now.hashed in
     over g.S.Shape _ _ _ _ _ _ (Ok c.fill.result)
-    (subst (λ (d : Change). Tried g.S.Shape c.args.caller.now.seat c.fill.new.seat site.key.now None d (Ok c.fill.result))
+    (subst (λ (d : Change). Tried g.S.Shape c.args.caller.now.seat c.fill.new.seat hashed.key.now None d (Ok c.fill.result))
     (sym c.in-Set.is)
-    (tried_read g.S.Shape c.args.caller.now.seat c.find_free.new.seat c.fill.new.seat site.bucket site.key.now None _
-    c.in-Some.ensures (sym site.home) (Ok c.fill.result)
-    (tried_locked g.S.Shape c.find_free.new.seat c.lock_seen.new.seat c.fill.new.seat site.bucket c.args.seen.now.word site.key.now _ _
-    c.lock_seen.ensures c.if-not-lock_seen.false (sym site.home) (Ok c.fill.result) c.fill.ensures)))
+    (tried_read g.S.Shape c.args.caller.now.seat c.find_free.new.seat c.fill.new.seat hashed.bucket hashed.key.now None _
+    c.in-Some.ensures (sym hashed.home) (Ok c.fill.result)
+    (tried_locked g.S.Shape c.find_free.new.seat c.lock_if_unchanged.new.seat c.fill.new.seat hashed.bucket c.args.seen.now.word hashed.key.now _ _
+    c.lock_if_unchanged.ensures c.if-not-lock_if_unchanged.false (sym hashed.home) (Ok c.fill.result) c.fill.ensures)))
 
 pub enter_larger-requires : goal.enter_larger-requires
 enter_larger-requires g c =
-    let h = subst (λ (d : Change). WantsChange g.S.Shape c.args.row.now c.args.caller.now.seat c.args.seen.now.site.bucket c.args.seen.now.word
-    c.args.seen.now.site.key.now None d) c.in-Set.is c.requires in
+    let h = subst (λ (d : Change). WantsChange g.S.Shape c.args.row.now c.args.caller.now.seat c.args.seen.now.hashed.bucket c.args.seen.now.word
+    c.args.seen.now.hashed.key.now None d) c.in-Set.is c.requires in
     let read = c.in-None.ensures in record {
       own = own_through c.args.caller.now.seat _ _ read.same h.own;
       seen = seen_more (sizes_of g.S.Shape) _ _ _ _ read.saw h.seen;
@@ -55,9 +55,9 @@ enter_larger-requires g c =
     }
 
 pub returns-in-None : goal.returns-in-None
-returns-in-None g c = let site = c.args.seen.now.site in
-    subst (λ (d : Change). TriedOver g.S.Shape c.args.caller.now.seat c.enter_larger.new.caller.seat site.key.now None d
+returns-in-None g c = let hashed = c.args.seen.now.hashed in
+    subst (λ (d : Change). TriedOver g.S.Shape c.args.caller.now.seat c.enter_larger.new.caller.seat hashed.key.now None d
     (g.E.Expiry.is_expired c.args.expiry.now) c.enter_larger.result) (sym c.in-Set.is)
-    (over_read g.S.Shape c.args.caller.now.seat c.find_free.new.seat c.enter_larger.new.caller.seat site.bucket site.key.now None _
+    (over_read g.S.Shape c.args.caller.now.seat c.find_free.new.seat c.enter_larger.new.caller.seat hashed.bucket hashed.key.now None _
     (g.E.Expiry.is_expired c.args.expiry.now)
-    c.in-None.ensures (sym site.home) c.enter_larger.result c.enter_larger.ensures)
+    c.in-None.ensures (sym hashed.home) c.enter_larger.result c.enter_larger.ensures)

@@ -4,7 +4,7 @@ use Rattle.bihash_steps.specs.Histories.{bounds_of}
 use Rattle.bihash_table.specs.inner.OpenReads.{value_of}
 use Rattle.bihash_table.specs.Tries.{TriedOver}
 use Rattle.bihash_table.proofs.Decisions.{kept_step, worn_step}
-use Rattle.bihash_table.proofs.Sights.{seen_as}
+use Rattle.bihash_table.proofs.SeenBuckets.{seen_as}
 use Rattle.bihash_table.proofs.Tries.{over, value_seen, wants_change}
 use Rattle.bihash_table.proofs.Versions.{unworn, worn}
 use Rattle.bihash_table.proofs.update.make.Goals as goal
@@ -22,8 +22,8 @@ answer-requires g c =
     }
 
 pub returns-then-is_idle : goal.returns-then-is_idle
-returns-then-is_idle g c = let site = c.args.seen.now.site in
-    subst (λ (f : Option ℕ). TriedOver g.S.Shape c.args.caller.now.seat c.answer.new.seat site.key.now f c.args.change
+returns-then-is_idle g c = let hashed = c.args.seen.now.hashed in
+    subst (λ (f : Option ℕ). TriedOver g.S.Shape c.args.caller.now.seat c.answer.new.seat hashed.key.now f c.args.change
     (g.E.Expiry.is_expired c.args.expiry.now) c.answer.result)
     c.value_found-found.ensures (over g.S.Shape _ _ _ _ _ _ c.answer.result c.answer.ensures)
 
@@ -43,8 +43,8 @@ answer-requires-then-is_worn g c =
     }
 
 pub returns-then-is_worn : goal.returns-then-is_worn
-returns-then-is_worn g c = let site = c.args.seen.now.site in
-    subst (λ (f : Option ℕ). TriedOver g.S.Shape c.args.caller.now.seat c.answer-then-is_worn.new.seat site.key.now f c.args.change
+returns-then-is_worn g c = let hashed = c.args.seen.now.hashed in
+    subst (λ (f : Option ℕ). TriedOver g.S.Shape c.args.caller.now.seat c.answer-then-is_worn.new.seat hashed.key.now f c.args.change
     (g.E.Expiry.is_expired c.args.expiry.now) c.answer-then-is_worn.result) c.value_found-found.ensures
     (over g.S.Shape _ _ _ _ _ _ c.answer-then-is_worn.result c.answer-then-is_worn.ensures)
 
@@ -54,8 +54,8 @@ change_pair-requires g c = wants_change g.S.Shape _ _ _ _ _ _ _ _ _ c.in-Some.is
     (c.is_idle.ensures.no c.if-is_idle.false) c.requires.storable
 
 pub returns-in-Some : goal.returns-in-Some
-returns-in-Some g c = let site = c.args.seen.now.site in
-    subst (λ (f : Option ℕ). TriedOver g.S.Shape c.args.caller.now.seat c.change_pair.new.seat site.key.now f c.args.change
+returns-in-Some g c = let hashed = c.args.seen.now.hashed in
+    subst (λ (f : Option ℕ). TriedOver g.S.Shape c.args.caller.now.seat c.change_pair.new.seat hashed.key.now f c.args.change
     (g.E.Expiry.is_expired c.args.expiry.now) c.change_pair.result) (sym (ap value_of c.in-Some.is))
     (over g.S.Shape _ _ _ _ _ _ c.change_pair.result c.change_pair.ensures)
 
@@ -65,6 +65,6 @@ enter_new-requires g c = wants_change g.S.Shape _ _ _ _ _ _ _ _ _ c.in-None.is c
     (c.is_idle.ensures.no c.if-is_idle.false) c.requires.storable
 
 pub returns-in-None : goal.returns-in-None
-returns-in-None g c = let site = c.args.seen.now.site in
-    subst (λ (f : Option ℕ). TriedOver g.S.Shape c.args.caller.now.seat c.enter_new.new.caller.seat site.key.now f c.args.change
+returns-in-None g c = let hashed = c.args.seen.now.hashed in
+    subst (λ (f : Option ℕ). TriedOver g.S.Shape c.args.caller.now.seat c.enter_new.new.caller.seat hashed.key.now f c.args.change
     (g.E.Expiry.is_expired c.args.expiry.now) c.enter_new.result) (sym (ap value_of c.in-None.is)) c.enter_new.ensures

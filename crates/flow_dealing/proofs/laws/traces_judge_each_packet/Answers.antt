@@ -1,4 +1,4 @@
-use Rattle.flow_dealing.proofs.Merging.{judge_each_packet}
+use Rattle.flow_dealing.proofs.TraceMerges.{judge_each_packet}
 use Rattle.flow_dealing.proofs.laws.traces_judge_each_packet.Goals as goal
 
 pub returns : goal.returns

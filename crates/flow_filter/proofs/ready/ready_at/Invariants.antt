@@ -1,7 +1,7 @@
 use Rattle.std.proofs.Common.{◌≡◌, length, map}
 use Rattle.std.specs.List.{AllZip}
 use Rattle.acl_policy.specs.Policies.{section_among, section_facts}
-use Rattle.flow_filter.specs.PreparedRules.{ArePrepared}
+use Rattle.flow_filter.specs.RuleIndexes.{ArePrepared}
 use Rattle.flow_filter.proofs.ready.ready_at.Given as goal
 
 -- what is left decides, and is prepared

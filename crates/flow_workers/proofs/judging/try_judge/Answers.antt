@@ -5,7 +5,7 @@ use Rattle.packet_view.specs.Frames.{frame_facts}
 use Rattle.acl_policy.specs.Policies.{SectionFacts, policy_facts}
 use Rattle.flow_filter.specs.Filters.{section_in}
 use Rattle.flow_filter.specs.Readings.{IsSeenAt}
-use Rattle.flow_dealing.specs.Dealings.{flow_shown}
+use Rattle.flow_dealing.specs.Dealings.{flow_of_frame}
 use Rattle.flow_workers.specs.Judging.{TookByOneTry}
 use Rattle.flow_workers.specs.Verdicts.{HasNoVerdict, HasVerdict}
 use Rattle.flow_workers.specs.inner.ViewedPackets.{IsViewedBy}
@@ -42,6 +42,6 @@ returns g c =
       settled = λ has.
           let own = ap (λ (section : SectionFacts). section.own) (sym c.ready-filter.ensures.section) in
           let framed = subst (λ o. IsSeenAt o packet has.view) own has.framed in
-          tells.settled (ap (λ f. flow_shown (frame_facts f)) c.new-packet.ensures.frame
-          ∙ (ap flow_shown (sym (c.view-frame.ensures.only has.view framed)) ∙ has.shown));
+          tells.settled (ap (λ f. flow_of_frame (frame_facts f)) c.new-packet.ensures.frame
+          ∙ (ap flow_of_frame (sym (c.view-frame.ensures.only has.view framed)) ∙ has.shown));
     }

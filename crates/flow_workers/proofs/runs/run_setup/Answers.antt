@@ -1,15 +1,15 @@
 use Rattle.std.proofs.Common.{◌∙◌, []}
 use Rattle.std.proofs.lemmas.Result.{IfOk-weaker}
-use Rattle.packet_view.specs.CheckedCaptures.{held}
+use Rattle.packet_view.specs.CheckedCaptures.{remaining}
 use Rattle.flow_workers.proofs.RestLemmas.{said_by}
 use Rattle.flow_workers.proofs.runs.run_setup.Goals as goal
 
 pub end-requires : goal.end-requires
-end-requires g c = (held c.args.packets, c.in-Ok-judge.ensures.rest [] c.in-Ok.ensures.rest)
+end-requires g c = (remaining c.args.packets, c.in-Ok-judge.ensures.rest [] c.in-Ok.ensures.rest)
 
 pub returns-in-Ok-judge : goal.returns-in-Ok-judge
 returns-in-Ok-judge g c =
     IfOk-weaker c.end.result _ _
-    (λ v said. said_by g.A.Shape g.B.Shape _ _ (held c.args.packets) v.items
+    (λ v said. said_by g.A.Shape g.B.Shape _ _ (remaining c.args.packets) v.items
     (c.in-Ok-judge.ensures.by ∙ c.in-Ok.ensures.by)
     (c.in-Ok-judge.ensures.rest [] c.in-Ok.ensures.rest) said) c.end.ensures

@@ -4,14 +4,14 @@ use Rattle.flow_workers.specs.Callers.{AreIdle}
 use Rattle.flow_workers.proofs.TogetherLemmas.{next_worked}
 use Rattle.flow_workers.proofs.together.judge_next.Goals as goal
 
-pub judge_own-requires : goal.judge_own-requires
-judge_own-requires g c =
-    let run = c.args.run.now in
+pub judge_packet-requires : goal.judge_packet-requires
+judge_packet-requires g c =
+    let batch = c.args.batch.now in
     let few = c.worker_for-worker.ensures.one in
     let counted = c.requires.count in
     record {
       shapes = c.requires.choose.shapes;
-      idle = subst (λ s. AreIdle g.A.Shape g.B.Shape run.setup.tables.now s.callers) (sym c.index_mut.ensures.value)
+      idle = subst (λ s. AreIdle g.A.Shape g.B.Shape batch.setup.tables.now s.callers) (sym c.index_mut.ensures.value)
           (c.requires.idle c.worker_for-worker.result c.index_mut.result.now (omega arith));
       fits = c.requires.fits;
       there = c.requires.there;
@@ -23,10 +23,10 @@ returns g c =
     let few = c.worker_for-worker.ensures.one in
     let counted = c.requires.count in
     record {
-      worked = next_worked g.A.Shape g.B.Shape c.args.run.now c.args.at c.worker_for-worker.result
-          (packet_facts c.args.packet.now) c.args.shares.now.items c.index_mut.result.now c.judge_own.new.share
+      worked = next_worked g.A.Shape g.B.Shape c.args.batch.now c.args.at c.worker_for-worker.result
+          (packet_facts c.args.packet.now) c.args.shares.now.items c.index_mut.result.now c.judge_packet.new.share
           c.requires.idle c.requires.there c.worker_for-worker.ensures.dealt (omega arith)
-          (sym c.index_mut.ensures.value) c.in_ok-judge_own.ensures;
+          (sym c.index_mut.ensures.value) c.in_ok-judge_packet.ensures;
       dealt = c.worker_for-worker.ensures.dealt;
       one = few;
     }

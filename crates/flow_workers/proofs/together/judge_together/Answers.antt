@@ -1,6 +1,6 @@
 use Rattle.std.proofs.Common.{◌≡◌, ◌∙◌, arith, length, subst, sym}
 use Rattle.packet_view.specs.Captures.{packet_facts}
-use Rattle.packet_view.specs.CheckedCaptures.{held}
+use Rattle.packet_view.specs.CheckedCaptures.{remaining}
 use Rattle.packet_dealing.proofs.DealtLists.{left_behind, none_left, stands_at}
 use Rattle.flow_workers.specs.inner.Jobs.{dealer_of}
 use Rattle.flow_workers.specs.inner.Together.{HaveNotedSome}
@@ -10,13 +10,13 @@ use Rattle.flow_workers.proofs.together.judge_together.Goals as goal
 
 pub packets-init : goal.packets-init
 packets-init g c =
-    let run = c.args.run in
+    let batch = c.args.batch in
     record {
       left = sym c.new-packets.ensures;
       inside = omega arith;
       worked = c.in_ok-make_room.ensures;
       noted = rw c.in_ok-reserve.ensures.items
-          (none_noted g.A.Shape g.B.Shape (dealer_of run.setup) run.first (held run.packets) c.args.judges.now.items);
+          (none_noted g.A.Shape g.B.Shape (dealer_of batch.setup) batch.first (remaining batch.packets) c.args.judges.now.items);
     }
 
 pub judge_next-requires : goal.judge_next-requires
@@ -25,34 +25,34 @@ judge_next-requires g c =
     record {
       choose = record { shapes = c.requires.shapes; some = c.requires.some };
       count = c.packets.invariant.worked.count ∙ c.requires.count;
-      idle = idle_after g.A.Shape g.B.Shape c.args.run 0 c.packets.taken _ _ c.packets.invariant.worked;
+      idle = idle_after g.A.Shape g.B.Shape c.args.batch 0 c.packets.taken _ _ c.packets.invariant.worked;
       fits = c.requires.fits;
       there = stands_at _ _ c.packets.taken _ taken;
     }
 
 pub packets-preserved : goal.packets-preserved
 packets-preserved g c =
-    let run = c.args.run in
+    let batch = c.args.batch in
     let taken = c.packets.invariant.left ∙ c.in-Some.ensures in
-    let inside = taken_inside (held run.packets) _ c.packets.taken _ taken in
+    let inside = taken_inside (remaining batch.packets) _ c.packets.taken _ taken in
     record {
       left = left_behind _ _ c.packets.taken _ taken;
       inside = omega arith;
-      worked = all_worked_on g.A.Shape g.B.Shape run 0 c.packets.taken _ _ _ _ c.packets.invariant.worked
+      worked = all_worked_on g.A.Shape g.B.Shape batch 0 c.packets.taken _ _ _ _ c.packets.invariant.worked
           c.in_ok-worker.ensures.worked;
-      noted = noted_push g.A.Shape g.B.Shape (dealer_of run.setup) run.first (held run.packets) c.packets.taken
+      noted = noted_push g.A.Shape g.B.Shape (dealer_of batch.setup) batch.first (remaining batch.packets) c.packets.taken
           c.in_ok-worker.worker (packet_facts c.in-Some.packet) _ _ _ c.packets.invariant.noted
           (stands_at _ _ c.packets.taken _ taken) c.in_ok-worker.ensures.dealt c.in_ok-push.ensures.items;
     }
 
 pub returns : goal.returns
 returns g c =
-    let run = c.args.run in
-    let none = none_left (held run.packets) c.packets.taken (c.packets.invariant.left ∙ c.in_default.ensures.0) in
+    let batch = c.args.batch in
+    let none = none_left (remaining batch.packets) c.packets.taken (c.packets.invariant.left ∙ c.in_default.ensures.0) in
     let inside = c.packets.invariant.inside in
-    let all : c.packets.taken ≡ length (held run.packets) = omega arith in
+    let all : c.packets.taken ≡ length (remaining batch.packets) = omega arith in
     record {
-      worked = all_worked_to g.A.Shape g.B.Shape run 0 c.packets.taken _ _ _ all c.packets.invariant.worked;
-      noted = subst (λ n. HaveNotedSome g.A.Shape g.B.Shape (dealer_of run.setup) run.first (held run.packets) n
+      worked = all_worked_to g.A.Shape g.B.Shape batch 0 c.packets.taken _ _ _ all c.packets.invariant.worked;
+      noted = subst (λ n. HaveNotedSome g.A.Shape g.B.Shape (dealer_of batch.setup) batch.first (remaining batch.packets) n
           c.args.judges.now.items c.packets.judges.items) all c.packets.invariant.noted;
     }

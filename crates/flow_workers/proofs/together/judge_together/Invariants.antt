@@ -1,5 +1,5 @@
 use Rattle.std.proofs.Common.{◌≡◌, ◌≤◌, drop, length}
-use Rattle.packet_view.specs.CheckedCaptures.{held}
+use Rattle.packet_view.specs.CheckedCaptures.{remaining}
 use Rattle.flow_workers.specs.inner.Jobs.{dealer_of}
 use Rattle.flow_workers.specs.inner.Together.{HaveNotedSome}
 use Rattle.flow_workers.specs.inner.Turns.{HaveWorkedOn}
@@ -7,10 +7,10 @@ use Rattle.flow_workers.proofs.together.judge_together.Given as goal
 
 abbrev pub invariant-packets : goal.invariant-packets
 invariant-packets g l = record {
-  left : drop l.taken (held l.run.packets) ≡ l.packets.left;
-  inside : l.taken ≤ length (held l.run.packets);
-  worked : HaveWorkedOn {ga = g.A.Shape} {gb = g.B.Shape} l.run 0 l.taken l.fn.shares.items l.shares.items;
-  noted : HaveNotedSome g.A.Shape g.B.Shape (dealer_of l.run.setup) l.run.first (held l.run.packets) l.taken
+  left : drop l.taken (remaining l.batch.packets) ≡ l.packets.left;
+  inside : l.taken ≤ length (remaining l.batch.packets);
+  worked : HaveWorkedOn {ga = g.A.Shape} {gb = g.B.Shape} l.batch 0 l.taken l.fn.shares.items l.shares.items;
+  noted : HaveNotedSome g.A.Shape g.B.Shape (dealer_of l.batch.setup) l.batch.first (remaining l.batch.packets) l.taken
       l.fn.judges.items l.judges.items;
 }
 

@@ -5,7 +5,7 @@ use Rattle.flow_workers.proofs.turns.turns_of.Goals as goal
 pub loop-share-init : goal.loop-share-init
 loop-share-init g c = record {
   worker = refl;
-  are = rw c.in_ok-turns.ensures.items (no_turns g.A.Shape g.B.Shape c.args.run c.args.dealt);
+  are = rw c.in_ok-turns.ensures.items (no_turns g.A.Shape g.B.Shape c.args.batch c.args.dealt);
 }
 
 pub loop-share-preserved : goal.loop-share-preserved
@@ -15,7 +15,7 @@ loop-share-preserved g c =
     let longer = length-append c.loop-share.yielded (c.in-Some.share ∷ []) in
     record {
       worker = omega arith;
-      are = turns_push g.A.Shape g.B.Shape c.args.run c.args.dealt c.loop-share.yielded c.in-Some.share c.loop-share.turns.items
+      are = turns_push g.A.Shape g.B.Shape c.args.batch c.args.dealt c.loop-share.yielded c.in-Some.share c.loop-share.turns.items
           c.push.new.self.items c.again.result c.loop-share.worker inv.are c.in_ok-push.ensures.items
           c.again.ensures inv.worker;
     }

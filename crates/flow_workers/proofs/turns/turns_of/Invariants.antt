@@ -5,5 +5,5 @@ use Rattle.flow_workers.proofs.turns.turns_of.Given as goal
 abbrev pub invariant-loop-share : goal.invariant-loop-share
 invariant-loop-share g l = record {
   worker : l.worker ≡ length l.yielded;
-  are : AreTurns {ga = g.A.Shape} {gb = g.B.Shape} l.fn.run l.fn.dealt l.yielded l.turns.items;
+  are : AreTurns {ga = g.A.Shape} {gb = g.B.Shape} l.fn.batch l.fn.dealt l.yielded l.turns.items;
 }

@@ -5,7 +5,7 @@ use Rattle.packet_view.proofs.front.front_records.Given as goal
 
 -- so many records stand before what is left, and a record may keep the likely length
 abbrev pub invariant-records : goal.invariant-records
-invariant-records l = AreBefore l.order l.bytes l.rest l.count × (l.likely ≤ kept_limit)
+invariant-records l = AreBefore l.order l.bytes l.rest l.count × (l.predicted_len ≤ kept_limit)
 
 abbrev pub decreases-records : goal.decreases-records
 decreases-records l = length l.rest

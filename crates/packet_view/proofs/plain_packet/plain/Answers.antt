@@ -1,6 +1,6 @@
 -- What was tested and read makes the frame plain.
 use Rattle.std.proofs.Common.{◌≤◌, ◌∙◌, ◌-◌, ◌%◌, ℕ, length, ap, subst, sym, refl, inl, inr, arith}
-use Rattle.packet_view.specs.Packets.{extent}
+use Rattle.packet_view.specs.IpPackets.{extent}
 use Rattle.packet_view.proofs.PlainLemmas.{end_of, is_plain}
 use Rattle.packet_view.proofs.plain_packet.plain.Goals as goal
 use Rattle.packet_view.proofs.plain_packet.plain.Goals.{in-6, in-17, then-least-eq34, else-least-eq34}

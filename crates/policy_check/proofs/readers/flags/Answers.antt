@@ -7,4 +7,4 @@ use Rattle.policy_check.proofs.readers.flags.Goals as goal
 pub returns : goal.returns
 returns c =
     let w = c.args.word.now in
-    read_as (flags_in w) c.flags_of.result (IsFlags w) c.flags_of.ensures (λ f found. flags_in-sound w f found) (λ f is. flags_in-complete w f is)
+    read_as (flags_in w) c.flags_of_word.result (IsFlags w) c.flags_of_word.ensures (λ f found. flags_in-sound w f found) (λ f is. flags_in-complete w f is)

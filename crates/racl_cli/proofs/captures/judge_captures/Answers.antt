@@ -1,12 +1,12 @@
 use Rattle.std.proofs.Common.{◌∙◌, ℕ, List, [], Option, Some, ap, inl, inr, refl, subst}
 use Rattle.std.proofs.lemmas.Result.{IfErr-weaker, IfOk-weaker}
 use Rattle.acl_policy.specs.Policies.{policy_facts}
-use Rattle.flow_dealing.specs.Runs.{AreJudged, HavePages}
+use Rattle.flow_dealing.specs.WorkerRecords.{AreJudged, HavePages}
 use Rattle.flow_dealing.proofs.FewPackets.{pages_for_few}
 use Rattle.flow_dealing.proofs.OneReport.{one_report}
 use Rattle.racl_io.specs.Inputs.{NumberedFacts, numbered_facts}
 use Rattle.racl_cli.specs.Crews.{orders_of}
-use Rattle.racl_cli.specs.Runs.{ByOneThread, dealt_to}
+use Rattle.racl_cli.specs.Runs.{ByOneThread, bucket_deal}
 use Rattle.racl_cli.specs.inner.Captures.{AreTakenFrom, IsFaultFrom}
 use Rattle.racl_cli.proofs.OutcomeLemmas.{given_by_workers, judged_as}
 use Rattle.racl_cli.proofs.TakenLemmas.{all_behind, answered}
@@ -29,7 +29,7 @@ returns g c =
     (λ outcome has.
     let packets = has.packets in
     let verdicts = outcome.verdicts in
-    let judged : AreJudged (dealt_to options.tables workers) filter.times policy packets verdicts =
+    let judged : AreJudged (bucket_deal options.tables workers) filter.times policy packets verdicts =
     judged_as packets verdicts _ _ _ c.in_ok-ready.ready filter workers (ap orders_of c.at.ensures.workers ∙ c.in-Ok-new.ensures.given) c.in-Ok.ensures.size
     c.in_ok-ready.ensures.times c.in_ok-ready.ensures.policy has.said in (
       packets,

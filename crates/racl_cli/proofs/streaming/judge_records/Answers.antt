@@ -2,12 +2,12 @@ use Rattle.std.proofs.Common.{◌≡◌, ◌∙◌, ◌++◌, List, [], ◌∷�
 use Rattle.std.proofs.lemmas.Result.{err_from_is_err_and}
 use Rattle.packet_view.specs.Captures.{packets_at}
 use Rattle.acl_policy.specs.Policies.{policy_facts}
-use Rattle.flow_dealing.specs.Runs.{AreJudged, HavePages}
+use Rattle.flow_dealing.specs.WorkerRecords.{AreJudged, HavePages}
 use Rattle.flow_dealing.proofs.FewPackets.{pages_for_few}
 use Rattle.flow_dealing.proofs.OneReport.{one_report}
 use Rattle.racl_io.proofs.TransferLemmas.{within_of_err}
 use Rattle.racl_io.specs.declared.report.Captured.{Captured}
-use Rattle.racl_cli.specs.Runs.{ByOneThread, dealt_to, told_of}
+use Rattle.racl_cli.specs.Runs.{ByOneThread, bucket_deal, told_of}
 use Rattle.racl_cli.proofs.OutcomeLemmas.{given_by_workers, judged_as, judged_count}
 use Rattle.racl_cli.proofs.streaming.judge_records.Goals as goal
 
@@ -29,7 +29,7 @@ returns-clause-ok g c =
     let policy = policy_facts filter.policy in
     let verdicts = c.in-Ok-end.verdicts.items in
     let workers = c.plan_for-expected.result.1 in
-    let judged : AreJudged (dealt_to options.tables workers) filter.times policy (packets_at 0 s.packets) verdicts =
+    let judged : AreJudged (bucket_deal options.tables workers) filter.times policy (packets_at 0 s.packets) verdicts =
     judged_as (packets_at 0 s.packets) verdicts _ _ _ c.in-Ok-ready_with.ready filter workers (s.judged.1.given ∙ c.in-Ok-new.ensures.given) c.in-Ok.ensures.size
     c.in-Ok-ready_with.ensures.times c.in-Ok-ready_with.ensures.policy (c.in-Ok-end.ensures (packets_at 0 s.packets) s.judged.1.rest) in
     let counted : length verdicts ≡ length (packets_at 0 s.packets) = judged_count _ filter.times policy (packets_at 0 s.packets) verdicts judged in

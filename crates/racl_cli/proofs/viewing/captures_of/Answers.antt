@@ -10,11 +10,11 @@ returns-in_ok-from_slice-in-Binary c = λ packets captures has.
     alone_packets (λ all. all.items) c.one_capture.result (record { interface = 0; bytes = c.in_ok-from_slice-in-Binary.field-0 }) Binary content packets captures tt
     refl c.in_ok-from_slice-in-Binary.ensures.items (subst (λ f. HasPackets f content packets captures) c.in-Binary.is has) c.one_capture.ensures
 
-pub returns-in_ok-decoded-in-Hexadecimal : goal.returns-in_ok-decoded-in-Hexadecimal
-returns-in_ok-decoded-in-Hexadecimal c = λ packets captures has.
+pub returns-in_ok-decode_digits-in-Hexadecimal : goal.returns-in_ok-decode_digits-in-Hexadecimal
+returns-in_ok-decode_digits-in-Hexadecimal c = λ packets captures has.
     let content = c.args.input.content.now in
-    alone_packets (λ all. all.items) c.one_capture-in-Hexadecimal.result (record { interface = 0; bytes = c.in_ok-decoded-in-Hexadecimal.field-0 }) Hexadecimal content
-    packets captures tt refl c.in_ok-decoded-in-Hexadecimal.ensures.ok (subst (λ f. HasPackets f content packets captures) c.in-Hexadecimal.is has)
+    alone_packets (λ all. all.items) c.one_capture-in-Hexadecimal.result (record { interface = 0; bytes = c.in_ok-decode_digits-in-Hexadecimal.field-0 }) Hexadecimal content
+    packets captures tt refl c.in_ok-decode_digits-in-Hexadecimal.ensures.ok (subst (λ f. HasPackets f content packets captures) c.in-Hexadecimal.is has)
     c.one_capture-in-Hexadecimal.ensures
 
 pub returns-in-Numbered : goal.returns-in-Numbered

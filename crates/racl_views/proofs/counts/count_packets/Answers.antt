@@ -1,7 +1,7 @@
 use Rattle.std.proofs.Common.{◌≡◌, ◌∙◌, ◌++◌, ◌+◌, [], ◌∷◌, arith, ap, cond, drop, length, refl, subst, sym}
 use Rattle.std.proofs.Math.ListN.{drop_of_length-le}
 use Rattle.std.proofs.lemmas.List.{length_push}
-use Rattle.packet_view.specs.CheckedCaptures.{held}
+use Rattle.packet_view.specs.CheckedCaptures.{remaining}
 use Rattle.packet_view.specs.Captures.{packet_facts}
 use Rattle.acl_policy.specs.Policies.{policy_facts}
 use Rattle.racl_views.specs.Deciding.{AreDecided}
@@ -16,7 +16,7 @@ verdicts-preserved c =
     let more = length_push h.rules rule in
     record {
       rules = h.rules ++ rule ∷ [];
-      goes_on = λ others after. decided_more (policy_facts c.args.policy.now) [] (held c.args.packets) (held c.verdicts.left) (held c.next.new.self)
+      goes_on = λ others after. decided_more (policy_facts c.args.policy.now) [] (remaining c.args.packets) (remaining c.verdicts.left) (remaining c.next.new.self)
           (packet_facts c.in-Some.packet) c.args.verdicts.now c.verdicts.verdict-index _ h.rules others rule c.verdicts-test.true c.in-Some.ensures
           c.deciding_rule.ensures.decided h.goes_on after;
       counted = λ name small. c.in_ok-count_decided.ensures.counted name small
@@ -32,7 +32,7 @@ returns c =
     let left : drop c.verdicts.verdict-index c.args.verdicts.now ≡ [] = drop_of_length-le c.args.verdicts.now c.verdicts-test.false in
     record {
       rules = h.rules ++ [];
-      decided = h.goes_on [] (subst (λ vs. AreDecided policy (held c.verdicts.left) vs []) (sym left) (none_left policy (held c.verdicts.left)));
+      decided = h.goes_on [] (subst (λ vs. AreDecided policy (remaining c.verdicts.left) vs []) (sym left) (none_left policy (remaining c.verdicts.left)));
       counted = counted_all c.verdicts.counts.items h.rules h.counted;
     }
 

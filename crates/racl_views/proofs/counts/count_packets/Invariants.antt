@@ -1,5 +1,5 @@
 use Rattle.std.proofs.Common.{◌≡◌, ◌≤◌, ◌<◌, ◌^◌, ◌++◌, ℕ, List, Option, drop, get_or, length}
-use Rattle.packet_view.specs.CheckedCaptures.{held}
+use Rattle.packet_view.specs.CheckedCaptures.{remaining}
 use Rattle.acl_policy.specs.Policies.{policy_facts}
 use Rattle.racl_views.specs.Deciding.{AreDecided}
 use Rattle.racl_views.specs.Hits.{hits_on}
@@ -11,8 +11,8 @@ use Rattle.racl_views.proofs.counts.count_packets.Given as goal
 abbrev pub invariant-verdicts : goal.invariant-verdicts
 invariant-verdicts l = record {
   rules : List (Option RuleName);
-  goes_on : (others : List (Option RuleName)) → AreDecided (policy_facts l.policy) (held l.left) (drop l.verdict-index l.verdicts) others
-      → AreDecided (policy_facts l.policy) (held l.packets) l.verdicts (rules ++ others);
+  goes_on : (others : List (Option RuleName)) → AreDecided (policy_facts l.policy) (remaining l.left) (drop l.verdict-index l.verdicts) others
+      → AreDecided (policy_facts l.policy) (remaining l.packets) l.verdicts (rules ++ others);
   counted : (name : RuleName) → name.interface < 2 ^ 8 → get_or l.counts.items (place_of name) 0 ≡ hits_on name rules;
   few : (place : ℕ) → get_or l.counts.items place 0 ≤ length rules;
   within : length rules ≤ l.verdict-index;

@@ -3,7 +3,7 @@ use Rattle.bihash_words.specs.Sizes.{sizes_of}
 use Rattle.bihash_steps.specs.Seats.{CallerState}
 use Rattle.bihash_steps.specs.BucketSteps.{IsLockedWord}
 use Rattle.bihash_steps.proofs.Addresses.{loads_at}
-use Rattle.bihash_steps.proofs.Runs.{word_of_block}
+use Rattle.bihash_steps.proofs.OwnedWords.{word_of_block}
 use Rattle.bihash_steps.proofs.SeatCounts.{counted_next, state_same, of_seat}
 use Rattle.bihash_steps.proofs.row.Row.load_locked.Goals as goal
 

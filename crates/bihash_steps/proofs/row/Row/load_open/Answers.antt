@@ -2,7 +2,7 @@ use Rattle.std.proofs.Common.{rules, refl, [], ◌∷◌}
 use Rattle.bihash_words.specs.Sizes.{sizes_of}
 use Rattle.bihash_steps.specs.BucketSteps.{IsOpenWord, with_reading}
 use Rattle.bihash_steps.proofs.Addresses.{loads_open_at}
-use Rattle.bihash_steps.proofs.Runs.{word_of_block}
+use Rattle.bihash_steps.proofs.OwnedWords.{word_of_block}
 use Rattle.bihash_steps.proofs.SeatCounts.{counted_next, state_next, of_seat}
 use Rattle.bihash_steps.proofs.row.Row.load_open.Goals as goal
 

@@ -3,7 +3,7 @@ use Rattle.bihash_words.specs.Sizes.{sizes_of}
 use Rattle.bihash_steps.specs.Seats.{CallerState}
 use Rattle.bihash_steps.specs.BucketSteps.{IsLockedWord, with_lock, stored_in}
 use Rattle.bihash_steps.proofs.Addresses.{stores_at}
-use Rattle.bihash_steps.proofs.Runs.{word_of_block}
+use Rattle.bihash_steps.proofs.OwnedWords.{word_of_block}
 use Rattle.bihash_steps.proofs.SeatCounts.{counted_next, state_next, of_seat}
 use Rattle.bihash_steps.proofs.row.Row.store_locked.Goals as goal
 

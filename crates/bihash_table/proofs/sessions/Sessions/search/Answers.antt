@@ -1,14 +1,14 @@
 use Rattle.std.proofs.Common.{refl, ◌∙◌}
 use Rattle.bihash_words.specs.Sizes.{sizes_of}
-use Rattle.bihash_table.proofs.Composed.{again_answered}
+use Rattle.bihash_table.proofs.CallChains.{again_answered}
 use Rattle.bihash_table.proofs.SameCallers.{own_through, same_through}
 use Rattle.bihash_table.proofs.sessions.Sessions.search.Goals as goal
 
-pub search_again-requires-clause-own : goal.search_again-requires-clause-own
-search_again-requires-clause-own g c = own_through c.args.caller.now.seat _ _ c.try_search.ensures.same c.requires.own
-
-pub search_again-requires-clause-free : goal.search_again-requires-clause-free
-search_again-requires-clause-free g c = c.in_default.ensures.contended.free
+pub search_again-requires : goal.search_again-requires
+search_again-requires g c = record {
+  own = own_through c.args.caller.now.seat _ _ c.try_search.ensures.same c.requires.own;
+  free = c.in_default.ensures.contended.free;
+}
 
 pub returns : goal.returns
 returns g c =

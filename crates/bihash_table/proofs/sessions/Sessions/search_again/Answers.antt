@@ -1,7 +1,7 @@
 use Rattle.std.proofs.Common.{refl, ap, ◌∙◌}
 use Rattle.bihash_words.specs.Sizes.{sizes_of}
 use Rattle.bihash_steps.specs.Seats.{CallerState, with_view}
-use Rattle.bihash_table.proofs.Composed.{not_yet_tried, again_contended, again_answered}
+use Rattle.bihash_table.proofs.CallChains.{not_yet_tried, again_contended, again_answered}
 use Rattle.bihash_table.proofs.SameCallers.{same_through}
 use Rattle.bihash_table.proofs.sessions.Sessions.search_again.Goals as goal
 

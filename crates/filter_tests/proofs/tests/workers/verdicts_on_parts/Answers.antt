@@ -1,8 +1,8 @@
 use Rattle.std.proofs.Common.{[], arith}
 use Rattle.std.proofs.lemmas.List.{length-map}
 use Rattle.packet_view.specs.Captures.{packet_facts}
-use Rattle.packet_view.specs.CheckedCaptures.{held}
-use Rattle.packet_view.specs.declared.packets.Packets.TheVariants.{Listed}
+use Rattle.packet_view.specs.CheckedCaptures.{remaining}
+use Rattle.packet_view.specs.declared.packets.Packets.TheVariants as kind
 use Rattle.flow_workers.specs.Progress.{CanJudge}
 use Rattle.filter_tests.proofs.tests.workers.verdicts_on_parts.Goals as goal
 
@@ -11,9 +11,9 @@ judge-requires-2-after_bounds g c κs lives =
     let few = c.requires.few in
     let first = length-map c.args.first.now packet_facts in
     let second = length-map c.args.second.now packet_facts in
-    let may : CanJudge c.in-Ok-judge.once (Listed c.args.second) =
+    let may : CanJudge c.in-Ok-judge.once (kind.Slice c.args.second) =
     record {
-      packets = held (Listed c.args.first);
+      packets = remaining (kind.Slice c.args.first);
       rest = c.in-Ok-judge.ensures.rest [] c.in-Ok-new.ensures.rest;
       fits = omega arith;
     } in may
@@ -21,5 +21,5 @@ judge-requires-2-after_bounds g c κs lives =
 pub end-requires : goal.end-requires
 end-requires g c = (
   _,
-  c.in-Ok-judge-2.ensures.rest (held (Listed c.args.first)) (c.in-Ok-judge.ensures.rest [] c.in-Ok-new.ensures.rest),
+  c.in-Ok-judge-2.ensures.rest (remaining (kind.Slice c.args.first)) (c.in-Ok-judge.ensures.rest [] c.in-Ok-new.ensures.rest),
 )

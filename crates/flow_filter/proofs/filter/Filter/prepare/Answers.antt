@@ -3,13 +3,13 @@ use Rattle.std.specs.List.{AllZip}
 use Rattle.std.proofs.lemmas.List.{take_more}
 use Rattle.std.proofs.lemmas.Slice.Zip.{all_zipped_more}
 use Rattle.acl_policy.specs.declared.policy.Section.{Section}
-use Rattle.flow_filter.specs.PreparedRules.{ArePrepared, ArePreparedFor}
-use Rattle.flow_filter.specs.declared.prepared_rules.PreparedRules.{PreparedRules}
+use Rattle.flow_filter.specs.RuleIndexes.{ArePrepared, ArePreparedFor}
+use Rattle.flow_filter.specs.declared.rule_indexes.RuleIndexes.{RuleIndexes}
 use Rattle.flow_filter.proofs.filter.Filter.prepare.Goals as goal
 
 -- what holds of each section so far and its rules, and of the next ones, holds of one more
-one_more : (P : Section → PreparedRules → Type 0) (sections : List Section) (i : ℕ) (section : Section)
-    (all new : List PreparedRules) (one : PreparedRules) → take (i + 1) sections ≡ take i sections ++ section ∷ []
+one_more : (P : Section → RuleIndexes → Type 0) (sections : List Section) (i : ℕ) (section : Section)
+    (all new : List RuleIndexes) (one : RuleIndexes) → take (i + 1) sections ≡ take i sections ++ section ∷ []
     → new ≡ all ++ one ∷ [] → AllZip P (take i sections) all → P section one → AllZip P (take (i + 1) sections) new
 one_more P sections i section all new one taken pushed zipped is =
     subst (λ (ss : List Section). AllZip P ss new) (sym taken)

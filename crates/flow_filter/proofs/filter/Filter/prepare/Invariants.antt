@@ -1,6 +1,6 @@
 use Rattle.std.proofs.Common.{take}
 use Rattle.std.specs.List.{AllZip}
-use Rattle.flow_filter.specs.PreparedRules.{ArePrepared, ArePreparedFor}
+use Rattle.flow_filter.specs.RuleIndexes.{ArePrepared, ArePreparedFor}
 use Rattle.flow_filter.proofs.filter.Filter.prepare.Given as goal
 
 -- the rules of the sections so far are prepared

@@ -6,6 +6,6 @@ pub returns-in-Ok : goal.returns-in-Ok
 returns-in-Ok g c = record {
   by = refl;
   rest = λ packets rest. rest_more g.A.Shape g.B.Shape c.args.self packets rest _ c.again.ensures refl
-      c.in-Ok.shares c.judge_run.new.judges _ c.in-Ok.ensures
+      c.in-Ok.shares c.judge_batch.new.judges _ c.in-Ok.ensures
       (let n = c.count.ensures in omega arith);
 }

@@ -2,7 +2,7 @@ use Rattle.std.proofs.Common.{◌∙◌, ◌++◌, ap, arith, lit≤, map, refl,
 use Rattle.std.proofs.lemmas.List.{length-set}
 use Rattle.packet_view.specs.Captures.{packet_facts}
 use Rattle.packet_view.specs.CheckedCaptures.{packets_of}
-use Rattle.packet_view.proofs.AheadLemmas.{found_more, found_none}
+use Rattle.packet_view.proofs.BurstLemmas.{found_more, found_none}
 use Rattle.packet_view.proofs.records.Records.take_into.Goals as goal
 
 pub taken-init : goal.taken-init

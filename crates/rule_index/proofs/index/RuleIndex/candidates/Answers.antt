@@ -17,5 +17,5 @@ returns c =
       protocol = protocol;
       first = c.row_or.ensures First rules tuple index.first_sieves c.first_number.ensures protocol;
       second = c.row_or-2.ensures Second rules tuple index.second_sieves c.second_number.ensures protocol;
-      flags = c.row_or-3.ensures rules tuple index.flags_sieves c.flags_of.ensures protocol;
+      flags = c.row_or-3.ensures rules tuple index.flags_sieves c.tcp_flags.ensures protocol;
     }

@@ -16,8 +16,8 @@ use Rattle.bihash_steps.specs.BucketCalls.{event}
 use Rattle.bihash_steps.specs.BucketSteps.{IsOpenWord, MayValidate, SeesOpen, call_of, map_now, open_on, read_more, with_reading}
 use Rattle.bihash_steps.specs.declared.view.Known.{Known}
 use Rattle.bihash_steps.specs.declared.view.View.{View}
-use Rattle.bihash_steps.proofs.Informed.{known_learned}
-use Rattle.bihash_table.proofs.Composed.{sees_open}
+use Rattle.bihash_steps.proofs.InformedViews.{known_learned}
+use Rattle.bihash_table.proofs.CallChains.{sees_open}
 use Rattle.bihash_table.proofs.PlaceReads.{all_same, place_inside}
 use Rattle.bihash_tests.proofs.tests.table.open_reads.refuses_moved_page.Goals as goal
 

@@ -1,0 +1,250 @@
+-- The workers' shares, taken apart.
+use Rattle.std.proofs.Common.{◌≡◌, ◌≤◌, ◌∙◌, ◌+◌, ◌<◌, ℕ, zero, suc, List, [], ◌∷◌, ◌++◌, append-nil, get_or, length, map, ap, arith, refl, sym, subst}
+use Rattle.std.specs.Global.{Vec}
+use Rattle.std.specs.List.{All, AllZip}
+use Rattle.std.proofs.lemmas.List.{map-append}
+use Rattle.std.proofs.Math.Seq.{drop-length}
+use Rattle.std.proofs.lemmas.List.Elements.{All-cons, All-map, All-nil, All-weaker}
+use lib.ListN.{get_elem?}
+use mathlib.Core.Option.{some, some-ne-none, some-injective}
+use Rattle.packet_view.specs.Captures.{PacketFacts}
+use Rattle.packet_view.specs.declared.tuple.Family.{Family}
+use Rattle.packet_view.specs.declared.tuple.Family.TheVariants.{V4, V6}
+use Rattle.bihash_words.specs.declared.shape.Shape.{Ghosts}
+use Rattle.bihash_steps.specs.Callers.{IsLawfulCaller}
+use Rattle.bihash_steps.specs.Steps.{IsToldWhole}
+use Rattle.bihash_steps.specs.Views.{nothing_held}
+use Rattle.bihash_steps.specs.declared.row.Caller.{Caller}
+use Rattle.bihash_steps.proofs.Lists.{within}
+use Rattle.flow_filter.specs.declared.verdict.Verdict.{Verdict}
+use Rattle.flow_dealing.specs.WorkerRecords.{AreJudged}
+use Rattle.flow_dealing.specs.Traces.{AreGathered, ArePlaced, HaveTraces, IsTrace, Item}
+use Rattle.flow_dealing.specs.Views.{Views, view_in}
+use Rattle.flow_dealing.proofs.TraceMerges.{judge_each_packet}
+use Rattle.flow_dealing.proofs.Places.{zip_count}
+use Rattle.packet_dealing.specs.Dealt.{AreWorkers}
+use Rattle.flow_filter.specs.OneThread.{layout_of}
+use Rattle.flow_workers.specs.inner.Merges.{AreAllSaid}
+use Rattle.flow_workers.proofs.MergeLemmas.{all_judges, dealer_by}
+use Rattle.flow_workers.specs.declared.share.WorkerResults.{WorkerResults}
+use Rattle.flow_workers.specs.declared.share.Share.{Share}
+use Rattle.flow_workers.specs.declared.tables.Tables.{Tables}
+use Rattle.flow_workers.specs.declared.setup.Setup.{Setup}
+use Rattle.flow_workers.specs.Callers.{AreIdle, views_of}
+use Rattle.flow_workers.specs.Progress.{IsAtRest}
+use Rattle.flow_workers.specs.inner.Jobs.{run_facts}
+use Rattle.flow_workers.specs.inner.WorkerResults.{AreResults, AreResultsOf}
+use Rattle.flow_workers.specs.inner.Work.{AreSaid, IsWork, IsWorkUntil, RunFacts}
+use Rattle.flow_workers.proofs.TurnLemmas.{fresh_trace}
+use Rattle.flow_workers.proofs.WorkSteps.{whole_work}
+
+module _ {A B K L : Type 0} (ga : Ghosts A K) (gb : Ghosts B L) where
+  pub no_results : AreResultsOf ga gb [] [] [] []
+  no_results = record { four = refl; six = refl; said = refl }
+
+  pub results_push : (shares : List (Share A B K L ga gb)) (share : Share A B K L ga gb) (fours fours' : List (Caller A K ga))
+      (sixes sixes' : List (Caller B L gb)) (saids saids' : List (Vec Verdict))
+      → fours' ≡ fours ++ share.callers.four ∷ [] → sixes' ≡ sixes ++ share.callers.six ∷ []
+      → saids' ≡ saids ++ share.said ∷ []
+      → AreResultsOf ga gb shares fours sixes saids → AreResultsOf ga gb (shares ++ share ∷ []) fours' sixes' saids'
+  results_push shares share fours fours' sixes sixes' saids saids' four six said old = record {
+    four = four ∙ (ap (λ cs. cs ++ share.callers.four ∷ []) old.four ∙ sym (map-append _ shares (share ∷ [])));
+    six = six ∙ (ap (λ cs. cs ++ share.callers.six ∷ []) old.six ∙ sym (map-append _ shares (share ∷ [])));
+    said = said ∙ (ap (λ ss. ss ++ share.said ∷ []) old.said ∙ sym (map-append _ shares (share ∷ [])));
+  }
+
+-- ---- What all workers did
+
+get_or_at : {X : Type 0} (xs : List X) (k : ℕ) (x d : X) → get_elem? xs k ≡ some x → get_or xs k d ≡ x
+get_or_at [] k x d at = absurd (some-ne-none x (sym at))
+get_or_at (y ∷ ys) zero x d at = some-injective y x at
+get_or_at (y ∷ ys) (suc k) x d at = get_or_at ys k x d at
+
+zip_map : {X Y Z : Type 0} (R : X → Z → Type 0) (f : Y → Z) (xs : List X) (ys : List Y)
+    → AllZip (λ x y. R x (f y)) xs ys → AllZip R xs (map f ys)
+zip_map R f [] [] all = tt
+zip_map R f [] (y ∷ ys) all = absurd all
+zip_map R f (x ∷ xs) [] all = absurd all
+zip_map R f (x ∷ xs) (y ∷ ys) all = (all.0, zip_map R f xs ys all.1)
+
+-- what a worker did: a trace, which is in its callers' records, and its verdicts
+pub record IsDone {A B K L : Type 0} (ga : Ghosts A K) (gb : Ghosts B L) (tables : Tables A B K L) (run : RunFacts)
+    (w : ℕ) (share : Share A B K L ga gb) : Type 0 where
+  pub idle : AreIdle ga gb tables share.callers
+  pub trace : List Item
+  pub is : IsTrace run.deal run.times w run.policy run.packets trace
+  pub four : HaveTraces run.deal.layout.four run.times V4 (trace ∷ []) share.callers.four.seat.view
+  pub six : HaveTraces run.deal.layout.six run.times V6 (trace ∷ []) share.callers.six.seat.view
+  pub said : AreSaid run trace share.said.items
+
+module _ {A B K L : Type 0} (ga : Ghosts A K) (gb : Ghosts B L) (tables : Tables A B K L) (run : RunFacts) where
+  -- the shares of the workers from one on
+  record AllDone (w : ℕ) (shares : List (Share A B K L ga gb)) : Type 0 where
+    traces : List (List Item)
+    count : length traces ≡ length shares
+    each : (k : ℕ) (t : List Item) → get_elem? traces k ≡ some t
+        → IsTrace run.deal run.times (w + k) run.policy run.packets t
+    idle : All (λ s. AreIdle ga gb tables s.callers) shares
+    four : AllZip (λ t s. HaveTraces run.deal.layout.four run.times V4 (t ∷ []) s.callers.four.seat.view) traces shares
+    six : AllZip (λ t s. HaveTraces run.deal.layout.six run.times V6 (t ∷ []) s.callers.six.seat.view) traces shares
+    said : AllZip (λ t s. AreSaid run t s.said.items) traces shares
+
+  all_done : (w : ℕ) (shares : List (Share A B K L ga gb))
+      → ((k : ℕ) (s : Share A B K L ga gb) → get_elem? shares k ≡ some s → IsDone ga gb tables run (w + k) s)
+      → AllDone w shares
+  all_done w [] done = record {
+    traces = [];
+    count = refl;
+    each = λ k t at. absurd (some-ne-none t (sym at));
+    idle = All-nil (λ x. AreIdle ga gb tables x.callers);
+    four = tt;
+    six = tt;
+    said = tt;
+  }
+  all_done w (s ∷ ss) done =
+      let one = done 0 s refl in
+      let more =
+      all_done (w + 1) ss (λ k x at. subst (λ n. IsDone ga gb tables run n x)
+      (let e : w + suc k ≡ w + 1 + k = omega arith in e) (done (suc k) x at)) in
+      record {
+        traces = one.trace ∷ more.traces;
+        count = ap suc more.count;
+        each = next one.trace more.traces one.is more.each;
+        idle = All-cons (λ x. AreIdle ga gb tables x.callers) s ss one.idle more.idle;
+        four = (one.four, more.four);
+        six = (one.six, more.six);
+        said = (one.said, more.said);
+      }
+    where
+      next : (x : List Item) (xs : List (List Item)) → IsTrace run.deal run.times (w + 0) run.policy run.packets x
+          → ((k : ℕ) (t : List Item) → get_elem? xs k ≡ some t
+          → IsTrace run.deal run.times (w + 1 + k) run.policy run.packets t)
+          → (k : ℕ) (t : List Item) → get_elem? (x ∷ xs) k ≡ some t
+          → IsTrace run.deal run.times (w + k) run.policy run.packets t
+      next x xs one more zero t at =
+          subst (λ k. IsTrace run.deal run.times (w + 0) run.policy run.packets k) (some-injective x t at) one
+      next x xs one more (suc k) t at =
+          subst (λ n. IsTrace run.deal run.times n run.policy run.packets t)
+          (let e : w + 1 + k ≡ w + suc k = omega arith in e) (more k t at)
+
+  -- there is a caller of each worker
+  pub results_count : (results : WorkerResults A B K L ga gb) → AreResults ga gb tables run results
+      → (length results.four.items ≡ run.deal.workers) × (length results.six.items ≡ run.deal.workers)
+  results_count results are = (
+    sym (zip_count _ are.traces results.four.items are.four) ∙ are.traced.count,
+    sym (zip_count _ are.traces results.six.items are.six) ∙ are.traced.count,
+  )
+
+  -- what all workers said, with the worker of each packet
+  pub all_said : (judges : List ℕ) (results : WorkerResults A B K L ga gb) (p : AreResults ga gb tables run results)
+      → 0 < run.deal.workers → run.deal.workers ≤ 16 → run.deal.layout ≡ layout_of ga gb
+      → (length judges ≡ length run.packets) × AreWorkers ga gb (dealer_by run) 0 judges run.packets
+      → AreAllSaid run p.traces results.said.items judges
+  all_said judges results p some_worker few layout are = record {
+    told = record { some_worker = some_worker; few = few; traced = p.traced; said = p.said };
+    judges = all_judges ga gb run layout judges are.0 are.1;
+  }
+
+  -- the callers of a family's table, joined
+  gathered : (traces : List (List Item)) (v : Views)
+      → IsLawfulCaller run.deal.layout.four v.four × IsLawfulCaller run.deal.layout.six v.six
+      → IsToldWhole run.deal.layout.four v.four × IsToldWhole run.deal.layout.six v.six
+      → HaveTraces run.deal.layout.four run.times V4 traces v.four → HaveTraces run.deal.layout.six run.times V6 traces v.six
+      → (family : Family) → AreGathered run.deal run.times family traces (view_in v family)
+  gathered traces v lawful told four six V4 = record { lawful = lawful.0; told = told.0; did = four }
+  gathered traces v lawful told four six V6 = record { lawful = lawful.1; told = told.1; did = six }
+
+  pub run_judged : (results : WorkerResults A B K L ga gb) (p : AreResults ga gb tables run results) → 0 < run.deal.workers
+      → (v : Views) → IsLawfulCaller run.deal.layout.four v.four × IsLawfulCaller run.deal.layout.six v.six
+      → IsToldWhole run.deal.layout.four v.four × IsToldWhole run.deal.layout.six v.six
+      → HaveTraces run.deal.layout.four run.times V4 p.traces v.four → HaveTraces run.deal.layout.six run.times V6 p.traces v.six
+      → (verdicts : List Verdict) → ArePlaced run.times run.packets p.traces verdicts
+      → AreJudged run.deal run.times run.policy run.packets verdicts
+  run_judged results p some_worker v lawful told four six verdicts placed =
+      judge_each_packet run.deal run.times run.policy run.packets p.traces v verdicts some_worker p.traced
+      (gathered p.traces v lawful told four six) placed
+
+-- a worker after all packets
+rest_done : {A B R G K L : Type 0} (ga : Ghosts A K) (gb : Ghosts B L) (setup : Setup A B R G K L)
+    (packets : List PacketFacts) (w : ℕ) (share : Share A B K L ga gb) → IsAtRest ga gb setup packets w share
+    → IsDone ga gb setup.tables.now (run_facts ga gb setup packets) w share
+rest_done ga gb setup packets w share rest = record {
+  idle = rest.idle;
+  trace = work.trace;
+  is = work.is;
+  four = fresh_trace _ run.times V4 rest.began.four u.four work.trace rest.fresh.0 work.four work.wanted.0;
+  six = fresh_trace _ run.times V6 rest.began.six u.six work.trace rest.fresh.1 work.six work.wanted.1;
+  said = work.said;
+}
+  where
+    run : RunFacts
+    run = run_facts ga gb setup packets
+
+    u : Views
+    u = views_of ga gb share.callers
+
+    work : IsWork run w rest.began u share.said.items
+    work = whole_work run w (length packets) rest.began u share.said.items (drop-length packets)
+        (subst (λ xs. IsWorkUntil (run_facts ga gb setup xs) w (length packets) rest.began u share.said.items)
+        (append-nil packets) (rest.work []))
+
+module _ {A B R G K L : Type 0} (ga : Ghosts A K) (gb : Ghosts B L) (setup : Setup A B R G K L)
+    (packets : List PacketFacts) where
+  pub results_are : (shares : List (Share A B K L ga gb)) → length shares ≡ setup.workers
+      → ((i : ℕ) (d : Share A B K L ga gb) → i < setup.workers → IsAtRest ga gb setup packets i (get_or shares i d))
+      → (results : WorkerResults A B K L ga gb) → AreResultsOf ga gb shares results.four.items results.six.items results.said.items
+      → AreResults ga gb setup.tables.now (run_facts ga gb setup packets) results
+  results_are shares count each results of = record {
+    traces = all.traces;
+    traced = record {
+      count = all.count ∙ count;
+      each = λ w t at. let e : 0 + w ≡ w = omega arith in
+          subst (λ n. IsTrace run.deal run.times n run.policy run.packets t) e (all.each w t at);
+    };
+    own = (
+      subst (All (λ c. c.seat.row ≡ tables.four.row)) (sym of.four)
+          (All-map (λ c. c.seat.row ≡ tables.four.row) (λ (s : Share A B K L ga gb). s.callers.four) shares
+          (All-weaker _ _ (λ (s : Share A B K L ga gb) (idle : AreIdle ga gb tables s.callers). idle.own.0) shares
+          all.idle)),
+      subst (All (λ c. c.seat.row ≡ tables.six.row)) (sym of.six)
+          (All-map (λ c. c.seat.row ≡ tables.six.row) (λ (s : Share A B K L ga gb). s.callers.six) shares
+          (All-weaker _ _ (λ (s : Share A B K L ga gb) (idle : AreIdle ga gb tables s.callers). idle.own.1) shares
+          all.idle)),
+    );
+    free = (
+      subst (All (λ c. c.seat.view.holds ≡ nothing_held)) (sym of.four)
+          (All-map (λ c. c.seat.view.holds ≡ nothing_held) (λ (s : Share A B K L ga gb). s.callers.four) shares
+          (All-weaker _ _ (λ (s : Share A B K L ga gb) (idle : AreIdle ga gb tables s.callers). idle.free.0) shares
+          all.idle)),
+      subst (All (λ c. c.seat.view.holds ≡ nothing_held)) (sym of.six)
+          (All-map (λ c. c.seat.view.holds ≡ nothing_held) (λ (s : Share A B K L ga gb). s.callers.six) shares
+          (All-weaker _ _ (λ (s : Share A B K L ga gb) (idle : AreIdle ga gb tables s.callers). idle.free.1) shares
+          all.idle)),
+    );
+    four =
+        subst (AllZip (λ t c. HaveTraces run.deal.layout.four run.times V4 (t ∷ []) c.seat.view) all.traces) (sym of.four)
+        (zip_map _ _ all.traces shares all.four);
+    six =
+        subst (AllZip (λ t c. HaveTraces run.deal.layout.six run.times V6 (t ∷ []) c.seat.view) all.traces) (sym of.six)
+        (zip_map _ _ all.traces shares all.six);
+    said =
+        subst (AllZip (λ t s. AreSaid run t s.items) all.traces) (sym of.said)
+        (zip_map _ _ all.traces shares all.said);
+  }
+    where
+      run : RunFacts
+      run = run_facts ga gb setup packets
+
+      tables : Tables A B K L
+      tables = setup.tables.now
+
+      done : (k : ℕ) (s : Share A B K L ga gb) → get_elem? shares k ≡ some s → IsDone ga gb tables run (0 + k) s
+      done k s at =
+          let e : k ≡ 0 + k = omega arith in
+          subst (λ n. IsDone ga gb tables run n s) e
+          (subst (IsDone ga gb tables run k) (get_or_at shares k s s at)
+          (rest_done ga gb setup packets k (get_or shares k s)
+          (each k s (let inside = within shares k s at in omega arith))))
+
+      all : AllDone ga gb tables run 0 shares
+      all = all_done ga gb tables run 0 shares done

@@ -1,0 +1,12 @@
+use Rattle.flow_workers.proofs.CallerSplitLemmas.{same_traces}
+use Rattle.flow_workers.proofs.caller_split.join_whole.Goals as goal
+
+pub returns : goal.returns
+returns g c = record {
+  lawful = c.wait_until_lone.ensures.lawful;
+  whole = c.wait_until_lone.ensures.whole;
+  traces = λ z times family traces each.
+      same_traces z times family traces c.join_all-joined.result.seat.view c.wait_until_lone.new.caller.seat.view
+      c.wait_until_lone.ensures.records c.wait_until_lone.ensures.known
+      (c.join_all-joined.ensures.traces z times family traces each);
+}

@@ -1,0 +1,70 @@
+-- What making callers of workers, and joining them, asks of callers of one table and tells of them.
+use Rattle.std.specs.Prelude.{◌≡◌, ◌<◌, [], ◌∷◌, List, All, length}
+use Rattle.std.specs.List.{AllZip}
+use Rattle.packet_view.specs.declared.tuple.Family.{Family}
+use Rattle.bihash_words.specs.Sizes.{Sizes}
+use Rattle.bihash_words.specs.declared.shape.Shape.{Ghosts}
+use Rattle.bihash_steps.specs.Callers.{IsLawfulCaller}
+use Rattle.bihash_steps.specs.Seats.{CallerState}
+use Rattle.bihash_steps.specs.Steps.{IsToldWhole}
+use Rattle.bihash_steps.specs.Views.{nothing_held}
+use Rattle.bihash_steps.specs.declared.row.Caller.{Caller}
+use Rattle.bihash_steps.specs.declared.view.View.{View}
+use Rattle.bihash_table.specs.declared.sessions.Sessions.{Sessions}
+use Rattle.session_state.specs.declared.timeouts.Timeouts.{Timeouts}
+use Rattle.flow_dealing.specs.Traces.{HaveTraces, Item}
+use Rattle.flow_workers.specs.inner.Fresh.{IsFreshView}
+
+-- a caller of this table that made no call
+pub record IsNewCaller {A K : Type 0} (table : Sessions A K) (s : CallerState) : Type 0 where
+  pub own : s.row ≡ table.row
+  pub free : s.view.holds ≡ nothing_held
+  pub fresh : IsFreshView s.view
+
+-- two of them, which are lawful
+pub record AreNew {A K : Type 0} (z : Sizes) (table : Sessions A K) (s t : CallerState) : Type 0 where
+  pub own : (s.row ≡ table.row) × (t.row ≡ table.row)
+  pub free : (s.view.holds ≡ nothing_held) × (t.view.holds ≡ nothing_held)
+  pub lawful : IsLawfulCaller z s.view × IsLawfulCaller z t.view
+  pub fresh : IsFreshView s.view × IsFreshView t.view
+
+-- the caller s made each write that it knows, and is t then
+pub record IsMadeWhole (z : Sizes) (s t : CallerState) : Type 0 where
+  pub whole : IsToldWhole z t.view
+  pub lawful : IsLawfulCaller z t.view
+  pub records : t.view.records ≡ s.view.records
+  pub known : t.view.known ≡ s.view.known
+
+-- callers of this table, one at least, that hold nothing
+pub record MayJoin {A K : Type 0} {g : Ghosts A K} (table : Sessions A K) (callers : List (Caller A K g)) : Type 0 where
+  pub some : 0 < length callers
+  pub own : All (λ c. c.seat.row ≡ table.row) callers
+  pub free : All (λ c. c.seat.view.holds ≡ nothing_held) callers
+
+-- the caller t has the trace of a worker's caller s, and after it those of the others
+pub record IsJoinedOne {A K : Type 0} (z : Sizes) (table : Sessions A K) (s others t : CallerState) : Type 0 where
+  pub own : t.row ≡ table.row
+  pub free : t.view.holds ≡ nothing_held
+  pub lawful : IsLawfulCaller z t.view
+  pub traces : (of : Sizes) (times : Timeouts) (family : Family) (trace : List Item) (traces : List (List Item))
+      → HaveTraces of times family (trace ∷ []) s.view → HaveTraces of times family traces others.view
+      → HaveTraces of times family (trace ∷ traces) t.view
+
+-- the traces of all these callers are in this view, in their order
+abbrev pub HasTracesOf : {A K : Type 0} {g : Ghosts A K} → List (Caller A K g) → View → Type 0
+HasTracesOf callers v = (of : Sizes) (times : Timeouts) (family : Family) (traces : List (List Item))
+    → AllZip (λ trace c. HaveTraces of times family (trace ∷ []) c.seat.view) traces callers
+    → HaveTraces of times family traces v
+
+-- the caller t has them
+pub record AreJoined {A K : Type 0} {g : Ghosts A K} (table : Sessions A K) (callers : List (Caller A K g))
+    (t : CallerState) : Type 0 where
+  pub own : t.row ≡ table.row
+  pub traces : HasTracesOf callers t.view
+
+-- the caller t has them, and made each write that it knows
+pub record AreJoinedWhole {A K : Type 0} {g : Ghosts A K} (z : Sizes) (callers : List (Caller A K g))
+    (t : CallerState) : Type 0 where
+  pub lawful : IsLawfulCaller z t.view
+  pub whole : IsToldWhole z t.view
+  pub traces : HasTracesOf callers t.view

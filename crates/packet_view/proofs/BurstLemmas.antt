@@ -1,0 +1,46 @@
+-- Packets that are put into places one after another, and taken from there.
+use Rattle.std.proofs.Common.{◌≡◌, ◌∙◌, ◌<◌, ◌≤◌, ◌+◌, ◌-◌, ◌++◌, ℕ, List, [], ◌∷◌, append_assoc, ap, ap₂, arith}
+use Rattle.std.proofs.Common.{drop, length, map, slice_index_or, slice_set, sym, take}
+use Rattle.std.proofs.lemmas.List.{drop_more, get_or-take, length-take-le, map-append}
+use Rattle.std.proofs.lemmas.List.{take-append-drop, take_at, take_more_set, take_rest}
+use Rattle.packet_view.specs.declared.packet.Packet.{Packet}
+use Rattle.packet_view.specs.Captures.{PacketFacts, packet_facts}
+
+-- the packet at the front of those that are left is put behind those that were found
+pub found_more : (found : List Packet) (count : ℕ) (packet : Packet) (left others all : List PacketFacts)
+    → count < length found → map packet_facts (take count found) ++ left ≡ all → left ≡ packet_facts packet ∷ others
+    → map packet_facts (take (count + 1) (slice_set found count packet)) ++ others ≡ all
+found_more found count packet left others all room so_far front =
+    ap (λ (ps : List Packet). map packet_facts ps ++ others) (take_more_set found count packet room)
+    ∙ ap (λ (ps : List PacketFacts). ps ++ others) (map-append packet_facts (take count found) (packet ∷ []))
+    ∙ append_assoc (map packet_facts (take count found)) (packet_facts packet ∷ []) others
+    ∙ ap (λ (ps : List PacketFacts). map packet_facts (take count found) ++ ps) (sym front)
+    ∙ so_far
+
+-- where none was put and none is left, none was given
+pub found_none : (found : List Packet) (count : ℕ) (left all : List PacketFacts) → count ≡ 0
+    → map packet_facts (take count found) ++ left ≡ all → left ≡ [] → all ≡ []
+found_none found count left all none so_far empty =
+    sym so_far ∙ ap (λ n. map packet_facts (take n found) ++ left) none ∙ empty
+
+-- so many packets of a list are copied, and the others are left
+pub found_listed : (count : ℕ) (listed copied behind : List Packet) → count ≤ length listed → copied ≡ take count listed
+    → map packet_facts (take count (copied ++ behind))
+    ++ map packet_facts (take (length listed - count) (drop count listed))
+    ≡ map packet_facts listed
+found_listed count listed copied behind fits copy =
+    let size : length copied ≡ count = ap length copy ∙ length-take-le count listed fits in
+    ap₂ (λ (ps qs : List Packet). map packet_facts ps ++ map packet_facts qs)
+    (take_at copied behind count size ∙ copy) (take_rest listed count)
+    ∙ sym (map-append packet_facts (take count listed) (drop count listed))
+    ∙ ap (map packet_facts) (take-append-drop count listed)
+
+-- the packet at a place is the first of those from there on
+pub found_at : (found : List Packet) (at end : ℕ) (unused : Packet) (left : List PacketFacts)
+    → at < end → end ≤ length found → map packet_facts (drop at (take end found)) ++ left
+    ≡ packet_facts (slice_index_or found at unused) ∷ (map packet_facts (drop (at + 1) (take end found)) ++ left)
+found_at found at end unused left more fits =
+    let size = length-take-le end found fits in
+    ap (λ (ps : List Packet). map packet_facts ps ++ left) (drop_more (take end found) at unused (omega arith))
+    ∙ ap (λ (p : Packet). packet_facts p ∷ (map packet_facts (drop (at + 1) (take end found)) ++ left))
+    (get_or-take end found at unused more)
