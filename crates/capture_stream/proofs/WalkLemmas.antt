@@ -24,7 +24,7 @@ use Rattle.capture_stream.specs.inner.Found.{HaveFound}
 use Rattle.capture_stream.specs.declared.stream.Opening.{Opening}
 use Rattle.capture_stream.specs.declared.stream.Streamed.{Streamed}
 use Rattle.capture_stream.specs.declared.stream.Walk.{Walk}
-use Rattle.capture_stream.specs.inner.Walks.{HasAdvanced, HasEnded, HasLongAhead, IsAllOf, IsAmid, IsDrained, IsLastFault, IsWindowFault, MayAdvance, ahead_of, records_ahead, rest_of}
+use Rattle.capture_stream.specs.inner.Walks.{HasAdvanced, HasEnded, HasLongAhead, IsAmid, IsDrained, IsLastFault, IsWindowFault, MayAdvance, ahead_of, records_ahead, rest_of}
 
 -- less than one record is left where none is too long
 pub rest_short : (order : Order) (rest : List ℕ) (stop : Stop) → Stops order rest stop → stop ≢ TooLong → length rest < 262160
@@ -56,6 +56,15 @@ pub rest_length : {J : Type 0} (walk : Walk J) → HaveFound walk.order (ahead_o
 rest_length walk found =
     let size = found.size in
     let tail = length-drop (length (ahead_of walk) - walk.found.behind) (ahead_of walk) in
+    omega arith
+
+-- a buffer that got them has so many
+pub has_rest : {J : Type 0} (walk : Walk J) (cleared spare : List ℕ) → HaveFound walk.order (ahead_of walk) walk.found
+    → spare ≡ cleared ++ rest_of walk → walk.found.behind ≤ length spare
+has_rest walk cleared spare found same =
+    let size = rest_length walk found in
+    let long = ap length same in
+    let parts = length-append cleared (rest_of walk) in
     omega arith
 
 -- so many packets are at most as many as bytes were read

@@ -83,11 +83,15 @@ fn next_window<J: Judges + Drop, T: Threads, R: Source + Send>(
         stop,
     } = found;
     if matches!(stop, Stop::TooLong) {
-        drain(reader, read)?;
-        return Err(Fault::LongRecord((packets + count) as u64 + 1));
+        match drain(reader, read) {
+            Ok(()) => return Err(Fault::LongRecord((packets + count) as u64 + 1)),
+            Err(fault) => return Err(fault),
+        }
     }
     spare.clear();
-    spare.extend_from_slice(&window[window.len() - behind..])?;
+    let Ok(()) = spare.extend_from_slice(&window[window.len() - behind..]) else {
+        return Err(Fault::Memory);
+    };
     let records = Records {
         bytes: &window[from..],
         order,
@@ -97,8 +101,13 @@ fn next_window<J: Judges + Drop, T: Threads, R: Source + Send>(
     let more = size.beside(read).min(MOST_BYTES + 1 - read);
     let least = behind + more;
     let (judged, next) = judge_and_read(beside, judges, records, reader, &mut spare, least);
-    let NextWindow { found, ended } = next?;
-    let judges = judged?;
+    let NextWindow { found, ended } = match next {
+        Ok(next) => next,
+        Err(fault) => return Err(fault),
+    };
+    let Ok(judges) = judged else {
+        return Err(Fault::Memory);
+    };
     let read = read + (spare.len() - behind);
     if read > MOST_BYTES {
         return Err(Fault::TooLarge);

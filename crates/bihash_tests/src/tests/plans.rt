@@ -1,6 +1,6 @@
 //! Worked layouts of small buckets: four places a page, at most four pages. Key k hashes to k, so
 //! the even keys share a bucket and k / 2 names the page.
-ghost use Rattle.std.specs.Prelude.{◌≡◌, true, false};
+ghost use Rattle.std.specs.Prelude.{◌≡◌, ◌≤◌, ◌*◌, ◌^◌, IfSome};
 
 use bihash_plan::{Plan, find, larger, lay, plan};
 use bihash_words::{BlockSize, Tiny};
@@ -9,248 +9,362 @@ type Small = Tiny<8, 1000>;
 
 type Place = ([u64; 2], u64);
 
-const FREE: Place = ([7, 7], u64::MAX);
+const FREE: Place = ([7, 0], u64::MAX);
 
-const fn pair(key: u64, value: u64) -> Place {
-    ([key, 0], value)
-}
+// The sizes of blocks of one, two and four pages.
+const ONE: BlockSize = BlockSize {
+    log2: 0,
+    linear: false,
+};
 
-const fn paged(log2: u64) -> BlockSize
-    ensures { result ≡ record { log2 = log2; linear = false } }
+const TWO: BlockSize = BlockSize {
+    log2: 1,
+    linear: false,
+};
+
+const FOUR: BlockSize = BlockSize {
+    log2: 2,
+    linear: false,
+};
+
+const LINEAR_TWO: BlockSize = BlockSize {
+    log2: 1,
+    linear: true,
+};
+
+const LINEAR_FOUR: BlockSize = BlockSize {
+    log2: 2,
+    linear: true,
+};
+
+// ---- blocks
+
+// Without a block, and with one page.
+const EMPTY: [Place; 0] = [];
+
+const FIRST: [Place; 4] = [
+    ([0, 0], 100),
+    ([0, 0], u64::MAX),
+    ([0, 0], u64::MAX),
+    ([0, 0], u64::MAX),
+];
+
+const PAGE: [Place; 4] = [([0, 0], 100), ([2, 0], 101), ([4, 0], 102), ([6, 0], 103)];
+
+// The same with key 8, in two pages.
+const TWO_PAGES: [Place; 8] = [
+    ([0, 0], 100),
+    ([4, 0], 102),
+    ([8, 0], 104),
+    ([8, 0], u64::MAX),
+    ([2, 0], 101),
+    ([6, 0], 103),
+    ([8, 0], u64::MAX),
+    ([8, 0], u64::MAX),
+];
+
+// A page whose keys need four pages beside key 16.
+const EVEN_PAGE: [Place; 4] = [([0, 0], 1), ([4, 0], 2), ([8, 0], 3), ([12, 0], 4)];
+
+const FOUR_PAGES: [Place; 16] = [
+    ([0, 0], 1),
+    ([8, 0], 3),
+    ([16, 0], 5),
+    ([16, 0], u64::MAX),
+    ([16, 0], u64::MAX),
+    ([16, 0], u64::MAX),
+    ([16, 0], u64::MAX),
+    ([16, 0], u64::MAX),
+    ([4, 0], 2),
+    ([12, 0], 4),
+    ([16, 0], u64::MAX),
+    ([16, 0], u64::MAX),
+    ([16, 0], u64::MAX),
+    ([16, 0], u64::MAX),
+    ([16, 0], u64::MAX),
+    ([16, 0], u64::MAX),
+];
+
+// Keys of one page, however many pages there are.
+const SAME_PAGE: [Place; 4] = [([0, 0], 1), ([8, 0], 2), ([16, 0], 3), ([24, 0], 4)];
+
+const FIVE: [Place; 8] = [
+    ([0, 0], 1),
+    ([8, 0], 2),
+    ([16, 0], 3),
+    ([24, 0], 4),
+    ([32, 0], 5),
+    ([32, 0], u64::MAX),
+    ([32, 0], u64::MAX),
+    ([32, 0], u64::MAX),
+];
+
+// Without key 8 a free place stands before the others.
+const GAP: [Place; 8] = [
+    ([0, 0], 1),
+    FREE,
+    ([16, 0], 3),
+    ([24, 0], 4),
+    ([32, 0], 5),
+    FREE,
+    FREE,
+    FREE,
+];
+
+// A full linear block whose pairs fit four pages.
+const MIXED: [Place; 8] = [
+    ([0, 0], 1),
+    ([8, 0], 2),
+    ([16, 0], 3),
+    ([24, 0], 4),
+    ([2, 0], 5),
+    ([4, 0], 6),
+    ([6, 0], 7),
+    ([10, 0], 8),
+];
+
+// A full linear block whose pairs don't.
+const EIGHT: [Place; 8] = [
+    ([0, 0], 1),
+    ([8, 0], 2),
+    ([16, 0], 3),
+    ([24, 0], 4),
+    ([32, 0], 5),
+    ([40, 0], 6),
+    ([48, 0], 7),
+    ([56, 0], 8),
+];
+
+const NINE: [Place; 16] = [
+    ([0, 0], 1),
+    ([8, 0], 2),
+    ([16, 0], 3),
+    ([24, 0], 4),
+    ([32, 0], 5),
+    ([40, 0], 6),
+    ([48, 0], 7),
+    ([56, 0], 8),
+    ([64, 0], 9),
+    ([64, 0], u64::MAX),
+    ([64, 0], u64::MAX),
+    ([64, 0], u64::MAX),
+    ([64, 0], u64::MAX),
+    ([64, 0], u64::MAX),
+    ([64, 0], u64::MAX),
+    ([64, 0], u64::MAX),
+];
+
+const FULL: [Place; 16] = [
+    ([0, 0], 1),
+    ([8, 0], 2),
+    ([16, 0], 3),
+    ([24, 0], 4),
+    ([32, 0], 5),
+    ([40, 0], 6),
+    ([48, 0], 7),
+    ([56, 0], 8),
+    ([64, 0], 9),
+    ([72, 0], 10),
+    ([80, 0], 11),
+    ([88, 0], 12),
+    ([96, 0], 13),
+    ([104, 0], 14),
+    ([112, 0], 15),
+    ([120, 0], 16),
+];
+
+// Four pages of which the first has one place left, and none.
+const ALMOST: [Place; 16] = [
+    ([0, 0], 1),
+    ([8, 0], 3),
+    ([16, 0], 5),
+    FREE,
+    FREE,
+    FREE,
+    FREE,
+    FREE,
+    ([4, 0], 2),
+    ([12, 0], 4),
+    FREE,
+    FREE,
+    FREE,
+    FREE,
+    FREE,
+    FREE,
+];
+
+const CROWDED: [Place; 16] = [
+    ([0, 0], 1),
+    ([8, 0], 3),
+    ([16, 0], 5),
+    ([24, 0], 6),
+    FREE,
+    FREE,
+    FREE,
+    FREE,
+    ([4, 0], 2),
+    ([12, 0], 4),
+    FREE,
+    FREE,
+    FREE,
+    FREE,
+    FREE,
+    FREE,
+];
+
+const LAID_LINEAR: [Place; 16] = [
+    ([0, 0], 1),
+    ([8, 0], 3),
+    ([16, 0], 5),
+    ([24, 0], 6),
+    ([4, 0], 2),
+    ([12, 0], 4),
+    ([32, 0], 7),
+    ([32, 0], u64::MAX),
+    ([32, 0], u64::MAX),
+    ([32, 0], u64::MAX),
+    ([32, 0], u64::MAX),
+    ([32, 0], u64::MAX),
+    ([32, 0], u64::MAX),
+    ([32, 0], u64::MAX),
+    ([32, 0], u64::MAX),
+    ([32, 0], u64::MAX),
+];
+
+// ---- what is planned, laid and found
+
+// A block, its size, a key, and what is planned for it.
+const PLANS: [(&[Place], BlockSize, u64, Plan); 14] = [
+    (&EMPTY, ONE, 0, Plan::Grow(ONE)),
+    (&FIRST, ONE, 2, Plan::InPlace(1)),
+    (&PAGE, ONE, 4, Plan::InPlace(2)),
+    (&PAGE, ONE, 8, Plan::Grow(TWO)),
+    (&EVEN_PAGE, ONE, 16, Plan::Grow(FOUR)),
+    (&SAME_PAGE, ONE, 32, Plan::Grow(LINEAR_TWO)),
+    (&GAP, LINEAR_TWO, 8, Plan::InPlace(1)),
+    (&MIXED, LINEAR_TWO, 12, Plan::Grow(FOUR)),
+    (&EIGHT, LINEAR_TWO, 64, Plan::Grow(LINEAR_FOUR)),
+    (&NINE, LINEAR_FOUR, 72, Plan::InPlace(9)),
+    (&FULL, LINEAR_FOUR, 128, Plan::Full),
+    (&FULL, LINEAR_FOUR, 120, Plan::InPlace(15)),
+    (&ALMOST, FOUR, 24, Plan::InPlace(3)),
+    (&CROWDED, FOUR, 32, Plan::Grow(LINEAR_FOUR)),
+];
+
+// A block, its size, a key that is not in it and has no place there, and what it grows to.
+const LARGER: [(&[Place], BlockSize, u64, Plan); 2] = [
+    (&EMPTY, ONE, 8, Plan::Grow(ONE)),
+    (&PAGE, ONE, 8, Plan::Grow(TWO)),
+];
+
+// A block, a new pair, and the block of this size that has all of them.
+const LAYOUTS: [(&[Place], Place, BlockSize, &[Place]); 6] = [
+    (&EMPTY, ([0, 0], 100), ONE, &FIRST),
+    (&PAGE, ([8, 0], 104), TWO, &TWO_PAGES),
+    (&EVEN_PAGE, ([16, 0], 5), FOUR, &FOUR_PAGES),
+    (&SAME_PAGE, ([32, 0], 5), LINEAR_TWO, &FIVE),
+    (&EIGHT, ([64, 0], 9), LINEAR_FOUR, &NINE),
+    (&CROWDED, ([32, 0], 7), LINEAR_FOUR, &LAID_LINEAR),
+];
+
+// A block, its size, a key, and its place.
+const FOUND: [(&[Place], BlockSize, u64, Option<usize>); 19] = [
+    (&TWO_PAGES, TWO, 0, Some(0)),
+    (&TWO_PAGES, TWO, 4, Some(1)),
+    (&TWO_PAGES, TWO, 8, Some(2)),
+    (&TWO_PAGES, TWO, 2, Some(4)),
+    (&TWO_PAGES, TWO, 6, Some(5)),
+    (&TWO_PAGES, TWO, 10, None),
+    (&GAP, LINEAR_TWO, 0, Some(0)),
+    (&GAP, LINEAR_TWO, 16, Some(2)),
+    (&GAP, LINEAR_TWO, 24, Some(3)),
+    (&GAP, LINEAR_TWO, 32, Some(4)),
+    (&GAP, LINEAR_TWO, 8, None),
+    (&FULL, LINEAR_FOUR, 128, None),
+    (&LAID_LINEAR, LINEAR_FOUR, 0, Some(0)),
+    (&LAID_LINEAR, LINEAR_FOUR, 8, Some(1)),
+    (&LAID_LINEAR, LINEAR_FOUR, 16, Some(2)),
+    (&LAID_LINEAR, LINEAR_FOUR, 24, Some(3)),
+    (&LAID_LINEAR, LINEAR_FOUR, 4, Some(4)),
+    (&LAID_LINEAR, LINEAR_FOUR, 12, Some(5)),
+    (&LAID_LINEAR, LINEAR_FOUR, 32, Some(6)),
+];
+
+// How many places a block of this size has. A small table has blocks of at most four pages.
+fn place_count(size: BlockSize) -> Option<usize>
+    ensures size { IfSome result (λ _. size.log2 ≤ 2) }
+    ensures count { IfSome result (λ count. count ≡ 4 * 2 ^ size.log2) }
+    ensures few { IfSome result (λ count. count ≤ 16) }
 {
-    BlockSize {
-        log2,
-        linear: false,
+    match size.log2 {
+        0 => Some(4),
+        1 => Some(8),
+        2 => Some(16),
+        _ => None,
     }
 }
 
-const fn linear(log2: u64) -> BlockSize
-    ensures { result ≡ record { log2 = log2; linear = true } }
-{
-    BlockSize { log2, linear: true }
-}
-
-#[test]
-fn first_split(rt: HostRuntime) {
-    assert_eq!(rt; plan::<Small>(&[], paged(0), &[0, 0]), Plan::Grow(paged(0)));
-    let mut one = [FREE; 4];
-    lay::<Small>(&[], &[0, 0], 100, paged(0), &mut one);
-    assert_eq!(rt; one[0], pair(0, 100));
-    assert_eq!(rt; plan::<Small>(&one, paged(0), &[2, 0]), Plan::InPlace(1));
-
-    let full = [pair(0, 100), pair(2, 101), pair(4, 102), pair(6, 103)];
-    assert_eq!(rt; plan::<Small>(&full, paged(0), &[4, 0]), Plan::InPlace(2));
-    assert_eq!(rt;
-        plan::<Small>(&full, paged(0), &[8, 0]),
-        Plan::Grow(paged(1))
-    );
-    assert_eq!(rt;
-        larger::<Small>(&full, paged(0), &[8, 0]),
-        Plan::Grow(paged(1))
-    );
-    assert_eq!(rt;
-        larger::<Small>(&[], paged(0), &[8, 0]),
-        Plan::Grow(paged(0))
-    );
-    let mut two = [FREE; 8];
-    lay::<Small>(&full, &[8, 0], 104, paged(1), &mut two);
-    let free = ([8, 0], u64::MAX);
-    let want = [
-        pair(0, 100),
-        pair(4, 102),
-        pair(8, 104),
-        free,
-        pair(2, 101),
-        pair(6, 103),
-        free,
-        free,
-    ];
-    assert_eq!(rt; two, want);
-    for (key, place) in [(0, 0), (4, 1), (8, 2), (2, 4), (6, 5)] {
-        assert_eq!(rt;
-            find::<Small>(&two, paged(1), &[key, 0]),
-            Some(place),
-            "key {key}"
-        );
+// What is planned for the key of this number. `None`: a block of this size doesn't have so many places.
+fn planned(places: &[Place], size: BlockSize, key: u64) -> Option<Plan> {
+    let count = place_count(size)?;
+    if !places.is_empty() && places.len() != count {
+        return None;
     }
-    assert_eq!(rt; find::<Small>(&two, paged(1), &[10, 0]), None);
+    Some(plan::<Small>(places, size, &[key, 0]))
 }
 
-#[test]
-fn second_split(rt: HostRuntime) {
-    let full = [pair(0, 1), pair(4, 2), pair(8, 3), pair(12, 4)];
-    assert_eq!(rt;
-        plan::<Small>(&full, paged(0), &[16, 0]),
-        Plan::Grow(paged(2))
-    );
-    let mut four = [FREE; 16];
-    lay::<Small>(&full, &[16, 0], 5, paged(2), &mut four);
-    let free = ([16, 0], u64::MAX);
-    let want = [
-        pair(0, 1),
-        pair(8, 3),
-        pair(16, 5),
-        free,
-        free,
-        free,
-        free,
-        free,
-        pair(4, 2),
-        pair(12, 4),
-        free,
-        free,
-        free,
-        free,
-        free,
-        free,
-    ];
-    assert_eq!(rt; four, want);
-}
-
-#[test]
-fn linear_block(rt: HostRuntime) {
-    let full = [pair(0, 1), pair(8, 2), pair(16, 3), pair(24, 4)];
-    assert_eq!(rt;
-        plan::<Small>(&full, paged(0), &[32, 0]),
-        Plan::Grow(linear(1))
-    );
-    let mut two = [FREE; 8];
-    lay::<Small>(&full, &[32, 0], 5, linear(1), &mut two);
-    let free = ([32, 0], u64::MAX);
-    let want = [
-        pair(0, 1),
-        pair(8, 2),
-        pair(16, 3),
-        pair(24, 4),
-        pair(32, 5),
-        free,
-        free,
-        free,
-    ];
-    assert_eq!(rt; two, want);
-    // Without key 8 a free place stands before the others.
-    let gap = [
-        pair(0, 1),
-        FREE,
-        pair(16, 3),
-        pair(24, 4),
-        pair(32, 5),
-        FREE,
-        FREE,
-        FREE,
-    ];
-    for (key, place) in [(0, 0), (16, 2), (24, 3), (32, 4)] {
-        assert_eq!(rt;
-            find::<Small>(&gap, linear(1), &[key, 0]),
-            Some(place),
-            "key {key}"
-        );
+// What a block grows to for a new key without a place.
+fn grown(places: &[Place], size: BlockSize, key: u64) -> Option<Plan> {
+    let count = place_count(size)?;
+    if !places.is_empty() && places.len() != count {
+        return None;
     }
-    assert_eq!(rt; find::<Small>(&gap, linear(1), &[8, 0]), None);
-    assert_eq!(rt; plan::<Small>(&gap, linear(1), &[8, 0]), Plan::InPlace(1));
-
-    // A full linear block whose pairs fit four pages has pages again.
-    let eight = [
-        pair(0, 1),
-        pair(8, 2),
-        pair(16, 3),
-        pair(24, 4),
-        pair(2, 5),
-        pair(4, 6),
-        pair(6, 7),
-        pair(10, 8),
-    ];
-    assert_eq!(rt;
-        plan::<Small>(&eight, linear(1), &[12, 0]),
-        Plan::Grow(paged(2))
-    );
+    Some(larger::<Small>(places, size, &[key, 0]))
 }
 
-#[test]
-fn full(rt: HostRuntime) {
-    let eight = [
-        pair(0, 1),
-        pair(8, 2),
-        pair(16, 3),
-        pair(24, 4),
-        pair(32, 5),
-        pair(40, 6),
-        pair(48, 7),
-        pair(56, 8),
-    ];
-    assert_eq!(rt;
-        plan::<Small>(&eight, linear(1), &[64, 0]),
-        Plan::Grow(linear(2))
-    );
-    let mut sixteen = [FREE; 16];
-    lay::<Small>(&eight, &[64, 0], 9, linear(2), &mut sixteen);
-    assert_eq!(rt; sixteen[7], pair(56, 8));
-    assert_eq!(rt; sixteen[8], pair(64, 9));
-    assert_eq!(rt;
-        plan::<Small>(&sixteen, linear(2), &[72, 0]),
-        Plan::InPlace(9)
-    );
-    let full = [
-        pair(0, 1),
-        pair(8, 2),
-        pair(16, 3),
-        pair(24, 4),
-        pair(32, 5),
-        pair(40, 6),
-        pair(48, 7),
-        pair(56, 8),
-        pair(64, 9),
-        pair(72, 10),
-        pair(80, 11),
-        pair(88, 12),
-        pair(96, 13),
-        pair(104, 14),
-        pair(112, 15),
-        pair(120, 16),
-    ];
-    assert_eq!(rt; plan::<Small>(&full, linear(2), &[128, 0]), Plan::Full);
-    assert_eq!(rt; find::<Small>(&full, linear(2), &[128, 0]), None);
-    assert_eq!(rt;
-        plan::<Small>(&full, linear(2), &[120, 0]),
-        Plan::InPlace(15)
-    );
-}
-
-#[test]
-fn linear_at_the_limit(rt: HostRuntime) {
-    let four = [
-        pair(0, 1),
-        pair(8, 3),
-        pair(16, 5),
-        FREE,
-        FREE,
-        FREE,
-        FREE,
-        FREE,
-        pair(4, 2),
-        pair(12, 4),
-        FREE,
-        FREE,
-        FREE,
-        FREE,
-        FREE,
-        FREE,
-    ];
-    assert_eq!(rt; plan::<Small>(&four, paged(2), &[24, 0]), Plan::InPlace(3));
-    let mut crowded = four;
-    crowded[3] = pair(24, 6);
-    assert_eq!(rt;
-        plan::<Small>(&crowded, paged(2), &[32, 0]),
-        Plan::Grow(linear(2))
-    );
-    let mut laid = [FREE; 16];
-    lay::<Small>(&crowded, &[32, 0], 7, linear(2), &mut laid);
-    for (key, place) in [(0, 0), (8, 1), (16, 2), (24, 3), (4, 4), (12, 5), (32, 6)] {
-        assert_eq!(rt;
-            find::<Small>(&laid, linear(2), &[key, 0]),
-            Some(place),
-            "key {key}"
-        );
+// Where the key is. `None`: nowhere.
+fn place_of(places: &[Place], size: BlockSize, key: u64) -> Option<usize> {
+    let count = place_count(size)?;
+    if places.len() != count {
+        return None;
     }
-    assert_eq!(rt; laid[7].1, u64::MAX);
+    find::<Small>(places, size, &[key, 0])
+}
+
+// Whether these places and a new pair are laid out so in a block of this size.
+fn lays(places: &[Place], new: &Place, size: BlockSize, wanted: &[Place]) -> bool {
+    let Some(count) = place_count(size) else {
+        return false;
+    };
+    let mut all = [FREE; 16];
+    lay::<Small>(places, &new.0, new.1, size, &mut all[..count]);
+    &all[..count] == wanted
+}
+
+#[test]
+fn plans(rt: HostRuntime) {
+    for (places, size, key, wanted) in PLANS {
+        assert_eq!(rt; planned(places, size, key), Some(wanted), "key {key}");
+    }
+}
+
+#[test]
+fn larger_blocks(rt: HostRuntime) {
+    for (places, size, key, wanted) in LARGER {
+        assert_eq!(rt; grown(places, size, key), Some(wanted), "key {key}");
+    }
+}
+
+#[test]
+fn layouts(rt: HostRuntime) {
+    for (places, new, size, wanted) in LAYOUTS {
+        assert!(rt; lays(places, &new, size, wanted), "key {}", new.0[0]);
+    }
+}
+
+#[test]
+fn places(rt: HostRuntime) {
+    for (places, size, key, wanted) in FOUND {
+        assert_eq!(rt; place_of(places, size, key), wanted, "key {key}");
+    }
 }

@@ -35,30 +35,47 @@ fn rows_of_both_flow_shapes_open(rt: HostRuntime) -> Result<(), Fail> {
     Ok(())
 }
 
-// Numbers stay with the caller that has them, until one caller takes in the other. Each sees the count that was made.
+// How many callers were made, as this one sees it, and how many numbers it has.
+fn counts(row: &Row<Small>, caller: &mut Caller<Small>) -> (u64, u64)
+    requires { (caller.old.seat.row ≡ row.now) × (caller.old.seat.view.holds ≡ nothing_held) }
+    ensures { (caller.new.seat.row ≡ row.now) × (caller.new.seat.view.holds ≡ nothing_held) }
+{
+    let made = row.load_count(&mut caller.seat);
+    (made, caller.seat.numbers())
+}
+
 #[test]
-fn callers_split_meet_and_join(rt: HostRuntime) -> Result<(), Fail> {
+fn a_split_makes_a_caller(rt: HostRuntime) -> Result<(), Fail> {
     let (row, mut first) = open_row::<Small>(rt.alloc())?;
-    assert_eq!(rt; row.load_count(&mut first.seat), 1);
-    assert_eq!(rt; first.seat.numbers(), 1);
-    let (first, mut second) = split(rt.alloc(), &row, first)?;
-    assert_eq!(rt; row.load_count(&mut second.seat), 2);
-    assert_eq!(rt; (first.seat.numbers(), second.seat.numbers()), (1, 1));
-    let (second, third) = split(rt.alloc(), &row, second)?;
+    assert_eq!(rt; counts(&row, &mut first), (1, 1));
+    let (mut first, mut second) = split(rt.alloc(), &row, first)?;
+    assert_eq!(rt; counts(&row, &mut second), (2, 1));
+    assert_eq!(rt; counts(&row, &mut first), (2, 1));
+    Ok(())
+}
+
+#[test]
+fn callers_that_meet_keep_their_numbers(rt: HostRuntime) -> Result<(), Fail> {
+    let (row, first) = open_row::<Small>(rt.alloc())?;
+    let (first, second) = split(rt.alloc(), &row, first)?;
     let (first, second) = row.meet(first, second);
     assert_eq!(rt; (first.seat.numbers(), second.seat.numbers()), (1, 1));
     assert_eq!(rt; (first.seat.stamp(), second.seat.stamp()), (None, None));
-    let two = row.join(second, third);
-    assert_eq!(rt; two.seat.numbers(), 2);
-    let (first, two) = row.meet(first, two);
-    assert_eq!(rt; (first.seat.numbers(), two.seat.numbers()), (1, 2));
-    let mut all = row.join(first, two);
-    assert_eq!(rt; row.load_count(&mut all.seat), 3);
-    assert_eq!(rt; all.seat.numbers(), 3);
-    let (mut all, mut fourth) = split(rt.alloc(), &row, all)?;
-    assert_eq!(rt; (all.seat.numbers(), fourth.seat.numbers()), (3, 1));
-    assert_eq!(rt; row.load_count(&mut all.seat), 4);
-    assert_eq!(rt; row.load_count(&mut fourth.seat), 4);
+    Ok(())
+}
+
+// A caller that takes in another has the numbers of both, and keeps them where it splits and meets.
+#[test]
+fn a_caller_takes_in_another(rt: HostRuntime) -> Result<(), Fail> {
+    let (row, first) = open_row::<Small>(rt.alloc())?;
+    let (first, second) = split(rt.alloc(), &row, first)?;
+    let both = row.join(first, second);
+    let (both, third) = split(rt.alloc(), &row, both)?;
+    let (mut both, mut third) = row.meet(both, third);
+    assert_eq!(rt; counts(&row, &mut both), (3, 2));
+    assert_eq!(rt; counts(&row, &mut third), (3, 1));
+    let mut all = row.join(both, third);
+    assert_eq!(rt; counts(&row, &mut all), (3, 3));
     Ok(())
 }
 

@@ -64,13 +64,14 @@ fn what_a_check_of_a_source_tells(rt: HostRuntime) -> Result<(), Fail> {
 
 #[test]
 fn words_name_a_policy_to_check(rt: HostRuntime) {
-    let alloc = rt.alloc();
-    assert_eq!(rt;
-        check_name(alloc, &["racl", "check", "p"]).ok(),
-        Some(Some("p"))
-    );
-    assert_eq!(rt; check_name(alloc, &["racl", "p", "check"]).ok(), Some(None));
-    assert_eq!(rt; check_name(alloc, &["racl"]).ok(), Some(None));
-    assert_eq!(rt; check_name(alloc, &["racl", "check"]).ok(), None);
-    assert_eq!(rt; check_name(alloc, &["racl", "check", "p", "q"]).ok(), None);
+    const CASES: [(&[&str], Option<Option<&str>>); 5] = [
+        (&["racl", "check", "p"], Some(Some("p"))),
+        (&["racl", "p", "check"], Some(None)),
+        (&["racl"], Some(None)),
+        (&["racl", "check"], None),
+        (&["racl", "check", "p", "q"], None),
+    ];
+    for (words, named) in CASES {
+        assert_eq!(rt; check_name(rt.alloc(), words).ok(), named);
+    }
 }

@@ -51,32 +51,24 @@ fn first_bytes_are_kept(rt: HostRuntime) -> Result<(), Fail> {
 
 #[test]
 fn first_bytes_tell_other_files(rt: HostRuntime) {
-    let none = [0; 4];
-    let ethernet = header([0xd4, 0xc3, 0xb2, 0xa1], [1, 0, 0, 0]);
-    let pcapng = header([0x0a, 0x0d, 0x0d, 0x0a], none);
-    assert_eq!(rt; other_file(&ethernet), None);
-    assert_eq!(rt; other_file(&pcapng), Some(Other::Pcapng));
+    const CASES: [([u8; 4], [u8; 4], Option<Other>); 7] = [
+        ([0xd4, 0xc3, 0xb2, 0xa1], [1, 0, 0, 0], None),
+        ([0x0a, 0x0d, 0x0d, 0x0a], [0; 4], Some(Other::Pcapng)),
+        ([0x1f, 0x8b, 8, 0], [0; 4], Some(Other::Gzip)),
+        ([0xa1, 0xb2, 0xcd, 0x34], [0; 4], Some(Other::Modified)),
+        ([0x34, 0xcd, 0xb2, 0xa1], [0; 4], Some(Other::Modified)),
+        (
+            [0xd4, 0xc3, 0xb2, 0xa1],
+            [113, 0, 0, 0],
+            Some(Other::Cooked),
+        ),
+        ([0xa1, 0xb2, 0x3c, 0x4d], [0, 0, 1, 20], Some(Other::Cooked)),
+    ];
+    for (magic, link, other) in CASES {
+        assert_eq!(rt; other_file(&header(magic, link)), other);
+    }
+    let pcapng = header([0x0a, 0x0d, 0x0d, 0x0a], [0; 4]);
     assert_eq!(rt; told_of_fewer(&pcapng), None);
-    assert_eq!(rt;
-        other_file(&header([0x1f, 0x8b, 8, 0], none)),
-        Some(Other::Gzip)
-    );
-    assert_eq!(rt;
-        other_file(&header([0xa1, 0xb2, 0xcd, 0x34], none)),
-        Some(Other::Modified)
-    );
-    assert_eq!(rt;
-        other_file(&header([0x34, 0xcd, 0xb2, 0xa1], none)),
-        Some(Other::Modified)
-    );
-    assert_eq!(rt;
-        other_file(&header([0xd4, 0xc3, 0xb2, 0xa1], [113, 0, 0, 0])),
-        Some(Other::Cooked)
-    );
-    assert_eq!(rt;
-        other_file(&header([0xa1, 0xb2, 0x3c, 0x4d], [0, 0, 1, 20])),
-        Some(Other::Cooked)
-    );
 }
 
 #[test]

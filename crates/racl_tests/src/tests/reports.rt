@@ -7,7 +7,7 @@ use std::test::Fail;
 
 #[test]
 fn a_line_for_each_verdict(rt: HostRuntime) -> Result<(), Fail> {
-    let verdicts = [
+    const VERDICTS: [Verdict; 11] = [
         Verdict::Session,
         Verdict::Reflect(1),
         Verdict::Permit(20),
@@ -20,7 +20,7 @@ fn a_line_for_each_verdict(rt: HostRuntime) -> Result<(), Fail> {
         Verdict::Malformed,
         Verdict::Short,
     ];
-    let lines = "\
+    const LINES: &str = "\
 1 pass session
 2 pass rule 1 reflect
 3 pass rule 20
@@ -36,13 +36,13 @@ truncated after 11
 packets 11 pass 4 drop 7
 ";
     let mut writer = Device::new(Vec::new(rt.alloc()));
-    let captures = [Captured {
+    const CAPTURES: [Captured; 1] = [Captured {
         named: None,
         packets: 11,
         truncated: true,
     }];
-    let totals = write_report(Some(&rt), rt.alloc(), &mut writer, &verdicts, &captures)?;
-    assert_eq!(rt; writer.inner.as_slice(), lines.as_bytes());
+    let totals = write_report(Some(&rt), rt.alloc(), &mut writer, &VERDICTS, &CAPTURES)?;
+    assert_eq!(rt; writer.inner.as_slice(), LINES.as_bytes());
     assert_eq!(rt; (totals.packets, totals.passed, totals.dropped), (11, 4, 7));
     assert!(rt; totals.truncated);
     Ok(())
@@ -51,8 +51,8 @@ packets 11 pass 4 drop 7
 /// Captures of two interfaces, of which the first ends within a record.
 #[test]
 fn a_part_for_each_capture(rt: HostRuntime) -> Result<(), Fail> {
-    let verdicts = [Verdict::Reflect(1), Verdict::ByDefault, Verdict::Session];
-    let captures = [
+    const VERDICTS: [Verdict; 3] = [Verdict::Reflect(1), Verdict::ByDefault, Verdict::Session];
+    const CAPTURES: [Captured; 2] = [
         Captured {
             named: Some(0),
             packets: 1,
@@ -64,7 +64,7 @@ fn a_part_for_each_capture(rt: HostRuntime) -> Result<(), Fail> {
             truncated: false,
         },
     ];
-    let lines = "\
+    const LINES: &str = "\
 1 if 0 pass rule 1 reflect
 if 0 truncated after 1
 2 if 255 drop default
@@ -72,8 +72,8 @@ if 0 truncated after 1
 packets 3 pass 2 drop 1
 ";
     let mut writer = Device::new(Vec::new(rt.alloc()));
-    let totals = write_report(Some(&rt), rt.alloc(), &mut writer, &verdicts, &captures)?;
-    assert_eq!(rt; writer.inner.as_slice(), lines.as_bytes());
+    let totals = write_report(Some(&rt), rt.alloc(), &mut writer, &VERDICTS, &CAPTURES)?;
+    assert_eq!(rt; writer.inner.as_slice(), LINES.as_bytes());
     assert!(rt; totals.truncated);
     Ok(())
 }
@@ -81,8 +81,8 @@ packets 3 pass 2 drop 1
 /// Packets have the numbers that they have among all, and the totals count all.
 #[test]
 fn lines_of_some_packets(rt: HostRuntime) -> Result<(), Fail> {
-    let verdicts = [Verdict::Session, Verdict::ByDefault, Verdict::NotIp];
-    let captures = [
+    const VERDICTS: [Verdict; 3] = [Verdict::Session, Verdict::ByDefault, Verdict::NotIp];
+    const CAPTURES: [Captured; 2] = [
         Captured {
             named: Some(7),
             packets: 1,
@@ -96,7 +96,7 @@ fn lines_of_some_packets(rt: HostRuntime) -> Result<(), Fail> {
     ];
     let cut = "if 7 truncated after 1\n";
     let end = "packets 3 pass 2 drop 1\n";
-    let cases = [
+    const CASES: [(Shown, &str, &str); 4] = [
         (
             Shown::Every,
             "1 if 7 pass session\n",
@@ -110,7 +110,7 @@ fn lines_of_some_packets(rt: HostRuntime) -> Result<(), Fail> {
         (Shown::Dropped, "", "2 if 8 drop default\n"),
         (Shown::Nothing, "", ""),
     ];
-    for (shown, first, second) in cases {
+    for (shown, first, second) in CASES {
         let mut writer = Device::new(Vec::new(rt.alloc()));
         let text = format!(in rt.alloc(); "{first}{cut}{second}{end}")?;
         let totals = write_shown(
@@ -118,8 +118,8 @@ fn lines_of_some_packets(rt: HostRuntime) -> Result<(), Fail> {
             rt.alloc(),
             &mut writer,
             shown,
-            &verdicts,
-            &captures,
+            &VERDICTS,
+            &CAPTURES,
         )?;
         assert_eq!(rt; writer.inner.as_slice(), text.as_bytes());
         assert_eq!(rt;

@@ -37,15 +37,22 @@ fn interfaces_of<'a>(alloc: Global, words: &'a [&'a str]) -> Option<Interfaces<'
 
 #[test]
 fn words_name_files(rt: HostRuntime) {
-    let alloc = rt.alloc();
-    let named = Some(Files {
+    const NAMED: Files<'static> = Files {
         policy: "p",
         capture: "-",
-    });
-    assert!(rt; matches!(origin_of(alloc, &["racl"]), Some(Origin::Standard)));
-    assert_eq!(rt; files_of(alloc, &["racl", "p", "-"]), named);
-    assert_eq!(rt; files_of(alloc, &["racl", "p", "--udp=5", "-"]), named);
-    assert!(rt; origin_of(alloc, &["racl", "-", "-"]).is_none());
+    };
+    const CASES: [(&[&str], Option<Files<'static>>); 4] = [
+        (&["racl"], None),
+        (&["racl", "p", "-"], Some(NAMED)),
+        (&["racl", "p", "--udp=5", "-"], Some(NAMED)),
+        (&["racl", "-", "-"], None),
+    ];
+    for (words, named) in CASES {
+        assert_eq!(rt; files_of(rt.alloc(), words), named);
+    }
+    let standard = origin_of(rt.alloc(), &["racl"]);
+    assert!(rt; matches!(standard, Some(Origin::Standard)));
+    assert!(rt; origin_of(rt.alloc(), &["racl", "-", "-"]).is_none());
 }
 
 #[test]
@@ -73,36 +80,33 @@ fn words_name_captures_of_interfaces(rt: HostRuntime) {
 // The number of workers shows in no report, and the size of the tables only where they have little room.
 #[test]
 fn words_set_the_options(rt: HostRuntime) {
-    let alloc = rt.alloc();
-    let times = Timeouts {
+    const TIMES: Timeouts = Timeouts {
         established: 86400,
         transient: 120,
         udp: 600,
     };
-    let shown = Shown::Every;
-    let defaults = Options {
+    const DEFAULTS: Options = Options {
         workers: 1,
-        times,
+        times: TIMES,
         tables: TableSize::Standard,
-        shown,
+        shown: Shown::Every,
         hits: false,
     };
-    assert_eq!(rt; set_after(alloc, &["racl"]), Some(defaults));
-    assert_eq!(rt;
-        set_after(alloc, &["racl", "--workers", "1"]),
-        Some(defaults)
-    );
-    let most = Options {
+    const MOST: Options = Options {
         workers: 16,
-        times,
+        times: TIMES,
         tables: TableSize::Large,
-        shown,
+        shown: Shown::Every,
         hits: false,
     };
-    assert_eq!(rt;
-        set_after(alloc, &["racl", "--tables=large", "--workers", "16"]),
-        Some(most)
-    );
+    const CASES: [(&[&str], Options); 3] = [
+        (&["racl"], DEFAULTS),
+        (&["racl", "--workers", "1"], DEFAULTS),
+        (&["racl", "--tables=large", "--workers", "16"], MOST),
+    ];
+    for (words, wanted) in CASES {
+        assert_eq!(rt; set_after(rt.alloc(), words), Some(wanted));
+    }
 }
 
 fn shown_after<'a>(alloc: Global, words: &'a [&'a str]) -> Option<Shown> {
@@ -111,20 +115,15 @@ fn shown_after<'a>(alloc: Global, words: &'a [&'a str]) -> Option<Shown> {
 
 #[test]
 fn words_select_packets(rt: HostRuntime) {
-    let alloc = rt.alloc();
-    assert_eq!(rt;
-        shown_after(alloc, &["racl", "--only", "pass"]),
-        Some(Shown::Passing)
-    );
-    assert_eq!(rt;
-        shown_after(alloc, &["racl", "--only=drop"]),
-        Some(Shown::Dropped)
-    );
-    assert_eq!(rt;
-        shown_after(alloc, &["racl", "--only=drop", "--summary"]),
-        Some(Shown::Nothing)
-    );
-    assert_eq!(rt; shown_after(alloc, &["racl", "--only", "deny"]), None);
+    const CASES: [(&[&str], Option<Shown>); 4] = [
+        (&["racl", "--only", "pass"], Some(Shown::Passing)),
+        (&["racl", "--only=drop"], Some(Shown::Dropped)),
+        (&["racl", "--only=drop", "--summary"], Some(Shown::Nothing)),
+        (&["racl", "--only", "deny"], None),
+    ];
+    for (words, shown) in CASES {
+        assert_eq!(rt; shown_after(rt.alloc(), words), shown);
+    }
 }
 
 // The status after words that are refused.
@@ -137,11 +136,15 @@ fn status_after<'a>(alloc: Global, words: &'a [&'a str]) -> Option<u8> {
 
 #[test]
 fn other_words_end_with_a_status(rt: HostRuntime) {
-    let alloc = rt.alloc();
-    assert_eq!(rt; status_after(alloc, &["racl", "--help"]), Some(0));
-    assert_eq!(rt; status_after(alloc, &["racl", "--udp", "0"]), Some(2));
-    assert_eq!(rt; status_after(alloc, &["racl", "--tables", "l"]), Some(2));
-    assert_eq!(rt; status_after(alloc, &["racl", "p"]), Some(2));
-    assert_eq!(rt; status_after(alloc, &["racl", "-", "-"]), Some(2));
+    const CASES: [(&[&str], u8); 5] = [
+        (&["racl", "--help"], 0),
+        (&["racl", "--udp", "0"], 2),
+        (&["racl", "--tables", "l"], 2),
+        (&["racl", "p"], 2),
+        (&["racl", "-", "-"], 2),
+    ];
+    for (words, status) in CASES {
+        assert_eq!(rt; status_after(rt.alloc(), words), Some(status));
+    }
     assert_eq!(rt; words_status(&Error::from(AllocError)), 4);
 }

@@ -1,6 +1,6 @@
 //! Tables that end: empty, with pairs, and with a caller too many.
 use super::Call::{Add, Remove};
-use super::{ends_with, first_wrong, stays_open, two_callers};
+use super::{Row, ends_with, first_wrong, stays_open, two_callers};
 use bihash_table::create;
 use bihash_words::Reply::Changed;
 use bihash_words::Tiny;
@@ -19,7 +19,7 @@ fn an_empty_table_closes_without_pairs(rt: HostRuntime) -> Result<(), Fail> {
 #[test]
 fn pairs_come_in_the_order_of_their_words(rt: HostRuntime) -> Result<(), Fail> {
     let (table, mut caller) = create::<Small>(rt.alloc())?;
-    let rows = [
+    const ROWS: [Row; 10] = [
         (Add(1), [2, 1], Changed(None), (0, 1)),
         (Add(2), [256, 0], Changed(None), (0, 2)),
         (Add(3), [1, 1 << 63], Changed(None), (1, 1)),
@@ -31,8 +31,8 @@ fn pairs_come_in_the_order_of_their_words(rt: HostRuntime) -> Result<(), Fail> {
         (Add(9), [1, 1], Changed(None), (1, 5)),
         (Remove, [1, 2], Changed(Some(4)), (1, 6)),
     ];
-    assert_eq!(rt; first_wrong(&table, &mut caller, &rows), None);
-    let sorted = [
+    assert_eq!(rt; first_wrong(&table, &mut caller, &ROWS), None);
+    const SORTED: [([u64; 2], u64); 8] = [
         ([0, 3], 8),
         ([0, u64::MAX], 5),
         ([1, 1], 9),
@@ -42,7 +42,7 @@ fn pairs_come_in_the_order_of_their_words(rt: HostRuntime) -> Result<(), Fail> {
         ([256, 0], 2),
         ([u64::MAX, 0], 6),
     ];
-    assert!(rt; ends_with(rt.alloc(), table, caller, &sorted));
+    assert!(rt; ends_with(rt.alloc(), table, caller, &SORTED));
     Ok(())
 }
 

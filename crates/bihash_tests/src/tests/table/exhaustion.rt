@@ -1,6 +1,6 @@
 //! Tables that run out of writes and pages, and a caller that is dropped with both of its locks.
 use super::Call::{Add, Remove, Search};
-use super::{Eight, answer, drop_with_locks, first_wrong, two_callers};
+use super::{Eight, Row, answer, drop_with_locks, first_wrong, two_callers};
 use bihash_table::{Contended, create, stamp};
 use bihash_words::Reply::{Changed, Kept, NoPages, Worn};
 use bihash_words::Tiny;
@@ -10,7 +10,7 @@ use std::test::Fail;
 #[test]
 fn one_page_worn(rt: HostRuntime) -> Result<(), Fail> {
     let (table, mut caller) = create::<Tiny<1, 5>>(rt.alloc())?;
-    let rows = [
+    const ROWS: [Row; 7] = [
         (Add(7), [0, 0], Changed(None), (0, 1)),
         (Remove, [0, 0], Changed(Some(7)), (0, 2)),
         (Add(7), [0, 0], Changed(None), (0, 3)),
@@ -19,7 +19,7 @@ fn one_page_worn(rt: HostRuntime) -> Result<(), Fail> {
         (Remove, [0, 0], Worn(Some(8)), (0, 5)),
         (Add(9), [1, 0], NoPages { log2: 0, left: 0 }, (1, 0)),
     ];
-    assert_eq!(rt; first_wrong(&table, &mut caller, &rows), None);
+    assert_eq!(rt; first_wrong(&table, &mut caller, &ROWS), None);
     Ok(())
 }
 
@@ -27,7 +27,7 @@ fn one_page_worn(rt: HostRuntime) -> Result<(), Fail> {
 #[test]
 fn worn_then_page_free(rt: HostRuntime) -> Result<(), Fail> {
     let (table, mut caller) = create::<Tiny<1, 4>>(rt.alloc())?;
-    let rows = [
+    const ROWS: [Row; 6] = [
         (Add(7), [0, 0], Changed(None), (0, 1)),
         (Remove, [0, 0], Changed(Some(7)), (0, 2)),
         (Add(7), [0, 0], Changed(None), (0, 3)),
@@ -35,7 +35,7 @@ fn worn_then_page_free(rt: HostRuntime) -> Result<(), Fail> {
         (Add(8), [0, 0], Worn(None), (0, 4)),
         (Add(9), [1, 0], Changed(None), (1, 1)),
     ];
-    assert_eq!(rt; first_wrong(&table, &mut caller, &rows), None);
+    assert_eq!(rt; first_wrong(&table, &mut caller, &ROWS), None);
     Ok(())
 }
 
@@ -47,7 +47,7 @@ fn dropped_pool_holder(rt: HostRuntime) -> Result<(), Fail> {
     assert!(rt; drop_with_locks(&table, second, true));
     assert_eq!(rt; answer(&table, &mut first, Add(3), &[1, 0]), Err(Contended));
     assert_eq!(rt; stamp(&first), None);
-    let found = [(Search, [1, 0], Kept(None), (1, 0))];
-    assert_eq!(rt; first_wrong(&table, &mut first, &found), None);
+    const FOUND: [Row; 1] = [(Search, [1, 0], Kept(None), (1, 0))];
+    assert_eq!(rt; first_wrong(&table, &mut first, &FOUND), None);
     Ok(())
 }

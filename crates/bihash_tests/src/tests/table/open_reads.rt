@@ -3,7 +3,7 @@ ghost use Rattle.std.specs.Prelude.{◌≡◌};
 ghost use Rattle.bihash_steps.specs.Views.{nothing_held};
 
 use super::Call::{Add, Remove, Search};
-use super::{Eight, block, first_wrong, two_callers};
+use super::{Eight, Row, block, first_wrong, two_callers};
 use bihash_steps::Event;
 use bihash_table::{Caller, Sessions};
 use bihash_words::Reply::{Changed, Kept};
@@ -17,11 +17,11 @@ fn gives_page_away(table: &Sessions<Eight>, caller: &mut Caller<Eight>) -> bool
     ensures own { caller.new.seat.row ≡ table.now.row }
     ensures free { caller.new.seat.view.holds ≡ nothing_held }
 {
-    let rows = [
+    const ROWS: [Row; 2] = [
         (Remove, [0, 0], Changed(Some(7)), (0, 2)),
         (Add(9), [1, 0], Changed(None), (1, 1)),
     ];
-    first_wrong(table, caller, &rows).is_none() && block(table, caller, 1).0 == 1
+    first_wrong(table, caller, &ROWS).is_none() && block(table, caller, 1).0 == 1
 }
 
 // The second caller reads the key in page 1, which is bucket 0's, and the value when the first one gave the page away.
@@ -75,13 +75,13 @@ fn refuses_moved_page(
 #[test]
 fn read_across_a_moved_page(rt: HostRuntime) -> Result<(), Fail> {
     let (table, mut first, mut second) = two_callers::<Eight>(rt.alloc())?;
-    let added = [(Add(7), [0, 0], Changed(None), (0, 1))];
-    assert_eq!(rt; first_wrong(&table, &mut first, &added), None);
+    const ADDED: [Row; 1] = [(Add(7), [0, 0], Changed(None), (0, 1))];
+    assert_eq!(rt; first_wrong(&table, &mut first, &ADDED), None);
     assert!(rt; refuses_moved_page(&table, &mut first, &mut second)?);
-    let found = [
+    const FOUND: [Row; 2] = [
         (Search, [0, 0], Kept(None), (0, 2)),
         (Search, [1, 0], Kept(Some(9)), (1, 1)),
     ];
-    assert_eq!(rt; first_wrong(&table, &mut second, &found), None);
+    assert_eq!(rt; first_wrong(&table, &mut second, &FOUND), None);
     Ok(())
 }

@@ -4,7 +4,7 @@ ghost use Rattle.std.specs.Thread.{IsSync};
 ghost use Rattle.bihash_steps.specs.Views.{nothing_held};
 
 use super::Call::Search;
-use super::{Eight, block, fill, first_wrong, has, two_callers};
+use super::{Eight, Row, block, fill, first_wrong, has, two_callers};
 use bihash_table::{Caller, Contended, Sessions, create, stamp};
 use bihash_words::Reply::{Changed, Full, Kept};
 use bihash_words::{Add, Expiry, Reply};
@@ -49,20 +49,22 @@ fn enter<E: Expiry>(
     table.try_add_or_recycle(caller, &[key, 0], &Add { value: 99 }, expiry)
 }
 
+// The keys that fill bucket 0.
+const KEYS: [u32; 16] = [0, 2, 4, 6, 8, 10, 12, 14, 16, 18, 20, 22, 24, 26, 28, 30];
+
 #[test]
 fn recycled_pair(rt: HostRuntime) -> Result<(), Fail> {
     let (table, mut caller) = create::<Eight>(rt.alloc())?;
     let caller = &mut caller;
-    let keys = [0, 2, 4, 6, 8, 10, 12, 14, 16, 18, 20, 22, 24, 26, 28, 30];
-    assert!(rt; fill(&table, caller, &keys));
+    assert!(rt; fill(&table, caller, &KEYS));
     assert_eq!(rt; enter(&table, caller, 32, &TwoAndFour), Ok(Changed(None)));
-    let found = [
+    const FOUND: [Row; 2] = [
         (Search, [2, 0], Kept(None), (0, 17)),
         (Search, [32, 0], Kept(Some(99)), (0, 17)),
     ];
-    assert_eq!(rt; first_wrong(&table, caller, &found), None);
-    let others = [0, 4, 6, 8, 10, 12, 14, 16, 18, 20, 22, 24, 26, 28, 30];
-    assert!(rt; has(&table, caller, &others));
+    assert_eq!(rt; first_wrong(&table, caller, &FOUND), None);
+    const OTHERS: [u32; 15] = [0, 4, 6, 8, 10, 12, 14, 16, 18, 20, 22, 24, 26, 28, 30];
+    assert!(rt; has(&table, caller, &OTHERS));
     assert_eq!(rt; enter(&table, caller, 34, &Nothing), Ok(Full));
     assert_eq!(rt; stamp(caller), Some((0, 17)));
     assert_eq!(rt; block(&table, caller, 0), (4, 2, true));
@@ -85,14 +87,13 @@ impl Expiry for BelowHundred {
 #[test]
 fn two_recyclers(rt: HostRuntime) -> Result<(), Fail> {
     let (table, mut first, second) = two_callers::<Eight>(rt.alloc())?;
-    let keys = [0, 2, 4, 6, 8, 10, 12, 14, 16, 18, 20, 22, 24, 26, 28, 30];
-    assert!(rt; fill(&table, &mut first, &keys));
+    assert!(rt; fill(&table, &mut first, &KEYS));
     let (mut both, all_new) = recycle_both(&rt, &table, first, second);
     assert!(rt; all_new);
-    let left = [
+    const LEFT: [u32; 16] = [
         24, 26, 28, 30, 100, 102, 104, 106, 108, 110, 200, 202, 204, 206, 208, 210,
     ];
-    assert!(rt; has(&table, &mut both, &left));
+    assert!(rt; has(&table, &mut both, &LEFT));
     let pairs = table.close(rt.alloc(), both).ok();
     assert_eq!(rt; pairs.map(|p| p.len()), Some(16));
     Ok(())

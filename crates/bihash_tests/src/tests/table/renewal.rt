@@ -3,7 +3,7 @@ ghost use Rattle.std.specs.Prelude.{◌≡◌, IfOk};
 ghost use Rattle.bihash_steps.specs.Views.{nothing_held};
 
 use super::Call::{Add, Search, Touch};
-use super::{Eight, ends_with, first_wrong, renew, two_callers};
+use super::{Eight, Row, ends_with, first_wrong, renew, two_callers};
 use bihash_table::{Caller, RenewFault, Sessions, create, stamp};
 use bihash_words::Reply::{Changed, Kept, Worn};
 use bihash_words::Tiny;
@@ -14,27 +14,27 @@ use std::test::Fail;
 #[test]
 fn renewed_worn_table(rt: HostRuntime) -> Result<(), Fail> {
     let (table, mut caller) = create::<Tiny<8, 3>>(rt.alloc())?;
-    let worn = [
+    const WORN: [Row; 5] = [
         (Add(7), [0, 0], Changed(None), (0, 1)),
         (Add(8), [0, 0], Changed(Some(7)), (0, 2)),
         (Touch(9), [0, 0], Changed(Some(8)), (0, 3)),
         (Add(5), [1, 0], Changed(None), (1, 1)),
         (Add(10), [0, 0], Worn(Some(9)), (0, 3)),
     ];
-    assert_eq!(rt; first_wrong(&table, &mut caller, &worn), None);
+    assert_eq!(rt; first_wrong(&table, &mut caller, &WORN), None);
     let (table, mut caller) = renew(rt.alloc(), table, caller)?;
     assert_eq!(rt; stamp(&caller), None);
-    let renewed = [
+    const RENEWED: [Row; 4] = [
         (Search, [0, 0], Kept(Some(9)), (0, 0)),
         (Add(10), [0, 0], Changed(Some(9)), (0, 1)),
         (Add(1), [2, 0], Changed(None), (0, 2)),
         (Search, [1, 0], Kept(Some(5)), (1, 0)),
     ];
-    assert_eq!(rt; first_wrong(&table, &mut caller, &renewed), None);
+    assert_eq!(rt; first_wrong(&table, &mut caller, &RENEWED), None);
     let (table, mut caller) = renew(rt.alloc(), table, caller)?;
     assert_eq!(rt; stamp(&caller), None);
-    let again = [(Search, [0, 0], Kept(Some(10)), (0, 0))];
-    assert_eq!(rt; first_wrong(&table, &mut caller, &again), None);
+    const AGAIN: [Row; 1] = [(Search, [0, 0], Kept(Some(10)), (0, 0))];
+    assert_eq!(rt; first_wrong(&table, &mut caller, &AGAIN), None);
     Ok(())
 }
 
@@ -62,8 +62,8 @@ fn stays_worn(
 #[test]
 fn renew_strangers(rt: HostRuntime) -> Result<(), Fail> {
     let (table, mut first, second) = two_callers::<Eight>(rt.alloc())?;
-    let added = [(Add(5), [2, 0], Changed(None), (0, 1))];
-    assert_eq!(rt; first_wrong(&table, &mut first, &added), None);
+    const ADDED: [Row; 1] = [(Add(5), [2, 0], Changed(None), (0, 1))];
+    assert_eq!(rt; first_wrong(&table, &mut first, &ADDED), None);
     let (table, both) = stays_worn(rt.alloc(), table, first, second)?;
     let (table, caller) = renew(rt.alloc(), table, both)?;
     assert!(rt; ends_with(rt.alloc(), table, caller, &[([2, 0], 5)]));

@@ -1,6 +1,6 @@
 //! The worked rows of several callers.
 use super::Call::{Add, Remove, Search, Touch};
-use super::{Eight, answer, drop_with_locks, ends_with, first_wrong, stays_open, two_callers};
+use super::{Eight, Row, answer, drop_with_locks, ends_with, first_wrong, stays_open, two_callers};
 use bihash_table::{CloseFault, Contended, SplitFault, create, stamp};
 use bihash_words::Reply::{Changed, Kept};
 use std::test::Fail;
@@ -9,15 +9,15 @@ use std::test::Fail;
 fn two_callers_without_a_meeting(rt: HostRuntime) -> Result<(), Fail> {
     let (table, mut first, mut second) = two_callers::<Eight>(rt.alloc())?;
     assert_eq!(rt; stamp(&second), None);
-    let added = [(Add(7), [0, 0], Changed(None), (0, 1))];
-    assert_eq!(rt; first_wrong(&table, &mut first, &added), None);
-    let touched = [
+    const ADDED: [Row; 1] = [(Add(7), [0, 0], Changed(None), (0, 1))];
+    assert_eq!(rt; first_wrong(&table, &mut first, &ADDED), None);
+    const TOUCHED: [Row; 2] = [
         (Search, [0, 0], Kept(Some(7)), (0, 1)),
         (Touch(8), [0, 0], Changed(Some(7)), (0, 2)),
     ];
-    assert_eq!(rt; first_wrong(&table, &mut second, &touched), None);
-    let found = [(Search, [0, 0], Kept(Some(8)), (0, 2))];
-    assert_eq!(rt; first_wrong(&table, &mut first, &found), None);
+    assert_eq!(rt; first_wrong(&table, &mut second, &TOUCHED), None);
+    const FOUND: [Row; 1] = [(Search, [0, 0], Kept(Some(8)), (0, 2))];
+    assert_eq!(rt; first_wrong(&table, &mut first, &FOUND), None);
     let both = table.join(first, second);
     assert!(rt; ends_with(rt.alloc(), table, both, &[([0, 0], 8)]));
     Ok(())
@@ -43,8 +43,8 @@ fn all_callers_split(rt: HostRuntime) -> Result<(), Fail> {
 #[test]
 fn close(rt: HostRuntime) -> Result<(), Fail> {
     let (table, mut first, second) = two_callers::<Eight>(rt.alloc())?;
-    let added = [(Add(5), [2, 0], Changed(None), (0, 1))];
-    assert_eq!(rt; first_wrong(&table, &mut first, &added), None);
+    const ADDED: [Row; 1] = [(Add(5), [2, 0], Changed(None), (0, 1))];
+    assert_eq!(rt; first_wrong(&table, &mut first, &ADDED), None);
     assert!(rt; !table.is_lone(&mut first));
     let (table, mut both) = stays_open(rt.alloc(), table, first, second)?;
     assert!(rt; table.is_lone(&mut both));
@@ -60,8 +60,8 @@ fn dropped_lock_holder(rt: HostRuntime) -> Result<(), Fail> {
     assert_eq!(rt; answer(&table, &mut first, Search, &[0, 0]), Err(Contended));
     assert_eq!(rt; answer(&table, &mut first, Remove, &[0, 0]), Err(Contended));
     assert_eq!(rt; stamp(&first), None);
-    let added = [(Add(3), [1, 0], Changed(None), (1, 1))];
-    assert_eq!(rt; first_wrong(&table, &mut first, &added), None);
+    const ADDED: [Row; 1] = [(Add(3), [1, 0], Changed(None), (1, 1))];
+    assert_eq!(rt; first_wrong(&table, &mut first, &ADDED), None);
     let fault = table
         .close(rt.alloc(), first)
         .err()

@@ -5,7 +5,7 @@ ghost use Rattle.bihash_words.specs.declared.patch.Change.TheVariants.{Keep};
 ghost use Rattle.bihash_steps.specs.Views.{nothing_held};
 
 use super::Call::{Add, Search};
-use super::{Eight, answer, first_wrong, two_callers};
+use super::{Eight, Row, answer, first_wrong, two_callers};
 use bihash_table::{Caller, Sessions};
 use bihash_words::Reply::{Changed, Kept};
 use bihash_words::{Change, Patch, Reply, Tiny};
@@ -26,11 +26,11 @@ fn two_writers(rt: HostRuntime) -> Result<(), Fail> {
     let (table, first, second) = two_callers::<Deep>(rt.alloc())?;
     let (mut both, all_changed) = write_both(&rt, &table, first, second);
     assert!(rt; all_changed);
-    let found = [
+    const FOUND: [Row; 2] = [
         (Search, [0, 0], Kept(Some(1000)), (0, 2000)),
         (Search, [2, 0], Kept(Some(1000)), (0, 2000)),
     ];
-    assert_eq!(rt; first_wrong(&table, &mut both, &found), None);
+    assert_eq!(rt; first_wrong(&table, &mut both, &FOUND), None);
     Ok(())
 }
 
@@ -114,8 +114,8 @@ impl Patch for KeepsLate {
 #[test]
 fn kept_beside_read(rt: HostRuntime) -> Result<(), Fail> {
     let (table, mut first, second) = two_callers::<Eight>(rt.alloc())?;
-    let added = [(Add(7), [0, 0], Changed(None), (0, 1))];
-    assert_eq!(rt; first_wrong(&table, &mut first, &added), None);
+    const ADDED: [Row; 1] = [(Add(7), [0, 0], Changed(None), (0, 1))];
+    assert_eq!(rt; first_wrong(&table, &mut first, &ADDED), None);
     let patch = KeepsLate {
         entered: AtomicBool::new(false),
         passed: AtomicBool::new(false),

@@ -91,7 +91,7 @@ fn first_wrong_waiting<R: Wait>(
 #[test]
 fn fixed_calls(rt: HostRuntime) -> Result<(), Fail> {
     let (table, mut caller) = create::<Eight>(rt.alloc())?;
-    let rows = [
+    const ROWS: [Row; 11] = [
         (Call::Touch(6), [0, 0], Kept(None), (0, 0)),
         (Call::AddIfAbsent(7), [0, 0], Changed(None), (0, 1)),
         (Call::AddIfAbsent(8), [0, 0], Kept(Some(7)), (0, 1)),
@@ -105,7 +105,7 @@ fn fixed_calls(rt: HostRuntime) -> Result<(), Fail> {
         (Call::Add(4), [0, 0], Changed(None), (0, 4)),
     ];
     assert_eq!(rt;
-        first_wrong_waiting(&rt, &table, &mut caller, true, &rows),
+        first_wrong_waiting(&rt, &table, &mut caller, true, &ROWS),
         None
     );
     Ok(())
@@ -114,7 +114,7 @@ fn fixed_calls(rt: HostRuntime) -> Result<(), Fail> {
 #[test]
 fn updates_by_each_fixed_patch(rt: HostRuntime) -> Result<(), Fail> {
     let (table, mut caller) = create::<Eight>(rt.alloc())?;
-    let rows = [
+    const ROWS: [Row; 10] = [
         (Call::Touch(2), [1, 5], Kept(None), (1, 0)),
         (Call::Remove, [1, 5], Kept(None), (1, 0)),
         (Call::Add(3), [1, 5], Changed(None), (1, 1)),
@@ -127,7 +127,7 @@ fn updates_by_each_fixed_patch(rt: HostRuntime) -> Result<(), Fail> {
         (Call::Search, [1, 5], Kept(Some(4)), (1, 5)),
     ];
     assert_eq!(rt;
-        first_wrong_waiting(&rt, &table, &mut caller, false, &rows),
+        first_wrong_waiting(&rt, &table, &mut caller, false, &ROWS),
         None
     );
     Ok(())
@@ -153,22 +153,22 @@ fn met(
 #[test]
 fn callers_that_met_keep_their_stamps(rt: HostRuntime) -> Result<(), Fail> {
     let (table, mut first, mut second) = two_callers::<Eight>(rt.alloc())?;
-    let by_first = [(Call::Add(7), [0, 0], Changed(None), (0, 1))];
-    assert_eq!(rt; first_wrong(&table, &mut first, &by_first), None);
-    let by_second = [
+    const BY_FIRST: [Row; 1] = [(Call::Add(7), [0, 0], Changed(None), (0, 1))];
+    assert_eq!(rt; first_wrong(&table, &mut first, &BY_FIRST), None);
+    const BY_SECOND: [Row; 2] = [
         (Call::Add(9), [1, 0], Changed(None), (1, 1)),
         (Call::Add(8), [1, 0], Changed(Some(9)), (1, 2)),
     ];
-    assert_eq!(rt; first_wrong(&table, &mut second, &by_second), None);
+    assert_eq!(rt; first_wrong(&table, &mut second, &BY_SECOND), None);
     let (mut first, mut second) = met(&table, first, second);
     assert_eq!(rt;
         (stamp(&first), stamp(&second)),
         (Some((0, 1)), Some((1, 2)))
     );
     assert_eq!(rt; (first.seat.numbers(), second.seat.numbers()), (1, 1));
-    let by_first = [(Call::Search, [1, 0], Kept(Some(8)), (1, 2))];
-    assert_eq!(rt; first_wrong(&table, &mut first, &by_first), None);
-    let by_second = [(Call::Search, [0, 0], Kept(Some(7)), (0, 1))];
-    assert_eq!(rt; first_wrong(&table, &mut second, &by_second), None);
+    const FOUND_BY_FIRST: [Row; 1] = [(Call::Search, [1, 0], Kept(Some(8)), (1, 2))];
+    assert_eq!(rt; first_wrong(&table, &mut first, &FOUND_BY_FIRST), None);
+    const FOUND_BY_SECOND: [Row; 1] = [(Call::Search, [0, 0], Kept(Some(7)), (0, 1))];
+    assert_eq!(rt; first_wrong(&table, &mut second, &FOUND_BY_SECOND), None);
     Ok(())
 }
