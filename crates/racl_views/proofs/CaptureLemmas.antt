@@ -1,5 +1,5 @@
 -- Packets of captures that are read one after the other.
-use Rattle.std.proofs.Common.{◌≡◌, ◌∙◌, ◌++◌, ◌+◌, ◌<◌, ℕ, List, [], ◌∷◌, append_assoc, ap, drop, get_or, length, map, subst, sym}
+use Rattle.std.proofs.Common.{◌≡◌, ◌∙◌, ◌++◌, ◌+◌, ◌<◌, ℕ, List, ◌∷◌, append_assoc, ap, drop, get_or, length, map, subst, sym}
 use Rattle.std.proofs.lemmas.List.{map-append}
 use Rattle.packet_view.specs.Captures.{End, IsCaptureAt, PacketFacts, packet_facts}
 use Rattle.packet_view.specs.declared.packet.Packet.{Packet}

@@ -1,17 +1,14 @@
 -- Packets that are counted one after the other.
-use Rattle.std.proofs.Common.{◌≡◌, ◌∙◌, ◌++◌, ◌+◌, ◌<◌, ◌≤◌, ◌^◌, ℕ, suc, Bool, true, false, List, [], ◌∷◌, Option, append_assoc, append-nil, arith, ap, drop, get_or, length, refl, subst, sym, count_by, cond}
-use Rattle.std.proofs.Math.ListN.{drop_of_length-le}
+use Rattle.std.proofs.Common.{◌≡◌, ◌∙◌, ◌++◌, ◌+◌, ◌<◌, ℕ, suc, List, [], ◌∷◌, Option, append_assoc, append-nil, arith, ap, drop, get_or, length, refl, subst, sym, cond}
 use Rattle.std.proofs.Math.Seq.{drop-cons}
 use Rattle.std.proofs.lemmas.List.Sums.{sum_by-append}
 use Rattle.packet_view.specs.Captures.{PacketFacts}
 use Rattle.acl_policy.specs.Policies.{PolicyFacts}
 use Rattle.flow_filter.specs.declared.verdict.Verdict.{Verdict}
 use Rattle.racl_views.specs.Deciding.{AreDecided, IsDecided}
-use Rattle.racl_views.specs.Hits.{decided_by, hits_on, rule_text, rules_text}
-use Rattle.racl_views.specs.declared.rule.RuleLine.{RuleLine}
+use Rattle.racl_views.specs.Hits.{decided_by, hits_on}
 use Rattle.racl_views.specs.declared.rule.RuleName.{RuleName}
 use Rattle.racl_views.specs.inner.Counts.{Count}
-use Rattle.racl_views.specs.inner.Places.{place_of}
 
 -- what is left begins with the next one
 pub drop_one : {A : Type 0} (xs : List A) (k : ℕ) (d : A) → k < length xs → drop k xs ≡ get_or xs k d ∷ drop (k + 1) xs

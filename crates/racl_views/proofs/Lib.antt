@@ -1,5 +1,4 @@
 pub mod CaptureLemmas
 pub mod CountLemmas
 pub mod LineLemmas
-pub mod PlaceLemmas
 pub mod TextLemmas

@@ -264,12 +264,7 @@ fn file_argument<'a>(alloc: Global, id: &'a str, help: &'a str) -> Arg<'a>
     Arg::new(alloc, id).action(ArgAction::Set).help(help)
 }
 
-fn read_options(
-    matches: &ArgMatches<'_>,
-    tables: TableSize,
-    shown: Shown,
-    hits: bool,
-) -> Options
+fn read_options(matches: &ArgMatches<'_>, tables: TableSize, shown: Shown, hits: bool) -> Options
     requires { HoldsNumbers (one_text (found_of matches.now)) }
     ensures spelt { SpellsOptions (one_text (found_of matches.now)) (option_facts result) }
     ensures tables { result.tables ≡ tables }

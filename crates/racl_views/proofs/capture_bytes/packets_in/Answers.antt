@@ -1,4 +1,4 @@
-use Rattle.std.proofs.Common.{◌∙◌, ap, sym, ◌++◌}
+use Rattle.std.proofs.Common.{◌∙◌, ap, ◌++◌}
 use Rattle.std.proofs.lemmas.Result.{err_from_is_err_and}
 use Rattle.racl_views.proofs.CaptureLemmas.{first_of, read_more}
 use Rattle.racl_views.proofs.capture_bytes.packets_in.Goals as goal

@@ -1,4 +1,4 @@
-use Rattle.std.proofs.Common.{◌≡◌, ◌∙◌, ◌++◌, ℕ, List, ap}
+use Rattle.std.proofs.Common.{◌∙◌, ◌++◌, ℕ, List, ap}
 use Rattle.acl_policy.specs.Policies.{policy_facts}
 use Rattle.racl_views.specs.Hits.{all_others, others_text, rules_text}
 use Rattle.racl_views.proofs.hits.hits_text.Goals as goal

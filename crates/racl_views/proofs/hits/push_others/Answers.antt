@@ -1,5 +1,4 @@
-use Rattle.std.proofs.Common.{◌++◌, List, ℕ}
-use Rattle.racl_views.specs.Hits.{other_text, others_text}
+use Rattle.racl_views.specs.Hits.{other_text}
 use Rattle.racl_views.specs.declared.other.Other.TheVariants.{Session, ByDefault, Full, Worn, NoPages, NotIp, Malformed, Short}
 use Rattle.racl_views.proofs.TextLemmas.{behind, last}
 use Rattle.racl_views.proofs.hits.push_others.Goals as goal

@@ -1,8 +1,3 @@
-use Rattle.std.proofs.Common.{◌≡◌, List, ℕ, Ok, Err, Result, IfOk, subst}
-use Rattle.std.specs.Str.Lines.{lines}
-use Rattle.acl_policy.specs.Policies.{IsPolicyText, PolicyFacts}
-use Rattle.racl_views.specs.RuleLines.{AreRules, rules_from}
-use Rattle.racl_views.specs.inner.Spots.{said}
 use Rattle.racl_views.proofs.LineLemmas.{policy_rules_of}
 use Rattle.racl_views.proofs.numbering.rule_lines.Goals as goal
 
