@@ -3,6 +3,7 @@
 mod checks;
 mod devices;
 mod files;
+mod hits;
 mod parts;
 mod reports;
 mod runs;
