@@ -14,7 +14,7 @@ import sys
 import time
 
 PROGRAM = "crates/racl/out/racl"
-TABLE_PROGRAM = "crates/table_under_pressure/out/table_under_pressure"
+TABLE_PROGRAM = "crates/table_alloc_probe/out/table_alloc_probe"
 BY_RATTLE = ".by-rattle"
 COUNTS = re.compile(r"(\d+) passed, (\d+) failed")
 

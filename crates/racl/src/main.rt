@@ -15,7 +15,7 @@ use racl_cli::{
     Asked, Device, Ending, Fault, Hint, Joined, Origin, Remark, Totals, ending, failure_ending,
     hint, options, remark, run, words_ending,
 };
-use racl_words::check_name;
+use racl_options::check_name;
 use std::alloc::Global;
 use std::io;
 use std::io::IsTerminal;

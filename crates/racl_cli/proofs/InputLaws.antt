@@ -8,7 +8,7 @@ use Rattle.acl_policy.proofs.ReadingLaws as policies
 use Rattle.acl_policy.proofs.TextLaws as texts
 use Rattle.std.specs.Str.Lines.{lines}
 use Rattle.session_state.specs.declared.timeouts.Timeouts.{Timeouts}
-use Rattle.racl_words.specs.declared.settings.TableSize.{TableSize}
+use Rattle.racl_options.specs.declared.settings.TableSize.{TableSize}
 use Rattle.racl_io.specs.declared.fault.Fault.{Fault}
 use Rattle.racl_io.specs.declared.fault.Fault.TheVariants.{TooLarge, NoCapture}
 use Rattle.racl_io.specs.declared.input.Form.{Form}

@@ -14,7 +14,7 @@ use Rattle.packet_view.specs.declared.capture.Order.{Order}
 use Rattle.packet_view.proofs.CaptureLemmas.{IsHeaderOf, fault_of_header, long_is_wrong, long_refuses}
 use Rattle.packet_view.proofs.FrontLemmas.{behind_header_appended, header_appended}
 use Rattle.acl_policy.specs.Policies.{PolicyFacts, policy_facts}
-use Rattle.racl_words.specs.declared.settings.Options.{Options}
+use Rattle.racl_options.specs.declared.settings.Options.{Options}
 use Rattle.racl_io.specs.declared.fault.Fault.{Fault}
 use Rattle.racl_io.specs.declared.fault.Fault.TheVariants.{Hex, Memory, Read, TooLarge, LongRecord}
 use Rattle.racl_io.specs.declared.input.Form.{Form}

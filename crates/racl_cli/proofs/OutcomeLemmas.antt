@@ -20,8 +20,8 @@ use Rattle.flow_filter.specs.Readings.{IsReading}
 use Rattle.flow_dealing.specs.Dealings.{Deal}
 use Rattle.flow_dealing.specs.WorkerRecords.{AreFew, AreJudged, HasPagesIn}
 use Rattle.flow_dealing.proofs.Places.{zip_count}
-use Rattle.racl_words.specs.declared.settings.Options.{Options}
-use Rattle.racl_words.specs.declared.settings.TableSize.{TableSize}
+use Rattle.racl_options.specs.declared.settings.Options.{Options}
+use Rattle.racl_options.specs.declared.settings.TableSize.{TableSize}
 use Rattle.racl_io.specs.declared.fault.Fault.{Fault}
 use Rattle.racl_io.specs.declared.fault.Fault.TheVariants.{Hex, Memory, NoCapture, Write}
 use Rattle.racl_io.specs.declared.report.Captured.{Captured}

@@ -4,8 +4,8 @@ use Rattle.std.proofs.KnownBytes.{Consumes-all}
 use Rattle.std.proofs.Common.{◌≡◌, ◌∙◌, ◌+◌, ◌-◌, ◌<◌, ◌≤◌, ◌⊎◌, ℕ, Bool, true, false, List, [], ◌++◌, Option, Some, None, IfOk, IfSome, Result, Ok, Err, length, append-nil, append_assoc, arith, refl, sym, ap, subst, inl, inr}
 use Rattle.std.proofs.lemmas.List.{length-append}
 use Rattle.session_state.specs.declared.timeouts.Timeouts.{Timeouts}
-use Rattle.racl_words.specs.declared.settings.Options.{Options}
-use Rattle.racl_words.specs.declared.settings.TableSize.{TableSize}
+use Rattle.racl_options.specs.declared.settings.Options.{Options}
+use Rattle.racl_options.specs.declared.settings.TableSize.{TableSize}
 use Rattle.racl_io.specs.declared.fault.Fault.{Fault}
 use Rattle.racl_io.specs.declared.fault.Fault.TheVariants.{Memory, Read, TooLarge, Write}
 use Rattle.racl_io.specs.Faults.{IsInputFault, IsSystemFault}

@@ -14,7 +14,7 @@ use Rattle.racl_io.specs.Inputs.{DigitsFacts, IsContent, IsInput, InputFacts, mo
 use Rattle.racl_io.specs.Transfers.{HasReadWithin, failures_after_reads}
 use Rattle.racl_io.proofs.InputLemmas.{one_input}
 use Rattle.racl_io.proofs.TransferLemmas.{gave_none}
-use Rattle.racl_words.specs.declared.settings.Options.{Options}
+use Rattle.racl_options.specs.declared.settings.Options.{Options}
 use Rattle.packet_view.specs.declared.capture.CaptureFault.{CaptureFault}
 use Rattle.packet_view.specs.declared.capture.CaptureFault.TheVariants as capture
 use Rattle.racl_cli.specs.Reads.{AnswersInput, IsUnnumbered}

@@ -8,7 +8,7 @@ use Rattle.packet_view.specs.CheckedCaptures.{packets_of, records_of}
 use Rattle.packet_view.specs.declared.records.Records.{Records}
 use Rattle.packet_view.proofs.RecordListLemmas.{records_within}
 use Rattle.acl_policy.specs.Policies.{IsAmong, policy_facts}
-use Rattle.racl_words.specs.declared.settings.Options.{Options}
+use Rattle.racl_options.specs.declared.settings.Options.{Options}
 use Rattle.racl_io.specs.declared.fault.Fault.{Fault}
 use Rattle.racl_io.specs.declared.fault.Fault.TheVariants.{Memory, Twice}
 use Rattle.racl_io.specs.declared.input.Form.{Form}

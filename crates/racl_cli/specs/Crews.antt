@@ -16,8 +16,8 @@ use Rattle.flow_workers.specs.Progress.{AreAtRest}
 use Rattle.flow_workers.specs.declared.tables.Callers.{Callers}
 use Rattle.flow_workers.specs.declared.tables.Tables.{Tables}
 use Rattle.flow_workers.specs.declared.workers.Workers.{Workers}
-use Rattle.racl_words.specs.declared.settings.TableSize.{TableSize}
-use Rattle.racl_words.specs.declared.settings.TableSize.TheVariants as asked
+use Rattle.racl_options.specs.declared.settings.TableSize.{TableSize}
+use Rattle.racl_options.specs.declared.settings.TableSize.TheVariants as asked
 use Rattle.racl_cli.specs.Runs.{bucket_deal}
 use Rattle.racl_cli.specs.declared.sized.SizedCallers.{SizedCallers}
 use Rattle.racl_cli.specs.declared.sized.SizedCallers.TheVariants as called

@@ -9,7 +9,7 @@ use Rattle.acl_policy.specs.Policies.{IsPolicyFault, IsPolicyText, PolicyFacts, 
 use Rattle.acl_policy.specs.declared.policy.PolicyFault.{PolicyFault}
 use Rattle.flow_filter.specs.declared.filter.Filter.{Filter}
 use Rattle.flow_dealing.specs.WorkerRecords.{HavePages}
-use Rattle.racl_words.specs.declared.settings.Options.{Options}
+use Rattle.racl_options.specs.declared.settings.Options.{Options}
 use Rattle.racl_io.specs.declared.fault.Fault.{Fault}
 use Rattle.racl_io.specs.declared.fault.Fault.TheVariants.{Memory, Read, TooLarge}
 use Rattle.racl_io.specs.declared.input.Form.{Form}

@@ -11,9 +11,9 @@ use Rattle.flow_filter.specs.OneThread.{AreVerdicts, Layout}
 use Rattle.flow_dealing.specs.declared.dealing.Dealing.TheVariants.{Bucket}
 use Rattle.flow_dealing.specs.Dealings.{Deal}
 use Rattle.flow_dealing.specs.WorkerRecords.{AreFew, AreJudged, HasPagesIn, HavePages}
-use Rattle.racl_words.specs.declared.settings.Options.{Options}
-use Rattle.racl_words.specs.declared.settings.TableSize.{TableSize}
-use Rattle.racl_words.specs.declared.settings.TableSize.TheVariants.{Standard, Large}
+use Rattle.racl_options.specs.declared.settings.Options.{Options}
+use Rattle.racl_options.specs.declared.settings.TableSize.{TableSize}
+use Rattle.racl_options.specs.declared.settings.TableSize.TheVariants.{Standard, Large}
 use Rattle.racl_io.specs.declared.input.Form.{Form}
 use Rattle.racl_io.specs.declared.input.Form.TheVariants.{Binary, Hexadecimal, Numbered}
 use Rattle.racl_io.specs.declared.report.Captured.{Captured}

@@ -12,7 +12,7 @@ use crate::sized::{SizedWorkers, create_sized};
 use crate::streaming::plan_for;
 use packet_view::{CheckedCapture, Packets, check_capture};
 use racl_io::{Captured, Digits, Fault, Numbered, cut_digits, decode_digits};
-use racl_words::Options;
+use racl_options::Options;
 use std::alloc::Global;
 use std::sync::Wait;
 use std::thread::Threads;

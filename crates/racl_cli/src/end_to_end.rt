@@ -19,7 +19,7 @@ use crate::outcome::Judged;
 use crate::streaming::{Front, front_bytes, judge_headed};
 use crate::viewing::hits_told;
 use racl_io::{Fault, MOST_BYTES, Shown, Sink, Source, Totals, read_until, write_all, write_shown};
-use racl_words::Options;
+use racl_options::Options;
 use std::alloc::Global;
 use std::sync::Wait;
 use std::thread::Threads;

@@ -5,12 +5,12 @@ ghost use Rattle.std.specs.IoError.{error_kind};
 ghost use Rattle.racl_cli.specs.Endings.{hint_on, remark_on, said_after};
 ghost use Rattle.racl_cli.specs.Statuses.{status_of};
 ghost use Rattle.racl_io.specs.declared.fault.Fault.TheVariants.{Memory, Write};
-ghost use Rattle.racl_words.specs.CommandLine.{IsRequest};
+ghost use Rattle.racl_options.specs.CommandLine.{IsRequest};
 
 use crate::message::{Ending, Hint, Message};
 use clap::error::ErrorKind;
 use racl_io::{Fault, Other, Totals, is_capture, other_file};
-use racl_words::words_status;
+use racl_options::words_status;
 use std::io;
 use std::io::ErrorKind as FailureKind;
 

@@ -2,7 +2,7 @@
 ghost use Rattle.std.specs.Prelude.{◌≡◌, ◌⊎◌, ℕ, List};
 ghost use Rattle.packet_view.specs.Bytes.{AreBytes};
 ghost use Rattle.session_state.specs.declared.timeouts.Timeouts.{Timeouts};
-ghost use Rattle.racl_words.specs.declared.settings.TableSize.{TableSize};
+ghost use Rattle.racl_options.specs.declared.settings.TableSize.{TableSize};
 ghost use Rattle.racl_io.specs.declared.fault.Fault.{Fault};
 ghost use Rattle.racl_io.specs.Faults.{IsInputFault};
 ghost use Rattle.racl_cli.specs.Runs.{HasOutcome, Outcome};

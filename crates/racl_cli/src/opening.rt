@@ -6,7 +6,7 @@ use acl_policy::read_policy;
 use flow_workers::Filter;
 use packet_view::{Order, capture_header};
 use racl_io::{Fault, Form, decode_digits, split_input};
-use racl_words::Options;
+use racl_options::Options;
 use std::alloc::Global;
 
 /// What stands before the records of an input's only capture.

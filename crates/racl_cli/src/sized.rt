@@ -9,7 +9,7 @@ use flow_filter::{InterfaceFilters, Verdict};
 use flow_workers::{Callers, Dealing, Gate, Setup, Tables, Workers, create_tables};
 use large_shapes::{LargeV4, LargeV6, large_shapes_are_sound};
 use packet_view::Packets;
-use racl_words::TableSize;
+use racl_options::TableSize;
 use std::alloc::{AllocError, Global};
 use std::sync::Wait;
 use std::thread::Threads;

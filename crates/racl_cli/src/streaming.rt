@@ -14,7 +14,7 @@ use capture_stream::{Opening, Streamed, WindowSize, judge_stream};
 use flow_workers::Filter;
 use packet_view::front_records;
 use racl_io::{Captured, Fault, Source};
-use racl_words::Options;
+use racl_options::Options;
 use std::alloc::Global;
 use std::sync::Wait;
 use std::thread::Threads;

@@ -13,8 +13,8 @@ use acl_policy::read_policy;
 use flow_workers::Verdict;
 use packet_view::Packets;
 use racl_io::{Digits, Fault, Form, Input, Numbered, cut_digits, decode_digits, split_input};
+use racl_options::Options;
 use racl_views::{CaptureBytes, hits_text, packets_in};
-use racl_words::Options;
 use std::alloc::Global;
 
 // The bytes of captures with numbers.

@@ -3,7 +3,7 @@ use Rattle.std.specs.Prelude.{◌≡◌, ◌++◌, ℕ, true, List, Option}
 use Rattle.packet_view.specs.Captures.{PacketFacts}
 use Rattle.racl_io.specs.declared.report.Captured.{Captured}
 use Rattle.racl_io.specs.Inputs.{NumberedFacts}
-use Rattle.racl_words.specs.declared.settings.Options.{Options}
+use Rattle.racl_options.specs.declared.settings.Options.{Options}
 use Rattle.racl_views.specs.CapturePackets.{HavePackets}
 use Rattle.racl_views.specs.declared.capture_bytes.CaptureBytes.{CaptureBytes}
 use Rattle.racl_cli.specs.inner.Captures.{AreTakenFrom}

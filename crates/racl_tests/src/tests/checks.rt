@@ -2,7 +2,7 @@
 use packet_view::Direction;
 use policy_check::{Reason, Remark, check_policy, check_source, remarks_on, tell};
 use racl_io::Device;
-use racl_words::check_name;
+use racl_options::check_name;
 use std::test::Fail;
 
 #[test]

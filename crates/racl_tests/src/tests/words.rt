@@ -1,7 +1,7 @@
 //! Words of the command line, and what they ask for. `checks/rows/sessions.txt` has what timeouts do.
 use clap::Error;
 use racl_io::Shown;
-use racl_words::{
+use racl_options::{
     CaptureFile, Files, Interfaces, Options, Origin, TableSize, options, words_status,
 };
 use session_state::Timeouts;

@@ -1,0 +1,376 @@
+-- Words that set options, and name captures of interfaces and files, as a user writes them, ask for what they say.
+use Rattle.std.proofs.Common.{◌≡◌, ◌∙◌, ◌++◌, ◌==◌, ◌+◌, ◌||◌, ◌≤◌, ◌<◌, ◌^◌, ap, ap₂, arith, cond, refl, rules as common_rules, subst, sym, ℕ, Bool, true, false, List, [], ◌∷◌, map, append-nil, append_assoc, Option, Some, None, codes}
+use Rattle.std.specs.List.{flat_map, fold}
+use Rattle.std.specs.Option.{option_or}
+use Rattle.std.specs.Prelude.{option_and_then, option_map, pos, slice_get}
+use Rattle.std.specs.Str.{bytes_eq}
+use Rattle.std.specs.Str.Parse.{IsNumeral, without_leading_plus}
+use Rattle.std.proofs.lemmas.Bool.{eqb-true, ne_eqb}
+use Rattle.std.proofs.lemmas.Int.{ints}
+use Rattle.std.proofs.lemmas.Slice.Eq.{bytes_eq-Decides}
+use Rattle.std.proofs.lemmas.Str.Parse.{digit_from_value}
+use Rattle.clap.specs.Faults.{walk_fault}
+use Rattle.clap.specs.Walk.{Held, has_row, nothing_held, row_text, settled, walked, with_default}
+use Rattle.clap.specs.Words.{IsSignedIn, Row, Text, matches_of, without_minus}
+use Rattle.clap.specs.declared.builder.value_parser.ValueParser.TheVariants.{Signed}
+use Rattle.clap.proofs.ValueTestLemmas.{Accepts-accepts}
+use Rattle.racl_options.specs.CommandLine.{IsInRange, OptionName, Workers, Established, Transient, Udp, Spells, capture_id, default_of, interface_id, most_of, most_seconds, hits_at, name_of, number_of, policy_id, racl, shown_at, size_at, text_at}
+use Rattle.racl_io.specs.declared.shown.Shown.TheVariants.{Every}
+use Rattle.racl_options.specs.Selections.{hits_id, is_given, only_id, shown_by, summary_id}
+use Rattle.racl_options.specs.Sizes.{size_by, tables_id}
+use Rattle.racl_options.specs.declared.settings.TableSize.TheVariants.{Standard}
+use Rattle.racl_options.specs.Options.{AreInRange, AreNames, AreSettings, Setting, Use, facts_of, named_by, sets, times_set, value_at, words_as, words_of, words_of_use}
+use Rattle.racl_options.specs.Origins.{AskForRun, Name, OriginFacts, named_at}
+use Rattle.racl_options.proofs.NameLemmas.{plain_uses}
+use Rattle.racl_options.proofs.NameWalks.{Ends, has_row_behind, names_end, rows_of_names, rows_of_uses, uses_go_on}
+use Rattle.racl_options.proofs.SettingWalks.{AreNew, GoesOn, Holds, IsFit, between, default_row, row_of, settings_go_on, top}
+use Rattle.racl_options.proofs.SettingDefaults.{all_filled, end_fault, ends_well, fault_is, find_both, find_row, hits_fills, hits_row, no_other_filled, or_nothing, summary_fills, summary_row}
+
+-- a number's text doesn't begin with a minus
+plain_value : (d : ℕ) (ds : Text) → IsNumeral 10 (without_leading_plus (d ∷ ds)) → (d == 45) ≡ false
+plain_value d ds numeral = go (d == 43) refl
+  where
+    go : (b : Bool) → (d == 43) ≡ b → (d == 45) ≡ false
+    go true plus =
+        let is : d ≡ 43 = eqb-true d 43 plus in
+        ne_eqb d 45 (λ e. omega arith)
+    go false other =
+        let digits : IsNumeral 10 (d ∷ ds) = rw other at numeral in
+        ne_eqb d 45 (λ e. omega (arith, digit_from_value d digits.1.0))
+
+most_fits : (o : OptionName) → most_of o < 2 ^ 63
+most_fits Workers = omega arith
+most_fits Established = omega arith
+most_fits Transient = omega arith
+most_fits Udp = omega arith
+
+value_in_bounds : (o : OptionName) (d : ℕ) (ds : Text) → IsInRange o (d ∷ ds) → (d == 45) ≡ false → IsSignedIn (pos 1) (pos (most_of o)) (d ∷ ds)
+value_in_bounds o d ds range plain =
+    let fits = most_fits o in
+    rw plain (range.0, record { sfits = omega arith }, omega (arith, ints), omega (arith, ints))
+
+fit_value : (o : OptionName) (v : Text) → IsInRange o v → IsFit o v
+fit_value o [] range =
+    let none : 0 < 0 = range.0.0 in
+    absurd (omega arith)
+fit_value o (d ∷ ds) range =
+    let plain = plain_value d ds range.0 in
+    (Accepts-accepts false (Signed (pos 1) (pos (most_of o))) (d ∷ ds) (value_in_bounds o d ds range plain), (d, ds, refl, plain))
+
+plain_text : (o : OptionName) (v : Text) → IsInRange o v → without_minus v ≡ v
+plain_text o [] range = refl
+plain_text o (d ∷ ds) range = rw (plain_value d ds range.0) refl
+
+-- the text of an option is its setting's, or its default
+text_is : (o : OptionName) (ss : List Setting) → AreInRange ss → option_and_then row_text (option_or (find_row (name_of o) (map row_of ss)) (Some (default_row o))) ≡ Some (value_at o ss)
+text_is Workers [] range = refl
+text_is Established [] range = refl
+text_is Transient [] range = refl
+text_is Udp [] range = refl
+text_is o (s ∷ rest) range = go (sets o s) (text_is o rest range.1)
+  where
+    go : (b : Bool) → option_and_then row_text (option_or (find_row (name_of o) (map row_of rest)) (Some (default_row o))) ≡ Some (value_at o rest)
+        → option_and_then row_text (option_or (cond b (Some (row_of s)) (find_row (name_of o) (map row_of rest))) (Some (default_row o))) ≡ Some (cond b s.value (value_at o rest))
+    go true next = ap Some (plain_text s.option s.value range.0)
+    go false next = next
+
+-- options of one name have one range
+most_by : Text → ℕ
+most_by name = cond (bytes_eq name (codes "workers")) 16 most_seconds
+
+most_is : (o : OptionName) → most_of o ≡ most_by (name_of o)
+unfolding most_by
+most_is Workers = refl
+most_is Established = refl
+most_is Transient = refl
+most_is Udp = refl
+
+same_range : (a b : OptionName) (v : Text) → bytes_eq (name_of a) (name_of b) ≡ true → IsInRange a v → IsInRange b v
+same_range a b v same range =
+    let most : most_of a ≡ most_of b = most_is a ∙ ap most_by ((bytes_eq-Decides _ _).0 same) ∙ sym (most_is b) in
+    (range.0, range.1, omega arith)
+
+default_in_range : (o : OptionName) → IsInRange o (default_of o)
+default_in_range Workers = search common_rules
+default_in_range Established = search common_rules
+default_in_range Transient = search common_rules
+default_in_range Udp = search common_rules
+
+value_in_range : (o : OptionName) (ss : List Setting) → AreInRange ss → IsInRange o (value_at o ss)
+value_in_range o [] range = default_in_range o
+value_in_range o (s ∷ rest) range = go (sets o s) refl (value_in_range o rest range.1)
+  where
+    go : (b : Bool) → sets o s ≡ b → IsInRange o (value_at o rest) → IsInRange o (cond b s.value (value_at o rest))
+    go true same next = same_range s.option o s.value same range.0
+    go false other next = next
+
+-- how many rows have the id
+abbrev rows_with : Text → List Row → ℕ
+rows_with id [] = 0
+rows_with id (r ∷ rest) = cond (bytes_eq r.id id) 1 0 + rows_with id rest
+
+rows_with-append : (id : Text) (rows : List Row) (r : Row) → rows_with id (rows ++ r ∷ []) ≡ rows_with id rows + cond (bytes_eq r.id id) 1 0
+rows_with-append id [] r = omega arith
+rows_with-append id (x ∷ rest) r = omega (arith, rows_with-append id rest r)
+
+no_row : (id : Text) (rows : List Row) → rows_with id rows ≡ 0 → has_row id rows ≡ false
+no_row id [] none = refl
+no_row id (r ∷ rest) none = go (bytes_eq r.id id) none (no_row id rest)
+  where
+    go : (b : Bool) → cond b 1 0 + rows_with id rest ≡ 0 → (rows_with id rest ≡ 0 → has_row id rest ≡ false) → (b || has_row id rest) ≡ false
+    go true some next = absurd (omega arith)
+    go false none next = next (omega arith)
+
+same_name : (o : OptionName) → bytes_eq (name_of o) (name_of o) ≡ true
+same_name Workers = refl
+same_name Established = refl
+same_name Transient = refl
+same_name Udp = refl
+
+new_settings : (ss : List Setting) (rows : List Row) → ((o : OptionName) → rows_with (name_of o) rows + times_set o ss ≤ 1) → AreInRange ss → AreNew rows ss
+new_settings [] rows once range = tt
+new_settings (s ∷ rest) rows once range =
+    let here : rows_with (name_of s.option) rows + (1 + times_set s.option rest) ≤ 1 = rw (same_name s.option) at (once s.option) in (
+      no_row (name_of s.option) rows (omega arith),
+      fit_value s.option s.value range.0,
+      new_settings rest (rows ++ row_of s ∷ []) (λ o. omega (arith, once o, rows_with-append (name_of o) rows (row_of s))) range.1,
+    )
+
+-- ---- what isn't an option's
+
+-- the ids of what names files
+abbrev IsOther : Text → Type 0
+IsOther id = (o : OptionName) → bytes_eq (name_of o) id ≡ false
+
+no_interface : IsOther interface_id
+no_interface Workers = refl
+no_interface Established = refl
+no_interface Transient = refl
+no_interface Udp = refl
+
+no_policy : IsOther policy_id
+no_policy Workers = refl
+no_policy Established = refl
+no_policy Transient = refl
+no_policy Udp = refl
+
+no_capture : IsOther capture_id
+no_capture Workers = refl
+no_capture Established = refl
+no_capture Transient = refl
+no_capture Udp = refl
+
+no_size : IsOther tables_id
+no_size Workers = refl
+no_size Established = refl
+no_size Transient = refl
+no_size Udp = refl
+
+no_only : IsOther only_id
+no_only Workers = refl
+no_only Established = refl
+no_only Transient = refl
+no_only Udp = refl
+
+no_flag : IsOther summary_id
+no_flag Workers = refl
+no_flag Established = refl
+no_flag Transient = refl
+no_flag Udp = refl
+
+no_hits : IsOther hits_id
+no_hits Workers = refl
+no_hits Established = refl
+no_hits Transient = refl
+no_hits Udp = refl
+
+no_other_row : (id : Text) (ss : List Setting) → IsOther id → has_row id (map row_of ss) ≡ false
+no_other_row id [] other = refl
+no_other_row id (s ∷ rest) other = rw (other s.option) (no_other_row id rest other)
+
+none_found : (id : Text) (ss : List Setting) → IsOther id → find_row id (map row_of ss) ≡ None
+none_found id [] other = refl
+none_found id (s ∷ rest) other = rw (other s.option) (none_found id rest other)
+
+abbrev other_rows : List Use → List Text → List Row
+other_rows uses names = rows_of_uses uses ++ rows_of_names names
+
+-- rows of uses have neither name's id
+no_name_in_uses : (us : List Use) (rows : List Row) → has_row policy_id rows ≡ false → has_row capture_id rows ≡ false
+    → (has_row policy_id (rows ++ rows_of_uses us) ≡ false) × (has_row capture_id (rows ++ rows_of_uses us) ≡ false)
+no_name_in_uses [] rows policy capture = (rw (append-nil rows) policy, rw (append-nil rows) capture)
+no_name_in_uses (u ∷ us) rows policy capture = (has_row_behind policy_id rows _ policy refl, has_row_behind capture_id rows _ capture refl)
+
+-- and none has an option's
+no_option_found : (o : OptionName) (uses : List Use) (names : List Text) → find_row (name_of o) (other_rows uses names) ≡ None
+no_option_found Workers [] [] = refl
+no_option_found Workers [] (p ∷ []) = refl
+no_option_found Workers [] (p ∷ c ∷ names) = refl
+no_option_found Workers (u ∷ us) [] = refl
+no_option_found Workers (u ∷ us) (p ∷ []) = refl
+no_option_found Workers (u ∷ us) (p ∷ c ∷ names) = refl
+no_option_found Established [] [] = refl
+no_option_found Established [] (p ∷ []) = refl
+no_option_found Established [] (p ∷ c ∷ names) = refl
+no_option_found Established (u ∷ us) [] = refl
+no_option_found Established (u ∷ us) (p ∷ []) = refl
+no_option_found Established (u ∷ us) (p ∷ c ∷ names) = refl
+no_option_found Transient [] [] = refl
+no_option_found Transient [] (p ∷ []) = refl
+no_option_found Transient [] (p ∷ c ∷ names) = refl
+no_option_found Transient (u ∷ us) [] = refl
+no_option_found Transient (u ∷ us) (p ∷ []) = refl
+no_option_found Transient (u ∷ us) (p ∷ c ∷ names) = refl
+no_option_found Udp [] [] = refl
+no_option_found Udp [] (p ∷ []) = refl
+no_option_found Udp [] (p ∷ c ∷ names) = refl
+no_option_found Udp (u ∷ us) [] = refl
+no_option_found Udp (u ∷ us) (p ∷ []) = refl
+no_option_found Udp (u ∷ us) (p ∷ c ∷ names) = refl
+
+option_found : (o : OptionName) (rows : List Row) (uses : List Use) (names : List Text) → find_row (name_of o) (rows ++ other_rows uses names) ≡ find_row (name_of o) rows
+option_found o rows uses names = find_both (name_of o) rows (other_rows uses names) ∙ or_nothing (find_row (name_of o) rows) _ (no_option_found o uses names)
+
+other_found : (id : Text) (ss : List Setting) (uses : List Use) (names : List Text) → IsOther id
+    → find_row id (map row_of ss ++ other_rows uses names) ≡ find_row id (other_rows uses names)
+other_found id ss uses names other = find_both id (map row_of ss) (other_rows uses names)
+    ∙ ap (λ found. option_or found (find_row id (other_rows uses names))) (none_found id ss other)
+
+policy_is : (uses : List Use) (names : List Text) → option_and_then (λ r. slice_get r.values 0) (find_row policy_id (other_rows uses names)) ≡ (named_by uses names).policy
+policy_is [] [] = refl
+policy_is [] (p ∷ []) = refl
+policy_is [] (p ∷ c ∷ names) = refl
+policy_is (u ∷ us) [] = refl
+policy_is (u ∷ us) (p ∷ []) = refl
+policy_is (u ∷ us) (p ∷ c ∷ names) = refl
+
+capture_is : (uses : List Use) (names : List Text) → option_and_then (λ r. slice_get r.values 0) (find_row capture_id (other_rows uses names)) ≡ (named_by uses names).capture
+capture_is [] [] = refl
+capture_is [] (p ∷ []) = refl
+capture_is [] (p ∷ c ∷ names) = refl
+capture_is (u ∷ us) [] = refl
+capture_is (u ∷ us) (p ∷ []) = refl
+capture_is (u ∷ us) (p ∷ c ∷ names) = refl
+
+captures_are : (uses : List Use) (names : List Text) → option_map (λ r. r.values) (find_row interface_id (other_rows uses names)) ≡ (named_by uses names).captures
+captures_are [] [] = refl
+captures_are [] (p ∷ []) = refl
+captures_are [] (p ∷ c ∷ names) = refl
+captures_are (u ∷ us) [] = refl
+captures_are (u ∷ us) (p ∷ []) = refl
+captures_are (u ∷ us) (p ∷ c ∷ names) = refl
+
+size_is : (uses : List Use) (names : List Text) → find_row tables_id (other_rows uses names) ≡ None
+size_is [] [] = refl
+size_is [] (p ∷ []) = refl
+size_is [] (p ∷ c ∷ names) = refl
+size_is (u ∷ us) [] = refl
+size_is (u ∷ us) (p ∷ []) = refl
+size_is (u ∷ us) (p ∷ c ∷ names) = refl
+
+only_is : (uses : List Use) (names : List Text) → find_row only_id (other_rows uses names) ≡ None
+only_is [] [] = refl
+only_is [] (p ∷ []) = refl
+only_is [] (p ∷ c ∷ names) = refl
+only_is (u ∷ us) [] = refl
+only_is (u ∷ us) (p ∷ []) = refl
+only_is (u ∷ us) (p ∷ c ∷ names) = refl
+
+flag_is : (uses : List Use) (names : List Text) → find_row summary_id (other_rows uses names) ≡ None
+flag_is [] [] = refl
+flag_is [] (p ∷ []) = refl
+flag_is [] (p ∷ c ∷ names) = refl
+flag_is (u ∷ us) [] = refl
+flag_is (u ∷ us) (p ∷ []) = refl
+flag_is (u ∷ us) (p ∷ c ∷ names) = refl
+
+hits_is : (uses : List Use) (names : List Text) → find_row hits_id (other_rows uses names) ≡ None
+hits_is [] [] = refl
+hits_is [] (p ∷ []) = refl
+hits_is [] (p ∷ c ∷ names) = refl
+hits_is (u ∷ us) [] = refl
+hits_is (u ∷ us) (p ∷ []) = refl
+hits_is (u ∷ us) (p ∷ c ∷ names) = refl
+
+-- ---- all words
+
+-- words that set options and name files as a user writes them ask for what they say
+words_ask : (program : Text) (ss : List Setting) (uses : List Use) (names : List Text) (origin : OriginFacts) → AreSettings ss → AreNames names → Name (named_by uses names) origin
+    → AskForRun (program ∷ words_as ss uses names) (facts_of ss) origin
+unfolding walk_fault
+words_ask program ss uses names origin are named says = record {
+  options = record {
+    faultless = fault_is program words ∙ ap₂ end_fault faultless_walk walked_is ∙ ends_well ends.last ends.runs ends.settles;
+    options = record { workers = spelt Workers; established = spelt Established; transient = spelt Transient; udp = spelt Udp };
+    tables = tables_are;
+    shown = shown_is;
+    hits = hits_are;
+  };
+  names = subst (λ named. Name named origin) (sym named_is) says;
+}
+  where
+    words : List Text
+    words = words_as ss uses names
+
+    run : (e : Held) × Holds (map row_of ss) e × GoesOn nothing_held (flat_map words_of ss) e
+    run = settings_go_on ss [] nothing_held (refl, refl, refl) (new_settings ss [] (λ o. let once = are.once o in omega arith) are.in_range)
+
+    used : (e : Held) × Holds (map row_of ss ++ rows_of_uses uses) e × GoesOn run.0 (flat_map words_of_use uses) e
+    used = uses_go_on uses (map row_of ss) run.0 (no_other_row interface_id ss no_interface) run.1 (plain_uses uses names origin says)
+
+    apart : (has_row policy_id (map row_of ss ++ rows_of_uses uses) ≡ false) × (has_row capture_id (map row_of ss ++ rows_of_uses uses) ≡ false)
+    apart = no_name_in_uses uses (map row_of ss) (no_other_row policy_id ss no_policy) (no_other_row capture_id ss no_capture)
+
+    ends : Ends (map row_of ss ++ rows_of_uses uses) names used.0
+    ends = names_end (map row_of ss ++ rows_of_uses uses) names used.0 used.1 apart.0 apart.1 named
+
+    walked_is : fold (walked top.rules []) (between nothing_held) words ≡ ends.last
+    walked_is = run.2.0 (flat_map words_of_use uses ++ names) ∙ used.2.0 names ∙ ends.walks
+
+    faultless_walk : walk_fault top [] (between nothing_held) words ≡ []
+    faultless_walk = run.2.1 (flat_map words_of_use uses ++ names) ∙ used.2.1 names ∙ ends.passes
+
+    filled_rows : matches_of racl (program ∷ words) ≡ fold with_default (map row_of ss ++ other_rows uses names) top.rules
+    filled_rows = ap (λ w. fold with_default (settled top.rules w.held).rows top.rules) walked_is
+        ∙ ap (λ rows. fold with_default rows top.rules) (ends.settled_to ∙ append_assoc (map row_of ss) (rows_of_uses uses) (rows_of_names names))
+
+    text : (o : OptionName) → text_at (program ∷ words) (name_of o) ≡ Some (value_at o ss)
+    text o = ap (λ rows. option_and_then row_text (find_row (name_of o) rows)) filled_rows
+        ∙ ap (option_and_then row_text) (all_filled o (map row_of ss ++ other_rows uses names)
+        ∙ ap (λ found. option_or found (Some (default_row o))) (option_found o (map row_of ss) uses names)) ∙ text_is o ss are.in_range
+
+    spelt : (o : OptionName) → Spells o (text_at (program ∷ words) (name_of o)) (number_of (value_at o ss))
+    spelt o =
+        let range = value_in_range o ss are.in_range in
+        (value_at o ss, text o, range, refl)
+
+    other_row : (id : Text) → IsOther id → bytes_eq summary_id id ≡ false → bytes_eq hits_id id ≡ false → find_row id (matches_of racl (program ∷ words)) ≡ find_row id (other_rows uses names)
+    other_row id other unlike none = ap (find_row id) filled_rows ∙ no_other_filled id (map row_of ss ++ other_rows uses names) other unlike none ∙ other_found id ss uses names other
+
+    tables_are : size_at (program ∷ words) ≡ Some Standard
+    tables_are = ap (λ (found : Option Row). size_by (option_and_then (λ r. slice_get r.values 0) found)) (other_row tables_id no_size refl refl ∙ size_is uses names)
+
+    shown_is : shown_at (program ∷ words) ≡ Some Every
+    shown_is =
+        let flag = ap (find_row summary_id) filled_rows ∙ summary_fills (map row_of ss ++ other_rows uses names) no_flag
+        ∙ ap (λ found. option_or found (Some summary_row)) (other_found summary_id ss uses names no_flag ∙ flag_is uses names) in
+        let only = other_row only_id no_only refl refl ∙ only_is uses names in
+        ap₂ (λ (s o : Option Row). shown_by (option_and_then (λ r. slice_get r.values 0) s) (option_and_then (λ r. slice_get r.values 0) o)) flag only
+
+    hits_are : hits_at (program ∷ words) ≡ false
+    hits_are =
+        let flag = ap (find_row hits_id) filled_rows ∙ hits_fills (map row_of ss ++ other_rows uses names) no_hits
+        ∙ ap (λ found. option_or found (Some hits_row)) (other_found hits_id ss uses names no_hits ∙ hits_is uses names) in
+        ap (λ (h : Option Row). is_given (option_and_then (λ r. slice_get r.values 0) h)) flag
+
+    named_is : named_at (program ∷ words) ≡ named_by uses names
+    named_is =
+        let policy = ap (option_and_then (λ (r : Row). slice_get r.values 0)) (other_row policy_id no_policy refl refl) ∙ policy_is uses names in
+        let capture = ap (option_and_then (λ (r : Row). slice_get r.values 0)) (other_row capture_id no_capture refl refl) ∙ capture_is uses names in
+        let captures = ap (option_map (λ (r : Row). r.values)) (other_row interface_id no_interface refl refl) ∙ captures_are uses names in
+        λ i. record { policy = policy i; capture = capture i; captures = captures i }
+
+pub written_asks : (words : List Text) (program : Text) (ss : List Setting) (uses : List Use) (names : List Text) (origin : OriginFacts) → AreSettings ss → AreNames names
+    → Name (named_by uses names) origin → words ≡ program ∷ words_as ss uses names → AskForRun words (facts_of ss) origin
+written_asks words program ss uses names origin are named says is =
+    subst (λ ws. AskForRun ws (facts_of ss) origin) (sym is) (words_ask program ss uses names origin are named says)
