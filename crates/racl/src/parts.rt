@@ -58,7 +58,8 @@ fn pushed_all(
     }
 }
 
-/// The name of what the policy comes from.
+/// The name of what the policy comes from. It is opened, and told where something is said of the policy, which `checks/run`
+/// looks at.
 pub fn policy_name<'a>(origin: &Origin<'a>) -> &'a str {
     match origin {
         Origin::Standard => "-",

@@ -37,7 +37,8 @@ pub fn opened(rt: &HostRuntime, name: &str) -> io::Result<Reader> {
     Ok(Reader::File(file))
 }
 
-/// Reads all that an input may have, so that it can be looked at again.
+/// Reads all that an input may have, and a byte more where there is one, so that it can be looked at again. The clauses of
+/// `read_until` say what is read and when that fails; none says what a name had, as of `opened`.
 pub fn held(alloc: Global, reader: Reader) -> Result<Reader, Fault> {
     let mut bytes = Vec::new(alloc);
     match read_until(&mut Device::new(reader), &mut bytes, MOST_BYTES + 1) {

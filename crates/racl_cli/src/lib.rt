@@ -23,4 +23,6 @@ pub use racl_io::{
     Device, DeviceFault, Fault, Form, Joined, MOST_BYTES, Marked, Other, Sink, Source, Totals,
     marked, read_until,
 };
-pub use racl_options::{Asked, Options, Origin, TableSize, options, words_status};
+pub use racl_options::{
+    Asked, Lines, Options, Origin, Saved, TableSize, options, words_status,
+};

@@ -17,11 +17,10 @@ use Rattle.clap.specs.declared.parser.matches.ArgMatches.{ArgMatches}
 use Rattle.clap.proofs.OnLiterals.{clap_on_literals}
 use Rattle.clap.proofs.SimpleLemmas.{all_simple, plain_fields, simple_groups}
 use Rattle.clap.proofs.WalkLemmas.{first_value-rows, one_text-rows, raw_values-rows}
-use Rattle.racl_options.specs.CommandLine.{AskFor, HoldsNumber, HoldsNumbers, OptionFacts, OptionName, Workers, Established, Transient, Udp, Spells, SpellsOptions, capture_id, interface_id, most_of, name_of, number_of, option_rule, policy_id, hits_at, racl, shown_at, size_at, text_at}
-use Rattle.racl_options.specs.Selections.{hits_id, is_given, only_id, shown_by, summary_id}
-use Rattle.racl_options.specs.Sizes.{size_by, tables_id}
-use Rattle.racl_options.specs.Origins.{AskForRun, OriginFacts, named_at}
-use Rattle.racl_options.specs.inner.Naming.{named_in}
+use Rattle.racl_options.specs.Asking.{AskForRun, AskedFacts, Say}
+use Rattle.racl_options.specs.CommandLine.{HoldsNumber, HoldsNumbers, OptionFacts, OptionName, Workers, Established, Transient, Udp, SetOptions, Spells, Values, most_of, name_of, number_of, option_rule, racl, values_at}
+use Rattle.racl_options.specs.Origins.{named_in}
+use Rattle.racl_options.specs.inner.Naming.{values_in}
 use Rattle.racl_options.proofs.NameLemmas.{one_origin}
 use Rattle.racl_options.proofs.NumberLemmas.{number_held, option_by_rule}
 
@@ -57,39 +56,39 @@ module _ (c : Command) (is : app_of c ≡ racl) where
   rules_are : map rule_of (args_of c) ≡ racl.top.rules
   rules_are = ap (λ (a : App). a.top.rules) is
 
-  eleven : length (args_of c) ≡ 11
-  eleven = sym (length-map (args_of c) rule_of) ∙ ap length rules_are
+  sixteen : length (args_of c) ≡ 16
+  sixteen = sym (length-map (args_of c) rule_of) ∙ ap length rules_are
 
-  rule_at : (k : ℕ) (d : Arg) → k < 11 → rule_of (slice_index_or (args_of c) k d) ≡ slice_index_or racl.top.rules k (rule_of d)
+  rule_at : (k : ℕ) (d : Arg) → k < 16 → rule_of (slice_index_or (args_of c) k d) ≡ slice_index_or racl.top.rules k (rule_of d)
   rule_at k d lt =
-      let below : k < length (args_of c) = rw eleven lt in
+      let below : k < length (args_of c) = rw sixteen lt in
       sym (get_or-map rule_of (args_of c) k d (rule_of d) below) ∙ ap (λ rs. slice_index_or rs k (rule_of d)) rules_are
 
   -- where the id of an argument stands among the ids
-  id_at : (k : ℕ) (d : Arg) (t : Text) → k < 11 → slice_index_or ids (suc (suc (suc k))) t ≡ (slice_index_or (args_of c) k d).id.now
+  id_at : (k : ℕ) (d : Arg) (t : Text) → k < 16 → slice_index_or ids (suc (suc (suc k))) t ≡ (slice_index_or (args_of c) k d).id.now
   id_at k d t lt = get_or-map (λ (r : Rule). r.id) racl.top.rules k (rule_of d) t lt ∙ sym (ap (λ (r : Rule). r.id) (rule_at k d lt))
 
   -- no argument has the id of one that stands elsewhere
-  unique : (j k : ℕ) (d e : Arg) → j < 11 → k < 11 → (slice_index_or (args_of c) j e).id.now ≡ (slice_index_or (args_of c) k d).id.now → j ≡ k
+  unique : (j k : ℕ) (d e : Arg) → j < 16 → k < 16 → (slice_index_or (args_of c) j e).id.now ≡ (slice_index_or (args_of c) k d).id.now → j ≡ k
   unique j k d e j_in k_in same =
       let places : suc (suc (suc j)) ≡ suc (suc (suc k)) = same_place _ _ [] (omega arith) (omega arith) (id_at j e [] j_in ∙ same ∙ sym (id_at k d [] k_in)) in
       omega arith
 
   -- nor one of the ids that stand before the options'
-  own : (j k : ℕ) (d : Arg) → j < 3 → k < 11 → (slice_index_or (args_of c) k d).id.now ≡ slice_index_or ids j [] → ⊥
+  own : (j k : ℕ) (d : Arg) → j < 3 → k < 16 → (slice_index_or (args_of c) k d).id.now ≡ slice_index_or ids j [] → ⊥
   own j k d j_in k_in same =
       let places : j ≡ suc (suc (suc k)) = same_place _ _ [] (omega arith) (omega arith) (sym same ∙ sym (id_at k d [] k_in)) in
       absurd (omega arith)
 
   -- the matches hold a number for the option at a place
-  held_at : (m : ArgMatches) → IsParsedFrom c m → (k : ℕ) (d : Arg) (o : OptionName) → k < 11 → slice_index_or racl.top.rules k (rule_of d) ≡ option_rule o
+  held_at : (m : ArgMatches) → IsParsedFrom c m → (k : ℕ) (d : Arg) (o : OptionName) → k < 16 → slice_index_or racl.top.rules k (rule_of d) ≡ option_rule o
       → HoldsNumber (most_of o) (one_text (found_of m) (name_of o))
   held_at m p k d o lt here =
       let plain = plain_fields c (ap (λ (a : App). a.top.is_plain) is) in
       let simple : all_simple (shape_of c).rules ≡ true = ap (λ (a : App). all_simple a.top.rules) is in
       let option = option_by_rule o (slice_index_or (args_of c) k d) (rule_at k d lt ∙ here) in
-      number_held c m p plain.globals (simple_groups c simple) plain.groups k d o option (rw eleven lt)
-      (λ j e low same. unique j k d e (rw eleven at low) lt ((bytes_eq-Decides _ (name_of o)).0 same ∙ sym option.name))
+      number_held c m p plain.globals (simple_groups c simple) plain.groups k d o option (rw sixteen lt)
+      (λ j e low same. unique j k d e (rw sixteen at low) lt ((bytes_eq-Decides _ (name_of o)).0 same ∙ sym option.name))
       (λ empty. own 0 k d (omega arith) lt (option.name ∙ empty))
       (λ auto. elim auto [ inl h ↦ own 1 k d (omega arith) lt h | inr h ↦ own 2 k d (omega arith) lt h ])
 
@@ -100,7 +99,7 @@ numbers_held c m is p = go (args_of c) refl
     go : (xs : List Arg) → args_of c ≡ xs → HoldsNumbers (one_text (found_of m))
     go [] e =
         let none : length (args_of c) ≡ 0 = ap length e in
-        absurd (omega (arith, eleven c is))
+        absurd (omega (arith, sixteen c is))
     go (d ∷ rest) e = record {
       workers = held_at c is m p 0 d Workers (omega arith) refl;
       established = held_at c is m p 1 d Established (omega arith) refl;
@@ -109,40 +108,13 @@ numbers_held c m is p = go (args_of c) refl
     }
 
 -- what the getters read is what the command's matches hold
-pub same_options : (c : Command) (words : List Text) (m : ArgMatches) (facts : OptionFacts) → app_of c ≡ racl → HasMatchesOf (app_of c) words m
-    → SpellsOptions (one_text (found_of m)) facts → SpellsOptions (text_at words) facts
-same_options c words m facts is has = subst (λ text. SpellsOptions text facts) (λ i name. same name i)
-  where
-    same : (name : Text) → one_text (found_of m) name ≡ text_at words name
-    same name = one_text-rows (found_of m) name ∙ ap (one_of name) ((has (ap is_simple is ∙ racl_is_simple)).0 ∙ ap (λ a. matches_of a words) is)
-
--- and so are the names of files
-pub same_names : (c : Command) (words : List Text) (m : ArgMatches) → app_of c ≡ racl → HasMatchesOf (app_of c) words m → named_in (found_of m) ≡ named_at words
-same_names c words m is has =
+pub same_values : (c : Command) (words : List Text) (m : ArgMatches) → app_of c ≡ racl → HasMatchesOf (app_of c) words m → values_in (found_of m) ≡ values_at words
+same_values c words m is has =
     let rows : rows_of (found_of m) ≡ matches_of racl words = (has (ap is_simple is ∙ racl_is_simple)).0 ∙ ap (λ a. matches_of a words) is in
-    let policy = first_value-rows (found_of m) policy_id ∙ ap (first_of policy_id) rows in
-    let capture = first_value-rows (found_of m) capture_id ∙ ap (first_of capture_id) rows in
-    let captures = raw_values-rows (found_of m) interface_id ∙ ap (all_of interface_id) rows in
-    λ i. record { policy = policy i; capture = capture i; captures = captures i }
-
--- and the size of the tables
-pub same_size : (c : Command) (words : List Text) (m : ArgMatches) → app_of c ≡ racl → HasMatchesOf (app_of c) words m
-    → size_by (first_value (found_of m) tables_id) ≡ size_at words
-same_size c words m is has = ap size_by (first_value-rows (found_of m) tables_id
-    ∙ ap (first_of tables_id) ((has (ap is_simple is ∙ racl_is_simple)).0 ∙ ap (λ a. matches_of a words) is))
-
--- and what they ask to be shown
-pub same_shown : (c : Command) (words : List Text) (m : ArgMatches) → app_of c ≡ racl → HasMatchesOf (app_of c) words m
-    → shown_by (first_value (found_of m) summary_id) (first_value (found_of m) only_id) ≡ shown_at words
-same_shown c words m is has =
-    let rows : rows_of (found_of m) ≡ matches_of racl words = (has (ap is_simple is ∙ racl_is_simple)).0 ∙ ap (λ a. matches_of a words) is in
-    ap₂ shown_by (first_value-rows (found_of m) summary_id ∙ ap (first_of summary_id) rows) (first_value-rows (found_of m) only_id ∙ ap (first_of only_id) rows)
-
--- and whether they ask for hits
-pub same_hits : (c : Command) (words : List Text) (m : ArgMatches) → app_of c ≡ racl → HasMatchesOf (app_of c) words m
-    → is_given (first_value (found_of m) hits_id) ≡ hits_at words
-same_hits c words m is has = ap is_given (first_value-rows (found_of m) hits_id
-    ∙ ap (first_of hits_id) ((has (ap is_simple is ∙ racl_is_simple)).0 ∙ ap (λ a. matches_of a words) is))
+    let number : (id : Text) → one_text (found_of m) id ≡ one_of id (matches_of racl words) = λ id. one_text-rows (found_of m) id ∙ ap (one_of id) rows in
+    let first : (id : Text) → first_value (found_of m) id ≡ first_of id (matches_of racl words) = λ id. first_value-rows (found_of m) id ∙ ap (first_of id) rows in
+    let all = λ (id : Text). raw_values-rows (found_of m) id ∙ ap (all_of id) rows in
+    λ i. record { number = λ id. number id i; first = λ id. first id i; all = λ id. all id i }
 
 -- no kind of error comes but those of the words' fault
 pub fails_by_fault : {T : Type 0} (c : Command) (words : List Text) (r : Result T Error) → app_of c ≡ racl
@@ -159,20 +131,29 @@ one_number o m n text a b =
     let same : Some a.0 ≡ Some b.0 = sym a.1 ∙ b.1 in
     a.3 ∙ ap (λ t. number_of (unwrap_or t a.0)) same ∙ sym b.3
 
--- words ask for one setting of the options
-pub one_setting : (words : List Text) (a b : OptionFacts) → AskFor words a → AskFor words b → a ≡ b
-one_setting words a b p q =
-    let workers = one_number Workers a.workers b.workers _ p.options.workers q.options.workers in
-    let established = one_number Established a.established b.established _ p.options.established q.options.established in
-    let transient = one_number Transient a.transient b.transient _ p.options.transient q.options.transient in
-    let udp = one_number Udp a.udp b.udp _ p.options.udp q.options.udp in
+one_setting : (values : Values) (a b : OptionFacts) → SetOptions values a → SetOptions values b → a ≡ b
+one_setting values a b p q =
+    let workers = one_number Workers a.workers b.workers _ p.numbers.workers q.numbers.workers in
+    let established = one_number Established a.established b.established _ p.numbers.established q.numbers.established in
+    let transient = one_number Transient a.transient b.transient _ p.numbers.transient q.numbers.transient in
+    let udp = one_number Udp a.udp b.udp _ p.numbers.udp q.numbers.udp in
     let sizes : Some a.tables ≡ Some b.tables = sym p.tables ∙ q.tables in
     let tables : a.tables ≡ b.tables = cc in
     let both : Some a.shown ≡ Some b.shown = sym p.shown ∙ q.shown in
     let shown : a.shown ≡ b.shown = cc in
+    let lines : a.lines ≡ b.lines = sym p.lines ∙ q.lines in
     let hits : a.hits ≡ b.hits = sym p.hits ∙ q.hits in
-    λ i. record { workers = workers i; established = established i; transient = transient i; udp = udp i; tables = tables i; shown = shown i; hits = hits i }
+    let live : a.live ≡ b.live = sym p.live ∙ q.live in
+    λ i. record { workers = workers i; established = established i; transient = transient i; udp = udp i; tables = tables i; shown = shown i; lines = lines i; hits = hits i; live = live i }
+
+-- what a parse holds says one thing
+pub one_saying : (values : Values) (a b : AskedFacts) → Say values a → Say values b → a ≡ b
+one_saying values a b p q =
+    let options = one_setting values a.options b.options p.options q.options in
+    let origin = one_origin (named_in values) a.origin b.origin p.names q.names in
+    let saved = sym p.saved ∙ q.saved in
+    λ i. record { options = options i; origin = origin i; saved = saved i }
 
 -- words ask for one run
-pub one_run : (words : List Text) (a b : OptionFacts) (m n : OriginFacts) → AskForRun words a m → AskForRun words b n → (a ≡ b) × (m ≡ n)
-one_run words a b m n p q = (one_setting words a b p.options q.options, one_origin (named_at words) m n p.names q.names)
+pub one_run : (words : List Text) (a b : AskedFacts) → AskForRun words a → AskForRun words b → a ≡ b
+one_run words a b p q = one_saying (values_at words) a b p.asks.say q.asks.say

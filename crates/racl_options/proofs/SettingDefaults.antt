@@ -1,5 +1,5 @@
 -- What the end of a parse makes of the options that the words left out.
-use Rattle.std.proofs.Common.{◌≡◌, ◌∙◌, ◌++◌, ◌||◌, ap, cond, refl, Bool, true, false, List, [], ◌∷◌, Option, Some, None, codes, is_some}
+use Rattle.std.proofs.Common.{◌≡◌, ◌∙◌, ◌++◌, ◌||◌, ap, append-nil, append_assoc, cond, map, refl, sym, Bool, true, false, List, [], ◌∷◌, Option, Some, None, codes, is_some}
 use Rattle.std.specs.List.{find, fold}
 use Rattle.std.specs.Option.{option_or}
 use Rattle.std.specs.Str.{bytes_eq}
@@ -15,8 +15,10 @@ use Rattle.clap.specs.declared.error.kind.ErrorKind.{ErrorKind}
 use Rattle.clap.specs.declared.parser.matches.ValueSource.TheVariants.{DefaultValue}
 use Rattle.clap.proofs.OnLiterals.{clap_on_literals}
 use Rattle.racl_options.specs.CommandLine.{OptionName, Workers, Established, Transient, Udp, default_of, name_of, racl}
-use Rattle.racl_options.proofs.SettingWalks.{at_row_missing, between, capture_filled, default_row, filled_rule, hits_filled, interface_filled, only_filled, policy_filled, summary_filled, tables_filled, top}
-use Rattle.racl_options.specs.Selections.{hits_id, summary_id}
+use Rattle.racl_options.specs.Selections.{FlagName, Summary, Hits, Explain, JsonLines, Live, drops_id, flag_id, only_id, passes_id}
+use Rattle.racl_options.specs.Sizes.{tables_id}
+use Rattle.racl_options.proofs.NameWalks.{has_row_behind}
+use Rattle.racl_options.proofs.SettingWalks.{at_row_missing, between, capture_filled, default_row, filled_rule, flag_filled, interface_filled, policy_filled, top, value_filled}
 
 or_right : (b : Bool) → (b || true) ≡ true
 or_right true = refl
@@ -36,15 +38,26 @@ default_passes Established rows = pass_either _ _ refl
 default_passes Transient rows = pass_either _ _ refl
 default_passes Udp rows = pass_either _ _ refl
 
-summary_passes : (rows : List Row) → default_fault rows summary_filled ≡ []
-summary_passes rows = pass_either _ _ refl
-
-hits_passes : (rows : List Row) → default_fault rows hits_filled ≡ []
-hits_passes rows = pass_either _ _ refl
+flag_passes : (f : FlagName) (rows : List Row) → default_fault rows (flag_filled f) ≡ []
+flag_passes Summary rows = pass_either _ _ refl
+flag_passes Hits rows = pass_either _ _ refl
+flag_passes Explain rows = pass_either _ _ refl
+flag_passes JsonLines rows = pass_either _ _ refl
+flag_passes Live rows = pass_either _ _ refl
 
 -- nor does an argument that has none
-flag_passes : (r : Rule) (rows : List Row) → r.defaults ≡ [] → default_fault rows r ≡ []
-flag_passes r rows none = rw (none, or_right (has_row r.id rows)) refl
+none_passes : (r : Rule) → r.defaults ≡ [] → (rows : List Row) → default_fault rows r ≡ []
+none_passes r none rows = rw (none, or_right (has_row r.id rows)) refl
+
+-- no default of these makes a fault
+abbrev PassEach : List Rule → Type 0
+PassEach [] = Unit {0}
+PassEach (r ∷ rs) = ((rows : List Row) → default_fault rows r ≡ []) × PassEach rs
+
+each_passes : (rs : List Rule) (rows : List Row) → PassEach rs → defaults_fault rows rs ≡ []
+unfolding defaults_fault
+each_passes [] rows pass = refl
+each_passes (r ∷ rs) rows pass = both_pass (pass.0 rows) (each_passes rs (with_default rows r) pass.1)
 
 -- the rows with the default of one option after another
 abbrev workers_filled : List Row → List Row
@@ -56,41 +69,16 @@ established_filled rows = with_default (workers_filled rows) (filled_rule Establ
 abbrev transient_filled : List Row → List Row
 transient_filled rows = with_default (established_filled rows) (filled_rule Transient)
 
-abbrev udp_filled : List Row → List Row
+abbrev pub udp_filled : List Row → List Row
 udp_filled rows = with_default (transient_filled rows) (filled_rule Udp)
-
-abbrev tables_passed : List Row → List Row
-tables_passed rows = with_default (udp_filled rows) tables_filled
-
-abbrev interface_passed : List Row → List Row
-interface_passed rows = with_default (tables_passed rows) interface_filled
-
-abbrev only_passed : List Row → List Row
-only_passed rows = with_default (interface_passed rows) only_filled
-
-abbrev summary_passed : List Row → List Row
-summary_passed rows = with_default (only_passed rows) summary_filled
-
-abbrev hits_passed : List Row → List Row
-hits_passed rows = with_default (summary_passed rows) hits_filled
-
-abbrev policy_passed : List Row → List Row
-policy_passed rows = with_default (hits_passed rows) policy_filled
-
-abbrev capture_passed : List Row → List Row
-capture_passed rows = with_default (policy_passed rows) capture_filled
-
-abbrev help_passed : List Row → List Row
-help_passed rows = with_default (capture_passed rows) (filled help_rule)
 
 defaults_pass : (rows : List Row) → defaults_fault rows top.rules ≡ []
 unfolding clap_on_literals
-defaults_pass rows = both_pass (default_passes Workers rows) (both_pass (default_passes Established (workers_filled rows))
-    (both_pass (default_passes Transient (established_filled rows)) (both_pass (default_passes Udp (transient_filled rows))
-    (both_pass (flag_passes tables_filled (udp_filled rows) refl) (both_pass (flag_passes interface_filled (tables_passed rows) refl) (both_pass (flag_passes only_filled (interface_passed rows) refl)
-    (both_pass (summary_passes (only_passed rows)) (both_pass (hits_passes (summary_passed rows)) (both_pass (flag_passes policy_filled (hits_passed rows) refl)
-    (both_pass (flag_passes capture_filled (policy_passed rows) refl) (both_pass (flag_passes (filled help_rule) (capture_passed rows) refl)
-    (both_pass (flag_passes (filled version_rule) (help_passed rows) refl) refl))))))))))))
+defaults_pass rows = each_passes top.rules rows (default_passes Workers, (default_passes Established, (default_passes Transient, (default_passes Udp,
+    (none_passes (value_filled tables_id) refl, (none_passes interface_filled refl, (none_passes (value_filled only_id) refl,
+    (none_passes (value_filled drops_id) refl, (none_passes (value_filled passes_id) refl,
+    (flag_passes Summary, (flag_passes Hits, (flag_passes Explain, (flag_passes JsonLines, (flag_passes Live,
+    (none_passes policy_filled refl, (none_passes capture_filled refl, (none_passes (filled help_rule) refl, (none_passes (filled version_rule) refl, tt))))))))))))))))))
 
 -- what the words come to in the end, by where the walk stopped
 abbrev pub end_fault : List ErrorKind → Walk → List ErrorKind
@@ -166,13 +154,22 @@ default_keeps : (o other : OptionName) (rows : List Row) → bytes_eq (name_of o
 default_keeps o other rows = id_keeps (name_of o) other rows
 
 -- and an argument without a default leaves all rows
-flag_keeps : (r : Rule) (rows : List Row) → r.defaults ≡ [] → with_default rows r ≡ rows
-flag_keeps r rows none = go (has_row r.id rows) r.defaults none
+none_keeps : (r : Rule) → r.defaults ≡ [] → (rows : List Row) → with_default rows r ≡ rows
+none_keeps r none rows = go (has_row r.id rows) r.defaults none
   where
     go : (b : Bool) (defaults : List Text) → defaults ≡ [] → cond b rows (default_rows r.id (reading_by r) defaults rows) ≡ rows
     go true defaults none = refl
     go false [] none = refl
     go false (d ∷ ds) none = cc
+
+-- as several do
+abbrev KeepEach : List Rule → Type 0
+KeepEach [] = Unit {0}
+KeepEach (r ∷ rs) = ((rows : List Row) → with_default rows r ≡ rows) × KeepEach rs
+
+each_keeps : (rs : List Rule) (rows : List Row) → KeepEach rs → fold with_default rows rs ≡ rows
+each_keeps [] rows keep = refl
+each_keeps (r ∷ rs) rows keep = ap (λ all. fold with_default all rs) (keep.0 rows) ∙ each_keeps rs rows keep.1
 
 or_default : (o : OptionName) (f g : Option Row) → f ≡ g → option_or f (Some (default_row o)) ≡ option_or g (Some (default_row o))
 or_default o f g = ap (λ found. option_or found (Some (default_row o)))
@@ -187,70 +184,70 @@ filled_by Transient rows = default_keeps Transient Udp (transient_filled rows) r
 filled_by Udp rows = default_fills Udp (transient_filled rows)
     ∙ or_default Udp _ _ (default_keeps Udp Transient (established_filled rows) refl ∙ default_keeps Udp Established (workers_filled rows) refl ∙ default_keeps Udp Workers rows refl)
 
--- the default of the flag leaves what has another id
-summary_keeps : (id : Text) (rows : List Row) → bytes_eq summary_id id ≡ false → find_row id (with_default rows summary_filled) ≡ find_row id rows
-summary_keeps id rows = keep_row id summary_id (codes "false") AsWritten rows
-
-hits_keeps : (id : Text) (rows : List Row) → bytes_eq hits_id id ≡ false → find_row id (with_default rows hits_filled) ≡ find_row id rows
-hits_keeps id rows = keep_row id hits_id (codes "false") AsWritten rows
-
--- what has no default leaves the rows of the options and the flags
-all_but_options : (rows : List Row) → fold with_default rows top.rules ≡ with_default (with_default (udp_filled rows) summary_filled) hits_filled
-all_but_options rows = flag_keeps (filled version_rule) (help_passed rows) refl ∙ flag_keeps (filled help_rule) (capture_passed rows) refl
-    ∙ flag_keeps capture_filled (policy_passed rows) refl ∙ flag_keeps policy_filled (hits_passed rows) refl
-    ∙ ap (λ rs. with_default (with_default rs summary_filled) hits_filled) (flag_keeps only_filled (interface_passed rows) refl
-    ∙ flag_keeps interface_filled (tables_passed rows) refl ∙ flag_keeps tables_filled (udp_filled rows) refl)
-
-no_summary : (o : OptionName) → bytes_eq summary_id (name_of o) ≡ false
-no_summary Workers = refl
-no_summary Established = refl
-no_summary Transient = refl
-no_summary Udp = refl
-
-no_hits : (o : OptionName) → bytes_eq hits_id (name_of o) ≡ false
-no_hits Workers = refl
-no_hits Established = refl
-no_hits Transient = refl
-no_hits Udp = refl
+-- ---- flags
 
 -- the row of a flag that was left out
-abbrev flag_row : Text → Row
-flag_row id = record { id = id; values = codes "false" ∷ []; count = None; source = Some DefaultValue; reading = AsWritten }
+abbrev pub flag_row : FlagName → Row
+flag_row flag = record { id = flag_id flag; values = codes "false" ∷ []; count = None; source = Some DefaultValue; reading = AsWritten }
 
-abbrev pub summary_row : Row
-summary_row = flag_row summary_id
+abbrev flags : List FlagName
+flags = Summary ∷ Hits ∷ Explain ∷ JsonLines ∷ Live ∷ []
 
-abbrev pub hits_row : Row
-hits_row = flag_row hits_id
+abbrev pub flag_rows : List Row
+flag_rows = map flag_row flags
 
-pub all_filled : (o : OptionName) (rows : List Row) → find_row (name_of o) (fold with_default rows top.rules) ≡ option_or (find_row (name_of o) rows) (Some (default_row o))
-all_filled o rows = ap (find_row (name_of o)) (all_but_options rows) ∙ hits_keeps (name_of o) (with_default (udp_filled rows) summary_filled) (no_hits o)
-    ∙ summary_keeps (name_of o) (udp_filled rows) (no_summary o) ∙ filled_by o rows
+flag_added : (f : FlagName) (rows : List Row) → has_row (flag_id f) rows ≡ false → with_default rows (flag_filled f) ≡ rows ++ flag_row f ∷ []
+flag_added Summary rows none = rw none (at_row_missing (flag_id Summary) (more_values DefaultValue (codes "false" ∷ [])) _ rows none)
+flag_added Hits rows none = rw none (at_row_missing (flag_id Hits) (more_values DefaultValue (codes "false" ∷ [])) _ rows none)
+flag_added Explain rows none = rw none (at_row_missing (flag_id Explain) (more_values DefaultValue (codes "false" ∷ [])) _ rows none)
+flag_added JsonLines rows none = rw none (at_row_missing (flag_id JsonLines) (more_values DefaultValue (codes "false" ∷ [])) _ rows none)
+flag_added Live rows none = rw none (at_row_missing (flag_id Live) (more_values DefaultValue (codes "false" ∷ [])) _ rows none)
 
--- the flag's row, or its default where the words left it out
-pub summary_fills : (rows : List Row) → ((o : OptionName) → bytes_eq (name_of o) summary_id ≡ false)
-    → find_row summary_id (fold with_default rows top.rules) ≡ option_or (find_row summary_id rows) (Some summary_row)
-summary_fills rows apart = ap (find_row summary_id) (all_but_options rows) ∙ hits_keeps summary_id (with_default (udp_filled rows) summary_filled) refl
-    ∙ fill_row summary_id (codes "false") AsWritten (udp_filled rows) refl
-    ∙ ap (λ found. option_or found (Some summary_row)) (id_keeps summary_id Udp (transient_filled rows) (apart Udp)
-    ∙ id_keeps summary_id Transient (established_filled rows) (apart Transient) ∙ id_keeps summary_id Established (workers_filled rows) (apart Established)
-    ∙ id_keeps summary_id Workers rows (apart Workers))
+-- none of these was given, one after the other
+abbrev AreLeftOut : List FlagName → List Row → Type 0
+AreLeftOut [] rows = Unit {0}
+AreLeftOut (f ∷ fs) rows = (has_row (flag_id f) rows ≡ false) × AreLeftOut fs (rows ++ flag_row f ∷ [])
 
-pub hits_fills : (rows : List Row) → ((o : OptionName) → bytes_eq (name_of o) hits_id ≡ false)
-    → find_row hits_id (fold with_default rows top.rules) ≡ option_or (find_row hits_id rows) (Some hits_row)
-hits_fills rows apart = ap (find_row hits_id) (all_but_options rows)
-    ∙ fill_row hits_id (codes "false") AsWritten (with_default (udp_filled rows) summary_filled) refl
-    ∙ ap (λ found. option_or found (Some hits_row)) (summary_keeps hits_id (udp_filled rows) refl
-    ∙ id_keeps hits_id Udp (transient_filled rows) (apart Udp) ∙ id_keeps hits_id Transient (established_filled rows) (apart Transient)
-    ∙ id_keeps hits_id Established (workers_filled rows) (apart Established) ∙ id_keeps hits_id Workers rows (apart Workers))
+flags_added : (fs : List FlagName) (rows : List Row) → AreLeftOut fs rows → fold with_default rows (map flag_filled fs) ≡ rows ++ map flag_row fs
+flags_added [] rows out = sym (append-nil rows)
+flags_added (f ∷ fs) rows out = ap (λ all. fold with_default all (map flag_filled fs)) (flag_added f rows out.0)
+    ∙ flags_added fs (rows ++ flag_row f ∷ []) out.1 ∙ append_assoc rows (flag_row f ∷ []) (map flag_row fs)
 
--- no default has another id
-pub no_other_filled : (id : Text) (rows : List Row) → ((o : OptionName) → bytes_eq (name_of o) id ≡ false) → bytes_eq summary_id id ≡ false → bytes_eq hits_id id ≡ false
-    → find_row id (fold with_default rows top.rules) ≡ find_row id rows
-no_other_filled id rows apart no_flag none = ap (find_row id) (all_but_options rows)
-    ∙ hits_keeps id (with_default (udp_filled rows) summary_filled) none ∙ summary_keeps id (udp_filled rows) no_flag ∙ id_keeps id Udp (transient_filled rows) (apart Udp)
-    ∙ id_keeps id Transient (established_filled rows) (apart Transient) ∙ id_keeps id Established (workers_filled rows) (apart Established)
-    ∙ id_keeps id Workers rows (apart Workers)
+all_left_out : (rows : List Row) → ((f : FlagName) → has_row (flag_id f) rows ≡ false) → AreLeftOut flags rows
+all_left_out rows out =
+    let one : List Row = rows ++ flag_row Summary ∷ [] in
+    let two : List Row = one ++ flag_row Hits ∷ [] in
+    let three : List Row = two ++ flag_row Explain ∷ [] in
+    let hits = has_row_behind (flag_id Hits) rows (flag_row Summary) (out Hits) refl in
+    let explain = has_row_behind (flag_id Explain) one (flag_row Hits) (has_row_behind (flag_id Explain) rows (flag_row Summary) (out Explain) refl) refl in
+    let json = has_row_behind (flag_id JsonLines) two (flag_row Explain) (has_row_behind (flag_id JsonLines) one (flag_row Hits)
+        (has_row_behind (flag_id JsonLines) rows (flag_row Summary) (out JsonLines) refl) refl) refl in
+    let live = has_row_behind (flag_id Live) three (flag_row JsonLines) (has_row_behind (flag_id Live) two (flag_row Explain) (has_row_behind (flag_id Live) one (flag_row Hits)
+        (has_row_behind (flag_id Live) rows (flag_row Summary) (out Live) refl) refl) refl) refl in
+    (out Summary, (hits, (explain, (json, (live, tt)))))
+
+-- ---- all defaults
+
+-- the id is none of an option's
+abbrev pub IsOther : Text → Type 0
+IsOther id = (o : OptionName) → bytes_eq (name_of o) id ≡ false
+
+-- no option's default has another id
+others_stay : (id : Text) (rows : List Row) → IsOther id → find_row id (udp_filled rows) ≡ find_row id rows
+others_stay id rows other = id_keeps id Udp (transient_filled rows) (other Udp) ∙ id_keeps id Transient (established_filled rows) (other Transient)
+    ∙ id_keeps id Established (workers_filled rows) (other Established) ∙ id_keeps id Workers rows (other Workers)
+
+-- where no flag was given, the options get their defaults, and each flag a row
+pub all_filled : (rows : List Row) → ((f : FlagName) → IsOther (flag_id f)) → ((f : FlagName) → find_row (flag_id f) rows ≡ None)
+    → fold with_default rows top.rules ≡ udp_filled rows ++ flag_rows
+all_filled rows other none = each_keeps (policy_filled ∷ capture_filled ∷ filled help_rule ∷ filled version_rule ∷ []) _
+    (none_keeps policy_filled refl, (none_keeps capture_filled refl, (none_keeps (filled help_rule) refl, (none_keeps (filled version_rule) refl, tt))))
+    ∙ ap (λ all. fold with_default all (map flag_filled flags)) (each_keeps
+    (value_filled tables_id ∷ interface_filled ∷ value_filled only_id ∷ value_filled drops_id ∷ value_filled passes_id ∷ []) (udp_filled rows)
+    (none_keeps (value_filled tables_id) refl, (none_keeps interface_filled refl, (none_keeps (value_filled only_id) refl, (none_keeps (value_filled drops_id) refl,
+    (none_keeps (value_filled passes_id) refl, tt))))))
+    ∙ flags_added flags (udp_filled rows) (all_left_out (udp_filled rows)
+    (λ f. has_none (flag_id f) (udp_filled rows) (others_stay (flag_id f) rows (other f) ∙ none f)))
 
 -- a row is found among the first rows, or else among those behind
 pub find_both : (id : Text) (rows others : List Row) → find_row id (rows ++ others) ≡ option_or (find_row id rows) (find_row id others)
@@ -258,3 +255,26 @@ find_both id rows others = rw find-append refl
 
 pub or_nothing : (found other : Option Row) → other ≡ None → option_or found other ≡ found
 or_nothing found other none = rw none (or_none found)
+
+-- what is found in the end: an option's row or its default, a flag's default, and what else the words gave
+no_flag_named : (o : OptionName) → find_row (name_of o) flag_rows ≡ None
+no_flag_named Workers = refl
+no_flag_named Established = refl
+no_flag_named Transient = refl
+no_flag_named Udp = refl
+
+pub option_filled : (o : OptionName) (rows : List Row) → find_row (name_of o) (udp_filled rows ++ flag_rows) ≡ option_or (find_row (name_of o) rows) (Some (default_row o))
+option_filled o rows = find_both (name_of o) (udp_filled rows) flag_rows ∙ or_nothing _ _ (no_flag_named o) ∙ filled_by o rows
+
+pub flag_filled_in : (f : FlagName) (rows : List Row) → IsOther (flag_id f) → find_row (flag_id f) rows ≡ None → find_row (flag_id f) (udp_filled rows ++ flag_rows) ≡ Some (flag_row f)
+flag_filled_in f rows other none = find_both (flag_id f) (udp_filled rows) flag_rows ∙ ap (λ found. option_or found (find_row (flag_id f) flag_rows)) (others_stay (flag_id f) rows other ∙ none) ∙ here f
+  where
+    here : (f : FlagName) → find_row (flag_id f) flag_rows ≡ Some (flag_row f)
+    here Summary = refl
+    here Hits = refl
+    here Explain = refl
+    here JsonLines = refl
+    here Live = refl
+
+pub other_left : (id : Text) (rows : List Row) → IsOther id → find_row id flag_rows ≡ None → find_row id (udp_filled rows ++ flag_rows) ≡ find_row id rows
+other_left id rows other none = find_both id (udp_filled rows) flag_rows ∙ or_nothing _ _ none ∙ others_stay id rows other

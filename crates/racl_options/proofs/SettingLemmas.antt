@@ -14,17 +14,16 @@ use Rattle.clap.specs.Walk.{Held, has_row, nothing_held, row_text, settled, walk
 use Rattle.clap.specs.Words.{IsSignedIn, Row, Text, matches_of, without_minus}
 use Rattle.clap.specs.declared.builder.value_parser.ValueParser.TheVariants.{Signed}
 use Rattle.clap.proofs.ValueTestLemmas.{Accepts-accepts}
-use Rattle.racl_options.specs.CommandLine.{IsInRange, OptionName, Workers, Established, Transient, Udp, Spells, capture_id, default_of, interface_id, most_of, most_seconds, hits_at, name_of, number_of, policy_id, racl, shown_at, size_at, text_at}
-use Rattle.racl_io.specs.declared.shown.Shown.TheVariants.{Every}
-use Rattle.racl_options.specs.Selections.{hits_id, is_given, only_id, shown_by, summary_id}
+use Rattle.racl_options.specs.Asking.{AskForRun, saved_in}
+use Rattle.racl_options.specs.CommandLine.{IsInRange, OptionName, Workers, Established, Transient, Udp, Spells, capture_id, default_of, has_flag, interface_id, most_of, most_seconds, name_of, number_of, policy_id, racl, values_at}
+use Rattle.racl_options.specs.Selections.{FlagName, Summary, Hits, Explain, JsonLines, Live, drops_id, flag_id, is_given, lines_by, only_id, passes_id, shown_by}
 use Rattle.racl_options.specs.Sizes.{size_by, tables_id}
-use Rattle.racl_options.specs.declared.settings.TableSize.TheVariants.{Standard}
-use Rattle.racl_options.specs.Options.{AreInRange, AreNames, AreSettings, Setting, Use, facts_of, named_by, sets, times_set, value_at, words_as, words_of, words_of_use}
-use Rattle.racl_options.specs.Origins.{AskForRun, Name, OriginFacts, named_at}
+use Rattle.racl_options.specs.Options.{AreInRange, AreNames, AreSettings, Setting, Use, asked_as, named_by, sets, times_set, value_at, words_as, words_of, words_of_use}
+use Rattle.racl_options.specs.Origins.{Name, OriginFacts, named_in}
 use Rattle.racl_options.proofs.NameLemmas.{plain_uses}
 use Rattle.racl_options.proofs.NameWalks.{Ends, has_row_behind, names_end, rows_of_names, rows_of_uses, uses_go_on}
 use Rattle.racl_options.proofs.SettingWalks.{AreNew, GoesOn, Holds, IsFit, between, default_row, row_of, settings_go_on, top}
-use Rattle.racl_options.proofs.SettingDefaults.{all_filled, end_fault, ends_well, fault_is, find_both, find_row, hits_fills, hits_row, no_other_filled, or_nothing, summary_fills, summary_row}
+use Rattle.racl_options.proofs.SettingDefaults.{IsOther, all_filled, end_fault, ends_well, fault_is, find_both, find_row, flag_filled_in, flag_row, flag_rows, option_filled, or_nothing, other_left, udp_filled}
 
 -- a number's text doesn't begin with a minus
 plain_value : (d : ℕ) (ds : Text) → IsNumeral 10 (without_leading_plus (d ∷ ds)) → (d == 45) ≡ false
@@ -138,10 +137,6 @@ new_settings (s ∷ rest) rows once range =
 
 -- ---- what isn't an option's
 
--- the ids of what names files
-abbrev IsOther : Text → Type 0
-IsOther id = (o : OptionName) → bytes_eq (name_of o) id ≡ false
-
 no_interface : IsOther interface_id
 no_interface Workers = refl
 no_interface Established = refl
@@ -172,17 +167,39 @@ no_only Established = refl
 no_only Transient = refl
 no_only Udp = refl
 
-no_flag : IsOther summary_id
-no_flag Workers = refl
-no_flag Established = refl
-no_flag Transient = refl
-no_flag Udp = refl
+no_drops : IsOther drops_id
+no_drops Workers = refl
+no_drops Established = refl
+no_drops Transient = refl
+no_drops Udp = refl
 
-no_hits : IsOther hits_id
-no_hits Workers = refl
-no_hits Established = refl
-no_hits Transient = refl
-no_hits Udp = refl
+no_passes : IsOther passes_id
+no_passes Workers = refl
+no_passes Established = refl
+no_passes Transient = refl
+no_passes Udp = refl
+
+no_flag : (f : FlagName) → IsOther (flag_id f)
+no_flag Summary Workers = refl
+no_flag Summary Established = refl
+no_flag Summary Transient = refl
+no_flag Summary Udp = refl
+no_flag Hits Workers = refl
+no_flag Hits Established = refl
+no_flag Hits Transient = refl
+no_flag Hits Udp = refl
+no_flag Explain Workers = refl
+no_flag Explain Established = refl
+no_flag Explain Transient = refl
+no_flag Explain Udp = refl
+no_flag JsonLines Workers = refl
+no_flag JsonLines Established = refl
+no_flag JsonLines Transient = refl
+no_flag JsonLines Udp = refl
+no_flag Live Workers = refl
+no_flag Live Established = refl
+no_flag Live Transient = refl
+no_flag Live Udp = refl
 
 no_other_row : (id : Text) (ss : List Setting) → IsOther id → has_row id (map row_of ss) ≡ false
 no_other_row id [] other = refl
@@ -201,35 +218,33 @@ no_name_in_uses : (us : List Use) (rows : List Row) → has_row policy_id rows �
 no_name_in_uses [] rows policy capture = (rw (append-nil rows) policy, rw (append-nil rows) capture)
 no_name_in_uses (u ∷ us) rows policy capture = (has_row_behind policy_id rows _ policy refl, has_row_behind capture_id rows _ capture refl)
 
--- and none has an option's
-no_option_found : (o : OptionName) (uses : List Use) (names : List Text) → find_row (name_of o) (other_rows uses names) ≡ None
-no_option_found Workers [] [] = refl
-no_option_found Workers [] (p ∷ []) = refl
-no_option_found Workers [] (p ∷ c ∷ names) = refl
-no_option_found Workers (u ∷ us) [] = refl
-no_option_found Workers (u ∷ us) (p ∷ []) = refl
-no_option_found Workers (u ∷ us) (p ∷ c ∷ names) = refl
-no_option_found Established [] [] = refl
-no_option_found Established [] (p ∷ []) = refl
-no_option_found Established [] (p ∷ c ∷ names) = refl
-no_option_found Established (u ∷ us) [] = refl
-no_option_found Established (u ∷ us) (p ∷ []) = refl
-no_option_found Established (u ∷ us) (p ∷ c ∷ names) = refl
-no_option_found Transient [] [] = refl
-no_option_found Transient [] (p ∷ []) = refl
-no_option_found Transient [] (p ∷ c ∷ names) = refl
-no_option_found Transient (u ∷ us) [] = refl
-no_option_found Transient (u ∷ us) (p ∷ []) = refl
-no_option_found Transient (u ∷ us) (p ∷ c ∷ names) = refl
-no_option_found Udp [] [] = refl
-no_option_found Udp [] (p ∷ []) = refl
-no_option_found Udp [] (p ∷ c ∷ names) = refl
-no_option_found Udp (u ∷ us) [] = refl
-no_option_found Udp (u ∷ us) (p ∷ []) = refl
-no_option_found Udp (u ∷ us) (p ∷ c ∷ names) = refl
+-- and none has the id of what is no file's
+abbrev IsNoFile : Text → Type 0
+IsNoFile id = (bytes_eq interface_id id ≡ false) × (bytes_eq policy_id id ≡ false) × (bytes_eq capture_id id ≡ false)
+
+none_of_files : (id : Text) (uses : List Use) (names : List Text) → IsNoFile id → find_row id (other_rows uses names) ≡ None
+none_of_files id [] [] unlike = refl
+none_of_files id [] (p ∷ []) unlike = rw unlike.1 refl
+none_of_files id [] (p ∷ c ∷ names) unlike = rw (unlike.1, unlike.2) refl
+none_of_files id (u ∷ us) [] unlike = rw unlike.0 refl
+none_of_files id (u ∷ us) (p ∷ []) unlike = rw (unlike.0, unlike.1) refl
+none_of_files id (u ∷ us) (p ∷ c ∷ names) unlike = rw (unlike.0, unlike.1, unlike.2) refl
+
+no_file : (o : OptionName) → IsNoFile (name_of o)
+no_file Workers = (refl, refl, refl)
+no_file Established = (refl, refl, refl)
+no_file Transient = (refl, refl, refl)
+no_file Udp = (refl, refl, refl)
+
+flag_is_no_file : (f : FlagName) → IsNoFile (flag_id f)
+flag_is_no_file Summary = (refl, refl, refl)
+flag_is_no_file Hits = (refl, refl, refl)
+flag_is_no_file Explain = (refl, refl, refl)
+flag_is_no_file JsonLines = (refl, refl, refl)
+flag_is_no_file Live = (refl, refl, refl)
 
 option_found : (o : OptionName) (rows : List Row) (uses : List Use) (names : List Text) → find_row (name_of o) (rows ++ other_rows uses names) ≡ find_row (name_of o) rows
-option_found o rows uses names = find_both (name_of o) rows (other_rows uses names) ∙ or_nothing (find_row (name_of o) rows) _ (no_option_found o uses names)
+option_found o rows uses names = find_both (name_of o) rows (other_rows uses names) ∙ or_nothing (find_row (name_of o) rows) _ (none_of_files (name_of o) uses names (no_file o))
 
 other_found : (id : Text) (ss : List Setting) (uses : List Use) (names : List Text) → IsOther id
     → find_row id (map row_of ss ++ other_rows uses names) ≡ find_row id (other_rows uses names)
@@ -260,53 +275,29 @@ captures_are (u ∷ us) [] = refl
 captures_are (u ∷ us) (p ∷ []) = refl
 captures_are (u ∷ us) (p ∷ c ∷ names) = refl
 
-size_is : (uses : List Use) (names : List Text) → find_row tables_id (other_rows uses names) ≡ None
-size_is [] [] = refl
-size_is [] (p ∷ []) = refl
-size_is [] (p ∷ c ∷ names) = refl
-size_is (u ∷ us) [] = refl
-size_is (u ∷ us) (p ∷ []) = refl
-size_is (u ∷ us) (p ∷ c ∷ names) = refl
-
-only_is : (uses : List Use) (names : List Text) → find_row only_id (other_rows uses names) ≡ None
-only_is [] [] = refl
-only_is [] (p ∷ []) = refl
-only_is [] (p ∷ c ∷ names) = refl
-only_is (u ∷ us) [] = refl
-only_is (u ∷ us) (p ∷ []) = refl
-only_is (u ∷ us) (p ∷ c ∷ names) = refl
-
-flag_is : (uses : List Use) (names : List Text) → find_row summary_id (other_rows uses names) ≡ None
-flag_is [] [] = refl
-flag_is [] (p ∷ []) = refl
-flag_is [] (p ∷ c ∷ names) = refl
-flag_is (u ∷ us) [] = refl
-flag_is (u ∷ us) (p ∷ []) = refl
-flag_is (u ∷ us) (p ∷ c ∷ names) = refl
-
-hits_is : (uses : List Use) (names : List Text) → find_row hits_id (other_rows uses names) ≡ None
-hits_is [] [] = refl
-hits_is [] (p ∷ []) = refl
-hits_is [] (p ∷ c ∷ names) = refl
-hits_is (u ∷ us) [] = refl
-hits_is (u ∷ us) (p ∷ []) = refl
-hits_is (u ∷ us) (p ∷ c ∷ names) = refl
-
 -- ---- all words
 
 -- words that set options and name files as a user writes them ask for what they say
 words_ask : (program : Text) (ss : List Setting) (uses : List Use) (names : List Text) (origin : OriginFacts) → AreSettings ss → AreNames names → Name (named_by uses names) origin
-    → AskForRun (program ∷ words_as ss uses names) (facts_of ss) origin
+    → AskForRun (program ∷ words_as ss uses names) (asked_as ss origin)
 unfolding walk_fault
 words_ask program ss uses names origin are named says = record {
-  options = record {
-    faultless = fault_is program words ∙ ap₂ end_fault faultless_walk walked_is ∙ ends_well ends.last ends.runs ends.settles;
-    options = record { workers = spelt Workers; established = spelt Established; transient = spelt Transient; udp = spelt Udp };
-    tables = tables_are;
-    shown = shown_is;
-    hits = hits_are;
+  faultless = fault_is program words ∙ ap₂ end_fault faultless_walk walked_is ∙ ends_well ends.last ends.runs ends.settles;
+  asks = record {
+    say = record {
+      options = record {
+        numbers = record { workers = spelt Workers; established = spelt Established; transient = spelt Transient; udp = spelt Udp };
+        tables = ap size_by (no_value tables_id no_size refl (refl, refl, refl));
+        shown = ap₂ shown_by (no_flag_given Summary) (no_value only_id no_only refl (refl, refl, refl));
+        lines = ap₂ lines_by (no_flag_given JsonLines) (no_flag_given Explain);
+        hits = no_flag_given Hits;
+        live = no_flag_given Live;
+      };
+      names = subst (λ named. Name named origin) (sym named_is) says;
+      saved = saved_is;
+    };
+    fit = refl;
   };
-  names = subst (λ named. Name named origin) (sym named_is) says;
 }
   where
     words : List Text
@@ -330,47 +321,54 @@ words_ask program ss uses names origin are named says = record {
     faultless_walk : walk_fault top [] (between nothing_held) words ≡ []
     faultless_walk = run.2.1 (flat_map words_of_use uses ++ names) ∙ used.2.1 names ∙ ends.passes
 
-    filled_rows : matches_of racl (program ∷ words) ≡ fold with_default (map row_of ss ++ other_rows uses names) top.rules
+    given : List Row
+    given = map row_of ss ++ other_rows uses names
+
+    no_flag_row : (f : FlagName) → find_row (flag_id f) given ≡ None
+    no_flag_row f = other_found (flag_id f) ss uses names (no_flag f) ∙ none_of_files (flag_id f) uses names (flag_is_no_file f)
+
+    filled_rows : matches_of racl (program ∷ words) ≡ udp_filled given ++ flag_rows
     filled_rows = ap (λ w. fold with_default (settled top.rules w.held).rows top.rules) walked_is
         ∙ ap (λ rows. fold with_default rows top.rules) (ends.settled_to ∙ append_assoc (map row_of ss) (rows_of_uses uses) (rows_of_names names))
+        ∙ all_filled given no_flag no_flag_row
 
-    text : (o : OptionName) → text_at (program ∷ words) (name_of o) ≡ Some (value_at o ss)
+    text : (o : OptionName) → (values_at (program ∷ words)).number (name_of o) ≡ Some (value_at o ss)
     text o = ap (λ rows. option_and_then row_text (find_row (name_of o) rows)) filled_rows
-        ∙ ap (option_and_then row_text) (all_filled o (map row_of ss ++ other_rows uses names)
+        ∙ ap (option_and_then row_text) (option_filled o given
         ∙ ap (λ found. option_or found (Some (default_row o))) (option_found o (map row_of ss) uses names)) ∙ text_is o ss are.in_range
 
-    spelt : (o : OptionName) → Spells o (text_at (program ∷ words) (name_of o)) (number_of (value_at o ss))
+    spelt : (o : OptionName) → Spells o ((values_at (program ∷ words)).number (name_of o)) (number_of (value_at o ss))
     spelt o =
         let range = value_in_range o ss are.in_range in
         (value_at o ss, text o, range, refl)
 
-    other_row : (id : Text) → IsOther id → bytes_eq summary_id id ≡ false → bytes_eq hits_id id ≡ false → find_row id (matches_of racl (program ∷ words)) ≡ find_row id (other_rows uses names)
-    other_row id other unlike none = ap (find_row id) filled_rows ∙ no_other_filled id (map row_of ss ++ other_rows uses names) other unlike none ∙ other_found id ss uses names other
+    other_row : (id : Text) → IsOther id → find_row id flag_rows ≡ None → find_row id (matches_of racl (program ∷ words)) ≡ find_row id (other_rows uses names)
+    other_row id other none = ap (find_row id) filled_rows ∙ other_left id given other none ∙ other_found id ss uses names other
 
-    tables_are : size_at (program ∷ words) ≡ Some Standard
-    tables_are = ap (λ (found : Option Row). size_by (option_and_then (λ r. slice_get r.values 0) found)) (other_row tables_id no_size refl refl ∙ size_is uses names)
+    first_in : (id : Text) (found : Option Row) → find_row id (matches_of racl (program ∷ words)) ≡ found
+        → (values_at (program ∷ words)).first id ≡ option_and_then (λ r. slice_get r.values 0) found
+    first_in id found = ap (option_and_then (λ (r : Row). slice_get r.values 0))
 
-    shown_is : shown_at (program ∷ words) ≡ Some Every
-    shown_is =
-        let flag = ap (find_row summary_id) filled_rows ∙ summary_fills (map row_of ss ++ other_rows uses names) no_flag
-        ∙ ap (λ found. option_or found (Some summary_row)) (other_found summary_id ss uses names no_flag ∙ flag_is uses names) in
-        let only = other_row only_id no_only refl refl ∙ only_is uses names in
-        ap₂ (λ (s o : Option Row). shown_by (option_and_then (λ r. slice_get r.values 0) s) (option_and_then (λ r. slice_get r.values 0) o)) flag only
+    no_value : (id : Text) → IsOther id → find_row id flag_rows ≡ None → IsNoFile id → (values_at (program ∷ words)).first id ≡ None
+    no_value id other none unlike = first_in id None (other_row id other none ∙ none_of_files id uses names unlike)
 
-    hits_are : hits_at (program ∷ words) ≡ false
-    hits_are =
-        let flag = ap (find_row hits_id) filled_rows ∙ hits_fills (map row_of ss ++ other_rows uses names) no_hits
-        ∙ ap (λ found. option_or found (Some hits_row)) (other_found hits_id ss uses names no_hits ∙ hits_is uses names) in
-        ap (λ (h : Option Row). is_given (option_and_then (λ r. slice_get r.values 0) h)) flag
+    no_flag_given : (f : FlagName) → has_flag (values_at (program ∷ words)) f ≡ false
+    no_flag_given f = ap is_given (first_in (flag_id f) (Some (flag_row f)) (ap (find_row (flag_id f)) filled_rows ∙ flag_filled_in f given (no_flag f) (no_flag_row f)))
 
-    named_is : named_at (program ∷ words) ≡ named_by uses names
+    saved_is : saved_in (values_at (program ∷ words)) ≡ record { drops = None; passes = None }
+    saved_is =
+        let drops = no_value drops_id no_drops refl (refl, refl, refl) in
+        let passes = no_value passes_id no_passes refl (refl, refl, refl) in
+        λ i. record { drops = drops i; passes = passes i }
+
+    named_is : named_in (values_at (program ∷ words)) ≡ named_by uses names
     named_is =
-        let policy = ap (option_and_then (λ (r : Row). slice_get r.values 0)) (other_row policy_id no_policy refl refl) ∙ policy_is uses names in
-        let capture = ap (option_and_then (λ (r : Row). slice_get r.values 0)) (other_row capture_id no_capture refl refl) ∙ capture_is uses names in
-        let captures = ap (option_map (λ (r : Row). r.values)) (other_row interface_id no_interface refl refl) ∙ captures_are uses names in
+        let policy = first_in policy_id _ (other_row policy_id no_policy refl) ∙ policy_is uses names in
+        let capture = first_in capture_id _ (other_row capture_id no_capture refl) ∙ capture_is uses names in
+        let captures = ap (option_map (λ (r : Row). r.values)) (other_row interface_id no_interface refl) ∙ captures_are uses names in
         λ i. record { policy = policy i; capture = capture i; captures = captures i }
 
 pub written_asks : (words : List Text) (program : Text) (ss : List Setting) (uses : List Use) (names : List Text) (origin : OriginFacts) → AreSettings ss → AreNames names
-    → Name (named_by uses names) origin → words ≡ program ∷ words_as ss uses names → AskForRun words (facts_of ss) origin
+    → Name (named_by uses names) origin → words ≡ program ∷ words_as ss uses names → AskForRun words (asked_as ss origin)
 written_asks words program ss uses names origin are named says is =
-    subst (λ ws. AskForRun ws (facts_of ss) origin) (sym is) (words_ask program ss uses names origin are named says)
+    subst (λ ws. AskForRun ws (asked_as ss origin)) (sym is) (words_ask program ss uses names origin are named says)

@@ -13,10 +13,9 @@ use Rattle.clap.specs.declared.builder.value_parser.Reading.TheVariants.{Without
 use Rattle.clap.specs.declared.builder.value_parser.ValueParser.TheVariants.{Signed}
 use Rattle.clap.specs.declared.parser.matches.ValueSource.TheVariants.{CommandLine, DefaultValue}
 use Rattle.clap.proofs.OnLiterals.{clap_on_literals}
-use Rattle.racl_options.specs.CommandLine.{OptionName, Workers, Established, Transient, Udp, capture_id, default_of, file_rule, interface_rule, most_of, name_of, option_rule, policy_id, racl}
+use Rattle.racl_options.specs.CommandLine.{OptionName, Workers, Established, Transient, Udp, capture_id, default_of, file_rule, flag_rule, interface_rule, most_of, name_of, option_rule, policy_id, racl, value_rule}
 use Rattle.racl_options.specs.Options.{Setting, words_by, words_of}
-use Rattle.racl_options.specs.Selections.{hits_rule, only_rule, summary_rule}
-use Rattle.racl_options.specs.Sizes.{tables_rule}
+use Rattle.racl_options.specs.Selections.{FlagName, flag_id}
 
 abbrev pub top : Shape
 top = (built racl).top
@@ -24,20 +23,14 @@ top = (built racl).top
 abbrev pub filled_rule : OptionName → Rule
 filled_rule o = filled (option_rule o)
 
-abbrev pub tables_filled : Rule
-tables_filled = filled tables_rule
+abbrev pub value_filled : Text → Rule
+value_filled id = filled (value_rule id)
+
+abbrev pub flag_filled : FlagName → Rule
+flag_filled flag = filled (flag_rule (flag_id flag))
 
 abbrev pub interface_filled : Rule
 interface_filled = filled interface_rule
-
-abbrev pub only_filled : Rule
-only_filled = filled only_rule
-
-abbrev pub summary_filled : Rule
-summary_filled = filled summary_rule
-
-abbrev pub hits_filled : Rule
-hits_filled = filled hits_rule
 
 abbrev pub policy_filled : Rule
 policy_filled = with_index 1 (filled (file_rule policy_id))

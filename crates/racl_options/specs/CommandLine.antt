@@ -2,17 +2,18 @@
 use Rattle.std.specs.Prelude.{◌≡◌, ◌≤◌, ◌⊎◌, ℕ, Bool, true, List, [], ◌∷◌, Option, Some, codes, pos}
 use Rattle.std.specs.Str.Parse.{IsNumeral, digits_value, without_leading_plus}
 use Rattle.clap.specs.Simple.{on_top}
-use Rattle.clap.specs.Words.{App, IsSignedIn, Rule, Text, fault_of, first_of, matches_of, new_app}
+use Rattle.clap.specs.Words.{App, IsSignedIn, Rule, Text, all_of, first_of, matches_of, new_app}
 use Rattle.clap.specs.Words.{new_rule, one_of, with_rule, without_minus}
-use Rattle.clap.specs.declared.builder.action.ArgAction.TheVariants.{Append, Set}
+use Rattle.clap.specs.declared.builder.action.ArgAction.TheVariants.{Append, Set, SetTrue}
 use Rattle.clap.specs.declared.builder.value_parser.ValueParser.TheVariants.{Signed}
 use Rattle.clap.specs.declared.error.kind.ErrorKind.{ErrorKind}
 use Rattle.clap.specs.declared.error.kind.ErrorKind.TheVariants.{DisplayHelp, DisplayVersion}
 use Rattle.racl_io.specs.declared.shown.Shown.{Shown}
 use Rattle.racl_options.specs.declared.settings.Options.{Options}
 use Rattle.racl_options.specs.declared.settings.TableSize.{TableSize}
-use Rattle.racl_options.specs.Selections.{hits_id, hits_rule, is_given, only_id, only_rule, shown_by, summary_id, summary_rule}
-use Rattle.racl_options.specs.Sizes.{size_by, tables_id, tables_rule}
+use Rattle.racl_options.specs.declared.settings.Lines.{Lines}
+use Rattle.racl_options.specs.Selections.{FlagName, Summary, Hits, Explain, JsonLines, Live, drops_id, flag_id, is_given, lines_by, only_id, passes_id, shown_by}
+use Rattle.racl_options.specs.Sizes.{size_by, tables_id}
 
 -- ---- the command
 
@@ -67,6 +68,14 @@ interface_rule = record (new_rule interface_id) {
   value_names = 1;
 }
 
+-- another option, with one value
+abbrev pub value_rule : Text → Rule
+value_rule id = record (new_rule id) { long = Some id; action = Some Set; value_names = 1 }
+
+-- a flag, which has no value of its own
+abbrev pub flag_rule : Text → Rule
+flag_rule id = record (new_rule id) { long = Some id; action = Some SetTrue }
+
 abbrev pub policy_id : Text
 policy_id = codes "POLICY"
 
@@ -86,14 +95,25 @@ abbrev pub with_options : App
 with_options = with_rule (with_rule (with_rule (with_rule without_options (option_rule Workers))
     (option_rule Established)) (option_rule Transient)) (option_rule Udp)
 
--- and with the size of the tables, the captures of interfaces and the packets that are shown
+-- and with the other options that have a value: the size of the tables, the captures of interfaces, and which packets are
+-- shown and saved
 abbrev pub with_selections : App
-with_selections = with_rule (with_rule (with_rule (with_rule with_options tables_rule) interface_rule) only_rule)
-    summary_rule
+with_selections = with_rule (with_rule (with_rule with_options (value_rule tables_id)) interface_rule) (value_rule only_id)
 
--- and with the hits and the files
+abbrev pub with_values : App
+with_values = with_rule (with_rule with_selections (value_rule drops_id)) (value_rule passes_id)
+
+-- and with the flags
+abbrev pub with_reports : App
+with_reports = with_rule (with_rule with_values (flag_rule (flag_id Summary))) (flag_rule (flag_id Hits))
+
+abbrev pub with_flags : App
+with_flags = with_rule (with_rule (with_rule with_reports (flag_rule (flag_id Explain))) (flag_rule (flag_id JsonLines)))
+    (flag_rule (flag_id Live))
+
+-- and with the files
 abbrev pub racl : App
-racl = with_rule (with_rule (with_rule with_selections hits_rule) (file_rule policy_id)) (file_rule capture_id)
+racl = with_rule (with_rule with_flags (file_rule policy_id)) (file_rule capture_id)
 
 -- ---- what the words ask for
 
@@ -105,7 +125,9 @@ pub record OptionFacts : Type 0 where
   pub udp : ℕ
   pub tables : TableSize
   pub shown : Shown
+  pub lines : Lines
   pub hits : Bool
+  pub live : Bool
 
 abbrev pub option_facts : Options → OptionFacts
 option_facts o = record {
@@ -115,7 +137,9 @@ option_facts o = record {
   udp = o.times.udp;
   tables = o.tables;
   shown = o.shown;
+  lines = o.lines;
   hits = o.hits;
+  live = o.live;
 }
 
 abbrev pub number_of : Text → ℕ
@@ -137,30 +161,32 @@ pub record SpellsOptions (text : Text → Option Text) (facts : OptionFacts) : T
   pub transient : Spells Transient (text (name_of Transient)) facts.transient
   pub udp : Spells Udp (text (name_of Udp)) facts.udp
 
--- the text that the command's matches of the words hold for an option
-abbrev pub text_at : List Text → Text → Option Text
-text_at words name = one_of name (matches_of racl words)
+-- what a parse holds of an id: the text of a number, the first value, and all values
+pub record Values : Type 0 where
+  pub number : Text → Option Text
+  pub first : Text → Option Text
+  pub all : Text → Option (List Text)
 
--- the packets that they ask to be shown
-abbrev pub shown_at : List Text → Option Shown
-shown_at words = shown_by (first_of summary_id (matches_of racl words)) (first_of only_id (matches_of racl words))
+-- what the command's matches of the words hold
+abbrev pub values_at : List Text → Values
+values_at words = record {
+  number = λ id. one_of id (matches_of racl words);
+  first = λ id. first_of id (matches_of racl words);
+  all = λ id. all_of id (matches_of racl words);
+}
 
--- the size of the tables that they ask for
-abbrev pub size_at : List Text → Option TableSize
-size_at words = size_by (first_of tables_id (matches_of racl words))
+-- whether the flag was given
+abbrev pub has_flag : Values → FlagName → Bool
+has_flag values flag = is_given (values.first (flag_id flag))
 
--- whether they ask for hits
-abbrev pub hits_at : List Text → Bool
-hits_at words = is_given (first_of hits_id (matches_of racl words))
-
--- the command finds no fault in the words, each option is the number spelt by the text that its
--- matches of the words hold for it, and this size, these packets and these hits are asked for
-pub record AskFor (words : List Text) (facts : OptionFacts) : Type 0 where
-  pub faultless : fault_of racl words ≡ []
-  pub options : SpellsOptions (text_at words) facts
-  pub tables : size_at words ≡ Some facts.tables
-  pub shown : shown_at words ≡ Some facts.shown
-  pub hits : hits_at words ≡ facts.hits
+-- the options are the numbers that are spelt, and the size, the packets, the lines and the flags that are asked for
+pub record SetOptions (values : Values) (facts : OptionFacts) : Type 0 where
+  pub numbers : SpellsOptions values.number facts
+  pub tables : size_by (values.first tables_id) ≡ Some facts.tables
+  pub shown : shown_by (has_flag values Summary) (values.first only_id) ≡ Some facts.shown
+  pub lines : lines_by (has_flag values JsonLines) (has_flag values Explain) ≡ facts.lines
+  pub hits : has_flag values Hits ≡ facts.hits
+  pub live : has_flag values Live ≡ facts.live
 
 -- an error of this kind is a request for the help or for the version
 abbrev pub IsRequest : ErrorKind → Type 0

@@ -1,3 +1,4 @@
+pub mod Asking
 pub mod Checks
 pub mod CommandLine
 pub mod Options

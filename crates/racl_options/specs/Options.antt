@@ -8,8 +8,10 @@ use Rattle.racl_options.specs.CommandLine.{IsInRange, OptionFacts}
 use Rattle.racl_options.specs.CommandLine.{OptionName, Workers, Established, Transient, Udp}
 use Rattle.racl_options.specs.CommandLine.{default_of, interface_id, name_of, number_of}
 use Rattle.racl_io.specs.declared.shown.Shown.TheVariants.{Every}
+use Rattle.racl_options.specs.declared.settings.Lines.TheVariants.{Plain}
 use Rattle.racl_options.specs.declared.settings.TableSize.TheVariants.{Standard}
-use Rattle.racl_options.specs.Origins.{NamedFacts}
+use Rattle.racl_options.specs.Asking.{AskedFacts}
+use Rattle.racl_options.specs.Origins.{NamedFacts, OriginFacts}
 
 -- an option set to a value, in one word or in two
 pub record Setting : Type 0 where
@@ -47,7 +49,7 @@ pub record AreSettings (settings : List Setting) : Type 0 where
   pub once : (option : OptionName) → times_set option settings ≤ 1
   pub in_range : AreInRange settings
 
--- the numbers to which they set the options; the tables are standard, every packet is shown, and no hits are told
+-- the numbers to which they set the options; the tables are standard, every packet has a plain line, and no flag is given
 abbrev pub facts_of : List Setting → OptionFacts
 facts_of settings = record {
   workers = number_of (value_at Workers settings);
@@ -56,7 +58,9 @@ facts_of settings = record {
   udp = number_of (value_at Udp settings);
   tables = Standard;
   shown = Every;
+  lines = Plain;
   hits = false;
+  live = false;
 }
 
 -- ---- captures of interfaces, and files
@@ -105,6 +109,10 @@ named_by uses names = record {
   capture = second_name names;
   captures = values_of uses;
 }
+
+-- what settings, uses and names ask for, where they name this input: nothing is saved
+abbrev pub asked_as : List Setting → OriginFacts → AskedFacts
+asked_as settings origin = record { options = facts_of settings; origin = origin; saved = record { drops = None; passes = None } }
 
 -- the settings, then the captures of interfaces, and then the names of files
 abbrev pub words_as : List Setting → List Use → List Text → List Text

@@ -2,8 +2,8 @@
 use Rattle.std.specs.Prelude.{◌≡◌, ◌≢◌, ◌≤◌, ℕ, Bool, List, [], ◌∷◌, ◌++◌, map, Option, None, Some, codes, count_by}
 use Rattle.std.specs.Str.{bytes_eq}
 use Rattle.acl_policy.specs.Numerals.{IsOctet}
-use Rattle.clap.specs.Words.{Text, all_of, first_of, matches_of}
-use Rattle.racl_options.specs.CommandLine.{AskFor, OptionFacts, capture_id, interface_id, policy_id, racl}
+use Rattle.clap.specs.Words.{Text}
+use Rattle.racl_options.specs.CommandLine.{Values, capture_id, interface_id, policy_id}
 use Rattle.racl_options.specs.declared.settings.CaptureFile.{CaptureFile}
 use Rattle.racl_options.specs.declared.settings.Origin.{Origin}
 use Rattle.racl_options.specs.declared.settings.Origin.TheVariants.{Standard, Files, Interfaces}
@@ -63,19 +63,10 @@ Name named (FromInterfaces policy captures) =
     × ((values : List Text) × (named.captures ≡ Some values) × AreNamed values captures)
     × AreApart (policy ∷ map (λ c. c.name) captures)
 
--- what the command's matches of the words hold
-abbrev pub named_at : List Text → NamedFacts
-named_at words = record {
-  policy = first_of policy_id (matches_of racl words);
-  capture = first_of capture_id (matches_of racl words);
-  captures = all_of interface_id (matches_of racl words);
+-- what a parse holds of the files
+abbrev pub named_in : Values → NamedFacts
+named_in values = record {
+  policy = values.first policy_id;
+  capture = values.first capture_id;
+  captures = values.all interface_id;
 }
-
--- the words name no input
-abbrev pub NamesNone : List Text → Type 0
-NamesNone words = (origin : OriginFacts) → Name (named_at words) origin → ⊥
-
--- the words ask for these options, and for an input from there
-pub record AskForRun (words : List Text) (facts : OptionFacts) (origin : OriginFacts) : Type 0 where
-  pub options : AskFor words facts
-  pub names : Name (named_at words) origin

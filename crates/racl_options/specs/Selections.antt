@@ -1,31 +1,23 @@
--- Which packets the words ask to be shown, and whether they ask for hits (this project's profile).
-use Rattle.std.specs.Prelude.{Bool, false, Option, None, Some, codes, option_map, if◌then◌else◌}
+-- What the words select: which packets have a line in the report and what it tells, whether hits are told, whether verdicts are
+-- written as packets come, and the files that get packets (this project's profile).
+use Rattle.std.specs.Prelude.{Bool, false, List, [], ◌∷◌, Option, None, Some, codes, option_map, if◌then◌else◌}
 use Rattle.std.specs.Str.{bytes_eq}
-use Rattle.clap.specs.Words.{Rule, Text, new_rule}
-use Rattle.clap.specs.declared.builder.action.ArgAction.TheVariants.{Set, SetTrue}
+use Rattle.clap.specs.Words.{Text}
 use Rattle.racl_io.specs.declared.shown.Shown.{Shown}
 use Rattle.racl_io.specs.declared.shown.Shown.TheVariants.{Every, Passing, Dropped, Nothing}
+use Rattle.racl_options.specs.declared.settings.Lines.{Lines}
+use Rattle.racl_options.specs.declared.settings.Lines.TheVariants.{Plain, Explained, Json}
+
+-- ---- options with a value
 
 abbrev pub only_id : Text
 only_id = codes "only"
 
--- the option `--only`, with one value
-abbrev pub only_rule : Rule
-only_rule = record (new_rule only_id) { long = Some only_id; action = Some Set; value_names = 1 }
+abbrev pub drops_id : Text
+drops_id = codes "drops"
 
-abbrev pub summary_id : Text
-summary_id = codes "summary"
-
--- the flag `--summary`
-abbrev pub summary_rule : Rule
-summary_rule = record (new_rule summary_id) { long = Some summary_id; action = Some SetTrue }
-
-abbrev pub hits_id : Text
-hits_id = codes "hits"
-
--- the flag `--hits`
-abbrev pub hits_rule : Rule
-hits_rule = record (new_rule hits_id) { long = Some hits_id; action = Some SetTrue }
+abbrev pub passes_id : Text
+passes_id = codes "passes"
 
 -- what the value of `--only` asks for; without one it is every packet
 abbrev pub shown_only : Option Text → Option Shown
@@ -33,11 +25,31 @@ shown_only None = Some Every
 shown_only (Some value) = if bytes_eq value (codes "pass") then Some Passing
     else if bytes_eq value (codes "drop") then Some Dropped else None
 
--- a flag's value, where it was given
+-- ---- flags
+
+pub data FlagName : Type 0 where
+  Summary : FlagName
+  Hits : FlagName
+  Explain : FlagName
+  JsonLines : FlagName
+  Live : FlagName
+
+abbrev pub flag_id : FlagName → Text
+flag_id Summary = codes "summary"
+flag_id Hits = codes "hits"
+flag_id Explain = codes "explain"
+flag_id JsonLines = codes "json"
+flag_id Live = codes "live"
+
+-- whether a flag was given, by its value
 abbrev pub is_given : Option Text → Bool
 is_given None = false
 is_given (Some value) = bytes_eq value (codes "true")
 
--- what the values of `--summary` and `--only` ask for: with the flag no packet, whatever the option asks for
-abbrev pub shown_by : Option Text → Option Text → Option Shown
-shown_by summary only = option_map (λ shown. if is_given summary then Nothing else shown) (shown_only only)
+-- what `--summary` and the value of `--only` ask for: with the flag no packet, whatever the option asks for
+abbrev pub shown_by : Bool → Option Text → Option Shown
+shown_by summary only = option_map (λ shown. if summary then Nothing else shown) (shown_only only)
+
+-- what `--json` and `--explain` ask for: an object tells all that an explained line does
+abbrev pub lines_by : Bool → Bool → Lines
+lines_by json explain = if json then Json else if explain then Explained else Plain

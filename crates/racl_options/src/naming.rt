@@ -3,8 +3,8 @@ ghost use Rattle.std.specs.Prelude.{◌≡◌, IfNone, IfSome, MatchResult, None
 ghost use Rattle.clap.specs.Walk.{texts};
 ghost use Rattle.clap.specs.Words.{found_of};
 ghost use Rattle.racl_options.specs.Origins.{AreNamed, CaptureFacts, IsNamed, Name};
-ghost use Rattle.racl_options.specs.Origins.{capture_facts, is_standard, origin_facts};
-ghost use Rattle.racl_options.specs.inner.Naming.{AreRefused, IsRefused, named_as, named_in};
+ghost use Rattle.racl_options.specs.Origins.{capture_facts, is_standard, named_in, origin_facts};
+ghost use Rattle.racl_options.specs.inner.Naming.{AreRefused, IsRefused, named_as, values_in};
 
 use crate::settings::{CaptureFile, Files, Interfaces, Origin};
 use acl_policy::octet_of;
@@ -117,7 +117,7 @@ fn files_named<'a>(policy: Option<&'a str>, capture: Option<&'a str>) -> Result<
 
 /// Where the input comes from that the matches name.
 pub fn origin_named<'a>(alloc: Global, matches: &ArgMatches<'a>) -> Result<Origin<'a>, Refusal>
-    ensures { MatchResult result (λ origin. Name (named_in (found_of matches.now)) (origin_facts origin)) (IsRefused (named_in (found_of matches.now))) }
+    ensures { let named = named_in (values_in (found_of matches.now)) in MatchResult result (λ origin. Name named (origin_facts origin)) (IsRefused named) }
 {
     let policy = matches.get_str("POLICY");
     let capture = matches.get_str("CAPTURE");

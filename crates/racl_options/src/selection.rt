@@ -1,12 +1,26 @@
-//! The packets that the words ask to be shown, and whether they ask for hits.
+//! What the words select: the packets that are shown, what is told of them, and where packets are saved.
 ghost use Rattle.std.specs.Prelude.{◌≡◌, option_map};
 ghost use Rattle.std.specs.Borrow.{Bor};
 ghost use Rattle.clap.specs.Words.{Text, first_value, found_of};
+ghost use Rattle.racl_options.specs.Asking.{saved_facts, saved_in};
+ghost use Rattle.racl_options.specs.CommandLine.{has_flag};
 ghost use Rattle.racl_options.specs.Selections;
-ghost use Rattle.racl_options.specs.Selections.{hits_id, is_given, only_id, shown_by, summary_id};
+ghost use Rattle.racl_options.specs.Selections.{JsonLines, Explain, Summary, lines_by, only_id, shown_by};
+ghost use Rattle.racl_options.specs.inner.Naming.{values_in};
 
+use crate::settings::{Lines, Saved};
 use clap::ArgMatches;
 use racl_io::Shown;
+
+/// Whether the matches have the flag.
+pub fn is_given(matches: &ArgMatches<'_>, flag: &str) -> bool
+    ensures { result ≡ Selections.is_given (first_value (found_of matches.now) flag.now) }
+{
+    match matches.get_str(flag) {
+        Some("true") => true,
+        _ => false,
+    }
+}
 
 // What the value of `--only` asks for. None where it is no such value.
 fn shown_only(value: Option<&str>) -> Option<Shown>
@@ -22,21 +36,35 @@ fn shown_only(value: Option<&str>) -> Option<Shown>
 
 /// The packets that the matches ask to be shown. None where the value of `--only` is none that it may have.
 pub fn shown_named(matches: &ArgMatches<'_>) -> Option<Shown>
-    ensures { result ≡ shown_by (first_value (found_of matches.now) summary_id) (first_value (found_of matches.now) only_id) }
+    ensures { let values = values_in (found_of matches.now) in result ≡ shown_by (has_flag values Summary) (values.first only_id) }
 {
     let shown = shown_only(matches.get_str("only"))?;
-    match matches.get_str("summary") {
-        Some("true") => Some(Shown::Nothing),
-        _ => Some(shown),
+    if is_given(matches, "summary") {
+        Some(Shown::Nothing)
+    } else {
+        Some(shown)
     }
 }
 
-/// Whether the matches ask for hits.
-pub fn hits_named(matches: &ArgMatches<'_>) -> bool
-    ensures { result ≡ is_given (first_value (found_of matches.now) hits_id) }
+/// What the matches ask to be told of each packet.
+pub fn lines_named(matches: &ArgMatches<'_>) -> Lines
+    ensures { let values = values_in (found_of matches.now) in result ≡ lines_by (has_flag values JsonLines) (has_flag values Explain) }
 {
-    match matches.get_str("hits") {
-        Some("true") => true,
-        _ => false,
+    if is_given(matches, "json") {
+        Lines::Json
+    } else if is_given(matches, "explain") {
+        Lines::Explained
+    } else {
+        Lines::Plain
+    }
+}
+
+/// The files that are to get packets.
+pub fn saved_named<'a>(matches: &ArgMatches<'a>) -> Saved<'a>
+    ensures { saved_facts result ≡ saved_in (values_in (found_of matches.now)) }
+{
+    Saved {
+        drops: matches.get_str("drops"),
+        passes: matches.get_str("passes"),
     }
 }

@@ -13,6 +13,17 @@ pub enum TableSize {
     Large,
 }
 
+/// What the report tells of a packet that has a line.
+#[derive(Clone, Copy, Debug, PartialEq, Eq)]
+pub enum Lines {
+    /// Its verdict.
+    Plain,
+    /// Beside its verdict what it is, and the rule that decided.
+    Explained,
+    /// The same in an object of JSON.
+    Json,
+}
+
 /// What the options set.
 #[derive(Clone, Copy, Debug, PartialEq, Eq)]
 pub struct Options {
@@ -22,8 +33,12 @@ pub struct Options {
     pub tables: TableSize,
     /// Which packets have a line in the report.
     pub shown: Shown,
+    /// What these lines tell.
+    pub lines: Lines,
     /// Whether the report tells how many packets each rule decided.
     pub hits: bool,
+    /// Whether verdicts are written as packets come.
+    pub live: bool,
     pub ghost few: { (1 ≤ workers) × (workers ≤ 16) },
 }
 
@@ -57,9 +72,17 @@ pub enum Origin<'a> {
     Interfaces(Interfaces<'a>),
 }
 
+/// The names of the files that get the packets that were dropped, and those that passed, where they are to be saved.
+#[derive(Clone, Copy, Debug, PartialEq, Eq)]
+pub struct Saved<'a> {
+    pub drops: Option<&'a str>,
+    pub passes: Option<&'a str>,
+}
+
 /// What the words of the command line ask for.
 #[derive(Debug, Drop)]
 pub struct Asked<'a> {
     pub options: Options,
     pub origin: Origin<'a>,
+    pub saved: Saved<'a>,
 }

@@ -1,63 +1,45 @@
 //! The command line: the words with which the program is called, read by `clap`.
-ghost use Rattle.std.specs.Prelude.{◌≡◌, ◌≢◌, ◌⊎◌, List, ◌∷◌, IfErr, IfOk, MatchResult, None, false};
+ghost use Rattle.std.specs.Prelude.{◌≡◌, ◌≢◌, ◌⊎◌, List, ◌∷◌, IfErr, IfOk, MatchResult, false};
 ghost use Rattle.clap.specs.Walk.{Text, texts};
-ghost use Rattle.clap.specs.Words.{HasKind, app_of, fault_of, found_of, kind_of, one_text, rule_of};
-ghost use Rattle.racl_options.specs.CommandLine.{HoldsNumber, HoldsNumbers, IsRequest, OptionFacts, OptionName, Spells, SpellsOptions};
-ghost use Rattle.racl_options.specs.CommandLine.{option_facts, racl, shown_at, size_at, with_options, with_selections, without_options};
+ghost use Rattle.clap.specs.Words.{HasKind, app_of, fault_of, kind_of, rule_of};
+ghost use Rattle.racl_options.specs.Asking.{AskForNothing, AskForRun, AskedFacts, asked_facts};
 ghost use Rattle.racl_options.specs.CommandLine as line;
-ghost use Rattle.racl_options.specs.Options.{AreNames, AreSettings, Setting, Use, facts_of, named_by, words_as};
-ghost use Rattle.racl_options.specs.Origins.{AskForRun, Name, NamesNone, OriginFacts, origin_facts};
-ghost use Rattle.racl_options.specs.Selections.{hits_rule, only_rule, summary_rule};
-ghost use Rattle.racl_options.specs.Sizes.{tables_rule};
+ghost use Rattle.racl_options.specs.CommandLine.{IsRequest, racl, with_flags, with_options, with_reports, with_selections, with_values, without_options};
+ghost use Rattle.racl_options.specs.Options.{AreNames, AreSettings, Setting, Use, asked_as, named_by, words_as};
+ghost use Rattle.racl_options.specs.Origins.{Name, OriginFacts};
 
-use crate::naming::{Refusal, origin_named};
-use crate::selection::{hits_named, shown_named};
-use crate::settings::{Asked, Options, TableSize};
-use crate::size::size_named;
+use crate::asking::asked_by;
+use crate::naming::Refusal;
+use crate::settings::Asked;
 use clap::error::ErrorKind;
-use clap::{Arg, ArgAction, ArgMatches, Command, Error, value_parser};
-use racl_io::Shown;
-use session_state::Timeouts;
+use clap::{Arg, ArgAction, Command, Error, value_parser};
 use std::alloc::{AllocError, Global};
 
 /// Reads the words, of which the first is the program's name. An `Err` is a request for the help
 /// or the version, a mistake in the words, or that memory ran out, by its kind.
 pub fn options<'a>(alloc: Global, words: &'a [&'a str]) -> Result<Asked<'a>, Error>
-    ensures ok { IfOk result (λ a. AskForRun (texts words.entry.now) (option_facts a.options) (origin_facts a.origin)) }
+    ensures ok { IfOk result (λ a. AskForRun (texts words.entry.now) (asked_facts a)) }
 
     // Words that ask for something, and those that a user writes for it, are refused for want of
     // memory alone.
-    ensures accepts { (facts : OptionFacts) (origin : OriginFacts) → AskForRun (texts words.entry.now) facts origin
-        → MatchResult result (λ a. (option_facts a.options ≡ facts) × (origin_facts a.origin ≡ origin))
-        (λ e. kind_of e ≡ ErrorKind.OutOfMemory) }
+    ensures accepts { (asked : AskedFacts) → AskForRun (texts words.entry.now) asked
+        → MatchResult result (λ a. asked_facts a ≡ asked) (λ e. kind_of e ≡ ErrorKind.OutOfMemory) }
     ensures written { (program : Text) (settings : List Setting) (uses : List Use) (names : List Text) (origin : OriginFacts)
         → AreSettings settings → AreNames names → Name (named_by uses names) origin
         → texts words.entry.now ≡ program ∷ words_as settings uses names
-        → MatchResult result (λ a. (option_facts a.options ≡ facts_of settings) × (origin_facts a.origin ≡ origin))
-        (λ e. kind_of e ≡ ErrorKind.OutOfMemory) }
+        → MatchResult result (λ a. asked_facts a ≡ asked_as settings origin) (λ e. kind_of e ≡ ErrorKind.OutOfMemory) }
 
-    // An error has a kind of the words' fault, or the names are no files to be read, or no tables of a size or no packets
-    // to be shown are asked for, or memory ran out.
+    // An error has a kind of the words' fault, or they have none and yet ask for nothing, or memory ran out.
     ensures refuses { IfErr result (λ e. HasKind (fault_of racl (texts words.entry.now)) e
-        ⊎ ((kind_of e ≡ ErrorKind.ValueValidation) × (NamesNone (texts words.entry.now)
-        ⊎ (size_at (texts words.entry.now) ≡ None) ⊎ (shown_at (texts words.entry.now) ≡ None)))) }
+        ⊎ ((kind_of e ≡ ErrorKind.ValueValidation) × AskForNothing (texts words.entry.now))) }
 {
     let mut command = command(alloc)?;
     let matches = match command.try_get_matches_from_mut(words) {
         Ok(matches) => matches,
         Err(error) => return Err(error),
     };
-    let Some(tables) = size_named(&matches) else {
-        return Err(command.error(ErrorKind::ValueValidation, NO_SIZE)?);
-    };
-    let Some(shown) = shown_named(&matches) else {
-        return Err(command.error(ErrorKind::ValueValidation, NOT_SHOWN)?);
-    };
-    match origin_named(alloc, &matches) {
-        Ok(origin) => Ok(Asked {
-            options: read_options(&matches, tables, shown, hits_named(&matches)),
-            origin,
-        }),
+    match asked_by(alloc, &matches) {
+        Ok(asked) => Ok(asked),
         Err(Refusal::Memory) => Err(Error::from(AllocError)),
         Err(Refusal::Mistake(text)) => Err(command.error(ErrorKind::ValueValidation, text)?),
     }
@@ -104,15 +86,10 @@ Exit status:
   3  done, but the capture was cut off
   4  memory or device";
 
-const NO_SIZE: &str = "--tables takes standard or large";
-
-const NOT_SHOWN: &str = "--only takes pass or drop";
-
 fn command<'a>(alloc: Global) -> Result<Command<'a>, AllocError>
     ensures { IfOk result (λ c. app_of c ≡ racl) }
 {
-    command_with_selections(alloc)?
-        .arg(hits_flag(alloc))?
+    command_with_flags(alloc)?
         .arg(file_argument(
             alloc,
             "POLICY",
@@ -121,15 +98,70 @@ fn command<'a>(alloc: Global) -> Result<Command<'a>, AllocError>
         .arg(file_argument(alloc, "CAPTURE", "The capture's file"))
 }
 
-// The command with its options up to the flag for the hits, and no file yet.
+// The command with its options and flags, and no file yet.
+fn command_with_flags<'a>(alloc: Global) -> Result<Command<'a>, AllocError>
+    ensures { IfOk result (λ c. app_of c ≡ with_flags) }
+{
+    command_with_reports(alloc)?
+        .arg(flag(
+            alloc,
+            "explain",
+            "On each line what the packet is, and the rule that decided",
+        ))?
+        .arg(flag(alloc, "json", "Each line and the totals as an object of JSON"))?
+        .arg(flag(alloc, "live", "Lines are written as packets come"))
+}
+
+// The command with its options and the flags that say what is reported, up to the hits.
+fn command_with_reports<'a>(alloc: Global) -> Result<Command<'a>, AllocError>
+    ensures { IfOk result (λ c. app_of c ≡ with_reports) }
+{
+    command_with_values(alloc)?
+        .arg(flag(alloc, "summary", "No lines of packets"))?
+        .arg(flag(
+            alloc,
+            "hits",
+            "Behind the totals, how many packets each rule decided",
+        ))
+}
+
+// The command with its options that have a value, and no flag yet.
+fn command_with_values<'a>(alloc: Global) -> Result<Command<'a>, AllocError>
+    ensures { IfOk result (λ c. app_of c ≡ with_values) }
+{
+    command_with_selections(alloc)?
+        .arg(value_option(
+            alloc,
+            "drops",
+            "FILE",
+            "Saves the packets that are dropped, as a capture",
+        ))?
+        .arg(value_option(
+            alloc,
+            "passes",
+            "FILE",
+            "Saves the packets that pass, as a capture",
+        ))
+}
+
+// The command with its options that have a value, up to the packets that are shown.
 fn command_with_selections<'a>(alloc: Global) -> Result<Command<'a>, AllocError>
     ensures { IfOk result (λ c. app_of c ≡ with_selections) }
 {
     command_with_options(alloc)?
-        .arg(tables_option(alloc))?
+        .arg(value_option(
+            alloc,
+            "tables",
+            "standard|large",
+            "Room for sessions, `large` for many flows [default: standard]",
+        ))?
         .arg(interface_option(alloc))?
-        .arg(only_option(alloc))?
-        .arg(summary_flag(alloc))
+        .arg(value_option(
+            alloc,
+            "only",
+            "pass|drop",
+            "The lines of packets alone that pass, or are dropped",
+        ))
 }
 
 // The command with its options of a number, and no other yet.
@@ -204,15 +236,15 @@ fn number_option<'a>(
         .help(help)
 }
 
-fn tables_option<'a>(alloc: Global) -> Arg<'a>
-    ensures rule { rule_of result ≡ tables_rule }
+fn value_option<'a>(alloc: Global, name: &'a str, value: &'a str, help: &'a str) -> Arg<'a>
+    ensures rule { rule_of result ≡ line.value_rule name.entry.now }
     ensures local { result.global ≡ false }
 {
-    Arg::new(alloc, "tables")
-        .long("tables")
+    Arg::new(alloc, name)
+        .long(name)
         .action(ArgAction::Set)
-        .value_name("standard|large")
-        .help("Room for sessions, `large` for many flows [default: standard]")
+        .value_name(value)
+        .help(help)
 }
 
 fn interface_option<'a>(alloc: Global) -> Arg<'a>
@@ -226,35 +258,14 @@ fn interface_option<'a>(alloc: Global) -> Arg<'a>
         .help("The capture of the interface with number N, 0 to 255; once for each of them")
 }
 
-fn only_option<'a>(alloc: Global) -> Arg<'a>
-    ensures rule { rule_of result ≡ only_rule }
+fn flag<'a>(alloc: Global, name: &'a str, help: &'a str) -> Arg<'a>
+    ensures rule { rule_of result ≡ line.flag_rule name.entry.now }
     ensures local { result.global ≡ false }
 {
-    Arg::new(alloc, "only")
-        .long("only")
-        .action(ArgAction::Set)
-        .value_name("pass|drop")
-        .help("The lines of packets alone that pass, or are dropped")
-}
-
-fn summary_flag<'a>(alloc: Global) -> Arg<'a>
-    ensures rule { rule_of result ≡ summary_rule }
-    ensures local { result.global ≡ false }
-{
-    Arg::new(alloc, "summary")
-        .long("summary")
+    Arg::new(alloc, name)
+        .long(name)
         .action(ArgAction::SetTrue)
-        .help("No lines of packets")
-}
-
-fn hits_flag<'a>(alloc: Global) -> Arg<'a>
-    ensures rule { rule_of result ≡ hits_rule }
-    ensures local { result.global ≡ false }
-{
-    Arg::new(alloc, "hits")
-        .long("hits")
-        .action(ArgAction::SetTrue)
-        .help("Behind the totals, how many packets each rule decided")
+        .help(help)
 }
 
 fn file_argument<'a>(alloc: Global, id: &'a str, help: &'a str) -> Arg<'a>
@@ -262,40 +273,4 @@ fn file_argument<'a>(alloc: Global, id: &'a str, help: &'a str) -> Arg<'a>
     ensures local { result.global ≡ false }
 {
     Arg::new(alloc, id).action(ArgAction::Set).help(help)
-}
-
-fn read_options(matches: &ArgMatches<'_>, tables: TableSize, shown: Shown, hits: bool) -> Options
-    requires { HoldsNumbers (one_text (found_of matches.now)) }
-    ensures spelt { SpellsOptions (one_text (found_of matches.now)) (option_facts result) }
-    ensures tables { result.tables ≡ tables }
-    ensures shown { result.shown ≡ shown }
-    ensures hits { result.hits ≡ hits }
-{
-    let workers = number_at(matches, "workers");
-    let established = number_at(matches, "tcp-established");
-    let transient = number_at(matches, "tcp-transient");
-    let udp = number_at(matches, "udp");
-    Options {
-        workers: workers as usize,
-        times: Timeouts {
-            established,
-            transient,
-            udp,
-        },
-        tables,
-        shown,
-        hits,
-    }
-}
-
-fn number_at(matches: &ArgMatches<'_>, name: &str) -> u32
-    requires { HoldsNumber line.most_seconds (one_text (found_of matches.now) name.now) }
-    ensures { (option : OptionName)
-        → HoldsNumber (line.most_of option) (one_text (found_of matches.now) name.now)
-        → Spells option (one_text (found_of matches.now) name.now) result }
-{
-    match matches.get_one::<u32>(name) {
-        Some(number) => number,
-        None => unreachable!(),
-    }
 }

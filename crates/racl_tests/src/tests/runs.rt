@@ -1,5 +1,5 @@
 //! A whole input through the program, with devices that are slow or fail.
-use racl_cli::{Options, TableSize};
+use racl_cli::{Lines, Options, TableSize};
 use racl_io::Shown;
 use session_state::Timeouts;
 
@@ -43,5 +43,7 @@ const DEFAULTS: Options = Options {
     },
     tables: TableSize::Standard,
     shown: Shown::Every,
+    lines: Lines::Plain,
     hits: false,
+    live: false,
 };

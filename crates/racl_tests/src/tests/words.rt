@@ -2,7 +2,7 @@
 use clap::Error;
 use racl_io::Shown;
 use racl_options::{
-    CaptureFile, Files, Interfaces, Options, Origin, TableSize, options, words_status,
+    CaptureFile, Files, Interfaces, Lines, Options, Origin, Saved, TableSize, options, words_status,
 };
 use session_state::Timeouts;
 use std::alloc::{AllocError, Global};
@@ -90,14 +90,18 @@ fn words_set_the_options(rt: HostRuntime) {
         times: TIMES,
         tables: TableSize::Standard,
         shown: Shown::Every,
+        lines: Lines::Plain,
         hits: false,
+        live: false,
     };
     const MOST: Options = Options {
         workers: 16,
         times: TIMES,
         tables: TableSize::Large,
         shown: Shown::Every,
+        lines: Lines::Plain,
         hits: false,
+        live: false,
     };
     const CASES: [(&[&str], Options); 3] = [
         (&["racl"], DEFAULTS),
@@ -123,6 +127,49 @@ fn words_select_packets(rt: HostRuntime) {
     ];
     for (words, shown) in CASES {
         assert_eq!(rt; shown_after(rt.alloc(), words), shown);
+    }
+}
+
+fn lines_after<'a>(alloc: Global, words: &'a [&'a str]) -> Option<(Lines, bool)> {
+    set_after(alloc, words).map(|options| (options.lines, options.live))
+}
+
+#[test]
+fn words_select_what_lines_tell(rt: HostRuntime) {
+    const CASES: [(&[&str], Option<(Lines, bool)>); 7] = [
+        (&["racl", "--explain"], Some((Lines::Explained, false))),
+        (&["racl", "--explain", "--json"], Some((Lines::Json, false))),
+        (&["racl", "--live", "p", "-"], Some((Lines::Plain, true))),
+        (&["racl", "--json", "--hits"], None),
+        (&["racl", "--live"], None),
+        (&["racl", "--live", "--explain", "p", "-"], None),
+        (&["racl", "--live", "--workers=2", "p", "-"], None),
+    ];
+    for (words, lines) in CASES {
+        assert_eq!(rt; lines_after(rt.alloc(), words), lines);
+    }
+}
+
+fn saved_after<'a>(alloc: Global, words: &'a [&'a str]) -> Option<Saved<'a>> {
+    match options(alloc, words) {
+        Ok(asked) => Some(asked.saved),
+        Err(_) => None,
+    }
+}
+
+#[test]
+fn words_name_files_that_get_packets(rt: HostRuntime) {
+    const NAMED: Saved<'static> = Saved {
+        drops: Some("d"),
+        passes: None,
+    };
+    const CASES: [(&[&str], Option<Saved<'static>>); 3] = [
+        (&["racl", "--drops=d", "p", "c"], Some(NAMED)),
+        (&["racl", "--passes", "d"], None),
+        (&["racl", "--live", "--drops=d", "p", "-"], None),
+    ];
+    for (words, saved) in CASES {
+        assert_eq!(rt; saved_after(rt.alloc(), words), saved);
     }
 }
 

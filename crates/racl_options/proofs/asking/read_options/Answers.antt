@@ -1,7 +1,7 @@
 use Rattle.std.proofs.Common.{arith}
 use Rattle.racl_options.specs.CommandLine.{Workers, Established, Transient, Udp, most_of, most_seconds}
 use Rattle.racl_options.proofs.NumberLemmas.{held_below}
-use Rattle.racl_options.proofs.words.read_options.Goals as goal
+use Rattle.racl_options.proofs.asking.read_options.Goals as goal
 
 pub number_at-workers-requires : goal.number_at-workers-requires
 number_at-workers-requires c = held_below (most_of Workers) most_seconds _ (omega arith) c.requires.workers

@@ -1,0 +1,101 @@
+-- What the words ask for in all, and what of it doesn't go together (this project's profile).
+use Rattle.std.specs.Prelude.{◌≡◌, ◌&&◌, ◌||◌, ◌==◌, Bool, true, false, not, is_some, List, [], Option, option_map}
+use Rattle.clap.specs.Words.{Text, fault_of}
+use Rattle.racl_io.specs.declared.shown.Shown.{Shown}
+use Rattle.racl_io.specs.declared.shown.Shown.TheVariants.{Every, Passing, Dropped, Nothing}
+use Rattle.racl_options.specs.CommandLine.{OptionFacts, SetOptions, Values, option_facts, racl, values_at}
+use Rattle.racl_options.specs.Origins.{Name, OriginFacts, FromStandard, FromFiles, FromInterfaces, named_in, origin_facts}
+use Rattle.racl_options.specs.Selections.{drops_id, passes_id}
+use Rattle.racl_options.specs.declared.settings.Asked.{Asked}
+use Rattle.racl_options.specs.declared.settings.Lines.{Lines}
+use Rattle.racl_options.specs.declared.settings.Lines.TheVariants.{Plain, Explained, Json}
+use Rattle.racl_options.specs.declared.settings.Saved.{Saved}
+
+-- the names of the files that get the packets that were dropped, and those that passed
+pub record SavedFacts : Type 0 where
+  pub drops : Option Text
+  pub passes : Option Text
+
+abbrev pub saved_facts : Saved → SavedFacts
+saved_facts s = record { drops = option_map (λ t. t.now) s.drops; passes = option_map (λ t. t.now) s.passes }
+
+abbrev pub saved_in : Values → SavedFacts
+saved_in values = record { drops = values.first drops_id; passes = values.first passes_id }
+
+-- all that is asked for, as a value
+pub record AskedFacts : Type 0 where
+  pub options : OptionFacts
+  pub origin : OriginFacts
+  pub saved : SavedFacts
+
+abbrev pub asked_facts : Asked → AskedFacts
+asked_facts a = record { options = option_facts a.options; origin = origin_facts a.origin; saved = saved_facts a.saved }
+
+-- what a parse holds says this
+pub record Say (values : Values) (asked : AskedFacts) : Type 0 where
+  pub options : SetOptions values asked.options
+  pub names : Name (named_in values) asked.origin
+  pub saved : saved_in values ≡ asked.saved
+
+-- ---- what goes together
+
+abbrev pub are_files : OriginFacts → Bool
+are_files FromStandard = false
+are_files (FromFiles policy capture) = true
+are_files (FromInterfaces policy captures) = false
+
+abbrev pub is_saved : SavedFacts → Bool
+is_saved saved = is_some saved.drops || is_some saved.passes
+
+abbrev pub is_plain : Lines → Bool
+is_plain Plain = true
+is_plain Explained = false
+is_plain Json = false
+
+abbrev pub is_json : Lines → Bool
+is_json Plain = false
+is_json Explained = false
+is_json Json = true
+
+abbrev pub is_every : Shown → Bool
+is_every Every = true
+is_every Passing = false
+is_every Dropped = false
+is_every Nothing = false
+
+-- the options beside which verdicts can be written as packets come: one worker, and a plain line for every packet alone
+abbrev pub is_simple_run : OptionFacts → Bool
+is_simple_run options = (options.workers == 1) && (is_every options.shown && (is_plain options.lines && not options.hits))
+
+-- lines of hits would stand behind objects
+abbrev pub has_mixed_lines : OptionFacts → Bool
+has_mixed_lines options = options.hits && is_json options.lines
+
+-- verdicts can be written as packets come: of the capture in a file, and nothing is told beside them
+abbrev pub can_be_live : AskedFacts → Bool
+can_be_live asked = are_files asked.origin && (not (is_saved asked.saved) && is_simple_run asked.options)
+
+-- Packets are saved of the capture in a file. Lines of hits don't stand behind objects. Verdicts
+-- are written as packets come where they can be.
+abbrev pub fit_together : AskedFacts → Bool
+fit_together asked = (not (is_saved asked.saved) || are_files asked.origin)
+    && (not (has_mixed_lines asked.options)
+    && (not asked.options.live || can_be_live asked))
+
+-- what a parse holds asks for this
+pub record AskBy (values : Values) (asked : AskedFacts) : Type 0 where
+  pub say : Say values asked
+  pub fit : fit_together asked ≡ true
+
+-- ---- words
+
+-- the command finds no fault in the words, and they ask for this
+pub record AskForRun (words : List Text) (asked : AskedFacts) : Type 0 where
+  pub faultless : fault_of racl words ≡ []
+  pub asks : AskBy (values_at words) asked
+
+-- the command finds no fault in the words, and yet they ask for nothing: they name no input, or none that goes with their
+-- options, or no tables of a size or no packets to be shown are asked for
+pub record AskForNothing (words : List Text) : Type 0 where
+  pub faultless : fault_of racl words ≡ []
+  pub nothing : (asked : AskedFacts) → AskBy (values_at words) asked → ⊥
