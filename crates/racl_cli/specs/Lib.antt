@@ -2,5 +2,6 @@ pub mod Crews
 pub mod Endings
 pub mod Reads
 pub mod Runs
+pub mod Saves
 pub mod Statuses
 pub mod inner

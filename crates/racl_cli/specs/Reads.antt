@@ -54,13 +54,13 @@ pub record AnswersInput (options : Options) (bytes : List ℕ) (result : Result 
 abbrev pub AreKnown : Option (List ℕ) → List ℕ → Type 0
 AreKnown given bytes = IfSome given (λ known. bytes ≡ known)
 
--- this is the outcome of all bytes that the source had, which are kept where hits are asked for
-pub record HasKept (options : Options) (given : Option (List ℕ)) (kept : List ℕ) (outcome : Outcome) : Type 0 where
+-- this is the outcome of all bytes that the source had, which are kept where that is asked for
+pub record HasKept (options : Options) (given : Option (List ℕ)) (keep : Bool) (kept : List ℕ) (outcome : Outcome) : Type 0 where
   pub bytes : List ℕ
   pub known : AreKnown given bytes
   pub few : length bytes ≤ most_bytes
   pub answers : AnswersInput options bytes (Ok outcome)
-  pub same : options.hits ≡ true → kept ≡ bytes
+  pub same : keep ≡ true → kept ≡ bytes
 
 -- memory ran out, reading failed, or there are too many bytes after so many
 abbrev pub IsUnread : ℕ → Option (List ℕ) → Fault → Type 0

@@ -21,7 +21,11 @@ use Rattle.racl_io.specs.declared.report.Totals.{Totals}
 use Rattle.racl_io.specs.Inputs.{AreCaptures, DigitsFacts, IsContent, IsInput, InputFacts, most_bytes}
 use Rattle.racl_io.specs.Reports.{totals_of}
 use Rattle.racl_io.specs.ShownReports.{report_shown}
+use Rattle.racl_options.specs.declared.settings.Lines.{Lines}
+use Rattle.racl_options.specs.declared.settings.Lines.TheVariants.{Plain, Explained, Json}
 use Rattle.racl_views.specs.Hits.{AreHits}
+use Rattle.racl_views.specs.Views.{IsTold, RunFacts}
+use Rattle.racl_views.specs.declared.view.View.TheVariants as view
 
 -- ---- inputs
 
@@ -125,30 +129,40 @@ pub record HasOutcome (size : TableSize) (times : Timeouts) (bytes : List ℕ) (
 
 -- ---- reports
 
--- what is told of hits on the bytes of an input, where it is asked for
-abbrev pub AreHitsOn : Bool → List ℕ → PolicyFacts → List PacketFacts → List Verdict → List ℕ → Type 0
-AreHitsOn asked bytes policy packets verdicts told =
-    (parts : InputFacts) × IsInput bytes parts × AreHits asked policy parts.policy packets verdicts told
+-- the lines of packets and the totals, in the form that is asked for
+abbrev pub AreLines : Lines → RunFacts → List ℕ → Type 0
+AreLines Plain run lines = lines ≡ report_shown run.shown run.verdicts run.captures
+AreLines Explained run lines = IsTold view.Explained run lines
+AreLines Json run lines = IsTold view.Json run lines
 
--- An input was read, workers gave these verdicts on its packets, and after what was written before stands the report that
--- tells them, and behind it what is told of hits. The verdicts are those of the one-thread filter where none of them says no-pages. Where it is known which
--- bytes the reader gives, these are the input.
+-- what is told of a run on an input: its lines, and behind them the hits, where these are asked for
+pub record IsReport (options : Options) (bytes : List ℕ) (policy : PolicyFacts) (packets : List PacketFacts) (outcome : Outcome) (report : List ℕ) : Type 0 where
+  pub parts : InputFacts
+  pub parted : IsInput bytes parts
+  pub lines : List ℕ
+  pub are : AreLines options.lines (record { policy = policy; text = parts.policy; packets = packets; verdicts = outcome.verdicts; captures = outcome.captures; shown = options.shown }) lines
+  pub hits : List ℕ
+  pub told : AreHits options.hits policy parts.policy packets outcome.verdicts hits
+  pub all : report ≡ lines ++ hits
+
+-- An input was read, workers gave these verdicts on its packets, and after what was written before stands the report on it.
+-- The verdicts are those of the one-thread filter where none of them says no-pages. Where it is known which bytes the reader
+-- gives, these are the input.
 pub record HasRun (options : Options) (given old new : Option (List ℕ)) (totals : Totals) : Type 0 where
   pub bytes : List ℕ
   pub known : IfSome given (λ known. bytes ≡ known)
   pub policy : PolicyFacts
   pub packets : List PacketFacts
-  pub captures : List Captured
-  pub read : IsRead bytes policy packets captures
-  pub verdicts : List Verdict
-  pub by_workers : ByWorkers options policy packets verdicts
-  pub by_one_thread : HavePages verdicts → ByOneThread options.tables options.times policy packets verdicts
-  pub hits : List ℕ
-  pub told : AreHitsOn options.hits bytes policy packets verdicts hits
-  pub text : Appends old new (report_shown options.shown verdicts captures ++ hits)
-  pub counted : totals ≡ totals_of verdicts captures
+  pub outcome : Outcome
+  pub read : IsRead bytes policy packets outcome.captures
+  pub by_workers : ByWorkers options policy packets outcome.verdicts
+  pub by_one_thread : HavePages outcome.verdicts → ByOneThread options.tables options.times policy packets outcome.verdicts
+  pub report : List ℕ
+  pub told : IsReport options bytes policy packets outcome report
+  pub text : Appends old new report
+  pub counted : totals ≡ totals_of outcome.verdicts outcome.captures
 
 -- what was reported on the bytes is the outcome of the one-thread filter, or one of workers that says no-pages
 pub record HasReported (options : Options) (bytes : List ℕ) (one_thread : Outcome) (old new : Option (List ℕ)) (totals : Totals) : Type 0 where
   pub run : HasRun options (Some bytes) old new totals
-  pub same : HavePages run.verdicts → one_thread ≡ record { verdicts = run.verdicts; captures = run.captures }
+  pub same : HavePages run.outcome.verdicts → one_thread ≡ run.outcome

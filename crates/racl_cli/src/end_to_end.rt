@@ -1,24 +1,23 @@
 //! One run of the filter, from the bytes of an input to the report.
-ghost use Rattle.std.specs.Prelude.{[], ◌≡◌, ◌≢◌, ◌+◌, ◌-◌, ◌<◌, ◌≤◌, ◌^◌, ◌++◌, ◌⊎◌, ◌↔◌, Err, IfOk, IfErr, IfSome, MatchResult, length};
+ghost use Rattle.std.specs.Prelude.{[], ◌≡◌, ◌≢◌, ◌+◌, ◌-◌, ◌<◌, ◌≤◌, ◌^◌, ◌⊎◌, ◌↔◌, Err, IfOk, IfErr, IfSome, MatchResult, length};
 ghost use Rattle.std.specs.Io.KnownBytes.{IsAtEnd};
 ghost use Rattle.racl_io.specs.declared.fault.Fault.{Fault};
 ghost use Rattle.racl_io.specs.declared.fault.Fault.TheVariants.{Memory};
 ghost use Rattle.racl_io.specs.Faults.{IsInputFault, IsSystemFault, RefusesRead};
 ghost use Rattle.racl_io.specs.Inputs.{most_bytes};
-ghost use Rattle.racl_io.specs.Reports.{totals_of};
-ghost use Rattle.racl_io.specs.ShownReports.{report_shown};
-ghost use Rattle.racl_io.specs.Sinks.{Writes};
 ghost use Rattle.racl_io.specs.Transfers.{GaveAtMost, HasReadWithin};
 ghost use Rattle.racl_cli.specs.Reads.{AnswersRead, HasKept};
 ghost use Rattle.racl_cli.specs.Runs.{HasOutcome, HasReported, HasRun, Outcome};
+ghost use Rattle.racl_cli.specs.Saves.{HasRunSaving, MayFail};
 
 use crate::at_hand::AtHand;
 use crate::captures::judge_captures;
 use crate::opening::{Opened, open_input};
 use crate::outcome::Judged;
 use crate::streaming::{Front, front_bytes, judge_headed};
-use crate::viewing::hits_told;
-use racl_io::{Fault, MOST_BYTES, Shown, Sink, Source, Totals, read_until, write_all, write_shown};
+use crate::saving::{Saves, save_packets};
+use crate::viewing::{needs_bytes, write_judged};
+use racl_io::{Fault, MOST_BYTES, Sink, Source, Totals, read_until};
 use racl_options::Options;
 use std::alloc::Global;
 use std::sync::Wait;
@@ -94,21 +93,22 @@ fn judge_source<R: Source + Send, T: Threads + Wait + Sync>(
     judge_whole(rt, alloc, options, reader, bytes)
 }
 
-// What the packets of an input met that is read, and where hits are asked for, its bytes.
+// What the packets of an input met that is read, and where they are to be kept, its bytes.
 fn judge_kept<R: Source + Send, T: Threads + Wait + Sync>(
     rt: &T,
     alloc: Global,
     options: &Options,
     reader: &mut R,
+    keep: bool,
     kept: &mut Vec<u8>,
 ) -> Result<Judged, Fault>
     requires sound { R.failures reader.old < 2 ^ 64 - 1 }
     requires empty { kept.old.items ≡ [] }
-    ensures kept { IfOk result (HasKept options.now (R.bytes reader.old) kept.new.items) }
+    ensures kept { IfOk result (HasKept options.now (R.bytes reader.old) keep kept.new.items) }
     ensures answers { AnswersRead options.now [] (R.bytes reader.old) result }
     ensures within { HasReadWithin R.bytes R.failures (most_bytes + 1) reader.old reader.new result }
 {
-    if !options.hits {
+    if !keep {
         return judge_source(rt, alloc, options, reader);
     }
     if !read_until(reader, kept, MOST_BYTES + 1)? {
@@ -120,28 +120,9 @@ fn judge_kept<R: Source + Send, T: Threads + Wait + Sync>(
     judge_source(rt, alloc, options, &mut again)
 }
 
-// Writes the report on what was judged, and behind it what is told of hits.
-fn write_told<W: Sink, T: Threads>(
-    beside: Option<&T>,
-    alloc: Global,
-    writer: &mut W,
-    shown: Shown,
-    judged: &Judged,
-    hits: &[u8],
-) -> Result<Totals, Fault>
-    requires { W.failures writer.old < 2 ^ 64 - 1 }
-    ensures { Writes W.bytes W.failures writer.old writer.new (report_shown shown judged.now.verdicts judged.now.captures ++ hits.now) (totals_of judged.now.verdicts judged.now.captures) result }
-{
-    let totals = write_shown(
-        beside,
-        alloc,
-        writer,
-        shown,
-        &judged.verdicts,
-        &judged.captures,
-    )?;
-    write_all(writer, hits)?;
-    Ok(totals)
+// Whose threads may make lines of the report beside this one.
+fn beside<'a, T>(rt: &'a T, options: &Options) -> Option<&'a T> {
+    if options.workers > 1 { Some(rt) } else { None }
 }
 
 /// Reads an input, filters its captures by its policy, and writes the report.
@@ -180,10 +161,34 @@ pub fn run<R: Source + Send, W: Sink, T: Threads + Wait + Sync>(
     ensures unwritten { IfErr result (λ fault. fault ≢ Fault.Write → writer.new ≡ writer.old) }
 {
     let mut bytes = Vec::new(alloc);
-    let judged = judge_kept(rt, alloc, options, reader, &mut bytes)?;
-    let Ok(hits) = hits_told(alloc, options, &bytes, &judged.verdicts) else {
-        return Err(Fault::Memory);
-    };
-    let beside = if options.workers > 1 { Some(rt) } else { None };
-    write_told(beside, alloc, writer, options.shown, &judged, &hits)
+    let judged = judge_kept(rt, alloc, options, reader, needs_bytes(options), &mut bytes)?;
+    write_judged(beside(rt, options), alloc, writer, options, &bytes, &judged)
+}
+
+/// Reads an input, filters its captures by its policy, and writes the report, as `run` does; and then saves packets of it.
+///
+/// Nothing is written before the whole input was judged, and nothing is saved before the report is written.
+pub fn run_saving<R: Source + Send, W: Sink, S: Sink, T: Threads + Wait + Sync>(
+    rt: &T,
+    alloc: Global,
+    options: &Options,
+    reader: &mut R,
+    writer: &mut W,
+    saves: &mut Saves<S>,
+) -> Result<Totals, Fault>
+    requires reader { R.failures reader.old < 2 ^ 64 - 1 }
+    requires writer { W.failures writer.old < 2 ^ 64 - 1 }
+    requires drops { MayFail S.failures saves.old.drops }
+    requires passes { MayFail S.failures saves.old.passes }
+    ensures ok { IfOk result (HasRunSaving S.bytes options.now (R.bytes reader.old) (W.bytes writer.old) (W.bytes writer.new) saves.old saves.new) }
+    ensures fault { IfErr result (λ fault. IsSystemFault fault ⊎ IfSome (R.bytes reader.old) (λ bytes. IsInputFault bytes fault)) }
+    ensures refuses { IfSome (R.bytes reader.old) (λ bytes. (fault : Fault) → IsInputFault bytes fault → RefusesRead fault result) }
+    ensures far { GaveAtMost (R.bytes reader.old) (R.bytes reader.new) (most_bytes + 1) }
+    ensures unwritten { IfErr result (λ fault. fault ≢ Fault.Write → (writer.new ≡ writer.old) × (saves.new ≡ saves.old)) }
+{
+    let mut bytes = Vec::new(alloc);
+    let judged = judge_kept(rt, alloc, options, reader, true, &mut bytes)?;
+    let totals = write_judged(beside(rt, options), alloc, writer, options, &bytes, &judged)?;
+    save_packets(&bytes, &judged.verdicts, saves)?;
+    Ok(totals)
 }

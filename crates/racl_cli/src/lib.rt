@@ -11,14 +11,16 @@ mod laws;
 mod message;
 mod opening;
 mod outcome;
+mod saving;
 mod sized;
 mod streaming;
 mod viewing;
 
-pub use end_to_end::run;
+pub use end_to_end::{run, run_saving};
 pub use exits::{ending, failure_ending, hint, remark, status, words_ending};
 pub use laws::each_input_has_one_outcome;
 pub use message::{Ending, Hint, Message, Remark, Unopened};
+pub use saving::Saves;
 pub use racl_io::{
     Device, DeviceFault, Fault, Form, Joined, MOST_BYTES, Marked, Other, Sink, Source, Totals,
     marked, read_until,

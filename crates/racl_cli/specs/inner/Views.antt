@@ -1,16 +1,52 @@
 -- Captures that are gone over once more.
-use Rattle.std.specs.Prelude.{◌≡◌, ◌++◌, ℕ, true, List, Option}
+use Rattle.std.specs.Prelude.{◌≡◌, ◌++◌, ◌||◌, ℕ, Bool, true, not, List, Option, Result}
 use Rattle.packet_view.specs.Captures.{PacketFacts}
+use Rattle.acl_policy.specs.Policies.{IsPolicyText, PolicyFacts, policy_facts}
+use Rattle.racl_io.specs.declared.fault.Fault.{Fault}
 use Rattle.racl_io.specs.declared.report.Captured.{Captured}
-use Rattle.racl_io.specs.Inputs.{NumberedFacts}
+use Rattle.racl_io.specs.declared.report.Totals.{Totals}
+use Rattle.racl_io.specs.Inputs.{InputFacts, IsInput, NumberedFacts}
+use Rattle.racl_io.specs.Reports.{totals_of}
+use Rattle.racl_io.specs.Sinks.{Writes}
+use Rattle.racl_options.specs.Asking.{is_plain}
+use Rattle.racl_options.specs.declared.settings.Lines.{Lines}
 use Rattle.racl_options.specs.declared.settings.Options.{Options}
 use Rattle.racl_views.specs.CapturePackets.{HavePackets}
+use Rattle.racl_views.specs.Views.{RunFacts}
 use Rattle.racl_views.specs.declared.capture_bytes.CaptureBytes.{CaptureBytes}
+use Rattle.racl_cli.specs.Runs.{AreLines, IsReport, Outcome}
+use Rattle.racl_cli.specs.declared.viewing.Again.{Again}
 use Rattle.racl_cli.specs.inner.Captures.{AreTakenFrom}
 
--- these bytes are those of the input where hits are asked for
+-- whether what is told of an input needs its bytes
+abbrev pub needs_bytes : Options → Bool
+needs_bytes options = options.hits || not (is_plain options.lines)
+
+-- these bytes are those of the input, where they are needed
 abbrev pub MayTell : Options → List ℕ → List ℕ → Type 0
-MayTell options bytes input = options.hits ≡ true → bytes ≡ input
+MayTell options bytes input = needs_bytes options ≡ true → bytes ≡ input
+
+-- an input that is right, gone over once more
+pub record IsAgain (bytes : List ℕ) (policy : PolicyFacts) (packets : List PacketFacts) (again : Again) : Type 0 where
+  pub parts : InputFacts
+  pub parted : IsInput bytes parts
+  pub says : IsPolicyText parts.policy policy
+  pub policy_is : policy_facts again.policy ≡ policy
+  pub text : again.text.now ≡ parts.policy
+  pub captures : HavePackets again.captures.items packets
+
+-- the lines of a run, which are written in the form that is asked for
+pub record WritesLines {W : Type 0} (bytes : W → Option (List ℕ)) (failures : W → ℕ) (old new : W) (asked : Lines) (run : RunFacts) (result : Result Totals Fault) : Type 0 where
+  pub lines : List ℕ
+  pub are : AreLines asked run lines
+  pub writes : Writes bytes failures old new lines (totals_of run.verdicts run.captures) result
+
+-- the report on an input is written
+pub record WritesReport {W : Type 0} (bytes : W → Option (List ℕ)) (failures : W → ℕ) (old new : W) (options : Options) (input : List ℕ) (policy : PolicyFacts) (packets : List PacketFacts)
+    (outcome : Outcome) (result : Result Totals Fault) : Type 0 where
+  pub report : List ℕ
+  pub is : IsReport options input policy packets outcome report
+  pub writes : Writes bytes failures old new report (totals_of outcome.verdicts outcome.captures) result
 
 -- the captures so far are the first of those that have these packets, and the others begin with the next one
 pub record AreAmid (all : List CaptureBytes) (next : Option NumberedFacts) (packets : List PacketFacts) : Type 0 where
