@@ -7,5 +7,6 @@ mod hits;
 mod parts;
 mod reports;
 mod runs;
+mod saved;
 mod windows;
 mod words;

@@ -1,4 +1,5 @@
 pub mod CapturePackets
+pub mod ChosenRecords
 pub mod Deciding
 pub mod Hits
 pub mod RuleLines

@@ -1,3 +1,5 @@
+pub mod Batches
+pub mod ChosenBytes
 pub mod Counts
 pub mod Places
 pub mod Spots
