@@ -4,16 +4,19 @@
 
 mod parts;
 mod reader;
+mod save_file;
+mod saving;
 mod unlooked;
 
 use crate::parts::{name_at, opened_or_told, opened_parts, policy_name};
 use crate::reader::{Reader, held};
+use crate::saving::{saves_to, say_unsaved};
 use crate::unlooked::say_unlooked;
 use clap::Error;
 use policy_check::check_source;
 use racl_cli::{
-    Asked, Device, Ending, Fault, Hint, Joined, Origin, Remark, Totals, ending, failure_ending,
-    hint, options, remark, run, words_ending,
+    Asked, Device, Ending, Fault, Hint, Joined, Origin, Remark, Saved, Totals, ending,
+    failure_ending, hint, options, remark, run, run_saving, words_ending,
 };
 use racl_options::check_name;
 use std::alloc::Global;
@@ -113,7 +116,20 @@ fn status_of_run<T: Threads + Wait + Sync>(
     };
     let mut reader = Joined::new(policy, parts.captures);
     let mut writer = Device::new(rt.stdout());
-    let outcome = run(threads, alloc, &asked.options, &mut reader, &mut writer);
+    let outcome = match &asked.saved {
+        Saved {
+            drops: None,
+            passes: None,
+        } => run(threads, alloc, &asked.options, &mut reader, &mut writer),
+        saved => {
+            let mut saves = saves_to(rt, saved);
+            let outcome = run_saving(threads, alloc, &asked.options, &mut reader, &mut writer, &mut saves);
+            if say_unsaved(rt, saves)? {
+                return Ok(4);
+            }
+            outcome
+        }
+    };
     let status = say_ending(rt, &ending(&outcome))?;
     say_more(rt, alloc, &asked.origin, &reader, &outcome)?;
     Ok(status)
