@@ -1,6 +1,6 @@
 -- What is answered of an input, and the report on it.
 use Rattle.std.specs.Io.KnownBytes.{Appends}
-use Rattle.std.proofs.Common.{◌≡◌, ◌≢◌, ◌∙◌, ◌≤◌, ◌++◌, ◌⊎◌, All, ℕ, Bool, List, [], ◌∷◌, None, drop, length, Option, Result, Ok, Err, IfOk, IfErr, OnOk, MatchResult, refl, sym, ap, ap₂, subst, inl, inr}
+use Rattle.std.proofs.Common.{◌≡◌, ◌≢◌, ◌∙◌, ◌≤◌, ◌++◌, ◌⊎◌, All, ℕ, Bool, List, [], ◌∷◌, None, drop, length, Option, Result, Ok, Err, IfOk, IfErr, OnOk, MatchResult, Some, true, refl, sym, ap, ap₂, subst, inl, inr}
 use Rattle.std.proofs.lemmas.List.{length-map}
 use Rattle.packet_view.specs.Captures.{End, AreRecords, IsCapture, IsCaptureFault, IsEnd, PacketFacts, RecordFacts, end_of, packets_at}
 use Rattle.packet_view.specs.declared.capture.CaptureFault.{CaptureFault}
@@ -29,11 +29,12 @@ use Rattle.racl_io.specs.declared.report.Totals.{Totals}
 use Rattle.racl_io.specs.Faults.{IsFaultOfBytes, IsFaultOfContent, IsSystemFault, capture_fault, policy_fault}
 use Rattle.racl_io.specs.Inputs.{IsContent, IsInput, InputFacts, most_bytes}
 use Rattle.racl_io.specs.Reports.{totals_of}
-use Rattle.racl_io.specs.ShownReports.{report_shown}
 use Rattle.racl_cli.specs.Crews.{AreSaid, Orders, orders_for}
-use Rattle.racl_cli.specs.Reads.{AnswersInput, HasKept, IsOutcomeOf, IsReached, IsSaid, IsUnnumbered}
-use Rattle.racl_cli.specs.inner.Views.{MayTell}
-use Rattle.racl_cli.specs.Runs.{AreHitsOn, ByWorkers, HasOutcome, HasReported, HasRun, IsRead, Outcome, bucket_deal, layout_for, told_of}
+use Rattle.racl_io.specs.Sinks.{Writes}
+use Rattle.flow_dealing.specs.WorkerRecords.{HavePages}
+use Rattle.racl_cli.specs.Reads.{AnswersInput, AreKnown, HasKept, IsReached, IsSaid, IsUnnumbered}
+use Rattle.racl_cli.specs.inner.Views.{MayTell, WritesReport, needs_bytes}
+use Rattle.racl_cli.specs.Runs.{ByWorkers, HasOutcome, HasReported, HasRun, IsRead, Outcome, bucket_deal, layout_for, told_of}
 use Rattle.racl_cli.proofs.CaptureLaws.{alone_plain, fault_of_known, fault_plain, one_truncated, plain_alone, plain_fault}
 use Rattle.racl_cli.proofs.RunLemmas.{alone_in_capture, fault_of_known_parts, fault_of_right_policy, fault_of_wrong_policy, fault_without_parts, read_in}
 
@@ -182,60 +183,69 @@ module _ (options : Options) (bytes : List ℕ) (parts : InputFacts) (policy : P
 
 -- ---- the report
 
--- what is told of hits on an input, where its bytes are kept
-abbrev pub TellsHits : Options → List ℕ → List Verdict → List ℕ → Type 0
-TellsHits options kept verdicts hits = (input : List ℕ) (policy : PolicyFacts) (packets : List PacketFacts) (captures : List Captured)
-    → MayTell options kept input → IsRead input policy packets captures → AreHitsOn options.hits input policy packets verdicts hits
+-- the report on the input that was judged is written, whichever input it is
+abbrev pub Tells : {W : Type 0} → (W → Option (List ℕ)) → (W → ℕ) → W → W → Options → List ℕ → Outcome → Result Totals Fault → Type 0
+Tells bytes failures old new options kept outcome result = (input : List ℕ) (policy : PolicyFacts) (packets : List PacketFacts)
+    → MayTell options kept input → IsRead input policy packets outcome.captures → WritesReport bytes failures old new options input policy packets outcome result
 
--- the report on what was reached was written, or a device failed
-pub has_run : (options : Options) (given old new : Option (List ℕ)) (kept : List ℕ) (outcome : Outcome) (verdicts : List Verdict) (captures : List Captured) (hits : List ℕ) (result : Result Totals Fault)
-    → outcome_of verdicts captures ≡ outcome → HasKept options given kept outcome → TellsHits options kept verdicts hits
-    → OnOk result (Appends old new (report_shown options.shown verdicts captures ++ hits)) → IfOk result (λ totals. totals ≡ totals_of verdicts captures)
-    → IfOk result (HasRun options given old new)
-has_run options given old new kept outcome verdicts captures hits (Ok totals) same k tells text counted =
-    let is : IsOutcomeOf options k.bytes (outcome_of verdicts captures) = subst (IsOutcomeOf options k.bytes) (sym same) k.answers.ok in
-    record {
-      bytes = k.bytes;
-      known = k.known;
-      policy = is.policy;
-      packets = is.packets;
-      captures = captures;
-      read = is.read;
-      verdicts = verdicts;
-      by_workers = is.reached.by_workers;
-      by_one_thread = is.reached.by_one_thread;
-      hits = hits;
-      told = tells k.bytes is.policy is.packets captures k.same is.read;
-      text = text;
-      counted = counted;
-    }
-has_run options given old new kept outcome verdicts captures hits (Err fault) same k tells text counted = tt
+module _ {W : Type 0} (bytes : W → Option (List ℕ)) (failures : W → ℕ) (old new : W) (options : Options) (given : Option (List ℕ)) (keep : Bool) (kept : List ℕ) (outcome : Outcome)
+    (result : Result Totals Fault) (k : HasKept options given keep kept outcome) (needed : needs_bytes options ≡ true → keep ≡ true)
+    (tells : Tells bytes failures old new options kept outcome result) where
+  may : MayTell options kept k.bytes
+  may asked = k.same (needed asked)
 
-pub has_reported : (options : Options) (given old new : Option (List ℕ)) (kept : List ℕ) (one_thread outcome : Outcome) (verdicts : List Verdict) (captures : List Captured) (hits : List ℕ) (result : Result Totals Fault)
-    → outcome_of verdicts captures ≡ outcome → (k : HasKept options given kept outcome) → HasOutcome options.tables options.times k.bytes one_thread → TellsHits options kept verdicts hits
-    → OnOk result (Appends old new (report_shown options.shown verdicts captures ++ hits)) → IfOk result (λ totals. totals ≡ totals_of verdicts captures)
-    → IfErr result (λ fault. (fault ≡ Memory) ⊎ (fault ≡ Write)) → MatchResult result (HasReported options k.bytes one_thread old new) IsSystemFault
-has_reported options given old new kept one_thread outcome verdicts captures hits (Ok totals) same k has tells text counted is =
-    let reached : IsReached options has.policy has.packets one_thread.captures (outcome_of verdicts captures) =
-    subst (IsReached options has.policy has.packets one_thread.captures) (sym same) (k.answers.accepts has.policy has.packets one_thread.captures has.read) in
-    record {
-      run = record {
+  pub report_written : Writes bytes failures old new (tells k.bytes k.answers.ok.policy k.answers.ok.packets may k.answers.ok.read).report (totals_of outcome.verdicts outcome.captures) result
+  report_written = (tells k.bytes k.answers.ok.policy k.answers.ok.packets may k.answers.ok.read).writes
+
+  run_on : (policy : PolicyFacts) (packets : List PacketFacts) (read : IsRead k.bytes policy packets outcome.captures) → IsReached options policy packets outcome.captures outcome
+      → (known : Option (List ℕ)) → AreKnown known k.bytes → IfOk result (λ totals. HasRun options known (bytes old) (bytes new) totals)
+  run_on policy packets read reached known is = go result w.writes.whole w.writes.counted
+    where
+      w : WritesReport bytes failures old new options k.bytes policy packets outcome result
+      w = tells k.bytes policy packets may read
+
+      go : (r : Result Totals Fault) → OnOk r (Appends (bytes old) (bytes new) w.report) → IfOk r (λ totals. totals ≡ totals_of outcome.verdicts outcome.captures)
+          → IfOk r (λ totals. HasRun options known (bytes old) (bytes new) totals)
+      go (Ok totals) text counted = record {
         bytes = k.bytes;
-        known = refl;
-        policy = has.policy;
-        packets = has.packets;
-        captures = captures;
-        read = subst (λ told. IsRead k.bytes has.policy has.packets told) (sym reached.told) has.read;
-        verdicts = verdicts;
+        known = is;
+        policy = policy;
+        packets = packets;
+        outcome = outcome;
+        read = read;
         by_workers = reached.by_workers;
         by_one_thread = reached.by_one_thread;
-        hits = hits;
-        told = tells k.bytes has.policy has.packets one_thread.captures k.same has.read;
+        report = w.report;
+        told = w.is;
         text = text;
         counted = counted;
-      };
-      same = λ paged.
-          ap₂ outcome_of (one_verdicts (layout_for options.tables) options.times has.policy has.packets one_thread.verdicts verdicts has.verdicts (reached.by_one_thread paged)) (sym reached.told);
-    }
-has_reported options given old new kept one_thread outcome verdicts captures hits (Err fault) same k has tells text counted (inl memory) = subst IsSystemFault (sym memory) tt
-has_reported options given old new kept one_thread outcome verdicts captures hits (Err fault) same k has tells text counted (inr write) = subst IsSystemFault (sym write) tt
+      }
+      go (Err fault) text counted = tt
+
+  -- the report on what was reached was written, or a device failed
+  pub has_run : IfOk result (HasRun options given (bytes old) (bytes new))
+  has_run = run_on k.answers.ok.policy k.answers.ok.packets k.answers.ok.read k.answers.ok.reached given k.known
+
+  pub has_reported : (one_thread : Outcome) → HasOutcome options.tables options.times k.bytes one_thread
+      → MatchResult result (HasReported options k.bytes one_thread (bytes old) (bytes new)) IsSystemFault
+  has_reported one_thread has = go result (run_on has.policy has.packets read reached (Some k.bytes) refl) report_written.fault
+    where
+      met : IsReached options has.policy has.packets one_thread.captures outcome
+      met = k.answers.accepts has.policy has.packets one_thread.captures has.read
+
+      read : IsRead k.bytes has.policy has.packets outcome.captures
+      read = subst (λ told. IsRead k.bytes has.policy has.packets told) (sym met.told) has.read
+
+      reached : IsReached options has.policy has.packets outcome.captures outcome
+      reached = record { by_workers = met.by_workers; by_one_thread = met.by_one_thread; told = refl }
+
+      same : HavePages outcome.verdicts → one_thread ≡ outcome
+      same paged =
+          let verdicts = one_verdicts (layout_for options.tables) options.times has.policy has.packets one_thread.verdicts outcome.verdicts has.verdicts (met.by_one_thread paged) in
+          ap₂ outcome_of verdicts (sym met.told)
+
+      go : (r : Result Totals Fault) → IfOk r (λ totals. HasRun options (Some k.bytes) (bytes old) (bytes new) totals) → IfErr r (λ e. (e ≡ Memory) ⊎ (e ≡ Write))
+          → MatchResult r (HasReported options k.bytes one_thread (bytes old) (bytes new)) IsSystemFault
+      go (Ok totals) run fault = record { run = run; same = same }
+      go (Err e) run (inl memory) = subst IsSystemFault (sym memory) tt
+      go (Err e) run (inr write) = subst IsSystemFault (sym write) tt

@@ -181,18 +181,18 @@ known_as : (given : Option (List ℕ)) (bytes kept : List ℕ) → AreKnown give
 known_as None bytes kept known same = tt
 known_as (Some all) bytes kept known same = same ∙ known
 
--- where hits aren't asked for, nothing need be kept
-pub kept_none : (options : Options) (given : Option (List ℕ)) (kept : List ℕ) (result : Result Outcome Fault) → options.hits ≡ false
-    → AnswersRead options [] given result → IfOk result (HasKept options given kept)
-kept_none options given kept (Ok outcome) off answers =
+-- where nothing is to be kept
+pub kept_none : (options : Options) (given : Option (List ℕ)) (keep : Bool) (kept : List ℕ) (result : Result Outcome Fault) → keep ≡ false
+    → AnswersRead options [] given result → IfOk result (HasKept options given keep kept)
+kept_none options given keep kept (Ok outcome) off answers =
     let r = outcome_read options given outcome answers in
     record { bytes = r.bytes; known = r.whole.whole; few = r.whole.few; answers = r.answers; same = λ on. absurd (let f : false ≡ true = sym off ∙ on in cc) }
-kept_none options given kept (Err fault) off answers = tt
+kept_none options given keep kept (Err fault) off answers = tt
 
 -- what was kept is all
-pub kept_all : (options : Options) (given : Option (List ℕ)) (kept : List ℕ) (result : Result Outcome Fault) → AreKnown given kept
-    → AnswersRead options [] (Some kept) result → IfOk result (HasKept options given kept)
-kept_all options given kept (Ok outcome) known answers =
+pub kept_all : (options : Options) (given : Option (List ℕ)) (keep : Bool) (kept : List ℕ) (result : Result Outcome Fault) → AreKnown given kept
+    → AnswersRead options [] (Some kept) result → IfOk result (HasKept options given keep kept)
+kept_all options given keep kept (Ok outcome) known answers =
     let r = outcome_read options (Some kept) outcome answers in
     record {
       bytes = r.bytes;
@@ -201,7 +201,7 @@ kept_all options given kept (Ok outcome) known answers =
       answers = r.answers;
       same = λ on. sym r.whole.whole;
     }
-kept_all options given kept (Err fault) known answers = tt
+kept_all options given keep kept (Err fault) known answers = tt
 
 -- and is answered as the source's bytes are
 pub answers_again : (options : Options) (given : Option (List ℕ)) (kept : List ℕ) (result : Result Outcome Fault) → AreKnown given kept

@@ -78,6 +78,10 @@ Examples:
   racl host.policy host.pcap
   racl --interface 1=eth1.pcap --interface 2=eth2.pcap router.policy
   racl --workers 4 --udp 60 < examples/first_path.racl
+  racl --explain --only drop --hits host.policy host.pcap
+  racl --json host.policy host.pcap
+  racl --drops dropped.pcap --passes passed.pcap host.policy host.pcap
+  tcpdump -i eth0 -U -w - | racl --live host.policy -
 
 Exit status:
   0  done
