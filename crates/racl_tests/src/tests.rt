@@ -7,5 +7,6 @@ mod hits;
 mod parts;
 mod reports;
 mod runs;
+mod views;
 mod windows;
 mod words;

@@ -1,5 +1,11 @@
 pub mod CapturePackets
 pub mod Deciding
+pub mod Entries
+pub mod ExplainedLines
 pub mod Hits
+pub mod JsonLines
+pub mod PacketWords
 pub mod RuleLines
+pub mod RuleTexts
+pub mod Views
 pub mod inner

@@ -1,3 +1,5 @@
 pub mod Counts
+pub mod EntryLists
 pub mod Places
 pub mod Spots
+pub mod Tellings

@@ -1,16 +1,32 @@
-//! What is told of a run beside its verdicts: which rules decided how many packets.
+//! What is told of a run beside its verdicts: what its packets are, and which rules decided them.
 #![tactic(auto)]
 
+mod address;
 mod capture_bytes;
 mod counts;
 mod deciding;
+mod entry;
+mod explained;
 mod hits;
+mod json;
 mod numbering;
 mod other;
+mod pieces;
 mod rule;
+mod rule_places;
+mod rule_table;
+mod rule_text;
+mod run;
+mod shown_text;
 mod spot;
+mod telling;
+mod view;
+mod writing;
 
 pub use capture_bytes::{CaptureBytes, packets_in};
 pub use hits::hits_text;
 pub use numbering::rule_lines;
 pub use rule::{RuleLine, RuleName};
+pub use run::Run;
+pub use view::View;
+pub use writing::write_view;
