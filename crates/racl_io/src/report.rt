@@ -235,7 +235,8 @@ fn write_packets<W: Sink, T: Threads>(
     Ok(passed)
 }
 
-fn push_name(piece: &mut Piece, named: Option<u8>)
+/// What names the interface of a capture behind a line's number, where lines name it.
+pub fn push_name(piece: &mut Piece, named: Option<u8>)
     requires { length piece.old + 28 ≤ 262144 }
     ensures text { piece.new ≡ piece.old ++ name_of named }
     ensures short { length piece.new ≤ length piece.old + 28 }

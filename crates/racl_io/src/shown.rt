@@ -31,8 +31,8 @@ pub enum Shown {
     Nothing,
 }
 
-// Whether a packet with this verdict has a line.
-fn has_line(shown: Shown, verdict: Verdict) -> bool
+/// Whether a packet with this verdict has a line.
+pub fn has_line(shown: Shown, verdict: Verdict) -> bool
     ensures { result ≡ is_shown shown verdict }
 {
     match shown {

@@ -8,5 +8,6 @@ mod parts;
 mod reports;
 mod runs;
 mod saved;
+mod views;
 mod windows;
 mod words;

@@ -1,7 +1,10 @@
 pub mod BatchLemmas
 pub mod CaptureLemmas
+pub mod CaptureTellings
 pub mod ChosenLaws
 pub mod ChosenLemmas
 pub mod CountLemmas
+pub mod EntryLemmas
 pub mod LineLemmas
+pub mod RuleTextLemmas
 pub mod TextLemmas

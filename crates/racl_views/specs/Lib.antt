@@ -1,6 +1,12 @@
 pub mod CapturePackets
 pub mod ChosenRecords
 pub mod Deciding
+pub mod Entries
+pub mod ExplainedLines
 pub mod Hits
+pub mod JsonLines
+pub mod PacketWords
 pub mod RuleLines
+pub mod RuleTexts
+pub mod Views
 pub mod inner

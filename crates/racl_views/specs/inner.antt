@@ -1,5 +1,7 @@
 pub mod Batches
 pub mod ChosenBytes
 pub mod Counts
+pub mod EntryLists
 pub mod Places
 pub mod Spots
+pub mod Tellings

@@ -7,7 +7,7 @@ ghost use Rattle.racl_views.specs.Hits.{IsHits, all_others, numbered, other_text
 ghost use Rattle.racl_views.specs.inner.Counts.{Count};
 ghost use Rattle.racl_views.specs.declared.rule.RuleName.{RuleName};
 
-use crate::counts::{count_at, count_packets};
+use crate::counts::{count_packets, number_at};
 use crate::numbering::rule_lines;
 use crate::other::Other;
 use crate::rule::RuleLine;
@@ -43,7 +43,7 @@ fn push_rules(text: &mut Vec<u8>, counts: &[u64], rules: &[RuleLine]) -> Result<
         → text.new.items ≡ text.old.items ++ rules_text deciding rules.now) }
 {
     'rules: for at in rules {
-        push_rule(text, at, count_at(counts, &at.rule))?;
+        push_rule(text, at, number_at(counts, &at.rule))?;
     }
     Ok(())
 }

@@ -1,21 +1,38 @@
-//! What is told of a run beside its verdicts: which rules decided how many packets, and the chosen packets as a capture.
+//! What is told of a run beside its verdicts: what its packets are, which rules decided them, and the chosen packets as a
+//! capture.
 #![tactic(auto)]
 
+mod address;
 mod batch;
 mod capture_bytes;
 mod chosen;
 mod counts;
 mod deciding;
+mod entry;
+mod explained;
 mod hits;
+mod json;
 mod numbering;
 mod other;
+mod pieces;
 mod rule;
+mod rule_places;
+mod rule_table;
+mod rule_text;
+mod run;
 mod save;
+mod shown_text;
 mod spot;
+mod telling;
+mod view;
+mod writing;
 
 pub use capture_bytes::{CaptureBytes, packets_in};
 pub use chosen::Chosen;
 pub use hits::hits_text;
 pub use numbering::rule_lines;
 pub use rule::{RuleLine, RuleName};
+pub use run::Run;
 pub use save::{chosen_packets_are_a_capture, write_chosen};
+pub use view::View;
+pub use writing::write_view;

@@ -1,0 +1,98 @@
+-- Entries of packets that are told one after the other.
+use Rattle.std.proofs.Common.{◌≡◌, ◌∙◌, ◌++◌, ◌+◌, ◌<◌, ◌≤◌, ℕ, zero, suc, List, [], ◌∷◌, Option, append-nil, append_assoc, ap, arith, drop, get_or, length, length-drop, refl, sym, take}
+use Rattle.std.proofs.Math.ListN.{drop_of_length-le}
+use Rattle.std.proofs.lemmas.List.{drop-drop}
+use Rattle.packet_view.specs.Captures.{PacketFacts}
+use Rattle.packet_view.specs.Frames.{FrameFacts}
+use Rattle.packet_view.proofs.FrameLemmas.{view_only, view_shown}
+use Rattle.acl_policy.specs.Policies.{IsPolicyText, PolicyFacts}
+use Rattle.flow_filter.specs.Readings.{IsSeen}
+use Rattle.flow_filter.specs.declared.verdict.Verdict.{Verdict}
+use Rattle.racl_views.specs.declared.rule.RuleLine.{RuleLine}
+use Rattle.racl_views.specs.declared.view.View.{View}
+use Rattle.racl_views.specs.Entries.{AreEntries, EntryFacts}
+use Rattle.racl_views.specs.RuleLines.{AreRules, rules_from}
+use Rattle.racl_views.specs.RuleTexts.{rule_texts}
+use Rattle.racl_views.specs.Views.{Format, IsTold, RunFacts, lines_told, report_told}
+use Rattle.racl_views.specs.inner.EntryLists.{entries_on, entry_on, view_at}
+use Rattle.racl_views.proofs.CountLemmas.{drop_one}
+
+-- what a packet's frame is, is this
+pub seen_at : (policy : PolicyFacts) (packet : PacketFacts) (view : FrameFacts) → IsSeen policy packet view → view ≡ view_at policy packet
+unfolding view_at
+seen_at policy packet view seen = view_only packet.frame _ view seen
+
+at_seen : (policy : PolicyFacts) (packet : PacketFacts) → IsSeen policy packet (view_at policy packet)
+unfolding view_at
+at_seen policy packet = view_shown packet.frame _
+
+-- each packet has its entry
+pub all_entries : (policy : PolicyFacts) (rules : List RuleLine) (packets : List PacketFacts) (verdicts : List Verdict)
+    → AreEntries policy rules packets verdicts (entries_on policy rules packets verdicts)
+all_entries policy rules [] verdicts = refl
+all_entries policy rules (packet ∷ packets) [] = refl
+all_entries policy rules (packet ∷ packets) (verdict ∷ verdicts) =
+    (record { verdict = refl; interface = refl; moment = refl; seen = at_seen policy packet; line = refl }, all_entries policy rules packets verdicts)
+
+-- without verdicts there are none
+pub no_entries : (policy : PolicyFacts) (rules : List RuleLine) (packets : List PacketFacts) → entries_on policy rules packets [] ≡ []
+no_entries policy rules [] = refl
+no_entries policy rules (packet ∷ packets) = refl
+
+-- the next one, and those behind it
+pub entries_next : (policy : PolicyFacts) (rules : List RuleLine) (packets left : List PacketFacts) (packet : PacketFacts) (verdicts : List Verdict) (k : ℕ) (d : Verdict)
+    → packets ≡ packet ∷ left → k < length verdicts
+    → entries_on policy rules packets (drop k verdicts) ≡ entry_on policy rules packet (get_or verdicts k d) ∷ entries_on policy rules left (drop (k + 1) verdicts)
+entries_next policy rules packets left packet verdicts k d took within =
+    ap (λ (ps : List PacketFacts). entries_on policy rules ps (drop k verdicts)) took ∙ ap (entries_on policy rules (packet ∷ left)) (drop_one verdicts k d within)
+
+-- those of the first verdicts
+pub entries-take : (policy : PolicyFacts) (rules : List RuleLine) (k : ℕ) (packets : List PacketFacts) (verdicts : List Verdict)
+    → take k (entries_on policy rules packets verdicts) ≡ entries_on policy rules packets (take k verdicts)
+entries-take policy rules zero packets verdicts = sym (no_entries policy rules packets)
+entries-take policy rules (suc k) [] verdicts = refl
+entries-take policy rules (suc k) (packet ∷ packets) [] = refl
+entries-take policy rules (suc k) (packet ∷ packets) (verdict ∷ verdicts) =
+    ap (λ (es : List EntryFacts). entry_on policy rules packet verdict ∷ es) (entries-take policy rules k packets verdicts)
+
+-- and those behind them
+pub entries-drop : (policy : PolicyFacts) (rules : List RuleLine) (k : ℕ) (packets : List PacketFacts) (verdicts : List Verdict)
+    → drop k (entries_on policy rules packets verdicts) ≡ entries_on policy rules (drop k packets) (drop k verdicts)
+entries-drop policy rules zero packets verdicts = refl
+entries-drop policy rules (suc k) [] verdicts = refl
+entries-drop policy rules (suc k) (packet ∷ packets) [] = sym (no_entries policy rules (drop k packets))
+entries-drop policy rules (suc k) (packet ∷ packets) (verdict ∷ verdicts) = entries-drop policy rules k packets verdicts
+
+-- what was written and what the piece has, after one more line
+pub told_more : (front written piece now line more all : List ℕ) → (front ++ piece) ++ (line ++ more) ≡ all → piece ++ line ≡ written ++ now
+    → ((front ++ written) ++ now) ++ more ≡ all
+told_more front written piece now line more all told pushed =
+    ap (λ (t : List ℕ). t ++ more) (append_assoc front written now ∙ ap (λ (t : List ℕ). front ++ t) (sym pushed) ∙ sym (append_assoc front piece line))
+    ∙ append_assoc (front ++ piece) line more ∙ told
+
+-- what is told, by what was looked up of the rules
+pub told_by : (view : View) (run : RunFacts) (rules : List RuleLine) (texts : List (List ℕ)) → AreRules run.text rules → texts ≡ rule_texts run.text
+    → IsTold view run (report_told (record { view = view; shown = run.shown; texts = texts }) (entries_on run.policy rules run.packets run.verdicts) run.verdicts run.captures)
+told_by view run rules texts are same = record {
+  rules = rules;
+  lines = are;
+  entries = entries_on run.policy rules run.packets run.verdicts;
+  are = all_entries run.policy rules run.packets run.verdicts;
+  all = ap (λ (ts : List (List ℕ)). report_told (record { view = view; shown = run.shown; texts = ts })
+      (entries_on run.policy rules run.packets run.verdicts) run.verdicts run.captures) same;
+}
+
+-- after the last line
+pub told_all : (format : Format) (named : Option ℕ) (n : ℕ) (entries : List EntryFacts) (so_far all : List ℕ) → entries ≡ []
+    → so_far ++ lines_told format named n entries ≡ all → so_far ≡ all
+told_all format named n entries so_far all none told =
+    sym (append-nil so_far) ∙ ap (λ (es : List EntryFacts). so_far ++ lines_told format named n es) (sym none) ∙ told
+
+-- the packets that are left, after one more was taken
+pub left_more : (all old new : List PacketFacts) (packet : PacketFacts) (k : ℕ) → old ≡ drop k all → old ≡ packet ∷ new → new ≡ drop (k + 1) all
+left_more all old new packet k so_far took = ap (drop 1) (sym took) ∙ ap (drop 1) so_far ∙ drop-drop 1 k all
+
+-- where they ran out, none are behind any more verdicts
+pub left_none : (all old : List PacketFacts) (k n : ℕ) → old ≡ drop k all → old ≡ [] → k ≤ n → [] ≡ drop n all
+left_none all old k n so_far none few =
+    sym (drop_of_length-le all (omega (arith, length-drop k all, ap length so_far, ap length none, few)))

@@ -1,0 +1,42 @@
+use Rattle.std.proofs.Common.{◌≡◌, ◌++◌, ◌+◌, ◌∙◌, ℕ, List, ap, ap₂, arith, drop, length, length-append, sym, take}
+use Rattle.std.proofs.KnownBytes.{Appends-trans}
+use Rattle.packet_view.specs.CheckedCaptures.{remaining}
+use Rattle.acl_policy.specs.Policies.{policy_facts}
+use Rattle.racl_io.proofs.ReportLemmas.{counted_behind}
+use Rattle.racl_views.specs.Views.{lines_told, truncation_in}
+use Rattle.racl_views.specs.inner.EntryLists.{entries_on}
+use Rattle.racl_views.specs.inner.Tellings.{entries_by, format_of}
+use Rattle.racl_views.proofs.CaptureTellings.{captures_more}
+use Rattle.racl_views.proofs.EntryLemmas.{entries-drop, entries-take}
+use Rattle.racl_views.proofs.writing.write_captures.Goals as goal
+
+pub each-preserved : goal.each-preserved
+each-preserved g c =
+    let inv = c.each.invariant in
+    let telling = c.args.telling in
+    let format = format_of telling in
+    let policy = policy_facts telling.policy.now in
+    let rules = telling.table.now.rules.items in
+    let captured = c.in-Some.captured.now in
+    let rest = c.each.rest.now in
+    let packets = remaining c.each.packets in
+    let left = remaining c.write_packets.new.packets in
+    let first = c.split_at.result.0.now in
+    let behind = c.split_at.result.1.now in
+    let parted = c.in-Some.ensures.cases.0 in
+    let cut : rest ≡ first ++ behind = c.split_at.ensures.by_index.0 in
+    let taken = entries-take policy rules captured.packets packets rest ∙ ap (entries_on policy rules packets) (sym c.split_at.ensures.front) in
+    let others = c.in_ok-write_packets.ensures.left ∙ ap (λ (k : ℕ). drop k packets) c.split_at.ensures.front_len in
+    let dropped = entries-drop policy rules captured.packets packets rest ∙ ap₂ (entries_on policy rules) (sym others) (sym c.split_at.ensures.back) in
+    let told = lines_told format captured.named (c.each.others + 1) (entries_by telling packets first) ++ truncation_in format.view captured in
+    record {
+      counted = omega (arith, inv.counted, ap length cut, length-append first behind, c.split_at.ensures.front_len);
+      fits = omega (arith, counted_behind rest captured c.each.left.now c.in-Some.after.now inv.fits parted, c.split_at.ensures.back_len);
+      written = (
+        inv.written.0 ++ told,
+        captures_more format inv.written.0 _ (c.each.others + 1) _ (entries_by telling packets rest) (entries_by telling packets first) (entries_by telling left behind)
+        captured c.each.left.now c.in-Some.after.now inv.written.1 parted taken dropped (omega arith),
+        Appends-trans _ _ _ _ _ inv.written.2 (Appends-trans _ _ _ _ _ c.in_ok-write_packets.ensures.put.0 c.in_ok-write_cut.ensures.0),
+      );
+      sound = c.in_ok-write_cut.ensures.1 ∙ c.in_ok-write_packets.ensures.put.1 ∙ inv.sound;
+    }

@@ -1,0 +1,35 @@
+-- Entries by the steps of the code, and where the lines of rules stand among all.
+use Rattle.std.specs.Prelude.{◌≡◌, ◌<◌, ◌^◌, ℕ, List, [], ◌∷◌, get_or}
+use Rattle.packet_view.specs.Captures.{PacketFacts}
+use Rattle.packet_view.specs.Frames.{FrameFacts}
+use Rattle.packet_view.specs.inner.FrameSteps.{view_of}
+use Rattle.acl_policy.specs.Policies.{PolicyFacts, section_of}
+use Rattle.flow_filter.specs.declared.verdict.Verdict.{Verdict}
+use Rattle.racl_views.specs.declared.rule.RuleLine.{RuleLine}
+use Rattle.racl_views.specs.declared.rule.RuleName.{RuleName}
+use Rattle.racl_views.specs.Deciding.{rule_on}
+use Rattle.racl_views.specs.Entries.{EntryFacts, line_among, line_deciding}
+use Rattle.racl_views.specs.inner.Places.{place_of}
+
+-- what a packet's frame is at its interface
+unfoldable pub view_at : PolicyFacts → PacketFacts → FrameFacts
+view_at policy packet = view_of packet.frame (record { number = packet.interface; own = (section_of packet.interface policy).own })
+
+abbrev pub entry_on : PolicyFacts → List RuleLine → PacketFacts → Verdict → EntryFacts
+entry_on policy rules packet verdict = record {
+  verdict = verdict;
+  interface = packet.interface;
+  moment = packet.moment;
+  view = view_at policy packet;
+  line = line_deciding rules (rule_on packet.interface (view_at policy packet) verdict);
+}
+
+abbrev pub entries_on : PolicyFacts → List RuleLine → List PacketFacts → List Verdict → List EntryFacts
+entries_on policy rules [] verdicts = []
+entries_on policy rules (packet ∷ packets) [] = []
+entries_on policy rules (packet ∷ packets) (verdict ∷ verdicts) = entry_on policy rules packet verdict ∷ entries_on policy rules packets verdicts
+
+-- the line of each rule that may decide stands at its place, and 0 where there is no such rule
+abbrev pub AreAtPlaces : List ℕ → List RuleLine → Type 0
+AreAtPlaces lines rules =
+    (name : RuleName) → name.interface < 2 ^ 8 → name.number < 2 ^ 16 → get_or lines (place_of name) 0 ≡ line_among rules name

@@ -1,0 +1,40 @@
+-- What is told while packets are told.
+use Rattle.std.specs.Prelude.{◌≡◌, ◌+◌, ◌++◌, ℕ, List, Option, Result, IfErr, OnErr, OnOk, map, ⊤}
+use Rattle.std.specs.Io.KnownBytes.{Appends}
+use Rattle.packet_view.specs.Captures.{PacketFacts}
+use Rattle.acl_policy.specs.Policies.{IsPolicyText, PolicyFacts, policy_facts}
+use Rattle.flow_filter.specs.declared.verdict.Verdict.{Verdict}
+use Rattle.racl_io.specs.declared.fault.Fault.{Fault}
+use Rattle.racl_io.specs.declared.fault.Fault.TheVariants.{Write}
+use Rattle.racl_views.specs.declared.rule_table.RuleTable.{RuleTable}
+use Rattle.racl_views.specs.declared.telling.Telling.{Telling}
+use Rattle.racl_views.specs.Entries.{EntryFacts}
+use Rattle.racl_views.specs.RuleLines.{AreRules}
+use Rattle.racl_views.specs.RuleTexts.{rule_texts, shown_of}
+use Rattle.racl_views.specs.Views.{Format}
+use Rattle.racl_views.specs.inner.EntryLists.{entries_on, entry_on}
+
+abbrev pub format_of : Telling → Format
+format_of t = record { view = t.view; shown = t.shown; texts = map shown_of t.table.now.texts.items }
+
+-- the entries of packets with these verdicts
+abbrev pub entries_by : Telling → List PacketFacts → List Verdict → List EntryFacts
+entries_by t packets verdicts = entries_on (policy_facts t.policy.now) t.table.now.rules.items packets verdicts
+
+-- the entry of a packet
+abbrev pub entry_by : Telling → PacketFacts → Verdict → EntryFacts
+entry_by t packet verdict = entry_on (policy_facts t.policy.now) t.table.now.rules.items packet verdict
+
+-- the table has the rules of a policy's text, and what is shown of its lines
+abbrev pub IsTableOf : List ℕ → RuleTable → Type 0
+IsTableOf text table =
+    (policy : PolicyFacts) → IsPolicyText text policy → AreRules text table.rules.items × (map shown_of table.texts.items ≡ rule_texts text)
+
+-- A sink and a piece got this text: what the piece had and the text were written, up to what it has now. Or the sink failed
+-- once more.
+abbrev pub HasPushed : {W : Type 0} → (W → Option (List ℕ)) → (W → ℕ) → W → W → List ℕ → List ℕ → List ℕ → Result ⊤ Fault → Type 0
+HasPushed bytes failures old new before after text result =
+    OnOk result ((written : List ℕ) × Appends (bytes old) (bytes new) written × (before ++ text ≡ written ++ after))
+    × OnOk result (failures new ≡ failures old)
+    × OnErr result (failures new ≡ failures old + 1)
+    × IfErr result (λ e. e ≡ Write)

@@ -1,0 +1,17 @@
+//! What a run had, and what came of it.
+
+use acl_policy::Policy;
+use flow_filter::Verdict;
+use packet_view::Packets;
+use racl_io::{Captured, Shown};
+
+/// A run: its policy, which the text says, the packets of its captures with their verdicts, and which of them are shown.
+#[derive(Clone, Copy)]
+pub struct Run<'a> {
+    pub policy: &'a Policy,
+    pub text: &'a [u8],
+    pub packets: Packets<'a>,
+    pub verdicts: &'a [Verdict],
+    pub captures: &'a [Captured],
+    pub shown: Shown,
+}

@@ -1,0 +1,10 @@
+//! The forms in which a run is told.
+
+/// In which form a run is told.
+#[derive(Clone, Copy, Debug, PartialEq, Eq)]
+pub enum View {
+    /// The report, whose lines say of their packets what these are, and which rule decided.
+    Explained,
+    /// Objects of JSON, one a line.
+    Json,
+}
