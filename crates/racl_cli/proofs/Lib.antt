@@ -4,5 +4,6 @@ pub mod OpenedLemmas
 pub mod OutcomeLemmas
 pub mod ReadLemmas
 pub mod RunLemmas
+pub mod SaveLemmas
 pub mod TakenLemmas
 pub mod ViewLemmas

@@ -1,5 +1,4 @@
 -- What is answered of an input, and the report on it.
-use Rattle.std.specs.Io.KnownBytes.{Appends}
 use Rattle.std.proofs.Common.{◌≡◌, ◌≢◌, ◌∙◌, ◌≤◌, ◌++◌, ◌⊎◌, All, ℕ, Bool, List, [], ◌∷◌, None, drop, length, Option, Result, Ok, Err, IfOk, IfErr, OnOk, MatchResult, Some, true, refl, sym, ap, ap₂, subst, inl, inr}
 use Rattle.std.proofs.lemmas.List.{length-map}
 use Rattle.packet_view.specs.Captures.{End, AreRecords, IsCapture, IsCaptureFault, IsEnd, PacketFacts, RecordFacts, end_of, packets_at}
@@ -28,12 +27,10 @@ use Rattle.racl_io.specs.declared.report.Captured.{Captured}
 use Rattle.racl_io.specs.declared.report.Totals.{Totals}
 use Rattle.racl_io.specs.Faults.{IsFaultOfBytes, IsFaultOfContent, IsSystemFault, capture_fault, policy_fault}
 use Rattle.racl_io.specs.Inputs.{IsContent, IsInput, InputFacts, most_bytes}
-use Rattle.racl_io.specs.Reports.{totals_of}
 use Rattle.racl_cli.specs.Crews.{AreSaid, Orders, orders_for}
-use Rattle.racl_io.specs.Sinks.{Writes}
 use Rattle.flow_dealing.specs.WorkerRecords.{HavePages}
 use Rattle.racl_cli.specs.Reads.{AnswersInput, AreKnown, HasKept, IsReached, IsSaid, IsUnnumbered}
-use Rattle.racl_cli.specs.inner.Views.{MayTell, WritesReport, needs_bytes}
+use Rattle.racl_cli.specs.inner.Views.{HasReport, MayTell, needs_bytes}
 use Rattle.racl_cli.specs.Runs.{ByWorkers, HasOutcome, HasReported, HasRun, IsRead, Outcome, bucket_deal, layout_for, told_of}
 use Rattle.racl_cli.proofs.CaptureLaws.{alone_plain, fault_of_known, fault_plain, one_truncated, plain_alone, plain_fault}
 use Rattle.racl_cli.proofs.RunLemmas.{alone_in_capture, fault_of_known_parts, fault_of_right_policy, fault_of_wrong_policy, fault_without_parts, read_in}
@@ -184,51 +181,60 @@ module _ (options : Options) (bytes : List ℕ) (parts : InputFacts) (policy : P
 -- ---- the report
 
 -- the report on the input that was judged is written, whichever input it is
-abbrev pub Tells : {W : Type 0} → (W → Option (List ℕ)) → (W → ℕ) → W → W → Options → List ℕ → Outcome → Result Totals Fault → Type 0
-Tells bytes failures old new options kept outcome result = (input : List ℕ) (policy : PolicyFacts) (packets : List PacketFacts)
-    → MayTell options kept input → IsRead input policy packets outcome.captures → WritesReport bytes failures old new options input policy packets outcome result
+abbrev pub Tells : Option (List ℕ) → Option (List ℕ) → Options → List ℕ → Outcome → Result Totals Fault → Type 0
+Tells old new options kept outcome result = (input : List ℕ) (policy : PolicyFacts) (packets : List PacketFacts)
+    → MayTell options kept input → IsRead input policy packets outcome.captures → IfOk result (HasReport options input policy packets outcome old new)
 
-module _ {W : Type 0} (bytes : W → Option (List ℕ)) (failures : W → ℕ) (old new : W) (options : Options) (given : Option (List ℕ)) (keep : Bool) (kept : List ℕ) (outcome : Outcome)
-    (result : Result Totals Fault) (k : HasKept options given keep kept outcome) (needed : needs_bytes options ≡ true → keep ≡ true)
-    (tells : Tells bytes failures old new options kept outcome result) where
-  may : MayTell options kept k.bytes
-  may asked = k.same (needed asked)
+-- what is told of bytes is told of those that were kept
+pub kept_told : (old new : Option (List ℕ)) (options : Options) (bytes kept : List ℕ) (outcome : Outcome) (result : Result Totals Fault) → bytes ≡ kept
+    → Tells old new options bytes outcome result → Tells old new options kept outcome result
+kept_told old new options bytes kept outcome result same tells = subst (λ (b : List ℕ). Tells old new options b outcome result) same tells
 
-  pub report_written : Writes bytes failures old new (tells k.bytes k.answers.ok.policy k.answers.ok.packets may k.answers.ok.read).report (totals_of outcome.verdicts outcome.captures) result
-  report_written = (tells k.bytes k.answers.ok.policy k.answers.ok.packets may k.answers.ok.read).writes
+module _ (old new : Option (List ℕ)) (options : Options) (given : Option (List ℕ)) (keep : Bool) (kept : List ℕ) (outcome : Outcome) (result : Result Totals Fault)
+    (k : HasKept options given keep kept outcome) (needed : needs_bytes options ≡ true → keep ≡ true) (tells : Tells old new options kept outcome result) where
+  -- a run on the input, whose outcome is this one
+  abbrev pub RunsOn : Option (List ℕ) → Totals → Type 0
+  RunsOn known totals = (run : HasRun options known old new totals) × (run.outcome ≡ outcome) × (run.bytes ≡ k.bytes)
 
   run_on : (policy : PolicyFacts) (packets : List PacketFacts) (read : IsRead k.bytes policy packets outcome.captures) → IsReached options policy packets outcome.captures outcome
-      → (known : Option (List ℕ)) → AreKnown known k.bytes → IfOk result (λ totals. HasRun options known (bytes old) (bytes new) totals)
-  run_on policy packets read reached known is = go result w.writes.whole w.writes.counted
+      → (known : Option (List ℕ)) → AreKnown known k.bytes → IfOk result (RunsOn known)
+  run_on policy packets read reached known is = go result (tells k.bytes policy packets (λ asked. k.same (needed asked)) read)
     where
-      w : WritesReport bytes failures old new options k.bytes policy packets outcome result
-      w = tells k.bytes policy packets may read
+      go : (r : Result Totals Fault) → IfOk r (HasReport options k.bytes policy packets outcome old new) → IfOk r (RunsOn known)
+      go (Ok totals) w = (
+        record {
+          bytes = k.bytes;
+          known = is;
+          policy = policy;
+          packets = packets;
+          outcome = outcome;
+          read = read;
+          by_workers = reached.by_workers;
+          by_one_thread = reached.by_one_thread;
+          report = w.report;
+          told = w.is;
+          text = w.text;
+          counted = w.counted;
+        },
+        refl,
+        refl,
+      )
+      go (Err fault) w = tt
 
-      go : (r : Result Totals Fault) → OnOk r (Appends (bytes old) (bytes new) w.report) → IfOk r (λ totals. totals ≡ totals_of outcome.verdicts outcome.captures)
-          → IfOk r (λ totals. HasRun options known (bytes old) (bytes new) totals)
-      go (Ok totals) text counted = record {
-        bytes = k.bytes;
-        known = is;
-        policy = policy;
-        packets = packets;
-        outcome = outcome;
-        read = read;
-        by_workers = reached.by_workers;
-        by_one_thread = reached.by_one_thread;
-        report = w.report;
-        told = w.is;
-        text = text;
-        counted = counted;
-      }
-      go (Err fault) text counted = tt
+  pub ran : IfOk result (RunsOn given)
+  ran = run_on k.answers.ok.policy k.answers.ok.packets k.answers.ok.read k.answers.ok.reached given k.known
 
   -- the report on what was reached was written, or a device failed
-  pub has_run : IfOk result (HasRun options given (bytes old) (bytes new))
-  has_run = run_on k.answers.ok.policy k.answers.ok.packets k.answers.ok.read k.answers.ok.reached given k.known
+  pub has_run : IfOk result (HasRun options given old new)
+  has_run = go result ran
+    where
+      go : (r : Result Totals Fault) → IfOk r (RunsOn given) → IfOk r (HasRun options given old new)
+      go (Ok totals) is = is.0
+      go (Err fault) is = tt
 
-  pub has_reported : (one_thread : Outcome) → HasOutcome options.tables options.times k.bytes one_thread
-      → MatchResult result (HasReported options k.bytes one_thread (bytes old) (bytes new)) IsSystemFault
-  has_reported one_thread has = go result (run_on has.policy has.packets read reached (Some k.bytes) refl) report_written.fault
+  pub has_reported : (one_thread : Outcome) → HasOutcome options.tables options.times k.bytes one_thread → IfErr result (λ e. (e ≡ Memory) ⊎ (e ≡ Write))
+      → MatchResult result (HasReported options k.bytes one_thread old new) IsSystemFault
+  has_reported one_thread has fails = go result (run_on has.policy has.packets read reached (Some k.bytes) refl) fails
     where
       met : IsReached options has.policy has.packets one_thread.captures outcome
       met = k.answers.accepts has.policy has.packets one_thread.captures has.read
@@ -244,8 +250,11 @@ module _ {W : Type 0} (bytes : W → Option (List ℕ)) (failures : W → ℕ) (
           let verdicts = one_verdicts (layout_for options.tables) options.times has.policy has.packets one_thread.verdicts outcome.verdicts has.verdicts (met.by_one_thread paged) in
           ap₂ outcome_of verdicts (sym met.told)
 
-      go : (r : Result Totals Fault) → IfOk r (λ totals. HasRun options (Some k.bytes) (bytes old) (bytes new) totals) → IfErr r (λ e. (e ≡ Memory) ⊎ (e ≡ Write))
-          → MatchResult r (HasReported options k.bytes one_thread (bytes old) (bytes new)) IsSystemFault
-      go (Ok totals) run fault = record { run = run; same = same }
-      go (Err e) run (inl memory) = subst IsSystemFault (sym memory) tt
-      go (Err e) run (inr write) = subst IsSystemFault (sym write) tt
+      go : (r : Result Totals Fault) → IfOk r (RunsOn (Some k.bytes)) → IfErr r (λ e. (e ≡ Memory) ⊎ (e ≡ Write))
+          → MatchResult r (HasReported options k.bytes one_thread old new) IsSystemFault
+      go (Ok totals) is fault = record {
+        run = is.0;
+        same = λ paged. same (subst (λ (o : Outcome). HavePages o.verdicts) is.1 paged) ∙ sym is.1;
+      }
+      go (Err e) is (inl memory) = subst IsSystemFault (sym memory) tt
+      go (Err e) is (inr write) = subst IsSystemFault (sym write) tt

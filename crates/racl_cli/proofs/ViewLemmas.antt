@@ -1,5 +1,5 @@
 -- The packets of captures that are gone over once more.
-use Rattle.std.proofs.Common.{◌≡◌, ◌∙◌, ◌++◌, ℕ, List, [], ◌∷◌, Option, Some, None, Result, Ok, Err, IfOk, ap, append-nil, append_assoc, refl, sym, subst}
+use Rattle.std.proofs.Common.{◌≡◌, ◌∙◌, ◌++◌, ◌||◌, ℕ, Bool, true, false, not, List, [], ◌∷◌, Option, Some, None, Result, Ok, Err, IfOk, ap, append-nil, append_assoc, refl, sym, subst}
 use Rattle.packet_view.specs.Captures.{IsCaptureAt, PacketFacts, end_of}
 use Rattle.racl_io.specs.declared.report.Captured.{Captured}
 use Rattle.racl_io.specs.declared.input.Form.{Form}
@@ -9,10 +9,26 @@ use Rattle.racl_io.proofs.InputLemmas.{one_captures}
 use Rattle.racl_io.proofs.PartingLemmas.{some_captures}
 use Rattle.racl_views.specs.CapturePackets.{HavePackets}
 use Rattle.racl_views.specs.declared.capture_bytes.CaptureBytes.{CaptureBytes}
+use Rattle.std.specs.Io.KnownBytes.{Appends}
+use Rattle.std.proofs.KnownBytes.{Appends-trans}
+use Rattle.acl_policy.specs.Policies.{IsPolicyText, PolicyFacts}
+use Rattle.racl_io.specs.declared.fault.Fault.{Fault}
+use Rattle.racl_io.specs.declared.report.Totals.{Totals}
+use Rattle.racl_io.specs.declared.shown.Shown.{Shown}
+use Rattle.racl_io.specs.Reports.{totals_of}
+use Rattle.racl_io.specs.ShownReports.{report_shown}
+use Rattle.racl_io.specs.Sinks.{Writes}
+use Rattle.racl_options.specs.Asking.{is_plain}
+use Rattle.racl_options.specs.declared.settings.Lines.{Lines}
+use Rattle.racl_options.specs.declared.settings.Lines.TheVariants.{Plain, Explained, Json}
+use Rattle.racl_options.specs.declared.settings.Options.{Options}
+use Rattle.racl_views.specs.Hits.{AreHits}
+use Rattle.racl_views.specs.Views.{RunFacts}
 use Rattle.racl_cli.specs.Reads.{IsUnnumbered}
-use Rattle.racl_cli.specs.Runs.{AreTaken, HasPackets, IsTaken}
+use Rattle.racl_cli.specs.Runs.{AreLines, AreTaken, HasPackets, IsRead, IsTaken, Outcome}
+use Rattle.racl_cli.specs.declared.viewing.Again.{Again}
 use Rattle.racl_cli.specs.inner.Captures.{AreTakenFrom}
-use Rattle.racl_cli.specs.inner.Views.{AreAmid}
+use Rattle.racl_cli.specs.inner.Views.{AreAmid, EndsOnce, HasLines, HasReport, IsAgain, needs_bytes}
 use Rattle.racl_cli.proofs.CaptureLaws.{one_content}
 use Rattle.racl_cli.proofs.RunLemmas.{alone_in_capture}
 
@@ -78,3 +94,74 @@ alone_packets items (Ok v) capture form content packets captures plain zero spel
     let at = subst (λ n. IsCaptureAt n capture.bytes.items packets (end_of alone.truncated)) (sym zero) alone.records in
     subst (λ (cs : List CaptureBytes). HavePackets cs packets) (sym made) (packets, [], end_of alone.truncated, sym (append-nil packets), at, refl)
 alone_packets items (Err e) capture form content packets captures plain zero spelt has made = tt
+
+-- ---- what is told
+
+-- the lines of a run, which were written as they are asked for
+pub lines_by : {W : Type 0} (bytes : W → Option (List ℕ)) (failures : W → ℕ) (old new : W) (asked : Lines) (run : RunFacts) (lines : List ℕ) (result : Result Totals Fault)
+    → AreLines asked run lines → Writes bytes failures old new lines (totals_of run.verdicts run.captures) result → IfOk result (HasLines asked run (bytes old) (bytes new))
+lines_by bytes failures old new asked run lines (Ok totals) are w = record { lines = lines; are = are; text = w.whole; counted = w.counted }
+lines_by bytes failures old new asked run lines (Err fault) are w = tt
+
+pub ends_by : {W : Type 0} (bytes : W → Option (List ℕ)) (failures : W → ℕ) (old new : W) (text : List ℕ) (totals : Totals) (result : Result Totals Fault)
+    → Writes bytes failures old new text totals result → EndsOnce failures old new result
+ends_by bytes failures old new text totals result w = record { fault = w.fault; write = w.write; steady = w.steady; unwritten = w.unwritten }
+
+-- a run on an input, as its lines tell it
+abbrev pub told_facts : PolicyFacts → List ℕ → List PacketFacts → Outcome → Shown → RunFacts
+told_facts policy text packets outcome shown =
+    record { policy = policy; text = text; packets = packets; verdicts = outcome.verdicts; captures = outcome.captures; shown = shown }
+
+-- its lines, and behind them the hits
+pub told_again : (options : Options) (input : List ℕ) (policy : PolicyFacts) (packets : List PacketFacts) (outcome : Outcome) (again : Again) (run : RunFacts) (hits : List ℕ) (old mid new : Option (List ℕ)) (totals : Totals)
+    → (is : IsAgain input policy packets again) → run ≡ told_facts policy is.parts.policy packets outcome options.shown
+    → (IsPolicyText run.text run.policy → HasLines options.lines run old mid totals)
+    → (IsPolicyText run.text run.policy → AreHits options.hits run.policy run.text run.packets run.verdicts hits)
+    → Appends mid new hits → HasReport options input policy packets outcome old new totals
+told_again options input policy packets outcome again run hits old mid new totals is same lines told behind =
+    let has = subst (λ (r : RunFacts). IsPolicyText r.text r.policy → HasLines options.lines r old mid totals) same lines is.says in
+    let hit = subst (λ (r : RunFacts). IsPolicyText r.text r.policy → AreHits options.hits r.policy r.text r.packets r.verdicts hits) same told is.says in
+    record {
+      report = has.lines ++ hits;
+      is = record { parts = is.parts; parted = is.parted; lines = has.lines; are = has.are; hits = hits; told = hit; all = refl };
+      text = Appends-trans old mid new has.lines hits has.text behind;
+      counted = has.counted;
+    }
+
+-- plain lines alone
+plain_alone_told : (asked : Bool) (form : Lines) (policy : PolicyFacts) (text : List ℕ) (packets : List PacketFacts) (outcome : Outcome) (shown : Shown) → (asked || not (is_plain form)) ≡ false
+    → AreLines form (told_facts policy text packets outcome shown) (report_shown shown outcome.verdicts outcome.captures) × AreHits asked policy text packets outcome.verdicts []
+plain_alone_told true form policy text packets outcome shown e = cc
+plain_alone_told false Plain policy text packets outcome shown e = (refl, refl)
+plain_alone_told false Explained policy text packets outcome shown e = cc
+plain_alone_told false Json policy text packets outcome shown e = cc
+
+pub told_plain : {W : Type 0} (bytes : W → Option (List ℕ)) (failures : W → ℕ) (old new : W) (options : Options) (input : List ℕ) (policy : PolicyFacts) (packets : List PacketFacts) (outcome : Outcome)
+    (result : Result Totals Fault) → needs_bytes options ≡ false → IsRead input policy packets outcome.captures
+    → Writes bytes failures old new (report_shown options.shown outcome.verdicts outcome.captures) (totals_of outcome.verdicts outcome.captures) result
+    → IfOk result (HasReport options input policy packets outcome (bytes old) (bytes new))
+told_plain bytes failures old new options input policy packets outcome (Ok totals) plain read w =
+    let are = plain_alone_told options.hits options.lines policy read.parts.policy packets outcome options.shown plain in
+    record {
+      report = report_shown options.shown outcome.verdicts outcome.captures;
+      is = record {
+        parts = read.parts;
+        parted = read.parted;
+        lines = report_shown options.shown outcome.verdicts outcome.captures;
+        are = are.0;
+        hits = [];
+        told = are.1;
+        all = sym (append-nil _);
+      };
+      text = w.whole;
+      counted = w.counted;
+    }
+told_plain bytes failures old new options input policy packets outcome (Err fault) plain read w = tt
+
+-- what was gone over once more is the input
+pub told_of_input : (options : Options) (bytes input : List ℕ) (policy : PolicyFacts) (packets : List PacketFacts) (outcome : Outcome) (old new : Option (List ℕ)) (result : Result Totals Fault) → bytes ≡ input
+    → (IsRead bytes policy packets outcome.captures → IfOk result (HasReport options bytes policy packets outcome old new))
+    → IsRead input policy packets outcome.captures → IfOk result (HasReport options input policy packets outcome old new)
+told_of_input options bytes input policy packets outcome old new result same told read =
+    subst (λ (b : List ℕ). IfOk result (HasReport options b policy packets outcome old new)) same
+    (told (subst (λ (b : List ℕ). IsRead b policy packets outcome.captures) (sym same) read))

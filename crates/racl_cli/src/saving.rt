@@ -29,8 +29,8 @@ fn save_chosen<S: Sink>(
 ) -> Result<(), Fault>
     requires { MayFail S.failures file.old }
     ensures ok { OnOk result ((bytes : List ℕ) (policy : PolicyFacts) (packets : List PacketFacts) (captures : List Captured)
-        → IsInput bytes (input_facts input) → IsRead bytes policy packets captures
-        → HasSaved S.bytes (input_facts input) chosen verdicts.now file.old file.new) }
+        → IsInput bytes (input_facts input.entry) → IsRead bytes policy packets captures
+        → HasSaved S.bytes (input_facts input.entry) chosen verdicts.now file.old file.new) }
     ensures fault { IfErr result (λ fault. fault ≡ Write) }
 {
     let Some(sink) = file else {

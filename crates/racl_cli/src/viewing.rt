@@ -1,10 +1,9 @@
 //! The report on an input, for which it is gone over once more where more is told than its verdicts.
-ghost use Rattle.std.specs.Prelude.{◌≡◌, ◌<◌, ◌-◌, ◌^◌, ℕ, List, [], ◌∷◌, IfErr, MatchResult, Some, length};
+ghost use Rattle.std.specs.Prelude.{◌≡◌, ◌<◌, ◌-◌, ◌^◌, ℕ, List, [], ◌∷◌, IfOk, Some, length};
 ghost use Rattle.packet_view.specs.Captures.{PacketFacts, packet_facts};
 ghost use Rattle.packet_view.specs.CheckedCaptures.{remaining};
 ghost use Rattle.acl_policy.specs.Policies.{IsPolicyText, PolicyFacts, policy_facts};
-ghost use Rattle.racl_io.specs.declared.fault.Fault.TheVariants.{Memory};
-ghost use Rattle.racl_io.specs.declared.report.Captured.{Captured};
+ghost use Rattle.racl_io.specs.declared.report.Captured as told;
 ghost use Rattle.racl_io.specs.Inputs.{input_facts};
 ghost use Rattle.racl_io.specs.Reports;
 ghost use Rattle.racl_views.specs.CapturePackets.{HavePackets};
@@ -13,14 +12,15 @@ ghost use Rattle.racl_views.specs.Views.{run_facts};
 ghost use Rattle.racl_cli.specs.Runs.{HasPackets, IsRead, Outcome};
 ghost use Rattle.racl_cli.specs.inner.Captures.{AreTakenFrom, facts_of};
 ghost use Rattle.racl_cli.specs.inner.Views;
-ghost use Rattle.racl_cli.specs.inner.Views.{IsAgain, MayTell, WritesLines, WritesReport};
+ghost use Rattle.racl_cli.specs.inner.Views.{EndsOnce, HasLines, HasReport, IsAgain, MayTell};
 
 use crate::outcome::Judged;
 use acl_policy::{Policy, read_policy};
+use flow_workers::Verdict;
 use packet_view::Packets;
 use racl_io::{
-    Digits, Fault, Form, Input, Numbered, Sink, Totals, cut_digits, decode_digits, split_input,
-    write_all, write_shown,
+    Captured, Digits, Fault, Form, Input, Numbered, Shown, Sink, Totals, cut_digits, decode_digits,
+    split_input, write_all, write_shown,
 };
 use racl_options::{Lines, Options};
 use racl_views::{CaptureBytes, Run, View, hits_text, packets_in, write_view};
@@ -29,10 +29,10 @@ use std::thread::Threads;
 
 /// An input that is gone over once more.
 #[derive(Drop)]
-pub struct Again<'a> {
+pub struct Again {
     pub policy: Policy,
     /// The policy's text.
-    pub text: &'a [u8],
+    pub text: Vec<u8>,
     pub captures: Vec<CaptureBytes>,
 }
 
@@ -43,10 +43,13 @@ pub fn needs_bytes(options: &Options) -> bool
     options.hits || !matches!(options.lines, Lines::Plain)
 }
 
-// The bytes of captures with numbers.
-fn numbered_captures(alloc: Global, first: Numbered<'_>) -> Result<Vec<CaptureBytes>, Fault>
-    ensures { (packets : List PacketFacts) (captures : List Captured) → AreTakenFrom [] (Some (facts_of first.entry)) packets captures
-        → MatchResult result (λ all. HavePackets all.items packets) (λ fault. fault ≡ Memory) }
+// The bytes of captures with numbers that are right, so that memory alone can be wanting.
+fn numbered_captures(
+    alloc: Global,
+    first: Numbered<'_>,
+) -> Result<Vec<CaptureBytes>, AllocError>
+    ensures { (packets : List PacketFacts) (captures : List told.Captured) → AreTakenFrom [] (Some (facts_of first.entry)) packets captures
+        → IfOk result (λ all. HavePackets all.items packets) }
 {
     let mut all = Vec::new(alloc);
     let mut next = Some(first);
@@ -55,9 +58,12 @@ fn numbered_captures(alloc: Global, first: Numbered<'_>) -> Result<Vec<CaptureBy
             digits,
             next: behind,
         } = cut_digits(capture.content);
+        let Ok(bytes) = decode_digits(alloc, digits) else {
+            return Err(AllocError);
+        };
         all.push(CaptureBytes {
             interface: capture.interface,
-            bytes: decode_digits(alloc, digits)?,
+            bytes,
         })?;
         next = behind;
     }
@@ -76,45 +82,52 @@ fn one_capture(alloc: Global, bytes: Vec<u8>) -> Result<Vec<CaptureBytes>, Alloc
     Ok(all)
 }
 
-// The bytes of an input's captures.
-fn captures_of(alloc: Global, input: Input<'_>) -> Result<Vec<CaptureBytes>, Fault>
-    ensures { (packets : List PacketFacts) (captures : List Captured)
+// The bytes of an input's captures, which are right.
+fn captures_of(alloc: Global, input: Input<'_>) -> Result<Vec<CaptureBytes>, AllocError>
+    ensures { (packets : List PacketFacts) (captures : List told.Captured)
         → HasPackets (input_facts input.entry).form (input_facts input.entry).content packets captures
-        → MatchResult result (λ all. HavePackets all.items packets) (λ fault. fault ≡ Memory) }
+        → IfOk result (λ all. HavePackets all.items packets) }
 {
-    let bytes = match input.form {
-        Form::Binary => Vec::from_slice(alloc, input.content)?,
-        Form::Hexadecimal => decode_digits(alloc, input.content)?,
+    match input.form {
+        Form::Binary => match Vec::from_slice(alloc, input.content) {
+            Ok(bytes) => one_capture(alloc, bytes),
+            Err(error) => Err(error),
+        },
+        Form::Hexadecimal => match decode_digits(alloc, input.content) {
+            Ok(bytes) => one_capture(alloc, bytes),
+            Err(_) => Err(AllocError),
+        },
         Form::Numbered(interface) => {
             let first = Numbered {
                 interface,
                 content: input.content,
             };
-            return numbered_captures(alloc, first);
+            numbered_captures(alloc, first)
         }
-    };
-    Ok(one_capture(alloc, bytes)?)
+    }
 }
 
-// Goes over an input once more.
-fn read_again<'a>(alloc: Global, bytes: &'a [u8]) -> Result<Again<'a>, Fault>
-    ensures { (policy : PolicyFacts) (packets : List PacketFacts) (captures : List Captured) → IsRead bytes.entry.now policy packets captures
-        → MatchResult result (IsAgain bytes.entry.now policy packets) (λ fault. fault ≡ Memory) }
+// Goes over an input once more that is right.
+fn read_again(alloc: Global, bytes: &[u8]) -> Result<Again, AllocError>
+    ensures { (policy : PolicyFacts) (packets : List PacketFacts) (captures : List told.Captured) → IsRead bytes.now policy packets captures
+        → IfOk result (IsAgain bytes.now policy packets) }
 {
     let Some(input) = split_input(bytes) else {
-        return Err(Fault::NoCapture);
+        return Err(AllocError);
     };
-    let policy = match read_policy(alloc, input.policy) {
-        Ok(policy) => policy,
-        Err(fault) => return Err(Fault::from(fault)),
+    let Ok(policy) = read_policy(alloc, input.policy) else {
+        return Err(AllocError);
+    };
+    let Ok(text) = Vec::from_slice(alloc, input.policy) else {
+        return Err(AllocError);
     };
     match captures_of(alloc, input) {
         Ok(captures) => Ok(Again {
             policy,
-            text: input.policy,
+            text,
             captures,
         }),
-        Err(fault) => Err(fault),
+        Err(error) => Err(error),
     }
 }
 
@@ -128,8 +141,9 @@ fn write_lines<W: Sink, T: Threads>(
 ) -> Result<Totals, Fault>
     requires sound { W.failures writer.old < 2 ^ 64 - 1 }
     requires counted { Reports.packets_in run.captures.now ≡ length run.verdicts.now }
-    ensures { IsPolicyText run.text.now (policy_facts run.policy.now)
-        → WritesLines W.bytes W.failures writer.old writer.new lines (run_facts run) result }
+    ensures told { IsPolicyText run.entry.text.now (policy_facts run.entry.policy.now)
+        → IfOk result (HasLines lines (run_facts run.entry) (W.bytes writer.old) (W.bytes writer.new)) }
+    ensures ends { EndsOnce W.failures writer.old writer.new result }
 {
     match lines {
         Lines::Plain => write_shown(
@@ -145,10 +159,33 @@ fn write_lines<W: Sink, T: Threads>(
     }
 }
 
+// What a run had, and what came of it.
+fn run_of<'a>(
+    policy: &'a Policy,
+    text: &'a [u8],
+    packets: Packets<'a>,
+    verdicts: &'a [Verdict],
+    captures: &'a [Captured],
+    shown: Shown,
+) -> Run<'a>
+    ensures { run_facts result ≡ record {
+        policy = policy_facts policy.entry.now; text = text.entry.now; packets = remaining packets.entry;
+        verdicts = verdicts.entry.now; captures = captures.entry.now; shown = shown } }
+{
+    Run {
+        policy,
+        text,
+        packets,
+        verdicts,
+        captures,
+        shown,
+    }
+}
+
 // What is told of hits, where it is asked for.
 fn hits_of(alloc: Global, asked: bool, run: Run<'_>) -> Result<Vec<u8>, AllocError>
-    ensures { IfOk result (λ told. IsPolicyText run.text.now (policy_facts run.policy.now)
-        → AreHits asked (policy_facts run.policy.now) run.text.now (remaining run.packets) run.verdicts.now told.items) }
+    ensures { IfOk result (λ told. IsPolicyText run.entry.text.now (policy_facts run.entry.policy.now)
+        → AreHits asked (policy_facts run.entry.policy.now) run.entry.text.now (remaining run.entry.packets) run.entry.verdicts.now told.items) }
 {
     if asked {
         hits_text(alloc, run.policy, run.text, run.packets, run.verdicts)
@@ -163,25 +200,25 @@ fn write_again<W: Sink, T: Threads>(
     alloc: Global,
     writer: &mut W,
     options: &Options,
-    again: &Again<'_>,
+    again: &Again,
     judged: &Judged,
 ) -> Result<Totals, Fault>
     requires { W.failures writer.old < 2 ^ 64 - 1 }
-    ensures { (input : List ℕ) (policy : PolicyFacts) (packets : List PacketFacts) → IsAgain input policy packets again.now
-        → WritesReport W.bytes W.failures writer.old writer.new options.now input policy packets judged.now result }
+    ensures told { (input : List ℕ) (policy : PolicyFacts) (packets : List PacketFacts) → IsAgain input policy packets again.now
+        → IfOk result (HasReport options.now input policy packets judged.now (W.bytes writer.old) (W.bytes writer.new)) }
+    ensures ends { EndsOnce W.failures writer.old writer.new result }
 {
-    let packets = match packets_in(alloc, &again.captures) {
-        Ok(packets) => packets,
-        Err(_) => return Err(Fault::Memory),
+    let Ok(listed) = packets_in(alloc, &again.captures) else {
+        return Err(Fault::Memory);
     };
-    let run = Run {
-        policy: &again.policy,
-        text: again.text,
-        packets: Packets::Slice(&packets),
-        verdicts: &judged.verdicts,
-        captures: &judged.captures,
-        shown: options.shown,
-    };
+    let run = run_of(
+        &again.policy,
+        &again.text,
+        Packets::Slice(&listed),
+        &judged.verdicts,
+        &judged.captures,
+        options.shown,
+    );
     let Ok(hits) = hits_of(alloc, options.hits, run) else {
         return Err(Fault::Memory);
     };
@@ -200,9 +237,10 @@ pub fn write_judged<W: Sink, T: Threads>(
     judged: &Judged,
 ) -> Result<Totals, Fault>
     requires { W.failures writer.old < 2 ^ 64 - 1 }
-    ensures { (input : List ℕ) (policy : PolicyFacts) (packets : List PacketFacts) → MayTell options.now bytes.now input
+    ensures told { (input : List ℕ) (policy : PolicyFacts) (packets : List PacketFacts) → MayTell options.now bytes.now input
         → IsRead input policy packets (judged.now).captures
-        → WritesReport W.bytes W.failures writer.old writer.new options.now input policy packets judged.now result }
+        → IfOk result (HasReport options.now input policy packets judged.now (W.bytes writer.old) (W.bytes writer.new)) }
+    ensures ends { EndsOnce W.failures writer.old writer.new result }
 {
     if !needs_bytes(options) {
         return write_shown(

@@ -1,8 +1,9 @@
 //! The packets of a capture that are chosen by their verdicts, as a capture.
-ghost use Rattle.std.specs.Prelude.{◌≡◌, ◌-◌, ◌<◌, ◌≤◌, ◌^◌, ◌++◌, ℕ, List, [], IfNone, IfSome, drop, length, take};
+ghost use Rattle.std.specs.Prelude.{◌≡◌, ◌-◌, ◌<◌, ◌≤◌, ◌^◌, ◌++◌, ℕ, List, [], IfErr, IfNone, IfSome, drop, length, take};
 ghost use Rattle.packet_view.specs.Captures.{End, IsCapture, IsCaptureAt, IsHeaderFault, IsPiece, Record, RecordFacts, Whole, packets_at};
 ghost use Rattle.packet_view.specs.declared.capture.CaptureFault.{CaptureFault};
 ghost use Rattle.flow_filter.specs.declared.verdict.Verdict.{Verdict};
+ghost use Rattle.racl_io.specs.declared.fault.Fault.TheVariants.{Write};
 ghost use Rattle.racl_io.specs.Sinks.{HasPut};
 ghost use Rattle.racl_views.specs.ChosenRecords.{HasRecords, IsChosen, IsRecordOf, chosen_among};
 ghost use Rattle.racl_views.specs.declared.chosen.Chosen.{Chosen};
@@ -81,6 +82,7 @@ pub fn write_chosen<W: Sink>(
     ensures capture { (records : List RecordFacts) → HasRecords capture.now records
         → (written : List ℕ) × IsChosen chosen verdicts.now capture.now records written × HasPut W.bytes W.failures writer.old writer.new written result }
     ensures other { (fault : CaptureFault) → IsHeaderFault capture.now fault → HasPut W.bytes W.failures writer.old writer.new [] result }
+    ensures fault { IfErr result (λ fault. fault ≡ Write) }
 {
     match capture_header(capture) {
         Ok(order) => write_records(writer, capture, order, chosen, verdicts),

@@ -1,13 +1,14 @@
 -- Captures that are gone over once more.
-use Rattle.std.specs.Prelude.{◌≡◌, ◌++◌, ◌||◌, ℕ, Bool, true, not, List, Option, Result}
+use Rattle.std.specs.Prelude.{◌≡◌, ◌≢◌, ◌+◌, ◌++◌, ◌||◌, ◌⊎◌, ◌↔◌, ℕ, Bool, true, not, List, Option, Result, Err, IfErr}
+use Rattle.std.specs.Io.KnownBytes.{Appends}
 use Rattle.packet_view.specs.Captures.{PacketFacts}
 use Rattle.acl_policy.specs.Policies.{IsPolicyText, PolicyFacts, policy_facts}
 use Rattle.racl_io.specs.declared.fault.Fault.{Fault}
+use Rattle.racl_io.specs.declared.fault.Fault.TheVariants.{Memory, Write}
 use Rattle.racl_io.specs.declared.report.Captured.{Captured}
 use Rattle.racl_io.specs.declared.report.Totals.{Totals}
 use Rattle.racl_io.specs.Inputs.{InputFacts, IsInput, NumberedFacts}
 use Rattle.racl_io.specs.Reports.{totals_of}
-use Rattle.racl_io.specs.Sinks.{Writes}
 use Rattle.racl_options.specs.Asking.{is_plain}
 use Rattle.racl_options.specs.declared.settings.Lines.{Lines}
 use Rattle.racl_options.specs.declared.settings.Options.{Options}
@@ -32,21 +33,29 @@ pub record IsAgain (bytes : List ℕ) (policy : PolicyFacts) (packets : List Pac
   pub parted : IsInput bytes parts
   pub says : IsPolicyText parts.policy policy
   pub policy_is : policy_facts again.policy ≡ policy
-  pub text : again.text.now ≡ parts.policy
+  pub text : again.text.items ≡ parts.policy
   pub captures : HavePackets again.captures.items packets
 
--- the lines of a run, which are written in the form that is asked for
-pub record WritesLines {W : Type 0} (bytes : W → Option (List ℕ)) (failures : W → ℕ) (old new : W) (asked : Lines) (run : RunFacts) (result : Result Totals Fault) : Type 0 where
+-- memory ran out before anything was written, or a write failed, once
+pub record EndsOnce {W X : Type 0} (failures : W → ℕ) (old new : W) (result : Result X Fault) : Type 0 where
+  pub fault : IfErr result (λ e. (e ≡ Memory) ⊎ (e ≡ Write))
+  pub write : (result ≡ Err Write) ↔ (failures new ≡ failures old + 1)
+  pub steady : result ≢ Err Write → failures new ≡ failures old
+  pub unwritten : IfErr result (λ e. e ≢ Write → new ≡ old)
+
+-- the lines of a run stand behind what was written before, in the form that is asked for, and its totals are answered
+pub record HasLines (asked : Lines) (run : RunFacts) (old new : Option (List ℕ)) (totals : Totals) : Type 0 where
   pub lines : List ℕ
   pub are : AreLines asked run lines
-  pub writes : Writes bytes failures old new lines (totals_of run.verdicts run.captures) result
+  pub text : Appends old new lines
+  pub counted : totals ≡ totals_of run.verdicts run.captures
 
--- the report on an input is written
-pub record WritesReport {W : Type 0} (bytes : W → Option (List ℕ)) (failures : W → ℕ) (old new : W) (options : Options) (input : List ℕ) (policy : PolicyFacts) (packets : List PacketFacts)
-    (outcome : Outcome) (result : Result Totals Fault) : Type 0 where
+-- and so does the report on an input
+pub record HasReport (options : Options) (input : List ℕ) (policy : PolicyFacts) (packets : List PacketFacts) (outcome : Outcome) (old new : Option (List ℕ)) (totals : Totals) : Type 0 where
   pub report : List ℕ
   pub is : IsReport options input policy packets outcome report
-  pub writes : Writes bytes failures old new report (totals_of outcome.verdicts outcome.captures) result
+  pub text : Appends old new report
+  pub counted : totals ≡ totals_of outcome.verdicts outcome.captures
 
 -- the captures so far are the first of those that have these packets, and the others begin with the next one
 pub record AreAmid (all : List CaptureBytes) (next : Option NumberedFacts) (packets : List PacketFacts) : Type 0 where

@@ -4,7 +4,7 @@ use Rattle.racl_io.specs.Faults.{IsSystemFault}
 use Rattle.racl_io.specs.declared.fault.Fault.TheVariants.{Memory}
 use Rattle.racl_cli.specs.Runs.{Outcome}
 use Rattle.std.proofs.lemmas.Result.{err_from_is_err_and}
-use Rattle.racl_cli.proofs.OutcomeLemmas.{TellsHits, has_reported, has_run}
+use Rattle.racl_cli.proofs.OutcomeLemmas.{has_reported, has_run, kept_told}
 use Rattle.racl_cli.proofs.ReadLemmas.{fault_of_right, fault_read, fault_refused, known_read, unwritten}
 use Rattle.racl_cli.proofs.RunLemmas.{excluded_by_input}
 use Rattle.racl_cli.proofs.end_to_end.run.Goals as goal
@@ -26,40 +26,20 @@ returns-in_err-judged-clause-accepts g c =
 
 pub returns-clause-ok : goal.returns-clause-ok
 returns-clause-ok g c =
-    let k = c.in_ok-judged.ensures.kept in
-    let options = c.args.options.now in
-    let hits = c.deref-3.result.now in
-    let tells =
-    subst (λ (h : List ℕ). TellsHits options c.judge_kept.new.kept.items c.in_ok-judged.judged.verdicts h) (sym c.deref-3.ensures.value)
-    (subst (λ (vs : List Verdict). TellsHits options c.judge_kept.new.kept.items vs c.in-Ok.hits.items)
-    (c.deref-2.ensures.value ∙ ap (λ (o : Outcome). o.verdicts) c.judged.view_is)
-    (subst (λ (b : List ℕ). TellsHits options b c.deref-2.result.now c.in-Ok.hits.items) c.deref.ensures.value c.in-Ok.ensures)) in
-    has_run options _ _ _ c.judge_kept.new.kept.items c.in_ok-judged.judged _ _ hits c.write_told.result refl k tells
-    c.write_told.ensures.whole c.write_told.ensures.counted
+    has_run (g.W.Sink.bytes c.args.writer.now) (g.W.Sink.bytes c.write_judged.new.writer) c.args.options.now _ c.needs_bytes.result c.judge_kept.new.kept.items c.in_ok-judged.judged c.write_judged.result
+    c.in_ok-judged.ensures.kept (λ asked. c.needs_bytes.ensures ∙ asked)
+    (kept_told (g.W.Sink.bytes c.args.writer.now) (g.W.Sink.bytes c.write_judged.new.writer) c.args.options.now c.deref.result.now c.judge_kept.new.kept.items c.in_ok-judged.judged c.write_judged.result
+    c.deref.ensures.value c.write_judged.ensures.told)
 
 pub returns-clause-accepts : goal.returns-clause-accepts
 returns-clause-accepts g c =
     let k = c.in_ok-judged.ensures.kept in
-    let options = c.args.options.now in
-    let hits = c.deref-3.result.now in
-    let tells =
-    subst (λ (h : List ℕ). TellsHits options c.judge_kept.new.kept.items c.in_ok-judged.judged.verdicts h) (sym c.deref-3.ensures.value)
-    (subst (λ (vs : List Verdict). TellsHits options c.judge_kept.new.kept.items vs c.in-Ok.hits.items)
-    (c.deref-2.ensures.value ∙ ap (λ (o : Outcome). o.verdicts) c.judged.view_is)
-    (subst (λ (b : List ℕ). TellsHits options b c.deref-2.result.now c.in-Ok.hits.items) c.deref.ensures.value c.in-Ok.ensures)) in
     known_read _ _ _ k.bytes _ (record { whole = k.known; few = k.few }) (λ one_thread has.
-    has_reported options _ _ _ c.judge_kept.new.kept.items one_thread c.in_ok-judged.judged _ _ hits c.write_told.result refl k has tells
-    c.write_told.ensures.whole c.write_told.ensures.counted c.write_told.ensures.fault)
-
-pub returns-in_default-clause-accepts : goal.returns-in_default-clause-accepts
-returns-in_default-clause-accepts g c =
-    let k = c.in_ok-judged.ensures.kept in
-    known_read _ _ _ k.bytes (λ input outcome. IsSystemFault Memory) (record { whole = k.known; few = k.few }) (λ outcome has. tt)
-
-pub returns-in_default-clause-refuses : goal.returns-in_default-clause-refuses
-returns-in_default-clause-refuses g c =
-    let k = c.in_ok-judged.ensures.kept in
-    excluded_by_input _ _ _ (record { whole = k.known; few = k.few }) (λ fault of. inr (inl refl))
+    has_reported (g.W.Sink.bytes c.args.writer.now) (g.W.Sink.bytes c.write_judged.new.writer) c.args.options.now _ c.needs_bytes.result c.judge_kept.new.kept.items c.in_ok-judged.judged c.write_judged.result
+    k (λ asked. c.needs_bytes.ensures ∙ asked)
+    (kept_told (g.W.Sink.bytes c.args.writer.now) (g.W.Sink.bytes c.write_judged.new.writer) c.args.options.now c.deref.result.now c.judge_kept.new.kept.items c.in_ok-judged.judged c.write_judged.result
+    c.deref.ensures.value c.write_judged.ensures.told)
+    one_thread has c.write_judged.ensures.ends.fault)
 
 pub returns-clause-refuses : goal.returns-clause-refuses
 returns-clause-refuses g c =

@@ -1,0 +1,44 @@
+use Rattle.std.proofs.Common.{◌∙◌, Ok, ap, refl, true}
+use Rattle.racl_cli.specs.Runs.{Outcome}
+use Rattle.racl_cli.proofs.OutcomeLemmas.{kept_told, ran}
+use Rattle.racl_cli.proofs.SaveLemmas.{has_saved}
+use Rattle.std.proofs.lemmas.Result.{err_from_is_err_and}
+use Rattle.racl_cli.proofs.ReadLemmas.{fault_read, fault_refused}
+use Rattle.racl_cli.proofs.RunLemmas.{excluded_by_input}
+use Rattle.racl_cli.proofs.end_to_end.run_saving.Goals as goal
+
+pub returns-in_err-judged-clause-fault : goal.returns-in_err-judged-clause-fault
+returns-in_err-judged-clause-fault g c =
+    let p = err_from_is_err_and c.from_residual.result c.from_residual.ensures.1 in
+    rw (p.1, p.2) (fault_read c.args.options.now _ c.in_err-judged.field-0.0 c.in_err-judged.ensures.answers)
+
+pub returns-in_err-judged-clause-refuses : goal.returns-in_err-judged-clause-refuses
+returns-in_err-judged-clause-refuses g c =
+    let p = err_from_is_err_and c.from_residual.result c.from_residual.ensures.1 in
+    rw (p.1, p.2) (fault_refused c.args.options.now _ c.in_err-judged.field-0.0 c.in_err-judged.ensures.answers)
+
+pub returns-in_err-totals-clause-refuses : goal.returns-in_err-totals-clause-refuses
+returns-in_err-totals-clause-refuses g c =
+    let k = c.in_ok-judged.ensures.kept in
+    excluded_by_input _ _ _ (record { whole = k.known; few = k.few }) (λ fault of. absurd (k.answers.refuses fault of))
+
+pub returns-in_err-save_packets-clause-refuses : goal.returns-in_err-save_packets-clause-refuses
+returns-in_err-save_packets-clause-refuses g c =
+    let k = c.in_ok-judged.ensures.kept in
+    excluded_by_input _ _ _ (record { whole = k.known; few = k.few }) (λ fault of. absurd (k.answers.refuses fault of))
+
+pub returns-clause-refuses : goal.returns-clause-refuses
+returns-clause-refuses g c =
+    let k = c.in_ok-judged.ensures.kept in
+    excluded_by_input _ _ _ (record { whole = k.known; few = k.few }) (λ fault of. absurd (k.answers.refuses fault of))
+
+pub returns-clause-ok : goal.returns-clause-ok
+returns-clause-ok g c =
+    let k = c.in_ok-judged.ensures.kept in
+    let old = g.W.Sink.bytes c.args.writer.now in
+    let new = g.W.Sink.bytes c.write_judged.new.writer in
+    let told = kept_told old new c.args.options.now c.deref.result.now c.judge_kept.new.kept.items c.in_ok-judged.judged (Ok c.in_ok-totals.totals) c.deref.ensures.value c.in_ok-totals.ensures.told in
+    has_saved g.S.Sink.bytes c.args.options.now (g.R.Source.bytes c.args.reader.now) old new c.args.saves.now c.save_packets.new.saves c.in_ok-totals.totals c.in_ok-judged.judged k.bytes
+    c.deref-2.result.now c.deref-3.result.now
+    (ran old new c.args.options.now (g.R.Source.bytes c.args.reader.now) true c.judge_kept.new.kept.items c.in_ok-judged.judged (Ok c.in_ok-totals.totals) k (λ asked. refl) told)
+    (c.deref-2.ensures.value ∙ k.same refl) (c.deref-3.ensures.value ∙ ap (λ (o : Outcome). o.verdicts) c.judged.view_is) c.in_ok-save_packets.ensures.ok
