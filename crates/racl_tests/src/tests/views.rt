@@ -122,13 +122,15 @@ fn packets_and_the_rules_that_decided_them(rt: HostRuntime) -> Result<(), Fail> 
         write_view(alloc, &mut report, View::Explained, run)?;
         let wanted = format!(in alloc;
             "1 if {interface} {explained}\nif {interface} truncated after 1\n\
-            packets 1 pass {passed} drop {dropped}\n")?;
+            packets 1 pass {passed} drop {dropped}\n"
+        )?;
         assert_eq!(rt; report.inner.as_slice(), wanted.as_bytes());
         let mut objects = Device::new(Vec::new(alloc));
         write_view(alloc, &mut objects, View::Json, run)?;
         let wanted = format!(in alloc;
             "{{\"packet\":1,{object}}}\n{{\"interface\":{interface},\"truncated_after\":1}}\n\
-            {{\"packets\":1,\"pass\":{passed},\"drop\":{dropped}}}\n")?;
+            {{\"packets\":1,\"pass\":{passed},\"drop\":{dropped}}}\n"
+        )?;
         assert_eq!(rt; objects.inner.as_slice(), wanted.as_bytes());
     }
     Ok(())
