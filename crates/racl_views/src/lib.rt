@@ -9,6 +9,7 @@ mod entry;
 mod explained;
 mod hits;
 mod json;
+mod laws;
 mod numbering;
 mod other;
 mod pieces;
@@ -25,6 +26,7 @@ mod writing;
 
 pub use capture_bytes::{CaptureBytes, packets_in};
 pub use hits::hits_text;
+pub use laws::explained_lines_begin_as_the_report;
 pub use numbering::rule_lines;
 pub use rule::{RuleLine, RuleName};
 pub use run::Run;
