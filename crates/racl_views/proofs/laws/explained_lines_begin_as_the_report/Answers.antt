@@ -1,4 +1,4 @@
-use Rattle.std.proofs.Common.{◌≡◌, ◌∙◌, ◌++◌, ℕ, List, append_assoc, ap, codes, decimal, refl, sym}
+use Rattle.std.proofs.Common.{◌∙◌, ◌++◌, ℕ, List, append_assoc, ap, codes, decimal, refl, sym}
 use Rattle.racl_io.specs.Reports.{name_of, text_of}
 use Rattle.racl_views.specs.ExplainedLines.{head_of}
 use Rattle.racl_views.proofs.laws.explained_lines_begin_as_the_report.Goals as goal
