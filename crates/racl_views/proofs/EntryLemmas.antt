@@ -5,13 +5,13 @@ use Rattle.std.proofs.lemmas.List.{drop-drop}
 use Rattle.packet_view.specs.Captures.{PacketFacts}
 use Rattle.packet_view.specs.Frames.{FrameFacts}
 use Rattle.packet_view.proofs.FrameLemmas.{view_only, view_shown}
-use Rattle.acl_policy.specs.Policies.{IsPolicyText, PolicyFacts}
+use Rattle.acl_policy.specs.Policies.{PolicyFacts}
 use Rattle.flow_filter.specs.Readings.{IsSeen}
 use Rattle.flow_filter.specs.declared.verdict.Verdict.{Verdict}
 use Rattle.racl_views.specs.declared.rule.RuleLine.{RuleLine}
 use Rattle.racl_views.specs.declared.view.View.{View}
 use Rattle.racl_views.specs.Entries.{AreEntries, EntryFacts}
-use Rattle.racl_views.specs.RuleLines.{AreRules, rules_from}
+use Rattle.racl_views.specs.RuleLines.{AreRules}
 use Rattle.racl_views.specs.RuleTexts.{rule_texts}
 use Rattle.racl_views.specs.Views.{Format, IsTold, RunFacts, lines_told, report_told}
 use Rattle.racl_views.specs.inner.EntryLists.{entries_on, entry_on, view_at}

@@ -194,12 +194,7 @@ fn push_decided<'a>(piece: &mut Piece, texts: &'a [RuleText<'a>], line: u64)
 }
 
 /// The line of the packet with this number.
-pub fn push_explained<'a>(
-    piece: &mut Piece,
-    texts: &'a [RuleText<'a>],
-    place: Place,
-    entry: &Entry,
-)
+pub fn push_explained<'a>(piece: &mut Piece, texts: &'a [RuleText<'a>], place: Place, entry: &Entry)
     requires { length piece.old + 741 ≤ 262144 }
     ensures text { piece.new ≡ piece.old ++ explained_line (map shown_of texts.now) place.named place.number (entry_facts entry.now) }
     ensures short { length piece.new ≤ length piece.old + 741 }

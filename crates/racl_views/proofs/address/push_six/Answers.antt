@@ -1,4 +1,4 @@
-use Rattle.std.proofs.Common.{◌≡◌, false, [], ◌∷◌, take, bytes_eq, refl, arith, rules}
+use Rattle.std.proofs.Common.{◌≡◌, false, [], ◌∷◌, take, bytes_eq, refl, arith}
 use Rattle.std.proofs.lemmas.Slice.Eq.{bytes_eq-Decides}
 use Rattle.std.specs.Net.Addr.{ipv6_segments}
 use Rattle.std.specs.Net.Text.{ipv6_text}

@@ -1,4 +1,4 @@
-use Rattle.std.proofs.Common.{◌≡◌, ◌++◌, ◌+◌, ◌∙◌, ℕ, List, ap, ap₂, arith, drop, length, length-append, sym, take}
+use Rattle.std.proofs.Common.{◌≡◌, ◌++◌, ◌+◌, ◌∙◌, ℕ, ap, ap₂, arith, drop, length, length-append, sym}
 use Rattle.std.proofs.KnownBytes.{Appends-trans}
 use Rattle.packet_view.specs.CheckedCaptures.{remaining}
 use Rattle.acl_policy.specs.Policies.{policy_facts}
@@ -35,7 +35,7 @@ each-preserved g c =
       written = (
         inv.written.0 ++ told,
         captures_more format inv.written.0 _ (c.each.others + 1) _ (entries_by telling packets rest) (entries_by telling packets first) (entries_by telling left behind)
-        captured c.each.left.now c.in-Some.after.now inv.written.1 parted taken dropped (omega arith),
+            captured c.each.left.now c.in-Some.after.now inv.written.1 parted taken dropped (omega arith),
         Appends-trans _ _ _ _ _ inv.written.2 (Appends-trans _ _ _ _ _ c.in_ok-write_packets.ensures.put.0 c.in_ok-write_cut.ensures.0),
       );
       sound = c.in_ok-write_cut.ensures.1 ∙ c.in_ok-write_packets.ensures.put.1 ∙ inv.sound;

@@ -1,4 +1,4 @@
-use Rattle.std.proofs.Common.{◌≡◌, ◌∙◌, ◌++◌, ◌+◌, ◌≤◌, ℕ, List, [], ap, arith, drop, length, subst, sym}
+use Rattle.std.proofs.Common.{◌≡◌, ◌∙◌, ◌++◌, ◌+◌, ℕ, List, ap, arith, drop, length, subst, sym}
 use Rattle.std.proofs.KnownBytes.{Appends-trans}
 use Rattle.std.proofs.Math.ListN.{drop_of_length-le}
 use Rattle.std.specs.Io.KnownBytes.{Appends}
@@ -26,7 +26,7 @@ verdicts-preserved g c =
       numbered = omega (arith, h.numbered);
       named = h.named;
       left = left_more (remaining c.args.packets.now) (remaining c.verdicts.packets) (remaining c.next.new.self) (packet_facts c.in-Some.packet)
-      c.verdicts.verdict-index h.left c.in-Some.ensures;
+          c.verdicts.verdict-index h.left c.in-Some.ensures;
       front = h.front ++ pushed.0;
       written = Appends-trans _ _ _ _ _ h.written pushed.1;
       told = told_more h.front pushed.0 c.verdicts.piece c.tell.new.piece _ more _ told pushed.2;
@@ -46,7 +46,7 @@ returns g c =
     record {
       put = (
         subst (λ (t : List ℕ). Appends (g.W.Sink.bytes c.args.writer.now) (g.W.Sink.bytes c.write_all-2.new.writer) t) all
-        (Appends-trans _ _ _ _ _ h.written c.in_ok-write_all-2.ensures.whole),
+            (Appends-trans _ _ _ _ _ h.written c.in_ok-write_all-2.ensures.whole),
         c.in_ok-write_all-2.ensures.ok ∙ h.sound,
         tt,
         tt,
@@ -66,11 +66,11 @@ returns-in_default g c =
     record {
       put = (
         subst (λ (t : List ℕ). Appends (g.W.Sink.bytes c.args.writer.now) (g.W.Sink.bytes c.write_all.new.writer) t) all
-        (Appends-trans _ _ _ _ _ h.written c.in_ok-write_all.ensures.whole),
+            (Appends-trans _ _ _ _ _ h.written c.in_ok-write_all.ensures.whole),
         c.in_ok-write_all.ensures.ok ∙ h.sound,
         tt,
         tt,
       );
       left = c.in_default.ensures.1 ∙ left_none (remaining c.args.packets.now) (remaining c.verdicts.packets) c.verdicts.verdict-index (length verdicts) h.left
-      c.in_default.ensures.0 (let within = c.verdicts-test.true in omega arith);
+          c.in_default.ensures.0 (let within = c.verdicts-test.true in omega arith);
     }

@@ -1,7 +1,5 @@
 use Rattle.std.proofs.Common.{[], Err, map, refl, rules}
 use Rattle.std.specs.Str.Lines.{lines}
-use Rattle.packet_view.specs.CheckedCaptures.{remaining}
-use Rattle.acl_policy.specs.Policies.{policy_facts}
 use Rattle.racl_io.specs.declared.fault.Fault.TheVariants.{Memory}
 use Rattle.racl_io.specs.Reports.{totals_of}
 use Rattle.racl_io.specs.Sinks.{Writes}
@@ -17,8 +15,7 @@ use Rattle.racl_views.proofs.writing.write_view.Goals as goal
 pub returns-in-Ok : goal.returns-in-Ok
 returns-in-Ok g c =
     let run = run_facts c.args.run in
-    let table = c.in-Ok.table in
-    (
+    let table = c.in-Ok.table in (
       report_told (record { view = c.args.view; shown = run.shown; texts = map shown_of table.texts.items })
           (entries_on run.policy table.rules.items run.packets run.verdicts) run.verdicts run.captures,
       λ is. told_by c.args.view run table.rules.items (map shown_of table.texts.items) (c.in-Ok.ensures run.policy is).0 (c.in-Ok.ensures run.policy is).1,
