@@ -4,6 +4,7 @@
 
 mod parts;
 mod reader;
+mod saved;
 mod unlooked;
 
 use crate::parts::{name_at, opened_or_told, opened_parts, policy_name};
