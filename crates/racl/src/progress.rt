@@ -1,0 +1,91 @@
+//! How much of a long input was read, on a terminal.
+
+use racl_cli::{DeviceFault, Source};
+use std::io::IsTerminal;
+use std::time::{Duration, Instant};
+
+/// A line on standard error, written in place, that says how much was read. It is there where standard error is a terminal
+/// and reading takes more than two seconds. Where something goes wrong with it, nothing is said.
+#[derive(Drop)]
+pub struct Progress<'a> {
+    rt: &'a HostRuntime,
+    bytes: u64,
+    /// When the line is written next; None where it isn't any more.
+    due: Option<Instant>,
+    is_shown: bool,
+}
+
+// So many seconds from now.
+fn in_seconds(rt: &HostRuntime, seconds: u64) -> Option<Instant> {
+    match Instant::now(rt) {
+        Ok(now) => now.checked_add(Duration::from_secs(seconds)),
+        Err(_) => None,
+    }
+}
+
+impl<'a> Progress<'a> {
+    pub fn new(rt: &'a HostRuntime) -> Progress<'a> {
+        let due = if rt.stderr().is_terminal() {
+            in_seconds(rt, 2)
+        } else {
+            None
+        };
+        Progress {
+            rt,
+            bytes: 0,
+            due,
+            is_shown: false,
+        }
+    }
+
+    fn is_due(&self) -> bool {
+        match (self.due, Instant::now(self.rt)) {
+            (Some(due), Ok(now)) => due <= now,
+            _ => false,
+        }
+    }
+
+    // Counts bytes that were read, and writes the line where it is due.
+    fn count(&mut self, bytes: usize) {
+        self.bytes = self.bytes.saturating_add(bytes as u64);
+        if self.is_due() {
+            let mebibytes = self.bytes / 1_048_576;
+            let _ = self
+                .rt
+                .eprint(format_args!("\rracl: {mebibytes} MiB are read"));
+            self.is_shown = true;
+            self.due = in_seconds(self.rt, 1);
+        }
+    }
+
+    /// Removes the line, and writes none any more.
+    pub fn end(&mut self) {
+        if self.is_shown {
+            let _ = self.rt.eprint("\r\x1b[K");
+        }
+        self.is_shown = false;
+        self.due = None;
+    }
+}
+
+/// A source of which it is said how much was read.
+#[derive(Drop)]
+pub struct Watched<'a, S> {
+    pub source: S,
+    pub progress: Progress<'a>,
+}
+
+impl<S: Source> Source for Watched<'_, S> {
+    ghost bytes = { λ w. S.bytes w.source };
+
+    ghost failures = { λ w. S.failures w.source };
+
+    fn read(&mut self, buf: &mut [u8]) -> Result<usize, DeviceFault> {
+        let result = self.source.read(buf);
+        match result {
+            Ok(count) if count > 0 => self.progress.count(count),
+            _ => self.progress.end(),
+        }
+        result
+    }
+}
