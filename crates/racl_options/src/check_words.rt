@@ -13,11 +13,14 @@ const USAGE: &str = "racl check POLICY";
 const ABOUT: &str =
     "Tells every wrong line of a policy, and what in a right one is unlikely to be meant.";
 
-const AFTER_HELP: &str = "Exit status:
+// What stands below the argument.
+fn after_help() -> &'static str {
+    "Exit status:
   0  the text is a policy
   1  it is none
   2  fault in the words
-  4  memory or device";
+  4  memory or device"
+}
 
 /// The name of the file whose policy is to be checked. `None`: the first word after the program's name isn't `check`.
 pub fn check_name<'a>(alloc: Global, words: &'a [&'a str]) -> Result<Option<&'a str>, Error>
@@ -53,7 +56,7 @@ fn described_check<'a>(alloc: Global) -> Command<'a>
     Command::new(alloc, "racl check")
         .about(ABOUT)
         .override_usage(USAGE)
-        .after_help(AFTER_HELP)
+        .after_help(after_help())
 }
 
 fn policy_argument<'a>(alloc: Global) -> Arg<'a>
