@@ -220,10 +220,13 @@ class Trial:
     def run(self):
         """Each edit's name, whether it is refused, and what is said."""
         told = {it.name: (False, f"can't be applied: {it.why}") for it in self.edits if it.why}
-        with tempfile.TemporaryDirectory() as kept:
-            begun = f"{self.crate.folder}/out/incremental"
+        with tempfile.TemporaryDirectory() as room:
+            begun, kept = f"{self.crate.folder}/out/incremental", f"{room}/kept"
             if os.path.isdir(begun):
-                shutil.copytree(begun, kept, dirs_exist_ok=True)
+                # by links where these can be made: a check replaces what it kept, and changes none of it
+                self.rt.linked(begun, kept)
+            else:
+                os.mkdir(kept)
             for together in self.rounds():
                 status, said = self.check(together, kept, [it for edit in together for it in edit.functions])
                 for edit in together:

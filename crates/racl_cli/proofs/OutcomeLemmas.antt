@@ -17,7 +17,9 @@ use Rattle.flow_filter.proofs.OneThreadLemmas.{one_verdicts}
 use Rattle.flow_filter.specs.Judged.{readings_of, verdict_on}
 use Rattle.flow_filter.specs.Readings.{IsReading}
 use Rattle.flow_dealing.specs.Dealings.{Deal}
-use Rattle.flow_dealing.specs.WorkerRecords.{AreFew, AreJudged, HasPagesIn}
+use Rattle.flow_dealing.specs.WorkerRecords.{AreFew, AreJudged, HasPagesIn, HavePages}
+use Rattle.flow_dealing.proofs.FewPackets.{pages_for_few}
+use Rattle.flow_dealing.proofs.OneReport.{one_report}
 use Rattle.flow_dealing.proofs.Places.{zip_count}
 use Rattle.racl_options.specs.declared.settings.Options.{Options}
 use Rattle.racl_options.specs.declared.settings.TableSize.{TableSize}
@@ -27,11 +29,15 @@ use Rattle.racl_io.specs.declared.report.Captured.{Captured}
 use Rattle.racl_io.specs.declared.report.Totals.{Totals}
 use Rattle.racl_io.specs.Faults.{IsFaultOfBytes, IsFaultOfContent, IsSystemFault, capture_fault, policy_fault}
 use Rattle.racl_io.specs.Inputs.{IsContent, IsInput, InputFacts, most_bytes}
-use Rattle.racl_cli.specs.Crews.{AreSaid, Orders, orders_for}
+use Rattle.racl_cli.specs.Crews.{AreAfter, AreSaid, Orders, orders_for}
+use Rattle.capture_stream.specs.Streams.{AreAllRead, records_in}
+use Rattle.capture_stream.specs.declared.stream.Opening.{Opening}
 use Rattle.flow_dealing.specs.WorkerRecords.{HavePages}
-use Rattle.racl_cli.specs.Reads.{AnswersInput, AreKnown, HasKept, IsReached, IsSaid, IsUnnumbered}
+use Rattle.racl_cli.specs.declared.sized.SizedWorkers.{SizedWorkers}
+use Rattle.racl_cli.specs.Reads.{AnswersInput, AreKnown, HasJudged, HasKept, IsReached, IsSaid, IsUnnumbered}
+use Rattle.racl_cli.specs.inner.Streams.{HasEnded, HasSaidAll}
 use Rattle.racl_cli.specs.inner.Views.{HasReport, MayTell, needs_bytes}
-use Rattle.racl_cli.specs.Runs.{ByWorkers, HasOutcome, HasReported, HasRun, IsRead, Outcome, bucket_deal, layout_for, told_of}
+use Rattle.racl_cli.specs.Runs.{ByOneThread, ByWorkers, HasOutcome, HasReported, HasRun, IsRead, Outcome, bucket_deal, layout_for, told_of}
 use Rattle.racl_cli.proofs.CaptureLaws.{alone_plain, fault_of_known, fault_plain, one_truncated, plain_alone, plain_fault}
 use Rattle.racl_cli.proofs.RunLemmas.{alone_in_capture, fault_of_known_parts, fault_of_right_policy, fault_of_wrong_policy, fault_without_parts, read_in}
 
@@ -58,12 +64,66 @@ judged_as packets verdicts orders size asked ready set workers given sized times
     (subst (λ p. AreJudged (bucket_deal size workers) ready.times (policy_facts p) packets verdicts) policy
     (subst (λ o. AreSaid o packets verdicts) given said)))
 
+-- what is answered of all records where workers who had these orders said it
+pub judged_by_orders : (options : Options) (set : Filter) (ready : InterfaceFilters) (size : TableSize) (workers : ℕ) (orders : Orders)
+    (opening : Opening) (before after : Option (List ℕ)) (result : Result Outcome Fault)
+    → set.times ≡ options.times → 1 ≤ workers → workers ≤ options.workers → orders ≡ orders_for size ready workers → size ≡ options.tables
+    → ready.times ≡ set.times → ready.policy.now ≡ set.policy → IfOk result (HasSaidAll orders opening before after)
+    → IfOk result (HasJudged options (policy_facts set.policy) opening before after)
+judged_by_orders options set ready size workers orders opening before after (Ok outcome) timed some few given sized times policy s =
+    let packets = packets_at 0 s.packets in
+    let verdicts = outcome.verdicts in
+    let judged : AreJudged (bucket_deal options.tables workers) set.times (policy_facts set.policy) packets verdicts =
+    judged_as packets verdicts orders size options.tables ready set workers given sized times policy s.said in
+    record {
+      read = s.read;
+      whole = s.whole;
+      packets = s.packets;
+      rest = s.rest;
+      records = s.records;
+      truncated = s.truncated;
+      end = s.end;
+      reached = record {
+        by_workers = given_by_workers options set.times (policy_facts set.policy) packets verdicts workers timed some few judged (pages_for_few _ _ _ _ _);
+        by_one_thread =
+            subst (λ t. HavePages verdicts → ByOneThread options.tables t (policy_facts set.policy) packets verdicts) timed
+            (one_report _ _ _ _ _ judged (inl refl));
+        told = s.told;
+      };
+    }
+judged_by_orders options set ready size workers orders opening before after (Err fault) timed some few given sized times policy s = tt
+
 -- each packet has a verdict
 pub judged_count : (d : Deal) (times : Timeouts) (policy : PolicyFacts) (packets : List PacketFacts) (verdicts : List Verdict)
     → AreJudged d times policy packets verdicts → length verdicts ≡ length packets
 judged_count d times policy packets verdicts is =
     ap length is.said ∙ length-map is.judged (verdict_on times) ∙ sym (length-map is.judged (λ j. j.reading))
     ∙ sym (zip_count (IsReading policy) packets (readings_of is.judged) is.read)
+
+-- what is answered of all records where workers who judged them ended
+pub said_at_end : {T : Type 0} (orders : Orders) (ended : SizedWorkers T) (opening : Opening) (before after : Option (List ℕ)) (read : List ℕ)
+    (packets : List RecordFacts) (rest : List ℕ) (truncated : Bool) (result : Result Outcome Fault)
+    → AreAllRead before after opening read → AreRecords opening.order (records_in opening read) packets rest → IsEnd opening.order rest (end_of truncated)
+    → AreAfter orders (packets_at 0 packets) ended → IfOk result (HasEnded ended truncated) → IfOk result (HasSaidAll orders opening before after)
+said_at_end orders ended opening before after read packets rest truncated (Ok outcome) whole records end judged is =
+    let said : AreSaid orders (packets_at 0 packets) outcome.verdicts =
+    subst (λ o. AreSaid o (packets_at 0 packets) outcome.verdicts) judged.given (is.said (packets_at 0 packets) judged.rest) in
+    let counted : length outcome.verdicts ≡ length (packets_at 0 packets) =
+    judged_count orders.deal orders.times orders.policy (packets_at 0 packets) outcome.verdicts said in
+    let told : outcome.captures ≡ told_of None (packets_at 0 packets) truncated ∷ [] =
+    is.told ∙ ap (λ n. record { named = None; packets = n; truncated = truncated } ∷ []) counted in
+    record {
+      read = read;
+      whole = whole;
+      packets = packets;
+      rest = rest;
+      records = records;
+      truncated = truncated;
+      end = end;
+      said = said;
+      told = told;
+    }
+said_at_end orders ended opening before after read packets rest truncated (Err fault) whole records end judged is = tt
 
 -- ---- an input without a right policy
 

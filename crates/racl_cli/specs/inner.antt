@@ -1,2 +1,3 @@
 pub mod Captures
+pub mod Streams
 pub mod Views

@@ -2,8 +2,11 @@
 ghost use Rattle.std.specs.Prelude.{◌≡◌, ◌+◌, ◌-◌, ◌<◌, ◌≤◌, ◌^◌, IfErr, IfOk, length};
 ghost use Rattle.acl_policy.specs.Policies.{policy_facts};
 ghost use Rattle.capture_stream.specs.Streams.{IsSize, IsStreamFault};
+ghost use Rattle.racl_io.specs.declared.fault.Fault.TheVariants.{Memory};
 ghost use Rattle.racl_io.specs.Inputs.{most_bytes};
 ghost use Rattle.racl_io.specs.Transfers.{HasReadWithin};
+ghost use Rattle.racl_cli.specs.Crews.{HaveJudgedSome, orders_of};
+ghost use Rattle.racl_cli.specs.inner.Streams.{HasEnded, HasSaidAll, MayRead};
 ghost use Rattle.racl_cli.specs.Reads.{AnswersRead, HasHeaded, HasJudged, MayGoOn, MayJudge, having_records};
 
 use crate::crew::Crew;
@@ -69,6 +72,47 @@ pub fn plan_for(options: &Options, ended: bool, count: usize) -> (usize, usize)
     }
 }
 
+// The verdicts of workers who judged all packets of a capture, and what the report tells of it.
+fn end_capture<T: Wait>(crew: Crew<'_, '_, T>, truncated: bool) -> Result<Judged, Fault>
+    requires { HaveJudgedSome crew.workers }
+    ensures ok { IfOk result (HasEnded crew.entry.workers truncated) }
+    ensures fault { IfErr result (λ fault. fault ≡ Memory) }
+{
+    let Crew { alloc, workers } = crew;
+    let Ok(verdicts) = workers.end(alloc) else {
+        return Err(Fault::Memory);
+    };
+    let mut captures = Vec::new(alloc);
+    captures.push(Captured {
+        named: None,
+        packets: verdicts.len(),
+        truncated,
+    })?;
+    Ok(Judged { verdicts, captures })
+}
+
+// The verdicts of workers who judge the packets of all records while these are read: in windows for several workers where
+// there is a runtime beside which the next one is read.
+fn stream_records<R: Source + Send, T: Threads + Wait + Sync>(
+    beside: Option<&T>,
+    crew: Crew<'_, '_, T>,
+    reader: &mut R,
+    opening: Opening,
+) -> Result<Judged, Fault>
+    requires may { MayRead crew.workers opening (R.bytes reader.old) }
+    requires sound { R.failures reader.old < 2 ^ 64 - 1 }
+    ensures ok { IfOk result (HasSaidAll (orders_of crew.entry.workers) opening (R.bytes reader.old) (R.bytes reader.new)) }
+    ensures fault { IfErr result (IsStreamFault opening (R.bytes reader.old) (R.bytes reader.new)) }
+    ensures within { HasReadWithin R.bytes R.failures (most_bytes + 1 - length opening.bytes.items) reader.old reader.new result }
+{
+    let alloc = crew.alloc;
+    let size = window_size(beside.is_some());
+    match judge_stream(beside, alloc, reader, crew, opening, size) {
+        Ok(Streamed { judges, truncated }) => end_capture(judges, truncated),
+        Err(fault) => Err(fault),
+    }
+}
+
 // The verdicts on the packets of all records.
 fn judge_records<'t, R: Source + Send, T: Threads + Wait + Sync>(
     rt: &'t T,
@@ -100,21 +144,8 @@ fn judge_records<'t, R: Source + Send, T: Threads + Wait + Sync>(
     let Ok(workers) = SizedWorkers::new(rt, alloc, &ready, &tables, callers, workers) else {
         return Err(Fault::Memory);
     };
-    let crew = Crew { alloc, workers };
     let beside = if are_several { Some(rt) } else { None };
-    let size = window_size(are_several);
-    let Streamed { judges, truncated } = judge_stream(beside, alloc, reader, crew, opening, size)?;
-    let Crew { workers, .. } = judges;
-    let Ok(verdicts) = workers.end(alloc) else {
-        return Err(Fault::Memory);
-    };
-    let mut captures = Vec::new(alloc);
-    captures.push(Captured {
-        named: None,
-        packets: verdicts.len(),
-        truncated,
-    })?;
-    Ok(Judged { verdicts, captures })
+    stream_records(beside, Crew { alloc, workers }, reader, opening)
 }
 
 /// What was read of an input.

@@ -13,12 +13,6 @@ const USAGE: &str = "racl check POLICY";
 const ABOUT: &str =
     "Tells every wrong line of a policy, and what in a right one is unlikely to be meant.";
 
-const AFTER_HELP: &str = "Exit status:
-  0  the text is a policy
-  1  it is none
-  2  fault in the words
-  4  memory or device";
-
 /// The name of the file whose policy is to be checked. `None`: the first word after the program's name isn't `check`.
 pub fn check_name<'a>(alloc: Global, words: &'a [&'a str]) -> Result<Option<&'a str>, Error>
     ensures ok { IfOk result (λ name. AskForCheck (texts words.entry.now) (text_behind name)) }
@@ -53,7 +47,16 @@ fn described_check<'a>(alloc: Global) -> Command<'a>
     Command::new(alloc, "racl check")
         .about(ABOUT)
         .override_usage(USAGE)
-        .after_help(AFTER_HELP)
+        .after_help(after_help())
+}
+
+// What stands below the argument.
+fn after_help() -> &'static str {
+    "Exit status:
+  0  the text is a policy
+  1  it is none
+  2  fault in the words
+  4  memory or device"
 }
 
 fn policy_argument<'a>(alloc: Global) -> Arg<'a>

@@ -68,7 +68,8 @@ const USAGE: &str = "racl [OPTIONS] POLICY CAPTURE
        racl [OPTIONS] < INPUT
        racl check POLICY";
 
-const AFTER_HELP: &str =
+// What stands below the options. A function of its own, so that no proof of a caller has the text.
+fn after_help() -> &'static str {
     "INPUT is a policy, a line `pcap` or `hex`, and the capture in that form; POLICY and CAPTURE are such \
     a policy and a capture's bytes. They have at most 67108864 bytes in all, in which a byte of a capture \
     after --interface counts twice. The report goes to standard output.
@@ -88,7 +89,8 @@ Exit status:
   1  fault in the input
   2  fault in the words
   3  done, but the capture was cut off
-  4  memory or device";
+  4  memory or device"
+}
 
 fn command<'a>(alloc: Global) -> Result<Command<'a>, AllocError>
     ensures { IfOk result (λ c. app_of c ≡ racl) }
@@ -209,7 +211,7 @@ fn described_command<'a>(alloc: Global) -> Command<'a>
         .version(VERSION)
         .about(ABOUT)
         .override_usage(USAGE)
-        .after_help(AFTER_HELP)
+        .after_help(after_help())
 }
 
 fn timeout_option<'a>(alloc: Global, name: &'a str, default: &'a str, help: &'a str) -> Arg<'a>

@@ -1,28 +1,36 @@
 //! What a check finds in a policy's text. `checks/rows/checks.txt` has what is told of each reason and remark.
 use packet_view::Direction;
-use policy_check::{Reason, Remark, check_policy, check_source, remarks_on, tell};
+use policy_check::{Complaint, Reason, Remark, check_policy, check_source, remarks_on, tell};
 use racl_io::Device;
 use racl_options::check_name;
 use std::test::Fail;
 
+// A policy whose lines 2, 4 and 5 are wrong.
+fn wrong_policy() -> &'static [u8] {
+    b"in deny ipv4 any any\n\
+    mac 02:00:00:00:00\n\
+    mac 02:00:00:00:00:01\n\
+    in deny ipv4 10.0.0.0/33 any\n\
+    mac 02:00:00:00:00:02"
+}
+
+// The line, the reason and the word of a complaint.
+fn parts_of<'a>(complaint: &Complaint<'a>) -> (u64, Reason, &'a [u8]) {
+    (complaint.line, complaint.reason, complaint.word)
+}
+
 #[test]
 fn wrong_lines_among_right_ones(rt: HostRuntime) -> Result<(), Fail> {
-    let text = b"in deny ipv4 any any\n\
-        mac 02:00:00:00:00\n\
-        mac 02:00:00:00:00:01\n\
-        in deny ipv4 10.0.0.0/33 any\n\
-        mac 02:00:00:00:00:02";
-    let checked = check_policy(rt.alloc(), text)?;
-    let wanted = [
-        (2, Reason::NoMac, b"02:00:00:00:00".as_slice()),
-        (4, Reason::LongPrefix(32), b"10.0.0.0/33".as_slice()),
-        (5, Reason::SecondMac, b"mac".as_slice()),
+    const WANTED: [(u64, Reason, &[u8]); 3] = [
+        (2, Reason::NoMac, b"02:00:00:00:00"),
+        (4, Reason::LongPrefix(32), b"10.0.0.0/33"),
+        (5, Reason::SecondMac, b"mac"),
     ];
-    assert_eq!(rt; checked.complaints.len(), wanted.len());
-    for (found, (line, reason, word)) in checked.complaints.iter().zip(wanted) {
-        assert_eq!(rt; found.line, line);
-        assert_eq!(rt; found.reason, reason);
-        assert_eq!(rt; found.word, word);
+    let checked = check_policy(rt.alloc(), wrong_policy())?;
+    let complaints = checked.complaints.as_slice();
+    assert_eq!(rt; complaints.len(), WANTED.len());
+    for (found, wanted) in complaints.iter().zip(WANTED) {
+        assert_eq!(rt; parts_of(found), wanted);
     }
     assert_eq!(rt; checked.policy.sections.len(), 1);
     Ok(())

@@ -1,5 +1,5 @@
 //! Input up to so many bytes, and input that nothing is kept of.
-ghost use Rattle.std.specs.Prelude.{◌≤◌, ◌+◌, None, IfOk};
+ghost use Rattle.std.specs.Prelude.{◌≤◌, None, IfOk};
 ghost use Rattle.racl_io.specs.Inputs.{most_bytes};
 
 use racl_io::{Device, DeviceFault, Fault, MOST_BYTES, Source, drain, read_until, write_all};
@@ -89,10 +89,12 @@ fn an_interrupted_device_is_asked_again(rt: HostRuntime) -> Result<(), Fail> {
     Ok(())
 }
 
-// Whether these bytes ended before there were so many, and how many of them are left. `None`: a fault.
-fn read_from(bytes: &[u8], all: &mut Vec<u8>, least: usize) -> Option<(bool, usize)>
-    requires few { least ≤ most_bytes + 1 }
-{
+// Whether these bytes ended before there were so many, and how many of them are left. `None`: a fault, or so many are more
+// than an input has.
+fn read_from(bytes: &[u8], all: &mut Vec<u8>, least: usize) -> Option<(bool, usize)> {
+    if least > MOST_BYTES {
+        return None;
+    }
     let mut reader = Device::new(bytes);
     match read_until(&mut reader, all, least) {
         Ok(ended) => Some((ended, reader.inner.len())),
@@ -102,11 +104,16 @@ fn read_from(bytes: &[u8], all: &mut Vec<u8>, least: usize) -> Option<(bool, usi
 
 #[test]
 fn reads_until_there_are_enough_bytes(rt: HostRuntime) -> Result<(), Fail> {
+    const READS: [(usize, Option<(bool, usize)>); 3] = [
+        (70_000, Some((false, 130_001))),
+        (70_000, Some((false, 200_000))),
+        (280_000, Some((true, 0))),
+    ];
     let bytes = vec![in rt.alloc(); 5u8; 200_000]?;
     let mut all = vec![in rt.alloc(); 4u8; 1]?;
-    assert_eq!(rt; read_from(&bytes, &mut all, 70_000), Some((false, 130_001)));
-    assert_eq!(rt; read_from(&bytes, &mut all, 70_000), Some((false, 200_000)));
-    assert_eq!(rt; read_from(&bytes, &mut all, 280_000), Some((true, 0)));
+    for (least, wanted) in READS {
+        assert_eq!(rt; read_from(&bytes, &mut all, least), wanted);
+    }
     assert_eq!(rt; all.len(), 270_000);
     assert_eq!(rt; all[0], 4);
     assert_eq!(rt; &all[70_000..], bytes.as_slice());
@@ -142,22 +149,24 @@ fn a_read_may_be_short_or_fail(rt: HostRuntime) -> Result<(), Fail> {
     Ok(())
 }
 
+// What a drain of these bytes answers after so many, and how many of them are left.
+fn drained(bytes: &[u8], read: usize) -> (Option<Fault>, usize)
+    requires { read ≤ most_bytes }
+{
+    let mut reader = Device::new(bytes);
+    let fault = drain(&mut reader, read).err();
+    (fault, reader.inner.len())
+}
+
 #[test]
-fn drains_up_to_the_most_bytes(rt: HostRuntime) -> Result<(), Fail> {
+fn drains_up_to_the_most_bytes(rt: HostRuntime) {
     let bytes = [5; 1000];
-    let mut reader = Device::new(bytes.as_slice());
-    drain(&mut reader, MOST_BYTES - 1000)?;
-    assert!(rt; reader.inner.is_empty());
-    let mut reader = Device::new(bytes.as_slice());
-    assert_eq!(rt;
-        drain(&mut reader, MOST_BYTES - 999).err(),
-        Some(Fault::TooLarge)
-    );
+    assert_eq!(rt; drained(&bytes, MOST_BYTES - 1000), (None, 0));
+    assert_eq!(rt; drained(&bytes, MOST_BYTES - 999).0, Some(Fault::TooLarge));
     let mut reader = Sevens {
         reads: 3,
         failures: 0,
     };
     assert_eq!(rt; drain(&mut reader, 0).err(), Some(Fault::Read));
     assert_eq!(rt; reader.failures, 1);
-    Ok(())
 }

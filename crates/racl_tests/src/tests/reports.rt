@@ -5,6 +5,25 @@ use flow_filter::Verdict;
 use racl_io::{Captured, Device, DeviceFault, Fault, Shown, Sink, write_report, write_shown};
 use std::test::Fail;
 
+// A line for each verdict.
+fn lines_of_verdicts() -> &'static [u8] {
+    b"\
+1 pass session
+2 pass rule 1 reflect
+3 pass rule 20
+4 drop rule 4096
+5 drop default
+6 drop worn
+7 drop full
+8 drop no-pages
+9 pass not-ip
+10 drop malformed
+11 drop short
+truncated after 11
+packets 11 pass 4 drop 7
+"
+}
+
 #[test]
 fn a_line_for_each_verdict(rt: HostRuntime) -> Result<(), Fail> {
     const VERDICTS: [Verdict; 11] = [
@@ -20,21 +39,6 @@ fn a_line_for_each_verdict(rt: HostRuntime) -> Result<(), Fail> {
         Verdict::Malformed,
         Verdict::Short,
     ];
-    const LINES: &str = "\
-1 pass session
-2 pass rule 1 reflect
-3 pass rule 20
-4 drop rule 4096
-5 drop default
-6 drop worn
-7 drop full
-8 drop no-pages
-9 pass not-ip
-10 drop malformed
-11 drop short
-truncated after 11
-packets 11 pass 4 drop 7
-";
     let mut writer = Device::new(Vec::new(rt.alloc()));
     const CAPTURES: [Captured; 1] = [Captured {
         named: None,
@@ -42,10 +46,21 @@ packets 11 pass 4 drop 7
         truncated: true,
     }];
     let totals = write_report(Some(&rt), rt.alloc(), &mut writer, &VERDICTS, &CAPTURES)?;
-    assert_eq!(rt; writer.inner.as_slice(), LINES.as_bytes());
+    assert_eq!(rt; writer.inner.as_slice(), lines_of_verdicts());
     assert_eq!(rt; (totals.packets, totals.passed, totals.dropped), (11, 4, 7));
     assert!(rt; totals.truncated);
     Ok(())
+}
+
+// A part for each capture.
+fn lines_of_captures() -> &'static [u8] {
+    b"\
+1 if 0 pass rule 1 reflect
+if 0 truncated after 1
+2 if 255 drop default
+3 if 255 pass session
+packets 3 pass 2 drop 1
+"
 }
 
 /// Captures of two interfaces, of which the first ends within a record.
@@ -64,16 +79,9 @@ fn a_part_for_each_capture(rt: HostRuntime) -> Result<(), Fail> {
             truncated: false,
         },
     ];
-    const LINES: &str = "\
-1 if 0 pass rule 1 reflect
-if 0 truncated after 1
-2 if 255 drop default
-3 if 255 pass session
-packets 3 pass 2 drop 1
-";
     let mut writer = Device::new(Vec::new(rt.alloc()));
     let totals = write_report(Some(&rt), rt.alloc(), &mut writer, &VERDICTS, &CAPTURES)?;
-    assert_eq!(rt; writer.inner.as_slice(), LINES.as_bytes());
+    assert_eq!(rt; writer.inner.as_slice(), lines_of_captures());
     assert!(rt; totals.truncated);
     Ok(())
 }

@@ -5,8 +5,9 @@ use session_state::Timeouts;
 
 mod transfers;
 
-/// A whole input: a request, its answer, and an answer that nobody asked for.
-const FIRST_PATH: &str = "\
+// A whole input: a request, its answer, and an answer that nobody asked for.
+fn whole_input() -> &'static [u8] {
+    b"\
 mac 02:00:00:00:00:01
 out permit+reflect ipv4 10.0.0.1 any udp dport 53
 hex
@@ -23,15 +24,18 @@ d4c3b2a102000400000000000000000000000400 01000000
 020000000001 020000000002 0800
 4500001c 00000000 40110000 0a000003 0a000001
 0035 03e8 0008 0000
-";
+"
+}
 
-/// The report on it.
-const FIRST_REPORT: &str = "\
+// The report on it.
+fn whole_report() -> &'static [u8] {
+    b"\
 1 pass rule 1 reflect
 2 pass session
 3 drop default
 packets 3 pass 2 drop 1
-";
+"
+}
 
 /// The options where no word sets one.
 const DEFAULTS: Options = Options {

@@ -1,7 +1,7 @@
 //! Devices that move a byte at a time, and devices that fail.
 ghost use Rattle.std.specs.Prelude.{◌≡◌, None};
 
-use super::{DEFAULTS, FIRST_PATH, FIRST_REPORT};
+use super::{DEFAULTS, whole_input, whole_report};
 use racl_cli::{Device, DeviceFault, Fault, Sink, Source, Totals, run, status};
 use std::alloc::Global;
 
@@ -90,7 +90,7 @@ fn trickling(alloc: Global, writes: usize) -> Trickle
 #[test]
 fn first_path(rt: HostRuntime) {
     let alloc = rt.alloc();
-    let mut reader = Device::new(FIRST_PATH.as_bytes());
+    let mut reader = Device::new(whole_input());
     let mut writer = Device::new(Vec::new(alloc));
     let outcome = run(&rt, alloc, &DEFAULTS, &mut reader, &mut writer);
     let totals = Totals {
@@ -101,29 +101,30 @@ fn first_path(rt: HostRuntime) {
     };
     assert_eq!(rt; outcome, Ok(totals));
     assert_eq!(rt; status(&outcome), 0);
-    assert_eq!(rt; writer.inner.as_slice(), FIRST_REPORT.as_bytes());
+    assert_eq!(rt; writer.inner.as_slice(), whole_report());
 }
 
 #[test]
 fn one_byte_at_a_time(rt: HostRuntime) {
     let alloc = rt.alloc();
     let mut reader = Drip {
-        rest: FIRST_PATH.as_bytes(),
+        rest: whole_input(),
         reads: usize::MAX,
         failures: 0,
     };
     let mut writer = trickling(alloc, usize::MAX);
     let outcome = run(&rt, alloc, &DEFAULTS, &mut reader, &mut writer);
     assert_eq!(rt; status(&outcome), 0);
-    assert_eq!(rt; writer.taken.as_slice(), FIRST_REPORT.as_bytes());
+    assert_eq!(rt; writer.taken.as_slice(), whole_report());
 }
 
 #[test]
 fn failing_reads(rt: HostRuntime) {
     let alloc = rt.alloc();
-    for reads in 0..=FIRST_PATH.len() {
+    let input = whole_input();
+    for reads in 0..=input.len() {
         let mut reader = Drip {
-            rest: FIRST_PATH.as_bytes(),
+            rest: input,
             reads,
             failures: 0,
         };
@@ -138,19 +139,20 @@ fn failing_reads(rt: HostRuntime) {
 #[test]
 fn failing_writes(rt: HostRuntime) {
     let alloc = rt.alloc();
-    for writes in 0..FIRST_REPORT.len() {
-        let mut reader = Device::new(FIRST_PATH.as_bytes());
+    let report = whole_report();
+    for writes in 0..report.len() {
+        let mut reader = Device::new(whole_input());
         let mut writer = trickling(alloc, writes);
         let outcome = run(&rt, alloc, &DEFAULTS, &mut reader, &mut writer);
         assert_eq!(rt; outcome, Err(Fault::Write), "after {writes} writes");
         assert_eq!(rt; writer.failures, 1, "after {writes} writes");
-        assert_eq!(rt; writer.taken.as_slice(), &FIRST_REPORT.as_bytes()[..writes]);
+        assert_eq!(rt; writer.taken.as_slice(), &report[..writes]);
     }
 }
 
 #[test]
 fn a_write_of_nothing_is_a_failed_one(rt: HostRuntime) {
-    let mut reader = Device::new(FIRST_PATH.as_bytes());
+    let mut reader = Device::new(whole_input());
     let mut writer = Stopped { failures: 0 };
     let outcome = run(&rt, rt.alloc(), &DEFAULTS, &mut reader, &mut writer);
     assert_eq!(rt; outcome, Err(Fault::Write));
