@@ -1,6 +1,7 @@
 //! Packets judged by many workers over session tables that they share.
 #![tactic(auto)]
 
+mod alone;
 mod batches;
 mod caller_split;
 mod gate;

@@ -26,6 +26,9 @@ pub use front::FrontKept;
 pub use input::{Digits, Form, Input, Numbered, cut_digits, split_input};
 pub use joined::{Joined, Marked, marked};
 pub use other::{Other, is_capture, other_file};
-pub use report::{Captured, Totals, write_report};
+pub use piece::Piece;
+pub use report::{
+    Captured, Place, Totals, write_lines, write_report, write_totals, write_truncation,
+};
 pub use shown::{Shown, write_shown};
 pub use transfer::{MOST_BYTES, drain, read_until, write_all};
