@@ -1,5 +1,5 @@
 //! One run over a capture that is told while it comes.
-ghost use Rattle.std.specs.Prelude.{◌≡◌, ◌<◌, ◌^◌, MatchResult};
+ghost use Rattle.std.specs.Prelude.{◌≡◌, ◌-◌, ◌<◌, ◌^◌, MatchResult};
 ghost use Rattle.acl_policy.specs.Policies.{policy_facts};
 ghost use Rattle.capture_stream.specs.Lives.{HasToldAll, IsLiveFault, with_read, with_write};
 ghost use Rattle.racl_cli.specs.LiveRuns.{ByOneWorker, HasRunLive, IsLiveRunFault};
