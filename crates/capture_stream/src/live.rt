@@ -39,7 +39,9 @@ pub struct Live<J> {
 }
 
 // The packets of the whole records in the window are judged. What is behind them is the next window.
-fn judge_window<J: Tellers + Drop>(live: Live<J>) -> Result<(Live<J>, Vec<Verdict>, Stop), AllocError>
+fn judge_window<J: Tellers + Drop>(
+    live: Live<J>,
+) -> Result<(Live<J>, Vec<Verdict>, Stop), AllocError>
     requires { MayTell J.became live }
     ensures { IfOk result (λ r. HasJudgedWindow J.became J.judged live r.0 r.1.items r.2) }
 {
@@ -153,11 +155,7 @@ fn totals_at<J>(live: &Live<J>, truncated: bool) -> Totals
 }
 
 // What stands behind the lines of all packets.
-fn write_end<W: Sink>(
-    writer: &mut W,
-    piece: &mut Piece,
-    totals: &Totals,
-) -> Result<(), Fault>
+fn write_end<W: Sink>(writer: &mut W, piece: &mut Piece, totals: &Totals) -> Result<(), Fault>
     requires { W.failures writer.old < 2 ^ 64 - 1 }
     ensures { HasPut W.bytes W.failures writer.old writer.new (end_text totals.now) result }
 {

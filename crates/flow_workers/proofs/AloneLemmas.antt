@@ -118,20 +118,6 @@ nothing_before xs (y ∷ ys) x is one = let count = ap length is in let more = l
 
 module _ {A B R G K L : Type 0} (ga : Ghosts A K) (gb : Ghosts B L) (old : Workers A B R G K L ga gb)
     (batch : Batch A B R G K L) (same : batch.setup ≡ old.setup) (first : batch.first ≡ old.count) where
-  pub alone_may : (packets : List PacketFacts) (said : List Verdict) → IsAlone packets said old
-      → length packets + length (remaining batch.packets) < 2 ^ 64 → MayJudgeBatch batch old.shares.items
-  alone_may packets said alone fits = record {
-    shapes = alone.sound.shapes;
-    some = subst (λ (s : Setup A B R G K L). 1 ≤ s.workers) (sym same) alone.sound.some;
-    few = subst (λ (s : Setup A B R G K L). s.workers ≤ 16) (sym same) alone.sound.few;
-    count = ap length alone.only ∙ sym (ap (λ (s : Setup A B R G K L). s.workers) same ∙ alone.one);
-    fits = let counted = alone.count in omega arith;
-    idle = subst (λ (ss : List (Share A B K L ga gb)). (i : ℕ) (d : Share A B K L ga gb) → i < length ss
-        → AreIdle ga gb batch.setup.tables.now (get_or ss i d).callers) (sym alone.only)
-        (only_or alone.share (λ (s : Share A B K L ga gb). AreIdle ga gb batch.setup.tables.now s.callers)
-        (subst (λ (s : Setup A B R G K L). AreIdle ga gb s.tables.now alone.share.callers) (sym same) alone.rest.idle));
-  }
-
   module _ (shares behind : List (Share A B K L ga gb)) (judged : Share A B K L ga gb)
       (worked : HaveWorked batch old.shares.items shares) (last : shares ≡ behind ++ judged ∷ []) where
     -- its share after the batch

@@ -51,18 +51,18 @@ impl<'t, 'f, A: Shape, B: Shape, R: Wait, G: Gate> Workers<'t, 'f, A, B, R, G> {
         requires { CanGoOn self packets }
         ensures { IfOk result (λ r. HasGoneOn self.entry packets.entry r.0 r.1.items) }
     {
+        let count = self.count + packets.count();
+        let batch = Batch {
+            setup: self.setup.again(),
+            first: self.count,
+            packets,
+        };
         let Workers {
             setup,
             shares,
             mut judges,
-            count,
+            ..
         } = self;
-        let next = count + packets.count();
-        let batch = Batch {
-            setup: setup.again(),
-            first: count,
-            packets,
-        };
         judges.clear();
         let mut shares = judge_together(batch, shares, &mut judges)?;
         let Some(share) = shares.pop() else {
@@ -76,7 +76,7 @@ impl<'t, 'f, A: Shape, B: Shape, R: Wait, G: Gate> Workers<'t, 'f, A, B, R, G> {
             setup,
             shares,
             judges,
-            count: next,
+            count,
         };
         Ok((workers, said))
     }

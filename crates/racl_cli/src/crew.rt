@@ -44,10 +44,7 @@ impl<'t, 'f, T: Wait> Tellers for Lone<'t, 'f, T> {
 
     ghost judged = { λ begun packets said. AreSaid (orders_of begun.workers) packets said };
 
-    fn judge(
-        self,
-        packets: Packets<'_>,
-    ) -> Result<(Lone<'t, 'f, T>, Vec<Verdict>), AllocError> {
+    fn judge(self, packets: Packets<'_>) -> Result<(Lone<'t, 'f, T>, Vec<Verdict>), AllocError> {
         let Lone { alloc, workers } = self;
         match workers.judge_alone(alloc, packets) {
             Ok((workers, verdicts)) => Ok((Lone { alloc, workers }, verdicts)),

@@ -34,7 +34,7 @@ returns-in-Ok g c =
     c.in_ok-extend_from_slice.ensures.items ∙ ap (λ b. c.clear.new.self.items ++ b) (part_from c.deref-2.result.now items place c.deref-2.ensures.value)
     ∙ ap (λ b. b ++ drop place items) c.clear.ensures.items ∙ ap (λ n. drop (n - found.behind) items) long in
     let told : HaveTold g.J.Tellers.became g.J.Tellers.judged live.judges (packets_at 0 (records_from live.order found.count c.deref-3.result.now))
-        c.in-Ok.verdicts.items c.in-Ok.judges = c.in-Ok.ensures in
+    c.in-Ok.verdicts.items c.in-Ok.judges = c.in-Ok.ensures in
     window_judged _ live c.requires _ found _ _ have kept
     (subst (λ b. HaveTold g.J.Tellers.became g.J.Tellers.judged live.judges (packets_at 0 (records_from live.order found.count b)) c.in-Ok.verdicts.items
     c.in-Ok.judges) c.deref-3.ensures.value told) refl refl refl refl
