@@ -1,11 +1,11 @@
 //! Packets judged by many workers over session tables that they share.
 #![tactic(auto)]
 
-mod alone;
 mod batches;
 mod caller_split;
 mod gate;
 mod judging;
+mod lone_worker;
 mod merge;
 mod packet_plan;
 mod renewal;

@@ -1,6 +1,6 @@
 use Rattle.std.proofs.Common.{refl}
 use Rattle.flow_workers.proofs.AloneLemmas.{whole_idle}
-use Rattle.flow_workers.proofs.alone.let_go.Goals as goal
+use Rattle.flow_workers.proofs.lone_worker.let_go.Goals as goal
 
 pub returns : goal.returns
 returns g c = record {
