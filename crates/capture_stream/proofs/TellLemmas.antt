@@ -1,10 +1,10 @@
 -- A capture whose packets are told while they come: what is told of it at each step, at its end and at a fault.
-use Rattle.std.proofs.Common.{◌≡◌, ◌≢◌, ◌∙◌, Err, Ok, Result, ◌≤◌, ◌<◌, ◌+◌, ◌-◌, ◌^◌, ℕ, Bool, List, [], ◌∷◌, ◌++◌, None, Option, ap, append-nil, append_assoc, arith, inl, inr, length, refl, subst, sym, take, true, false}
+use Rattle.std.proofs.Common.{◌≡◌, ◌∙◌, Err, Ok, Result, ◌≤◌, ◌<◌, ◌+◌, ◌^◌, ℕ, Bool, List, [], ◌∷◌, ◌++◌, None, Option, ap, append-nil, append_assoc, arith, inl, inr, length, refl, subst, sym, take, true, false}
 use Rattle.std.specs.Prelude.{⊤}
 use Rattle.std.proofs.lemmas.List.{length-append, length-map, map-append, take_all}
 use Rattle.std.proofs.KnownBytes.{Appends-nil, Appends-trans, Consumes-kept, Consumes-nil, Consumes-trans}
-use Rattle.std.specs.Io.KnownBytes.{Appends, Consumes, IsAtEnd, Keeps}
-use Rattle.packet_view.specs.Captures.{AreRecords, IsEnd, PacketFacts, RecordFacts, end_of, packet_at, packets_at}
+use Rattle.std.specs.Io.KnownBytes.{Appends, Consumes}
+use Rattle.packet_view.specs.Captures.{AreRecords, PacketFacts, RecordFacts, packet_at, packets_at}
 use Rattle.packet_view.specs.CheckedCaptures.{records_of}
 use Rattle.packet_view.specs.Fronts.{Stops}
 use Rattle.packet_view.specs.RecordLists.{records_from}

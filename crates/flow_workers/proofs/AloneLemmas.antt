@@ -1,5 +1,5 @@
 -- One worker that keeps no verdict, from one batch to the next.
-use Rattle.std.proofs.Common.{◌≡◌, ◌∙◌, ◌+◌, ◌<◌, ◌≤◌, ◌^◌, ℕ, zero, suc, List, [], ◌∷◌, ◌++◌, ap, append-nil, arith, get_or, length, length-append, refl, subst, sym}
+use Rattle.std.proofs.Common.{◌≡◌, ◌∙◌, ◌+◌, ◌<◌, ℕ, zero, suc, List, [], ◌∷◌, ◌++◌, ap, append-nil, arith, get_or, length, length-append, refl, subst, sym}
 use Rattle.std.specs.Global.{Vec}
 use Rattle.std.specs.List.{All}
 use lib.ListN.{get_elem?}
@@ -28,7 +28,7 @@ use Rattle.flow_workers.specs.Progress.{AreAtRest, HasGoneOn, HaveAllSaid, IsAlo
 use Rattle.flow_workers.specs.inner.Alone.{HasLetGo}
 use Rattle.flow_workers.specs.inner.CallerSplits.{IsMadeWhole}
 use Rattle.flow_workers.specs.inner.Jobs.{HasWorked, run_facts}
-use Rattle.flow_workers.specs.inner.Turns.{HaveWorked, MayJudgeBatch}
+use Rattle.flow_workers.specs.inner.Turns.{HaveWorked}
 use Rattle.flow_workers.specs.inner.Work.{RecordContinues}
 use Rattle.flow_workers.proofs.CallerSplitLemmas.{same_traces}
 use Rattle.flow_workers.proofs.MergeLemmas.{one_placed}

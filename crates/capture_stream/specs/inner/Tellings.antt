@@ -1,5 +1,5 @@
 -- A capture of which the first packets were told.
-use Rattle.std.specs.Prelude.{◌≡◌, ◌≢◌, ◌+◌, ◌-◌, ◌<◌, ◌≤◌, ◌++◌, ◌^◌, ℕ, Bool, List, [], ◌∷◌, None, Option, length, ⊤}
+use Rattle.std.specs.Prelude.{◌≡◌, ◌+◌, ◌-◌, ◌<◌, ◌≤◌, ◌++◌, ◌^◌, ℕ, Bool, List, None, Option, length}
 use Rattle.std.specs.Io.KnownBytes.{Appends, Consumes, IsAtEnd, Keeps}
 use Rattle.packet_view.specs.Captures.{AreRecords, IsEnd, PacketFacts, RecordFacts, end_of, packets_at}
 use Rattle.packet_view.specs.Fronts.{Stops}

@@ -1,4 +1,4 @@
-use Rattle.std.proofs.Common.{◌≡◌, ◌∙◌, ◌-◌, ◌++◌, ap, arith, drop, length, refl, rules, subst}
+use Rattle.std.proofs.Common.{◌≡◌, ◌∙◌, ◌-◌, ◌++◌, ap, arith, drop, length, refl, subst}
 use Rattle.packet_view.specs.Captures.{packets_at}
 use Rattle.packet_view.specs.RecordLists.{records_from}
 use Rattle.capture_stream.specs.Telling.{HaveTold}

@@ -1,4 +1,4 @@
-use Rattle.std.proofs.Common.{◌≡◌, ◌∙◌, arith, refl, subst, sym}
+use Rattle.std.proofs.Common.{◌∙◌, arith, refl, subst, sym}
 use Rattle.capture_stream.specs.Lives.{IsLiveFault}
 use Rattle.capture_stream.specs.inner.Tellings.{HasGot}
 use Rattle.capture_stream.proofs.TellLemmas.{end_fault, live_begun, live_large, live_may, live_more, live_told, none_told, part_fault, told_all, told_few, told_long, window_fault}
