@@ -1,7 +1,7 @@
 -- A run over a capture that is told while it comes.
-use Rattle.std.specs.Io.KnownBytes.{Appends, Consumes}
+use Rattle.std.specs.Io.KnownBytes.{Appends}
 use Rattle.std.proofs.KnownBytes.{Consumes-all, Consumes-trans}
-use Rattle.std.proofs.Common.{◌≡◌, ◌∙◌, ◌≤◌, ◌<◌, ◌++◌, ℕ, List, [], Option, length, ap, arith, inl, inr, refl, subst, sym, drop}
+use Rattle.std.proofs.Common.{◌≡◌, ◌∙◌, ◌≤◌, ◌++◌, ℕ, List, [], Option, ap, arith, inl, inr, refl, subst, sym, drop}
 use Rattle.std.proofs.lemmas.List.{drop_all, length-map}
 use Rattle.packet_view.specs.Captures.{AreRecords, PacketFacts, packet_at, packets_at}
 use Rattle.packet_view.specs.declared.capture.Order.{Order}

@@ -14,7 +14,7 @@ use Rattle.racl_io.specs.declared.fault.Fault.TheVariants.{Memory, Read}
 use Rattle.racl_io.specs.declared.report.Totals.{Totals}
 use Rattle.racl_io.specs.Faults.{capture_fault, policy_fault}
 use Rattle.racl_io.specs.Reports.{report_of, totals_of}
-use Rattle.capture_stream.specs.Lives.{HasToldAll, IsLiveFault}
+use Rattle.capture_stream.specs.Lives.{IsLiveFault}
 use Rattle.racl_cli.specs.Runs.{ByOneThread, ByWorkers, bucket_deal, told_of}
 
 -- one worker gave these verdicts, and they are the one-thread filter's where none says no-pages

@@ -77,11 +77,8 @@ fn lines_are_written_as_soon_as_their_records_are_there(rt: HostRuntime) -> Resu
         let outcome = run_live(&rt, alloc, &DEFAULTS, POLICY, &mut reader, &mut writer);
         assert_eq!(rt; outcome.is_ok(), true, "of {count} bytes");
         let (told, behind) = writer.taken.split_at(lines.len().min(writer.taken.len()));
-        assert_eq!(rt;
-            (told, behind),
-            (lines.as_bytes(), end.as_bytes()),
-            "of {count} bytes"
-        );
+        assert_eq!(rt; told, lines.as_bytes(), "of {count} bytes");
+        assert_eq!(rt; behind, end.as_bytes(), "of {count} bytes");
     }
     Ok(())
 }
