@@ -1,1 +1,2 @@
+pub mod TellLemmas
 pub mod WalkLemmas

@@ -1,3 +1,5 @@
 pub mod Judging
+pub mod Lives
 pub mod Streams
+pub mod Telling
 pub mod inner

@@ -114,14 +114,14 @@ module _ {A B R G K L : Type 0} (ga : Ghosts A K) (gb : Ghosts B L) (batch : Bat
 
   pub worked_none : (w at : ℕ) (share : Share A B K L ga gb) → AreIdle ga gb batch.setup.tables.now share.callers
       → HasWorkedOn ga gb batch w at at share share
-  worked_none w at share idle = record { idle = idle; work = λ all among v done. done }
+  worked_none w at share idle = record { idle = idle; work = λ all among v said done. done }
 
   pub worked_on : (w first mid last : ℕ) (old between new : Share A B K L ga gb)
       → HasWorkedOn ga gb batch w first mid old between → HasWorkedOn ga gb batch w mid last between new
       → HasWorkedOn ga gb batch w first last old new
   worked_on w first mid last old between new before behind = record {
     idle = behind.idle;
-    work = λ all among v done. behind.work all among v (before.work all among v done);
+    work = λ all among v said done. behind.work all among v said (before.work all among v said done);
   }
 
   pub worked_to : (w first last other : ℕ) (old new : Share A B K L ga gb) → last ≡ other
@@ -138,7 +138,7 @@ module _ {A B R G K L : Type 0} (ga : Ghosts A K) (gb : Ghosts B L) (batch : Bat
       let at_own : Interface = record { number = packet.interface; own = own } in
       record {
         idle = idle;
-        work = λ all among v done. one_more _ w batch.first at v _ _
+        work = λ all among v said done. one_more _ w batch.first at v _ _
             (work_passed _ _ _ _ _ _ packet (view_of packet.frame at_own)
             (record {
               stands = stands_among all among at packet there;

@@ -1,3 +1,4 @@
+pub mod AloneLemmas
 pub mod AnsweredUpdates
 pub mod CallerSplitLemmas
 pub mod DealtLemmas

@@ -22,7 +22,7 @@ use Rattle.acl_policy.specs.Policies.{section_of}
 use Rattle.flow_filter.specs.declared.verdict.Verdict.{Verdict}
 use Rattle.flow_filter.specs.OneThread.{layout_of}
 use Rattle.flow_dealing.specs.Dealings.{Deal, flow_of_frame, worker_of}
-use Rattle.flow_dealing.specs.Traces.{AreFrames, ArePlaced, Item, numbers_from, numbers_of, verdict_in}
+use Rattle.flow_dealing.specs.Traces.{AreFrames, ArePlaced, IsTrace, Item, numbers_from, numbers_of, verdict_in}
 use Rattle.flow_dealing.proofs.TraceMerges.{all_views, worker_few}
 use Rattle.flow_dealing.proofs.Places.{after_map, at_front, before_map, zip_count}
 use Rattle.flow_workers.specs.declared.merge.VerdictMerge.{VerdictMerge}
@@ -80,6 +80,34 @@ alone_count : (d : Deal) (at : ℕ) (views : List frames.FrameFacts) → d.worke
 alone_count d at [] alone = ap length (no_numbers d 0 at)
 alone_count d at (view ∷ views) alone =
     ap length (alone_cons d at view views alone) ∙ ap suc (alone_count d (at + 1) views alone)
+
+-- the only one of a list
+all_first : {X : Type 0} (xs : List X) (x : X) → length xs ≡ 1 → get_elem? xs 0 ≡ some x → xs ≡ x ∷ []
+all_first [] x one at = absurd (some-ne-none x (sym at))
+all_first (y ∷ []) x one at = ap (λ z. z ∷ []) (some-injective y x at)
+all_first (y ∷ z ∷ zs) x one at = absurd (omega arith)
+
+-- what it said is in order already
+pub one_placed : (run : RunFacts) (trace : List Item) (verdicts : List Verdict) → run.deal.workers ≡ 1
+    → IsTrace run.deal run.times 0 run.policy run.packets trace → AreSaid run trace verdicts
+    → ArePlaced run.times run.packets (trace ∷ []) verdicts
+one_placed run trace verdicts alone is said =
+    let vs = all_views run.policy run.packets in
+    let numbers = is.dealt vs.0 vs.1 in
+    record {
+      count =
+          ap length said ∙ (length-map trace (verdict_in run.times) ∙ (sym (length-map trace (λ (k : Item). k.packet))
+          ∙ (ap length numbers ∙ (alone_count run.deal 0 vs.0 alone ∙ sym (zip_count _ run.packets vs.0 vs.1)))));
+      each = λ w other stands k i at.
+          let first : w ≡ 0 = let inside = within (trace ∷ []) w other stands in omega arith in
+          let same : other ≡ trace =
+          some-injective other trace (sym stands ∙ ap (get_elem? (trace ∷ [])) first) in
+          let here = ap (λ (x : List Item). get_elem? x k) (sym same) ∙ at in
+          let place : i.packet ≡ 0 + k = alone_at run.deal 0 vs.0 k i.packet alone
+          (sym (ap (λ ns. get_elem? ns k) numbers) ∙ after_map (λ (x : Item). x.packet) trace k i here) in
+          ap (get_elem? verdicts) (place ∙ (let e : 0 + k ≡ k = omega arith in e))
+          ∙ (ap (λ vs. get_elem? vs k) said ∙ after_map (verdict_in run.times) trace k i here);
+    }
 
 -- ---- What workers of one run said
 
@@ -280,22 +308,9 @@ module _ (run : RunFacts) (traces : List (List Item)) (all : List (Vec Verdict))
       let t =
       zip_there (λ trace (k : Vec Verdict). AreSaid run trace k.items) traces all 0 said are.said
       (ap (λ ss. get_elem? ss 0) one) in
-      let vs = all_views run.policy run.packets in
-      let numbers = (are.traced.each 0 t.0 t.1).dealt vs.0 vs.1 in
-      record {
-        count =
-            ap length t.2 ∙ (length-map t.0 (verdict_in run.times) ∙ (sym (length-map t.0 (λ (k : Item). k.packet))
-            ∙ (ap length numbers ∙ (alone_count run.deal 0 vs.0 alone ∙ sym (zip_count _ run.packets vs.0 vs.1)))));
-        each = λ w trace stands k i at.
-            let first : w ≡ 0 = let inside = within traces w trace stands in let count = are.traced.count in
-            omega arith in
-            let same : trace ≡ t.0 = some-injective trace t.0 (sym stands ∙ (ap (get_elem? traces) first ∙ t.1)) in
-            let here = ap (λ (x : List Item). get_elem? x k) (sym same) ∙ at in
-            let place : i.packet ≡ 0 + k = alone_at run.deal 0 vs.0 k i.packet alone
-            (sym (ap (λ ns. get_elem? ns k) numbers) ∙ after_map (λ (x : Item). x.packet) t.0 k i here) in
-            ap (get_elem? said.items) (place ∙ (let e : 0 + k ≡ k = omega arith in e))
-            ∙ (ap (λ vs. get_elem? vs k) t.2 ∙ after_map (verdict_in run.times) t.0 k i here);
-      }
+      subst (λ ts. ArePlaced run.times run.packets ts said.items)
+      (sym (all_first traces t.0 (are.traced.count ∙ alone) t.1))
+      (one_placed run t.0 said.items alone (are.traced.each 0 t.0 t.1) t.2)
 
 -- the next of packets whose workers are known
 pub may_place_next : (run : RunFacts) (traces : List (List Item)) (all : List (Vec Verdict)) (workers : List ℕ)

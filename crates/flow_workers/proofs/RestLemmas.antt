@@ -21,8 +21,8 @@ use Rattle.flow_workers.specs.declared.share.Batch.{Batch}
 use Rattle.flow_workers.specs.declared.share.Share.{Share}
 use Rattle.flow_workers.specs.Callers.{AreIdle, views_of}
 use Rattle.flow_workers.specs.declared.workers.Workers.{Workers}
-use Rattle.flow_workers.specs.Progress.{AreAtRest, HaveAllSaid, HaveSaid, IsAtRest}
-use Rattle.flow_workers.specs.inner.Jobs.{HasDone, HasWorked, StandAmong, dealer_of, run_facts}
+use Rattle.flow_workers.specs.Progress.{AreAtRest, HaveAllSaid, HaveSaid, IsAtRest, IsAtRestAfter}
+use Rattle.flow_workers.specs.inner.Jobs.{HasDoneAfter, HasWorked, StandAmong, dealer_of, run_facts}
 use Rattle.flow_workers.specs.inner.Shares.{IsUnused, workers_in}
 use Rattle.flow_workers.specs.inner.Together.{HaveNoted, HaveJudgedBatch}
 use Rattle.flow_workers.specs.inner.Turns.{MayJudgeBatch}
@@ -132,10 +132,11 @@ module _ {A B R G K L : Type 0} (ga : Ghosts A K) (gb : Ghosts B L) (setup : Set
         (work_none (run_facts ga gb setup more) w (views_of ga gb share.callers));
   }
 
-  pub rest_judged : (packets : List PacketFacts) (batch : Batch A B R G K L) (w : ℕ) (old new : Share A B K L ga gb)
-      → batch.setup ≡ setup → batch.first ≡ length packets → IsAtRest ga gb setup packets w old
-      → HasWorked ga gb batch w old new → IsAtRest ga gb setup (packets ++ remaining batch.packets) w new
-  rest_judged packets batch w old new same first rest worked = record {
+  pub rest_judged : (said : List Verdict) (packets : List PacketFacts) (batch : Batch A B R G K L) (w : ℕ)
+      (old new : Share A B K L ga gb) → batch.setup ≡ setup → batch.first ≡ length packets
+      → IsAtRestAfter ga gb said setup packets w old → HasWorked ga gb batch w old new
+      → IsAtRestAfter ga gb said setup (packets ++ remaining batch.packets) w new
+  rest_judged said packets batch w old new same first rest worked = record {
     idle = subst (λ s. AreIdle ga gb s.tables.now new.callers) same worked.idle;
     began = rest.began;
     fresh = rest.fresh;
@@ -145,17 +146,17 @@ module _ {A B R G K L : Type 0} (ga : Ghosts A K) (gb : Ghosts B L) (setup : Set
           behind = more;
           stand = ap (λ n. drop n all) first ∙ drop-append_seam packets (remaining batch.packets ++ more);
         } in
-        let before : HasDone ga gb batch.setup all w (batch.first + 0) rest.began old =
-        subst (λ s. HasDone ga gb s all w (batch.first + 0) rest.began old) (sym same)
-        (subst (λ n. HasDone ga gb setup all w n rest.began old)
+        let before : HasDoneAfter ga gb said batch.setup all w (batch.first + 0) rest.began old =
+        subst (λ s. HasDoneAfter ga gb said s all w (batch.first + 0) rest.began old) (sym same)
+        (subst (λ n. HasDoneAfter ga gb said setup all w n rest.began old)
         (let e : length packets ≡ batch.first + 0 = omega arith in e) (rest.work (remaining batch.packets ++ more))) in
-        subst (λ xs. HasDone ga gb setup xs w (length (packets ++ remaining batch.packets)) rest.began new)
+        subst (λ xs. HasDoneAfter ga gb said setup xs w (length (packets ++ remaining batch.packets)) rest.began new)
         (sym (append_assoc packets (remaining batch.packets) more))
-        (subst (λ n. HasDone ga gb setup all w n rest.began new)
+        (subst (λ n. HasDoneAfter ga gb said setup all w n rest.began new)
         (let e = length-append packets (remaining batch.packets) in
         let f : batch.first + length (remaining batch.packets) ≡ length (packets ++ remaining batch.packets) = omega arith in f)
-        (subst (λ s. HasDone ga gb s all w (batch.first + length (remaining batch.packets)) rest.began new) same
-        (worked.work all among rest.began before)));
+        (subst (λ s. HasDoneAfter ga gb said s all w (batch.first + length (remaining batch.packets)) rest.began new) same
+        (worked.work all among rest.began said before)));
   }
 
 -- ---- All workers
@@ -192,7 +193,7 @@ module _ {A B R G K L : Type 0} (ga : Ghosts A K) (gb : Ghosts B L) (old : Worke
         sound = rest.sound;
         count = let e = rest.count in let n = length-append packets (remaining batch.packets) in omega arith;
         shares = ran.worked.count ∙ rest.shares;
-        each = λ i d inside. rest_judged ga gb old.setup packets batch i (get_or old.shares.items i d)
+        each = λ i d inside. rest_judged ga gb old.setup [] packets batch i (get_or old.shares.items i d)
             (get_or shares.items i d) same (first ∙ rest.count) (rest.each i d inside)
             (ran.worked.each i d d (subst (λ n. i < n) (sym rest.shares) inside));
         noted = record { count = are.0; workers = are.1 };

@@ -31,7 +31,7 @@ use Rattle.flow_workers.specs.declared.share.Share.{Share}
 use Rattle.flow_workers.specs.declared.tables.Tables.{Tables}
 use Rattle.flow_workers.specs.declared.setup.Setup.{Setup}
 use Rattle.flow_workers.specs.Callers.{AreIdle, views_of}
-use Rattle.flow_workers.specs.Progress.{IsAtRest}
+use Rattle.flow_workers.specs.Progress.{IsAtRest, IsAtRestAfter}
 use Rattle.flow_workers.specs.inner.Jobs.{run_facts}
 use Rattle.flow_workers.specs.inner.WorkerResults.{AreResults, AreResultsOf}
 use Rattle.flow_workers.specs.inner.Work.{AreSaid, IsWork, IsWorkUntil, RunFacts}
@@ -67,15 +67,15 @@ zip_map R f [] (y ∷ ys) all = absurd all
 zip_map R f (x ∷ xs) [] all = absurd all
 zip_map R f (x ∷ xs) (y ∷ ys) all = (all.0, zip_map R f xs ys all.1)
 
--- what a worker did: a trace, which is in its callers' records, and its verdicts
-pub record IsDone {A B K L : Type 0} (ga : Ghosts A K) (gb : Ghosts B L) (tables : Tables A B K L) (run : RunFacts)
-    (w : ℕ) (share : Share A B K L ga gb) : Type 0 where
+-- what a worker did: a trace, which is in its callers' records, and its verdicts, of which it doesn't keep the first
+pub record IsDone {A B K L : Type 0} (ga : Ghosts A K) (gb : Ghosts B L) (before : List Verdict) (tables : Tables A B K L)
+    (run : RunFacts) (w : ℕ) (share : Share A B K L ga gb) : Type 0 where
   pub idle : AreIdle ga gb tables share.callers
   pub trace : List Item
   pub is : IsTrace run.deal run.times w run.policy run.packets trace
   pub four : HaveTraces run.deal.layout.four run.times V4 (trace ∷ []) share.callers.four.seat.view
   pub six : HaveTraces run.deal.layout.six run.times V6 (trace ∷ []) share.callers.six.seat.view
-  pub said : AreSaid run trace share.said.items
+  pub said : AreSaid run trace (before ++ share.said.items)
 
 module _ {A B K L : Type 0} (ga : Ghosts A K) (gb : Ghosts B L) (tables : Tables A B K L) (run : RunFacts) where
   -- the shares of the workers from one on
@@ -90,7 +90,7 @@ module _ {A B K L : Type 0} (ga : Ghosts A K) (gb : Ghosts B L) (tables : Tables
     said : AllZip (λ t s. AreSaid run t s.said.items) traces shares
 
   all_done : (w : ℕ) (shares : List (Share A B K L ga gb))
-      → ((k : ℕ) (s : Share A B K L ga gb) → get_elem? shares k ≡ some s → IsDone ga gb tables run (w + k) s)
+      → ((k : ℕ) (s : Share A B K L ga gb) → get_elem? shares k ≡ some s → IsDone ga gb [] tables run (w + k) s)
       → AllDone w shares
   all_done w [] done = record {
     traces = [];
@@ -104,7 +104,7 @@ module _ {A B K L : Type 0} (ga : Ghosts A K) (gb : Ghosts B L) (tables : Tables
   all_done w (s ∷ ss) done =
       let one = done 0 s refl in
       let more =
-      all_done (w + 1) ss (λ k x at. subst (λ n. IsDone ga gb tables run n x)
+      all_done (w + 1) ss (λ k x at. subst (λ n. IsDone ga gb [] tables run n x)
       (let e : w + suc k ≡ w + 1 + k = omega arith in e) (done (suc k) x at)) in
       record {
         traces = one.trace ∷ more.traces;
@@ -146,7 +146,7 @@ module _ {A B K L : Type 0} (ga : Ghosts A K) (gb : Ghosts B L) (tables : Tables
   }
 
   -- the callers of a family's table, joined
-  gathered : (traces : List (List Item)) (v : Views)
+  pub gathered : (traces : List (List Item)) (v : Views)
       → IsLawfulCaller run.deal.layout.four v.four × IsLawfulCaller run.deal.layout.six v.six
       → IsToldWhole run.deal.layout.four v.four × IsToldWhole run.deal.layout.six v.six
       → HaveTraces run.deal.layout.four run.times V4 traces v.four → HaveTraces run.deal.layout.six run.times V6 traces v.six
@@ -165,10 +165,10 @@ module _ {A B K L : Type 0} (ga : Ghosts A K) (gb : Ghosts B L) (tables : Tables
       (gathered p.traces v lawful told four six) placed
 
 -- a worker after all packets
-rest_done : {A B R G K L : Type 0} (ga : Ghosts A K) (gb : Ghosts B L) (setup : Setup A B R G K L)
-    (packets : List PacketFacts) (w : ℕ) (share : Share A B K L ga gb) → IsAtRest ga gb setup packets w share
-    → IsDone ga gb setup.tables.now (run_facts ga gb setup packets) w share
-rest_done ga gb setup packets w share rest = record {
+pub rest_done : {A B R G K L : Type 0} (ga : Ghosts A K) (gb : Ghosts B L) (said : List Verdict) (setup : Setup A B R G K L)
+    (packets : List PacketFacts) (w : ℕ) (share : Share A B K L ga gb) → IsAtRestAfter ga gb said setup packets w share
+    → IsDone ga gb said setup.tables.now (run_facts ga gb setup packets) w share
+rest_done ga gb said setup packets w share rest = record {
   idle = rest.idle;
   trace = work.trace;
   is = work.is;
@@ -183,9 +183,12 @@ rest_done ga gb setup packets w share rest = record {
     u : Views
     u = views_of ga gb share.callers
 
-    work : IsWork run w rest.began u share.said.items
-    work = whole_work run w (length packets) rest.began u share.said.items (drop-length packets)
-        (subst (λ xs. IsWorkUntil (run_facts ga gb setup xs) w (length packets) rest.began u share.said.items)
+    all : List Verdict
+    all = said ++ share.said.items
+
+    work : IsWork run w rest.began u all
+    work = whole_work run w (length packets) rest.began u all (drop-length packets)
+        (subst (λ xs. IsWorkUntil (run_facts ga gb setup xs) w (length packets) rest.began u all)
         (append-nil packets) (rest.work []))
 
 module _ {A B R G K L : Type 0} (ga : Ghosts A K) (gb : Ghosts B L) (setup : Setup A B R G K L)
@@ -238,12 +241,12 @@ module _ {A B R G K L : Type 0} (ga : Ghosts A K) (gb : Ghosts B L) (setup : Set
       tables : Tables A B K L
       tables = setup.tables.now
 
-      done : (k : ℕ) (s : Share A B K L ga gb) → get_elem? shares k ≡ some s → IsDone ga gb tables run (0 + k) s
+      done : (k : ℕ) (s : Share A B K L ga gb) → get_elem? shares k ≡ some s → IsDone ga gb [] tables run (0 + k) s
       done k s at =
           let e : k ≡ 0 + k = omega arith in
-          subst (λ n. IsDone ga gb tables run n s) e
-          (subst (IsDone ga gb tables run k) (get_or_at shares k s s at)
-          (rest_done ga gb setup packets k (get_or shares k s)
+          subst (λ n. IsDone ga gb [] tables run n s) e
+          (subst (IsDone ga gb [] tables run k) (get_or_at shares k s s at)
+          (rest_done ga gb [] setup packets k (get_or shares k s)
           (each k s (let inside = within shares k s at in omega arith))))
 
       all : AllDone ga gb tables run 0 shares

@@ -1,5 +1,5 @@
 -- What workers begin with, what they have after the packets that they judged so far, and what they say in the end.
-use Rattle.std.specs.Prelude.{◌≡◌, ◌≤◌, ◌<◌, ◌+◌, ◌++◌, ◌^◌, ℕ, List, [], length, slice_index_or}
+use Rattle.std.specs.Prelude.{◌≡◌, ◌≤◌, ◌<◌, ◌+◌, ◌++◌, ◌^◌, ℕ, List, [], ◌∷◌, length, slice_index_or}
 use Rattle.packet_view.specs.Captures.{PacketFacts}
 use Rattle.packet_view.specs.CheckedCaptures.{remaining}
 use Rattle.packet_view.specs.declared.packets.Packets.{Packets}
@@ -15,7 +15,7 @@ use Rattle.flow_workers.specs.declared.tables.Callers.{Callers}
 use Rattle.flow_workers.specs.declared.workers.Workers.{Workers}
 use Rattle.flow_workers.specs.Callers.{AreIdle, AreShapes}
 use Rattle.flow_workers.specs.inner.Fresh.{IsFreshView}
-use Rattle.flow_workers.specs.inner.Jobs.{HasDone, dealer_of, policy_of}
+use Rattle.flow_workers.specs.inner.Jobs.{HasDoneAfter, dealer_of, policy_of}
 use Rattle.flow_workers.specs.inner.Shares.{AreFresh}
 
 -- from 1 to 16 workers, over tables whose keys are those of flows
@@ -32,13 +32,19 @@ pub record MayBegin {A B R G K L : Type 0} {ga : Ghosts A K} {gb : Ghosts B L} (
   pub fresh : AreFresh setup.tables.now callers
 
 -- A worker after these packets: it holds nothing, and whatever packets follow them, it has looked at these and judged
--- its own.
-pub record IsAtRest {A B R G K L : Type 0} (ga : Ghosts A K) (gb : Ghosts B L) (setup : Setup A B R G K L)
-    (packets : List PacketFacts) (worker : ℕ) (share : Share A B K L ga gb) : Type 0 where
+-- its own: what it said before and keeps no longer, and what is in its share.
+pub record IsAtRestAfter {A B R G K L : Type 0} (ga : Ghosts A K) (gb : Ghosts B L) (said : List Verdict)
+    (setup : Setup A B R G K L) (packets : List PacketFacts) (worker : ℕ) (share : Share A B K L ga gb) : Type 0 where
   pub idle : AreIdle ga gb setup.tables.now share.callers
   pub began : Views
   pub fresh : IsFreshView began.four × IsFreshView began.six
-  pub work : (more : List PacketFacts) → HasDone ga gb setup (packets ++ more) worker (length packets) began share
+  pub work : (more : List PacketFacts)
+      → HasDoneAfter ga gb said setup (packets ++ more) worker (length packets) began share
+
+-- the same where its share has all that it said
+abbrev pub IsAtRest : {A B R G K L : Type 0} (ga : Ghosts A K) (gb : Ghosts B L) → Setup A B R G K L
+    → List PacketFacts → ℕ → Share A B K L ga gb → Type 0
+IsAtRest ga gb setup packets worker share = IsAtRestAfter ga gb [] setup packets worker share
 
 -- these are the workers of these packets
 pub record AreNoted {A B R G K L : Type 0} (ga : Ghosts A K) (gb : Ghosts B L) (setup : Setup A B R G K L)
@@ -91,3 +97,33 @@ abbrev pub HaveSaid : {A B R G K L : Type 0} {ga : Ghosts A K} {gb : Ghosts B L}
     → List Verdict → Type 0
 HaveSaid {ga = ga} {gb = gb} all verdicts = (packets : List PacketFacts) → AreAtRest packets all
     → HaveAllSaid ga gb all.setup packets verdicts
+
+-- ---- One worker that keeps no verdict
+
+-- the only worker after these packets: it said this of them and keeps it no longer, and then what is in its share
+pub record IsAlone {A B R G K L : Type 0} {ga : Ghosts A K} {gb : Ghosts B L} (packets : List PacketFacts)
+    (said : List Verdict) (all : Workers A B R G K L ga gb) : Type 0 where
+  pub sound : IsSoundSetup ga gb all.setup
+  pub one : all.setup.workers ≡ 1
+  pub count : all.count ≡ length packets
+  pub share : Share A B K L ga gb
+  pub only : all.shares.items ≡ share ∷ []
+  pub rest : IsAtRestAfter ga gb said all.setup packets 0 share
+
+-- whatever packets it judged so far, these may follow
+pub record CanGoOn {A B R G K L : Type 0} {ga : Ghosts A K} {gb : Ghosts B L} (all : Workers A B R G K L ga gb)
+    (more : Packets) : Type 0 where
+  pub packets : List PacketFacts
+  pub said : List Verdict
+  pub alone : IsAlone packets said all
+  pub fits : length packets + length (remaining more) < 2 ^ 64
+
+-- It judged these packets too. What it says of them follows what it said before, and all of it are the verdicts on all
+-- packets.
+pub record HasGoneOn {A B R G K L : Type 0} {ga : Ghosts A K} {gb : Ghosts B L} (old : Workers A B R G K L ga gb)
+    (more : Packets) (new : Workers A B R G K L ga gb) (verdicts : List Verdict) : Type 0 where
+  pub by : new.setup ≡ old.setup
+  pub alone : (packets : List PacketFacts) (said : List Verdict) → IsAlone packets said old
+      → IsAlone (packets ++ remaining more) (said ++ verdicts) new
+  pub judged : (packets : List PacketFacts) (said : List Verdict) → IsAlone packets said old
+      → HaveAllSaid ga gb old.setup (packets ++ remaining more) (said ++ verdicts)

@@ -5,6 +5,7 @@ mod batches;
 mod caller_split;
 mod gate;
 mod judging;
+mod lone_worker;
 mod merge;
 mod packet_plan;
 mod renewal;

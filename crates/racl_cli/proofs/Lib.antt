@@ -1,5 +1,6 @@
 pub mod CaptureLaws
 pub mod InputLaws
+pub mod LiveLemmas
 pub mod OpenedLemmas
 pub mod OutcomeLemmas
 pub mod ReadLemmas

@@ -12,7 +12,7 @@ use Rattle.flow_filter.specs.declared.verdict.Verdict.{Verdict}
 use Rattle.flow_dealing.specs.Dealings.{Deal}
 use Rattle.flow_dealing.specs.WorkerRecords.{AreJudged}
 use Rattle.flow_workers.specs.Callers.{AreIdle, first_views, views_of}
-use Rattle.flow_workers.specs.Progress.{AreAtRest}
+use Rattle.flow_workers.specs.Progress.{AreAtRest, IsAlone}
 use Rattle.flow_workers.specs.declared.tables.Callers.{Callers}
 use Rattle.flow_workers.specs.declared.tables.Tables.{Tables}
 use Rattle.flow_workers.specs.declared.workers.Workers.{Workers}
@@ -98,3 +98,30 @@ AreSaid orders packets verdicts = AreJudged orders.deal orders.times orders.poli
 -- these are the verdicts on the packets that they judged
 abbrev pub HaveSaidOn : {T : Type 0} → SizedWorkers T → List Verdict → Type 0
 HaveSaidOn workers verdicts = (packets : List PacketFacts) → AreResting packets workers → AreSaid (orders_of workers) packets verdicts
+
+-- ---- one worker that keeps no verdict
+
+-- the only worker after these packets, of which it said this
+abbrev pub IsRestingAlone : {T : Type 0} → List PacketFacts → List Verdict → SizedWorkers T → Type 0
+IsRestingAlone packets said (Standard workers) = IsAlone packets said workers
+IsRestingAlone packets said (Large workers) = IsAlone packets said workers
+
+-- it has these orders too
+pub record IsAloneAfter {T : Type 0} (orders : Orders) (packets : List PacketFacts) (said : List Verdict) (workers : SizedWorkers T) : Type 0 where
+  pub given : orders_of workers ≡ orders
+  pub rest : IsRestingAlone packets said workers
+
+-- whatever packets it judged so far, these may follow
+pub record MayFollowAlone {T : Type 0} (workers : SizedWorkers T) (more : Packets) : Type 0 where
+  pub packets : List PacketFacts
+  pub said : List Verdict
+  pub rest : IsRestingAlone packets said workers
+  pub fits : length packets + length (remaining more) < 2 ^ 64
+
+-- it judged these packets too, and what it says follows what it said
+pub record HasFollowedAlone {T : Type 0} (old : SizedWorkers T) (more : Packets) (new : SizedWorkers T) (verdicts : List Verdict) : Type 0 where
+  pub orders : orders_of new ≡ orders_of old
+  pub rest : (packets : List PacketFacts) (said : List Verdict) → IsRestingAlone packets said old
+      → IsRestingAlone (packets ++ remaining more) (said ++ verdicts) new
+  pub judged : (packets : List PacketFacts) (said : List Verdict) → IsRestingAlone packets said old
+      → AreSaid (orders_of old) (packets ++ remaining more) (said ++ verdicts)

@@ -1,5 +1,6 @@
 pub mod Crews
 pub mod Endings
+pub mod LiveRuns
 pub mod Reads
 pub mod Runs
 pub mod Saves

@@ -1,3 +1,4 @@
 pub mod Captures
+pub mod Heads
 pub mod Streams
 pub mod Views

@@ -1,7 +1,8 @@
 //! Workers as those who judge the packets of a capture.
 
 use crate::sized::SizedWorkers;
-use capture_stream::Judges;
+use capture_stream::{Judges, Tellers};
+use flow_workers::Verdict;
 use packet_view::Packets;
 use std::alloc::{AllocError, Global};
 use std::sync::Wait;
@@ -24,6 +25,29 @@ impl<'t, 'f, T: Threads + Wait + Sync> Judges for Crew<'t, 'f, T> {
         let Crew { alloc, workers } = self;
         match workers.judge(alloc, packets) {
             Ok(workers) => Ok(Crew { alloc, workers }),
+            Err(error) => Err(error),
+        }
+    }
+}
+
+/// One worker that keeps no verdict, and where it gets memory.
+#[derive(Drop)]
+pub struct Lone<'t, 'f, T: Wait> {
+    pub alloc: Global,
+    pub workers: SizedWorkers<'t, 'f, T>,
+}
+
+impl<'t, 'f, T: Wait> Tellers for Lone<'t, 'f, T> {
+    ghost use Rattle.racl_cli.specs.Crews.{AreSaid, IsAloneAfter, orders_of};
+
+    ghost became = { λ begun packets said lone. IsAloneAfter (orders_of begun.workers) packets said lone.workers };
+
+    ghost judged = { λ begun packets said. AreSaid (orders_of begun.workers) packets said };
+
+    fn judge(self, packets: Packets<'_>) -> Result<(Lone<'t, 'f, T>, Vec<Verdict>), AllocError> {
+        let Lone { alloc, workers } = self;
+        match workers.judge_alone(alloc, packets) {
+            Ok((workers, verdicts)) => Ok((Lone { alloc, workers }, verdicts)),
             Err(error) => Err(error),
         }
     }

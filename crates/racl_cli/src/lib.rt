@@ -8,6 +8,7 @@ mod crew;
 mod end_to_end;
 mod exits;
 mod laws;
+mod live;
 mod message;
 mod opening;
 mod outcome;
@@ -19,6 +20,7 @@ mod viewing;
 pub use end_to_end::{run, run_saving};
 pub use exits::{ending, failure_ending, hint, remark, status, words_ending};
 pub use laws::each_input_has_one_outcome;
+pub use live::run_live;
 pub use message::{Ending, Hint, Message, Remark, Unopened};
 pub use saving::Saves;
 pub use racl_io::{

@@ -1,7 +1,7 @@
 //! Session tables of the size that the words ask for, and workers over them.
 ghost use Rattle.std.specs.Prelude.{[], ◌≡◌, ◌≤◌, IfOk};
 ghost use Rattle.flow_dealing.specs.declared.dealing.Dealing.TheVariants.{Bucket};
-ghost use Rattle.racl_cli.specs.Crews.{AreAfter, AreFirstOf, HaveFollowedOn, HaveJudgedSome, HaveSaidOn, MayFollow};
+ghost use Rattle.racl_cli.specs.Crews.{AreAfter, AreFirstOf, HasFollowedAlone, HaveFollowedOn, HaveJudgedSome, HaveSaidOn, MayFollow, MayFollowAlone};
 ghost use Rattle.racl_cli.specs.Crews.{orders_for, size_of};
 
 use bihash_words::{Shape, ShapeV4, ShapeV6, flow_shapes_are_sound};
@@ -153,6 +153,28 @@ impl<'t, 'f, T: Wait> SizedWorkers<'t, 'f, T> {
         match said {
             Ok(verdicts) => Ok(verdicts),
             Err(_) => Err(AllocError),
+        }
+    }
+
+    /// The only worker after it judged these packets too, which follow those so far, and the verdicts on them, which it
+    /// doesn't keep. An error says that memory was refused.
+    pub fn judge_alone(
+        self,
+        alloc: Global,
+        packets: Packets<'_>,
+    ) -> Result<(SizedWorkers<'t, 'f, T>, Vec<Verdict>), AllocError>
+        requires { MayFollowAlone self packets }
+        ensures { IfOk result (λ r. HasFollowedAlone self.entry packets.entry r.0 r.1.items) }
+    {
+        match self {
+            SizedWorkers::Standard(workers) => match workers.judge_alone(alloc, packets) {
+                Ok((workers, verdicts)) => Ok((SizedWorkers::Standard(workers), verdicts)),
+                Err(_) => Err(AllocError),
+            },
+            SizedWorkers::Large(workers) => match workers.judge_alone(alloc, packets) {
+                Ok((workers, verdicts)) => Ok((SizedWorkers::Large(workers), verdicts)),
+                Err(_) => Err(AllocError),
+            },
         }
     }
 }

@@ -1,9 +1,12 @@
 -- The report on verdicts is that on the first of them, and after it that on the others.
 use Rattle.std.proofs.Common.{◌≡◌, ◌∙◌, ◌+◌, ◌-◌, ◌++◌, ℕ, Bool, true, false, not, cond, List, [], ◌∷◌, Option, length, take, drop, arith, append_assoc, refl, sym, ap, ap₂}
+use Rattle.std.proofs.KnownBytes.{Appends-trans}
+use Rattle.std.specs.Io.KnownBytes.{Appends}
 use Rattle.std.proofs.lemmas.List.Sums.{sum_by-append, sum_by-cons}
 use Rattle.flow_filter.specs.Verdicts.{passes}
 use Rattle.flow_filter.specs.declared.verdict.Verdict.{Verdict}
 use Rattle.racl_io.specs.Reports.{captures_from, dropped, is_truncated, line_of, lines_from, packets_in, passed, totals_of, truncation_line}
+use Rattle.racl_io.specs.Sinks.{GotFront}
 use Rattle.racl_io.specs.declared.report.Captured.{Captured}
 use Rattle.racl_io.specs.declared.report.Totals.{Totals}
 
@@ -32,6 +35,17 @@ pub more_lines : (named : Option ℕ) (front piece lines : List ℕ) (n m : ℕ)
 more_lines named front piece lines n m rest xs ys told parted is e =
     append_assoc front piece (lines_from named m ys)
     ∙ ap (λ l. front ++ l) (ap (λ p. p ++ lines_from named m ys) is ∙ sym (lines_of_both named n m xs ys e) ∙ ap (lines_from named n) (sym parted)) ∙ told
+
+-- where a front of a further piece was written, a front of all was
+pub cut_at : (a b c : Option (List ℕ)) (front piece behind text : List ℕ) → (front ++ piece) ++ behind ≡ text → Appends a b front → GotFront b c piece
+    → GotFront a c text
+cut_at a b c front piece behind text whole wrote (part, rest, same, got) = (
+  front ++ part,
+  rest ++ behind,
+  sym whole ∙ ap (λ p. (front ++ p) ++ behind) same ∙ ap (λ p. p ++ behind) (sym (append_assoc front part rest))
+      ∙ append_assoc (front ++ part) rest behind,
+  Appends-trans a b c front part wrote got,
+)
 
 -- what is written where a further capture is
 pub more_captures : (front text : List ℕ) (n m : ℕ) (rest xs ys : List Verdict) (captured : Captured) (left after : List Captured) → front ++ captures_from n rest left ≡ text

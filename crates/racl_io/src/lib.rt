@@ -29,7 +29,8 @@ pub use numeral::Numeral;
 pub use other::{Other, is_capture, other_file};
 pub use piece::Piece;
 pub use report::{
-    Captured, Totals, push_name, totals_on, write_report, write_totals, write_truncation,
+    Captured, Place, Totals, push_name, totals_on, write_lines, write_report, write_totals,
+    write_truncation,
 };
 pub use shown::{Shown, has_line, write_shown};
 pub use transfer::{MOST_BYTES, drain, read_until, write_all};

@@ -3,8 +3,8 @@ ghost use Rattle.std.specs.Prelude.{◌≡◌, ◌≢◌, ◌+◌, ◌-◌, ◌*
 ghost use Rattle.std.specs.Io.KnownBytes.{Appends};
 ghost use Rattle.racl_io.specs.Reports;
 ghost use Rattle.racl_io.specs.Reports.{captures_from, line_of, lines_from, name_of, packets_in, report_of, text_of, totals_of, totals_line, truncation_line};
-ghost use Rattle.racl_io.specs.Sinks.{HasPut};
-ghost use Rattle.racl_io.specs.inner.Lines.{HasTold, HasWritten};
+ghost use Rattle.racl_io.specs.Sinks.{GotFront, HasPutFront};
+ghost use Rattle.racl_io.specs.inner.Lines.{HasTold, HasWritten, lines_at};
 ghost use Rattle.racl_io.specs.declared.fault.Fault.TheVariants.{Memory, Write};
 
 use crate::beside::{Lines, write_beside};
@@ -166,7 +166,8 @@ pub fn write_lines<W: Sink>(
 ) -> Result<u64, Fault>
     requires sound { W.failures writer.old < 2 ^ 64 - 1 }
     requires fits { place.others + length verdicts.now < 2 ^ 64 }
-    ensures { HasWritten W.bytes W.failures writer.old writer.new place verdicts.now result }
+    ensures told { HasWritten W.bytes W.failures writer.old writer.new place verdicts.now result }
+    ensures front { OnErr result (GotFront (W.bytes writer.old) (W.bytes writer.new) (lines_at place verdicts.now)) }
 {
     let mut number = Counter::at(place.others as u64);
     let name = Name::of(place.named);
@@ -266,7 +267,7 @@ pub fn write_truncation<W: Sink>(
     captured: &Captured,
 ) -> Result<(), Fault>
     requires { W.failures writer.old < 2 ^ 64 - 1 }
-    ensures { HasPut W.bytes W.failures writer.old writer.new (truncation_line captured.now.named captured.now.truncated captured.now.packets) result }
+    ensures { HasPutFront W.bytes W.failures writer.old writer.new (truncation_line captured.now.named captured.now.truncated captured.now.packets) result }
 {
     if !captured.truncated {
         return Ok(());
@@ -348,7 +349,7 @@ pub fn write_totals<W: Sink>(
     totals: &Totals,
 ) -> Result<(), Fault>
     requires { W.failures writer.old < 2 ^ 64 - 1 }
-    ensures { HasPut W.bytes W.failures writer.old writer.new (totals_line totals.now) result }
+    ensures { HasPutFront W.bytes W.failures writer.old writer.new (totals_line totals.now) result }
 {
     piece.clear();
     push_totals(piece, totals);

@@ -2,6 +2,7 @@
 ghost use Rattle.std.specs.Prelude.{◌≡◌, ◌+◌, ◌-◌, ◌<◌, ◌≤◌, ◌^◌, ◌⊎◌, ◌++◌, IfOk, IfErr, IsErrOf, OnOk, OnErr, length, vec_capacity, vec_len};
 ghost use Rattle.std.specs.Io.KnownBytes.{Appends};
 ghost use Rattle.racl_io.specs.Inputs.{most_bytes};
+ghost use Rattle.racl_io.specs.Sinks.{GotFront};
 ghost use Rattle.racl_io.specs.Transfers.{HasDrained, HasRead, HasReadWithin};
 ghost use Rattle.racl_io.specs.declared.fault.Fault.TheVariants.{Memory, Read, Write};
 
@@ -85,6 +86,7 @@ pub fn write_all<W: Sink>(writer: &mut W, bytes: &[u8]) -> Result<(), Fault>
     ensures ok { OnOk result (W.failures writer.new ≡ W.failures writer.old) }
     ensures failed { OnErr result (W.failures writer.new ≡ W.failures writer.old + 1) }
     ensures fault { IfErr result (λ e. e ≡ Write) }
+    ensures front { OnErr result (GotFront (W.bytes writer.old) (W.bytes writer.new) bytes.now) }
 {
     let mut rest = bytes;
     while !rest.is_empty() {

@@ -34,6 +34,8 @@ pub record IsMadeWhole (z : Sizes) (s t : CallerState) : Type 0 where
   pub lawful : IsLawfulCaller z t.view
   pub records : t.view.records ≡ s.view.records
   pub known : t.view.known ≡ s.view.known
+  pub own : t.row ≡ s.row
+  pub holds : t.view.holds ≡ s.view.holds
 
 -- callers of this table, one at least, that hold nothing
 pub record MayJoin {A K : Type 0} {g : Ghosts A K} (table : Sessions A K) (callers : List (Caller A K g)) : Type 0 where

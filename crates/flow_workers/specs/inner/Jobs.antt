@@ -1,5 +1,5 @@
 -- What a worker is given, and what it gives back.
-use Rattle.std.specs.Prelude.{◌≡◌, ◌<◌, ◌+◌, ◌++◌, ◌^◌, ℕ, List, Some, drop, length, slice_get}
+use Rattle.std.specs.Prelude.{◌≡◌, ◌<◌, ◌+◌, ◌++◌, ◌^◌, ℕ, List, [], Some, drop, length, slice_get}
 use Rattle.packet_view.specs.Captures.{PacketFacts}
 use Rattle.packet_view.specs.CheckedCaptures.{remaining}
 use Rattle.packet_view.specs.Frames.{FrameFacts, frame_facts}
@@ -9,6 +9,7 @@ use Rattle.flow_filter.specs.OneThread.{layout_of}
 use Rattle.flow_filter.specs.Readings.{IsSeenAt}
 use Rattle.flow_filter.specs.InterfaceFilters.{IsReadyAt}
 use Rattle.flow_filter.specs.declared.filter.InterfaceFilter.{InterfaceFilter}
+use Rattle.flow_filter.specs.declared.verdict.Verdict.{Verdict}
 use Rattle.flow_dealing.specs.Dealings.{flow_of_frame, worker_of}
 use Rattle.flow_dealing.specs.Views.{Views}
 use Rattle.packet_dealing.specs.Dealt.{AreDealt, IsDealtChunk, IsDealtTo, deal_of}
@@ -108,20 +109,26 @@ pub record MayJudgeChunk {A B R G K L : Type 0} (ga : Ghosts A K) (gb : Ghosts B
   pub fits : batch.first + length (remaining batch.packets) < 2 ^ 64
   pub of : IsChunkAt ga gb batch first chunk
 
--- of all packets, the worker has looked at so many, and judged its own: what is in its share
+-- of all packets, the worker has looked at so many, and judged its own: what it said before and keeps no longer, and what
+-- is in its share
+abbrev pub HasDoneAfter : {A B R G K L : Type 0} (ga : Ghosts A K) (gb : Ghosts B L) → List Verdict → Setup A B R G K L
+    → List PacketFacts → ℕ → ℕ → Views → Share A B K L ga gb → Type 0
+HasDoneAfter ga gb said setup all worker at v share = IsWorkUntil (run_facts ga gb setup all) worker at v
+    (views_of ga gb share.callers) (said ++ share.said.items)
+
+-- the same where its share has all that it said
 abbrev pub HasDone : {A B R G K L : Type 0} (ga : Ghosts A K) (gb : Ghosts B L) → Setup A B R G K L
     → List PacketFacts → ℕ → ℕ → Views → Share A B K L ga gb → Type 0
-HasDone ga gb setup all worker at v share = IsWorkUntil (run_facts ga gb setup all) worker at v
-    (views_of ga gb share.callers) share.said.items
+HasDone ga gb setup all worker at v share = HasDoneAfter ga gb [] setup all worker at v share
 
 -- The worker, which had looked at the packets before this place of the batch, has looked at those before that place too,
--- and judged its own of them, whatever packets the batch's stand among.
+-- and judged its own of them, whatever packets the batch's stand among, and whatever it said before.
 pub record HasWorkedOn {A B R G K L : Type 0} (ga : Ghosts A K) (gb : Ghosts B L) (batch : Batch A B R G K L)
     (worker first last : ℕ) (old new : Share A B K L ga gb) : Type 0 where
   pub idle : AreIdle ga gb batch.setup.tables.now new.callers
-  pub work : (all : List PacketFacts) → StandAmong batch all → (v : Views)
-      → HasDone ga gb batch.setup all worker (batch.first + first) v old
-      → HasDone ga gb batch.setup all worker (batch.first + last) v new
+  pub work : (all : List PacketFacts) → StandAmong batch all → (v : Views) (said : List Verdict)
+      → HasDoneAfter ga gb said batch.setup all worker (batch.first + first) v old
+      → HasDoneAfter ga gb said batch.setup all worker (batch.first + last) v new
 
 -- the worker judged its packets of the batch, all of them
 abbrev pub HasWorked : {A B R G K L : Type 0} (ga : Ghosts A K) (gb : Ghosts B L) → Batch A B R G K L → ℕ

@@ -1,5 +1,5 @@
 -- Lines of a report that are made and written.
-use Rattle.std.specs.Prelude.{◌≡◌, ◌+◌, ◌*◌, ◌<◌, ◌≤◌, ◌^◌, ℕ, List, [], Option, Result, IfErr, IfOk, OnErr, OnOk, length, vec_capacity, ⊤}
+use Rattle.std.specs.Prelude.{◌≡◌, ◌+◌, ◌*◌, ◌<◌, ◌≤◌, ◌^◌, ℕ, List, [], Option, Result, IfErr, IfOk, OnErr, OnOk, length, vec_capacity}
 use Rattle.std.specs.Io.KnownBytes.{Appends}
 use Rattle.flow_filter.specs.declared.verdict.Verdict.{Verdict}
 use Rattle.racl_io.specs.declared.beside.Lines.{Lines}

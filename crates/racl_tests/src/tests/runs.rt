@@ -3,6 +3,7 @@ use racl_cli::{Lines, Options, TableSize};
 use racl_io::Shown;
 use session_state::Timeouts;
 
+mod live;
 mod transfers;
 
 // A whole input: a request, its answer, and an answer that nobody asked for.

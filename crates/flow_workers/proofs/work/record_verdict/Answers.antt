@@ -1,4 +1,4 @@
-use Rattle.std.proofs.Common.{arith, sym}
+use Rattle.std.proofs.Common.{◌∷◌, [], append_assoc, arith, sym}
 use Rattle.std.proofs.lemmas.Option.{slice_get_within}
 use Rattle.packet_view.specs.CheckedCaptures.{remaining}
 use Rattle.packet_view.specs.Frames.{frame_facts}
@@ -18,8 +18,8 @@ returns g c =
     let stands = c.requires.stands in
     record {
       idle = c.judge_viewed-verdict.ensures.idle;
-      work = λ all among v old.
-          rw c.in_ok-push.ensures.items
+      work = λ all among v said old.
+          rw (c.in_ok-push.ensures.items, sym (append_assoc said c.args.share.now.said.items (c.judge_viewed-verdict.result ∷ [])))
           (one_more _ _ _ _ _ _ _
           (work_push _ _ _ _ _ _ _ stands.packet (frame_facts c.args.packet.now.frame.now) _
           (viewed_among g.A.Shape g.B.Shape c.args.batch.now all among c.args.at c.args.filter.now c.args.packet.now stands)

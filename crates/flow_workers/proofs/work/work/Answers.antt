@@ -11,7 +11,7 @@ loop-chunk-init g c = record {
   inside = omega arith;
   worked = record {
     idle = c.requires.idle;
-    work = λ all among v done. rw c.in_ok-reserve.ensures.items done;
+    work = λ all among v said done. rw c.in_ok-reserve.ensures.items done;
   };
 }
 

@@ -7,10 +7,10 @@ use std::alloc::Global;
 
 /// Gives one byte a read. Once it has made its reads it fails, and then goes on.
 #[derive(Drop)]
-struct Drip<'a> {
-    rest: &'a [u8],
-    reads: usize,
-    failures: u64,
+pub struct Drip<'a> {
+    pub rest: &'a [u8],
+    pub reads: usize,
+    pub failures: u64,
 }
 
 impl Source for Drip<'_> {
@@ -34,10 +34,10 @@ impl Source for Drip<'_> {
 
 /// Takes one byte a write. Once it has made its writes it fails, and then goes on.
 #[derive(Drop)]
-struct Trickle {
-    taken: Vec<u8>,
+pub struct Trickle {
+    pub taken: Vec<u8>,
     writes: usize,
-    failures: u64,
+    pub failures: u64,
 }
 
 impl Sink for Trickle {
@@ -77,7 +77,8 @@ impl Sink for Stopped {
     }
 }
 
-fn trickling(alloc: Global, writes: usize) -> Trickle
+/// One that makes so many writes.
+pub fn trickling(alloc: Global, writes: usize) -> Trickle
     ensures { result.failures ≡ 0 }
 {
     Trickle {

@@ -1,0 +1,88 @@
+-- A capture whose packets are told while they come: what was read and written at its end, and where a fault ended it.
+use Rattle.std.specs.Prelude.{◌≡◌, ◌≢◌, ◌+◌, ◌≤◌, ◌⊎◌, ℕ, Bool, List, [], ◌∷◌, None, Option, length}
+use Rattle.std.specs.Io.KnownBytes.{Appends, Consumes, IsAtEnd}
+use Rattle.packet_view.specs.Captures.{AreRecords, IsEnd, IsTooLong, PacketFacts, RecordFacts, end_of, packets_at}
+use Rattle.packet_view.specs.declared.capture.Order.{Order}
+use Rattle.flow_filter.specs.declared.verdict.Verdict.{Verdict}
+use Rattle.racl_io.specs.declared.fault.Fault.{Fault}
+use Rattle.racl_io.specs.declared.fault.Fault.TheVariants.{LongRecord, Memory, Read, TooLarge, Write}
+use Rattle.racl_io.specs.declared.report.Captured.{Captured}
+use Rattle.racl_io.specs.declared.report.Totals.{Totals}
+use Rattle.racl_io.specs.Reports.{lines_from, report_of, totals_of}
+use Rattle.racl_io.specs.Sinks.{GotFront}
+
+-- the most bytes that are read
+abbrev pub most_live : ℕ
+most_live = 4611686018427387904
+
+-- how often a source failed, where this is answered: a read that failed counts
+abbrev pub with_read : ℕ → Fault → ℕ
+with_read failures Read = failures + 1
+with_read failures fault = failures
+
+-- and how often a sink did
+abbrev pub with_write : ℕ → Fault → ℕ
+with_write failures Write = failures + 1
+with_write failures fault = failures
+
+-- what a report tells of a capture of so many packets, whose interface it doesn't name
+abbrev pub told_alone : ℕ → Bool → List Captured
+told_alone packets truncated = record { named = None; packets = packets; truncated = truncated } ∷ []
+
+-- Of the bytes that the source gave these are the whole records at the front, before the rest, and the lines of their
+-- packets were written, and no others.
+pub record HasToldSome {J : Type 0} (Judged : J → List PacketFacts → List Verdict → Type 0) (begun : J) (order : Order)
+    (before after old new : Option (List ℕ)) (rest : List ℕ) : Type 0 where
+  pub read : List ℕ
+  pub consumed : Consumes before after read
+  pub packets : List RecordFacts
+  pub records : AreRecords order read packets rest
+  pub verdicts : List Verdict
+  pub judged : packets ≢ [] → Judged begun (packets_at 0 packets) verdicts
+  pub count : length verdicts ≡ length packets
+  pub text : Appends old new (lines_from None 1 verdicts)
+
+-- the source gave all its bytes, and the report on the packets of all records was written
+pub record HasToldAll {J : Type 0} (Judged : J → List PacketFacts → List Verdict → Type 0) (begun : J) (order : Order)
+    (before after old new : Option (List ℕ)) (totals : Totals) : Type 0 where
+  pub read : List ℕ
+  pub consumed : Consumes before after read
+  pub ended : IsAtEnd after
+  pub packets : List RecordFacts
+  pub rest : List ℕ
+  pub records : AreRecords order read packets rest
+  pub truncated : Bool
+  pub end : IsEnd order rest (end_of truncated)
+  pub verdicts : List Verdict
+  pub judged : Judged begun (packets_at 0 packets) verdicts
+  pub count : length verdicts ≡ length packets
+  pub text : Appends old new (report_of verdicts (told_alone (length packets) truncated))
+  pub counted : totals ≡ totals_of verdicts (told_alone (length packets) truncated)
+
+-- Of the bytes that the source gave these are whole records at the front, and of the lines of their packets, or at the end of
+-- the report on them, a front was written.
+pub record HasToldPart {J : Type 0} (Judged : J → List PacketFacts → List Verdict → Type 0) (begun : J) (order : Order)
+    (before after old new : Option (List ℕ)) : Type 0 where
+  pub read : List ℕ
+  pub consumed : Consumes before after read
+  pub packets : List RecordFacts
+  pub rest : List ℕ
+  pub records : AreRecords order read packets rest
+  pub verdicts : List Verdict
+  pub judged : Judged begun (packets_at 0 packets) verdicts
+  pub count : length verdicts ≡ length packets
+  pub front : GotFront old new (lines_from None 1 verdicts)
+      ⊎ ((truncated : Bool) × IsAtEnd after × IsEnd order rest (end_of truncated) × GotFront old new (report_of verdicts (told_alone (length packets) truncated)))
+
+-- Why not all was told. Where a read failed, all whole records were told that were read before.
+abbrev pub IsLiveFault : {J : Type 0} → (J → List PacketFacts → List Verdict → Type 0) → J → Order
+    → Option (List ℕ) → Option (List ℕ) → Option (List ℕ) → Option (List ℕ) → Fault → Type 0
+IsLiveFault Judged begun order before after old new Memory = (rest : List ℕ) × HasToldSome Judged begun order before after old new rest
+IsLiveFault Judged begun order before after old new Read =
+    (rest : List ℕ) × HasToldSome Judged begun order before after old new rest × (truncated : Bool) × IsEnd order rest (end_of truncated)
+IsLiveFault Judged begun order before after old new (LongRecord number) =
+    (rest : List ℕ) × (told : HasToldSome Judged begun order before after old new rest) × IsTooLong order rest × (number ≡ length told.packets + 1)
+IsLiveFault Judged begun order before after old new TooLarge =
+    (rest : List ℕ) × (told : HasToldSome Judged begun order before after old new rest) × (most_live ≤ length told.read)
+IsLiveFault Judged begun order before after old new Write = HasToldPart Judged begun order before after old new
+IsLiveFault Judged begun order before after old new fault = ⊥

@@ -1,0 +1,83 @@
+//! One worker that keeps no verdict.
+ghost use Rattle.flow_workers.specs.Callers.{AreIdle};
+ghost use Rattle.flow_workers.specs.inner.Alone.{HasLetGo};
+
+use crate::caller_split::wait_until_lone;
+use crate::gate::Gate;
+use crate::run_fault::RunFault;
+use crate::share::{Batch, Share};
+use crate::tables::{Callers, Tables};
+use crate::together::judge_together;
+use crate::workers::Workers;
+use bihash_words::Shape;
+use flow_filter::Verdict;
+use packet_view::Packets;
+use std::alloc::Global;
+use std::sync::Wait;
+
+// The share without what its worker said, which is answered too. The worker waits until it has every number that was made.
+fn let_go<A: Shape, B: Shape, R: Wait>(
+    rt: &R,
+    alloc: Global,
+    tables: &Tables<A, B>,
+    share: Share<A, B>,
+) -> (Share<A, B>, Vec<Verdict>)
+    requires { AreIdle ⟦<A as Shape>⟧ ⟦<B as Shape>⟧ tables.now share.callers }
+    ensures { HasLetGo ⟦<A as Shape>⟧ ⟦<B as Shape>⟧ tables.now share result.0 result.1.items }
+{
+    let Share { callers, said } = share;
+    let Callers { mut four, mut six } = callers;
+    wait_until_lone(rt, &tables.four, &mut four);
+    wait_until_lone(rt, &tables.six, &mut six);
+    let callers = Callers { four, six };
+    let kept = Share {
+        callers,
+        said: Vec::new(alloc),
+    };
+    (kept, said)
+}
+
+impl<'t, 'f, A: Shape, B: Shape, R: Wait, G: Gate> Workers<'t, 'f, A, B, R, G> {
+    ghost use Rattle.std.specs.Prelude.{IfOk};
+    ghost use Rattle.flow_workers.specs.Progress.{CanGoOn, HasGoneOn};
+
+    /// The only worker after it judged these packets too, which follow those so far, and the verdicts on them, which it
+    /// doesn't keep. `Memory`: memory was refused.
+    pub fn judge_alone(
+        self,
+        alloc: Global,
+        packets: Packets<'_>,
+    ) -> Result<(Workers<'t, 'f, A, B, R, G>, Vec<Verdict>), RunFault>
+        requires { CanGoOn self packets }
+        ensures { IfOk result (λ r. HasGoneOn self.entry packets.entry r.0 r.1.items) }
+    {
+        let count = self.count + packets.count();
+        let batch = Batch {
+            setup: self.setup.again(),
+            first: self.count,
+            packets,
+        };
+        let Workers {
+            setup,
+            shares,
+            mut judges,
+            ..
+        } = self;
+        judges.clear();
+        let mut shares = judge_together(batch, shares, &mut judges)?;
+        let Some(share) = shares.pop() else {
+            unreachable!()
+        };
+        let (share, said) = let_go(setup.rt, alloc, setup.tables, share);
+        let Ok(()) = shares.push(share) else {
+            return Err(RunFault::Memory);
+        };
+        let workers = Workers {
+            setup,
+            shares,
+            judges,
+            count,
+        };
+        Ok((workers, said))
+    }
+}

@@ -1,0 +1,86 @@
+-- A run over a capture that is told while it comes.
+use Rattle.std.specs.Io.KnownBytes.{Appends}
+use Rattle.std.proofs.KnownBytes.{Consumes-all, Consumes-trans}
+use Rattle.std.proofs.Common.{◌≡◌, ◌∙◌, ◌≤◌, ◌++◌, ℕ, List, [], Option, ap, arith, inl, inr, refl, subst, sym, drop}
+use Rattle.std.proofs.lemmas.List.{drop_all, length-map}
+use Rattle.packet_view.specs.Captures.{AreRecords, PacketFacts, packet_at, packets_at}
+use Rattle.packet_view.specs.declared.capture.Order.{Order}
+use Rattle.packet_view.proofs.FrontLemmas.{behind_header_appended, header_appended}
+use Rattle.acl_policy.specs.Policies.{IsPolicyText, PolicyFacts, policy_facts}
+use Rattle.flow_filter.specs.declared.filter.Filter.{Filter}
+use Rattle.flow_filter.specs.declared.interface_filters.InterfaceFilters.{InterfaceFilters}
+use Rattle.flow_filter.specs.declared.verdict.Verdict.{Verdict}
+use Rattle.flow_dealing.specs.WorkerRecords.{AreJudged, HavePages}
+use Rattle.flow_dealing.proofs.FewPackets.{pages_for_few}
+use Rattle.flow_dealing.proofs.OneReport.{one_report}
+use Rattle.flow_workers.proofs.AloneLemmas.{alone_begun}
+use Rattle.racl_options.specs.declared.settings.Options.{Options}
+use Rattle.racl_options.specs.declared.settings.TableSize.{TableSize}
+use Rattle.racl_io.specs.declared.fault.Fault.{Fault}
+use Rattle.racl_io.specs.declared.report.Totals.{Totals}
+use Rattle.racl_io.specs.Reports.{report_of, totals_of}
+use Rattle.capture_stream.specs.Lives.{HasToldAll, told_alone}
+use Rattle.racl_cli.specs.Crews.{AreResting, AreSaid, IsRestingAlone, Orders, orders_for, orders_of}
+use Rattle.racl_cli.specs.LiveRuns.{ByOneWorker, HasRunLive, IsEarlyFault}
+use Rattle.racl_cli.specs.Runs.{ByOneThread, bucket_deal}
+use Rattle.racl_cli.specs.inner.Heads.{HasReadHeader, IsUnread}
+use Rattle.racl_cli.specs.declared.sized.SizedWorkers.{SizedWorkers}
+use Rattle.racl_cli.specs.declared.sized.SizedWorkers.TheVariants.{Standard, Large}
+use Rattle.racl_cli.proofs.OutcomeLemmas.{given_by_workers, judged_as}
+
+-- a worker that begins alone
+pub begun_alone : {T : Type 0} (workers : SizedWorkers T) → (orders_of workers).deal.workers ≡ 1 → AreResting [] workers → IsRestingAlone [] [] workers
+begun_alone (Standard workers) one rest = alone_begun _ _ workers one rest
+begun_alone (Large workers) one rest = alone_begun _ _ workers one rest
+
+-- what one worker said
+pub by_one_worker : (options : Options) (set : Filter) (ready : InterfaceFilters) (size : TableSize) (orders : Orders) (packets : List PacketFacts)
+    (verdicts : List Verdict) → orders ≡ orders_for size ready 1 → size ≡ options.tables → ready.times ≡ set.times → ready.policy.now ≡ set.policy
+    → set.times ≡ options.times → 1 ≤ options.workers → AreSaid orders packets verdicts → ByOneWorker options (policy_facts set.policy) packets verdicts
+by_one_worker options set ready size orders packets verdicts given sized times policy same some said =
+    let judged : AreJudged (bucket_deal options.tables 1) set.times (policy_facts set.policy) packets verdicts =
+    judged_as packets verdicts orders size options.tables ready set 1 given sized times policy said in
+    record {
+      judged = subst (λ t. AreJudged (bucket_deal options.tables 1) t (policy_facts set.policy) packets verdicts) same judged;
+      by_workers = given_by_workers options set.times (policy_facts set.policy) packets verdicts 1 same (omega arith) some judged (pages_for_few _ _ _ _ _);
+      by_one_thread =
+          subst (λ t. HavePages verdicts → ByOneThread options.tables t (policy_facts set.policy) packets verdicts) same
+          (one_report _ _ _ _ _ judged (inl refl));
+    }
+
+-- the header has the fault, or couldn't be read
+pub early_fault : (text : List ℕ) (before : Option (List ℕ)) (fault : Fault) (policy : PolicyFacts) → IsPolicyText text policy → IsUnread before fault
+    → IsEarlyFault text before fault
+early_fault text before fault policy says (inl memory) = inl memory
+early_fault text before fault policy says (inr (inl failed)) = inr (inl failed)
+early_fault text before fault policy says (inr (inr (cause, header, left, consumed, wrong, same))) =
+    inr (inr (inr (policy, says, cause, header, left, consumed, wrong, same)))
+
+-- all bytes were read, and the report was written
+pub live_run : (options : Options) (text : List ℕ) (before left after old new : Option (List ℕ)) (policy : PolicyFacts) (order : Order) (totals : Totals)
+    → IsPolicyText text policy → HasReadHeader before left order → HasToldAll (ByOneWorker options) policy order left after old new totals
+    → HasRunLive options text before old new totals
+live_run options text before left after old new policy order totals says head told =
+    let bytes = head.header ++ told.read in
+    let header = header_appended order head.header told.read (record { right = head.headed.right; one = head.headed.one; none = head.headed.none }) in
+    let whole = head.whole in
+    let behind : drop 24 bytes ≡ told.read =
+    behind_header_appended head.header told.read (omega arith) ∙ ap (λ b. b ++ told.read) (drop_all 24 head.header (omega arith)) in
+    let size = length-map told.packets (packet_at 0) in
+    record {
+      policy = policy;
+      says = says;
+      bytes = bytes;
+      known = Consumes-all before after bytes [] bytes (Consumes-trans before left after head.header told.read head.consumed told.consumed) told.ended refl;
+      packets = packets_at 0 told.packets;
+      truncated = told.truncated;
+      records = (
+        told.packets,
+        (order, told.rest, header.right, subst (λ (b : List ℕ). AreRecords order b told.packets told.rest) (sym behind) told.records, told.end),
+        refl,
+      );
+      verdicts = told.verdicts;
+      by_one_worker = told.judged;
+      written = subst (λ n. Appends old new (report_of told.verdicts (told_alone n told.truncated))) (sym size) told.text;
+      counted = subst (λ n. totals ≡ totals_of told.verdicts (told_alone n told.truncated)) (sym size) told.counted;
+    }

@@ -1,0 +1,62 @@
+-- A run over a capture that is told while it comes: its policy is text of its own.
+use Rattle.std.specs.Prelude.{◌≡◌, ◌⊎◌, ℕ, Bool, List, ◌∷◌, [], None, Option, IfSome, length}
+use Rattle.std.specs.Io.KnownBytes.{Appends, Consumes}
+use Rattle.packet_view.specs.Captures.{HasFileHeader, IsCaptureAt, IsHeaderFault, PacketFacts, end_of}
+use Rattle.packet_view.specs.declared.capture.CaptureFault.{CaptureFault}
+use Rattle.packet_view.specs.declared.capture.Order.{Order}
+use Rattle.acl_policy.specs.Policies.{IsPolicyFault, IsPolicyText, PolicyFacts}
+use Rattle.acl_policy.specs.declared.policy.PolicyFault.{PolicyFault}
+use Rattle.flow_filter.specs.declared.verdict.Verdict.{Verdict}
+use Rattle.flow_dealing.specs.WorkerRecords.{AreJudged, HavePages}
+use Rattle.racl_options.specs.declared.settings.Options.{Options}
+use Rattle.racl_io.specs.declared.fault.Fault.{Fault}
+use Rattle.racl_io.specs.declared.fault.Fault.TheVariants.{Memory, Read}
+use Rattle.racl_io.specs.declared.report.Totals.{Totals}
+use Rattle.racl_io.specs.Faults.{capture_fault, policy_fault}
+use Rattle.racl_io.specs.Reports.{report_of, totals_of}
+use Rattle.capture_stream.specs.Lives.{IsLiveFault}
+use Rattle.racl_cli.specs.Runs.{ByOneThread, ByWorkers, bucket_deal, told_of}
+
+-- one worker gave these verdicts, and they are the one-thread filter's where none says no-pages
+pub record ByOneWorker (options : Options) (policy : PolicyFacts) (packets : List PacketFacts) (verdicts : List Verdict) : Type 0 where
+  pub judged : AreJudged (bucket_deal options.tables 1) options.times policy packets verdicts
+  pub by_workers : ByWorkers options policy packets verdicts
+  pub by_one_thread : HavePages verdicts → ByOneThread options.tables options.times policy packets verdicts
+
+-- a policy was read, and the header of the capture behind which the source has its records
+pub record HasHead (text : List ℕ) (before : Option (List ℕ)) : Type 0 where
+  pub policy : PolicyFacts
+  pub says : IsPolicyText text policy
+  pub header : List ℕ
+  pub order : Order
+  pub right : HasFileHeader order header
+  pub whole : length header ≡ 24
+  pub left : Option (List ℕ)
+  pub consumed : Consumes before left header
+
+-- All bytes of the source were read, which are a capture, and the report on it was written.
+pub record HasRunLive (options : Options) (text : List ℕ) (given old new : Option (List ℕ)) (totals : Totals) : Type 0 where
+  pub policy : PolicyFacts
+  pub says : IsPolicyText text policy
+  pub bytes : List ℕ
+  pub known : IfSome given (λ known. bytes ≡ known)
+  pub packets : List PacketFacts
+  pub truncated : Bool
+  pub records : IsCaptureAt 0 bytes packets (end_of truncated)
+  pub verdicts : List Verdict
+  pub by_one_worker : ByOneWorker options policy packets verdicts
+  pub written : Appends old new (report_of verdicts (told_of None packets truncated ∷ []))
+  pub counted : totals ≡ totals_of verdicts (told_of None packets truncated ∷ [])
+
+-- the policy or the header has the fault, or neither could be read
+abbrev pub IsEarlyFault : List ℕ → Option (List ℕ) → Fault → Type 0
+IsEarlyFault text before fault =
+    (fault ≡ Memory) ⊎ (fault ≡ Read) ⊎ ((cause : PolicyFault) × IsPolicyFault text cause × (fault ≡ policy_fault cause))
+    ⊎ ((policy : PolicyFacts) × IsPolicyText text policy × (cause : CaptureFault) × (header : List ℕ) × (left : Option (List ℕ))
+    × Consumes before left header × IsHeaderFault header cause × (fault ≡ capture_fault cause))
+
+-- Why the report isn't whole: before a line was written, or where the lines that were written end.
+abbrev pub IsLiveRunFault : Options → List ℕ → Option (List ℕ) → Option (List ℕ) → Option (List ℕ) → Option (List ℕ) → Fault → Type 0
+IsLiveRunFault options text before after old new fault =
+    (IsEarlyFault text before fault × (new ≡ old))
+    ⊎ ((head : HasHead text before) × IsLiveFault (ByOneWorker options) head.policy head.order head.left after old new fault)
