@@ -3,20 +3,22 @@
 #![tactic(auto)]
 
 mod parts;
+mod progress;
 mod reader;
 mod save_file;
 mod saving;
 mod unlooked;
 
 use crate::parts::{name_at, opened_or_told, opened_parts, policy_name};
-use crate::reader::{Reader, held};
+use crate::progress::{Progress, Watched};
+use crate::reader::{Reader, bytes_of, held};
 use crate::saving::{saves_to, say_unsaved};
 use crate::unlooked::say_unlooked;
 use clap::Error;
 use policy_check::check_source;
 use racl_cli::{
-    Asked, Device, Ending, Fault, Hint, Joined, Origin, Remark, Saved, Totals, ending,
-    failure_ending, hint, options, remark, run, run_saving, words_ending,
+    Asked, Device, Ending, Fault, Files, Hint, Joined, Options, Origin, Remark, Source, Totals,
+    ending, failure_ending, hint, options, remark, run, run_live, run_saving, words_ending,
 };
 use racl_options::check_name;
 use std::alloc::Global;
@@ -64,7 +66,12 @@ fn status_of_options<'a, T: Threads + Wait + Sync>(
     words: &'a [&'a str],
 ) -> io::Result<u8> {
     match options(alloc, words) {
-        Ok(asked) => status_of_run(rt, threads, alloc, &asked),
+        Ok(asked) => match &asked.origin {
+            Origin::Files(files) if asked.options.live => {
+                status_of_live(rt, threads, alloc, &asked.options, files)
+            }
+            _ => status_of_run(rt, threads, alloc, &asked),
+        },
         Err(error) => refused(rt, &error),
     }
 }
@@ -114,25 +121,87 @@ fn status_of_run<T: Threads + Wait + Sync>(
             Err(fault) => return say_ending(rt, &ending(&Err(fault))),
         },
     };
-    let mut reader = Joined::new(policy, parts.captures);
-    let mut writer = Device::new(rt.stdout());
-    let outcome = match &asked.saved {
-        Saved {
-            drops: None,
-            passes: None,
-        } => run(threads, alloc, &asked.options, &mut reader, &mut writer),
-        saved => {
-            let mut saves = saves_to(rt, saved);
-            let outcome = run_saving(threads, alloc, &asked.options, &mut reader, &mut writer, &mut saves);
-            if say_unsaved(rt, saves)? {
-                return Ok(4);
-            }
-            outcome
-        }
+    let mut reader = Watched {
+        source: Joined::new(policy, parts.captures),
+        progress: Progress::new(rt),
     };
+    let Some(outcome) = outcome_of(rt, threads, alloc, asked, &mut reader)? else {
+        return Ok(4);
+    };
+    reader.progress.end();
     let status = say_ending(rt, &ending(&outcome))?;
-    say_more(rt, alloc, &asked.origin, &reader, &outcome)?;
+    say_more(rt, alloc, &asked.origin, &reader.source, &outcome)?;
     Ok(status)
+}
+
+// Runs, and saves packets where that is asked for. Where these can't be saved that is told, and None is answered.
+fn outcome_of<T: Threads + Wait + Sync, R: Source + Send>(
+    rt: &HostRuntime,
+    threads: &T,
+    alloc: Global,
+    asked: &Asked<'_>,
+    reader: &mut R,
+) -> io::Result<Option<Result<Totals, Fault>>>
+    requires { R.failures reader.old < 2 ^ 64 - 1 }
+{
+    let mut writer = Device::new(rt.stdout());
+    let saved = &asked.saved;
+    if saved.drops.is_none() && saved.passes.is_none() {
+        return Ok(Some(run(
+            threads,
+            alloc,
+            &asked.options,
+            reader,
+            &mut writer,
+        )));
+    }
+    let mut saves = saves_to(rt, saved);
+    let outcome = run_saving(
+        threads,
+        alloc,
+        &asked.options,
+        reader,
+        &mut writer,
+        &mut saves,
+    );
+    if say_unsaved(rt, saves)? {
+        return Ok(None);
+    }
+    Ok(Some(outcome))
+}
+
+// Runs on the capture of a file while it comes.
+fn status_of_live<T: Wait>(
+    rt: &HostRuntime,
+    threads: &T,
+    alloc: Global,
+    options: &Options,
+    files: &Files<'_>,
+) -> io::Result<u8> {
+    let Some(policy) = opened_or_told(rt, files.policy)? else {
+        return Ok(4);
+    };
+    let Some(capture) = opened_or_told(rt, files.capture)? else {
+        return Ok(4);
+    };
+    let text = match bytes_of(alloc, policy) {
+        Ok(text) => text,
+        Err(fault) => return say_ending(rt, &ending(&Err(fault))),
+    };
+    let mut reader = Device::new(capture);
+    let mut writer = Device::new(rt.stdout());
+    let outcome = run_live(
+        threads,
+        alloc,
+        options,
+        text.as_slice(),
+        &mut reader,
+        &mut writer,
+    );
+    if outcome.is_ok() {
+        say_unlooked(rt, alloc, files.policy, text.as_slice());
+    }
+    say_ending(rt, &ending(&outcome))
 }
 
 // Says that a terminal is read, where that is so. Where standard error fails, nothing is said.

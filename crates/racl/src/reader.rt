@@ -37,12 +37,20 @@ pub fn opened(rt: &HostRuntime, name: &str) -> io::Result<Reader> {
     Ok(Reader::File(file))
 }
 
-/// Reads all that an input may have, and a byte more where there is one, so that it can be looked at again. The clauses of
-/// `read_until` say what is read and when that fails; none says what a name had, as of `opened`.
-pub fn held(alloc: Global, reader: Reader) -> Result<Reader, Fault> {
+/// Reads all that an input may have, and a byte more where there is one. The clauses of `read_until` say what is read and when
+/// that fails; none says what a name had, as of `opened`.
+pub fn bytes_of(alloc: Global, reader: Reader) -> Result<Vec<u8>, Fault> {
     let mut bytes = Vec::new(alloc);
     match read_until(&mut Device::new(reader), &mut bytes, MOST_BYTES + 1) {
-        Ok(_) => Ok(Reader::Held(Cursor::new(bytes))),
+        Ok(_) => Ok(bytes),
+        Err(fault) => Err(fault),
+    }
+}
+
+/// Reads that, so that it can be looked at again.
+pub fn held(alloc: Global, reader: Reader) -> Result<Reader, Fault> {
+    match bytes_of(alloc, reader) {
+        Ok(bytes) => Ok(Reader::Held(Cursor::new(bytes))),
         Err(fault) => Err(fault),
     }
 }

@@ -28,5 +28,5 @@ pub use racl_io::{
     marked, read_until,
 };
 pub use racl_options::{
-    Asked, Lines, Options, Origin, Saved, TableSize, options, words_status,
+    Asked, Files, Lines, Options, Origin, Saved, TableSize, options, words_status,
 };
