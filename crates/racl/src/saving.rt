@@ -1,14 +1,29 @@
 //! Packets that are saved in files.
 
+ghost use Rattle.racl_cli.specs.Saves.{MayFail};
+
 use crate::save_file::{SaveFile, saved_to};
 use racl_cli::{Device, Saved, Saves, Unopened};
 use std::io;
 
+// The file of this name, where there is one.
+fn file_to<'a>(rt: &'a HostRuntime, name: Option<&'a str>) -> Option<Device<SaveFile<'a>>>
+    ensures { MayFail (λ d. d.failures) result }
+{
+    match name {
+        Some(name) => Some(Device::new(saved_to(rt, name))),
+        None => None,
+    }
+}
+
 /// The files of these names, which are created where there is something to write.
-pub fn saves_to<'a>(rt: &'a HostRuntime, saved: &Saved<'a>) -> Saves<Device<SaveFile<'a>>> {
+pub fn saves_to<'a>(rt: &'a HostRuntime, saved: &Saved<'a>) -> Saves<Device<SaveFile<'a>>>
+    ensures drops { MayFail (λ d. d.failures) result.drops }
+    ensures passes { MayFail (λ d. d.failures) result.passes }
+{
     Saves {
-        drops: saved.drops.map(|name| Device::new(saved_to(rt, name))),
-        passes: saved.passes.map(|name| Device::new(saved_to(rt, name))),
+        drops: file_to(rt, saved.drops),
+        passes: file_to(rt, saved.passes),
     }
 }
 
