@@ -1,6 +1,7 @@
 //! The program: a policy and a capture from standard input or files, a verdict on each packet to
 //! standard output. What it says and how it ends is decided in `racl_cli`; here are the devices alone.
 #![tactic(auto)]
+
 ghost use Rattle.std.specs.Prelude.{◌<◌, ◌-◌, ◌^◌};
 
 mod parts;
@@ -18,8 +19,8 @@ use crate::unlooked::say_unlooked;
 use clap::Error;
 use policy_check::check_source;
 use racl_cli::{
-    Asked, Device, Ending, Fault, Files, Hint, Joined, Options, Origin, Remark, Source, Totals,
-    ending, failure_ending, hint, options, remark, run, run_live, run_saving, words_ending,
+    Asked, Device, Ending, Fault, Files, Hint, Joined, MOST_BYTES, Options, Origin, Remark, Source,
+    Totals, ending, failure_ending, hint, options, remark, run, run_live, run_saving, words_ending,
 };
 use racl_options::check_name;
 use std::alloc::Global;
@@ -148,13 +149,7 @@ fn outcome_of<T: Threads + Wait + Sync, R: Source + Send>(
     let mut writer = Device::new(rt.stdout());
     let saved = &asked.saved;
     if saved.drops.is_none() && saved.passes.is_none() {
-        return Ok(Some(run(
-            threads,
-            alloc,
-            &asked.options,
-            reader,
-            &mut writer,
-        )));
+        return Ok(Some(run(threads, alloc, &asked.options, reader, &mut writer)));
     }
     let mut saves = saves_to(rt, saved);
     let outcome = run_saving(
@@ -189,6 +184,9 @@ fn status_of_live<T: Wait>(
         Ok(text) => text,
         Err(fault) => return say_ending(rt, &ending(&Err(fault))),
     };
+    if text.len() > MOST_BYTES {
+        return say_ending(rt, &ending(&Err(Fault::TooLarge)));
+    }
     let mut reader = Device::new(capture);
     let mut writer = Device::new(rt.stdout());
     let outcome = run_live(

@@ -41,10 +41,7 @@ fn say_failed(rt: &HostRuntime, file: Option<Device<SaveFile<'_>>>) -> io::Resul
 }
 
 /// Says why files couldn't be created or written, where that is so. Whether it is.
-pub fn say_unsaved(
-    rt: &HostRuntime,
-    saves: Saves<Device<SaveFile<'_>>>,
-) -> io::Result<bool> {
+pub fn say_unsaved(rt: &HostRuntime, saves: Saves<Device<SaveFile<'_>>>) -> io::Result<bool> {
     let Saves { drops, passes } = saves;
     Ok(say_failed(rt, drops)? || say_failed(rt, passes)?)
 }

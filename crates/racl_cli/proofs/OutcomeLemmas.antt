@@ -1,5 +1,5 @@
 -- What is answered of an input, and the report on it.
-use Rattle.std.proofs.Common.{◌≡◌, ◌≢◌, ◌∙◌, ◌≤◌, ◌++◌, ◌⊎◌, All, ℕ, Bool, List, [], ◌∷◌, None, drop, length, Option, Result, Ok, Err, IfOk, IfErr, OnOk, MatchResult, Some, true, refl, sym, ap, ap₂, subst, inl, inr}
+use Rattle.std.proofs.Common.{◌≡◌, ◌≢◌, ◌∙◌, ◌≤◌, ◌⊎◌, All, ℕ, Bool, List, [], ◌∷◌, None, drop, length, Option, Result, Ok, Err, IfOk, IfErr, MatchResult, Some, true, refl, sym, ap, ap₂, subst, inl, inr}
 use Rattle.std.proofs.lemmas.List.{length-map}
 use Rattle.packet_view.specs.Captures.{End, AreRecords, IsCapture, IsCaptureFault, IsEnd, PacketFacts, RecordFacts, end_of, packets_at}
 use Rattle.packet_view.specs.declared.capture.CaptureFault.{CaptureFault}

@@ -5,7 +5,6 @@ use Rattle.packet_view.specs.Captures.{PacketFacts, RecordFacts, end_of}
 use Rattle.acl_policy.specs.Policies.{PolicyFacts}
 use Rattle.flow_filter.specs.declared.verdict.Verdict.{Verdict}
 use Rattle.racl_io.specs.declared.fault.Fault.{Fault}
-use Rattle.racl_io.specs.declared.input.Form.{Form}
 use Rattle.racl_io.specs.declared.input.Form.TheVariants.{Binary}
 use Rattle.racl_io.specs.declared.report.Captured.{Captured}
 use Rattle.racl_io.specs.Inputs.{InputFacts, IsInput}
@@ -34,7 +33,7 @@ Saved sink bytes verdicts before after = (policy : PolicyFacts) (packets : List 
 pub saved_as : {S : Type 0} (bytes : S → Option (List ℕ)) (failures : S → ℕ) (old new : S) (parts : InputFacts) (chosen : Chosen) (verdicts : List Verdict) (result : Result ⊤ Fault)
     → parts.form ≡ Binary → Gives bytes failures old new chosen verdicts parts.content result
     → OnOk result ((input : List ℕ) (policy : PolicyFacts) (packets : List PacketFacts) (captures : List Captured) → IsInput input parts → IsRead input policy packets captures
-        → HasSaved bytes parts chosen verdicts (Some old) (Some new))
+    → HasSaved bytes parts chosen verdicts (Some old) (Some new))
 saved_as bytes failures old new parts chosen verdicts (Ok x) plain gives = λ input policy packets captures parted read.
     let here = read_in input parts policy packets captures parted read in
     let has = subst (λ f. HasPackets f parts.content packets captures) plain here.content in

@@ -22,7 +22,6 @@ pub use exits::{ending, failure_ending, hint, remark, status, words_ending};
 pub use laws::each_input_has_one_outcome;
 pub use live::run_live;
 pub use message::{Ending, Hint, Message, Remark, Unopened};
-pub use saving::Saves;
 pub use racl_io::{
     Device, DeviceFault, Fault, Form, Joined, MOST_BYTES, Marked, Other, Sink, Source, Totals,
     marked, read_until,
@@ -30,3 +29,4 @@ pub use racl_io::{
 pub use racl_options::{
     Asked, Files, Lines, Options, Origin, Saved, TableSize, options, words_status,
 };
+pub use saving::Saves;

@@ -44,10 +44,7 @@ pub fn needs_bytes(options: &Options) -> bool
 }
 
 // The bytes of captures with numbers that are right, so that memory alone can be wanting.
-fn numbered_captures(
-    alloc: Global,
-    first: Numbered<'_>,
-) -> Result<Vec<CaptureBytes>, AllocError>
+fn numbered_captures(alloc: Global, first: Numbered<'_>) -> Result<Vec<CaptureBytes>, AllocError>
     ensures { (packets : List PacketFacts) (captures : List told.Captured) → AreTakenFrom [] (Some (facts_of first.entry)) packets captures
         → IfOk result (λ all. HavePackets all.items packets) }
 {
@@ -146,14 +143,7 @@ fn write_lines<W: Sink, T: Threads>(
     ensures ends { EndsOnce W.failures writer.old writer.new result }
 {
     match lines {
-        Lines::Plain => write_shown(
-            beside,
-            alloc,
-            writer,
-            run.shown,
-            run.verdicts,
-            run.captures,
-        ),
+        Lines::Plain => write_shown(beside, alloc, writer, run.shown, run.verdicts, run.captures),
         Lines::Explained => write_view(alloc, writer, View::Explained, run),
         Lines::Json => write_view(alloc, writer, View::Json, run),
     }
@@ -169,8 +159,13 @@ fn run_of<'a>(
     shown: Shown,
 ) -> Run<'a>
     ensures { run_facts result ≡ record {
-        policy = policy_facts policy.entry.now; text = text.entry.now; packets = remaining packets.entry;
-        verdicts = verdicts.entry.now; captures = captures.entry.now; shown = shown } }
+      policy = policy_facts policy.entry.now;
+      text = text.entry.now;
+      packets = remaining packets.entry;
+      verdicts = verdicts.entry.now;
+      captures = captures.entry.now;
+      shown = shown;
+    } }
 {
     Run {
         policy,

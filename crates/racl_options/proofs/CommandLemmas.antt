@@ -1,5 +1,5 @@
 -- What a parse by the command says of its options.
-use Rattle.std.proofs.Common.{◌≡◌, ◌∙◌, ◌<◌, ap, ap₂, arith, map, length, refl, rules, subst, suc, sym, inl, inr, true, true≢false, List, [], ◌∷◌, Option, Result, Some, ℕ, codes}
+use Rattle.std.proofs.Common.{◌≡◌, ◌∙◌, ◌<◌, ap, arith, map, length, refl, rules, subst, suc, sym, inl, inr, true, true≢false, List, [], ◌∷◌, Option, Result, Some, ℕ, codes}
 use Rattle.std.specs.List.{IsDistinct, slice_index_or}
 use Rattle.std.specs.Prelude.{unwrap_or}
 use Rattle.std.specs.Str.{bytes_eq}

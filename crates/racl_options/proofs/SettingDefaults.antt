@@ -74,11 +74,49 @@ udp_filled rows = with_default (transient_filled rows) (filled_rule Udp)
 
 defaults_pass : (rows : List Row) → defaults_fault rows top.rules ≡ []
 unfolding clap_on_literals
-defaults_pass rows = each_passes top.rules rows (default_passes Workers, (default_passes Established, (default_passes Transient, (default_passes Udp,
-    (none_passes (value_filled tables_id) refl, (none_passes interface_filled refl, (none_passes (value_filled only_id) refl,
-    (none_passes (value_filled drops_id) refl, (none_passes (value_filled passes_id) refl,
-    (flag_passes Summary, (flag_passes Hits, (flag_passes Explain, (flag_passes JsonLines, (flag_passes Live,
-    (none_passes policy_filled refl, (none_passes capture_filled refl, (none_passes (filled help_rule) refl, (none_passes (filled version_rule) refl, tt))))))))))))))))))
+defaults_pass rows = each_passes top.rules rows (
+  default_passes Workers,
+  (
+    default_passes Established,
+    (
+      default_passes Transient,
+      (
+        default_passes Udp,
+        (
+          none_passes (value_filled tables_id) refl,
+          (
+            none_passes interface_filled refl,
+            (
+              none_passes (value_filled only_id) refl,
+              (
+                none_passes (value_filled drops_id) refl,
+                (
+                  none_passes (value_filled passes_id) refl,
+                  (
+                    flag_passes Summary,
+                    (
+                      flag_passes Hits,
+                      (
+                        flag_passes Explain,
+                        (
+                          flag_passes JsonLines,
+                          (
+                            flag_passes Live,
+                            (none_passes policy_filled refl, (none_passes capture_filled refl, (none_passes (filled help_rule) refl, (none_passes (filled version_rule) refl, tt)))),
+                          ),
+                        ),
+                      ),
+                    ),
+                  ),
+                ),
+              ),
+            ),
+          ),
+        ),
+      ),
+    ),
+  ),
+)
 
 -- what the words come to in the end, by where the walk stopped
 abbrev pub end_fault : List ErrorKind → Walk → List ErrorKind
@@ -221,9 +259,9 @@ all_left_out rows out =
     let hits = has_row_behind (flag_id Hits) rows (flag_row Summary) (out Hits) refl in
     let explain = has_row_behind (flag_id Explain) one (flag_row Hits) (has_row_behind (flag_id Explain) rows (flag_row Summary) (out Explain) refl) refl in
     let json = has_row_behind (flag_id JsonLines) two (flag_row Explain) (has_row_behind (flag_id JsonLines) one (flag_row Hits)
-        (has_row_behind (flag_id JsonLines) rows (flag_row Summary) (out JsonLines) refl) refl) refl in
+    (has_row_behind (flag_id JsonLines) rows (flag_row Summary) (out JsonLines) refl) refl) refl in
     let live = has_row_behind (flag_id Live) three (flag_row JsonLines) (has_row_behind (flag_id Live) two (flag_row Explain) (has_row_behind (flag_id Live) one (flag_row Hits)
-        (has_row_behind (flag_id Live) rows (flag_row Summary) (out Live) refl) refl) refl) refl in
+    (has_row_behind (flag_id Live) rows (flag_row Summary) (out Live) refl) refl) refl) refl in
     (out Summary, (hits, (explain, (json, (live, tt)))))
 
 -- ---- all defaults
@@ -243,9 +281,19 @@ pub all_filled : (rows : List Row) → ((f : FlagName) → IsOther (flag_id f)) 
 all_filled rows other none = each_keeps (policy_filled ∷ capture_filled ∷ filled help_rule ∷ filled version_rule ∷ []) _
     (none_keeps policy_filled refl, (none_keeps capture_filled refl, (none_keeps (filled help_rule) refl, (none_keeps (filled version_rule) refl, tt))))
     ∙ ap (λ all. fold with_default all (map flag_filled flags)) (each_keeps
-    (value_filled tables_id ∷ interface_filled ∷ value_filled only_id ∷ value_filled drops_id ∷ value_filled passes_id ∷ []) (udp_filled rows)
-    (none_keeps (value_filled tables_id) refl, (none_keeps interface_filled refl, (none_keeps (value_filled only_id) refl, (none_keeps (value_filled drops_id) refl,
-    (none_keeps (value_filled passes_id) refl, tt))))))
+    (value_filled tables_id ∷ interface_filled ∷ value_filled only_id ∷ value_filled drops_id ∷ value_filled passes_id ∷ []) (udp_filled rows) (
+      none_keeps (value_filled tables_id) refl,
+      (
+        none_keeps interface_filled refl,
+        (
+          none_keeps (value_filled only_id) refl,
+          (
+            none_keeps (value_filled drops_id) refl,
+            (none_keeps (value_filled passes_id) refl, tt),
+          ),
+        ),
+      ),
+    ))
     ∙ flags_added flags (udp_filled rows) (all_left_out (udp_filled rows)
     (λ f. has_none (flag_id f) (udp_filled rows) (others_stay (flag_id f) rows (other f) ∙ none f)))
 

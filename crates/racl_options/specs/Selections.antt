@@ -1,6 +1,6 @@
 -- What the words select: which packets have a line in the report and what it tells, whether hits are told, whether verdicts are
 -- written as packets come, and the files that get packets (this project's profile).
-use Rattle.std.specs.Prelude.{Bool, false, List, [], ◌∷◌, Option, None, Some, codes, option_map, if◌then◌else◌}
+use Rattle.std.specs.Prelude.{Bool, false, Option, None, Some, codes, option_map, if◌then◌else◌}
 use Rattle.std.specs.Str.{bytes_eq}
 use Rattle.clap.specs.Words.{Text}
 use Rattle.racl_io.specs.declared.shown.Shown.{Shown}

@@ -114,7 +114,11 @@ fn command_with_flags<'a>(alloc: Global) -> Result<Command<'a>, AllocError>
             "explain",
             "On each line what the packet is, and the rule that decided",
         ))?
-        .arg(flag(alloc, "json", "Each line and the totals as an object of JSON"))?
+        .arg(flag(
+            alloc,
+            "json",
+            "Each line and the totals as an object of JSON",
+        ))?
         .arg(flag(alloc, "live", "Lines are written as packets come"))
 }
 

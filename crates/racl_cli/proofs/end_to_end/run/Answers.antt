@@ -1,8 +1,4 @@
-use Rattle.std.proofs.Common.{◌∙◌, ℕ, List, ap, arith, inl, inr, refl, subst, sym}
-use Rattle.flow_filter.specs.declared.verdict.Verdict.{Verdict}
-use Rattle.racl_io.specs.Faults.{IsSystemFault}
-use Rattle.racl_io.specs.declared.fault.Fault.TheVariants.{Memory}
-use Rattle.racl_cli.specs.Runs.{Outcome}
+use Rattle.std.proofs.Common.{◌∙◌, arith}
 use Rattle.std.proofs.lemmas.Result.{err_from_is_err_and}
 use Rattle.racl_cli.proofs.OutcomeLemmas.{has_reported, has_run, kept_told}
 use Rattle.racl_cli.proofs.ReadLemmas.{fault_of_right, fault_read, fault_refused, known_read, unwritten}

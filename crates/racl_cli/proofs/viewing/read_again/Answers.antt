@@ -1,4 +1,3 @@
-use Rattle.std.proofs.Common.{sym}
 use Rattle.racl_io.specs.Inputs.{input_facts}
 use Rattle.racl_cli.proofs.RunLemmas.{read_in}
 use Rattle.racl_cli.proofs.viewing.read_again.Goals as goal

@@ -1,6 +1,6 @@
 use Rattle.std.proofs.Common.{◌∙◌, ℕ, List, ap, map, subst, sym}
 use Rattle.std.specs.Io.KnownBytes.{Appends}
-use Rattle.packet_view.specs.Captures.{PacketFacts, packet_facts}
+use Rattle.packet_view.specs.Captures.{packet_facts}
 use Rattle.racl_views.specs.CapturePackets.{HavePackets}
 use Rattle.racl_views.specs.Views.{run_facts}
 use Rattle.racl_views.specs.declared.capture_bytes.CaptureBytes.{CaptureBytes}
@@ -20,6 +20,11 @@ returns-clause-told g c = λ input policy packets is.
     told_again c.args.options.now input policy packets c.args.judged.now c.args.again.now (run_facts c.run_of-run.result) c.in-Ok-hits_of.hits.items (g.W.Sink.bytes c.args.writer.now) mid new
     c.in_ok-totals.totals is
     (c.run_of-run.ensures ∙ (λ i. record {
-      policy = is.policy_is i; text = text i; packets = listed i; verdicts = verdicts i; captures = captures i; shown = c.args.options.now.shown
+      policy = is.policy_is i;
+      text = text i;
+      packets = listed i;
+      verdicts = verdicts i;
+      captures = captures i;
+      shown = c.args.options.now.shown;
     }))
     c.in_ok-totals.ensures.told c.in-Ok-hits_of.ensures (subst (λ (b : List ℕ). Appends mid new b) c.deref-6.ensures.value c.in_ok-write_all.ensures.whole)
