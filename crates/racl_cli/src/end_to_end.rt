@@ -181,9 +181,15 @@ pub fn run_saving<R: Source + Send, W: Sink, S: Sink, T: Threads + Wait + Sync>(
     requires drops { MayFail S.failures saves.old.drops }
     requires passes { MayFail S.failures saves.old.passes }
     ensures ok { IfOk result (HasRunSaving S.bytes options.now (R.bytes reader.old) (W.bytes writer.old) (W.bytes writer.new) saves.old saves.new) }
+    ensures accepts { IfSome (R.bytes reader.old) (λ bytes. (outcome : Outcome)
+        → HasOutcome options.now.tables options.now.times bytes outcome
+        → MatchResult result (HasReported options.now bytes outcome (W.bytes writer.old) (W.bytes writer.new)) IsSystemFault) }
     ensures fault { IfErr result (λ fault. IsSystemFault fault ⊎ IfSome (R.bytes reader.old) (λ bytes. IsInputFault bytes fault)) }
     ensures refuses { IfSome (R.bytes reader.old) (λ bytes. (fault : Fault) → IsInputFault bytes fault → RefusesRead fault result) }
     ensures far { GaveAtMost (R.bytes reader.old) (R.bytes reader.new) (most_bytes + 1) }
+    ensures read { (result ≡ Err Fault.Read) ↔ (R.failures reader.new ≡ R.failures reader.old + 1) }
+    ensures sound { result ≢ Err Fault.Read → R.failures reader.new ≡ R.failures reader.old }
+    ensures steady { result ≢ Err Fault.Write → W.failures writer.new ≡ W.failures writer.old }
     ensures unwritten { IfErr result (λ fault. fault ≢ Fault.Write → (writer.new ≡ writer.old) × (saves.new ≡ saves.old)) }
 {
     let mut bytes = Vec::new(alloc);

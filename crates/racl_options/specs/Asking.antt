@@ -1,5 +1,6 @@
 -- What the words ask for in all, and what of it doesn't go together (this project's profile).
-use Rattle.std.specs.Prelude.{◌≡◌, ◌&&◌, ◌||◌, ◌==◌, Bool, true, false, not, is_some, List, [], Option, option_map}
+use Rattle.std.specs.Prelude.{◌≡◌, ◌&&◌, ◌||◌, ◌==◌, Bool, true, false, not, is_some, List, [], Option, None, Some, option_map}
+use Rattle.std.specs.Str.{bytes_eq}
 use Rattle.clap.specs.Words.{Text, fault_of}
 use Rattle.racl_io.specs.declared.shown.Shown.{Shown}
 use Rattle.racl_io.specs.declared.shown.Shown.TheVariants.{Every, Passing, Dropped, Nothing}
@@ -47,6 +48,12 @@ are_files (FromInterfaces policy captures) = false
 abbrev pub is_saved : SavedFacts → Bool
 is_saved saved = is_some saved.drops || is_some saved.passes
 
+-- whether one file is to get both
+abbrev pub is_shared : Option Text → Option Text → Bool
+is_shared (Some drops) (Some passes) = bytes_eq drops passes
+is_shared (Some drops) None = false
+is_shared None passes = false
+
 abbrev pub is_plain : Lines → Bool
 is_plain Plain = true
 is_plain Explained = false
@@ -75,12 +82,13 @@ has_mixed_lines options = options.hits && is_json options.lines
 abbrev pub can_be_live : AskedFacts → Bool
 can_be_live asked = are_files asked.origin && (not (is_saved asked.saved) && is_simple_run asked.options)
 
--- Packets are saved of the capture in a file. Lines of hits don't stand behind objects. Verdicts
+-- Packets are saved of the capture in a file, and in two files. Lines of hits don't stand behind objects. Verdicts
 -- are written as packets come where they can be.
 abbrev pub fit_together : AskedFacts → Bool
 fit_together asked = (not (is_saved asked.saved) || are_files asked.origin)
+    && (not (is_shared asked.saved.drops asked.saved.passes)
     && (not (has_mixed_lines asked.options)
-    && (not asked.options.live || can_be_live asked))
+    && (not asked.options.live || can_be_live asked)))
 
 -- what a parse holds asks for this
 pub record AskBy (values : Values) (asked : AskedFacts) : Type 0 where

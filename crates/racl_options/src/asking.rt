@@ -1,6 +1,7 @@
 //! What the words ask for.
-ghost use Rattle.std.specs.Prelude.{◌≡◌, MatchResult, is_none};
-ghost use Rattle.clap.specs.Words.{found_of, one_text};
+ghost use Rattle.std.specs.Prelude.{◌≡◌, MatchResult, is_none, option_map};
+ghost use Rattle.std.specs.Borrow.{Bor};
+ghost use Rattle.clap.specs.Words.{Text, found_of, one_text};
 ghost use Rattle.racl_options.specs.Asking as told;
 ghost use Rattle.racl_options.specs.Asking.{AskBy, asked_facts, fit_together, saved_facts};
 ghost use Rattle.racl_options.specs.CommandLine as line;
@@ -23,6 +24,8 @@ const NO_SIZE: &str = "--tables takes standard or large";
 const NOT_SHOWN: &str = "--only takes pass or drop";
 
 const NOT_SAVED: &str = "--drops and --passes are of one capture: they need POLICY CAPTURE";
+
+const ONE_FILE: &str = "--drops and --passes need a file each";
 
 const NO_OBJECTS: &str = "--hits can't stand beside --json";
 
@@ -78,6 +81,16 @@ fn is_saved(saved: &Saved<'_>) -> bool
     saved.drops.is_some() || saved.passes.is_some()
 }
 
+// Whether one file is to get both.
+fn is_shared(drops: Option<&str>, passes: Option<&str>) -> bool
+    ensures { result ≡ told.is_shared (option_map (λ (t : Bor Text). t.now) drops.entry) (option_map (λ (t : Bor Text). t.now) passes.entry) }
+{
+    match (drops, passes) {
+        (Some(drops), Some(passes)) => drops == passes,
+        _ => false,
+    }
+}
+
 // Whether verdicts can be written as packets come.
 fn can_be_live(asked: &Asked<'_>) -> bool
     ensures { result ≡ told.can_be_live (asked_facts asked.now) }
@@ -98,6 +111,9 @@ fn misfit(asked: &Asked<'_>) -> Option<&'static str>
 {
     if is_saved(&asked.saved) && !are_files(&asked.origin) {
         return Some(NOT_SAVED);
+    }
+    if is_shared(asked.saved.drops, asked.saved.passes) {
+        return Some(ONE_FILE);
     }
     if has_mixed_lines(&asked.options) {
         return Some(NO_OBJECTS);

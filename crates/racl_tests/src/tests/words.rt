@@ -163,8 +163,9 @@ fn words_name_files_that_get_packets(rt: HostRuntime) {
         drops: Some("d"),
         passes: None,
     };
-    const CASES: [(&[&str], Option<Saved<'static>>); 3] = [
+    const CASES: [(&[&str], Option<Saved<'static>>); 4] = [
         (&["racl", "--drops=d", "p", "c"], Some(NAMED)),
+        (&["racl", "--drops=d", "--passes", "d", "p", "c"], None),
         (&["racl", "--passes", "d"], None),
         (&["racl", "--live", "--drops=d", "p", "-"], None),
     ];

@@ -1,9 +1,9 @@
 use Rattle.std.proofs.Common.{◌∙◌, Ok, ap, refl, true}
 use Rattle.racl_cli.specs.Runs.{Outcome}
-use Rattle.racl_cli.proofs.OutcomeLemmas.{kept_told, ran}
+use Rattle.racl_cli.proofs.OutcomeLemmas.{has_reported, kept_told, ran}
 use Rattle.racl_cli.proofs.SaveLemmas.{has_saved}
 use Rattle.std.proofs.lemmas.Result.{err_from_is_err_and}
-use Rattle.racl_cli.proofs.ReadLemmas.{fault_read, fault_refused}
+use Rattle.racl_cli.proofs.ReadLemmas.{fault_of_right, fault_read, fault_refused, known_read}
 use Rattle.racl_cli.proofs.RunLemmas.{excluded_by_input}
 use Rattle.racl_cli.proofs.end_to_end.run_saving.Goals as goal
 
@@ -42,3 +42,18 @@ returns-clause-ok g c =
     c.deref-2.result.now c.deref-3.result.now
     (ran old new c.args.options.now (g.R.Source.bytes c.args.reader.now) true c.judge_kept.new.kept.items c.in_ok-judged.judged (Ok c.in_ok-totals.totals) k (λ asked. refl) told)
     (c.deref-2.ensures.value ∙ k.same refl) (c.deref-3.ensures.value ∙ ap (λ (o : Outcome). o.verdicts) c.judged.view_is) c.in_ok-save_packets.ensures.ok
+
+pub returns-in_err-judged-clause-accepts : goal.returns-in_err-judged-clause-accepts
+returns-in_err-judged-clause-accepts g c =
+    let p = err_from_is_err_and c.from_residual.result c.from_residual.ensures.1 in
+    rw (p.1, p.2) (fault_of_right c.args.options.now _ c.in_err-judged.field-0.0 c.in_err-judged.ensures.answers)
+
+pub returns-clause-accepts : goal.returns-clause-accepts
+returns-clause-accepts g c =
+    let k = c.in_ok-judged.ensures.kept in
+    let old = g.W.Sink.bytes c.args.writer.now in
+    let new = g.W.Sink.bytes c.write_judged.new.writer in
+    let told = kept_told old new c.args.options.now c.deref.result.now c.judge_kept.new.kept.items c.in_ok-judged.judged (Ok c.in_ok-totals.totals) c.deref.ensures.value c.in_ok-totals.ensures.told in
+    known_read _ _ _ k.bytes _ (record { whole = k.known; few = k.few }) (λ one_thread has.
+    has_reported old new c.args.options.now (g.R.Source.bytes c.args.reader.now) true c.judge_kept.new.kept.items c.in_ok-judged.judged (Ok c.in_ok-totals.totals)
+    k (λ asked. refl) told one_thread has tt)
