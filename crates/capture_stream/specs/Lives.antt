@@ -11,7 +11,7 @@ use Rattle.racl_io.specs.declared.report.Totals.{Totals}
 use Rattle.racl_io.specs.Reports.{lines_from, report_of, totals_of}
 use Rattle.racl_io.specs.Sinks.{GotFront}
 
--- the most bytes that are read
+-- once so many bytes were read, no more are
 abbrev pub most_live : ℕ
 most_live = 4611686018427387904
 
@@ -29,7 +29,7 @@ with_write failures fault = failures
 abbrev pub told_alone : ℕ → Bool → List Captured
 told_alone packets truncated = record { named = None; packets = packets; truncated = truncated } ∷ []
 
--- Of the bytes that the source gave these are the whole records at the front, before the rest, and the lines of their
+-- Of the bytes that the source gave these are whole records at the front, before the rest, and the lines of their
 -- packets were written, and no others.
 pub record HasToldSome {J : Type 0} (Judged : J → List PacketFacts → List Verdict → Type 0) (begun : J) (order : Order)
     (before after old new : Option (List ℕ)) (rest : List ℕ) : Type 0 where

@@ -19,7 +19,7 @@ use crate::unlooked::say_unlooked;
 use clap::Error;
 use policy_check::check_source;
 use racl_cli::{
-    Asked, Device, Ending, Fault, Files, Hint, Joined, MOST_BYTES, Options, Origin, Remark, Source,
+    Asked, Device, Ending, Fault, Files, FrontKept, Hint, Joined, MOST_BYTES, Options, Origin, Remark, Source,
     Totals, ending, failure_ending, hint, options, remark, run, run_live, run_saving, words_ending,
 };
 use racl_options::check_name;
@@ -187,7 +187,8 @@ fn status_of_live<T: Wait>(
     if text.len() > MOST_BYTES {
         return say_ending(rt, &ending(&Err(Fault::TooLarge)));
     }
-    let mut reader = Device::new(capture);
+    say_unlooked(rt, alloc, files.policy, text.as_slice());
+    let mut reader = Device::new(FrontKept::new(capture));
     let mut writer = Device::new(rt.stdout());
     let outcome = run_live(
         threads,
@@ -197,10 +198,15 @@ fn status_of_live<T: Wait>(
         &mut reader,
         &mut writer,
     );
-    if outcome.is_ok() {
-        say_unlooked(rt, alloc, files.policy, text.as_slice());
+    let status = say_ending(rt, &ending(&outcome))?;
+    if let Some(hint) = hint(&outcome, text.as_slice()) {
+        rt.eprintln(&hint)?;
     }
-    say_ending(rt, &ending(&outcome))
+    if let Some(other) = remark(&outcome, reader.inner.front()) {
+        let name = files.capture;
+        rt.eprintln(&Remark { name, other })?;
+    }
+    Ok(status)
 }
 
 // Says that a terminal is read, where that is so. Where standard error fails, nothing is said.

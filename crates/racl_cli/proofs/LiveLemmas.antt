@@ -23,7 +23,7 @@ use Rattle.capture_stream.specs.Lives.{HasToldAll, told_alone}
 use Rattle.racl_cli.specs.Crews.{AreResting, AreSaid, IsRestingAlone, Orders, orders_for, orders_of}
 use Rattle.racl_cli.specs.LiveRuns.{ByOneWorker, HasRunLive, IsEarlyFault}
 use Rattle.racl_cli.specs.Runs.{ByOneThread, bucket_deal}
-use Rattle.racl_cli.specs.inner.Heads.{HasReadHeader, IsUnread}
+use Rattle.racl_cli.specs.inner.Heads.{HasReadHeader, IsHeadless}
 use Rattle.racl_cli.specs.declared.sized.SizedWorkers.{SizedWorkers}
 use Rattle.racl_cli.specs.declared.sized.SizedWorkers.TheVariants.{Standard, Large}
 use Rattle.racl_cli.proofs.OutcomeLemmas.{given_by_workers, judged_as}
@@ -49,12 +49,12 @@ by_one_worker options set ready size orders packets verdicts given sized times p
     }
 
 -- the header has the fault, or couldn't be read
-pub early_fault : (text : List ℕ) (before : Option (List ℕ)) (fault : Fault) (policy : PolicyFacts) → IsPolicyText text policy → IsUnread before fault
-    → IsEarlyFault text before fault
-early_fault text before fault policy says (inl memory) = inl memory
-early_fault text before fault policy says (inr (inl failed)) = inr (inl failed)
-early_fault text before fault policy says (inr (inr (cause, header, left, consumed, wrong, same))) =
-    inr (inr (inr (policy, says, cause, header, left, consumed, wrong, same)))
+pub early_fault : (text : List ℕ) (before after : Option (List ℕ)) (fault : Fault) (policy : PolicyFacts) → IsPolicyText text policy → IsHeadless before after fault
+    → IsEarlyFault text before after fault
+early_fault text before after fault policy says (gave, inl memory) = (gave, inl memory)
+early_fault text before after fault policy says (gave, inr (inl failed)) = (gave, inr (inl failed))
+early_fault text before after fault policy says (gave, inr (inr (cause, header, consumed, all, wrong, same))) =
+    (gave, inr (inr (inr (policy, says, cause, header, consumed, all, wrong, same))))
 
 -- all bytes were read, and the report was written
 pub live_run : (options : Options) (text : List ℕ) (before left after old new : Option (List ℕ)) (policy : PolicyFacts) (order : Order) (totals : Totals)

@@ -1,6 +1,6 @@
 -- A run over a capture that is told while it comes: its policy is text of its own.
-use Rattle.std.specs.Prelude.{◌≡◌, ◌⊎◌, ℕ, Bool, List, ◌∷◌, [], None, Option, IfSome, length}
-use Rattle.std.specs.Io.KnownBytes.{Appends, Consumes}
+use Rattle.std.specs.Prelude.{◌≡◌, ◌<◌, ◌⊎◌, ℕ, Bool, List, ◌∷◌, [], None, Option, IfSome, length}
+use Rattle.std.specs.Io.KnownBytes.{Appends, Consumes, IsAtEnd}
 use Rattle.packet_view.specs.Captures.{HasFileHeader, IsCaptureAt, IsHeaderFault, PacketFacts, end_of}
 use Rattle.packet_view.specs.declared.capture.CaptureFault.{CaptureFault}
 use Rattle.packet_view.specs.declared.capture.Order.{Order}
@@ -14,6 +14,7 @@ use Rattle.racl_io.specs.declared.fault.Fault.TheVariants.{Memory, Read}
 use Rattle.racl_io.specs.declared.report.Totals.{Totals}
 use Rattle.racl_io.specs.Faults.{capture_fault, policy_fault}
 use Rattle.racl_io.specs.Reports.{report_of, totals_of}
+use Rattle.racl_io.specs.Transfers.{GaveAtMost}
 use Rattle.capture_stream.specs.Lives.{IsLiveFault}
 use Rattle.racl_cli.specs.Runs.{ByOneThread, ByWorkers, bucket_deal, told_of}
 
@@ -34,7 +35,7 @@ pub record HasHead (text : List ℕ) (before : Option (List ℕ)) : Type 0 where
   pub left : Option (List ℕ)
   pub consumed : Consumes before left header
 
--- All bytes of the source were read, which are a capture, and the report on it was written.
+-- The source's bytes are a capture, and the report on it was written.
 pub record HasRunLive (options : Options) (text : List ℕ) (given old new : Option (List ℕ)) (totals : Totals) : Type 0 where
   pub policy : PolicyFacts
   pub says : IsPolicyText text policy
@@ -48,15 +49,16 @@ pub record HasRunLive (options : Options) (text : List ℕ) (given old new : Opt
   pub written : Appends old new (report_of verdicts (told_of None packets truncated ∷ []))
   pub counted : totals ≡ totals_of verdicts (told_of None packets truncated ∷ [])
 
--- the policy or the header has the fault, or neither could be read
-abbrev pub IsEarlyFault : List ℕ → Option (List ℕ) → Fault → Type 0
-IsEarlyFault text before fault =
-    (fault ≡ Memory) ⊎ (fault ≡ Read) ⊎ ((cause : PolicyFault) × IsPolicyFault text cause × (fault ≡ policy_fault cause))
-    ⊎ ((policy : PolicyFacts) × IsPolicyText text policy × (cause : CaptureFault) × (header : List ℕ) × (left : Option (List ℕ))
-    × Consumes before left header × IsHeaderFault header cause × (fault ≡ capture_fault cause))
+-- Memory ran out, a read failed, or the policy or the header has the fault, which is all that the source has or 24 bytes. No
+-- more was read.
+abbrev pub IsEarlyFault : List ℕ → Option (List ℕ) → Option (List ℕ) → Fault → Type 0
+IsEarlyFault text before after fault = GaveAtMost before after 24
+    × ((fault ≡ Memory) ⊎ (fault ≡ Read) ⊎ ((cause : PolicyFault) × IsPolicyFault text cause × (fault ≡ policy_fault cause))
+    ⊎ ((policy : PolicyFacts) × IsPolicyText text policy × (cause : CaptureFault) × (header : List ℕ) × Consumes before after header
+    × (length header < 24 → IsAtEnd after) × IsHeaderFault header cause × (fault ≡ capture_fault cause)))
 
--- Why the report isn't whole: before a line was written, or where the lines that were written end.
+-- Why the report isn't whole: nothing was written, or the first lines were, or a front of the report.
 abbrev pub IsLiveRunFault : Options → List ℕ → Option (List ℕ) → Option (List ℕ) → Option (List ℕ) → Option (List ℕ) → Fault → Type 0
 IsLiveRunFault options text before after old new fault =
-    (IsEarlyFault text before fault × (new ≡ old))
+    (IsEarlyFault text before after fault × (new ≡ old))
     ⊎ ((head : HasHead text before) × IsLiveFault (ByOneWorker options) head.policy head.order head.left after old new fault)

@@ -190,6 +190,7 @@ pub fn run_saving<R: Source + Send, W: Sink, S: Sink, T: Threads + Wait + Sync>(
     ensures read { (result ≡ Err Fault.Read) ↔ (R.failures reader.new ≡ R.failures reader.old + 1) }
     ensures sound { result ≢ Err Fault.Read → R.failures reader.new ≡ R.failures reader.old }
     ensures steady { result ≢ Err Fault.Write → W.failures writer.new ≡ W.failures writer.old }
+    ensures ordered { W.failures writer.new ≡ W.failures writer.old + 1 → saves.new ≡ saves.old }
     ensures unwritten { IfErr result (λ fault. fault ≢ Fault.Write → (writer.new ≡ writer.old) × (saves.new ≡ saves.old)) }
 {
     let mut bytes = Vec::new(alloc);

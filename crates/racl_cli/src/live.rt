@@ -3,7 +3,7 @@ ghost use Rattle.std.specs.Prelude.{◌≡◌, ◌-◌, ◌<◌, ◌^◌, MatchR
 ghost use Rattle.acl_policy.specs.Policies.{policy_facts};
 ghost use Rattle.capture_stream.specs.Lives.{HasToldAll, IsLiveFault, with_read, with_write};
 ghost use Rattle.racl_cli.specs.LiveRuns.{ByOneWorker, HasRunLive, IsLiveRunFault};
-ghost use Rattle.racl_cli.specs.inner.Heads.{HasReadHeader, IsUnread};
+ghost use Rattle.racl_cli.specs.inner.Heads.{HasReadHeader, IsHeadless};
 
 use crate::crew::Lone;
 use crate::sized::{SizedWorkers, create_sized};
@@ -33,7 +33,7 @@ pub struct LiveHead {
 // The header of the capture is read.
 fn read_header<R: Source>(alloc: Global, reader: &mut R) -> Result<Order, Fault>
     requires { R.failures reader.old < 2 ^ 64 - 1 }
-    ensures header { MatchResult result (HasReadHeader (R.bytes reader.old) (R.bytes reader.new)) (IsUnread (R.bytes reader.old)) }
+    ensures header { MatchResult result (HasReadHeader (R.bytes reader.old) (R.bytes reader.new)) (IsHeadless (R.bytes reader.old) (R.bytes reader.new)) }
     ensures read { MatchResult result (λ _. R.failures reader.new ≡ R.failures reader.old) (λ fault. R.failures reader.new ≡ with_read (R.failures reader.old) fault) }
 {
     let mut header = Vec::new(alloc);

@@ -82,8 +82,8 @@ has_mixed_lines options = options.hits && is_json options.lines
 abbrev pub can_be_live : AskedFacts → Bool
 can_be_live asked = are_files asked.origin && (not (is_saved asked.saved) && is_simple_run asked.options)
 
--- Packets are saved of the capture in a file, and in two files. Lines of hits don't stand behind objects. Verdicts
--- are written as packets come where they can be.
+-- Packets are saved of the capture in a file, and in two files. Lines of hits don't stand behind objects. `--live`
+-- is asked for only where verdicts can be written as packets come.
 abbrev pub fit_together : AskedFacts → Bool
 fit_together asked = (not (is_saved asked.saved) || are_files asked.origin)
     && (not (is_shared asked.saved.drops asked.saved.passes)
@@ -102,8 +102,8 @@ pub record AskForRun (words : List Text) (asked : AskedFacts) : Type 0 where
   pub faultless : fault_of racl words ≡ []
   pub asks : AskBy (values_at words) asked
 
--- the command finds no fault in the words, and yet they ask for nothing: they name no input, or none that goes with their
--- options, or no tables of a size or no packets to be shown are asked for
+-- the command finds no fault in the words, and yet there is nothing that they ask for: no size of tables, no packets to be
+-- shown, no input, or these don't go together
 pub record AskForNothing (words : List Text) : Type 0 where
   pub faultless : fault_of racl words ≡ []
   pub nothing : (asked : AskedFacts) → AskBy (values_at words) asked → ⊥

@@ -50,6 +50,6 @@ is_given (Some value) = bytes_eq value (codes "true")
 abbrev pub shown_by : Bool → Option Text → Option Shown
 shown_by summary only = option_map (λ shown. if summary then Nothing else shown) (shown_only only)
 
--- what `--json` and `--explain` ask for: an object tells all that an explained line does
+-- what `--json` and `--explain` ask for: the first counts where both are given
 abbrev pub lines_by : Bool → Bool → Lines
 lines_by json explain = if json then Json else if explain then Explained else Plain

@@ -20,7 +20,7 @@ pub enum Lines {
     Plain,
     /// Beside its verdict what it is, and the rule that decided.
     Explained,
-    /// The same in an object of JSON.
+    /// What it is, in an object of JSON.
     Json,
 }
 

@@ -71,8 +71,9 @@ const USAGE: &str = "racl [OPTIONS] POLICY CAPTURE
 // What stands below the options. A function of its own, so that no proof of a caller has the text.
 fn after_help() -> &'static str {
     "INPUT is a policy, a line `pcap` or `hex`, and the capture in that form; POLICY and CAPTURE are such \
-    a policy and a capture's bytes. They have at most 67108864 bytes in all, in which a byte of a capture \
-    after --interface counts twice. The report goes to standard output.
+    a policy and a capture's bytes. Except with --live they have at most 67108864 bytes in all, in which a byte \
+    of a capture after --interface counts twice. The report goes to standard output. --drops, --passes and \
+    --live need POLICY CAPTURE; --live goes with --tables and timeouts alone, and --hits not with --json.
 
 Examples:
   racl check host.policy

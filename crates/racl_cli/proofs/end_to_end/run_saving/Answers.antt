@@ -1,4 +1,5 @@
-use Rattle.std.proofs.Common.{◌∙◌, Ok, ap, refl, true}
+use Rattle.std.proofs.Common.{◌∙◌, Ok, ap, inl, inr, refl, subst, sym, true}
+use Rattle.racl_io.specs.Faults.{IsSystemFault}
 use Rattle.racl_cli.specs.Runs.{Outcome}
 use Rattle.racl_cli.proofs.OutcomeLemmas.{has_reported, kept_told, ran}
 use Rattle.racl_cli.proofs.SaveLemmas.{has_saved}
@@ -57,3 +58,19 @@ returns-clause-accepts g c =
     known_read _ _ _ k.bytes _ (record { whole = k.known; few = k.few }) (λ one_thread has.
     has_reported old new c.args.options.now (g.R.Source.bytes c.args.reader.now) true c.judge_kept.new.kept.items c.in_ok-judged.judged (Ok c.in_ok-totals.totals)
     k (λ asked. refl) told one_thread has tt)
+
+pub returns-in_err-totals-clause-accepts : goal.returns-in_err-totals-clause-accepts
+returns-in_err-totals-clause-accepts g c =
+    let k = c.in_ok-judged.ensures.kept in
+    let p = err_from_is_err_and c.from_residual-in_err-totals.result c.from_residual-in_err-totals.ensures.1 in
+    let fault = c.in_err-totals.field-0.0 in
+    let device : IsSystemFault fault = elim c.in_err-totals.ensures.ends.fault [ inl memory ↦ subst IsSystemFault (sym memory) tt | inr write ↦ subst IsSystemFault (sym write) tt ] in
+    rw (p.1, p.2) (known_read _ _ _ k.bytes (λ input outcome. IsSystemFault fault) (record { whole = k.known; few = k.few }) (λ outcome has. device))
+
+pub returns-in_err-save_packets-clause-accepts : goal.returns-in_err-save_packets-clause-accepts
+returns-in_err-save_packets-clause-accepts g c =
+    let k = c.in_ok-judged.ensures.kept in
+    let p = err_from_is_err_and c.from_residual-in_err-save_packets.result c.from_residual-in_err-save_packets.ensures.1 in
+    let fault = c.in_err-save_packets.field-0.0 in
+    rw (p.1, p.2) (known_read _ _ _ k.bytes (λ input outcome. IsSystemFault fault) (record { whole = k.known; few = k.few })
+    (λ outcome has. subst IsSystemFault (sym c.in_err-save_packets.ensures.fault) tt))

@@ -7,7 +7,7 @@ use Rattle.racl_cli.proofs.live.run_live.Goals as goal
 pub returns-in-Err-read_header-clause-told : goal.returns-in-Err-read_header-clause-told
 returns-in-Err-read_header-clause-told g c =
     inl (
-      early_fault c.args.policy.now _ c.in-Err-read_header.fault (policy_facts c.in-Ok.policy) c.in-Ok.ensures.ok c.in-Err-read_header.ensures.header,
+      early_fault c.args.policy.now _ _ c.in-Err-read_header.fault (policy_facts c.in-Ok.policy) c.in-Ok.ensures.ok c.in-Err-read_header.ensures.header,
       refl,
     )
 
