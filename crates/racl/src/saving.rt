@@ -1,6 +1,6 @@
 //! Packets that are saved in files.
 
-ghost use Rattle.racl_cli.specs.Saves.{MayFail};
+ghost use Rattle.racl_cli.specs.Saves.{MayFail, MayFailOnce};
 
 use crate::save_file::{SaveFile, saved_to};
 use racl_cli::{Device, Saved, Saves, Unopened};
@@ -18,8 +18,7 @@ fn file_to<'a>(rt: &'a HostRuntime, name: Option<&'a str>) -> Option<Device<Save
 
 /// The files of these names, which are created where there is something to write.
 pub fn saves_to<'a>(rt: &'a HostRuntime, saved: &Saved<'a>) -> Saves<Device<SaveFile<'a>>>
-    ensures drops { MayFail (λ d. d.failures) result.drops }
-    ensures passes { MayFail (λ d. d.failures) result.passes }
+    ensures { MayFailOnce (λ d. d.failures) result }
 {
     Saves {
         drops: file_to(rt, saved.drops),

@@ -1,5 +1,5 @@
 -- What a run has filtered, from the bytes of its input.
-use Rattle.std.specs.Prelude.{◌≡◌, ◌≤◌, ◌++◌, ℕ, Bool, List, [], ◌∷◌, length, Option, None, Some, IfSome, All}
+use Rattle.std.specs.Prelude.{◌≡◌, ◌≤◌, ◌++◌, ℕ, Bool, List, [], ◌∷◌, length, Option, None, Some, IfSome, All, MatchResult, Result}
 use Rattle.std.specs.Io.KnownBytes.{Appends}
 use Rattle.packet_view.specs.Captures.{IsCaptureAt, PacketFacts, end_of}
 use Rattle.packet_view.specs.declared.tuple.Family.{Family}
@@ -14,6 +14,8 @@ use Rattle.flow_dealing.specs.WorkerRecords.{AreFew, AreJudged, HasPagesIn, Have
 use Rattle.racl_options.specs.declared.settings.Options.{Options}
 use Rattle.racl_options.specs.declared.settings.TableSize.{TableSize}
 use Rattle.racl_options.specs.declared.settings.TableSize.TheVariants.{Standard, Large}
+use Rattle.racl_io.specs.declared.fault.Fault.{Fault}
+use Rattle.racl_io.specs.Faults.{IsSystemFault}
 use Rattle.racl_io.specs.declared.input.Form.{Form}
 use Rattle.racl_io.specs.declared.input.Form.TheVariants.{Binary, Hexadecimal, Numbered}
 use Rattle.racl_io.specs.declared.report.Captured.{Captured}
@@ -166,3 +168,8 @@ pub record HasRun (options : Options) (given old new : Option (List ℕ)) (total
 pub record HasReported (options : Options) (bytes : List ℕ) (one_thread : Outcome) (old new : Option (List ℕ)) (totals : Totals) : Type 0 where
   pub run : HasRun options (Some bytes) old new totals
   pub same : HavePages run.outcome.verdicts → one_thread ≡ run.outcome
+
+-- bytes that are an input get the report on them, or memory ran out or a device failed
+abbrev pub AnswersRight : Options → List ℕ → Option (List ℕ) → Option (List ℕ) → Result Totals Fault → Type 0
+AnswersRight options bytes old new result = (outcome : Outcome) → HasOutcome options.tables options.times bytes outcome
+    → MatchResult result (HasReported options bytes outcome old new) IsSystemFault

@@ -40,3 +40,6 @@ pub record HasRunSaving {S : Type 0} (sink : S → Option (List ℕ)) (options :
 abbrev pub MayFail : {S : Type 0} → (S → ℕ) → Option S → Type 0
 MayFail failures None = ⊤
 MayFail failures (Some sink) = failures sink < 2 ^ 64 - 1
+
+abbrev pub MayFailOnce : {S : Type 0} → (S → ℕ) → Saves S → Type 0
+MayFailOnce failures saves = MayFail failures saves.drops × MayFail failures saves.passes

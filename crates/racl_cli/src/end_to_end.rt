@@ -7,8 +7,8 @@ ghost use Rattle.racl_io.specs.Faults.{IsInputFault, IsSystemFault, RefusesRead}
 ghost use Rattle.racl_io.specs.Inputs.{most_bytes};
 ghost use Rattle.racl_io.specs.Transfers.{GaveAtMost, HasReadWithin};
 ghost use Rattle.racl_cli.specs.Reads.{AnswersRead, HasKept};
-ghost use Rattle.racl_cli.specs.Runs.{HasOutcome, HasReported, HasRun, Outcome};
-ghost use Rattle.racl_cli.specs.Saves.{HasRunSaving, MayFail};
+ghost use Rattle.racl_cli.specs.Runs.{AnswersRight, HasRun};
+ghost use Rattle.racl_cli.specs.Saves.{HasRunSaving, MayFailOnce};
 
 use crate::at_hand::AtHand;
 use crate::captures::judge_captures;
@@ -142,9 +142,7 @@ pub fn run<R: Source + Send, W: Sink, T: Threads + Wait + Sync>(
     ensures ok { IfOk result (HasRun options.now (R.bytes reader.old) (W.bytes writer.old) (W.bytes writer.new)) }
 
     // An input that is right is answered by its report, or memory ran out or a device failed.
-    ensures accepts { IfSome (R.bytes reader.old) (λ bytes. (outcome : Outcome)
-        → HasOutcome options.now.tables options.now.times bytes outcome
-        → MatchResult result (HasReported options.now bytes outcome (W.bytes writer.old) (W.bytes writer.new)) IsSystemFault) }
+    ensures accepts { IfSome (R.bytes reader.old) (λ bytes. AnswersRight options.now bytes (W.bytes writer.old) (W.bytes writer.new) result) }
 
     // A fault of the input is answered where its cause stands first, and then nothing else of the input.
     ensures fault { IfErr result (λ fault. IsSystemFault fault ⊎ IfSome (R.bytes reader.old) (λ bytes. IsInputFault bytes fault)) }
@@ -178,12 +176,9 @@ pub fn run_saving<R: Source + Send, W: Sink, S: Sink, T: Threads + Wait + Sync>(
 ) -> Result<Totals, Fault>
     requires reader { R.failures reader.old < 2 ^ 64 - 1 }
     requires writer { W.failures writer.old < 2 ^ 64 - 1 }
-    requires drops { MayFail S.failures saves.old.drops }
-    requires passes { MayFail S.failures saves.old.passes }
+    requires saves { MayFailOnce S.failures saves.old }
     ensures ok { IfOk result (HasRunSaving S.bytes options.now (R.bytes reader.old) (W.bytes writer.old) (W.bytes writer.new) saves.old saves.new) }
-    ensures accepts { IfSome (R.bytes reader.old) (λ bytes. (outcome : Outcome)
-        → HasOutcome options.now.tables options.now.times bytes outcome
-        → MatchResult result (HasReported options.now bytes outcome (W.bytes writer.old) (W.bytes writer.new)) IsSystemFault) }
+    ensures accepts { IfSome (R.bytes reader.old) (λ bytes. AnswersRight options.now bytes (W.bytes writer.old) (W.bytes writer.new) result) }
     ensures fault { IfErr result (λ fault. IsSystemFault fault ⊎ IfSome (R.bytes reader.old) (λ bytes. IsInputFault bytes fault)) }
     ensures refuses { IfSome (R.bytes reader.old) (λ bytes. (fault : Fault) → IsInputFault bytes fault → RefusesRead fault result) }
     ensures far { GaveAtMost (R.bytes reader.old) (R.bytes reader.new) (most_bytes + 1) }

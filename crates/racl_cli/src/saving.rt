@@ -7,7 +7,7 @@ ghost use Rattle.racl_io.specs.declared.report.Captured.{Captured};
 ghost use Rattle.racl_io.specs.Inputs.{InputFacts, IsInput, input_facts};
 ghost use Rattle.racl_views.specs.declared.chosen.Chosen.TheVariants.{Dropped, Passing};
 ghost use Rattle.racl_cli.specs.Runs.{IsRead};
-ghost use Rattle.racl_cli.specs.Saves.{HasSaved, MayFail};
+ghost use Rattle.racl_cli.specs.Saves.{HasSaved, MayFail, MayFailOnce};
 
 use flow_workers::Verdict;
 use racl_io::{Fault, Form, Input, Sink, split_input};
@@ -48,8 +48,7 @@ pub fn save_packets<S: Sink>(
     verdicts: &[Verdict],
     saves: &mut Saves<S>,
 ) -> Result<(), Fault>
-    requires drops { MayFail S.failures saves.old.drops }
-    requires passes { MayFail S.failures saves.old.passes }
+    requires { MayFailOnce S.failures saves.old }
     ensures ok { OnOk result ((policy : PolicyFacts) (packets : List PacketFacts) (captures : List Captured) → IsRead bytes.now policy packets captures
         → (parts : InputFacts) × IsInput bytes.now parts × HasSaved S.bytes parts Dropped verdicts.now saves.old.drops saves.new.drops
         × HasSaved S.bytes parts Passing verdicts.now saves.old.passes saves.new.passes) }
