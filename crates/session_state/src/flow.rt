@@ -124,6 +124,7 @@ fn flow_by_number(from: u64, to: u64, proto: u8, interface: u8) -> Flow
     }
 }
 
+#[inline(always)]
 fn by_order(tuple: &Tuple) -> Flow
     ensures { result ≡ flow_by_order (tuple_facts tuple.now) }
 {
