@@ -23,8 +23,8 @@ pub use laws::each_input_has_one_outcome;
 pub use live::run_live;
 pub use message::{Ending, Hint, Message, Remark, Unopened};
 pub use racl_io::{
-    Device, DeviceFault, Fault, Form, FrontKept, Joined, MOST_BYTES, Marked, Other, Sink, Source, Totals,
-    marked, read_until,
+    Device, DeviceFault, Fault, Form, FrontKept, Joined, MOST_BYTES, Marked, Other, Sink, Source,
+    Totals, marked, read_until,
 };
 pub use racl_options::{
     Asked, Files, Lines, Options, Origin, Saved, TableSize, options, words_status,
