@@ -19,8 +19,9 @@ use crate::unlooked::say_unlooked;
 use clap::Error;
 use policy_check::check_source;
 use racl_cli::{
-    Asked, Device, Ending, Fault, Files, FrontKept, Hint, Joined, MOST_BYTES, Options, Origin, Remark, Source,
-    Totals, ending, failure_ending, hint, options, remark, run, run_live, run_saving, words_ending,
+    Asked, Device, Ending, Fault, Files, FrontKept, Hint, Joined, MOST_BYTES, Options, Origin,
+    Remark, Source, Totals, ending, failure_ending, hint, options, remark, run, run_live,
+    run_saving, words_ending,
 };
 use racl_options::check_name;
 use std::alloc::Global;
