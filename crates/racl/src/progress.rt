@@ -24,6 +24,7 @@ fn in_seconds(rt: &HostRuntime, seconds: u64) -> Option<Instant> {
 }
 
 impl<'a> Progress<'a> {
+    /// Nothing was read. No clause says when the line is written, since that is the clock's and the terminal's.
     pub fn new(rt: &'a HostRuntime) -> Progress<'a> {
         let due = if rt.stderr().is_terminal() {
             in_seconds(rt, 2)
@@ -58,7 +59,7 @@ impl<'a> Progress<'a> {
         }
     }
 
-    /// Removes the line, and writes none any more.
+    /// Removes the line, and writes none any more. No clause says what a terminal shows.
     pub fn end(&mut self) {
         if self.is_shown {
             let _ = self.rt.eprint("\r\x1b[K");
