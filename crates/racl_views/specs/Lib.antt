@@ -8,5 +8,6 @@ pub mod JsonLines
 pub mod PacketWords
 pub mod RuleLines
 pub mod RuleTexts
+pub mod Stored
 pub mod Views
 pub mod inner
