@@ -1,4 +1,5 @@
 pub mod Complaints
+pub mod Foreign
 pub mod Reasons
 pub mod Remarks
 pub mod inner

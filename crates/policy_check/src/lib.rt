@@ -5,6 +5,7 @@ mod checking;
 mod complaint;
 mod ends;
 mod finding;
+mod foreign;
 mod head;
 mod laws;
 mod line;
@@ -21,6 +22,7 @@ mod unseen;
 
 pub use checking::check_policy;
 pub use complaint::{Checked, Complaint};
+pub use foreign::{ForeignMac, foreign_mac};
 pub use laws::checks_agree_with_runs;
 pub use reason::Reason;
 pub use remark::Remark;

@@ -9,13 +9,13 @@ mod progress;
 mod reader;
 mod save_file;
 mod saving;
-mod unlooked;
+mod unlikely;
 
-use crate::parts::{name_at, opened_or_told, opened_parts, policy_name};
+use crate::parts::{interface_at, name_at, opened_or_told, opened_parts, policy_name};
 use crate::progress::{Progress, Watched};
 use crate::reader::{Reader, bytes_of, held};
 use crate::saving::{saves_to, say_unsaved};
-use crate::unlooked::say_unlooked;
+use crate::unlikely::{Seen, say_foreign, say_unlooked};
 use clap::Error;
 use policy_check::check_source;
 use racl_cli::{
@@ -200,6 +200,11 @@ fn status_of_live<T: Wait>(
         &mut writer,
     );
     let status = say_ending(rt, &ending(&outcome))?;
+    let seen = Seen {
+        interface: 0,
+        front: reader.inner.front(),
+    };
+    say_foreign(rt, alloc, files.policy, text.as_slice(), &[seen]);
     if let Some(hint) = hint(&outcome, text.as_slice()) {
         rt.eprintln(&hint)?;
     }
@@ -217,6 +222,21 @@ fn say_where_terminal(rt: &HostRuntime) {
     }
 }
 
+// The first bytes of the captures that were read, as far as there is memory for their list.
+fn seen_in<'a>(alloc: Global, origin: &Origin<'_>, reader: &'a Joined<Reader>) -> Vec<Seen<'a>> {
+    let mut seen = Vec::new(alloc);
+    for place in 0..256 {
+        let (Some(interface), Some(front)) = (interface_at(origin, place), reader.front(place))
+        else {
+            return seen;
+        };
+        if seen.push(Seen { interface, front }).is_err() {
+            return seen;
+        }
+    }
+    seen
+}
+
 // Says behind a run on files what is likely to be wrong with them.
 fn say_more(
     rt: &HostRuntime,
@@ -229,7 +249,16 @@ fn say_more(
         return Ok(());
     };
     if outcome.is_ok() {
-        say_unlooked(rt, alloc, policy_name(origin), policy.get_ref().as_slice());
+        let name = policy_name(origin);
+        let text = policy.get_ref().as_slice();
+        say_unlooked(rt, alloc, name, text);
+        say_foreign(
+            rt,
+            alloc,
+            name,
+            text,
+            seen_in(alloc, origin, reader).as_slice(),
+        );
     }
     if let Some(hint) = hint(outcome, policy.get_ref().as_slice()) {
         rt.eprintln(&hint)?;

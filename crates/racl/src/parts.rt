@@ -78,6 +78,15 @@ pub fn name_at<'a>(origin: &Origin<'a>, place: usize) -> Option<&'a str> {
     }
 }
 
+/// The number of the interface of the capture at this place, as of `name_at`.
+pub fn interface_at(origin: &Origin<'_>, place: usize) -> Option<u8> {
+    match origin {
+        Origin::Files(_) if place == 0 => Some(0),
+        Origin::Interfaces(interfaces) => interfaces.captures.get(place).map(|file| file.interface),
+        _ => None,
+    }
+}
+
 /// Opens the files of an input in their order, from the policy on. Where one can't be opened that is told, and None is
 /// answered. No clause says what names open: `checks/run` looks at it.
 pub fn opened_parts(

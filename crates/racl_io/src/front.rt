@@ -4,8 +4,8 @@ ghost use Rattle.std.specs.Prelude.{◌≤◌};
 use std::io;
 use std::io::Read;
 
-/// How many first bytes are kept: as many as the header of a capture has.
-const FRONT: usize = 24;
+/// How many first bytes are kept: the header of a capture, and some records.
+const FRONT: usize = 4096;
 
 /// A reader that keeps the first bytes that it gives.
 #[derive(Drop)]
@@ -14,7 +14,7 @@ pub struct FrontKept<R> {
     front: [u8; FRONT],
     /// How many of them it gave.
     count: usize,
-    ghost within: { count ≤ 24 },
+    ghost within: { count ≤ 4096 },
 }
 
 impl<R> FrontKept<R> {
@@ -35,7 +35,7 @@ impl<R> FrontKept<R> {
     // Keeps the first of these bytes, as far as there is room behind those that were kept.
     fn keep(&mut self, bytes: &[u8])
         ensures inner { self.new.inner ≡ self.old.inner }
-        ensures front { front_of self.new ≡ take 24 (front_of self.old ++ bytes.now) }
+        ensures front { front_of self.new ≡ take 4096 (front_of self.old ++ bytes.now) }
     {
         let start = self.count;
         let end = start + bytes.len().min(FRONT - start);
@@ -62,7 +62,7 @@ impl<R: Read> Read for FrontKept<R> {
     fn read(&mut self, buf: &mut [u8]) -> io::Result<usize>
         ensures bound { ReadsAtMost result buf.new }
         ensures bytes { ReadConsumes (R.remaining self.old.inner) (R.remaining self.new.inner) result buf.new }
-        ensures front { IfOk result (λ n. front_of self.new ≡ take 24 (front_of self.old ++ take n buf.new)) }
+        ensures front { IfOk result (λ n. front_of self.new ≡ take 4096 (front_of self.old ++ take n buf.new)) }
     {
         let n = self.inner.read(buf)?;
         self.keep(&buf[..n]);

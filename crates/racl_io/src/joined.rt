@@ -67,7 +67,7 @@ impl<R: Read> Joined<R> {
         self.device.inner.get_ref().0
     }
 
-    /// The first bytes of the capture at this place that were read, up to 24; None where there are no so many captures.
+    /// The first bytes of the capture at this place that were read, up to 4096; None where there are no so many captures.
     pub fn front(&self, place: usize) -> Option<&[u8]>
         ensures { option_map (λ front. front.now) result ≡ front_at self.now place }
     {

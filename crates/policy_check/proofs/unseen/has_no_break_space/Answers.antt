@@ -1,5 +1,5 @@
 use Rattle.std.proofs.Common.{refl}
-use Rattle.policy_check.proofs.UnseenLemmas.{left_of}
+use Rattle.policy_check.proofs.WalkLemmas.{left_of}
 use Rattle.policy_check.proofs.unseen.has_no_break_space.Goals as goal
 
 pub bytes-preserved : goal.bytes-preserved

@@ -1,4 +1,4 @@
--- What a walk over a word or a text has left.
+-- What a walk over a list has left.
 use Rattle.std.proofs.Common.{◌≡◌, ℕ, ◌-◌, List, [], ◌∷◌, ◌++◌, length, take, drop, length-drop, sym, ap, ◌∙◌, arith}
 use Rattle.std.proofs.lemmas.List.{append_assoc, take-append-drop, take_all}
 
@@ -10,6 +10,6 @@ left_of word front rest n counted split =
           ∙ ap (λ (bs : List ℕ). (front ++ take 1 rest) ++ bs) (sym whole),
     )
 
-pub words_left : (words front rest more : List (List ℕ)) (word : List ℕ) → words ≡ front ++ rest → rest ≡ word ∷ more → words ≡ (front ++ word ∷ []) ++ more
-words_left words front rest more word split next =
-    split ∙ ap (λ (ws : List (List ℕ)). front ++ ws) next ∙ sym (append_assoc front (word ∷ []) more)
+pub one_further : {X : Type 0} (all front rest more : List X) (x : X) → all ≡ front ++ rest → rest ≡ x ∷ more → all ≡ (front ++ x ∷ []) ++ more
+one_further {X} all front rest more x split next =
+    split ∙ ap (λ (xs : List X). front ++ xs) next ∙ sym (append_assoc front (x ∷ []) more)

@@ -1,0 +1,69 @@
+//! Captures whose first frames have nothing to do with the address of a `mac` line.
+ghost use Rattle.std.specs.Prelude.{◌≡◌, IfSome, IsTrue, false, take};
+ghost use Rattle.packet_view.specs.CheckedCaptures.{remaining};
+ghost use Rattle.acl_policy.specs.Policies.{section_facts};
+ghost use Rattle.policy_check.specs.Foreign.{AreForeign, IsForOne, IsForeignOf, IsOf};
+
+use acl_policy::Section;
+use packet_view::{Mac, Packets, capture_header, front_records};
+use thiserror::Error;
+
+/// That this is so of the interface with this number.
+#[derive(Clone, Copy, Debug, PartialEq, Eq, Error)]
+#[error("none of the first frames of interface {0} is from or to the address of its mac line")]
+pub struct ForeignMac(pub u8);
+
+fn begins_with(bytes: &[u8], own: Mac) -> bool
+    ensures { result ≡ false → take 6 bytes.now ≡ own.0 → ⊥ }
+{
+    bytes.len() >= 6 && bytes[..6] == own.0[..]
+}
+
+fn is_of(frame: &[u8], own: Mac) -> bool
+    ensures { result ≡ false → IsOf own.0 frame.now → ⊥ }
+{
+    begins_with(frame, own) || begins_with(&frame[frame.len().min(6)..], own)
+}
+
+fn is_for_one(frame: &[u8]) -> bool
+    ensures { IsTrue result → IsForOne frame.now }
+{
+    match frame {
+        [byte, ..] => byte % 2 == 0,
+        [] => false,
+    }
+}
+
+// Whether some of these packets is for one station, and none has to do with this address.
+fn are_foreign(own: Mac, packets: Packets<'_>) -> bool
+    ensures { IsTrue result → AreForeign own.0 (remaining packets.entry) }
+{
+    let mut left = packets;
+    let mut some = false;
+    'packets: while let Some(packet) = left.next() {
+        if is_of(packet.frame, own) {
+            return false;
+        }
+        some = some || is_for_one(packet.frame);
+    }
+    some
+}
+
+/// That the frames at the front of the capture of a section's interface have nothing to do with the address of its `mac` line,
+/// though one at least is for one station. None where that isn't so.
+pub fn foreign_mac(section: &Section, front: &[u8]) -> Option<ForeignMac>
+    ensures { IfSome result (λ told. IsForeignOf (section_facts section.now) front.now told.0) }
+{
+    let Some(own) = section.own else {
+        return None;
+    };
+    let Ok(order) = capture_header(front) else {
+        return None;
+    };
+    let first = front_records(&front[24..], order, section.interface);
+    if are_foreign(own, Packets::Records(first.records)) {
+        Some(ForeignMac(section.interface))
+    } else {
+        None
+    }
+}
