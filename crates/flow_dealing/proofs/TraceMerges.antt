@@ -31,7 +31,7 @@ use Rattle.flow_dealing.specs.declared.dealing.Dealing.TheVariants.{Round, Bucke
 use Rattle.flow_dealing.specs.Views.{Views, view_in}
 use Rattle.flow_dealing.specs.Dealings.{Deal, flow_of_reading, flow_of_frame, worker_by_dealing, worker_of}
 use Rattle.flow_dealing.specs.Traces.{AreGathered, ArePlaced, AreTraces, AreFrames, HasCalls, IsItem, IsItemOf, IsTrace, Item, call_in, calls_in, judged_of, numbers_from, numbers_of, verdict_in}
-use Rattle.flow_dealing.specs.WorkerRecords.{AreJudged, add_in, events_by}
+use Rattle.flow_dealing.specs.WorkerRecords.{AreJudgedBy, add_in, events_by}
 use Rattle.flow_dealing.proofs.Places.{all_at, all_from, zip_count}
 
 -- ---- Lists that are dealt
@@ -313,7 +313,7 @@ pub judge_each_packet : (d : Deal) (times : Timeouts) (policy : PolicyFacts) (pa
     (traces : List (List Item)) (v : Views)
     (verdicts : List Verdict) → 0 < d.workers → AreTraces d times policy packets traces
     → ((family : Family) → AreGathered d times family traces (view_in v family))
-    → ArePlaced times packets traces verdicts → AreJudged d times policy packets verdicts
+    → ArePlaced times packets traces verdicts → AreJudgedBy d times policy packets verdicts v
 judge_each_packet d times policy packets traces v verdicts some_worker are gathered placed =
     let vs = all_views policy packets in
     let m = merge d times policy packets verdicts 0 packets vs.0 (trace_or traces) some_worker vs.1
@@ -323,30 +323,32 @@ judge_each_packet d times policy packets traces v verdicts some_worker are gathe
     (record {
       numbers = is.dealt vs.0 vs.1;
       own = own_items d times policy packets traces verdicts placed w t.0 t.1 is;
-    })) in
-    record {
-      judged = map judged_of m.merged;
-      read = m.read;
-      asked = All-map (IsAsked times) judged_of m.merged
-          (All-weaker (IsSaid d times policy packets verdicts) (λ i. IsAsked times (judged_of i))
-          (λ i is. is.item.asked) m.merged m.each);
-      said = same_list times m.merged verdicts
-          (placed.count ∙ zip_count (IsReading policy) packets (readings_of (map judged_of m.merged)) m.read
-          ∙ counted m.merged)
-          (λ k i at. let e : 0 + k ≡ k = omega arith in ap (get_elem? verdicts) (sym (m.placed k i at ∙ e))
-          ∙ (all_at (IsSaid d times policy packets verdicts) m.merged k i m.each at).said);
-      views = v;
-      recorded = λ family. let g = gathered family in record {
-        lawful = g.lawful;
-        told = g.told;
-        openings = g.did.openings;
-        count = sym (zip_count (HasCalls times family) traces (view_in v family).records g.did.records) ∙ are.count;
-        each = λ w r at. let t = trace_of times family traces (view_in v family).records w r g.did.records at in
-            ap (map event_of) (t.2 ∙ ap (calls_in times family) (sym (trace_there traces w t.0 t.1)))
-            ∙ m.dealt family w (let inside = within traces w t.0 t.1 in let count = are.count in omega arith);
-        wanted = g.did.wanted;
-      };
-    }
+    })) in (
+      record {
+        judged = map judged_of m.merged;
+        read = m.read;
+        asked = All-map (IsAsked times) judged_of m.merged
+            (All-weaker (IsSaid d times policy packets verdicts) (λ i. IsAsked times (judged_of i))
+            (λ i is. is.item.asked) m.merged m.each);
+        said = same_list times m.merged verdicts
+            (placed.count ∙ zip_count (IsReading policy) packets (readings_of (map judged_of m.merged)) m.read
+            ∙ counted m.merged)
+            (λ k i at. let e : 0 + k ≡ k = omega arith in ap (get_elem? verdicts) (sym (m.placed k i at ∙ e))
+            ∙ (all_at (IsSaid d times policy packets verdicts) m.merged k i m.each at).said);
+        views = v;
+        recorded = λ family. let g = gathered family in record {
+          lawful = g.lawful;
+          told = g.told;
+          openings = g.did.openings;
+          count = sym (zip_count (HasCalls times family) traces (view_in v family).records g.did.records) ∙ are.count;
+          each = λ w r at. let t = trace_of times family traces (view_in v family).records w r g.did.records at in
+              ap (map event_of) (t.2 ∙ ap (calls_in times family) (sym (trace_there traces w t.0 t.1)))
+              ∙ m.dealt family w (let inside = within traces w t.0 t.1 in let count = are.count in omega arith);
+          wanted = g.did.wanted;
+        };
+      },
+      refl,
+    )
   where
     counted : (is : List Item) → length (readings_of (map judged_of is)) ≡ length is
     counted [] = refl

@@ -61,6 +61,10 @@ pub record AreJudged (d : Deal) (times : Timeouts) (policy : PolicyFacts) (packe
   pub views : Views
   pub recorded : (family : Family) → AreRecorded d times family judged (view_in views family)
 
+-- the same where this is what all callers know together
+abbrev pub AreJudgedBy : Deal → Timeouts → PolicyFacts → List PacketFacts → List Verdict → Views → Type 0
+AreJudgedBy d times policy packets verdicts views = (run : AreJudged d times policy packets verdicts) × (run.views ≡ views)
+
 -- a packet of this family's flows
 abbrev pub is_in : Family → Option Update → Bool
 is_in family None = false

@@ -13,7 +13,7 @@ ghost use Rattle.flow_dealing.specs.Views.{Views, view_in};
 ghost use Rattle.flow_dealing.specs.Dealings.{Deal};
 ghost use Rattle.flow_dealing.specs.Traces.{AreGathered, ArePlaced, AreTraces, Item};
 ghost use Rattle.flow_dealing.specs.Places.{PassAtPlaces};
-ghost use Rattle.flow_dealing.specs.WorkerRecords.{AreFew, AreJudged, HasPagesIn, HavePages};
+ghost use Rattle.flow_dealing.specs.WorkerRecords.{AreFew, AreJudged, AreJudgedBy, HasPagesIn, HavePages};
 
 /// Where each worker judged the packets that were dealt to it, each packet was judged once, and its event
 /// is in the record of its worker.
@@ -22,7 +22,7 @@ pub fn traces_judge_each_packet()
         (traces : List (List Item)) (v : Views) (verdicts : List Verdict)
         → 0 < d.workers → AreTraces d times policy packets traces
         → ((family : Family) → AreGathered d times family traces (view_in v family))
-        → ArePlaced times packets traces verdicts → AreJudged d times policy packets verdicts }
+        → ArePlaced times packets traces verdicts → AreJudgedBy d times policy packets verdicts v }
 {}
 
 /// With one worker, or where packets are dealt by bucket, and no verdict says that pages were wanting, the

@@ -98,7 +98,7 @@ module _ {A B R G K L : Type 0} (ga : Ghosts A K) (gb : Ghosts B L) (setup : Set
   judged_let_go one =
       let run = run_facts ga gb setup packets in
       let done = rest_done ga gb before setup packets 0 old rest in
-      judge_each_packet run.deal run.times run.policy run.packets (done.trace ∷ []) (views_of ga gb new.callers)
+      (judge_each_packet run.deal run.times run.policy run.packets (done.trace ∷ []) (views_of ga gb new.callers)
       (before ++ said) (omega arith)
       (record {
         count = sym one;
@@ -108,7 +108,7 @@ module _ {A B R G K L : Type 0} (ga : Ghosts A K) (gb : Ghosts B L) (setup : Set
       (gone.four.lawful, gone.six.lawful) (gone.four.whole, gone.six.whole)
       (same_traces _ _ V4 _ _ _ gone.four.records gone.four.known done.four)
       (same_traces _ _ V6 _ _ _ gone.six.records gone.six.known done.six))
-      (one_placed run done.trace (before ++ said) one done.is (ap (λ vs. before ++ vs) gone.said ∙ done.said))
+      (one_placed run done.trace (before ++ said) one done.is (ap (λ vs. before ++ vs) gone.said ∙ done.said))).0
 
 -- ---- The only worker
 

@@ -8,6 +8,7 @@ pub mod OwnLemmas
 pub mod RenewalLemmas
 pub mod RestLemmas
 pub mod ShortPackets
+pub mod StoredLemmas
 pub mod TogetherLemmas
 pub mod TurnLemmas
 pub mod ViewedPacketLemmas

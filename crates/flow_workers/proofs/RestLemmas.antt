@@ -19,9 +19,10 @@ use Rattle.packet_dealing.specs.declared.dealt_chunk.DealtChunk.{DealtChunk}
 use Rattle.flow_workers.specs.declared.setup.Setup.{Setup}
 use Rattle.flow_workers.specs.declared.share.Batch.{Batch}
 use Rattle.flow_workers.specs.declared.share.Share.{Share}
+use Rattle.flow_workers.specs.declared.tables.Callers.{Callers}
 use Rattle.flow_workers.specs.Callers.{AreIdle, views_of}
 use Rattle.flow_workers.specs.declared.workers.Workers.{Workers}
-use Rattle.flow_workers.specs.Progress.{AreAtRest, HaveAllSaid, HaveSaid, IsAtRest, IsAtRestAfter}
+use Rattle.flow_workers.specs.Progress.{AreAtRest, HaveAllSaid, HaveEnded, IsAtRest, IsAtRestAfter}
 use Rattle.flow_workers.specs.inner.Jobs.{HasDoneAfter, HasWorked, StandAmong, dealer_of, run_facts}
 use Rattle.flow_workers.specs.inner.Shares.{IsUnused, workers_in}
 use Rattle.flow_workers.specs.inner.Together.{HaveNoted, HaveJudgedBatch}
@@ -207,7 +208,7 @@ judged_alike d packets verdicts times times' policy policy' timed ruled said =
 
 -- what workers of a setup said
 pub said_by : {A B R G K L : Type 0} (ga : Ghosts A K) (gb : Ghosts B L) (all : Workers A B R G K L ga gb)
-    (setup : Setup A B R G K L) (packets : List PacketFacts) (verdicts : List Verdict) → all.setup ≡ setup
-    → AreAtRest packets all → HaveSaid all verdicts → HaveAllSaid ga gb setup packets verdicts
-said_by ga gb all setup packets verdicts by rest said =
-    subst (λ s. HaveAllSaid ga gb s packets verdicts) by (said packets rest)
+    (setup : Setup A B R G K L) (packets : List PacketFacts) (verdicts : List Verdict) (callers : Callers A B K L ga gb)
+    → all.setup ≡ setup → AreAtRest packets all → HaveEnded all verdicts callers → HaveAllSaid ga gb setup packets verdicts
+said_by ga gb all setup packets verdicts callers by rest ended =
+    subst (λ s. HaveAllSaid ga gb s packets verdicts) by (ended.said packets rest).0

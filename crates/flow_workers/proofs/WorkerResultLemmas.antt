@@ -17,7 +17,7 @@ use Rattle.bihash_steps.specs.Views.{nothing_held}
 use Rattle.bihash_steps.specs.declared.row.Caller.{Caller}
 use Rattle.bihash_steps.proofs.Lists.{within}
 use Rattle.flow_filter.specs.declared.verdict.Verdict.{Verdict}
-use Rattle.flow_dealing.specs.WorkerRecords.{AreJudged}
+use Rattle.flow_dealing.specs.WorkerRecords.{AreJudgedBy}
 use Rattle.flow_dealing.specs.Traces.{AreGathered, ArePlaced, HaveTraces, IsTrace, Item}
 use Rattle.flow_dealing.specs.Views.{Views, view_in}
 use Rattle.flow_dealing.proofs.TraceMerges.{judge_each_packet}
@@ -159,7 +159,7 @@ module _ {A B K L : Type 0} (ga : Ghosts A K) (gb : Ghosts B L) (tables : Tables
       → IsToldWhole run.deal.layout.four v.four × IsToldWhole run.deal.layout.six v.six
       → HaveTraces run.deal.layout.four run.times V4 p.traces v.four → HaveTraces run.deal.layout.six run.times V6 p.traces v.six
       → (verdicts : List Verdict) → ArePlaced run.times run.packets p.traces verdicts
-      → AreJudged run.deal run.times run.policy run.packets verdicts
+      → AreJudgedBy run.deal run.times run.policy run.packets verdicts v
   run_judged results p some_worker v lawful told four six verdicts placed =
       judge_each_packet run.deal run.times run.policy run.packets p.traces v verdicts some_worker p.traced
       (gathered p.traces v lawful told four six) placed

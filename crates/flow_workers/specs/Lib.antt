@@ -4,5 +4,6 @@ pub mod Judging
 pub mod OutOfPages
 pub mod Progress
 pub mod Renewals
+pub mod Stored
 pub mod Verdicts
 pub mod inner

@@ -6,14 +6,15 @@ use Rattle.packet_view.specs.declared.packets.Packets.{Packets}
 use Rattle.bihash_words.specs.declared.shape.Shape.{Ghosts}
 use Rattle.flow_filter.specs.OneThread.{layout_of}
 use Rattle.flow_filter.specs.declared.verdict.Verdict.{Verdict}
-use Rattle.flow_dealing.specs.WorkerRecords.{AreJudged}
+use Rattle.flow_dealing.specs.Dealings.{Deal}
+use Rattle.flow_dealing.specs.WorkerRecords.{AreJudged, AreJudgedBy}
 use Rattle.flow_dealing.specs.Views.{Views}
 use Rattle.packet_dealing.specs.Dealt.{AreWorkers}
 use Rattle.flow_workers.specs.declared.setup.Setup.{Setup}
 use Rattle.flow_workers.specs.declared.share.Share.{Share}
 use Rattle.flow_workers.specs.declared.tables.Callers.{Callers}
 use Rattle.flow_workers.specs.declared.workers.Workers.{Workers}
-use Rattle.flow_workers.specs.Callers.{AreIdle, AreShapes}
+use Rattle.flow_workers.specs.Callers.{AreIdle, AreShapes, views_of}
 use Rattle.flow_workers.specs.inner.Fresh.{IsFreshView}
 use Rattle.flow_workers.specs.inner.Jobs.{HasDoneAfter, dealer_of, policy_of}
 use Rattle.flow_workers.specs.inner.Shares.{AreFresh}
@@ -85,18 +86,23 @@ pub record HaveJudged {A B R G K L : Type 0} {ga : Ghosts A K} {gb : Ghosts B L}
 abbrev pub CanEnd : {A B R G K L : Type 0} {ga : Ghosts A K} {gb : Ghosts B L} → Workers A B R G K L ga gb → Type 0
 CanEnd all = (packets : List PacketFacts) × AreAtRest packets all
 
+-- what packets are dealt by, to workers of this setup
+abbrev pub deal_in : {A B R G K L : Type 0} (ga : Ghosts A K) (gb : Ghosts B L) → Setup A B R G K L → Deal
+deal_in ga gb setup = record { layout = layout_of ga gb; dealing = setup.dealing; workers = setup.workers }
+
 -- these are the verdicts on these packets, by workers of this setup
 abbrev pub HaveAllSaid : {A B R G K L : Type 0} (ga : Ghosts A K) (gb : Ghosts B L) → Setup A B R G K L → List PacketFacts
     → List Verdict → Type 0
-HaveAllSaid ga gb setup packets verdicts = AreJudged
-    (record { layout = layout_of ga gb; dealing = setup.dealing; workers = setup.workers })
-    setup.filter.now.times (policy_of setup) packets verdicts
+HaveAllSaid ga gb setup packets verdicts =
+    AreJudged (deal_in ga gb setup) setup.filter.now.times (policy_of setup) packets verdicts
 
--- these are the verdicts on the packets that they judged
-abbrev pub HaveSaid : {A B R G K L : Type 0} {ga : Ghosts A K} {gb : Ghosts B L} → Workers A B R G K L ga gb
-    → List Verdict → Type 0
-HaveSaid {ga = ga} {gb = gb} all verdicts = (packets : List PacketFacts) → AreAtRest packets all
-    → HaveAllSaid ga gb all.setup packets verdicts
+-- These are the verdicts on the packets that they judged, and callers that are all of theirs, joined: they hold nothing, and
+-- know what the workers knew.
+pub record HaveEnded {A B R G K L : Type 0} {ga : Ghosts A K} {gb : Ghosts B L} (all : Workers A B R G K L ga gb)
+    (verdicts : List Verdict) (callers : Callers A B K L ga gb) : Type 0 where
+  pub idle : AreIdle ga gb all.setup.tables.now callers
+  pub said : (packets : List PacketFacts) → AreAtRest packets all → AreJudgedBy (deal_in ga gb all.setup)
+      all.setup.filter.now.times (policy_of all.setup) packets verdicts (views_of ga gb callers)
 
 -- ---- One worker that keeps no verdict
 

@@ -71,7 +71,7 @@ pub fn join_whole<S: Shape, R: Wait>(
     callers: Vec<Caller<S>>,
 ) -> Caller<S>
     requires { MayJoin table.now callers.items }
-    ensures { AreJoinedWhole (sizes_of S.Shape) callers.items result.seat }
+    ensures { AreJoinedWhole (sizes_of S.Shape) table.now callers.items result.seat }
 {
     let mut joined = join_all(table, callers);
     wait_until_lone(rt, table, &mut joined);

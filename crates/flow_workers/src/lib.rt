@@ -3,6 +3,7 @@
 
 mod batches;
 mod caller_split;
+mod closing;
 mod gate;
 mod judging;
 mod lone_worker;
@@ -23,6 +24,7 @@ mod work;
 mod worker_results;
 mod workers;
 
+pub use closing::close_tables;
 pub use flow_dealing::Dealing;
 pub use flow_filter::{Filter, Verdict};
 pub use gate::Gate;

@@ -44,7 +44,10 @@ where
 {
     match Workers::new(alloc, setup, callers) {
         Ok(begun) => match begun.judge(alloc, packets) {
-            Ok(judged) => judged.end(alloc),
+            Ok(judged) => match judged.end(alloc) {
+                Ok((verdicts, _)) => Ok(verdicts),
+                Err(fault) => Err(fault),
+            },
             Err(fault) => Err(fault),
         },
         Err(fault) => Err(fault),

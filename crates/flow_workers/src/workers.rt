@@ -66,7 +66,7 @@ pub struct Workers<'t, 'f, A: Shape, B: Shape, R: Wait, G: Gate> {
 
 impl<'t, 'f, A: Shape, B: Shape, R: Wait, G: Gate> Workers<'t, 'f, A, B, R, G> {
     ghost use Rattle.std.specs.Prelude.{IfOk};
-    ghost use Rattle.flow_workers.specs.Progress.{AreBegun, CanEnd, HaveSaid, MayBegin};
+    ghost use Rattle.flow_workers.specs.Progress.{AreBegun, CanEnd, HaveEnded, MayBegin};
 
     /// Workers that judged no packet. The callers are of the setup's tables, and made no call. `Memory`: memory was
     /// refused.
@@ -87,10 +87,10 @@ impl<'t, 'f, A: Shape, B: Shape, R: Wait, G: Gate> Workers<'t, 'f, A, B, R, G> {
         })
     }
 
-    /// The verdicts on all packets, in their order. `Memory`: memory was refused.
-    pub fn end(self, alloc: Global) -> Result<Vec<Verdict>, RunFault>
+    /// The verdicts on all packets, in their order, and all callers of each table as one. `Memory`: memory was refused.
+    pub fn end(self, alloc: Global) -> Result<(Vec<Verdict>, Callers<A, B>), RunFault>
         requires { CanEnd self }
-        ensures { IfOk result (λ v. HaveSaid self.entry v.items) }
+        ensures { IfOk result (λ r. HaveEnded self.entry r.0.items r.1) }
     {
         let Workers {
             setup,
@@ -99,9 +99,12 @@ impl<'t, 'f, A: Shape, B: Shape, R: Wait, G: Gate> Workers<'t, 'f, A, B, R, G> {
             count,
         } = self;
         let WorkerResults { four, six, said } = results_of(alloc, shares)?;
-        join_whole(setup.rt, &setup.tables.four, four);
-        join_whole(setup.rt, &setup.tables.six, six);
-        Ok(merge_verdicts(alloc, said, judges.as_slice(), count)?)
+        let callers = Callers {
+            four: join_whole(setup.rt, &setup.tables.four, four),
+            six: join_whole(setup.rt, &setup.tables.six, six),
+        };
+        let verdicts = merge_verdicts(alloc, said, judges.as_slice(), count)?;
+        Ok((verdicts, callers))
     }
 }
 

@@ -4,7 +4,8 @@ ghost use Rattle.std.specs.Prelude.{◌≤◌, ◌+◌, length};
 use super::tables::{NAMES, answer, filter_of, request};
 use bihash_words::{ShapeV4, ShapeV6, flow_shapes_are_sound};
 use flow_workers::{
-    Dealing, Filter, Gate, RunFault, Setup, Verdict, Workers, create_tables, run_workers,
+    Dealing, Filter, Gate, RunFault, Setup, Verdict, Workers, close_tables, create_tables,
+    run_workers,
 };
 use packet_view::{Packet, Packets};
 use std::alloc::{AllocError, Global};
@@ -119,7 +120,11 @@ fn verdicts<'a, R: Threads + Wait + Sync, G: Gate + Sync>(
     }
 }
 
-// The verdicts of two workers on two parts, one after the other.
+/// Pairs of a table of IPv4 flows.
+type Pairs = Vec<([u64; 2], u64)>;
+
+// The verdicts of two workers on two parts, one after the other; then the pairs of the table of IPv4 flows, and how many the
+// other one has.
 fn verdicts_on_parts<R: Threads + Wait + Sync, G: Gate + Sync>(
     rt: &R,
     alloc: Global,
@@ -127,7 +132,7 @@ fn verdicts_on_parts<R: Threads + Wait + Sync, G: Gate + Sync>(
     gate: &G,
     first: &[Packet<'_>],
     second: &[Packet<'_>],
-) -> Result<Vec<Verdict>, RunFault>
+) -> Result<(Vec<Verdict>, Pairs, usize), RunFault>
     requires few { length first.now + length second.now ≤ 4 }
 {
     flow_shapes_are_sound();
@@ -154,7 +159,13 @@ fn verdicts_on_parts<R: Threads + Wait + Sync, G: Gate + Sync>(
     let Ok(twice) = once.judge(alloc, Packets::Slice(second)) else {
         return Err(RunFault::Memory);
     };
-    twice.end(alloc)
+    let Ok((verdicts, callers)) = twice.end(alloc) else {
+        return Err(RunFault::Memory);
+    };
+    let Ok((four, six)) = close_tables(rt, alloc, tables, callers) else {
+        return Err(RunFault::Memory);
+    };
+    Ok((verdicts, four, six.len()))
 }
 
 // Worker 1 sees the answer before worker 0 sees the request.
@@ -219,7 +230,8 @@ fn both_before(rt: HostRuntime) -> Result<(), Fail> {
     Ok(())
 }
 
-// A part's packets have the numbers after those of the part before, and sessions last from part to part.
+// A part's packets have the numbers after those of the part before, and sessions last from part to part. Both sessions stand
+// in the table at the end, with the second of their last packet; the lesser end is 10.0.0.1, whose port is 1000.
 #[test]
 fn packets_of_parts_are_numbered_on(rt: HostRuntime) -> Result<(), Fail> {
     let alloc = rt.alloc();
@@ -253,7 +265,7 @@ fn packets_of_parts_are_numbered_on(rt: HostRuntime) -> Result<(), Fail> {
         before: AtomicU64::new(0),
         after: AtomicU64::new(0),
     };
-    let found = verdicts_on_parts(&rt, alloc, &filter, &gate, &first, &second)?;
+    let (found, four, others) = verdicts_on_parts(&rt, alloc, &filter, &gate, &first, &second)?;
     let wanted = [
         Verdict::Reflect(1),
         Verdict::ByDefault,
@@ -261,6 +273,12 @@ fn packets_of_parts_are_numbered_on(rt: HostRuntime) -> Result<(), Fail> {
         Verdict::Reflect(1),
     ];
     assert_eq!(rt; found.as_slice(), wanted.as_slice());
+    let sessions = [
+        ([0x0a00_0001_0a00_0002, 0x03e8_0035_1100_0000], 101),
+        ([0x0a00_0001_0a00_0003, 0x03e8_0035_1100_0000], 101),
+    ];
+    assert_eq!(rt; four.as_slice(), sessions.as_slice());
+    assert_eq!(rt; others, 0);
     assert_eq!(rt; gate.before.load(Ordering::SeqCst), 0x0101_0101);
     assert_eq!(rt; gate.after.load(Ordering::SeqCst), 0x0101_0101);
     Ok(())

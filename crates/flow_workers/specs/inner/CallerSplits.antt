@@ -58,15 +58,18 @@ HasTracesOf callers v = (of : Sizes) (times : Timeouts) (family : Family) (trace
     → AllZip (λ trace c. HaveTraces of times family (trace ∷ []) c.seat.view) traces callers
     → HaveTraces of times family traces v
 
--- the caller t has them
+-- the caller t of this table has them, and holds nothing
 pub record AreJoined {A K : Type 0} {g : Ghosts A K} (table : Sessions A K) (callers : List (Caller A K g))
     (t : CallerState) : Type 0 where
   pub own : t.row ≡ table.row
+  pub free : t.view.holds ≡ nothing_held
   pub traces : HasTracesOf callers t.view
 
--- the caller t has them, and made each write that it knows
-pub record AreJoinedWhole {A K : Type 0} {g : Ghosts A K} (z : Sizes) (callers : List (Caller A K g))
+-- so it does, and it made each write that it knows
+pub record AreJoinedWhole {A K : Type 0} {g : Ghosts A K} (z : Sizes) (table : Sessions A K) (callers : List (Caller A K g))
     (t : CallerState) : Type 0 where
+  pub own : t.row ≡ table.row
+  pub free : t.view.holds ≡ nothing_held
   pub lawful : IsLawfulCaller z t.view
   pub whole : IsToldWhole z t.view
   pub traces : HasTracesOf callers t.view

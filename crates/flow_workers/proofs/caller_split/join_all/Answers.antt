@@ -74,6 +74,7 @@ returns g c =
     grind (arith, c.in_default-pop.ensures.items, c.in_default-pop.ensures.cases) in
     record {
       own = c.loop-caller.invariant.own;
+      free = c.loop-caller.invariant.free;
       traces = λ z times family traces each.
           let old = c.loop-caller.invariant.traces z times family traces each in
           subst (λ ts. HaveTraces z times family ts c.loop-caller.joined.seat.view)

@@ -1,8 +1,11 @@
+use Rattle.std.proofs.Common.{◌∙◌}
 use Rattle.flow_workers.proofs.CallerSplitLemmas.{same_traces}
 use Rattle.flow_workers.proofs.caller_split.join_whole.Goals as goal
 
 pub returns : goal.returns
 returns g c = record {
+  own = c.wait_until_lone.ensures.own ∙ c.join_all-joined.ensures.own;
+  free = c.wait_until_lone.ensures.holds ∙ c.join_all-joined.ensures.free;
   lawful = c.wait_until_lone.ensures.lawful;
   whole = c.wait_until_lone.ensures.whole;
   traces = λ z times family traces each.

@@ -39,16 +39,23 @@ merge_verdicts-requires g c =
     )
 
 pub returns : goal.returns
-returns g c = λ packets rest.
-    let p =
-    results_are g.A.Shape g.B.Shape c.args.self.setup packets c.args.self.shares.items rest.shares rest.each
-    c.in_ok-four.field-0 c.in_ok-four.ensures in
-    run_judged g.A.Shape g.B.Shape _ _ c.in_ok-four.field-0 p rest.sound.some
-    (record { four = c.join_whole.result.seat.view; six = c.join_whole-2.result.seat.view })
-    (c.join_whole.ensures.lawful, c.join_whole-2.ensures.lawful)
-    (c.join_whole.ensures.whole, c.join_whole-2.ensures.whole)
-    (c.join_whole.ensures.traces _ _ V4 p.traces p.four) (c.join_whole-2.ensures.traces _ _ V6 p.traces p.six)
-    c.in_ok-merge_verdicts.field-0.items
-    (c.in_ok-merge_verdicts.ensures _ p.traces (subst (AreAllSaid _ _ _) (sym c.as_slice.ensures.value)
-    (all_said g.A.Shape g.B.Shape _ _ c.args.self.judges.items c.in_ok-four.field-0 p rest.sound.some rest.sound.few
-    refl (rest.noted.count, rest.noted.workers))))
+returns g c = record {
+  idle = record {
+    own = (c.join_whole.ensures.own, c.join_whole-2.ensures.own);
+    free = (c.join_whole.ensures.free, c.join_whole-2.ensures.free);
+    lawful = (c.join_whole.ensures.lawful, c.join_whole-2.ensures.lawful);
+  };
+  said = λ packets rest.
+      let p =
+      results_are g.A.Shape g.B.Shape c.args.self.setup packets c.args.self.shares.items rest.shares rest.each
+      c.in_ok-four.field-0 c.in_ok-four.ensures in
+      run_judged g.A.Shape g.B.Shape _ _ c.in_ok-four.field-0 p rest.sound.some
+      (record { four = c.join_whole.result.seat.view; six = c.join_whole-2.result.seat.view })
+      (c.join_whole.ensures.lawful, c.join_whole-2.ensures.lawful)
+      (c.join_whole.ensures.whole, c.join_whole-2.ensures.whole)
+      (c.join_whole.ensures.traces _ _ V4 p.traces p.four) (c.join_whole-2.ensures.traces _ _ V6 p.traces p.six)
+      c.in_ok-verdicts.verdicts.items
+      (c.in_ok-verdicts.ensures _ p.traces (subst (AreAllSaid _ _ _) (sym c.as_slice.ensures.value)
+      (all_said g.A.Shape g.B.Shape _ _ c.args.self.judges.items c.in_ok-four.field-0 p rest.sound.some rest.sound.few
+      refl (rest.noted.count, rest.noted.workers))));
+}

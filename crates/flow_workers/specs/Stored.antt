@@ -1,0 +1,23 @@
+-- The pairs of a table whose keys are lists of words, whatever its shape.
+use Rattle.std.specs.Prelude.{◌≡◌, ◌<◌, ℕ, List, Contains, Some, map}
+use Rattle.std.specs.FinMap.{get}
+use Rattle.std.specs.Ordering.{nat_cmp}
+use Rattle.std.specs.Cmp.Lexicographic.{slice_cmp}
+use Rattle.std.specs.List.Sorted.{IsStrictlySortedBy}
+use Rattle.bihash_words.specs.Sizes.{Sizes, bucket_of}
+use Rattle.bihash_steps.specs.Words.{buckets}
+use Rattle.bihash_steps.specs.declared.view.Known.{Known}
+use Rattle.bihash_table.specs.Closing.{map_in}
+
+-- the first part of each pair
+abbrev pub keys_in : List (List ℕ × ℕ) → List (List ℕ)
+keys_in pairs = map (λ (p : List ℕ × ℕ). p.0) pairs
+
+-- All pairs of the maps that the buckets of a table of these sizes hold behind their known writes, and no others, in the
+-- order of their keys, first word first.
+pub record AreStored (z : Sizes) (known : Known) (pairs : List (List ℕ × ℕ)) : Type 0 where
+  pub ascending : IsStrictlySortedBy (slice_cmp nat_cmp) (keys_in pairs)
+  pub stored : (key : List ℕ) (value : ℕ) → Contains pairs (key, value)
+      → get (map_in known (bucket_of z key)) key ≡ Some value
+  pub all : (b : ℕ) (key : List ℕ) (value : ℕ) → b < buckets z → get (map_in known b) key ≡ Some value
+      → Contains pairs (key, value)
