@@ -1,5 +1,5 @@
 -- One worker that keeps no verdict, from one batch to the next.
-use Rattle.std.proofs.Common.{◌≡◌, ◌∙◌, ◌+◌, ◌<◌, ℕ, zero, suc, List, [], ◌∷◌, ◌++◌, ap, append-nil, arith, get_or, length, length-append, refl, subst, sym}
+use Rattle.std.proofs.Common.{◌≡◌, ◌∙◌, ◌+◌, ◌<◌, ℕ, zero, suc, List, [], ◌∷◌, ◌++◌, ap, append-nil, arith, get_or, length, length-append, refl, slice_set, subst, sym}
 use Rattle.std.specs.Global.{Vec}
 use Rattle.std.specs.List.{All}
 use lib.ListN.{get_elem?}
@@ -112,21 +112,22 @@ module _ {A B R G K L : Type 0} (ga : Ghosts A K) (gb : Ghosts B L) (setup : Set
 
 -- ---- The only worker
 
-nothing_before : {X : Type 0} (xs ys : List X) (x : X) → xs ≡ ys ++ x ∷ [] → length xs ≡ 1 → ys ≡ []
-nothing_before xs [] x is one = refl
-nothing_before xs (y ∷ ys) x is one = let count = ap length is in let more = length-append ys (x ∷ []) in absurd (omega arith)
+pub only_here : {X : Type 0} (xs : List X) (x d : X) → length xs ≡ 1 → get_or xs 0 d ≡ x → xs ≡ x ∷ []
+only_here [] x d one at = absurd (omega arith)
+only_here (y ∷ []) x d one at = ap (λ z. z ∷ []) at
+only_here (y ∷ z ∷ xs) x d one at = absurd (omega arith)
+
+pub only_set : {X : Type 0} (xs ys : List X) (x y : X) → xs ≡ x ∷ [] → ys ≡ slice_set xs 0 y → ys ≡ y ∷ []
+only_set xs ys x y only set = set ∙ ap (λ zs. slice_set zs 0 y) only
 
 module _ {A B R G K L : Type 0} (ga : Ghosts A K) (gb : Ghosts B L) (old : Workers A B R G K L ga gb)
     (batch : Batch A B R G K L) (same : batch.setup ≡ old.setup) (first : batch.first ≡ old.count) where
-  module _ (shares behind : List (Share A B K L ga gb)) (judged : Share A B K L ga gb)
-      (worked : HaveWorked batch old.shares.items shares) (last : shares ≡ behind ++ judged ∷ []) where
+  module _ (shares : List (Share A B K L ga gb)) (judged : Share A B K L ga gb)
+      (worked : HaveWorked batch old.shares.items shares) (one : shares ≡ judged ∷ []) where
     -- its share after the batch
     pub alone_rest : (packets : List PacketFacts) (said : List Verdict) → IsAlone packets said old
         → IsAtRestAfter ga gb said old.setup (packets ++ remaining batch.packets) 0 judged
     alone_rest packets said alone =
-        let many : length shares ≡ 1 = worked.count ∙ ap length alone.only in
-        let one : shares ≡ judged ∷ [] =
-        last ∙ ap (λ ss. ss ++ judged ∷ []) (nothing_before shares behind judged last many) in
         rest_judged ga gb old.setup said packets batch 0 alone.share judged same (first ∙ alone.count) alone.rest
         (subst (λ ss. HasWorked ga gb batch 0 alone.share (get_or ss 0 judged)) one
         (subst (λ ss. HasWorked ga gb batch 0 (get_or ss 0 alone.share) (get_or shares 0 judged)) alone.only
@@ -134,19 +135,18 @@ module _ {A B R G K L : Type 0} (ga : Ghosts A K) (gb : Ghosts B L) (old : Worke
 
     -- what it said is let go
     pub alone_on : (kept : Share A B K L ga gb) (verdicts : List Verdict) (left : Vec (Share A B K L ga gb)) (judges : Vec ℕ)
-        (count : ℕ) → HasLetGo ga gb old.setup.tables.now judged kept verdicts → left.items ≡ behind ++ kept ∷ []
+        (count : ℕ) → HasLetGo ga gb old.setup.tables.now judged kept verdicts → left.items ≡ kept ∷ []
         → count ≡ old.count + length (remaining batch.packets)
         → HasGoneOn old batch.packets (record { setup = old.setup; shares = left; judges = judges; count = count }) verdicts
-    alone_on kept verdicts left judges count gone pushed counted = record {
+    alone_on kept verdicts left judges count gone set counted = record {
       by = refl;
       alone = λ packets said alone.
-          let many : length shares ≡ 1 = worked.count ∙ ap length alone.only in
           record {
             sound = alone.sound;
             one = alone.one;
             count = let e = alone.count in let n = length-append packets (remaining batch.packets) in omega arith;
             share = kept;
-            only = pushed ∙ ap (λ ss. ss ++ kept ∷ []) (nothing_before shares behind judged last many);
+            only = set;
             rest = rest_let_go ga gb old.setup (packets ++ remaining batch.packets) said judged kept verdicts
                 (alone_rest packets said alone) gone;
           };

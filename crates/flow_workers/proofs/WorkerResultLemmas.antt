@@ -1,6 +1,5 @@
 -- The workers' shares, taken apart.
 use Rattle.std.proofs.Common.{◌≡◌, ◌≤◌, ◌∙◌, ◌+◌, ◌<◌, ℕ, zero, suc, List, [], ◌∷◌, ◌++◌, append-nil, get_or, length, map, ap, arith, refl, sym, subst}
-use Rattle.std.specs.Global.{Vec}
 use Rattle.std.specs.List.{All, AllZip}
 use Rattle.std.proofs.lemmas.List.{map-append}
 use Rattle.std.proofs.Math.Seq.{drop-length}
@@ -14,7 +13,6 @@ use Rattle.bihash_words.specs.declared.shape.Shape.{Ghosts}
 use Rattle.bihash_steps.specs.Callers.{IsLawfulCaller}
 use Rattle.bihash_steps.specs.Steps.{IsToldWhole}
 use Rattle.bihash_steps.specs.Views.{nothing_held}
-use Rattle.bihash_steps.specs.declared.row.Caller.{Caller}
 use Rattle.bihash_steps.proofs.Lists.{within}
 use Rattle.flow_filter.specs.declared.verdict.Verdict.{Verdict}
 use Rattle.flow_dealing.specs.WorkerRecords.{AreJudgedBy}
@@ -33,24 +31,19 @@ use Rattle.flow_workers.specs.declared.setup.Setup.{Setup}
 use Rattle.flow_workers.specs.Callers.{AreIdle, views_of}
 use Rattle.flow_workers.specs.Progress.{IsAtRest, IsAtRestAfter}
 use Rattle.flow_workers.specs.inner.Jobs.{run_facts}
-use Rattle.flow_workers.specs.inner.WorkerResults.{AreResults, AreResultsOf}
+use Rattle.flow_workers.specs.inner.WorkerResults.{AreResults, AreResultsOf, HasAdded}
 use Rattle.flow_workers.specs.inner.Work.{AreSaid, IsWork, IsWorkUntil, RunFacts}
 use Rattle.flow_workers.proofs.TurnLemmas.{fresh_trace}
 use Rattle.flow_workers.proofs.WorkSteps.{whole_work}
 
 module _ {A B K L : Type 0} (ga : Ghosts A K) (gb : Ghosts B L) where
-  pub no_results : AreResultsOf ga gb [] [] [] []
-  no_results = record { four = refl; six = refl; said = refl }
-
-  pub results_push : (shares : List (Share A B K L ga gb)) (share : Share A B K L ga gb) (fours fours' : List (Caller A K ga))
-      (sixes sixes' : List (Caller B L gb)) (saids saids' : List (Vec Verdict))
-      → fours' ≡ fours ++ share.callers.four ∷ [] → sixes' ≡ sixes ++ share.callers.six ∷ []
-      → saids' ≡ saids ++ share.said ∷ []
-      → AreResultsOf ga gb shares fours sixes saids → AreResultsOf ga gb (shares ++ share ∷ []) fours' sixes' saids'
-  results_push shares share fours fours' sixes sixes' saids saids' four six said old = record {
-    four = four ∙ (ap (λ cs. cs ++ share.callers.four ∷ []) old.four ∙ sym (map-append _ shares (share ∷ [])));
-    six = six ∙ (ap (λ cs. cs ++ share.callers.six ∷ []) old.six ∙ sym (map-append _ shares (share ∷ [])));
-    said = said ∙ (ap (λ ss. ss ++ share.said ∷ []) old.said ∙ sym (map-append _ shares (share ∷ [])));
+  pub results_push : (share : Share A B K L ga gb) (old new : WorkerResults A B K L ga gb)
+      → new.four.items ≡ old.four.items ++ share.callers.four ∷ [] → new.six.items ≡ old.six.items ++ share.callers.six ∷ []
+      → new.said.items ≡ old.said.items ++ share.said ∷ [] → HasAdded share old new
+  results_push share old new four six said shares are = record {
+    four = four ∙ (ap (λ cs. cs ++ share.callers.four ∷ []) are.four ∙ sym (map-append _ shares (share ∷ [])));
+    six = six ∙ (ap (λ cs. cs ++ share.callers.six ∷ []) are.six ∙ sym (map-append _ shares (share ∷ [])));
+    said = said ∙ (ap (λ ss. ss ++ share.said ∷ []) are.said ∙ sym (map-append _ shares (share ∷ [])));
   }
 
 -- ---- What all workers did
@@ -195,7 +188,7 @@ module _ {A B R G K L : Type 0} (ga : Ghosts A K) (gb : Ghosts B L) (setup : Set
     (packets : List PacketFacts) where
   pub results_are : (shares : List (Share A B K L ga gb)) → length shares ≡ setup.workers
       → ((i : ℕ) (d : Share A B K L ga gb) → i < setup.workers → IsAtRest ga gb setup packets i (get_or shares i d))
-      → (results : WorkerResults A B K L ga gb) → AreResultsOf ga gb shares results.four.items results.six.items results.said.items
+      → (results : WorkerResults A B K L ga gb) → AreResultsOf shares results
       → AreResults ga gb setup.tables.now (run_facts ga gb setup packets) results
   results_are shares count each results of = record {
     traces = all.traces;

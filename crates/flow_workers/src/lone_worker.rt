@@ -6,35 +6,29 @@ use crate::caller_split::wait_until_lone;
 use crate::gate::Gate;
 use crate::run_fault::RunFault;
 use crate::share::{Batch, Share};
-use crate::tables::{Callers, Tables};
+use crate::tables::Tables;
 use crate::together::judge_together;
 use crate::workers::Workers;
 use bihash_words::Shape;
 use flow_filter::Verdict;
 use packet_view::Packets;
 use std::alloc::Global;
+use std::mem::replace;
 use std::sync::Wait;
 
-// The share without what its worker said, which is answered too. The worker waits until it has every number that was made.
+// What its worker said, which is in the share no longer. The worker waits until it has every number that was made.
 fn let_go<A: Shape, B: Shape, R: Wait>(
     rt: &R,
     alloc: Global,
     tables: &Tables<A, B>,
-    share: Share<A, B>,
-) -> (Share<A, B>, Vec<Verdict>)
-    requires { AreIdle ⟦<A as Shape>⟧ ⟦<B as Shape>⟧ tables.now share.callers }
-    ensures { HasLetGo ⟦<A as Shape>⟧ ⟦<B as Shape>⟧ tables.now share result.0 result.1.items }
+    share: &mut Share<A, B>,
+) -> Vec<Verdict>
+    requires { AreIdle ⟦<A as Shape>⟧ ⟦<B as Shape>⟧ tables.now share.old.callers }
+    ensures { HasLetGo ⟦<A as Shape>⟧ ⟦<B as Shape>⟧ tables.now share.old share.new result.items }
 {
-    let Share { callers, said } = share;
-    let Callers { mut four, mut six } = callers;
-    wait_until_lone(rt, &tables.four, &mut four);
-    wait_until_lone(rt, &tables.six, &mut six);
-    let callers = Callers { four, six };
-    let kept = Share {
-        callers,
-        said: Vec::new(alloc),
-    };
-    (kept, said)
+    wait_until_lone(rt, &tables.four, &mut share.callers.four);
+    wait_until_lone(rt, &tables.six, &mut share.callers.six);
+    replace(&mut share.said, Vec::new(alloc))
 }
 
 impl<'t, 'f, A: Shape, B: Shape, R: Wait, G: Gate> Workers<'t, 'f, A, B, R, G> {
@@ -65,13 +59,7 @@ impl<'t, 'f, A: Shape, B: Shape, R: Wait, G: Gate> Workers<'t, 'f, A, B, R, G> {
         } = self;
         judges.clear();
         let mut shares = judge_together(batch, shares, &mut judges)?;
-        let Some(share) = shares.pop() else {
-            unreachable!()
-        };
-        let (share, said) = let_go(setup.rt, alloc, setup.tables, share);
-        let Ok(()) = shares.push(share) else {
-            return Err(RunFault::Memory);
-        };
+        let said = let_go(setup.rt, alloc, setup.tables, &mut shares[0]);
         let workers = Workers {
             setup,
             shares,

@@ -22,7 +22,7 @@ fn turns_of<'t, 'f, 'a, A: Shape, B: Shape, R: Wait, G: Gate>(
 ) -> Result<Vec<Turn<'t, 'f, 'a, A, B, R, G>>, AllocError>
     ensures { IfOk result (λ v. AreTurns batch.entry dealt.entry shares.items v.items) }
 {
-    let mut turns = Vec::with_capacity(alloc, shares.len())?;
+    let mut turns = Vec::new(alloc);
     let mut worker = 0;
     for share in shares {
         turns.push(Turn::Ahead(Job {
@@ -50,6 +50,19 @@ fn turns_ahead<'t, 'f, 'a, A: Shape, B: Shape, R: Wait, G: Gate>(
     turns_of(alloc, batch, dealt, shares)
 }
 
+// The share after a turn, where that was refused no memory.
+fn share_of<'t, 'f, 'a, A: Shape, B: Shape, R: Wait, G: Gate>(
+    turn: Turn<'t, 'f, 'a, A, B, R, G>,
+) -> Result<Share<A, B>, AllocError>
+    requires { IsTurnPast ⟦<A as Shape>⟧ ⟦<B as Shape>⟧ turn }
+    ensures { IfOk result (λ share. turn.entry ≡ Over (Ok share)) }
+{
+    let Turn::Over(done) = turn else {
+        unreachable!()
+    };
+    done
+}
+
 // The shares after all turns, where none of them was refused memory.
 fn shares_over<'t, 'f, 'a, A: Shape, B: Shape, R: Wait, G: Gate>(
     alloc: Global,
@@ -58,12 +71,10 @@ fn shares_over<'t, 'f, 'a, A: Shape, B: Shape, R: Wait, G: Gate>(
     requires { All (IsTurnPast ⟦<A as Shape>⟧ ⟦<B as Shape>⟧) turns.items }
     ensures { IfOk result (λ v. turns.entry.items ≡ map (λ share. Over (Ok share)) v.items) }
 {
-    let mut shares = Vec::with_capacity(alloc, turns.len())?;
+    let mut shares = Vec::new(alloc);
     for turn in turns {
-        let Turn::Over(done) = turn else {
-            unreachable!()
-        };
-        shares.push(done?)?;
+        let share = share_of(turn)?;
+        shares.push(share)?;
     }
     Ok(shares)
 }

@@ -1,11 +1,11 @@
 //! One worker: each packet that is dealt to it is judged, in the order of the file.
 ghost use Rattle.std.specs.Prelude.{◌≡◌, ◌≢◌, ◌+◌, ◌<◌, ◌++◌, ◌∷◌, [], false, IfOk, length};
 ghost use Rattle.packet_view.specs.Captures.{packet_facts};
-ghost use Rattle.flow_workers.specs.inner.Jobs.{CanWork, HasWorkedOn, IsShareOf, MayJudgePacket, MayJudgeChunk, MayJudgeViewed};
+ghost use Rattle.flow_workers.specs.inner.Jobs.{CanWork, HasWorked, HasWorkedOn, IsShareOf, MayJudgePacket, MayJudgeChunk, MayJudgeViewed};
 
 use crate::gate::Gate;
 use crate::judging::judge_viewed;
-use crate::share::{Batch, Job, Share};
+use crate::share::{Batch, Dealt, Job, Share};
 use crate::viewed_packet::ViewedPacket;
 use bihash_words::Shape;
 use flow_filter::InterfaceFilter;
@@ -98,6 +98,26 @@ fn judge_chunk<'a, A: Shape, B: Shape, R: Wait, G: Gate>(
     Ok(())
 }
 
+// Judges the packets of a worker by its share.
+fn work_on<'a, A: Shape, B: Shape, R: Wait, G: Gate>(
+    batch: &Batch<'_, '_, 'a, A, B, R, G>,
+    dealt: Dealt<'_, 'a>,
+    worker: usize,
+    share: &mut Share<A, B>,
+) -> Result<(), AllocError>
+    requires { CanWork ⟦<A as Shape>⟧ ⟦<B as Shape>⟧ (record { batch = batch.now; dealt = dealt; worker = worker; share = share.old }) }
+    ensures { IfOk result (λ _. HasWorked ⟦<A as Shape>⟧ ⟦<B as Shape>⟧ batch.now worker share.old share.new) }
+{
+    let expected = batch.packets.count() / batch.setup.workers;
+    share.said.reserve(expected)?;
+    let mut first = 0;
+    for chunk in dealt.chunks.as_slice() {
+        judge_chunk(batch, worker, first, chunk, share)?;
+        first += chunk.workers.len();
+    }
+    Ok(())
+}
+
 /// Judges the packets of a worker.
 pub fn work<'t, 'f, 'a, A: Shape, B: Shape, R: Wait, G: Gate>(
     job: Job<'t, 'f, 'a, A, B, R, G>,
@@ -111,13 +131,8 @@ pub fn work<'t, 'f, 'a, A: Shape, B: Shape, R: Wait, G: Gate>(
         worker,
         mut share,
     } = job;
-    share
-        .said
-        .reserve(batch.packets.count() / batch.setup.workers)?;
-    let mut first = 0;
-    for chunk in dealt.chunks.as_slice() {
-        judge_chunk(&batch, worker, first, chunk, &mut share)?;
-        first += chunk.workers.len();
+    match work_on(&batch, dealt, worker, &mut share) {
+        Ok(()) => Ok(share),
+        Err(error) => Err(error),
     }
-    Ok(share)
 }

@@ -1,36 +1,41 @@
 //! The shares of all workers, taken apart.
 ghost use Rattle.std.specs.Prelude.{IfOk};
-ghost use Rattle.flow_workers.specs.inner.WorkerResults.{AreResultsOf};
+ghost use Rattle.flow_workers.specs.inner.WorkerResults.{AreResultsOf, HasAdded};
 
 use crate::share::{Share, WorkerResults};
 use crate::tables::Callers;
 use bihash_words::Shape;
 use std::alloc::{AllocError, Global};
 
+// The results with those of one more worker.
+fn add_share<A: Shape, B: Shape>(
+    results: &mut WorkerResults<A, B>,
+    share: Share<A, B>,
+) -> Result<(), AllocError>
+    ensures { IfOk result (λ _. HasAdded share results.old results.new) }
+{
+    let Share { callers, said } = share;
+    let Callers { four, six } = callers;
+    results.four.push(four)?;
+    results.six.push(six)?;
+    results.said.push(said)?;
+    Ok(())
+}
+
 /// The workers' results, list by list.
 pub fn results_of<A: Shape, B: Shape>(
     alloc: Global,
     shares: Vec<Share<A, B>>,
 ) -> Result<WorkerResults<A, B>, AllocError>
-    ensures { IfOk result (λ results. AreResultsOf ⟦<A as Shape>⟧ ⟦<B as Shape>⟧ shares.items
-        results.four.items results.six.items results.said.items) }
+    ensures { IfOk result (AreResultsOf shares.items) }
 {
-    let mut four = Vec::with_capacity(alloc, shares.len())?;
-    let mut six = Vec::with_capacity(alloc, shares.len())?;
-    let mut all_said = Vec::with_capacity(alloc, shares.len())?;
+    let mut results = WorkerResults {
+        four: Vec::new(alloc),
+        six: Vec::new(alloc),
+        said: Vec::new(alloc),
+    };
     for share in shares {
-        let Share { callers, said } = share;
-        let Callers {
-            four: own_four,
-            six: own_six,
-        } = callers;
-        four.push(own_four)?;
-        six.push(own_six)?;
-        all_said.push(said)?;
+        add_share(&mut results, share)?;
     }
-    Ok(WorkerResults {
-        four,
-        six,
-        said: all_said,
-    })
+    Ok(results)
 }

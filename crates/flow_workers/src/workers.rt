@@ -1,6 +1,6 @@
 //! Workers that judge packets in batches.
-ghost use Rattle.std.specs.Prelude.{IfOk};
-ghost use Rattle.flow_workers.specs.inner.Shares.{AreSplit, MaySplit};
+ghost use Rattle.std.specs.Prelude.{◌≡◌, [], IfOk};
+ghost use Rattle.flow_workers.specs.inner.Shares.{AreFresh, AreSplit, MaySplit};
 
 use crate::batches::judge_batch;
 use crate::caller_split::{join_whole, split_one};
@@ -18,6 +18,41 @@ use std::alloc::{AllocError, Global};
 use std::sync::Wait;
 use std::thread::Threads;
 
+// The callers, and new ones.
+fn split_both<A: Shape, B: Shape, R: Wait>(
+    rt: &R,
+    alloc: Global,
+    tables: &Tables<A, B>,
+    callers: Callers<A, B>,
+) -> Result<(Callers<A, B>, Callers<A, B>), AllocError>
+    requires { AreFresh tables.now callers }
+    ensures { IfOk result (λ r. AreFresh tables.now r.0 × AreFresh tables.now r.1) }
+{
+    let Callers { four, six } = callers;
+    let (own_four, next_four) = split_one(rt, alloc, &tables.four, four)?;
+    let (own_six, next_six) = split_one(rt, alloc, &tables.six, six)?;
+    let own = Callers {
+        four: own_four,
+        six: own_six,
+    };
+    let next = Callers {
+        four: next_four,
+        six: next_six,
+    };
+    Ok((own, next))
+}
+
+// The share with these callers of a worker that judged nothing.
+fn unused<A: Shape, B: Shape>(alloc: Global, callers: Callers<A, B>) -> Share<A, B>
+    ensures callers { result.callers ≡ callers }
+    ensures silent { result.said.items ≡ [] }
+{
+    Share {
+        callers,
+        said: Vec::new(alloc),
+    }
+}
+
 // The shares of so many workers that judged nothing, each with callers of its own. A worker keeps the callers that were
 // split, and the new ones are split on: so the workers' numbers are in the order of their turns.
 fn split_shares<A: Shape, B: Shape, R: Wait>(
@@ -30,25 +65,14 @@ fn split_shares<A: Shape, B: Shape, R: Wait>(
     requires { MaySplit tables.now callers workers }
     ensures { IfOk result (λ v. AreSplit tables.now workers v.items) }
 {
-    let Callers { mut four, mut six } = callers;
-    let mut shares = Vec::with_capacity(alloc, workers)?;
+    let mut left = callers;
+    let mut shares = Vec::new(alloc);
     for _ in 1..workers {
-        let (own_four, next_four) = split_one(rt, alloc, &tables.four, four)?;
-        let (own_six, next_six) = split_one(rt, alloc, &tables.six, six)?;
-        four = next_four;
-        six = next_six;
-        shares.push(Share {
-            callers: Callers {
-                four: own_four,
-                six: own_six,
-            },
-            said: Vec::new(alloc),
-        })?;
+        let (own, next) = split_both(rt, alloc, tables, left)?;
+        left = next;
+        shares.push(unused(alloc, own))?;
     }
-    shares.push(Share {
-        callers: Callers { four, six },
-        said: Vec::new(alloc),
-    })?;
+    shares.push(unused(alloc, left))?;
     Ok(shares)
 }
 

@@ -1,12 +1,9 @@
 -- What all workers of a run give back.
-use Rattle.std.specs.Prelude.{◌≡◌, List, [], ◌∷◌, All, map}
-use Rattle.std.specs.Global.{Vec}
+use Rattle.std.specs.Prelude.{◌≡◌, List, [], ◌∷◌, ◌++◌, All, map}
 use Rattle.std.specs.List.{AllZip}
 use Rattle.packet_view.specs.declared.tuple.Family.TheVariants.{V4, V6}
 use Rattle.bihash_words.specs.declared.shape.Shape.{Ghosts}
 use Rattle.bihash_steps.specs.Views.{nothing_held}
-use Rattle.bihash_steps.specs.declared.row.Caller.{Caller}
-use Rattle.flow_filter.specs.declared.verdict.Verdict.{Verdict}
 use Rattle.flow_dealing.specs.Traces.{AreTraces, HaveTraces, Item}
 use Rattle.flow_workers.specs.declared.share.WorkerResults.{WorkerResults}
 use Rattle.flow_workers.specs.declared.share.Share.{Share}
@@ -27,8 +24,14 @@ pub record AreResults {A B K L : Type 0} (ga : Ghosts A K) (gb : Ghosts B L) (ta
   pub said : AllZip (λ trace s. AreSaid run trace s.items) traces results.said.items
 
 -- these are the parts of the shares
-pub record AreResultsOf {A B K L : Type 0} (ga : Ghosts A K) (gb : Ghosts B L) (shares : List (Share A B K L ga gb))
-    (fours : List (Caller A K ga)) (sixes : List (Caller B L gb)) (saids : List (Vec Verdict)) : Type 0 where
-  pub four : fours ≡ map (λ (s : Share A B K L ga gb). s.callers.four) shares
-  pub six : sixes ≡ map (λ (s : Share A B K L ga gb). s.callers.six) shares
-  pub said : saids ≡ map (λ (s : Share A B K L ga gb). s.said) shares
+pub record AreResultsOf {A B K L : Type 0} {ga : Ghosts A K} {gb : Ghosts B L} (shares : List (Share A B K L ga gb))
+    (results : WorkerResults A B K L ga gb) : Type 0 where
+  pub four : results.four.items ≡ map (λ (s : Share A B K L ga gb). s.callers.four) shares
+  pub six : results.six.items ≡ map (λ (s : Share A B K L ga gb). s.callers.six) shares
+  pub said : results.said.items ≡ map (λ (s : Share A B K L ga gb). s.said) shares
+
+-- whatever shares they are of, this one was added to these
+abbrev pub HasAdded : {A B K L : Type 0} {ga : Ghosts A K} {gb : Ghosts B L} → Share A B K L ga gb
+    → WorkerResults A B K L ga gb → WorkerResults A B K L ga gb → Type 0
+HasAdded {A} {B} {K} {L} {ga} {gb} share old new = (shares : List (Share A B K L ga gb)) → AreResultsOf shares old
+    → AreResultsOf (shares ++ share ∷ []) new

@@ -5,7 +5,7 @@ use Rattle.flow_workers.proofs.turns.turns_of.Goals as goal
 pub loop-share-init : goal.loop-share-init
 loop-share-init g c = record {
   worker = refl;
-  are = rw c.in_ok-turns.ensures.items (no_turns g.A.Shape g.B.Shape c.args.batch c.args.dealt);
+  are = rw c.new-turns.ensures.items (no_turns g.A.Shape g.B.Shape c.args.batch c.args.dealt);
 }
 
 pub loop-share-preserved : goal.loop-share-preserved

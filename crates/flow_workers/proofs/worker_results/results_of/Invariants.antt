@@ -2,4 +2,4 @@ use Rattle.flow_workers.specs.inner.WorkerResults.{AreResultsOf}
 use Rattle.flow_workers.proofs.worker_results.results_of.Given as goal
 
 abbrev pub invariant-loop-share : goal.invariant-loop-share
-invariant-loop-share g l = AreResultsOf g.A.Shape g.B.Shape l.yielded l.four.items l.six.items l.all_said.items
+invariant-loop-share g l = AreResultsOf l.yielded l.results

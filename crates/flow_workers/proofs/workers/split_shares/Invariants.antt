@@ -5,7 +5,7 @@ use Rattle.flow_workers.proofs.workers.split_shares.Given as goal
 
 abbrev pub invariant-loop : goal.invariant-loop
 invariant-loop g l = record {
-  callers : AreFresh l.tables (record { four = l.four; six = l.six });
+  callers : AreFresh l.tables l.left;
   count : length l.shares.items + 1 ≡ l.counter;
   each : (i : ℕ) (d : _) → i < length l.shares.items → IsUnused l.tables (slice_index_or l.shares.items i d);
 }

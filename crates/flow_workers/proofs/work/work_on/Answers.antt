@@ -3,7 +3,7 @@ use Rattle.packet_view.specs.CheckedCaptures.{remaining}
 use Rattle.packet_dealing.proofs.DealtLists.{none_left}
 use Rattle.flow_workers.specs.inner.Jobs.{AreDealtFrom, IsChunkAt}
 use Rattle.flow_workers.proofs.DealtLemmas.{all_taken, chunk_few, chunk_first, chunks_behind, worked_on, worked_to}
-use Rattle.flow_workers.proofs.work.work.Goals as goal
+use Rattle.flow_workers.proofs.work.work_on.Goals as goal
 
 pub loop-chunk-init : goal.loop-chunk-init
 loop-chunk-init g c = record {
@@ -17,7 +17,7 @@ loop-chunk-init g c = record {
 
 pub judge_chunk-requires : goal.judge_chunk-requires
 judge_chunk-requires g c =
-    let batch = c.args.job.batch in
+    let batch = c.args.batch.now in
     let inside = c.loop-chunk-test.true in
     let same = c.as_slice-chunk-items.ensures.value in
     let listed = ap length same in
@@ -28,13 +28,13 @@ judge_chunk-requires g c =
       fits = c.requires.fits;
       of = subst (IsChunkAt g.A.Shape g.B.Shape batch c.loop-chunk.first)
           (ap (λ ps. get_or ps c.loop-chunk.chunk-index c.chunk-item.result) (sym same) ∙ sym c.chunk-item.is)
-          (chunk_first g.A.Shape g.B.Shape batch c.loop-chunk.first c.loop-chunk.chunk-index c.args.job.dealt.chunks.now.items
+          (chunk_first g.A.Shape g.B.Shape batch c.loop-chunk.first c.loop-chunk.chunk-index c.args.dealt.chunks.now.items
           c.chunk-item.result (omega arith) c.loop-chunk.invariant.left);
     }
 
 pub overflow_add-first : goal.overflow_add-first
 overflow_add-first g c =
-    let batch = c.args.job.batch in
+    let batch = c.args.batch.now in
     let inside = c.loop-chunk-test.true in
     let fits = c.requires.fits in
     let same = c.as_slice-chunk-items.ensures.value in
@@ -43,14 +43,14 @@ overflow_add-first g c =
     chunk_few g.A.Shape g.B.Shape batch c.loop-chunk.first c.chunk-item.result
     (subst (IsChunkAt g.A.Shape g.B.Shape batch c.loop-chunk.first)
     (ap (λ ps. get_or ps c.loop-chunk.chunk-index c.chunk-item.result) (sym same) ∙ sym c.chunk-item.is)
-    (chunk_first g.A.Shape g.B.Shape batch c.loop-chunk.first c.loop-chunk.chunk-index c.args.job.dealt.chunks.now.items
+    (chunk_first g.A.Shape g.B.Shape batch c.loop-chunk.first c.loop-chunk.chunk-index c.args.dealt.chunks.now.items
     c.chunk-item.result (omega arith) c.loop-chunk.invariant.left)) c.loop-chunk.invariant.inside in
     let long = c.len-first.ensures in
     omega arith
 
 pub loop-chunk-preserved : goal.loop-chunk-preserved
 loop-chunk-preserved g c =
-    let batch = c.args.job.batch in
+    let batch = c.args.batch.now in
     let inside = c.loop-chunk-test.true in
     let same = c.as_slice-chunk-items.ensures.value in
     let count = ap length same in
@@ -59,30 +59,30 @@ loop-chunk-preserved g c =
     let long = c.len-first.ensures in omega arith in
     let of =
     subst (IsChunkAt g.A.Shape g.B.Shape batch c.loop-chunk.first) here
-    (chunk_first g.A.Shape g.B.Shape batch c.loop-chunk.first c.loop-chunk.chunk-index c.args.job.dealt.chunks.now.items
+    (chunk_first g.A.Shape g.B.Shape batch c.loop-chunk.first c.loop-chunk.chunk-index c.args.dealt.chunks.now.items
     c.chunk-item.result (omega arith) c.loop-chunk.invariant.left) in
     record {
       left = subst (λ n. AreDealtFrom g.A.Shape g.B.Shape batch (c.loop-chunk.first + n)
-          (drop (c.loop-chunk.chunk-index + 1) c.args.job.dealt.chunks.now.items)) (ap (λ p. length p.workers.items) here ∙ counted)
-          (chunks_behind g.A.Shape g.B.Shape batch c.loop-chunk.first c.loop-chunk.chunk-index c.args.job.dealt.chunks.now.items
+          (drop (c.loop-chunk.chunk-index + 1) c.args.dealt.chunks.now.items)) (ap (λ p. length p.workers.items) here ∙ counted)
+          (chunks_behind g.A.Shape g.B.Shape batch c.loop-chunk.first c.loop-chunk.chunk-index c.args.dealt.chunks.now.items
           c.chunk-item.result (omega arith) c.loop-chunk.invariant.left);
       inside = subst (λ n. c.loop-chunk.first + n ≤ length (remaining batch.packets)) counted
           (chunk_few g.A.Shape g.B.Shape batch c.loop-chunk.first c.chunk-item.result of c.loop-chunk.invariant.inside);
-      worked = worked_on g.A.Shape g.B.Shape batch c.args.job.worker 0 c.loop-chunk.first _ _ _ _
+      worked = worked_on g.A.Shape g.B.Shape batch c.args.worker 0 c.loop-chunk.first _ _ _ _
           c.loop-chunk.invariant.worked
-          (worked_to g.A.Shape g.B.Shape batch c.args.job.worker c.loop-chunk.first _ _ _ _
+          (worked_to g.A.Shape g.B.Shape batch c.args.worker c.loop-chunk.first _ _ _ _
           (ap (λ n. c.loop-chunk.first + n) counted) c.in_ok-judge_chunk.ensures);
     }
 
 pub returns : goal.returns
 returns g c =
-    let batch = c.args.job.batch in
+    let batch = c.args.batch.now in
     let all = c.loop-chunk-test.false in
     let count = ap length c.as_slice-chunk-items.ensures.value in
     let inside = c.loop-chunk.invariant.inside in
     let none =
     none_left (remaining batch.packets) c.loop-chunk.first
-    (all_taken g.A.Shape g.B.Shape batch c.loop-chunk.first c.loop-chunk.chunk-index c.args.job.dealt.chunks.now.items (omega arith)
+    (all_taken g.A.Shape g.B.Shape batch c.loop-chunk.first c.loop-chunk.chunk-index c.args.dealt.chunks.now.items (omega arith)
     c.loop-chunk.invariant.left) in
-    worked_to g.A.Shape g.B.Shape batch c.args.job.worker 0 c.loop-chunk.first _ _ _ (omega arith)
+    worked_to g.A.Shape g.B.Shape batch c.args.worker 0 c.loop-chunk.first _ _ _ (omega arith)
     c.loop-chunk.invariant.worked
