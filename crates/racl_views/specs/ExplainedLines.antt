@@ -9,8 +9,7 @@ use Rattle.packet_view.specs.declared.tuple.Fields.TheVariants.{Absent, Icmp, Po
 use Rattle.flow_filter.specs.declared.verdict.Verdict.{Verdict}
 use Rattle.racl_io.specs.Reports.{name_of, text_of}
 use Rattle.racl_views.specs.Entries.{EntryFacts}
-use Rattle.racl_views.specs.Hits.{numbered}
-use Rattle.racl_views.specs.PacketWords.{address_text, protocol_text}
+use Rattle.racl_views.specs.PacketWords.{address_text, numbered, protocol_text}
 
 -- a byte as two hexadecimal digits
 abbrev pub two_digits : ℕ → List ℕ

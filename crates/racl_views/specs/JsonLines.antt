@@ -11,8 +11,7 @@ use Rattle.flow_filter.specs.declared.verdict.Verdict.TheVariants as verdict
 use Rattle.racl_io.specs.declared.report.Captured.{Captured}
 use Rattle.racl_io.specs.declared.report.Totals.{Totals}
 use Rattle.racl_views.specs.Entries.{EntryFacts}
-use Rattle.racl_views.specs.Hits.{numbered}
-use Rattle.racl_views.specs.PacketWords.{address_text, effect_word, reason_word}
+use Rattle.racl_views.specs.PacketWords.{address_text, effect_word, numbered, reason_word}
 
 -- the rule's number, and that a session was entered
 abbrev pub rule_keys : Verdict → List ℕ

@@ -1,5 +1,5 @@
 -- The words for what a packet and its verdict are (this project's profile; addresses as RFC 5952 writes them).
-use Rattle.std.specs.Prelude.{ℕ, ◌==◌, List, codes, if◌then◌else◌}
+use Rattle.std.specs.Prelude.{ℕ, ◌==◌, List, ◌++◌, codes, decimal, if◌then◌else◌}
 use Rattle.std.specs.Int.{to_be_bytes, w32, w128}
 use Rattle.std.specs.Net.Addr.{segments_of}
 use Rattle.std.specs.Net.Text.{ipv4_text, ipv6_text}
@@ -8,7 +8,10 @@ use Rattle.packet_view.specs.declared.tuple.Family.{Family}
 use Rattle.packet_view.specs.declared.tuple.Family.TheVariants.{V4, V6}
 use Rattle.flow_filter.specs.declared.verdict.Verdict.{Verdict}
 use Rattle.flow_filter.specs.declared.verdict.Verdict.TheVariants as verdict
-use Rattle.racl_views.specs.Hits.{numbered}
+
+-- a word and a number
+abbrev pub numbered : List ℕ → ℕ → List ℕ
+numbered word number = word ++ decimal number
 
 -- the name of a protocol as policies write it, or its number
 abbrev pub protocol_text : Family → ℕ → List ℕ

@@ -77,7 +77,8 @@ fn push_seen(piece: &mut Piece, entry: &Entry)
     push_numbered(piece, b" time ", u64::from(entry.moment));
 }
 
-fn push_protocol(piece: &mut Piece, family: Family, proto: u8)
+/// The name of a protocol as policies write it, or its number.
+pub fn push_protocol(piece: &mut Piece, family: Family, proto: u8)
     requires { length piece.old + 33 ≤ 262144 }
     ensures text { piece.new ≡ piece.old ++ protocol_text family proto }
     ensures short { length piece.new ≤ length piece.old + 33 }
@@ -93,7 +94,8 @@ fn push_protocol(piece: &mut Piece, family: Family, proto: u8)
     }
 }
 
-fn push_two_digits(piece: &mut Piece, byte: u8)
+/// A byte as two hexadecimal digits.
+pub fn push_two_digits(piece: &mut Piece, byte: u8)
     requires { length piece.old + 2 ≤ 262144 }
     ensures { piece.new ≡ piece.old ++ two_digits byte }
 {

@@ -1,7 +1,7 @@
 use Rattle.std.proofs.Common.{codes}
 use Rattle.racl_views.specs.Entries.{entry_facts}
-use Rattle.racl_views.specs.Hits.{numbered}
 use Rattle.racl_views.specs.JsonLines.{carried_keys, line_key, seen_keys, verdict_keys}
+use Rattle.racl_views.specs.PacketWords.{numbered}
 use Rattle.racl_views.proofs.TextLemmas.{behind, five}
 use Rattle.racl_views.proofs.json.push_object.Goals as goal
 

@@ -1,6 +1,6 @@
 use Rattle.std.proofs.Common.{◌≡◌, count_by, take}
 use Rattle.racl_views.specs.Hits.{is_other}
-use Rattle.racl_views.proofs.hits.count_other.Given as goal
+use Rattle.racl_views.proofs.tally.count_other.Given as goal
 
 -- those so far are counted
 abbrev pub invariant-verdicts : goal.invariant-verdicts
