@@ -1,5 +1,5 @@
 //! What is told of a run's rules and sessions. `checks/run` has what the program writes of them.
-use acl_policy::read_policy;
+use acl_policy::{Policy, read_policy};
 use flow_filter::Verdict;
 use packet_view::{Direction, Packets};
 use racl_io::Shown;
@@ -31,6 +31,8 @@ fn capture() -> &'static [u8] {
     \x45\0\0\x1c\0\0\0\0\x40\x11\0\0\x0a\0\0\x03\x0a\0\0\x01\
     \0\x35\x03\xe8\0\x08\0\0"
 }
+
+const VERDICTS: [Verdict; 2] = [Verdict::Reflect(1), Verdict::Deny(1)];
 
 const TIMES: Timeouts = Timeouts {
     established: 3600,
@@ -110,6 +112,18 @@ fn stored_of(
     })
 }
 
+// A run on packets with these verdicts.
+fn run_of<'a>(policy: &'a Policy, packets: Packets<'a>) -> Run<'a> {
+    Run {
+        policy,
+        text: rules(),
+        packets,
+        verdicts: &VERDICTS,
+        captures: &[],
+        shown: Shown::Every,
+    }
+}
+
 // What is told of the packets of the capture, after which the session of the request is stored.
 fn hits_told(alloc: Global, times: Timeouts, view: View) -> Result<Vec<u8>, Fail> {
     let mut captures = Vec::new(alloc);
@@ -119,14 +133,7 @@ fn hits_told(alloc: Global, times: Timeouts, view: View) -> Result<Vec<u8>, Fail
     })?;
     let policy = read_policy(alloc, rules())?;
     let packets = packets_in(alloc, &captures)?;
-    let run = Run {
-        policy: &policy,
-        text: rules(),
-        packets: Packets::Slice(&packets),
-        verdicts: &[Verdict::Reflect(1), Verdict::Deny(1)],
-        captures: &[],
-        shown: Shown::Every,
-    };
+    let run = run_of(&policy, Packets::Slice(&packets));
     let request = [([0x0a00_0001_0a00_0002, 0x03e8_0035_1100_0000], 100)];
     let stored = stored_of(alloc, &request, &[])?;
     Ok(hits_text(alloc, view, times, run, &stored)?)
