@@ -6,6 +6,7 @@ pub mod ExplainedLines
 pub mod Forms
 pub mod Hits
 pub mod JsonLines
+pub mod PacketLines
 pub mod PacketWords
 pub mod RuleLines
 pub mod RuleTexts

@@ -14,10 +14,9 @@ use Rattle.session_state.specs.declared.timeouts.Timeouts.{Timeouts}
 use Rattle.racl_views.specs.declared.flow_end.FlowEnd.{FlowEnd}
 use Rattle.racl_views.specs.declared.stored_flow.StoredFlow.{StoredFlow}
 use Rattle.racl_views.specs.declared.view.View.{View}
-use Rattle.racl_views.specs.declared.view.View.TheVariants.{Explained, Json}
-use Rattle.racl_views.specs.ExplainedLines.{two_digits}
-use Rattle.racl_views.specs.Forms.{by_view, line_end}
-use Rattle.racl_views.specs.PacketWords.{address_text, numbered, protocol_text}
+use Rattle.racl_views.specs.Forms.{by_view, line_end, quote_end}
+use Rattle.racl_views.specs.PacketLines.{flags_told, protocol_told}
+use Rattle.racl_views.specs.PacketWords.{address_text, numbered}
 use Rattle.racl_views.specs.Stored.{StoredFacts}
 
 -- ---- keys
@@ -80,25 +79,18 @@ has_ports proto = (proto == 6) || (proto == 17)
 abbrev pub port_told : View → ℕ → ℕ → List ℕ
 port_told view proto port = if has_ports proto then numbered (by_view view (codes " port ") (codes ",\"port\":")) port else []
 
-abbrev pub flags_shown : View → ℕ → List ℕ
-flags_shown Explained flags = codes " flags " ++ two_digits flags
-flags_shown Json flags = numbered (codes ",\"flags\":") flags
-
 -- the flags that the end sent
-abbrev pub flags_told : View → ℕ → ℕ → List ℕ
-flags_told view proto flags = if is_tcp proto then flags_shown view flags else []
+abbrev pub end_flags : View → ℕ → ℕ → List ℕ
+end_flags view proto flags = if is_tcp proto then flags_told view flags else []
 
 -- an end behind a word
 abbrev pub end_told : View → FlowFacts → End → ℕ → List ℕ
 end_told view flow end flags = address_text flow.family end.address
-    ++ (by_view view [] (codes "\"") ++ (port_told view flow.proto end.port ++ flags_told view flow.proto flags))
-
-abbrev pub protocol_told : View → FlowFacts → List ℕ
-protocol_told Explained flow = codes " " ++ protocol_text flow.family flow.proto
-protocol_told Json flow = numbered (codes ",\"protocol\":") flow.proto
+    ++ (quote_end view ++ (port_told view flow.proto end.port ++ end_flags view flow.proto flags))
 
 abbrev pub flow_told : View → FlowFacts → List ℕ
-flow_told view flow = numbered (by_view view (codes "session interface ") (codes "{\"interface\":")) flow.interface ++ protocol_told view flow
+flow_told view flow = numbered (by_view view (codes "session interface ") (codes "{\"interface\":")) flow.interface
+    ++ protocol_told view flow.family flow.proto
 
 -- the second of the last packet, and the last second in which the session is live
 abbrev pub seconds_told : View → Timeouts → SessionFacts → List ℕ

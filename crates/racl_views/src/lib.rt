@@ -17,6 +17,7 @@ mod json;
 mod laws;
 mod numbering;
 mod other;
+mod packet_text;
 mod pieces;
 mod rule;
 mod rule_places;

@@ -1,7 +1,7 @@
 //! What several lines have in pieces of their text.
 ghost use Rattle.std.specs.Prelude.{◌≡◌, ◌+◌, ◌≤◌, ◌++◌, [], OnOk, length};
 ghost use Rattle.racl_views.specs.Forms;
-ghost use Rattle.racl_views.specs.Forms.{line_end};
+ghost use Rattle.racl_views.specs.Forms.{line_end, quote_end};
 ghost use Rattle.racl_views.specs.PacketWords.{numbered};
 
 use crate::view::View;
@@ -36,6 +36,15 @@ pub fn push_line_end(piece: &mut Piece, view: View)
     ensures short { length piece.new ≤ length piece.old + 3 }
 {
     piece.push(by_view(view, b"\n", b"}\n"));
+}
+
+/// The end of a text in quotes, which only objects have.
+pub fn push_quote_end(piece: &mut Piece, view: View)
+    requires { length piece.old + 1 ≤ 262144 }
+    ensures text { piece.new ≡ piece.old ++ quote_end view }
+    ensures short { length piece.new ≤ length piece.old + 1 }
+{
+    piece.push(by_view(view, b"", b"\""));
 }
 
 /// Puts what is in the piece behind a text. An `Err` says that memory ran out.

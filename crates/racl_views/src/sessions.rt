@@ -8,10 +8,10 @@ ghost use Rattle.racl_views.specs.SessionLines.{end_facts, flow_facts, pair_told
 ghost use Rattle.racl_views.specs.Stored.{stored_facts};
 
 use crate::address::push_address;
-use crate::explained::{push_protocol, push_two_digits};
 use crate::flow_end::FlowEnd;
 use crate::flow_key::{four_flow, six_flow};
-use crate::pieces::{by_view, pass_on, push_line_end, push_numbered};
+use crate::packet_text::{push_flags, push_protocol};
+use crate::pieces::{by_view, pass_on, push_line_end, push_numbered, push_quote_end};
 use crate::stored::StoredPairs;
 use crate::stored_flow::StoredFlow;
 use crate::view::View;
@@ -34,28 +34,14 @@ fn push_port(piece: &mut Piece, view: View, proto: u8, port: u16)
     }
 }
 
-fn show_flags(piece: &mut Piece, view: View, flags: u8)
-    requires { length piece.old + 34 ≤ 262144 }
-    ensures text { piece.new ≡ piece.old ++ line.flags_shown view flags }
-    ensures short { length piece.new ≤ length piece.old + 34 }
-{
-    match view {
-        View::Explained => {
-            piece.push(b" flags ");
-            push_two_digits(piece, flags);
-        }
-        View::Json => push_numbered(piece, b",\"flags\":", u64::from(flags)),
-    }
-}
-
 // The flags that an end sent, where the protocol has flags.
-fn push_flags(piece: &mut Piece, view: View, proto: u8, flags: u8)
+fn push_end_flags(piece: &mut Piece, view: View, proto: u8, flags: u8)
     requires { length piece.old + 34 ≤ 262144 }
-    ensures text { piece.new ≡ piece.old ++ line.flags_told view proto flags }
+    ensures text { piece.new ≡ piece.old ++ line.end_flags view proto flags }
     ensures short { length piece.new ≤ length piece.old + 34 }
 {
     if proto == 6 {
-        show_flags(piece, view, flags);
+        push_flags(piece, view, flags);
     }
 }
 
@@ -66,23 +52,9 @@ fn push_flow_end(piece: &mut Piece, view: View, flow: &StoredFlow, end: FlowEnd,
     ensures short { length piece.new ≤ length piece.old + 182 }
 {
     push_address(piece, flow.family, end.address);
-    piece.push(by_view(view, b"", b"\""));
+    push_quote_end(piece, view);
     push_port(piece, view, flow.proto, end.port);
-    push_flags(piece, view, flow.proto, flags);
-}
-
-fn push_kind(piece: &mut Piece, view: View, flow: &StoredFlow)
-    requires { length piece.old + 40 ≤ 262144 }
-    ensures text { piece.new ≡ piece.old ++ line.protocol_told view (flow_facts flow.now) }
-    ensures short { length piece.new ≤ length piece.old + 40 }
-{
-    match view {
-        View::Explained => {
-            piece.push(b" ");
-            push_protocol(piece, flow.family, flow.proto);
-        }
-        View::Json => push_numbered(piece, b",\"protocol\":", u64::from(flow.proto)),
-    }
+    push_end_flags(piece, view, flow.proto, flags);
 }
 
 fn push_flow(piece: &mut Piece, view: View, flow: &StoredFlow)
@@ -95,7 +67,7 @@ fn push_flow(piece: &mut Piece, view: View, flow: &StoredFlow)
         by_view(view, b"session interface ", b"{\"interface\":"),
         u64::from(flow.interface),
     );
-    push_kind(piece, view, flow);
+    push_protocol(piece, view, flow.family, flow.proto);
 }
 
 // The last second in which the session is live.
