@@ -3,7 +3,7 @@ use Rattle.std.specs.Prelude.{◌≡◌, List, [], ◌∷◌, ◌++◌, All, map
 use Rattle.std.specs.List.{AllZip}
 use Rattle.packet_view.specs.declared.tuple.Family.TheVariants.{V4, V6}
 use Rattle.bihash_words.specs.declared.shape.Shape.{Ghosts}
-use Rattle.bihash_steps.specs.Views.{nothing_held}
+use Rattle.bihash_rule.specs.Views.{nothing_held}
 use Rattle.flow_dealing.specs.Traces.{AreTraces, HaveTraces, Item}
 use Rattle.flow_workers.specs.declared.share.WorkerResults.{WorkerResults}
 use Rattle.flow_workers.specs.declared.share.Share.{Share}
