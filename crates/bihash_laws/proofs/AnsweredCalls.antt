@@ -6,27 +6,34 @@ use Rattle.std.proofs.Math.Nat.{mod-lt}
 use Rattle.std.proofs.lemmas.Bool.{cases_eq, cases_lt}
 use mathlib.Core.Option.{some, some-ne-none, some-injective}
 use lib.ListN.{get_elem?}
+use Rattle.bihash_words.specs.Runs.{writes_of}
 use Rattle.bihash_words.specs.Maps.{Event, Pairs}
 use Rattle.bihash_words.specs.Sizes.{Sizes}
-use Rattle.bihash_steps.specs.Words.{buckets}
-use Rattle.bihash_steps.specs.Histories.{IsLegal, IsPrefix, after, bucket_of, is_changed}
-use Rattle.bihash_steps.specs.Callers.{HasWrite, IsLawfulCaller, known_at, opening_at, opening_in}
-use Rattle.bihash_steps.specs.Views.{opening_view}
+use Rattle.bihash_words.specs.declared.patch.Reply.{Reply}
+use Rattle.bihash_rule.specs.Words.{buckets}
+use Rattle.bihash_rule.specs.Histories.{IsLegal, IsPrefix, after, bucket_of, is_changed}
+use Rattle.bihash_rule.specs.Callers.{HasWrite, IsLawfulCaller, known_at, opening_at, opening_in}
+use Rattle.bihash_rule.specs.Views.{opening_view}
 use Rattle.bihash_steps.specs.BucketSteps.{acting, map_now, push_call}
-use Rattle.bihash_steps.specs.declared.view.Openings.{Openings}
-use Rattle.bihash_steps.specs.declared.view.Write.{Write}
-use Rattle.bihash_steps.specs.declared.view.Call.{Call}
-use Rattle.bihash_steps.specs.declared.view.Record.{Record}
-use Rattle.bihash_steps.specs.declared.view.Known.{Known}
-use Rattle.bihash_steps.specs.declared.view.View.{View}
+use Rattle.bihash_rule.specs.declared.view.Openings.{Openings}
+use Rattle.bihash_rule.specs.declared.view.Write.{Write}
+use Rattle.bihash_rule.specs.declared.view.Call.{Call}
+use Rattle.bihash_rule.specs.declared.view.Record.{Record}
+use Rattle.bihash_rule.specs.declared.view.Known.{Known}
+use Rattle.bihash_rule.specs.declared.view.View.{View}
 use Rattle.bihash_steps.proofs.Prefixes.{prefix_below}
 use Rattle.bihash_steps.proofs.WholeHistories.{prefix_whole}
 use Rattle.bihash_steps.proofs.Lists.{at_end, within}
 use Rattle.bihash_steps.proofs.PushedCalls.{push-length}
-use Rattle.bihash_table.specs.Answers.{entry_of, own_writes, with_locks}
+use Rattle.bihash_table.specs.Answers.{entry_of, with_locks}
 use Rattle.bihash_laws.specs.CallRuns.{IsLastWrite, IsLawfulAnswer, LearnsOnlyOwn, IsOneWriter}
 use Rattle.bihash_table.proofs.CallChains.{learned_length}
+use Rattle.bihash_table.proofs.LockReleases.{writes_told}
 use Rattle.bihash_laws.proofs.MapSteps.{after_next}
+
+-- no more was learned than whether the reply tells of a write
+learned : (long short : ℕ) (r : Reply) → long ≤ short + writes_of r → long ≤ short + cond (is_changed r) 1 0
+learned long short r few = subst (λ (n : ℕ). long ≤ short + n) (writes_told r) few
 
 -- what is put outside of a list is not there
 set_or_short : (xss : List (List Write)) (b : ℕ) (ys : List Write)
@@ -228,14 +235,14 @@ module _ (z : Sizes) (b : ℕ) (v w : View) (e : Event) (a : IsLawfulAnswer z b 
           → (t : Bool) → is_changed e.reply ≡ t → x.by ≡ acting v.records
       new_write n x new stands true wrote =
           let bound : length (known_at w.known b) ≤ length (known_at v.known b) + 1 =
-          subst (λ (t : Bool). length (known_at w.known b) ≤ length (known_at v.known b) + cond t 1 0) wrote few in
+          subst (λ (t : Bool). length (known_at w.known b) ≤ length (known_at v.known b) + cond t 1 0) wrote (learned _ _ e.reply few) in
           let inside = within (known_at w.known b) n x stands in
           let o = last_write wrote in
           let last : o.before ≡ n = let long = o.last in omega arith in
           ap (λ (y : Write). y.by) (some-injective x _ (sym stands ∙ (ap (get_elem? (known_at w.known b)) (sym last) ∙ o.stands)))
       new_write n x new stands false read =
           let bound : length (known_at w.known b) ≤ length (known_at v.known b) + 0 =
-          subst (λ (t : Bool). length (known_at w.known b) ≤ length (known_at v.known b) + cond t 1 0) read few in
+          subst (λ (t : Bool). length (known_at w.known b) ≤ length (known_at v.known b) + cond t 1 0) read (learned _ _ e.reply few) in
           let inside = within (known_at w.known b) n x stands in
           absurd (omega arith)
 
@@ -248,8 +255,8 @@ pub lone_learns_own : (z : Sizes) (b : ℕ) (v w : View) (e : Event) → IsLawfu
     → LearnsOnlyOwn b v w e × (w.lone ≡ true)
 lone_learns_own z b v w e a lone =
     let h = a.answered in
-    let most : ℕ = length (known_at v.known (bucket_of z e.key)) + own_writes e.reply in (
-      subst (λ (c : ℕ). length (known_at w.known c) ≤ length (known_at v.known c) + own_writes e.reply) a.home
+    let most : ℕ = length (known_at v.known (bucket_of z e.key)) + writes_of e.reply in (
+      subst (λ (c : ℕ). length (known_at w.known c) ≤ length (known_at v.known c) + writes_of e.reply) a.home
           (subst (λ (k : Known). length (known_at k (bucket_of z e.key)) ≤ most) (sym h.known)
           (learned_length v.known.writes (bucket_of z e.key) h.history most (h.alone lone))),
       h.lone ∙ lone,
@@ -261,7 +268,7 @@ pub lone_keeps : (z : Sizes) (b : ℕ) (v w : View) (e : Event) → IsLawfulAnsw
 lone_keeps z b v w e a lone read =
     let own = (lone_learns_own z b v w e a lone).0 in
     let few : length (known_at w.known b) ≤ length (known_at v.known b) + 0 =
-    subst (λ (t : Bool). length (known_at w.known b) ≤ length (known_at v.known b) + cond t 1 0) read own in
+    subst (λ (t : Bool). length (known_at w.known b) ≤ length (known_at v.known b) + cond t 1 0) read (learned _ _ e.reply own) in
     let same : known_at w.known b ≡ known_at v.known b =
     sym (prefix_whole (known_at v.known b) (known_at w.known b) (continues z b v w e a) (omega arith)) in
     let from : opening_at w.known b ≡ opening_at v.known b = ap (λ (o : Openings). opening_in o b) (openings_same z b v w e a) in

@@ -10,18 +10,18 @@ use lib.ListN.{get_elem?}
 use Rattle.bihash_words.specs.Maps.{Pairs, IsEvent, written}
 use Rattle.bihash_words.specs.Sizes.{Sizes}
 use Rattle.bihash_words.specs.declared.patch.Reply.TheVariants.{Changed}
-use Rattle.bihash_steps.specs.Words.{buckets}
-use Rattle.bihash_steps.specs.Histories.{IsAnswer, IsLegal, after, bounds_of, event_of, event_of_write, is_changed, write_of}
-use Rattle.bihash_steps.specs.Callers.{AreOneList, HasMade, HasMadeAll, HasNumber, HasWrite, IsLawfulCaller, IsWhole, known_at, opening_at, opening_in}
-use Rattle.bihash_steps.specs.Logs as logs
-use Rattle.bihash_steps.specs.Logs.{FollowEach, Follows, IsLog, call_if, writes_on}
+use Rattle.bihash_rule.specs.Words.{buckets}
+use Rattle.bihash_rule.specs.Histories.{IsAnswer, IsLegal, after, bounds_of, event_of, event_of_write, is_changed, write_of}
+use Rattle.bihash_rule.specs.Callers.{AreOneList, HasMade, HasMadeAll, HasNumber, HasWrite, IsLawfulCaller, IsWhole, known_at, opening_at, opening_in}
+use Rattle.bihash_rule.specs.Logs as logs
+use Rattle.bihash_rule.specs.Logs.{FollowEach, Follows, IsLog, call_if, writes_on}
 use Rattle.bihash_steps.specs.Steps.{HaveBearers}
-use Rattle.bihash_steps.specs.declared.view.Write.{Write}
-use Rattle.bihash_steps.specs.declared.view.Call.{Call}
-use Rattle.bihash_steps.specs.declared.view.Entry.{Entry}
-use Rattle.bihash_steps.specs.declared.view.Openings.{Openings}
-use Rattle.bihash_steps.specs.declared.view.Record.{Record}
-use Rattle.bihash_steps.specs.declared.view.View.{View}
+use Rattle.bihash_rule.specs.declared.view.Write.{Write}
+use Rattle.bihash_rule.specs.declared.view.Call.{Call}
+use Rattle.bihash_rule.specs.declared.view.Entry.{Entry}
+use Rattle.bihash_rule.specs.declared.view.Openings.{Openings}
+use Rattle.bihash_rule.specs.declared.view.Record.{Record}
+use Rattle.bihash_rule.specs.declared.view.View.{View}
 use Rattle.bihash_steps.proofs.Lists.{at_after}
 use Rattle.bihash_steps.proofs.LogLemmas.{writes_on-append}
 use Rattle.bihash_steps.proofs.Prefixes.{after_longer}

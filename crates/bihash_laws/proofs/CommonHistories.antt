@@ -2,12 +2,12 @@
 use Rattle.std.proofs.Common.{◌≡◌, ◌⊎◌, ℕ, List, ap, refl, sym, subst, inl, inr}
 use Rattle.bihash_words.specs.Maps.{Pairs}
 use Rattle.bihash_words.specs.Sizes.{Sizes}
-use Rattle.bihash_steps.specs.Histories.{IsLegal, IsPrefix}
-use Rattle.bihash_steps.specs.Callers.{Agrees, IsLawful, IsLawfulCaller, known_at, opening_at, opening_in}
-use Rattle.bihash_steps.specs.declared.view.Write.{Write}
-use Rattle.bihash_steps.specs.declared.view.Record.{Record}
-use Rattle.bihash_steps.specs.declared.view.Known.{Known}
-use Rattle.bihash_steps.specs.declared.view.View.{View}
+use Rattle.bihash_rule.specs.Histories.{IsLegal, IsPrefix}
+use Rattle.bihash_rule.specs.Callers.{Agrees, IsLawful, IsLawfulCaller, known_at, opening_at, opening_in}
+use Rattle.bihash_rule.specs.declared.view.Write.{Write}
+use Rattle.bihash_rule.specs.declared.view.Record.{Record}
+use Rattle.bihash_rule.specs.declared.view.Known.{Known}
+use Rattle.bihash_rule.specs.declared.view.View.{View}
 use Rattle.bihash_steps.proofs.Prefixes.{prefix_refl}
 use Rattle.bihash_steps.proofs.LawfulCallers.{legal_longer}
 use Rattle.bihash_laws.specs.CallRuns.{AreLegal, IsCommonHistory}

@@ -4,16 +4,16 @@ use mathlib.Core.Option.{some}
 use lib.ListN.{get_elem?}
 use Rattle.bihash_words.specs.Maps.{Pairs}
 use Rattle.bihash_words.specs.Sizes.{Sizes}
-use Rattle.bihash_steps.specs.Words.{buckets}
-use Rattle.bihash_steps.specs.Histories.{IsLegal, IsWriteList}
-use Rattle.bihash_steps.specs.Callers.{Agrees, AreOneList, HasWrite, IsLawfulCaller, known_at, opening_at}
-use Rattle.bihash_steps.specs.Logs.{IsLog, writes_on}
-use Rattle.bihash_steps.specs.declared.view.Write.{Write}
-use Rattle.bihash_steps.specs.declared.view.Call.{Call}
-use Rattle.bihash_steps.specs.declared.view.Entry.{Entry}
-use Rattle.bihash_steps.specs.declared.view.Openings.{Openings}
-use Rattle.bihash_steps.specs.declared.view.Record.{Record}
-use Rattle.bihash_steps.specs.declared.view.View.{View}
+use Rattle.bihash_rule.specs.Words.{buckets}
+use Rattle.bihash_rule.specs.Histories.{IsLegal, IsWriteList}
+use Rattle.bihash_rule.specs.Callers.{Agrees, AreOneList, HasWrite, IsLawfulCaller, known_at, opening_at}
+use Rattle.bihash_rule.specs.Logs.{IsLog, writes_on}
+use Rattle.bihash_rule.specs.declared.view.Write.{Write}
+use Rattle.bihash_rule.specs.declared.view.Call.{Call}
+use Rattle.bihash_rule.specs.declared.view.Entry.{Entry}
+use Rattle.bihash_rule.specs.declared.view.Openings.{Openings}
+use Rattle.bihash_rule.specs.declared.view.Record.{Record}
+use Rattle.bihash_rule.specs.declared.view.View.{View}
 use Rattle.bihash_steps.proofs.Lists.{at_either}
 use Rattle.bihash_laws.specs.CallRuns.{IsCommonHistory}
 use Rattle.bihash_laws.specs.Serializations.{IsCommonSerialization, Operation}

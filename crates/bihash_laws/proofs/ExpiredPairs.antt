@@ -9,10 +9,10 @@ use Rattle.bihash_words.specs.declared.patch.Reply.{Reply}
 use Rattle.bihash_words.specs.declared.patch.Reply.TheVariants.{Changed, Full}
 use Rattle.bihash_words.proofs.MapLemmas.{removed_was_spare}
 use Rattle.bihash_words.proofs.SpareLemmas.{among_words, counted_told, none_spare}
-use Rattle.bihash_steps.specs.Histories.{after, is_changed}
-use Rattle.bihash_steps.specs.Callers.{known_at, opening_at}
+use Rattle.bihash_rule.specs.Histories.{after, is_changed}
+use Rattle.bihash_rule.specs.Callers.{known_at, opening_at}
 use Rattle.bihash_steps.specs.BucketSteps.{map_now}
-use Rattle.bihash_steps.specs.declared.view.View.{View}
+use Rattle.bihash_rule.specs.declared.view.View.{View}
 use Rattle.bihash_table.specs.Answers.{recycled_update}
 use Rattle.bihash_laws.specs.Recyclings.{HasRecycled}
 use Rattle.bihash_laws.specs.CallRuns.{IsLawfulAnswer}

@@ -3,7 +3,9 @@ pub mod BucketOrders
 pub mod CommonHistories
 pub mod CommonSerializations
 pub mod ExpiredPairs
+pub mod LogLaws
 pub mod LogOrders
+pub mod LogRuns
 pub mod LoggedCalls
 pub mod MapSteps
 pub mod OneWriter

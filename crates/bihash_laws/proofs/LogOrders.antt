@@ -5,16 +5,16 @@ use lib.ListN.{get_elem?}
 use mathlib.Core.Option.{some}
 use Rattle.bihash_words.specs.Maps.{Event, Pairs, written}
 use Rattle.bihash_words.specs.Sizes.{Sizes}
-use Rattle.bihash_steps.specs.Histories.{IsAnswer, IsLegal, after, bounds_of, event_of, is_changed, write_of}
-use Rattle.bihash_steps.specs.Callers.{Agrees, IsLawfulCaller, opening_in}
-use Rattle.bihash_steps.specs.Logs.{Begins, FollowEach, Follows, IsLog, call_if, calls_by, writes_on}
+use Rattle.bihash_rule.specs.Histories.{IsAnswer, IsLegal, after, bounds_of, event_of, is_changed, write_of}
+use Rattle.bihash_rule.specs.Callers.{Agrees, IsLawfulCaller, opening_in}
+use Rattle.bihash_rule.specs.Logs.{Begins, FollowEach, Follows, IsLog, call_if, calls_by, writes_on}
 use Rattle.bihash_steps.specs.BucketSteps.{acting}
-use Rattle.bihash_steps.specs.declared.view.Call.{Call}
-use Rattle.bihash_steps.specs.declared.view.Entry.{Entry}
-use Rattle.bihash_steps.specs.declared.view.Openings.{Openings}
-use Rattle.bihash_steps.specs.declared.view.Record.{Record}
-use Rattle.bihash_steps.specs.declared.view.View.{View}
-use Rattle.bihash_steps.specs.declared.view.Write.{Write}
+use Rattle.bihash_rule.specs.declared.view.Call.{Call}
+use Rattle.bihash_rule.specs.declared.view.Entry.{Entry}
+use Rattle.bihash_rule.specs.declared.view.Openings.{Openings}
+use Rattle.bihash_rule.specs.declared.view.Record.{Record}
+use Rattle.bihash_rule.specs.declared.view.View.{View}
+use Rattle.bihash_rule.specs.declared.view.Write.{Write}
 use Rattle.bihash_steps.proofs.Lists.{at_after, at_either, within}
 use Rattle.bihash_steps.proofs.LogLemmas.{begin_at, begins_refl, calls_by-append, none_by, read_writes, write_else, write_here, writes_on-append}
 use Rattle.bihash_steps.proofs.Prefixes.{after_longer}

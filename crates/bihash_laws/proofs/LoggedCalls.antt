@@ -4,11 +4,11 @@ use Rattle.std.proofs.lemmas.Bool.Decides.{eqb_tells}
 use lib.ListN.{get_elem?}
 use mathlib.Core.Option.{some, some-ne-none, some-injective}
 use Rattle.bihash_words.specs.Sizes.{Sizes}
-use Rattle.bihash_steps.specs.Histories.{is_changed, write_of}
-use Rattle.bihash_steps.specs.Logs.{FollowEach, call_if, calls_by, write_if, writes_on}
-use Rattle.bihash_steps.specs.declared.view.Call.{Call}
-use Rattle.bihash_steps.specs.declared.view.Entry.{Entry}
-use Rattle.bihash_steps.specs.declared.view.Openings.{Openings}
+use Rattle.bihash_rule.specs.Histories.{is_changed, write_of}
+use Rattle.bihash_rule.specs.Logs.{FollowEach, call_if, calls_by, write_if, writes_on}
+use Rattle.bihash_rule.specs.declared.view.Call.{Call}
+use Rattle.bihash_rule.specs.declared.view.Entry.{Entry}
+use Rattle.bihash_rule.specs.declared.view.Openings.{Openings}
 use Rattle.bihash_steps.proofs.LogLemmas.{writes_on-append}
 use Rattle.bihash_laws.specs.CallRuns.{calls_on}
 

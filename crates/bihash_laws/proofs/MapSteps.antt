@@ -7,8 +7,8 @@ use Rattle.bihash_words.proofs.MapLemmas.{refused_or_recycled}
 use Rattle.bihash_words.specs.Runs.{writes_of}
 use Rattle.bihash_words.specs.declared.patch.Reply.{Reply}
 use Rattle.bihash_words.specs.declared.patch.Reply.TheVariants.{Kept, Changed, Worn, Full, NoPages}
-use Rattle.bihash_steps.specs.Histories.{after, is_changed}
-use Rattle.bihash_steps.specs.declared.view.Write.{Write}
+use Rattle.bihash_rule.specs.Histories.{after, is_changed}
+use Rattle.bihash_rule.specs.declared.view.Write.{Write}
 
 changed_at : (r : Case) (b : Bounds) (m n : Pairs) (e : Event) → Answers r b m e n → is_changed e.reply ≡ true
     → n ≡ written m e.key e.change e.recycling

@@ -6,14 +6,14 @@ use mathlib.Core.Option.{some, some-ne-none, some-injective}
 use lib.ListN.{get_elem?}
 use Rattle.bihash_words.specs.Maps.{Pairs}
 use Rattle.bihash_words.specs.Sizes.{Sizes}
-use Rattle.bihash_steps.specs.Words.{buckets}
-use Rattle.bihash_steps.specs.Histories.{IsAnswer, IsLegal, write_of, after, bounds_of, event_of, is_changed}
-use Rattle.bihash_steps.specs.Callers.{HasWrite, IsLawfulCaller, MayFollow, Rises, known_at, opening_at}
+use Rattle.bihash_rule.specs.Words.{buckets}
+use Rattle.bihash_rule.specs.Histories.{IsAnswer, IsLegal, write_of, after, bounds_of, event_of, is_changed}
+use Rattle.bihash_rule.specs.Callers.{HasWrite, IsLawfulCaller, MayFollow, Rises, known_at, opening_at}
 use Rattle.bihash_steps.specs.BucketSteps.{map_now}
-use Rattle.bihash_steps.specs.declared.view.Write.{Write}
-use Rattle.bihash_steps.specs.declared.view.Call.{Call}
-use Rattle.bihash_steps.specs.declared.view.Record.{Record}
-use Rattle.bihash_steps.specs.declared.view.View.{View}
+use Rattle.bihash_rule.specs.declared.view.Write.{Write}
+use Rattle.bihash_rule.specs.declared.view.Call.{Call}
+use Rattle.bihash_rule.specs.declared.view.Record.{Record}
+use Rattle.bihash_rule.specs.declared.view.View.{View}
 use Rattle.bihash_steps.proofs.Lists.{there, within}
 use Rattle.bihash_laws.specs.CallRuns.{IsOneWriter, IsCallRun, calls_on, writes_after}
 use Rattle.bihash_laws.proofs.MapSteps.{after_next, no_more, one_more, step_changes, step_leaves}

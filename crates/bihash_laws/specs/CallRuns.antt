@@ -8,14 +8,13 @@ use Rattle.bihash_words.specs.Maps.{Pairs, Event, written}
 use Rattle.bihash_words.specs.Runs as events
 use Rattle.bihash_words.specs.Runs.{writes_of}
 use Rattle.bihash_words.specs.Sizes.{Sizes}
-use Rattle.bihash_steps.specs.Histories.{IsLegal, IsPrefix, after, bounds_of, bucket_of, event_of}
-use Rattle.bihash_steps.specs.Callers.{IsLawfulCaller, known_at, opening_at}
-use Rattle.bihash_steps.specs.declared.view.Write.{Write}
-use Rattle.bihash_steps.specs.declared.view.Call.{Call}
-use Rattle.bihash_steps.specs.declared.view.Record.{Record}
-use Rattle.bihash_steps.specs.declared.view.Known.{Known}
-use Rattle.bihash_steps.specs.declared.view.View.{View}
-use Rattle.bihash_table.specs.Answers.{own_writes}
+use Rattle.bihash_rule.specs.Histories.{IsLegal, IsPrefix, after, bounds_of, bucket_of, event_of}
+use Rattle.bihash_rule.specs.Callers.{IsLawfulCaller, known_at, opening_at}
+use Rattle.bihash_rule.specs.declared.view.Write.{Write}
+use Rattle.bihash_rule.specs.declared.view.Call.{Call}
+use Rattle.bihash_rule.specs.declared.view.Record.{Record}
+use Rattle.bihash_rule.specs.declared.view.Known.{Known}
+use Rattle.bihash_rule.specs.declared.view.View.{View}
 use Rattle.bihash_table.specs.Promise.{IsAnswered}
 
 -- ---- One caller
@@ -73,4 +72,4 @@ pub record IsLastWrite (opening : Pairs) (history : List Write) (number : ℕ) (
 
 -- no write of bucket b was learned but the one that the call made
 abbrev pub LearnsOnlyOwn : ℕ → View → View → Event → Type 0
-LearnsOnlyOwn b v w e = length (known_at w.known b) ≤ length (known_at v.known b) + own_writes e.reply
+LearnsOnlyOwn b v w e = length (known_at w.known b) ≤ length (known_at v.known b) + writes_of e.reply

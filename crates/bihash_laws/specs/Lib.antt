@@ -1,4 +1,6 @@
 pub mod CallRuns
+pub mod LogLaws
+pub mod LogRuns
 pub mod Orders
 pub mod Recyclings
 pub mod Serializations

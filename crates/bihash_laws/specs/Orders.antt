@@ -3,15 +3,15 @@ use Rattle.std.specs.Prelude.{◌≡◌, ◌⊎◌, ℕ, ◌<◌, ◌==◌, ◌+
 use lib.ListN.{get_elem?}
 use mathlib.Core.Option.{some}
 use Rattle.bihash_words.specs.Sizes.{Sizes}
-use Rattle.bihash_steps.specs.Words.{buckets}
-use Rattle.bihash_steps.specs.Histories.{after}
-use Rattle.bihash_steps.specs.Callers.{opening_in}
-use Rattle.bihash_steps.specs.Logs.{Begins, call_if, calls_by, writes_on}
-use Rattle.bihash_steps.specs.declared.view.Call.{Call}
-use Rattle.bihash_steps.specs.declared.view.Entry.{Entry}
-use Rattle.bihash_steps.specs.declared.view.Openings.{Openings}
-use Rattle.bihash_steps.specs.declared.view.Record.{Record}
-use Rattle.bihash_steps.specs.declared.view.View.{View}
+use Rattle.bihash_rule.specs.Words.{buckets}
+use Rattle.bihash_rule.specs.Histories.{after}
+use Rattle.bihash_rule.specs.Callers.{opening_in}
+use Rattle.bihash_rule.specs.Logs.{Begins, call_if, calls_by, writes_on}
+use Rattle.bihash_rule.specs.declared.view.Call.{Call}
+use Rattle.bihash_rule.specs.declared.view.Entry.{Entry}
+use Rattle.bihash_rule.specs.declared.view.Openings.{Openings}
+use Rattle.bihash_rule.specs.declared.view.Record.{Record}
+use Rattle.bihash_rule.specs.declared.view.View.{View}
 use Rattle.bihash_laws.specs.CallRuns.{IsCallRun}
 use Rattle.bihash_laws.specs.Serializations.{AreStamped}
 

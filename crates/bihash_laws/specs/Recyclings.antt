@@ -8,8 +8,8 @@ use Rattle.bihash_words.specs.Maps.{Pairs, changed}
 use Rattle.bihash_words.specs.declared.patch.Change.{Change}
 use Rattle.bihash_words.specs.declared.patch.Reply.{Reply}
 use Rattle.bihash_words.specs.declared.patch.Reply.TheVariants.{Changed}
-use Rattle.bihash_steps.specs.Histories.{after}
-use Rattle.bihash_steps.specs.declared.view.Write.{Write}
+use Rattle.bihash_rule.specs.Histories.{after}
+use Rattle.bihash_rule.specs.declared.view.Write.{Write}
 
 -- the key has an expired value in this map, and no key with an expired word as value is less
 pub record IsLeastExpired (is_expired : ℕ → Bool) (m : Pairs) (gone : List ℕ) : Type 0 where

@@ -5,12 +5,12 @@ use lib.ListN.{get_elem?}
 use mathlib.Core.Option.{some}
 use Rattle.bihash_words.specs.Maps.{Pairs}
 use Rattle.bihash_words.specs.Sizes.{Sizes}
-use Rattle.bihash_steps.specs.Histories.{after, is_changed, write_of}
-use Rattle.bihash_steps.specs.Callers.{HasNumber, opening_at}
-use Rattle.bihash_steps.specs.declared.view.Write.{Write}
-use Rattle.bihash_steps.specs.declared.view.Call.{Call}
-use Rattle.bihash_steps.specs.declared.view.Record.{Record}
-use Rattle.bihash_steps.specs.declared.view.View.{View}
+use Rattle.bihash_rule.specs.Histories.{after, is_changed, write_of}
+use Rattle.bihash_rule.specs.Callers.{HasNumber, opening_at}
+use Rattle.bihash_rule.specs.declared.view.Write.{Write}
+use Rattle.bihash_rule.specs.declared.view.Call.{Call}
+use Rattle.bihash_rule.specs.declared.view.Record.{Record}
+use Rattle.bihash_rule.specs.declared.view.View.{View}
 use Rattle.bihash_laws.specs.CallRuns.{IsCommonHistory, IsCallRun, calls_on, writes_after}
 
 -- a call, and the caller number under which it was made

@@ -3,4 +3,5 @@ pub mod Layouts
 pub mod Plans
 pub mod Recycles
 pub mod Searches
+pub mod Wants
 pub mod inner

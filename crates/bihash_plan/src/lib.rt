@@ -14,6 +14,7 @@ mod spare_place;
 pub use expired::recycle;
 pub use growth::{larger, plan};
 pub use outcome::Plan;
+pub use place::page_count;
 pub use rehash::lay;
 pub use search::find;
 pub use spare_place::Recycle;

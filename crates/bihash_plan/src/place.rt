@@ -15,8 +15,8 @@ pub(crate) fn page<S: Shape>(key: &S::Key, log2: u64) -> usize
     ((hash >> S::LOG2_BUCKETS) % (1u64 << log2)) as usize
 }
 
-/// How many pages a block has.
-pub(crate) fn page_count(log2: u64) -> usize
+/// How many pages a block of this log2 has.
+pub fn page_count(log2: u64) -> usize
     requires { log2 ≤ 24 }
     ensures { result ≡ 2 ^ log2 }
 {

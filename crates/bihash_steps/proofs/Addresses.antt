@@ -6,19 +6,19 @@ use prog.Atomic.{either}
 use Rattle.atomic_table.specs.Table.{State, Allows}
 use Rattle.bihash_words.specs.Sizes.{Sizes}
 use Rattle.bihash_words.specs.Words.{Bucket, FitsWord, packed}
-use Rattle.bihash_steps.specs.Words.{buckets, bucket_at, page_at, page_words}
-use Rattle.bihash_steps.specs.Callers.{known_at}
-use Rattle.bihash_steps.specs.Buckets.{word_of, open_word}
+use Rattle.bihash_rule.specs.Words.{buckets, bucket_at, page_at, page_words}
+use Rattle.bihash_rule.specs.Callers.{known_at}
+use Rattle.bihash_rule.specs.Buckets.{word_of, open_word}
 use Rattle.bihash_steps.specs.BucketSteps.{TellsBucket, TellsLock, IsLockedWord, TellsLockedWord, TellsStored, HoldsClean, without_lock, MayAnswer, view_after_answer, MayMark, marked, TellsEvent, view_after_write, IsOpenWord, TellsOpenWord, MayValidate, TellsValid, TellsEntry}
 use Rattle.bihash_steps.specs.Steps.{ViewOfSeat}
 use Rattle.bihash_steps.specs.StoreSteps.{MayReplace, view_after_replace, IsHeldWord, holding, stored_at}
-use Rattle.bihash_steps.specs.WordRule.{WordRule}
-use Rattle.bihash_steps.specs.declared.view.Call.{Call}
-use Rattle.bihash_steps.specs.declared.view.Extent.{Extent}
-use Rattle.bihash_steps.specs.declared.view.LockedBucket.{LockedBucket}
-use Rattle.bihash_steps.specs.declared.view.HeldBlock.{HeldBlock}
-use Rattle.bihash_steps.specs.declared.view.OpenBucket.{OpenBucket}
-use Rattle.bihash_steps.specs.declared.view.View.{View}
+use Rattle.bihash_rule.specs.WordRule.{WordRule}
+use Rattle.bihash_rule.specs.declared.view.Call.{Call}
+use Rattle.bihash_rule.specs.declared.view.Extent.{Extent}
+use Rattle.bihash_rule.specs.declared.view.LockedBucket.{LockedBucket}
+use Rattle.bihash_rule.specs.declared.view.HeldBlock.{HeldBlock}
+use Rattle.bihash_rule.specs.declared.view.OpenBucket.{OpenBucket}
+use Rattle.bihash_rule.specs.declared.view.View.{View}
 use Rattle.bihash_steps.proofs.bucket_steps.LoadBucket.{bucket_fits, loads_bucket}
 use Rattle.bihash_steps.proofs.bucket_steps.LockFrom.{locks_bucket}
 use Rattle.bihash_steps.proofs.bucket_steps.LockedWords.{held_bucket, loads_locked_word, stores_locked_word}

@@ -6,22 +6,22 @@ use Rattle.std.specs.FinMap.{get}
 use Rattle.std.proofs.lemmas.List.{length-replicate}
 use Rattle.atomic_table.specs.Table.{opening}
 use Rattle.bihash_words.specs.Sizes.{Sizes, IsSound}
-use Rattle.bihash_steps.specs.Words.{buckets, all_words, count_of}
-use Rattle.bihash_steps.specs.Blocks.{no_block}
-use Rattle.bihash_steps.specs.Partition.{IsPartition}
-use Rattle.bihash_steps.specs.Histories.{IsKeyOf, IsWriteList}
-use Rattle.bihash_steps.specs.Callers.{known_at, opening_in, IsLawfulCaller}
-use Rattle.bihash_steps.specs.Buckets.{BucketState, IsBucket}
-use Rattle.bihash_steps.specs.PageStores.{StoreState, IsStore, all_used, runs_now}
-use Rattle.bihash_steps.specs.LogRule.{KnowsLog}
-use Rattle.bihash_steps.specs.Views.{empty_record, opening_view}
-use Rattle.bihash_steps.specs.WordRule.{TableState, IsView, WordRule}
-use Rattle.bihash_steps.specs.declared.view.Openings.{Openings}
-use Rattle.bihash_steps.specs.declared.view.Write.{Write}
-use Rattle.bihash_steps.specs.declared.view.Extent.{Extent}
-use Rattle.bihash_steps.specs.declared.view.PageStore.{PageStore}
-use Rattle.bihash_steps.specs.declared.view.Record.{Record}
-use Rattle.bihash_steps.specs.declared.view.View.{View}
+use Rattle.bihash_rule.specs.Words.{buckets, all_words, count_of}
+use Rattle.bihash_rule.specs.Blocks.{no_block}
+use Rattle.bihash_rule.specs.Partition.{IsPartition}
+use Rattle.bihash_rule.specs.Histories.{IsKeyOf, IsWriteList}
+use Rattle.bihash_rule.specs.Callers.{known_at, opening_in, IsLawfulCaller}
+use Rattle.bihash_rule.specs.Buckets.{BucketState, IsBucket}
+use Rattle.bihash_rule.specs.PageStores.{StoreState, IsStore, all_used, runs_now}
+use Rattle.bihash_rule.specs.LogRule.{KnowsLog}
+use Rattle.bihash_rule.specs.Views.{empty_record, opening_view}
+use Rattle.bihash_rule.specs.WordRule.{TableState, IsView, WordRule}
+use Rattle.bihash_rule.specs.declared.view.Openings.{Openings}
+use Rattle.bihash_rule.specs.declared.view.Write.{Write}
+use Rattle.bihash_rule.specs.declared.view.Extent.{Extent}
+use Rattle.bihash_rule.specs.declared.view.PageStore.{PageStore}
+use Rattle.bihash_rule.specs.declared.view.Record.{Record}
+use Rattle.bihash_rule.specs.declared.view.View.{View}
 use Rattle.bihash_steps.proofs.Lists.{no_row}
 
 -- the keys of the maps with which the buckets begin are the buckets' own

@@ -3,7 +3,7 @@ use Rattle.std.proofs.Common.{◌≡◌, ℕ, ◌<◌, List, [], Some, refl, ari
 use Rattle.std.specs.FinMap.{get}
 use Rattle.bihash_words.specs.Maps.{Pairs}
 use Rattle.bihash_words.specs.Sizes.{Sizes}
-use Rattle.bihash_steps.specs.Blocks.{IsBlockOf, no_block, places}
+use Rattle.bihash_rule.specs.Blocks.{IsBlockOf, no_block, places}
 
 nowhere : (i : ℕ) → i < places 0 0 → ⊥
 nowhere i less = omega arith

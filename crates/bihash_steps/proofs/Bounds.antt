@@ -3,7 +3,7 @@ use Rattle.std.proofs.Common.{◌≡◌, ℕ, zero, suc, ◌+◌, ◌*◌, ◌%�
 use native.Mathlib.Nat.{pow-le-pow_right}
 use Rattle.std.proofs.Math.Nat.{div-le_self}
 use Rattle.bihash_words.specs.Sizes.{Sizes, IsSound}
-use Rattle.bihash_steps.specs.Words.{buckets, page_words, list_words, lists_words, list_at, front_words, all_words}
+use Rattle.bihash_rule.specs.Words.{buckets, page_words, list_words, lists_words, list_at, front_words, all_words}
 use Rattle.bihash_steps.proofs.CountWord.{front}
 use Rattle.bihash_steps.proofs.Frames.{list_inside}
 

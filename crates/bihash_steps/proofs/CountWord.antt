@@ -8,23 +8,23 @@ use Rattle.atomic_table.specs.Table.{State}
 use Rattle.atomic_table.proofs.Lists.{at_set}
 use Rattle.bihash_words.specs.Maps.{Pairs}
 use Rattle.bihash_words.specs.Sizes.{Sizes}
-use Rattle.bihash_steps.specs.Words.{count_of, returned_count_at, list_at, lists_words, front_words, bucket_at, page_at, page_words, all_words, Stands}
-use Rattle.bihash_steps.specs.Callers.{IsWhole, Apart, known_at, opening_in}
-use Rattle.bihash_steps.specs.Partition.{IsPartition, run_of, runs_of}
-use Rattle.bihash_steps.specs.Buckets.{BucketState, IsBucket, HoldsBucket, HoldsBucketIf, StandsStillIf}
-use Rattle.bihash_steps.specs.PageStores.{StoreState, returned_in, all_used, IsStore, IsListedIf, HoldsStoreIf, HoldsBlockIf, run_in, run_held, runs_now}
-use Rattle.bihash_steps.specs.LogRule.{LogRule}
-use Rattle.bihash_steps.specs.WordRule.{TableState, IsView, WordRule}
-use Rattle.bihash_steps.specs.declared.view.Record.{Record}
-use Rattle.bihash_steps.specs.declared.view.Write.{Write}
-use Rattle.bihash_steps.specs.declared.view.Known.{Known}
-use Rattle.bihash_steps.specs.declared.view.PageStore.{PageStore}
-use Rattle.bihash_steps.specs.declared.view.ListedPage.{ListedPage}
-use Rattle.bihash_steps.specs.declared.view.LockedBucket.{LockedBucket}
-use Rattle.bihash_steps.specs.declared.view.LockedStore.{LockedStore}
-use Rattle.bihash_steps.specs.declared.view.HeldBlock.{HeldBlock}
-use Rattle.bihash_steps.specs.declared.view.OpenBucket.{OpenBucket}
-use Rattle.bihash_steps.specs.declared.view.View.{View}
+use Rattle.bihash_rule.specs.Words.{count_of, returned_count_at, list_at, lists_words, front_words, bucket_at, page_at, page_words, all_words, Stands}
+use Rattle.bihash_rule.specs.Callers.{IsWhole, Apart, known_at, opening_in}
+use Rattle.bihash_rule.specs.Partition.{IsPartition, run_of, runs_of}
+use Rattle.bihash_rule.specs.Buckets.{BucketState, IsBucket, HoldsBucket, HoldsBucketIf, StandsStillIf}
+use Rattle.bihash_rule.specs.PageStores.{StoreState, returned_in, all_used, IsStore, IsListedIf, HoldsStoreIf, HoldsBlockIf, run_in, run_held, runs_now}
+use Rattle.bihash_rule.specs.LogRule.{LogRule}
+use Rattle.bihash_rule.specs.WordRule.{TableState, IsView, WordRule}
+use Rattle.bihash_rule.specs.declared.view.Record.{Record}
+use Rattle.bihash_rule.specs.declared.view.Write.{Write}
+use Rattle.bihash_rule.specs.declared.view.Known.{Known}
+use Rattle.bihash_rule.specs.declared.view.PageStore.{PageStore}
+use Rattle.bihash_rule.specs.declared.view.ListedPage.{ListedPage}
+use Rattle.bihash_rule.specs.declared.view.LockedBucket.{LockedBucket}
+use Rattle.bihash_rule.specs.declared.view.LockedStore.{LockedStore}
+use Rattle.bihash_rule.specs.declared.view.HeldBlock.{HeldBlock}
+use Rattle.bihash_rule.specs.declared.view.OpenBucket.{OpenBucket}
+use Rattle.bihash_rule.specs.declared.view.View.{View}
 use Rattle.bihash_steps.proofs.Lists.{there}
 use Rattle.bihash_steps.proofs.LogSteps.{kept_logged}
 

@@ -6,13 +6,13 @@ use mathlib.Core.Option.{none, some}
 use lib.ListN.{get_elem?}
 use Rattle.std.specs.Prelude.{slice_index}
 use Rattle.atomic_table.proofs.Lists.{at_last}
-use Rattle.bihash_steps.specs.Partition.{PageRun, IsWithin, Owner, of_bucket, returned_at, never_used, held_by, IsPartition, run_of, run_at}
-use Rattle.bihash_steps.specs.Buckets.{BucketState}
-use Rattle.bihash_steps.specs.PageStores.{returned_in, run_in, run_held, runs_now}
+use Rattle.bihash_rule.specs.Partition.{PageRun, IsWithin, Owner, of_bucket, returned_at, never_used, held_by, IsPartition, run_of, run_at}
+use Rattle.bihash_rule.specs.Buckets.{BucketState}
+use Rattle.bihash_rule.specs.PageStores.{returned_in, run_in, run_held, runs_now}
 use Rattle.bihash_steps.specs.StoreSteps.{unlisted, grown, relisted}
-use Rattle.bihash_steps.specs.declared.view.Extent.{Extent}
-use Rattle.bihash_steps.specs.declared.view.PageStore.{PageStore}
-use Rattle.bihash_steps.specs.declared.view.View.{View}
+use Rattle.bihash_rule.specs.declared.view.Extent.{Extent}
+use Rattle.bihash_rule.specs.declared.view.PageStore.{PageStore}
+use Rattle.bihash_rule.specs.declared.view.View.{View}
 use Rattle.bihash_steps.proofs.OwnedWords.{run_some, run_set, run_set_other}
 
 -- ---- Two owners exchange what they have

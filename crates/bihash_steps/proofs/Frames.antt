@@ -9,28 +9,28 @@ use Rattle.atomic_table.specs.Table.{State}
 use Rattle.atomic_table.proofs.Lists.{at_set}
 use Rattle.bihash_words.specs.Sizes.{Sizes}
 use Rattle.bihash_words.specs.Words.{bit}
-use Rattle.bihash_steps.specs.Words.{count_of, front_words, buckets, bucket_at, page_at, page_words, block_words, returned_count_at, list_at, list_words, lists_words, Stands}
-use Rattle.bihash_steps.specs.Histories.{IsPrefix}
-use Rattle.bihash_steps.specs.Callers.{HasNumber, known_at, opening_in}
-use Rattle.bihash_steps.specs.Blocks.{no_block}
-use Rattle.bihash_steps.specs.Partition.{PageRun, Owner, IsPartition, of_bucket, held_by, run_of}
-use Rattle.bihash_steps.specs.Buckets.{BucketState, IsBucket, HoldsBucket, HoldsBucketIf, IsOpenIf}
-use Rattle.bihash_steps.specs.PageStores.{StoreState, IsStore, BearsOutOfPages, IsListedIf, HoldsStore, HoldsStoreIf, HoldsBlockIf, LeftIf, returned_in, writes_in, all_writes, all_used, most_used, run_in, run_held, runs_now}
-use Rattle.bihash_steps.specs.LogRule.{LogRule}
-use Rattle.bihash_steps.specs.WordRule.{IsInformed, HaveMetIf, IsView, WordRule}
-use Rattle.bihash_steps.specs.declared.view.Write.{Write}
-use Rattle.bihash_steps.specs.declared.view.Call.{Call}
-use Rattle.bihash_steps.specs.declared.view.Record.{Record}
-use Rattle.bihash_steps.specs.declared.view.Extent.{Extent}
-use Rattle.bihash_steps.specs.declared.view.Known.{Known}
-use Rattle.bihash_steps.specs.declared.view.Meeting.{Meeting}
-use Rattle.bihash_steps.specs.declared.view.LockedBucket.{LockedBucket}
-use Rattle.bihash_steps.specs.declared.view.LockedStore.{LockedStore}
-use Rattle.bihash_steps.specs.declared.view.ListedPage.{ListedPage}
-use Rattle.bihash_steps.specs.declared.view.HeldBlock.{HeldBlock}
-use Rattle.bihash_steps.specs.declared.view.OpenBucket.{OpenBucket}
-use Rattle.bihash_steps.specs.declared.view.PageStore.{PageStore}
-use Rattle.bihash_steps.specs.declared.view.View.{View}
+use Rattle.bihash_rule.specs.Words.{count_of, front_words, buckets, bucket_at, page_at, page_words, block_words, returned_count_at, list_at, list_words, lists_words, Stands}
+use Rattle.bihash_rule.specs.Histories.{IsPrefix}
+use Rattle.bihash_rule.specs.Callers.{HasNumber, known_at, opening_in}
+use Rattle.bihash_rule.specs.Blocks.{no_block}
+use Rattle.bihash_rule.specs.Partition.{PageRun, Owner, IsPartition, of_bucket, held_by, run_of}
+use Rattle.bihash_rule.specs.Buckets.{BucketState, IsBucket, HoldsBucket, HoldsBucketIf, IsOpenIf}
+use Rattle.bihash_rule.specs.PageStores.{StoreState, IsStore, BearsOutOfPages, IsListedIf, HoldsStore, HoldsStoreIf, HoldsBlockIf, LeftIf, returned_in, writes_in, all_writes, all_used, most_used, run_in, run_held, runs_now}
+use Rattle.bihash_rule.specs.LogRule.{LogRule}
+use Rattle.bihash_rule.specs.WordRule.{IsInformed, HaveMetIf, IsView, WordRule}
+use Rattle.bihash_rule.specs.declared.view.Write.{Write}
+use Rattle.bihash_rule.specs.declared.view.Call.{Call}
+use Rattle.bihash_rule.specs.declared.view.Record.{Record}
+use Rattle.bihash_rule.specs.declared.view.Extent.{Extent}
+use Rattle.bihash_rule.specs.declared.view.Known.{Known}
+use Rattle.bihash_rule.specs.declared.view.Meeting.{Meeting}
+use Rattle.bihash_rule.specs.declared.view.LockedBucket.{LockedBucket}
+use Rattle.bihash_rule.specs.declared.view.LockedStore.{LockedStore}
+use Rattle.bihash_rule.specs.declared.view.ListedPage.{ListedPage}
+use Rattle.bihash_rule.specs.declared.view.HeldBlock.{HeldBlock}
+use Rattle.bihash_rule.specs.declared.view.OpenBucket.{OpenBucket}
+use Rattle.bihash_rule.specs.declared.view.PageStore.{PageStore}
+use Rattle.bihash_rule.specs.declared.view.View.{View}
 use Rattle.bihash_steps.proofs.Lists.{within, at_either}
 use Rattle.bihash_steps.proofs.CountWord.{front, held_still, apart_set, as_view, not_lone, others_apart}
 

@@ -11,15 +11,15 @@ use Rattle.std.specs.Ordering.{nat_cmp}
 use Rattle.std.specs.Cmp.Lexicographic.{slice_cmp}
 use Rattle.atomic_table.specs.Table.{opening}
 use Rattle.bihash_words.specs.Sizes.{Sizes, IsSound}
-use Rattle.bihash_steps.specs.Words.{bucket_at, page_words, list_words, list_at, returned_count_at, Stands}
-use Rattle.bihash_steps.specs.Blocks.{no_block}
-use Rattle.bihash_steps.specs.Partition.{PageRun, Owner, of_bucket, returned_at, never_used, held_by, run_at}
-use Rattle.bihash_steps.specs.Callers.{opening_in, IsLawfulCaller}
-use Rattle.bihash_steps.specs.Words.{IsFresh}
-use Rattle.bihash_steps.specs.PageStores.{returned_in, runs_now}
-use Rattle.bihash_steps.specs.Views.{first_view, no_openings}
-use Rattle.bihash_steps.specs.WordRule.{WordRule}
-use Rattle.bihash_steps.specs.declared.view.PageStore.{PageStore}
+use Rattle.bihash_rule.specs.Words.{bucket_at, page_words, list_words, list_at, returned_count_at, Stands}
+use Rattle.bihash_rule.specs.Blocks.{no_block}
+use Rattle.bihash_rule.specs.Partition.{PageRun, Owner, of_bucket, returned_at, never_used, held_by, run_at}
+use Rattle.bihash_rule.specs.Callers.{opening_in, IsLawfulCaller}
+use Rattle.bihash_rule.specs.Words.{IsFresh}
+use Rattle.bihash_rule.specs.PageStores.{returned_in, runs_now}
+use Rattle.bihash_rule.specs.Views.{first_view, no_openings}
+use Rattle.bihash_rule.specs.WordRule.{WordRule}
+use Rattle.bihash_rule.specs.declared.view.PageStore.{PageStore}
 use Rattle.bihash_steps.proofs.Beginnings.{AreHome, bucket_at_first, no_writes, opening_lawful, starts_so}
 use Rattle.bihash_steps.proofs.BlockLemmas.{bare_block}
 use Rattle.bihash_steps.proofs.CountWord.{front}

@@ -9,8 +9,8 @@ use Rattle.bihash_words.specs.Sizes.{Sizes}
 use Rattle.bihash_words.specs.declared.patch.Change.{Change}
 use Rattle.bihash_words.specs.declared.patch.Change.TheVariants.{Keep, Set, Remove}
 use Rattle.bihash_words.proofs.MapValues.{get_left, get_other, get_removed, same_or_other}
-use Rattle.bihash_steps.specs.Histories.{IsKeyOf, IsWriteList, after, bucket_of, replay}
-use Rattle.bihash_steps.specs.declared.view.Write.{Write}
+use Rattle.bihash_rule.specs.Histories.{IsKeyOf, IsWriteList, after, bucket_of, replay}
+use Rattle.bihash_rule.specs.declared.view.Write.{Write}
 
 module _ (z : Sizes) (b : ℕ) where
   -- each key of the map is one of the bucket

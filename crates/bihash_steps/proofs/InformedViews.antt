@@ -8,17 +8,17 @@ use Rattle.atomic_table.proofs.Lists.{at_longer, at_last}
 use Rattle.bihash_words.specs.Sizes.{Sizes}
 use Rattle.bihash_words.specs.declared.patch.Reply.{Reply}
 use Rattle.bihash_words.specs.declared.patch.Reply.TheVariants.{Kept, Changed, Worn, Full, NoPages}
-use Rattle.bihash_steps.specs.Words.{buckets}
-use Rattle.bihash_steps.specs.Histories.{IsPrefix, IsKeyOf, IsLegal, IsAnswer, after, is_changed, store_of}
-use Rattle.bihash_steps.specs.Callers.{known_at, opening_at, opening_in, MayFollow, Rises, HasWrite, IsLawful}
-use Rattle.bihash_steps.specs.WordRule.{TableState, IsInformed}
+use Rattle.bihash_rule.specs.Words.{buckets}
+use Rattle.bihash_rule.specs.Histories.{IsPrefix, IsKeyOf, IsLegal, IsAnswer, after, is_changed, store_of}
+use Rattle.bihash_rule.specs.Callers.{known_at, opening_at, opening_in, MayFollow, Rises, HasWrite, IsLawful}
+use Rattle.bihash_rule.specs.WordRule.{TableState, IsInformed}
 use Rattle.bihash_steps.specs.BucketSteps.{with_history, acting, push_call, lock_counted, map_now}
-use Rattle.bihash_steps.specs.declared.view.Write.{Write}
-use Rattle.bihash_steps.specs.declared.view.Call.{Call}
-use Rattle.bihash_steps.specs.declared.view.Record.{Record}
-use Rattle.bihash_steps.specs.declared.view.Known.{Known}
-use Rattle.bihash_steps.specs.declared.view.PageStore.{PageStore}
-use Rattle.bihash_steps.specs.declared.view.View.{View}
+use Rattle.bihash_rule.specs.declared.view.Write.{Write}
+use Rattle.bihash_rule.specs.declared.view.Call.{Call}
+use Rattle.bihash_rule.specs.declared.view.Record.{Record}
+use Rattle.bihash_rule.specs.declared.view.Known.{Known}
+use Rattle.bihash_rule.specs.declared.view.PageStore.{PageStore}
+use Rattle.bihash_rule.specs.declared.view.View.{View}
 use Rattle.bihash_steps.proofs.Prefixes.{prefix_refl, prefix_length, prefix_at, prefix_below}
 use Rattle.bihash_steps.proofs.LawfulCallers.{still_legal}
 use Rattle.bihash_steps.proofs.PushedCalls.{push_at, push-length, pushed_calls, push_renumbers, acting_is, rises_more, counted-length, counted_at}

@@ -7,16 +7,17 @@ use lib.ListN.{get_elem?}
 use Rattle.atomic_table.specs.Table.{State}
 use Rattle.bihash_words.specs.Maps.{Pairs}
 use Rattle.bihash_words.specs.Sizes.{Sizes}
-use Rattle.bihash_steps.specs.Words.{buckets, count_of}
-use Rattle.bihash_steps.specs.Histories.{IsPrefix, IsWrite, IsWriteList}
-use Rattle.bihash_steps.specs.Callers.{HasNumbers, IsLawfulCaller, IsWhole, KnowsOwn, MatchesLog, Openings, known_at, opening_at, opening_in}
-use Rattle.bihash_steps.specs.Logs.{IsLogged, writes_on}
-use Rattle.bihash_steps.specs.WordRule.{IsInformed, TableState, WordRule}
-use Rattle.bihash_steps.specs.declared.view.Entry.{Entry}
-use Rattle.bihash_steps.specs.declared.view.Write.{Write}
-use Rattle.bihash_steps.specs.declared.view.Record.{Record}
-use Rattle.bihash_steps.specs.declared.view.Known.{Known}
-use Rattle.bihash_steps.specs.declared.view.View.{View}
+use Rattle.bihash_rule.specs.Words.{buckets, count_of}
+use Rattle.bihash_rule.specs.Histories.{IsPrefix, IsWrite, IsWriteList}
+use Rattle.bihash_rule.specs.Callers.{HasNumbers, IsLawfulCaller, IsWhole, KnowsOwn, MatchesLog, known_at, opening_at, opening_in}
+use Rattle.bihash_rule.specs.declared.view.Openings.{Openings}
+use Rattle.bihash_rule.specs.Logs.{IsLogged, writes_on}
+use Rattle.bihash_rule.specs.WordRule.{IsInformed, TableState, WordRule}
+use Rattle.bihash_rule.specs.declared.view.Entry.{Entry}
+use Rattle.bihash_rule.specs.declared.view.Write.{Write}
+use Rattle.bihash_rule.specs.declared.view.Record.{Record}
+use Rattle.bihash_rule.specs.declared.view.Known.{Known}
+use Rattle.bihash_rule.specs.declared.view.View.{View}
 use Rattle.atomic_table.proofs.Lists.{set_here}
 use Rattle.bihash_steps.proofs.Lists.{within}
 use Rattle.bihash_steps.proofs.LogSteps.{is_logged, log_begins}

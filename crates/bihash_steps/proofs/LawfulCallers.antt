@@ -6,16 +6,16 @@ use Rattle.std.proofs.Math.Nat.{mod-lt}
 use Rattle.atomic_table.proofs.Lists.{at_longer}
 use Rattle.bihash_words.specs.Maps.{Pairs}
 use Rattle.bihash_words.specs.Sizes.{Sizes}
-use Rattle.bihash_steps.specs.Words.{buckets}
-use Rattle.bihash_steps.specs.Histories.{IsLegal, IsPrefix, IsAnswer}
-use Rattle.bihash_steps.specs.Callers.{known_at, opening_at, opening_in, HasNumbers, IsLawful, Apart}
-use Rattle.bihash_steps.specs.Views.{empty_record}
-use Rattle.bihash_steps.specs.WordRule.{TableState, IsInformed}
+use Rattle.bihash_rule.specs.Words.{buckets}
+use Rattle.bihash_rule.specs.Histories.{IsLegal, IsPrefix, IsAnswer}
+use Rattle.bihash_rule.specs.Callers.{known_at, opening_at, opening_in, HasNumbers, IsLawful, Apart}
+use Rattle.bihash_rule.specs.Views.{empty_record}
+use Rattle.bihash_rule.specs.WordRule.{TableState, IsInformed}
 use Rattle.bihash_steps.specs.Steps.{longer_each}
-use Rattle.bihash_steps.specs.declared.view.Write.{Write}
-use Rattle.bihash_steps.specs.declared.view.Call.{Call}
-use Rattle.bihash_steps.specs.declared.view.Record.{Record}
-use Rattle.bihash_steps.specs.declared.view.Known.{Known}
+use Rattle.bihash_rule.specs.declared.view.Write.{Write}
+use Rattle.bihash_rule.specs.declared.view.Call.{Call}
+use Rattle.bihash_rule.specs.declared.view.Record.{Record}
+use Rattle.bihash_rule.specs.declared.view.Known.{Known}
 use Rattle.bihash_steps.proofs.Lists.{within, there, at_after, at_end, at_either, at_take, at_drop}
 use Rattle.bihash_steps.proofs.Prefixes.{after_longer, prefix_length, prefix_at, prefix_below, longer_known, longer_length}
 

@@ -12,9 +12,7 @@ pub mod KnownLists
 pub mod LawfulCallers
 pub mod Lists
 pub mod LogEvents
-pub mod LogLaws
 pub mod LogLemmas
-pub mod LogRuns
 pub mod LogSteps
 pub mod NotedViews
 pub mod Numbers

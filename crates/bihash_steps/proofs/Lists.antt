@@ -2,7 +2,7 @@
 use Rattle.std.proofs.Common.{◌≡◌, ◌⊎◌, ℕ, zero, suc, ◌+◌, ◌<◌, List, [], ◌∷◌, ◌++◌, length, take, drop, refl, sym, ap, ◌∙◌, inl, inr, arith}
 use mathlib.Core.Option.{some, some-ne-none, some-injective}
 use lib.ListN.{get_elem?}
-use Rattle.bihash_steps.specs.Words.{Stands}
+use Rattle.bihash_rule.specs.Words.{Stands}
 
 module _ {A : Type 0} where
   pub within : (l : List A) (i : ℕ) (a : A) → get_elem? l i ≡ some a → i < length l

@@ -7,19 +7,20 @@ use lib.ListN.{get_elem?}
 use Rattle.atomic_table.specs.Table.{State}
 use Rattle.atomic_table.proofs.Lists.{at_last, set_here}
 use Rattle.bihash_words.specs.Sizes.{Sizes}
-use Rattle.bihash_steps.specs.Words.{buckets}
-use Rattle.bihash_steps.specs.Histories.{IsLegal, is_changed, write_of}
-use Rattle.bihash_steps.specs.Callers.{Openings, known_at, opening_at, opening_in}
-use Rattle.bihash_steps.specs.Logs.{writes_on, Follows, IsLogged}
-use Rattle.bihash_steps.specs.LogRule.{LogRule}
-use Rattle.bihash_steps.specs.WordRule.{TableState, IsInformed, WordRule}
+use Rattle.bihash_rule.specs.Words.{buckets}
+use Rattle.bihash_rule.specs.Histories.{IsLegal, is_changed, write_of}
+use Rattle.bihash_rule.specs.Callers.{known_at, opening_at, opening_in}
+use Rattle.bihash_rule.specs.declared.view.Openings.{Openings}
+use Rattle.bihash_rule.specs.Logs.{writes_on, Follows, IsLogged}
+use Rattle.bihash_rule.specs.LogRule.{LogRule}
+use Rattle.bihash_rule.specs.WordRule.{TableState, IsInformed, WordRule}
 use Rattle.bihash_steps.specs.BucketSteps.{acting, push_call, entry_of, view_after_write, Enters}
-use Rattle.bihash_steps.specs.declared.view.Write.{Write}
-use Rattle.bihash_steps.specs.declared.view.Call.{Call}
-use Rattle.bihash_steps.specs.declared.view.Entry.{Entry}
-use Rattle.bihash_steps.specs.declared.view.Known.{Known}
-use Rattle.bihash_steps.specs.declared.view.Record.{Record}
-use Rattle.bihash_steps.specs.declared.view.View.{View}
+use Rattle.bihash_rule.specs.declared.view.Write.{Write}
+use Rattle.bihash_rule.specs.declared.view.Call.{Call}
+use Rattle.bihash_rule.specs.declared.view.Entry.{Entry}
+use Rattle.bihash_rule.specs.declared.view.Known.{Known}
+use Rattle.bihash_rule.specs.declared.view.Record.{Record}
+use Rattle.bihash_rule.specs.declared.view.View.{View}
 use Rattle.bihash_steps.proofs.Lists.{at_after, within}
 use Rattle.bihash_steps.proofs.InformedViews.{known_learned}
 use Rattle.bihash_steps.proofs.CountWord.{others_apart}

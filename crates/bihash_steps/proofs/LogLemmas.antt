@@ -7,13 +7,13 @@ use lib.ListN.{get_elem?}
 use Rattle.std.proofs.lemmas.Bool.Decides.{nat_tests}
 use Rattle.atomic_table.proofs.Lists.{at_longer}
 use Rattle.bihash_words.specs.Sizes.{Sizes}
-use Rattle.bihash_steps.specs.Histories.{is_changed, write_of}
-use Rattle.bihash_steps.specs.Callers.{Openings}
-use Rattle.bihash_steps.specs.Logs.{call_if, calls_by, write_if, writes_on, Begins, Follows, FollowEach}
+use Rattle.bihash_rule.specs.Histories.{is_changed, write_of}
+use Rattle.bihash_rule.specs.declared.view.Openings.{Openings}
+use Rattle.bihash_rule.specs.Logs.{call_if, calls_by, write_if, writes_on, Begins, Follows, FollowEach}
 use Rattle.bihash_steps.specs.Steps.{longer_log}
-use Rattle.bihash_steps.specs.declared.view.Write.{Write}
-use Rattle.bihash_steps.specs.declared.view.Call.{Call}
-use Rattle.bihash_steps.specs.declared.view.Entry.{Entry}
+use Rattle.bihash_rule.specs.declared.view.Write.{Write}
+use Rattle.bihash_rule.specs.declared.view.Call.{Call}
+use Rattle.bihash_rule.specs.declared.view.Entry.{Entry}
 use Rattle.bihash_steps.proofs.Lists.{within}
 
 -- ---- Under a number, and on a bucket

@@ -7,19 +7,20 @@ use lib.ListN.{get_elem?}
 use Rattle.std.proofs.lemmas.List.{take-append-drop}
 use Rattle.atomic_table.proofs.Lists.{at_last, at_set, at_longer, set_here, set_else}
 use Rattle.bihash_words.specs.Sizes.{Sizes}
-use Rattle.bihash_steps.specs.Words.{buckets}
-use Rattle.bihash_steps.specs.Histories.{IsPrefix}
-use Rattle.bihash_steps.specs.Callers.{Openings, HasNumber, HasNumbers, HaveOneLog, Apart}
-use Rattle.bihash_steps.specs.Logs.{calls_by, writes_on, Begins, Follows, IsLog, IsLogged}
-use Rattle.bihash_steps.specs.LogRule.{KnowsLog, IsHeld, LogRule}
-use Rattle.bihash_steps.specs.Views.{empty_record}
+use Rattle.bihash_rule.specs.Words.{buckets}
+use Rattle.bihash_rule.specs.Histories.{IsPrefix}
+use Rattle.bihash_rule.specs.Callers.{HasNumber, HasNumbers, HaveOneLog, Apart}
+use Rattle.bihash_rule.specs.declared.view.Openings.{Openings}
+use Rattle.bihash_rule.specs.Logs.{calls_by, writes_on, Begins, Follows, IsLog, IsLogged}
+use Rattle.bihash_rule.specs.LogRule.{KnowsLog, IsHeld, LogRule}
+use Rattle.bihash_rule.specs.Views.{empty_record}
 use Rattle.bihash_steps.specs.Steps.{longer_log}
 use Rattle.bihash_steps.specs.BucketSteps.{acting, lock_counted, push_call}
-use Rattle.bihash_steps.specs.declared.view.Write.{Write}
-use Rattle.bihash_steps.specs.declared.view.Call.{Call}
-use Rattle.bihash_steps.specs.declared.view.Entry.{Entry}
-use Rattle.bihash_steps.specs.declared.view.Record.{Record}
-use Rattle.bihash_steps.specs.declared.view.View.{View}
+use Rattle.bihash_rule.specs.declared.view.Write.{Write}
+use Rattle.bihash_rule.specs.declared.view.Call.{Call}
+use Rattle.bihash_rule.specs.declared.view.Entry.{Entry}
+use Rattle.bihash_rule.specs.declared.view.Record.{Record}
+use Rattle.bihash_rule.specs.declared.view.View.{View}
 use Rattle.bihash_steps.proofs.Lists.{at_after, at_drop, at_either, at_end, at_take, there, within}
 use Rattle.bihash_steps.proofs.PushedCalls.{push_at, acting_is, counted_at, renumbers_counted, renumbers_push, same_number}
 use Rattle.bihash_steps.proofs.LogLemmas.{calls_by-append, writes_on-append, none_by, one_by, other_by, begins_refl, begins_more, begin_at, follow_more, follow_fewer, longer_logs, one_begins_log}

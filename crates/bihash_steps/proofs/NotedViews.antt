@@ -1,14 +1,14 @@
 -- A caller that has seen another caller count, or notes something else, and did nothing else.
 use Rattle.std.proofs.Common.{◌≡◌, ℕ, ◌≤◌, Bool, true, List}
 use Rattle.bihash_words.specs.Sizes.{Sizes}
-use Rattle.bihash_steps.specs.Words.{Stands}
-use Rattle.bihash_steps.specs.Callers.{HasNumbers, IsWhole}
-use Rattle.bihash_steps.specs.Buckets.{IsOpenIf, StandsStillIf}
-use Rattle.bihash_steps.specs.PageStores.{LeftIf, all_used}
-use Rattle.bihash_steps.specs.Views.{no_notes}
-use Rattle.bihash_steps.specs.WordRule.{TableState, HaveMetIf, IsView}
-use Rattle.bihash_steps.specs.declared.view.Notes.{Notes}
-use Rattle.bihash_steps.specs.declared.view.View.{View}
+use Rattle.bihash_rule.specs.Words.{Stands}
+use Rattle.bihash_rule.specs.Callers.{HasNumbers, IsWhole}
+use Rattle.bihash_rule.specs.Buckets.{IsOpenIf, StandsStillIf}
+use Rattle.bihash_rule.specs.PageStores.{LeftIf, all_used}
+use Rattle.bihash_rule.specs.Views.{no_notes}
+use Rattle.bihash_rule.specs.WordRule.{TableState, HaveMetIf, IsView}
+use Rattle.bihash_rule.specs.declared.view.Notes.{Notes}
+use Rattle.bihash_rule.specs.declared.view.View.{View}
 use Rattle.bihash_steps.proofs.Lists.{no_row}
 
 module _ (z : Sizes) (words : List ℕ) (count : ℕ) (t : TableState) (j : ℕ) where

@@ -6,9 +6,9 @@ use lib.ListN.{get_elem?, length-map}
 use Rattle.std.specs.List.{IsDistinct, AllByRecursion, list_any}
 use Rattle.std.proofs.lemmas.Bool.{eqb-true}
 use Rattle.std.proofs.lemmas.Map.Steps.{length-le_from_distinct_below}
-use Rattle.bihash_steps.specs.Callers.{HasNumbers, HasNumber, IsWhole}
-use Rattle.bihash_steps.specs.Views.{empty_record}
-use Rattle.bihash_steps.specs.declared.view.Record.{Record}
+use Rattle.bihash_rule.specs.Callers.{HasNumbers, HasNumber, IsWhole}
+use Rattle.bihash_rule.specs.Views.{empty_record}
+use Rattle.bihash_rule.specs.declared.view.Record.{Record}
 
 -- no two records have one number; each number is below n; none is n
 abbrev Once : List Record → Type 0

@@ -7,15 +7,15 @@ use native.Mathlib.Nat.{add-mul, mod-lt}
 use lib.ListN.{get_elem?}
 use Rattle.std.specs.Prelude.{slice_index}
 use Rattle.bihash_words.specs.Sizes.{Sizes}
-use Rattle.bihash_steps.specs.Words.{count_of, buckets, page_words, front_words, bucket_at, page_at, block_words, all_words, Stands}
-use Rattle.bihash_steps.specs.Blocks.{no_block}
-use Rattle.bihash_steps.specs.Partition.{PageRun, Owner, of_bucket, held_by, IsPartition, run_of, runs_of}
-use Rattle.bihash_steps.specs.Buckets.{BucketState}
-use Rattle.bihash_steps.specs.PageStores.{HoldsBlockIf, returned_in, run_in, run_held, runs_now}
-use Rattle.bihash_steps.specs.declared.view.Extent.{Extent}
-use Rattle.bihash_steps.specs.declared.view.PageStore.{PageStore}
-use Rattle.bihash_steps.specs.declared.view.HeldBlock.{HeldBlock}
-use Rattle.bihash_steps.specs.declared.view.View.{View}
+use Rattle.bihash_rule.specs.Words.{count_of, buckets, page_words, front_words, bucket_at, page_at, block_words, all_words, Stands}
+use Rattle.bihash_rule.specs.Blocks.{no_block}
+use Rattle.bihash_rule.specs.Partition.{PageRun, Owner, of_bucket, held_by, IsPartition, run_of, runs_of}
+use Rattle.bihash_rule.specs.Buckets.{BucketState}
+use Rattle.bihash_rule.specs.PageStores.{HoldsBlockIf, returned_in, run_in, run_held, runs_now}
+use Rattle.bihash_rule.specs.declared.view.Extent.{Extent}
+use Rattle.bihash_rule.specs.declared.view.PageStore.{PageStore}
+use Rattle.bihash_rule.specs.declared.view.HeldBlock.{HeldBlock}
+use Rattle.bihash_rule.specs.declared.view.View.{View}
 use Rattle.bihash_steps.proofs.CountWord.{front, block_set}
 use Rattle.bihash_steps.proofs.Frames.{Beside}
 

@@ -8,9 +8,9 @@ use Rattle.std.proofs.lemmas.Bool.Decides.{nat_tests}
 use Rattle.std.proofs.lemmas.List.{take-append-le}
 use Rattle.atomic_table.proofs.Lists.{at_longer}
 use Rattle.bihash_words.specs.Maps.{Pairs}
-use Rattle.bihash_steps.specs.Histories.{IsPrefix, replay, after}
+use Rattle.bihash_rule.specs.Histories.{IsPrefix, replay, after}
 use Rattle.bihash_steps.specs.Steps.{longer, longer_each}
-use Rattle.bihash_steps.specs.declared.view.Write.{Write}
+use Rattle.bihash_rule.specs.declared.view.Write.{Write}
 
 pub prefix_refl : (h : List Write) → IsPrefix h h
 prefix_refl h = record { rest = []; whole = sym (append-nil h) }

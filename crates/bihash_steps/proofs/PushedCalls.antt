@@ -4,11 +4,11 @@ use mathlib.Core.Option.{some, some-ne-none, some-injective}
 use lib.ListN.{get_elem?}
 use Rattle.bihash_words.specs.Sizes.{Sizes}
 use Rattle.bihash_words.specs.declared.patch.Reply.TheVariants.{NoPages}
-use Rattle.bihash_steps.specs.Callers.{HasNumbers, HasNumber, IsWhole, MayFollow, Rises}
-use Rattle.bihash_steps.specs.PageStores.{HasCall, BearsOutOfPages, BearOutOfPages}
+use Rattle.bihash_rule.specs.Callers.{HasNumbers, HasNumber, IsWhole, MayFollow, Rises}
+use Rattle.bihash_rule.specs.PageStores.{HasCall, BearsOutOfPages, BearOutOfPages}
 use Rattle.bihash_steps.specs.BucketSteps.{acting, push_call, lock_counted}
-use Rattle.bihash_steps.specs.declared.view.Call.{Call}
-use Rattle.bihash_steps.specs.declared.view.Record.{Record}
+use Rattle.bihash_rule.specs.declared.view.Call.{Call}
+use Rattle.bihash_rule.specs.declared.view.Record.{Record}
 use Rattle.bihash_steps.proofs.Lists.{within, at_end}
 
 -- ---- The same numbers

@@ -13,21 +13,21 @@ use Rattle.atomic_table.specs.Table.{State, opening}
 use Rattle.bihash_words.specs.Maps.{Pairs}
 use Rattle.bihash_words.specs.Sizes.{Sizes}
 use Rattle.bihash_words.specs.Words.{bit}
-use Rattle.bihash_steps.specs.Words.{Stands, count_of, used_mark_of, front_words, buckets, bucket_at, page_at, page_words}
-use Rattle.bihash_steps.specs.Histories.{after}
-use Rattle.bihash_steps.specs.Callers.{known_at, known_writes, opening_in, IsLawfulCaller}
-use Rattle.bihash_steps.specs.Blocks.{IsBlockOf}
-use Rattle.bihash_steps.specs.Partition.{IsPartition}
-use Rattle.bihash_steps.specs.Buckets.{BucketState, IsBucket, word_of}
-use Rattle.bihash_steps.specs.PageStores.{StoreState, IsStore, all_used, all_writes, most_used, run_held, run_in}
-use Rattle.bihash_steps.specs.Views.{nothing_held, opening_view}
-use Rattle.bihash_steps.specs.WordRule.{IsView, WordRule}
+use Rattle.bihash_rule.specs.Words.{Stands, count_of, used_mark_of, front_words, buckets, bucket_at, page_at, page_words}
+use Rattle.bihash_rule.specs.Histories.{after}
+use Rattle.bihash_rule.specs.Callers.{known_at, known_writes, opening_in, IsLawfulCaller}
+use Rattle.bihash_rule.specs.Blocks.{IsBlockOf}
+use Rattle.bihash_rule.specs.Partition.{IsPartition}
+use Rattle.bihash_rule.specs.Buckets.{BucketState, IsBucket, word_of}
+use Rattle.bihash_rule.specs.PageStores.{StoreState, IsStore, all_used, all_writes, most_used, run_held, run_in}
+use Rattle.bihash_rule.specs.Views.{nothing_held, opening_view}
+use Rattle.bihash_rule.specs.WordRule.{IsView, WordRule}
 use Rattle.bihash_steps.specs.BucketSteps.{IsFound, map_now}
 use Rattle.bihash_steps.specs.Renewals.{AreRowWords, AreRenewed, HaveFields, IsRenewed, each_below, openings_after}
-use Rattle.bihash_steps.specs.declared.view.Openings.{Openings}
-use Rattle.bihash_steps.specs.declared.view.Holdings.{Holdings}
-use Rattle.bihash_steps.specs.declared.view.View.{View}
-use Rattle.bihash_steps.specs.declared.view.Write.{Write}
+use Rattle.bihash_rule.specs.declared.view.Openings.{Openings}
+use Rattle.bihash_rule.specs.declared.view.Holdings.{Holdings}
+use Rattle.bihash_rule.specs.declared.view.View.{View}
+use Rattle.bihash_rule.specs.declared.view.Write.{Write}
 use Rattle.bihash_steps.proofs.Beginnings.{AreHome, Begins, no_writes, opening_lawful, starts_so}
 use Rattle.bihash_steps.proofs.CountWord.{not_lone}
 use Rattle.bihash_steps.proofs.Frames.{store_keeps}

@@ -6,7 +6,7 @@ use Rattle.std.specs.Prelude.{slice_index}
 use Rattle.bihash_words.specs.Sizes.{Sizes}
 use Rattle.bihash_words.specs.Words.{Bucket, FitsWord, packed}
 use Rattle.bihash_words.specs.declared.block_size.BlockSize.{BlockSize}
-use Rattle.bihash_steps.specs.Words.{all_words, buckets, bucket_at}
+use Rattle.bihash_rule.specs.Words.{all_words, buckets, bucket_at}
 use Rattle.bihash_steps.specs.Renewals.{AreRenewedBelow}
 use Rattle.bihash_steps.proofs.CountWord.{front}
 use Rattle.bihash_steps.proofs.OwnedWords.{bucket_inside}

@@ -5,15 +5,15 @@ use mathlib.Core.Logic.{dite}
 use native.Mathlib.Decide.{ℕ_discrete}
 use Rattle.atomic_table.specs.Seated.{TableId}
 use Rattle.bihash_words.specs.Sizes.{Sizes}
-use Rattle.bihash_steps.specs.Words.{returned_count_at}
+use Rattle.bihash_rule.specs.Words.{returned_count_at}
 use Rattle.bihash_steps.specs.Seats.{CallerState, caller_state, with_view, CanAct, stamp_in, stamp_of}
 use Rattle.bihash_steps.specs.Steps.{ViewOfSeat}
 use Rattle.bihash_steps.specs.BucketCalls.{FindsBucket, HasEntered, IsValidated, TriesLock}
 use Rattle.bihash_steps.specs.BucketSteps.{TellsEntry, TellsValid, lock_counted, push_call, SeesOpen, SeesLocked, TellsBucket, TellsLock}
 use Rattle.bihash_steps.specs.StoreSteps.{MayTakeReturned, TellsTakenReturned, MayTakeUnused, TellsTakenUnused}
-use Rattle.bihash_steps.specs.declared.view.Call.{Call}
-use Rattle.bihash_steps.specs.declared.view.Record.{Record}
-use Rattle.bihash_steps.specs.declared.view.View.{View}
+use Rattle.bihash_rule.specs.declared.view.Call.{Call}
+use Rattle.bihash_rule.specs.declared.view.Record.{Record}
+use Rattle.bihash_rule.specs.declared.view.View.{View}
 
 -- the invariant of a caller's seat
 abbrev pub IsCounted : ViewOfSeat → ℕ → Option (ℕ × ℕ) → Type 0

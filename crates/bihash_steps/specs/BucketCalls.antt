@@ -7,17 +7,17 @@ use Rattle.bihash_words.specs.Words.{Bucket, FitsWord, packed}
 use Rattle.bihash_words.specs.declared.patch.Change.{Change}
 use Rattle.bihash_words.specs.declared.patch.Reply.{Reply}
 use Rattle.bihash_words.specs.declared.shape.Shape.{Ghosts}
-use Rattle.bihash_steps.specs.Callers.{IsLawfulCaller, known_at}
-use Rattle.bihash_steps.specs.Buckets.{open_word}
+use Rattle.bihash_rule.specs.Callers.{IsLawfulCaller, known_at}
+use Rattle.bihash_rule.specs.Buckets.{open_word}
 use Rattle.bihash_steps.specs.BucketSteps.{Enters, RestsOn, SeesLocked, SeesOpen, TakesLock, call_of, without_notes, view_after_validate}
 use Rattle.bihash_steps.specs.Seats.{CallerState, IsSameSeat, with_view}
-use Rattle.bihash_steps.specs.Views.{nothing_held}
+use Rattle.bihash_rule.specs.Views.{nothing_held}
 use Rattle.bihash_steps.specs.declared.event.Event.{Event}
 use Rattle.bihash_steps.specs.declared.recycled.Recycled.{Recycled}
-use Rattle.bihash_steps.specs.declared.view.Call.{Call}
-use Rattle.bihash_steps.specs.declared.view.LockedBucket.{LockedBucket}
-use Rattle.bihash_steps.specs.declared.view.OpenBucket.{OpenBucket}
-use Rattle.bihash_steps.specs.declared.view.View.{View}
+use Rattle.bihash_rule.specs.declared.view.Call.{Call}
+use Rattle.bihash_rule.specs.declared.view.LockedBucket.{LockedBucket}
+use Rattle.bihash_rule.specs.declared.view.OpenBucket.{OpenBucket}
+use Rattle.bihash_rule.specs.declared.view.View.{View}
 
 -- what was found at a key, what was decided on it, and the reply
 abbrev pub event : List ℕ → Option ℕ → Change → Reply → Maps.Event

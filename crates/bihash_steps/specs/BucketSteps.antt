@@ -8,24 +8,24 @@ use Rattle.bihash_words.specs.Maps.{Event, Pairs, written}
 use Rattle.bihash_words.specs.Sizes.{Sizes}
 use Rattle.bihash_words.specs.Words.{FitsWord, packed}
 use Rattle.bihash_words.specs.declared.patch.Reply.TheVariants.{Changed, NoPages}
-use Rattle.bihash_steps.specs.Words.{block_words}
-use Rattle.bihash_steps.specs.Histories.{IsKeyOf, IsPrefix, IsWrite, IsWriteList, IsAnswer, after, is_changed, store_of, write_of}
-use Rattle.bihash_steps.specs.Callers.{known_at, opening_at, HasNumber, IsLawfulCaller}
-use Rattle.bihash_steps.specs.Logs.{Begins, writes_on}
-use Rattle.bihash_steps.specs.Blocks.{IsBlockOf}
-use Rattle.bihash_steps.specs.Buckets.{AreReadIn, word_of, open_word}
-use Rattle.bihash_steps.specs.PageStores.{returned_in}
-use Rattle.bihash_steps.specs.Views.{no_notes}
+use Rattle.bihash_rule.specs.Words.{block_words}
+use Rattle.bihash_rule.specs.Histories.{IsKeyOf, IsPrefix, IsWrite, IsWriteList, IsAnswer, after, is_changed, store_of, write_of}
+use Rattle.bihash_rule.specs.Callers.{known_at, opening_at, HasNumber, IsLawfulCaller}
+use Rattle.bihash_rule.specs.Logs.{Begins, writes_on}
+use Rattle.bihash_rule.specs.Blocks.{IsBlockOf}
+use Rattle.bihash_rule.specs.Buckets.{AreReadIn, word_of, open_word}
+use Rattle.bihash_rule.specs.PageStores.{returned_in}
+use Rattle.bihash_rule.specs.Views.{no_notes}
 use Rattle.bihash_steps.specs.Steps.{ViewOfSeat}
-use Rattle.bihash_steps.specs.declared.view.Write.{Write}
-use Rattle.bihash_steps.specs.declared.view.Call.{Call}
-use Rattle.bihash_steps.specs.declared.view.Entry.{Entry}
-use Rattle.bihash_steps.specs.declared.view.Record.{Record}
-use Rattle.bihash_steps.specs.declared.view.Extent.{Extent}
-use Rattle.bihash_steps.specs.declared.view.LockedBucket.{LockedBucket}
-use Rattle.bihash_steps.specs.declared.view.OpenBucket.{OpenBucket}
-use Rattle.bihash_steps.specs.declared.view.PageStore.{PageStore}
-use Rattle.bihash_steps.specs.declared.view.View.{View}
+use Rattle.bihash_rule.specs.declared.view.Write.{Write}
+use Rattle.bihash_rule.specs.declared.view.Call.{Call}
+use Rattle.bihash_rule.specs.declared.view.Entry.{Entry}
+use Rattle.bihash_rule.specs.declared.view.Record.{Record}
+use Rattle.bihash_rule.specs.declared.view.Extent.{Extent}
+use Rattle.bihash_rule.specs.declared.view.LockedBucket.{LockedBucket}
+use Rattle.bihash_rule.specs.declared.view.OpenBucket.{OpenBucket}
+use Rattle.bihash_rule.specs.declared.view.PageStore.{PageStore}
+use Rattle.bihash_rule.specs.declared.view.View.{View}
 
 -- ---- A load of a bucket's word
 

@@ -2,11 +2,11 @@
 use Rattle.std.specs.Prelude.{◌≡◌, ◌≢◌, ℕ, ◌<◌, ◌≤◌, true, false, Bool, length, Option}
 use Rattle.atomic_table.specs.Seated.{TableId}
 use Rattle.bihash_words.specs.Sizes.{Sizes}
-use Rattle.bihash_steps.specs.Callers.{Agrees, IsLawfulCaller}
-use Rattle.bihash_steps.specs.Views.{nothing_held}
+use Rattle.bihash_rule.specs.Callers.{Agrees, IsLawfulCaller}
+use Rattle.bihash_rule.specs.Views.{nothing_held}
 use Rattle.bihash_steps.specs.Steps.{HaveBearers, IsToldWhole, view_after_count, first_numbers, informed_by, view_after_join, view_after_number, other_numbers, recounted}
 use Rattle.bihash_steps.specs.Seats.{CallerState, stamp_of, with_view}
-use Rattle.bihash_steps.specs.declared.view.View.{View}
+use Rattle.bihash_rule.specs.declared.view.View.{View}
 
 -- the caller belongs to this row, and holds nothing
 pub record IsIdle (row : TableId) (s : CallerState) : Type 0 where

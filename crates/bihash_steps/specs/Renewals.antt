@@ -6,16 +6,16 @@ use Rattle.std.specs.FinMap.{entries}
 use Rattle.atomic_table.specs.Table.{State}
 use Rattle.bihash_words.specs.Sizes.{Sizes}
 use Rattle.bihash_words.specs.Words.{Bucket, FitsWord, packed}
-use Rattle.bihash_steps.specs.Words.{count_of, front_words, buckets, bucket_at, all_words}
-use Rattle.bihash_steps.specs.Callers.{IsLawfulCaller, known_writes, opening_at}
-use Rattle.bihash_steps.specs.PageStores.{most_used}
-use Rattle.bihash_steps.specs.Views.{no_notes, opening_view}
-use Rattle.bihash_steps.specs.WordRule.{WordRule}
+use Rattle.bihash_rule.specs.Words.{count_of, front_words, buckets, bucket_at, all_words}
+use Rattle.bihash_rule.specs.Callers.{IsLawfulCaller, known_writes, opening_at}
+use Rattle.bihash_rule.specs.PageStores.{most_used}
+use Rattle.bihash_rule.specs.Views.{no_notes, opening_view}
+use Rattle.bihash_rule.specs.WordRule.{WordRule}
 use Rattle.bihash_steps.specs.Steps.{ViewOfSeat}
 use Rattle.bihash_steps.specs.BucketSteps.{map_now}
 use Rattle.bihash_steps.specs.Seats.{CallerState, with_view}
-use Rattle.bihash_steps.specs.declared.view.Openings.{Openings}
-use Rattle.bihash_steps.specs.declared.view.View.{View}
+use Rattle.bihash_rule.specs.declared.view.Openings.{Openings}
+use Rattle.bihash_rule.specs.declared.view.View.{View}
 
 -- ---- A lone caller's load of a word
 

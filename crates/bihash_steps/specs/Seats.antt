@@ -2,11 +2,11 @@
 use Rattle.std.specs.Prelude.{◌≡◌, ℕ, ◌<◌, ◌≤◌, List, [], ◌∷◌, length, Option, Some, None}
 use Rattle.atomic_table.specs.Seated.{TableId}
 use Rattle.bihash_words.specs.Sizes.{Sizes, IsSound}
-use Rattle.bihash_steps.specs.Words.{all_words, buckets}
-use Rattle.bihash_steps.specs.Callers.{IsLawfulCaller}
-use Rattle.bihash_steps.specs.declared.view.Call.{Call}
-use Rattle.bihash_steps.specs.declared.view.Record.{Record}
-use Rattle.bihash_steps.specs.declared.view.View.{View}
+use Rattle.bihash_rule.specs.Words.{all_words, buckets}
+use Rattle.bihash_rule.specs.Callers.{IsLawfulCaller}
+use Rattle.bihash_rule.specs.declared.view.Call.{Call}
+use Rattle.bihash_rule.specs.declared.view.Record.{Record}
+use Rattle.bihash_rule.specs.declared.view.View.{View}
 
 -- a caller: the row that it belongs to, its seat there, and what it knows
 pub record CallerState : Type 0 where

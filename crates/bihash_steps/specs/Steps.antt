@@ -4,14 +4,14 @@ use lib.ListN.{get_elem?}
 use mathlib.Core.Option.{some}
 use Rattle.atomic_table.specs.Table.{Me}
 use Rattle.bihash_words.specs.Sizes.{Sizes}
-use Rattle.bihash_steps.specs.Words.{buckets}
-use Rattle.bihash_steps.specs.Callers.{HasMadeAll, HaveOneLog, MatchesLog, IsConsistent, IsLawfulCaller, IsWhole, KnowsOwn, known_at, known_writes}
-use Rattle.bihash_steps.specs.PageStores.{BearOutOfPages, most_used}
-use Rattle.bihash_steps.specs.Views.{empty_record, nothing_known, nothing_held, no_notes}
-use Rattle.bihash_steps.specs.declared.view.Write.{Write}
-use Rattle.bihash_steps.specs.declared.view.Entry.{Entry}
-use Rattle.bihash_steps.specs.declared.view.Meeting.{Meeting}
-use Rattle.bihash_steps.specs.declared.view.View.{View}
+use Rattle.bihash_rule.specs.Words.{buckets}
+use Rattle.bihash_rule.specs.Callers.{HasMadeAll, HaveOneLog, MatchesLog, IsConsistent, IsLawfulCaller, IsWhole, KnowsOwn, known_at, known_writes}
+use Rattle.bihash_rule.specs.PageStores.{BearOutOfPages, most_used}
+use Rattle.bihash_rule.specs.Views.{empty_record, nothing_known, nothing_held, no_notes}
+use Rattle.bihash_rule.specs.declared.view.Write.{Write}
+use Rattle.bihash_rule.specs.declared.view.Entry.{Entry}
+use Rattle.bihash_rule.specs.declared.view.Meeting.{Meeting}
+use Rattle.bihash_rule.specs.declared.view.View.{View}
 use Rattle.bihash_steps.specs.declared.faults.SplitFault.{SplitFault}
 use Rattle.bihash_steps.specs.declared.faults.SplitFault.TheVariants.{Memory, Numbers, Contended}
 

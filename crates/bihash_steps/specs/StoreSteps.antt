@@ -2,19 +2,19 @@
 -- gives a bucket another block; and what the step tells its caller.
 use Rattle.std.specs.Prelude.{◌≡◌, ◌≢◌, ℕ, ◌+◌, ◌-◌, ◌*◌, ◌^◌, ◌<◌, ◌≤◌, List, [], ◌∷◌, ◌++◌, length, take, slice_index, slice_set, true, false, Option, Some, None, zero, suc}
 use Rattle.bihash_words.specs.Sizes.{Sizes}
-use Rattle.bihash_steps.specs.Words.{returned_count_at, list_words, list_at, page_words, block_words}
-use Rattle.bihash_steps.specs.Blocks.{no_block, IsBlockOf}
-use Rattle.bihash_steps.specs.PageStores.{returned_in}
-use Rattle.bihash_steps.specs.Views.{no_notes}
+use Rattle.bihash_rule.specs.Words.{returned_count_at, list_words, list_at, page_words, block_words}
+use Rattle.bihash_rule.specs.Blocks.{no_block, IsBlockOf}
+use Rattle.bihash_rule.specs.PageStores.{returned_in}
+use Rattle.bihash_rule.specs.Views.{no_notes}
 use Rattle.bihash_steps.specs.Steps.{ViewOfSeat}
 use Rattle.bihash_steps.specs.BucketSteps.{without_notes, MayWrite, next_map, view_after_write}
-use Rattle.bihash_steps.specs.declared.view.Call.{Call}
-use Rattle.bihash_steps.specs.declared.view.Extent.{Extent}
-use Rattle.bihash_steps.specs.declared.view.LockedBucket.{LockedBucket}
-use Rattle.bihash_steps.specs.declared.view.PageStore.{PageStore}
-use Rattle.bihash_steps.specs.declared.view.LockedStore.{LockedStore}
-use Rattle.bihash_steps.specs.declared.view.HeldBlock.{HeldBlock}
-use Rattle.bihash_steps.specs.declared.view.View.{View}
+use Rattle.bihash_rule.specs.declared.view.Call.{Call}
+use Rattle.bihash_rule.specs.declared.view.Extent.{Extent}
+use Rattle.bihash_rule.specs.declared.view.LockedBucket.{LockedBucket}
+use Rattle.bihash_rule.specs.declared.view.PageStore.{PageStore}
+use Rattle.bihash_rule.specs.declared.view.LockedStore.{LockedStore}
+use Rattle.bihash_rule.specs.declared.view.HeldBlock.{HeldBlock}
+use Rattle.bihash_rule.specs.declared.view.View.{View}
 use Rattle.bihash_steps.specs.declared.pool.word.PoolWord.{PoolWord}
 use Rattle.bihash_steps.specs.declared.pool.word.PoolWord.TheVariants.{Used, Count, Listed}
 

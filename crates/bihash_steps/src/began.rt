@@ -1,10 +1,10 @@
 //! With what a row begins, as a value that proofs alone read: it takes no memory.
 ghost use Rattle.std.specs.Prelude.{◌≡◌};
-ghost use Rattle.bihash_steps.specs.Views.{no_openings};
-ghost use Rattle.bihash_steps.specs.declared.view.Openings.{Openings};
+ghost use Rattle.bihash_rule.specs.Views.{no_openings};
+ghost use Rattle.bihash_rule.specs.declared.view.Openings.{Openings};
 
-use crate::view::{Openings, View};
 use atomic_table::{Mark, PerchRule, RuledPerch, Seat};
+use bihash_rule::{Openings, View};
 use std::marker::{Brand, PhantomData};
 
 /// With what a row begins: the view of a mark. `None`: with nothing.

@@ -4,13 +4,13 @@ ghost use Rattle.bihash_words.specs.Sizes.{sizes_of};
 ghost use Rattle.bihash_steps.specs.BucketCalls.{FindsBucket, IsValidated, MayLock, TriesLock, answer_at, recycled_at, refusal_at, write_at, HasEntered};
 ghost use Rattle.bihash_steps.specs.BucketSteps.{IsLockedWord, with_lock, stored_in, HoldsClean, without_lock, MayAnswer, view_after_answer, MayMark, MayPublish, view_after_write, IsOpenWord, with_reading, MayValidate};
 ghost use Rattle.bihash_steps.specs.StoreSteps.{MayReplace, view_after_replace};
-ghost use Rattle.bihash_steps.specs.declared.view.LockedBucket.{LockedBucket};
+ghost use Rattle.bihash_rule.specs.declared.view.LockedBucket.{LockedBucket};
 ghost use Rattle.bihash_steps.specs.Seats.{Becomes, IsAt, with_view};
 
 use crate::event::Event;
 use crate::recycled::Recycled;
 use crate::row::{CallerSeat, Row};
-use crate::view::Extent;
+use bihash_rule::Extent;
 use bihash_words::{BlockSize, BucketWord, Expiry, Shape};
 use std::marker::Brand;
 
@@ -93,16 +93,17 @@ impl<S: Shape> Row<S> {
         ensures { IsValidated (sizes_of S.Shape) caller.old caller.new
             (answer_at ⟦<S as Shape>⟧ caller.old.view bucket event.now) result }
     {
-        self.validate_as::<Brand>(caller, bucket, word, event)
+        self.validate_as::<Brand, Event<'_, S>, ()>(caller, bucket, word, event, &())
     }
 
-    // The same for the call that `E` names: it is that of the event.
-    fn validate_as<E: Calling>(
+    // The same for the call that `E` names: it is that of what is told.
+    fn validate_as<E: Calling, T, X>(
         &self,
         caller: &mut CallerSeat<S>,
         bucket: usize,
         word: BucketWord,
-        _event: &Event<'_, S>,
+        _told: &T,
+        _expiry: &X,
     ) -> bool
         requires at { IsAt (sizes_of S.Shape) self.now caller.old bucket }
         requires may { MayValidate (sizes_of S.Shape) caller.old.view bucket word E.call }
@@ -133,23 +134,7 @@ impl<S: Shape> Row<S> {
         ensures { IsValidated (sizes_of S.Shape) caller.old caller.new
             (refusal_at ⟦<S as Shape>⟧ caller.old.view bucket event.now (X.is_expired expiry.now)) result }
     {
-        self.validate_full_as::<Brand, X>(caller, bucket, word, event, expiry)
-    }
-
-    // The same for the call that `E` names: it is that of the event and the expiry.
-    fn validate_full_as<E: Calling, X: Expiry>(
-        &self,
-        caller: &mut CallerSeat<S>,
-        bucket: usize,
-        word: BucketWord,
-        event: &Event<'_, S>,
-        _expiry: &X,
-    ) -> bool
-        requires at { IsAt (sizes_of S.Shape) self.now caller.old bucket }
-        requires may { MayValidate (sizes_of S.Shape) caller.old.view bucket word E.call }
-        ensures { IsValidated (sizes_of S.Shape) caller.old caller.new E.call result }
-    {
-        self.validate_as::<E>(caller, bucket, word, event)
+        self.validate_as::<Brand, Event<'_, S>, X>(caller, bucket, word, event, expiry)
     }
 
     /// Opens the lock of a bucket in whose block nothing was stored, without an answer.
@@ -213,22 +198,7 @@ impl<S: Shape> Row<S> {
             (view_after_write caller.old.view (write_at ⟦<S as Shape>⟧ caller.old.view bucket event.now))
             (write_at ⟦<S as Shape>⟧ caller.old.view bucket event.now) caller.new }
     {
-        self.publish_called::<Brand>(caller, bucket, word, event);
-    }
-
-    // The same for the call that `E` names: it is that of the event.
-    fn publish_called<E: Calling>(
-        &self,
-        caller: &mut CallerSeat<S>,
-        bucket: usize,
-        word: BucketWord,
-        _event: &Event<'_, S>,
-    )
-        requires at { IsAt (sizes_of S.Shape) self.now caller.old bucket }
-        requires may { MayPublish (sizes_of S.Shape) caller.old.view bucket word E.call }
-        ensures { HasEntered (sizes_of S.Shape) caller.old (view_after_write caller.old.view E.call) E.call caller.new }
-    {
-        self.publish_as::<E>(caller, bucket, word, word.linear());
+        self.publish_as::<Brand, Event<'_, S>>(caller, bucket, word, word.linear(), event);
     }
 
     /// Stores the next word of a bucket over its block as it is now: it is the write of a call that removed an
@@ -248,31 +218,24 @@ impl<S: Shape> Row<S> {
             (recycled_at ⟦<S as Shape>⟧ caller.old.view bucket recycled.now (X.is_expired recycled.now.expiry.now)))
             (recycled_at ⟦<S as Shape>⟧ caller.old.view bucket recycled.now (X.is_expired recycled.now.expiry.now)) caller.new }
     {
-        self.publish_recycled_called::<Brand, X>(caller, bucket, word, recycled);
+        self.publish_as::<Brand, Recycled<'_, S, X>>(
+            caller,
+            bucket,
+            word,
+            recycled.linear,
+            recycled,
+        );
     }
 
-    // The same for the call that `E` names: it is that of the event.
-    fn publish_recycled_called<E: Calling, X: Expiry>(
-        &self,
-        caller: &mut CallerSeat<S>,
-        bucket: usize,
-        word: BucketWord,
-        recycled: &Recycled<'_, S, X>,
-    )
-        requires at { IsAt (sizes_of S.Shape) self.now caller.old bucket }
-        requires may { MayMark (sizes_of S.Shape) caller.old.view bucket word recycled.now.linear E.call }
-        ensures { HasEntered (sizes_of S.Shape) caller.old (view_after_write caller.old.view E.call) E.call caller.new }
-    {
-        self.publish_as::<E>(caller, bucket, word, recycled.linear);
-    }
-
-    // Stores the next word over the same block, with this linear mark.
-    fn publish_as<E: Calling>(
+    // Stores the next word over the same block, with this linear mark, for the call that `E` names: it is that of what
+    // is told.
+    fn publish_as<E: Calling, T>(
         &self,
         caller: &mut CallerSeat<S>,
         bucket: usize,
         word: BucketWord,
         linear: bool,
+        _told: &T,
     )
         requires at { IsAt (sizes_of S.Shape) self.now caller.old bucket }
         requires may { MayMark (sizes_of S.Shape) caller.old.view bucket word linear E.call }

@@ -1,9 +1,9 @@
 //! New rows.
 ghost use Rattle.std.specs.Prelude.{◌≡◌, IfOk};
 ghost use Rattle.bihash_words.specs.Sizes.{sizes_of, IsSound};
-ghost use Rattle.bihash_steps.specs.Words.{IsFresh};
-ghost use Rattle.bihash_steps.specs.Callers.{IsLawfulCaller};
-ghost use Rattle.bihash_steps.specs.Views.{first_view};
+ghost use Rattle.bihash_rule.specs.Words.{IsFresh};
+ghost use Rattle.bihash_rule.specs.Callers.{IsLawfulCaller};
+ghost use Rattle.bihash_rule.specs.Views.{first_view};
 
 use crate::faults::CreateFault;
 use crate::places::row_words;

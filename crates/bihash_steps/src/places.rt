@@ -1,11 +1,11 @@
 //! Where the words of a row stand.
 ghost use Rattle.std.specs.Prelude.{◌≡◌, ◌+◌, ◌^◌, ◌<◌, ◌≤◌};
 ghost use Rattle.bihash_words.specs.Sizes.{sizes_of, IsSound};
-ghost use Rattle.bihash_steps.specs.Words;
-ghost use Rattle.bihash_steps.specs.Words.{all_words, buckets, list_words};
+ghost use Rattle.bihash_rule.specs.Words;
+ghost use Rattle.bihash_rule.specs.Words.{all_words, buckets, list_words};
 ghost use Rattle.bihash_steps.specs.StoreSteps;
 ghost use Rattle.bihash_steps.specs.StoreSteps.{IsInStore};
-ghost use Rattle.bihash_steps.specs.declared.view.PageStore.{PageStore};
+ghost use Rattle.bihash_rule.specs.declared.view.PageStore.{PageStore};
 
 use crate::pool::PoolWord;
 use crate::row::Row;

@@ -1,11 +1,11 @@
 //! Steps on the page store under its allocation lock, and on a block that no bucket has.
 ghost use Rattle.std.specs.Prelude.{◌≡◌, ◌+◌, false, Some, None, slice_index};
 ghost use Rattle.bihash_words.specs.Sizes.{sizes_of};
-ghost use Rattle.bihash_steps.specs.PageStores.{returned_in};
+ghost use Rattle.bihash_rule.specs.PageStores.{returned_in};
 ghost use Rattle.bihash_steps.specs.StoreCalls.{ReadsStore, TriesStoreLock};
 ghost use Rattle.bihash_steps.specs.StoreSteps.{holding, store_opened, IsInStore, unlisted, grown, TakesBlock, MayTakeReturned, MayTakeUnused, IsHeldWord, stored_at, MayList, listing, MayReturn, relisted, MayOpenStore};
-ghost use Rattle.bihash_steps.specs.declared.view.LockedStore.{LockedStore};
-ghost use Rattle.bihash_steps.specs.declared.view.HeldBlock.{HeldBlock};
+ghost use Rattle.bihash_rule.specs.declared.view.LockedStore.{LockedStore};
+ghost use Rattle.bihash_rule.specs.declared.view.HeldBlock.{HeldBlock};
 ghost use Rattle.bihash_steps.specs.Seats.{with_view};
 
 use crate::places::{ALLOCATION_LOCK, USED_MARK};

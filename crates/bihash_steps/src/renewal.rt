@@ -1,17 +1,17 @@
 //! A row that begins with what another one came to.
 ghost use Rattle.std.specs.Prelude.{◌≡◌, length, IfOk};
 ghost use Rattle.bihash_words.specs.Sizes.{sizes_of};
-ghost use Rattle.bihash_steps.specs.Words.{all_words, used_mark_of};
-ghost use Rattle.bihash_steps.specs.Callers.{IsLawfulCaller};
-ghost use Rattle.bihash_steps.specs.Views.{nothing_held};
+ghost use Rattle.bihash_rule.specs.Words.{all_words, used_mark_of};
+ghost use Rattle.bihash_rule.specs.Callers.{IsLawfulCaller};
+ghost use Rattle.bihash_rule.specs.Views.{nothing_held};
 ghost use Rattle.bihash_steps.specs.Renewals.{AreRenewed, AreRowWords, HaveFields, IsNextWord, IsRenewed, LoadsRowWord, openings_after};
 
 use crate::began::{Beginning, mark};
 use crate::faults::CreateFault;
 use crate::row::{Caller, CallerSeat, Row};
 use crate::scratch::Scratch;
-use crate::view::Openings;
 use atomic_table::{Mark, Table};
+use bihash_rule::Openings;
 use bihash_words::{BucketWord, Shape};
 use std::alloc::{AllocError, Global};
 use std::marker::{Brand, PhantomData};

@@ -3,13 +3,13 @@ ghost use Rattle.std.specs.Prelude.{◌≡◌, ◌+◌, []};
 ghost use Rattle.atomic_table.specs.Seated.{TableId};
 ghost use Rattle.bihash_words.specs.Sizes.{sizes_of};
 ghost use Rattle.bihash_steps.specs.Seats.{CallerState, caller_state, IsRow, CanAct, stamp_of};
-ghost use Rattle.bihash_steps.specs.Views.{opening_view, openings_told};
-ghost use Rattle.bihash_steps.specs.WordRule.{WordRule};
+ghost use Rattle.bihash_rule.specs.Views.{opening_view, openings_told};
+ghost use Rattle.bihash_rule.specs.WordRule.{WordRule};
 
 use crate::began::Began;
 use crate::scratch::Scratch;
-use crate::view::View;
 use atomic_table::{Seat, Table, TableRule};
+use bihash_rule::View;
 use bihash_words::Shape;
 use std::alloc::Global;
 use std::marker::{Model, PhantomData};

@@ -10,25 +10,25 @@ use Rattle.bihash_words.specs.declared.patch.Change.{Change}
 use Rattle.bihash_words.specs.declared.patch.Change.TheVariants.{Set, Remove}
 use Rattle.bihash_words.specs.declared.patch.Reply.{Reply}
 use Rattle.bihash_words.specs.declared.patch.Reply.TheVariants.{Changed, NoPages}
-use Rattle.bihash_steps.specs.Histories.{IsKeyOf, bounds_of, is_changed, write_of}
-use Rattle.bihash_steps.specs.Callers.{known_at}
-use Rattle.bihash_steps.specs.Blocks.{HasPair, HoldsPair, IsBlockOf, key_in, no_block}
+use Rattle.bihash_rule.specs.Histories.{IsKeyOf, bounds_of, is_changed, write_of}
+use Rattle.bihash_rule.specs.Callers.{known_at}
+use Rattle.bihash_rule.specs.Blocks.{HasPair, HoldsPair, IsBlockOf, key_in, no_block}
 use Rattle.bihash_steps.specs.BucketCalls.{event}
 use Rattle.bihash_steps.specs.BucketSteps.{Enters, MayAnswer, acting, view_after_answer, call_of, map_now}
 use Rattle.bihash_steps.specs.StoreSteps.{LocksStore, MayReplace, TakesBlock, holding, view_after_replace, store_opened}
 use Rattle.bihash_steps.specs.Seats.{CallerState, with_view}
-use Rattle.bihash_steps.specs.declared.view.Call.{Call}
-use Rattle.bihash_steps.specs.declared.view.Extent.{Extent}
-use Rattle.bihash_steps.specs.declared.view.Holdings.{Holdings}
-use Rattle.bihash_steps.specs.declared.view.LockedBucket.{LockedBucket}
-use Rattle.bihash_steps.specs.declared.view.HeldBlock.{HeldBlock}
-use Rattle.bihash_steps.specs.declared.view.LockedStore.{LockedStore}
-use Rattle.bihash_steps.specs.declared.view.PageStore.{PageStore}
-use Rattle.bihash_steps.specs.declared.view.View.{View}
+use Rattle.bihash_rule.specs.declared.view.Call.{Call}
+use Rattle.bihash_rule.specs.declared.view.Extent.{Extent}
+use Rattle.bihash_rule.specs.declared.view.Holdings.{Holdings}
+use Rattle.bihash_rule.specs.declared.view.LockedBucket.{LockedBucket}
+use Rattle.bihash_rule.specs.declared.view.HeldBlock.{HeldBlock}
+use Rattle.bihash_rule.specs.declared.view.LockedStore.{LockedStore}
+use Rattle.bihash_rule.specs.declared.view.PageStore.{PageStore}
+use Rattle.bihash_rule.specs.declared.view.View.{View}
 use Rattle.bihash_table.specs.Promise.{IsEntered}
 use Rattle.bihash_table.specs.inner.Copying.{HasBlock, HasStore, LacksPages, TakesPages, with_words}
 use Rattle.bihash_table.specs.inner.Locked.{HasLock}
-use Rattle.bihash_table.specs.inner.Places.{ArePlaces}
+use Rattle.bihash_rule.specs.Places.{ArePlaces}
 use Rattle.bihash_words.proofs.MapValues.{get_left, get_removed, same_or_other}
 use Rattle.bihash_steps.proofs.BlockLemmas.{bare_block}
 use Rattle.bihash_table.proofs.Bridge.{extent_of}

@@ -5,13 +5,13 @@ use Rattle.std.specs.Prelude.{IfOk, IsErrAnd}
 use Rattle.bihash_words.specs.Sizes.{IsSound, Sizes, sizes_of}
 use Rattle.bihash_words.specs.Words.{Bucket, FitsWord, packed}
 use Rattle.bihash_words.specs.declared.shape.Shape.{Ghosts}
-use Rattle.bihash_steps.specs.Words.{all_words, bucket_at, buckets, page_at, place_words}
-use Rattle.bihash_steps.specs.Blocks.{free, places}
-use Rattle.bihash_steps.specs.Callers.{known_at}
+use Rattle.bihash_rule.specs.Words.{all_words, bucket_at, buckets, page_at, place_words}
+use Rattle.bihash_rule.specs.Blocks.{free, places}
+use Rattle.bihash_rule.specs.Callers.{known_at}
 use Rattle.bihash_steps.specs.Renewals.{AreRowWords}
-use Rattle.bihash_steps.specs.Views.{nothing_held}
-use Rattle.bihash_steps.specs.declared.view.Extent.{Extent}
-use Rattle.bihash_steps.specs.declared.view.View.{View}
+use Rattle.bihash_rule.specs.Views.{nothing_held}
+use Rattle.bihash_rule.specs.declared.view.Extent.{Extent}
+use Rattle.bihash_rule.specs.declared.view.View.{View}
 use Rattle.bihash_steps.proofs.RenewedRows.{block_there}
 use Rattle.bihash_steps.proofs.OwnedWords.{word_of_block}
 use Rattle.bihash_table.specs.inner.OpenReads.{StandsAt}

@@ -16,18 +16,20 @@ use Rattle.bihash_plan.specs.Searches.{IsOnlyPlan}
 use Rattle.bihash_plan.specs.declared.outcome.Plan.{Plan}
 use Rattle.bihash_plan.specs.declared.outcome.Plan.TheVariants.{Full, Grow, InPlace}
 use Rattle.bihash_plan.proofs.Places.{free_at, free_inside}
-use Rattle.bihash_steps.specs.Words.{block_words}
-use Rattle.bihash_steps.specs.Histories.{bounds_of}
-use Rattle.bihash_steps.specs.Blocks.{IsBlockOf, free, places, value_in}
-use Rattle.bihash_steps.specs.declared.view.Extent.{Extent}
+use Rattle.bihash_rule.specs.Words.{block_words}
+use Rattle.bihash_rule.specs.Histories.{bounds_of}
+use Rattle.bihash_rule.specs.Blocks.{IsBlockOf, free, places, value_in}
+use Rattle.bihash_rule.specs.declared.view.Extent.{Extent}
 use Rattle.bihash_steps.specs.BucketSteps.{map_now}
-use Rattle.bihash_steps.specs.declared.view.PageStore.{PageStore}
-use Rattle.bihash_steps.specs.declared.view.View.{View}
+use Rattle.bihash_rule.specs.declared.view.PageStore.{PageStore}
+use Rattle.bihash_rule.specs.declared.view.View.{View}
 use Rattle.bihash_table.specs.inner.Copying.{LacksPages}
-use Rattle.bihash_table.specs.inner.Places.{ArePlaces, IsCrowdedFor}
-use Rattle.bihash_table.specs.OutOfPages.{Bears, IsPlanned, IsOutOfPages}
+use Rattle.bihash_rule.specs.Places.{ArePlaces, IsCrowdedFor}
+use Rattle.bihash_plan.specs.Wants.{IsPlanned}
+use Rattle.bihash_table.specs.OutOfPages.{IsOutOfPages}
 use Rattle.bihash_table.proofs.Bridge.{AreKeyWords, AreKeysOf, are_keys, count_places, hold_map, lawful_places}
 use Rattle.bihash_table.proofs.Count.{few_pairs, few_places, full_block}
+use Rattle.bihash_table.proofs.StoreLemmas.{Bears}
 
 -- as many places are read as the block has
 pub places_read : {X : Type 0} (page first log2 count most : ℕ) (xs : List X)

@@ -8,10 +8,10 @@ use Rattle.bihash_words.specs.Pages.{page_of, word_paging}
 use Rattle.bihash_words.specs.Sizes.{Sizes}
 use Rattle.bihash_words.proofs.BlockLemmas.{holds_with, holds_without, lawful_as, lawful_with}
 use Rattle.bihash_words.proofs.MapValues.{get_left, get_removed, get_set, same_or_other}
-use Rattle.bihash_steps.specs.Blocks.{HasPair, HoldsPair, IsBlockOf, places, key_in, value_in, free}
+use Rattle.bihash_rule.specs.Blocks.{HasPair, HoldsPair, IsBlockOf, places, key_in, value_in, free}
 use Rattle.bihash_steps.specs.BucketSteps.{marked}
-use Rattle.bihash_steps.specs.declared.view.Extent.{Extent}
-use Rattle.bihash_table.specs.inner.Places.{IsFreeFor, IsOpenTo}
+use Rattle.bihash_rule.specs.declared.view.Extent.{Extent}
+use Rattle.bihash_rule.specs.Places.{IsFreeFor, IsOpenTo}
 use Rattle.bihash_table.specs.inner.Stores.{IsPlaceSet}
 use Rattle.bihash_table.proofs.PlaceWords.{key_beside, value_beside}
 

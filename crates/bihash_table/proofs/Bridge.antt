@@ -19,10 +19,10 @@ use Rattle.bihash_words.proofs.MapValues.{get_other, get_set, same_or_other}
 use Rattle.bihash_plan.specs.Blocks.{HasPairAt, IsLawfulBlock, IsSized, pairs}
 use Rattle.bihash_plan.specs.Layouts.{IsRehash}
 use Rattle.bihash_plan.proofs.Places.{block_sized, pair_inside}
-use Rattle.bihash_steps.specs.Words.{place_words, block_words}
-use Rattle.bihash_steps.specs.Blocks.{HoldsPair, IsBlockOf, places, value_in}
-use Rattle.bihash_steps.specs.declared.view.Extent.{Extent}
-use Rattle.bihash_table.specs.inner.Places.{ArePlaces}
+use Rattle.bihash_rule.specs.Words.{place_words, block_words}
+use Rattle.bihash_rule.specs.Blocks.{HoldsPair, IsBlockOf, places, value_in}
+use Rattle.bihash_rule.specs.declared.view.Extent.{Extent}
+use Rattle.bihash_rule.specs.Places.{ArePlaces}
 use Rattle.bihash_table.proofs.OpenPlaces.{some_places}
 use Rattle.bihash_table.proofs.PlacePairs.{contains_pair, stands_at}
 

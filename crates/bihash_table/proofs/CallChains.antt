@@ -1,21 +1,22 @@
 -- What was learned of a bucket before a lock or an answer: from the first view on it is one call.
 use lib.Seq.{set-get_or}
 use Rattle.std.proofs.Common.{◌≡◌, ◌⊎◌, ℕ, zero, suc, ◌+◌, ◌≤◌, Bool, true, false, true≢false, List, [], ◌∷◌, ◌++◌, length, get_or, set, set-set, append_assoc, refl, sym, ap, ◌∙◌, subst, arith, le_refl, Option, inl, inr}
+use Rattle.bihash_words.specs.Runs.{writes_of}
 use Rattle.bihash_words.specs.Maps.{Event}
 use Rattle.bihash_words.specs.Sizes.{Sizes}
 use Rattle.bihash_words.specs.Words.{Bucket, FitsWord, packed}
 use Rattle.bihash_words.specs.declared.patch.Change.{Change}
 use Rattle.bihash_words.specs.declared.patch.Reply.{Reply}
-use Rattle.bihash_steps.specs.Histories.{IsPrefix, bucket_of}
-use Rattle.bihash_steps.specs.Callers.{known_at}
-use Rattle.bihash_steps.specs.Buckets.{word_of}
-use Rattle.bihash_steps.specs.Views.{nothing_held}
+use Rattle.bihash_rule.specs.Histories.{IsPrefix, bucket_of}
+use Rattle.bihash_rule.specs.Callers.{known_at}
+use Rattle.bihash_rule.specs.Buckets.{word_of}
+use Rattle.bihash_rule.specs.Views.{nothing_held}
 use Rattle.bihash_steps.specs.BucketSteps.{acting, with_history, lock_counted, push_call, SeesOpen, SeesLocked}
-use Rattle.bihash_steps.specs.declared.view.Write.{Write}
-use Rattle.bihash_steps.specs.declared.view.Record.{Record}
-use Rattle.bihash_steps.specs.declared.view.View.{View}
+use Rattle.bihash_rule.specs.declared.view.Write.{Write}
+use Rattle.bihash_rule.specs.declared.view.Record.{Record}
+use Rattle.bihash_rule.specs.declared.view.View.{View}
 use Rattle.bihash_steps.proofs.Prefixes.{prefix_refl}
-use Rattle.bihash_table.specs.Answers.{locks_of, with_locks, entry_of, own_writes, recycled_update}
+use Rattle.bihash_table.specs.Answers.{locks_of, with_locks, entry_of, recycled_update}
 use Rattle.bihash_table.specs.Promise.{IsAnswered, IsContended, IsEntered, IsUpdated, IsUpdatedOver}
 use Rattle.bihash_table.specs.inner.Locked.{IsLocked}
 use Rattle.bihash_table.proofs.CallerViews.{answered_as, answered_by, contended_as, contended_by}
@@ -140,7 +141,7 @@ module _ (z : Sizes) (v u w : View) where
         subst (λ (n : ℕ). IsEntered v.log n call w.log t.history) (acting_locks s.locks v.records)
         (subst (λ (x : View). IsEntered x.log (acting x.records) call w.log t.history) s.is t.entered);
     alone = λ lone. let few = t.alone (ahead_lone v u b s lone) in let same = ahead_few v u b s lone in
-        let own : ℕ = own_writes e.reply in omega arith;
+        let own : ℕ = writes_of e.reply in omega arith;
   }
 
   pub ahead_answered : (b : ℕ) (e : Event) → bucket_of z e.key ≡ b → IsAhead v u b → IsAnswered z u w e → IsAnswered z v w e

@@ -1,17 +1,18 @@
 -- What a call leaves of its caller as one equation of views, and field by field.
 use Rattle.std.proofs.Common.{◌≡◌, ◌≤◌, ℕ, ◌+◌, true, List, length, Option, ap, refl}
+use Rattle.bihash_words.specs.Runs.{writes_of}
 use Rattle.bihash_words.specs.Maps.{Event}
 use Rattle.bihash_words.specs.Sizes.{Sizes}
-use Rattle.bihash_steps.specs.Histories.{IsPrefix, bucket_of}
-use Rattle.bihash_steps.specs.Callers.{known_at}
-use Rattle.bihash_steps.specs.Views.{nothing_held}
+use Rattle.bihash_rule.specs.Histories.{IsPrefix, bucket_of}
+use Rattle.bihash_rule.specs.Callers.{known_at}
+use Rattle.bihash_rule.specs.Views.{nothing_held}
 use Rattle.bihash_steps.specs.BucketSteps.{acting, with_history, push_call}
-use Rattle.bihash_steps.specs.declared.view.Write.{Write}
-use Rattle.bihash_steps.specs.declared.view.PageStore.{PageStore}
-use Rattle.bihash_steps.specs.declared.view.Entry.{Entry}
-use Rattle.bihash_steps.specs.declared.view.Record.{Record}
-use Rattle.bihash_steps.specs.declared.view.View.{View}
-use Rattle.bihash_table.specs.Answers.{entry_of, own_writes, with_locks}
+use Rattle.bihash_rule.specs.declared.view.Write.{Write}
+use Rattle.bihash_rule.specs.declared.view.PageStore.{PageStore}
+use Rattle.bihash_rule.specs.declared.view.Entry.{Entry}
+use Rattle.bihash_rule.specs.declared.view.Record.{Record}
+use Rattle.bihash_rule.specs.declared.view.View.{View}
+use Rattle.bihash_table.specs.Answers.{entry_of, with_locks}
 use Rattle.bihash_table.specs.Promise.{IsAnswered, IsContended, IsEntered}
 
 -- the call was answered, as one equation
@@ -28,7 +29,7 @@ pub record LeavesEntry (z : Sizes) (v w : View) (e : Event) : Type 0 where
   }
   pub entered : IsEntered v.log (acting v.records) (entry_of z (length history) e noted) w.log history
   pub alone : v.lone ≡ true → length history
-      ≤ length (known_at v.known (bucket_of z e.key)) + own_writes e.reply
+      ≤ length (known_at v.known (bucket_of z e.key)) + writes_of e.reply
 
 -- the call was contended, as one equation
 pub record LeavesNone (z : Sizes) (v w : View) (b : ℕ) : Type 0 where

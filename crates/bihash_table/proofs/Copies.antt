@@ -8,14 +8,14 @@ use Rattle.std.proofs.lemmas.Option.{same_Some, slice_get_within}
 use Rattle.bihash_words.specs.Sizes.{Sizes, sizes_of}
 use Rattle.bihash_words.specs.declared.shape.Shape.{Ghosts}
 use Rattle.bihash_plan.proofs.Places.{get_after}
-use Rattle.bihash_steps.specs.Words.{block_words, place_words}
-use Rattle.bihash_steps.specs.Blocks.{free, key_in, places, value_in}
+use Rattle.bihash_rule.specs.Words.{block_words, place_words}
+use Rattle.bihash_rule.specs.Blocks.{free, key_in, places, value_in}
 use Rattle.bihash_steps.specs.StoreSteps.{IsHeldWord, holding, stored_at}
 use Rattle.bihash_steps.specs.Seats.{CallerState, with_view}
-use Rattle.bihash_steps.specs.declared.view.HeldBlock.{HeldBlock}
-use Rattle.bihash_steps.specs.declared.view.View.{View}
+use Rattle.bihash_rule.specs.declared.view.HeldBlock.{HeldBlock}
+use Rattle.bihash_rule.specs.declared.view.View.{View}
 use Rattle.bihash_table.specs.inner.Copying.{HasBlock, IsPlaced, with_words}
-use Rattle.bihash_table.specs.inner.Places.{ArePlaces}
+use Rattle.bihash_rule.specs.Places.{ArePlaces}
 use Rattle.bihash_table.proofs.PlaceReads.{all_same, place_inside, word_of_key}
 
 pub words_counted : (z : Sizes) (page log2 : ℕ) → block_words z page log2 ≡ places page log2 * place_words z

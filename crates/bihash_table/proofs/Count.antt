@@ -11,8 +11,8 @@ use Rattle.bihash_words.specs.Pages.{word_paging}
 use Rattle.bihash_words.specs.Sizes.{Sizes}
 use Rattle.bihash_words.proofs.BlockLemmas.{holds_without}
 use Rattle.bihash_words.proofs.MapValues.{len_less}
-use Rattle.bihash_steps.specs.Blocks.{HasPair, HoldsPair, IsBlockOf, places, key_in, value_in, free}
-use Rattle.bihash_steps.specs.declared.view.Extent.{Extent}
+use Rattle.bihash_rule.specs.Blocks.{HasPair, HoldsPair, IsBlockOf, places, key_in, value_in, free}
+use Rattle.bihash_rule.specs.declared.view.Extent.{Extent}
 
 -- how many of the first n places have a pair
 abbrev pub pairs_before : Sizes → List ℕ → ℕ → ℕ

@@ -9,31 +9,28 @@ use Rattle.bihash_words.specs.Blocks.{IsOpen}
 use Rattle.bihash_words.specs.Expiries.{expired_words}
 use Rattle.bihash_words.specs.Maps.{Answers, Bounds, Case, Event, IsEvent, IsSpare, NoRoom, Pairs, case_with, effect_of, most_pairs, removed_in, spare}
 use Rattle.bihash_words.specs.Pages.{page_of, paging_of}
-use Rattle.bihash_words.specs.Patches.{IsStorable, free_mark}
+use Rattle.bihash_words.specs.Patches.{free_mark}
 use Rattle.bihash_words.specs.Sizes.{Sizes, sizes_of}
-use Rattle.bihash_words.specs.declared.patch.Change.{Change}
 use Rattle.bihash_words.specs.declared.patch.Change.TheVariants.{Set}
 use Rattle.bihash_words.specs.declared.patch.Reply.TheVariants.{Changed, Full}
 use Rattle.bihash_words.specs.declared.shape.Shape.{Ghosts}
 use Rattle.bihash_words.proofs.SpareLemmas.{among_words, counted_told, none_spare, not_counted, spare_only}
 use Rattle.bihash_plan.specs.Recycles.{IsLeastExpired, IsMarked, NoneIsExpired}
 use Rattle.bihash_plan.specs.declared.spare_place.Recycle.{Recycle}
-use Rattle.bihash_steps.specs.Blocks.{HoldsPair, IsBlockOf, places}
+use Rattle.bihash_rule.specs.Blocks.{HoldsPair, IsBlockOf, places}
 use Rattle.bihash_steps.specs.BucketSteps.{Enters, MayMark, acting, call_of, map_now, view_after_write, with_lock}
-use Rattle.bihash_steps.specs.Callers.{IsLawfulCaller, known_at}
-use Rattle.bihash_steps.specs.Histories.{bounds_of, bucket_of, write_of}
+use Rattle.bihash_rule.specs.Callers.{IsLawfulCaller, known_at}
+use Rattle.bihash_rule.specs.Histories.{bounds_of, bucket_of, write_of}
 use Rattle.bihash_steps.specs.Seats.{CallerState, with_view}
-use Rattle.bihash_steps.specs.declared.view.Extent.{Extent}
-use Rattle.bihash_steps.specs.declared.view.Holdings.{Holdings}
-use Rattle.bihash_steps.specs.declared.view.LockedBucket.{LockedBucket}
-use Rattle.bihash_steps.specs.declared.view.View.{View}
-use Rattle.bihash_steps.specs.declared.view.Write.{Write}
+use Rattle.bihash_rule.specs.declared.view.Extent.{Extent}
+use Rattle.bihash_rule.specs.declared.view.Holdings.{Holdings}
+use Rattle.bihash_rule.specs.declared.view.LockedBucket.{LockedBucket}
+use Rattle.bihash_rule.specs.declared.view.View.{View}
 use Rattle.bihash_table.specs.Answers.{locks_of, recycled_update}
 use Rattle.bihash_table.specs.Promise.{IsAnswered, IsEntered}
 use Rattle.bihash_table.specs.Tries.{FinishedOver}
-use Rattle.bihash_table.specs.inner.Locked.{HasLock, IsSpareFor, TakesPlace, UnderLock}
-use Rattle.bihash_table.specs.inner.Seen.{HasSeen, TellsLockTry}
-use Rattle.bihash_table.specs.inner.Places.{ArePlaces}
+use Rattle.bihash_table.specs.inner.Locked.{HasLock, IsSpareFor, TakesPlace}
+use Rattle.bihash_rule.specs.Places.{ArePlaces}
 use Rattle.bihash_table.specs.inner.Stores.{HasStored}
 use Rattle.bihash_table.proofs.Blocks.{replaced_block}
 use Rattle.bihash_table.proofs.Bridge.{as_place, as_words}
@@ -42,8 +39,7 @@ use Rattle.bihash_table.proofs.NewPairs.{crowded_row}
 use Rattle.bihash_table.proofs.LockCounts.{took_no_lock}
 use Rattle.bihash_table.proofs.PairReads.{pair_value}
 use Rattle.bihash_table.proofs.LockReleases.{written_from_lock}
-use Rattle.bihash_table.proofs.SameCallers.{own_through, view_entered, write_entered}
-use Rattle.bihash_table.proofs.SeenBuckets.{told_locked}
+use Rattle.bihash_table.proofs.SameCallers.{view_entered, write_entered}
 use Rattle.bihash_table.proofs.StoredWords.{key_stored, stored_is, stored_placed, value_stored}
 
 -- ---- The rows of a call
@@ -214,20 +210,4 @@ finished_recycled g s t key value is_expired gone old expired same lawful locks 
   };
   paid = refl;
   no_lock = locks;
-}
-
--- what was seen is told under the lock as it is used there
-pub under_lock_as : {A K : Type 0} (g : Ghosts A K) {row : _} (s u : CallerState) (b word : ℕ) (change : Change) {won : Bool}
-    {P Q : Extent → List ℕ → Type 0} → s.row ≡ row → length (known_at s.view.known b) < g.LIMIT → IsStorable change
-    → HasSeen (sizes_of g) s.view b word P → (told : TellsLockTry (sizes_of g) s u b word won) (taken : won ≡ true)
-    → (P (told.locked taken).locked.lock.extent (told.locked taken).locked.lock.now
-    → Q (told.locked taken).locked.lock.extent (told.locked taken).locked.lock.now)
-    → UnderLock (sizes_of g) row u b word change Q
-under_lock_as g s u b word change own unworn storable h told taken more = let k = told.locked taken in record {
-  own = own_through s u u.view told.same own;
-  lock = k.locked.lock;
-  has = k.locked.has;
-  unworn = subst (λ (l : List Write). length l < g.LIMIT) (sym k.known) unworn;
-  storable = storable;
-  told = more (told_locked (sizes_of g) s.view u.view b word h k);
 }

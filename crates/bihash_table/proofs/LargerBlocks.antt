@@ -15,18 +15,19 @@ use Rattle.bihash_plan.specs.Plans.{IsPlan}
 use Rattle.bihash_plan.specs.Searches.{IsOnlyPlan}
 use Rattle.bihash_plan.specs.declared.outcome.Plan.{Plan}
 use Rattle.bihash_plan.specs.declared.outcome.Plan.TheVariants.{Grow}
-use Rattle.bihash_steps.specs.Histories.{bounds_of}
-use Rattle.bihash_steps.specs.Blocks.{IsBlockOf, places}
+use Rattle.bihash_rule.specs.Histories.{bounds_of}
+use Rattle.bihash_rule.specs.Blocks.{IsBlockOf, places}
 use Rattle.bihash_words.specs.declared.patch.Change.TheVariants.{Set}
-use Rattle.bihash_steps.specs.Callers.{known_at}
+use Rattle.bihash_rule.specs.Callers.{known_at}
 use Rattle.bihash_steps.specs.Seats.{CallerState}
 use Rattle.bihash_steps.specs.BucketSteps.{map_now}
-use Rattle.bihash_steps.specs.declared.view.LockedBucket.{LockedBucket}
-use Rattle.bihash_steps.specs.declared.view.View.{View}
+use Rattle.bihash_rule.specs.declared.view.LockedBucket.{LockedBucket}
+use Rattle.bihash_rule.specs.declared.view.View.{View}
+use Rattle.bihash_table.specs.declared.hashed_key.SeenBucket.{SeenBucket}
 use Rattle.bihash_table.specs.inner.Locked.{HasLock}
-use Rattle.bihash_table.specs.inner.Places.{ArePlaces}
+use Rattle.bihash_rule.specs.Places.{ArePlaces}
 use Rattle.bihash_table.specs.inner.Seen.{HasSeen, IsFullFor, IsNewAndCrowded, LocksSeen, WantsPlace}
-use Rattle.bihash_table.specs.OutOfPages.{IsPlanned}
+use Rattle.bihash_plan.specs.Wants.{IsPlanned}
 use Rattle.bihash_table.proofs.Bridge.{AreKeyWords, block_of_rehash, extent_of}
 use Rattle.bihash_table.proofs.PairReads.{pair_value}
 use Rattle.bihash_table.proofs.OpenPlaces.{word_tells}
@@ -114,9 +115,9 @@ module _ {A K : Type 0} (g : Ghosts A K) (keys : AreKeyWords g) (v : View) (b wo
           size named
 
 -- a caller may look for a place in a full bucket whose places it read
-pub wants_place : {A K : Type 0} (g : Ghosts A K) (row : _) (s : CallerState) (b word : ℕ) (key : K) (value : ℕ) (ps : List (K × ℕ))
-    → s.row ≡ row → (h : HasSeen (sizes_of g) s.view b word (IsFullFor g key ps))
-    → length ps ≡ places h.seen.extent.page h.seen.extent.size.log2 → length (known_at s.view.known b) < g.LIMIT
-    → IsStorable (Set value) → WantsPlace g row s b word key value ps
-wants_place g row s b word key value ps own h count unworn storable =
+pub wants_place : {A K : Type 0} (g : Ghosts A K) (row : _) (s : CallerState) (bucket : SeenBucket A K g) (value : ℕ) (ps : List (K × ℕ))
+    → s.row ≡ row → (h : HasSeen (sizes_of g) s.view bucket.hashed.bucket bucket.word (IsFullFor g bucket.hashed.key.now ps))
+    → length ps ≡ places h.seen.extent.page h.seen.extent.size.log2 → length (known_at s.view.known bucket.hashed.bucket) < g.LIMIT
+    → IsStorable (Set value) → WantsPlace g row s bucket value ps
+wants_place g row s bucket value ps own h count unworn storable =
     record { own = own; seen = h; count = count; unworn = unworn; storable = storable }

@@ -3,9 +3,9 @@ use Rattle.std.proofs.Common.{◌≡◌, ◌≤◌, ◌+◌, ◌-◌, ◌∙◌,
 use Rattle.bihash_words.specs.Sizes.{Sizes}
 use Rattle.bihash_words.specs.declared.patch.Reply.{Reply}
 use Rattle.bihash_steps.specs.BucketSteps.{lock_counted, push_call}
-use Rattle.bihash_steps.specs.declared.view.Call.{Call}
-use Rattle.bihash_steps.specs.declared.view.Record.{Record}
-use Rattle.bihash_steps.specs.declared.view.View.{View}
+use Rattle.bihash_rule.specs.declared.view.Call.{Call}
+use Rattle.bihash_rule.specs.declared.view.Record.{Record}
+use Rattle.bihash_rule.specs.declared.view.View.{View}
 use Rattle.bihash_table.specs.Answers.{locks_of}
 use Rattle.bihash_table.specs.inner.Locked.{IsLocked}
 use Rattle.bihash_table.specs.Tries.{TookAtMost, TookByTries, try_locks}

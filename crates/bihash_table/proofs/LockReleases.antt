@@ -1,23 +1,35 @@
 -- What a call leaves of its caller where it opened the lock that it had: it was answered.
 use Rattle.std.proofs.Common.{◌≡◌, ◌∙◌, ◌+◌, ◌≤◌, true, ℕ, List, [], ◌∷◌, ◌++◌, length, set, Option, None, ap, arith, refl, sym, subst, append-nil, length-append}
+use Rattle.std.specs.Prelude.{cond}
 use Rattle.std.proofs.lemmas.List.{set-get_or}
+use Rattle.bihash_words.specs.Runs.{writes_of}
 use Rattle.bihash_words.specs.Maps.{Event}
 use Rattle.bihash_words.specs.Sizes.{Sizes}
-use Rattle.bihash_steps.specs.Histories.{IsPrefix, bucket_of, is_changed, store_of, write_of}
-use Rattle.bihash_steps.specs.Callers.{known_at}
-use Rattle.bihash_steps.specs.Views.{nothing_held}
+use Rattle.bihash_words.specs.declared.patch.Reply.{Reply}
+use Rattle.bihash_words.specs.declared.patch.Reply.TheVariants.{Kept, Changed, Worn, Full, NoPages}
+use Rattle.bihash_rule.specs.Histories.{IsPrefix, bucket_of, is_changed, store_of, write_of}
+use Rattle.bihash_rule.specs.Callers.{known_at}
+use Rattle.bihash_rule.specs.Views.{nothing_held}
 use Rattle.bihash_steps.specs.BucketSteps.{acting, view_after_answer, call_of, with_history, push_call, view_after_write}
-use Rattle.bihash_steps.specs.declared.view.Write.{Write}
-use Rattle.bihash_steps.specs.declared.view.Call.{Call}
-use Rattle.bihash_steps.specs.declared.view.Record.{Record}
-use Rattle.bihash_steps.specs.declared.view.Holdings.{Holdings}
-use Rattle.bihash_steps.specs.declared.view.LockedBucket.{LockedBucket}
-use Rattle.bihash_steps.specs.declared.view.PageStore.{PageStore}
-use Rattle.bihash_steps.specs.declared.view.View.{View}
-use Rattle.bihash_table.specs.Answers.{entry_of, locks_of, own_writes, with_locks}
+use Rattle.bihash_rule.specs.declared.view.Write.{Write}
+use Rattle.bihash_rule.specs.declared.view.Call.{Call}
+use Rattle.bihash_rule.specs.declared.view.Record.{Record}
+use Rattle.bihash_rule.specs.declared.view.Holdings.{Holdings}
+use Rattle.bihash_rule.specs.declared.view.LockedBucket.{LockedBucket}
+use Rattle.bihash_rule.specs.declared.view.PageStore.{PageStore}
+use Rattle.bihash_rule.specs.declared.view.View.{View}
+use Rattle.bihash_table.specs.Answers.{entry_of, locks_of, with_locks}
 use Rattle.bihash_table.specs.Promise.{IsAnswered, IsEntered}
 use Rattle.bihash_table.specs.inner.Locked.{HasLock}
 use Rattle.bihash_table.proofs.CallerViews.{answered_by}
+
+-- a call made one write where its reply tells of one, and else none
+pub writes_told : (r : Reply) → writes_of r ≡ cond (is_changed r) 1 0
+writes_told (Kept found) = refl
+writes_told (Changed found) = refl
+writes_told (Worn found) = refl
+writes_told Full = refl
+writes_told (NoPages log2 left) = refl
 
 pub with_locks-locks_of : (records : List Record) → with_locks (locks_of records) records ≡ records
 with_locks-locks_of [] = refl
@@ -36,7 +48,7 @@ module _ (z : Sizes) (v w : View) (b word : ℕ) (l : LockedBucket) (e : Event) 
   }
 
   is_left : (noted : Option PageStore) (history : List Write) → IsPrefix (known_at v.known b) history
-      → length history ≤ length (known_at v.known b) + own_writes e.reply
+      → length history ≤ length (known_at v.known b) + writes_of e.reply
       → w ≡ Left noted b (length history) history v.records
       → IsEntered v.log (acting v.records) (record (entry_of z (length history) e noted) { bucket = b }) w.log history → IsAnswered z v w e
   is_left noted history begins few is entered = answered_by z v w e record {
@@ -50,7 +62,7 @@ module _ (z : Sizes) (v w : View) (b word : ℕ) (l : LockedBucket) (e : Event) 
         (sym home));
     entered = subst (λ (c : ℕ). IsEntered v.log (acting v.records) (record (entry_of z (length history) e noted) { bucket = c }) w.log history)
         (sym home) entered;
-    alone = λ _. subst (λ (c : ℕ). length history ≤ length (known_at v.known c) + own_writes e.reply) (sym home) few;
+    alone = λ _. subst (λ (c : ℕ). length history ≤ length (known_at v.known c) + writes_of e.reply) (sym home) few;
   }
 
   -- the call was no write: nothing more is known
@@ -72,7 +84,7 @@ module _ (z : Sizes) (v w : View) (b word : ℕ) (l : LockedBucket) (e : Event) 
       } in
       let notes : w ≡ record (view_after_answer v c) { notes = w.notes; log = w.log } =
       is ∙ ap (λ n. record (view_after_answer v c) { notes = n; log = w.log }) (sym (ap (λ (u : View). u.notes) is)) in
-      is_left noted H (record { rest = []; whole = sym (append-nil H) }) (let own : ℕ = own_writes e.reply in omega arith)
+      is_left noted H (record { rest = []; whole = sym (append-nil H) }) (let own : ℕ = writes_of e.reply in omega arith)
       (notes ∙ (ap (λ (n : ℕ). At n v.known.writes v.holds) stamp
       ∙ (ap (λ (ws : List (List Write)). At (length H) ws v.holds) kept
       ∙ ap (λ (h : Holdings). At (length H) (set v.known.writes b H) h) has.held)))
@@ -87,6 +99,7 @@ module _ (z : Sizes) (v w : View) (b word : ℕ) (l : LockedBucket) (e : Event) 
       let x : Write = write_of (acting v.records) (call_of v b 1 e) in
       let stamp : length H + 1 ≡ length (H ++ x ∷ []) = sym (length-append H (x ∷ [])) in
       is_left v.notes.left (H ++ x ∷ []) (record { rest = x ∷ []; whole = refl })
-      (rw changes (let long = length-append H (x ∷ []) in omega arith))
+      (subst (λ (n : ℕ). length (H ++ x ∷ []) ≤ length H + n) (sym (writes_told e.reply))
+      (rw changes (let long = length-append H (x ∷ []) in omega arith)))
       (is ∙ ap (λ (n : ℕ). Left v.notes.left b n (H ++ x ∷ []) v.records) stamp)
       (subst (λ (n : ℕ). IsEntered v.log (acting v.records) (record (entry_of z n e v.notes.left) { bucket = b }) w.log (H ++ x ∷ [])) stamp entered)

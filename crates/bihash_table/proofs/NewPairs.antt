@@ -10,20 +10,20 @@ use Rattle.bihash_words.specs.Sizes.{Sizes}
 use Rattle.bihash_words.specs.declared.patch.Change.{Change}
 use Rattle.bihash_words.specs.declared.patch.Change.TheVariants.{Set, Remove}
 use Rattle.bihash_words.specs.declared.patch.Reply.TheVariants.{Changed, NoPages}
-use Rattle.bihash_steps.specs.Histories.{IsKeyOf, IsWrite, bounds_of}
-use Rattle.bihash_steps.specs.Callers.{known_at}
-use Rattle.bihash_steps.specs.PageStores.{returned_in}
-use Rattle.bihash_steps.specs.Views.{no_notes}
+use Rattle.bihash_rule.specs.Histories.{IsKeyOf, IsWrite, bounds_of}
+use Rattle.bihash_rule.specs.Callers.{known_at}
+use Rattle.bihash_rule.specs.PageStores.{returned_in}
+use Rattle.bihash_rule.specs.Views.{no_notes}
 use Rattle.bihash_words.proofs.MapLemmas.{none_removed}
 use Rattle.bihash_steps.specs.BucketCalls.{event}
 use Rattle.bihash_steps.specs.BucketSteps.{HoldsClean, MayAnswer, MayWrite, acting, call_of, map_now}
 use Rattle.bihash_steps.specs.StoreSteps.{holding}
-use Rattle.bihash_steps.specs.declared.view.Holdings.{Holdings}
-use Rattle.bihash_steps.specs.declared.view.LockedBucket.{LockedBucket}
-use Rattle.bihash_steps.specs.declared.view.LockedStore.{LockedStore}
-use Rattle.bihash_steps.specs.declared.view.HeldBlock.{HeldBlock}
-use Rattle.bihash_steps.specs.declared.view.PageStore.{PageStore}
-use Rattle.bihash_steps.specs.declared.view.View.{View}
+use Rattle.bihash_rule.specs.declared.view.Holdings.{Holdings}
+use Rattle.bihash_rule.specs.declared.view.LockedBucket.{LockedBucket}
+use Rattle.bihash_rule.specs.declared.view.LockedStore.{LockedStore}
+use Rattle.bihash_rule.specs.declared.view.HeldBlock.{HeldBlock}
+use Rattle.bihash_rule.specs.declared.view.PageStore.{PageStore}
+use Rattle.bihash_rule.specs.declared.view.View.{View}
 use Rattle.bihash_table.specs.inner.Copying.{LacksPages}
 use Rattle.bihash_table.specs.inner.Locked.{HasLock}
 

@@ -4,10 +4,10 @@ use Rattle.bihash_words.specs.Pages.{page_of, word_paging}
 use Rattle.bihash_words.specs.Sizes.{Sizes, IsSound}
 use Rattle.bihash_words.proofs.BlockLemmas.{in_page, open_of_page}
 use Rattle.bihash_plan.proofs.PageLemmas.{page_of-lt}
-use Rattle.bihash_steps.specs.Blocks.{places}
-use Rattle.bihash_steps.specs.declared.view.Extent.{Extent}
-use Rattle.bihash_steps.specs.declared.view.LockedBucket.{LockedBucket}
-use Rattle.bihash_steps.specs.declared.view.View.{View}
+use Rattle.bihash_rule.specs.Blocks.{places}
+use Rattle.bihash_rule.specs.declared.view.Extent.{Extent}
+use Rattle.bihash_rule.specs.declared.view.LockedBucket.{LockedBucket}
+use Rattle.bihash_rule.specs.declared.view.View.{View}
 use Rattle.bihash_table.specs.inner.Locked.{HasLock}
 use Rattle.bihash_table.specs.inner.Scans.{IsWordOf, AreOpenTo}
 

@@ -4,14 +4,14 @@ use mathlib.Core.Option.{some, some-ne-none}
 use lib.ListN.{get_elem?}
 use Rattle.std.specs.Prelude.{slice_index}
 use Rattle.bihash_words.specs.Sizes.{IsSound, Sizes}
-use Rattle.bihash_steps.specs.Words.{block_words, place_words}
-use Rattle.bihash_steps.specs.Blocks.{places}
-use Rattle.bihash_steps.specs.Buckets.{AreReadIn}
+use Rattle.bihash_rule.specs.Words.{block_words, place_words}
+use Rattle.bihash_rule.specs.Blocks.{places}
+use Rattle.bihash_rule.specs.Buckets.{AreReadIn}
 use Rattle.bihash_steps.specs.BucketSteps.{IsOpenWord, read_more, with_reading}
 use Rattle.bihash_steps.specs.Seats.{CallerState, with_view}
-use Rattle.bihash_steps.specs.declared.view.Extent.{Extent}
-use Rattle.bihash_steps.specs.declared.view.OpenBucket.{OpenBucket}
-use Rattle.bihash_steps.specs.declared.view.View.{View}
+use Rattle.bihash_rule.specs.declared.view.Extent.{Extent}
+use Rattle.bihash_rule.specs.declared.view.OpenBucket.{OpenBucket}
+use Rattle.bihash_rule.specs.declared.view.View.{View}
 use Rattle.bihash_steps.proofs.Lists.{at_after}
 use Rattle.bihash_table.specs.inner.OpenReads.{HasOpen, HasRead, MayRead, NotesBlock, Saw}
 use Rattle.bihash_table.specs.inner.Scans.{IsWordOf, NamesBlock}

@@ -15,12 +15,12 @@ use Rattle.std.specs.Ordering.{eq_by_cmp, is_lt, nat_cmp}
 use Rattle.bihash_words.specs.Sizes.{Sizes, sizes_of}
 use Rattle.bihash_words.specs.declared.shape.Shape.{Ghosts}
 use Rattle.bihash_words.proofs.MapValues.{apart}
-use Rattle.bihash_steps.specs.Words.{buckets}
-use Rattle.bihash_steps.specs.Histories.{bucket_of}
-use Rattle.bihash_steps.specs.Callers.{known_at, opening_at}
-use Rattle.bihash_steps.specs.Blocks.{HoldsPair, free, key_in, places, value_in}
-use Rattle.bihash_steps.specs.declared.view.Known.{Known}
-use Rattle.bihash_steps.specs.declared.view.Extent.{Extent}
+use Rattle.bihash_rule.specs.Words.{buckets}
+use Rattle.bihash_rule.specs.Histories.{bucket_of}
+use Rattle.bihash_rule.specs.Callers.{known_at, opening_at}
+use Rattle.bihash_rule.specs.Blocks.{HoldsPair, free, key_in, places, value_in}
+use Rattle.bihash_rule.specs.declared.view.Known.{Known}
+use Rattle.bihash_rule.specs.declared.view.Extent.{Extent}
 use Rattle.bihash_table.specs.Closing.{ArePairsOf, keys_of, map_in}
 use Rattle.bihash_table.specs.inner.PairLists.{InBucketsBelow, InPart, InPlacesBelow, IsBlockIn, ListsBuckets, ListsPairs}
 use Rattle.bihash_steps.proofs.Homes.{key_home}

@@ -5,12 +5,12 @@ use Rattle.std.specs.Prelude.{slice_index}
 use Rattle.std.specs.FinMap.{get}
 use Rattle.bihash_words.specs.Sizes.{Sizes}
 use Rattle.bihash_words.specs.Maps.{Pairs}
-use Rattle.bihash_steps.specs.Words.{place_words, block_words}
-use Rattle.bihash_steps.specs.Blocks.{HasPair, places, value_in, free, IsBlockOf}
-use Rattle.bihash_steps.specs.declared.view.Extent.{Extent}
-use Rattle.bihash_steps.specs.declared.view.OpenBucket.{OpenBucket}
+use Rattle.bihash_rule.specs.Words.{place_words, block_words}
+use Rattle.bihash_rule.specs.Blocks.{HasPair, places, value_in, free, IsBlockOf}
+use Rattle.bihash_rule.specs.declared.view.Extent.{Extent}
+use Rattle.bihash_rule.specs.declared.view.OpenBucket.{OpenBucket}
 use Rattle.bihash_steps.specs.Seats.{CallerState}
-use Rattle.bihash_table.specs.inner.Places.{HasPairOf}
+use Rattle.bihash_rule.specs.Places.{HasPairOf}
 use Rattle.bihash_table.specs.inner.Scans.{AreOpenTo}
 use Rattle.bihash_table.specs.inner.OpenReads.{NotesBlock, HasRead, LastWordTells, AreMarks, first_set, later_set, set_count, IsValueAt, TellsValue, IsPairAmong, IsPairIn, IsFirstFreeIn, OtherPairTells, value_of}
 use Rattle.bihash_table.proofs.PlaceReads.{SameTo, word_of_key, all_same}

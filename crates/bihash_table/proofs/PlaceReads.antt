@@ -2,12 +2,12 @@
 use lib.Seq.{ext_get_or}
 use Rattle.std.proofs.Common.{◌≡◌, ℕ, zero, suc, ◌+◌, ◌*◌, ◌^◌, ◌<◌, ◌≤◌, List, length, slice_index, drop, get_or-take, get_or-drop, length-take-le, length-drop, mul-le-mul_right, suc-mul, mul_assoc, mul_comm, sym, ap, ◌∙◌, arith}
 use Rattle.bihash_words.specs.Sizes.{Sizes}
-use Rattle.bihash_steps.specs.Words.{place_words, block_words}
-use Rattle.bihash_steps.specs.Blocks.{places, key_in}
+use Rattle.bihash_rule.specs.Words.{place_words, block_words}
+use Rattle.bihash_rule.specs.Blocks.{places, key_in}
 use Rattle.bihash_steps.specs.BucketSteps.{IsLockedWord}
-use Rattle.bihash_steps.specs.declared.view.Holdings.{Holdings}
-use Rattle.bihash_steps.specs.declared.view.LockedBucket.{LockedBucket}
-use Rattle.bihash_steps.specs.declared.view.View.{View}
+use Rattle.bihash_rule.specs.declared.view.Holdings.{Holdings}
+use Rattle.bihash_rule.specs.declared.view.LockedBucket.{LockedBucket}
+use Rattle.bihash_rule.specs.declared.view.View.{View}
 use Rattle.bihash_table.specs.inner.Locked.{HasLock}
 
 -- the first n words of the place are those of the key

@@ -4,8 +4,8 @@ use Rattle.std.proofs.lemmas.Bool.{cases_order}
 use Rattle.std.proofs.lemmas.List.{ext_get_or, length-drop, length-take}
 use Rattle.std.proofs.lemmas.Nat.{row_fits}
 use Rattle.bihash_words.specs.Sizes.{Sizes}
-use Rattle.bihash_steps.specs.Words.{place_words}
-use Rattle.bihash_steps.specs.Blocks.{key_in, value_in}
+use Rattle.bihash_rule.specs.Words.{place_words}
+use Rattle.bihash_rule.specs.Blocks.{key_in, value_in}
 use Rattle.bihash_table.specs.inner.Stores.{IsBeside, IsPlaceSet}
 use Rattle.bihash_table.proofs.PlaceReads.{word_of_key}
 

@@ -4,18 +4,18 @@ use Rattle.std.specs.FinMap.{get}
 use Rattle.bihash_words.specs.Sizes.{Sizes}
 use Rattle.bihash_words.specs.declared.patch.Change.TheVariants.{Set, Remove}
 use Rattle.bihash_words.specs.declared.patch.Reply.TheVariants.{Changed}
-use Rattle.bihash_steps.specs.Words.{place_words}
-use Rattle.bihash_steps.specs.Histories.{bounds_of, bucket_of}
-use Rattle.bihash_steps.specs.Callers.{known_at}
-use Rattle.bihash_steps.specs.Blocks.{HasPair, HoldsPair, free}
+use Rattle.bihash_rule.specs.Words.{place_words}
+use Rattle.bihash_rule.specs.Histories.{bounds_of, bucket_of}
+use Rattle.bihash_rule.specs.Callers.{known_at}
+use Rattle.bihash_rule.specs.Blocks.{HasPair, HoldsPair, free}
 use Rattle.bihash_steps.specs.BucketCalls.{event}
 use Rattle.bihash_steps.specs.BucketSteps.{Enters, MayPublish, call_of, map_now, with_lock, stored_in, view_after_write}
 use Rattle.bihash_steps.specs.Seats.{CallerState, with_view}
-use Rattle.bihash_steps.specs.declared.view.LockedBucket.{LockedBucket}
-use Rattle.bihash_steps.specs.declared.view.View.{View}
+use Rattle.bihash_rule.specs.declared.view.LockedBucket.{LockedBucket}
+use Rattle.bihash_rule.specs.declared.view.View.{View}
 use Rattle.bihash_table.specs.Promise.{IsAnswered}
 use Rattle.bihash_table.specs.inner.Locked.{HasLock}
-use Rattle.bihash_table.specs.inner.Places.{IsFreeFor}
+use Rattle.bihash_rule.specs.Places.{IsFreeFor}
 use Rattle.bihash_table.specs.inner.Stores.{HasStored}
 use Rattle.bihash_table.proofs.Blocks.{filled_block, freed_block, overwritten_block}
 use Rattle.bihash_table.proofs.Count.{few_pairs}

@@ -4,15 +4,15 @@ use Rattle.std.specs.Prelude.{IfOk}
 use Rattle.std.specs.declared.result.Result.{Result}
 use Rattle.std.specs.declared.result.Result.TheVariants.{Ok, Err}
 use Rattle.bihash_words.specs.Sizes.{Sizes}
-use Rattle.bihash_steps.specs.Words.{all_words}
-use Rattle.bihash_steps.specs.Callers.{IsLawfulCaller}
+use Rattle.bihash_rule.specs.Words.{all_words}
+use Rattle.bihash_rule.specs.Callers.{IsLawfulCaller}
 use Rattle.bihash_steps.specs.Renewals.{AreRowWords, IsNextWord, IsRenewed, LoadsRowWord, view_after_load}
 use Rattle.bihash_steps.specs.Seats.{CallerState, with_view}
-use Rattle.bihash_steps.specs.Views.{no_notes}
+use Rattle.bihash_rule.specs.Views.{no_notes}
 use Rattle.bihash_steps.specs.Steps.{view_after_count}
-use Rattle.bihash_steps.specs.declared.view.Known.{Known}
-use Rattle.bihash_steps.specs.declared.view.Notes.{Notes}
-use Rattle.bihash_steps.specs.declared.view.View.{View}
+use Rattle.bihash_rule.specs.declared.view.Known.{Known}
+use Rattle.bihash_rule.specs.declared.view.Notes.{Notes}
+use Rattle.bihash_rule.specs.declared.view.View.{View}
 use Rattle.bihash_steps.proofs.CountWord.{some_words}
 use Rattle.bihash_table.specs.inner.RowWords.{HasNoted, HasLoaded}
 

@@ -4,13 +4,13 @@ use Rattle.bihash_steps.specs.Seats.{CallerState, with_view}
 use Rattle.bihash_words.specs.Sizes.{Sizes}
 use Rattle.bihash_steps.specs.BucketCalls.{HasEntered, IsValidated}
 use Rattle.bihash_steps.specs.BucketSteps.{Enters, acting, entry_of, view_after_validate}
-use Rattle.bihash_steps.specs.Callers.{known_at}
-use Rattle.bihash_steps.specs.Histories.{is_changed, write_of}
-use Rattle.bihash_steps.specs.Logs.{writes_on}
-use Rattle.bihash_steps.specs.declared.view.Call.{Call}
-use Rattle.bihash_steps.specs.declared.view.Entry.{Entry}
-use Rattle.bihash_steps.specs.declared.view.View.{View}
-use Rattle.bihash_steps.specs.declared.view.Write.{Write}
+use Rattle.bihash_rule.specs.Callers.{known_at}
+use Rattle.bihash_rule.specs.Histories.{is_changed, write_of}
+use Rattle.bihash_rule.specs.Logs.{writes_on}
+use Rattle.bihash_rule.specs.declared.view.Call.{Call}
+use Rattle.bihash_rule.specs.declared.view.Entry.{Entry}
+use Rattle.bihash_rule.specs.declared.view.View.{View}
+use Rattle.bihash_rule.specs.declared.view.Write.{Write}
 use Rattle.bihash_steps.proofs.LogLemmas.{read_writes, write_here, writes_on-append}
 use Rattle.bihash_table.specs.Promise.{IsEntered}
 

@@ -1,24 +1,25 @@
 -- A bucket that was seen without its lock: what reads add to it, its lock, and answers without the lock.
 use Rattle.std.proofs.Common.{◌≡◌, ◌∙◌, ℕ, ◌+◌, ◌≤◌, false, List, [], length, le_refl, set, refl, sym, ap, subst, arith, Some}
 use lib.Seq.{set-get_or}
+use Rattle.bihash_words.specs.Runs.{writes_of}
 use Rattle.bihash_words.specs.Maps.{Pairs, Event, IsEvent}
 use Rattle.bihash_words.specs.Sizes.{Sizes}
 use Rattle.bihash_words.specs.Words.{FitsWord, packed}
 use Rattle.bihash_words.specs.declared.patch.Reply.TheVariants.{NoPages}
-use Rattle.bihash_steps.specs.Histories.{IsPrefix, IsKeyOf, bounds_of, bucket_of, is_changed}
-use Rattle.bihash_steps.specs.Callers.{known_at}
-use Rattle.bihash_steps.specs.Buckets.{AreReadIn, word_of}
-use Rattle.bihash_steps.specs.Views.{nothing_held, no_notes}
+use Rattle.bihash_rule.specs.Histories.{IsPrefix, IsKeyOf, bounds_of, bucket_of, is_changed}
+use Rattle.bihash_rule.specs.Callers.{known_at}
+use Rattle.bihash_rule.specs.Buckets.{AreReadIn, word_of}
+use Rattle.bihash_rule.specs.Views.{nothing_held, no_notes}
 use Rattle.bihash_steps.specs.BucketSteps.{Enters, acting, with_history, push_call, map_now, with_reading, TakesLock, RestsOn, MayValidate, view_after_validate, call_of}
-use Rattle.bihash_steps.specs.declared.view.Write.{Write}
-use Rattle.bihash_steps.specs.declared.view.Call.{Call}
-use Rattle.bihash_steps.specs.declared.view.Record.{Record}
-use Rattle.bihash_steps.specs.declared.view.Extent.{Extent}
-use Rattle.bihash_steps.specs.declared.view.LockedBucket.{LockedBucket}
-use Rattle.bihash_steps.specs.declared.view.OpenBucket.{OpenBucket}
-use Rattle.bihash_steps.specs.declared.view.View.{View}
+use Rattle.bihash_rule.specs.declared.view.Write.{Write}
+use Rattle.bihash_rule.specs.declared.view.Call.{Call}
+use Rattle.bihash_rule.specs.declared.view.Record.{Record}
+use Rattle.bihash_rule.specs.declared.view.Extent.{Extent}
+use Rattle.bihash_rule.specs.declared.view.LockedBucket.{LockedBucket}
+use Rattle.bihash_rule.specs.declared.view.OpenBucket.{OpenBucket}
+use Rattle.bihash_rule.specs.declared.view.View.{View}
 use Rattle.bihash_steps.proofs.Prefixes.{prefix_refl}
-use Rattle.bihash_table.specs.Answers.{entry_of, locks_of, own_writes, with_locks}
+use Rattle.bihash_table.specs.Answers.{entry_of, locks_of, with_locks}
 use Rattle.bihash_table.specs.Promise.{IsAnswered, IsEntered}
 use Rattle.bihash_table.specs.inner.OpenReads.{HasOpen, IsOpened, Saw}
 use Rattle.bihash_table.specs.inner.Seen.{HasSeen, LocksSeen}
@@ -176,8 +177,8 @@ module _ (z : Sizes) (y : View) (b word : ℕ) {P : Extent → List ℕ → Type
           is = here ∙ ap (λ (c : ℕ). Left c (length H) (with_locks (locks_of y.records) y.records) (set y.known.writes c H)) (sym home);
           entered = subst (λ (c : ℕ). IsEntered y.log (acting y.records) (record (entry_of z (length H) e y.notes.left) { bucket = c }) w.log H) (sym home)
               (subst (λ (n : ℕ). IsEntered y.log (acting y.records) (record (entry_of z n e y.notes.left) { bucket = b }) w.log H) stamp (read_entered entered reads));
-          alone = λ lone. subst (λ (c : ℕ). length H ≤ length (known_at y.known c) + own_writes e.reply) (sym home)
-              (let own : ℕ = own_writes e.reply in omega arith);
+          alone = λ lone. subst (λ (c : ℕ). length H ≤ length (known_at y.known c) + writes_of e.reply) (sym home)
+              (let own : ℕ = writes_of e.reply in omega arith);
         }
 
 -- ---- The lock after the reads

@@ -4,12 +4,12 @@ use Rattle.std.proofs.Math.ListN.{take}
 use Rattle.std.proofs.lemmas.Option.{slice_get_within}
 use Rattle.bihash_words.specs.Sizes.{Sizes, sizes_of}
 use Rattle.bihash_words.specs.declared.shape.Shape.{Ghosts}
-use Rattle.bihash_steps.specs.Words.{place_words}
-use Rattle.bihash_steps.specs.Blocks.{places}
-use Rattle.bihash_steps.specs.declared.view.Extent.{Extent}
+use Rattle.bihash_rule.specs.Words.{place_words}
+use Rattle.bihash_rule.specs.Blocks.{places}
+use Rattle.bihash_rule.specs.declared.view.Extent.{Extent}
 use Rattle.bihash_steps.specs.Seats.{CallerState}
 use Rattle.bihash_table.specs.inner.OpenReads.{HasRead, NotesBlock, StandsAt}
-use Rattle.bihash_table.specs.inner.Places.{ArePlaces}
+use Rattle.bihash_rule.specs.Places.{ArePlaces}
 use Rattle.bihash_table.proofs.Copies.{AreRead, read_more, read_none, read_place_more, words_counted}
 use Rattle.bihash_table.proofs.PlaceReads.{all_same}
 use Rattle.bihash_table.proofs.OpenReadLemmas.{note_extent, note_size, read_as, read_nothing, read_then}

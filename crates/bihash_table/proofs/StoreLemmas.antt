@@ -8,33 +8,32 @@ use Rattle.bihash_words.specs.Sizes.{Sizes}
 use Rattle.bihash_words.specs.Words.{Bucket, FitsWord, packed}
 use Rattle.bihash_words.specs.declared.patch.Change.{Change}
 use Rattle.bihash_words.specs.declared.patch.Reply.TheVariants.{NoPages}
-use Rattle.bihash_steps.specs.Words.{block_words, page_words}
-use Rattle.bihash_steps.specs.Histories.{bucket_of, is_changed, write_of}
-use Rattle.bihash_steps.specs.Callers.{IsLawfulCaller, known_at}
-use Rattle.bihash_steps.specs.Blocks.{places}
-use Rattle.bihash_steps.specs.Buckets.{word_of}
-use Rattle.bihash_steps.specs.PageStores.{returned_in}
-use Rattle.bihash_steps.specs.Views.{no_notes, nothing_held}
+use Rattle.bihash_rule.specs.Words.{block_words, page_words}
+use Rattle.bihash_rule.specs.Histories.{bucket_of, is_changed, write_of}
+use Rattle.bihash_rule.specs.Callers.{IsLawfulCaller, known_at}
+use Rattle.bihash_rule.specs.Blocks.{places}
+use Rattle.bihash_rule.specs.Buckets.{word_of}
+use Rattle.bihash_rule.specs.PageStores.{returned_in}
+use Rattle.bihash_rule.specs.Views.{no_notes, nothing_held}
 use Rattle.bihash_steps.specs.Seats.{CallerState, with_view}
 use Rattle.bihash_steps.specs.BucketCalls.{event}
 use Rattle.bihash_steps.specs.BucketSteps.{acting, view_after_answer, view_after_write, call_of, with_call, last_call, push_call, without_lock, without_notes}
 use Rattle.bihash_steps.specs.StoreSteps.{LocksStore, TakesBlock, freed, grown, holding, old_block, relisted, view_after_replace, store_opened, unlisted}
-use Rattle.bihash_steps.specs.declared.view.Call.{Call}
-use Rattle.bihash_steps.specs.declared.view.Extent.{Extent}
-use Rattle.bihash_steps.specs.declared.view.Holdings.{Holdings}
-use Rattle.bihash_steps.specs.declared.view.LockedBucket.{LockedBucket}
-use Rattle.bihash_steps.specs.declared.view.HeldBlock.{HeldBlock}
-use Rattle.bihash_steps.specs.declared.view.LockedStore.{LockedStore}
-use Rattle.bihash_steps.specs.declared.view.PageStore.{PageStore}
-use Rattle.bihash_steps.specs.declared.view.Record.{Record}
-use Rattle.bihash_steps.specs.declared.view.Entry.{Entry}
-use Rattle.bihash_steps.specs.declared.view.View.{View}
+use Rattle.bihash_rule.specs.declared.view.Call.{Call}
+use Rattle.bihash_rule.specs.declared.view.Extent.{Extent}
+use Rattle.bihash_rule.specs.declared.view.Holdings.{Holdings}
+use Rattle.bihash_rule.specs.declared.view.LockedBucket.{LockedBucket}
+use Rattle.bihash_rule.specs.declared.view.HeldBlock.{HeldBlock}
+use Rattle.bihash_rule.specs.declared.view.LockedStore.{LockedStore}
+use Rattle.bihash_rule.specs.declared.view.PageStore.{PageStore}
+use Rattle.bihash_rule.specs.declared.view.Record.{Record}
+use Rattle.bihash_rule.specs.declared.view.Entry.{Entry}
+use Rattle.bihash_rule.specs.declared.view.View.{View}
 use Rattle.bihash_table.specs.Answers.{locks_of}
 use Rattle.bihash_table.specs.Promise.{IsAnswered, IsContended, IsEntered}
 use Rattle.bihash_table.specs.inner.Copying.{GivenBack, HasBlock, HasStore, HoldsOld, MayGiveBack, Released, TakesPages}
 use Rattle.bihash_table.specs.inner.Locked.{HasLock}
 use Rattle.bihash_table.specs.inner.Scans.{IsWordOf}
-use Rattle.bihash_table.specs.OutOfPages.{Bears}
 use Rattle.bihash_table.proofs.NewPairs.{looked_at}
 use Rattle.bihash_table.proofs.CallerViews.{contended_by}
 use Rattle.bihash_table.proofs.LockReleases.{answered_noting, with_locks-locks_of, written_from_lock}
@@ -237,6 +236,11 @@ last_of (x ∷ xs) c o = last_of xs c (Some x)
 last_pushed : (c d : Call) (rs : List Record) → last_call (push_call c rs) ≡ Some d → c ≡ d
 last_pushed c d [] is = cc
 last_pushed c d (r ∷ rs) is = let same : Some c ≡ Some d = sym (last_of r.calls c None) ∙ is in cc
+
+-- the entry of the last call comes after all writes that are known of bucket b, and bears this page store
+abbrev pub Bears : View → ℕ → PageStore → Type 0
+Bears w b store = (c : Call) → last_call w.records ≡ Some c
+    → (c.stamp ≡ length (known_at w.known b)) × (c.store ≡ Some store)
 
 -- the entry of a refusal comes after all known writes, and bears what was noted
 pub bears_noted : (v w : View) (b : ℕ) (store : PageStore) (key : List ℕ) (found : Option ℕ) (change : Change) (log2 left : ℕ)

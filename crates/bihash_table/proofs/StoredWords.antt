@@ -4,14 +4,14 @@ use Rattle.std.specs.Prelude.{slice_index}
 use Rattle.std.proofs.lemmas.Bool.{cases_eq}
 use Rattle.bihash_words.specs.Sizes.{Sizes}
 use Rattle.bihash_words.specs.Words.{Bucket, FitsWord, packed}
-use Rattle.bihash_steps.specs.Words.{place_words}
-use Rattle.bihash_steps.specs.Blocks.{key_in, places, value_in}
-use Rattle.bihash_steps.specs.Buckets.{word_of}
+use Rattle.bihash_rule.specs.Words.{place_words}
+use Rattle.bihash_rule.specs.Blocks.{key_in, places, value_in}
+use Rattle.bihash_rule.specs.Buckets.{word_of}
 use Rattle.bihash_steps.specs.BucketSteps.{IsLockedWord, with_lock, stored_in}
 use Rattle.bihash_steps.specs.Seats.{CallerState, with_view}
-use Rattle.bihash_steps.specs.declared.view.Holdings.{Holdings}
-use Rattle.bihash_steps.specs.declared.view.LockedBucket.{LockedBucket}
-use Rattle.bihash_steps.specs.declared.view.View.{View}
+use Rattle.bihash_rule.specs.declared.view.Holdings.{Holdings}
+use Rattle.bihash_rule.specs.declared.view.LockedBucket.{LockedBucket}
+use Rattle.bihash_rule.specs.declared.view.View.{View}
 use Rattle.bihash_table.specs.inner.Locked.{HasLock}
 use Rattle.bihash_table.specs.inner.Stores.{HasStored, HoldsPlace, IsPlaceSet}
 use Rattle.bihash_table.proofs.PlaceReads.{all_same, place_inside, word_of_key}

@@ -9,13 +9,13 @@ use Rattle.bihash_words.specs.declared.patch.Change.{Change}
 use Rattle.bihash_words.specs.declared.patch.Change.TheVariants.{Keep, Set}
 use Rattle.bihash_words.specs.declared.patch.Reply.{Reply}
 use Rattle.bihash_words.specs.declared.patch.Reply.TheVariants.{Changed, Full, Kept, NoPages, Worn}
-use Rattle.bihash_steps.specs.Histories.{bucket_of, is_changed}
-use Rattle.bihash_steps.specs.Callers.{IsLawfulCaller, known_at}
+use Rattle.bihash_rule.specs.Histories.{bucket_of, is_changed}
+use Rattle.bihash_rule.specs.Callers.{IsLawfulCaller, known_at}
 use Rattle.bihash_steps.specs.BucketSteps.{Enters, call_of, without_notes, view_after_validate}
 use Rattle.bihash_steps.specs.Seats.{CallerState, with_view}
-use Rattle.bihash_steps.specs.declared.view.Extent.{Extent}
-use Rattle.bihash_steps.specs.declared.view.View.{View}
-use Rattle.bihash_steps.specs.declared.view.Write.{Write}
+use Rattle.bihash_rule.specs.declared.view.Extent.{Extent}
+use Rattle.bihash_rule.specs.declared.view.View.{View}
+use Rattle.bihash_rule.specs.declared.view.Write.{Write}
 use Rattle.bihash_steps.specs.BucketCalls.{event}
 use Rattle.bihash_words.proofs.CallLemmas.{asks_nothing}
 use Rattle.bihash_words.proofs.SpareLemmas.{no_words}
@@ -27,6 +27,7 @@ use Rattle.bihash_table.specs.inner.Seen.{Found, HasSeen, IsValueOf, TellsLockTr
 use Rattle.bihash_table.specs.OutOfPages.{IsOutOfPages}
 use Rattle.bihash_table.specs.Tries.{Finished, FinishedOver, Tried, TriedOver, TookAtMost, is_without_lock, try_locks}
 use Rattle.bihash_table.specs.declared.contended.Contended.{Contended}
+use Rattle.bihash_table.specs.declared.hashed_key.SeenBucket.{SeenBucket}
 use Rattle.bihash_table.proofs.CallChains.{IsAhead, ahead_answered, ahead_contended, locked_ahead}
 use Rattle.bihash_table.proofs.LockCounts.{took_after, took_no_lock, took_one_lock, took_then}
 use Rattle.bihash_table.proofs.PairReads.{pair_value}
@@ -49,12 +50,12 @@ value_seen z v b word key pair found is h = seen_as z v b word h (λ told m pair
     is ∙ pair_value z h.seen.extent h.seen.block.open_bucket.block key m pair told pairs)
 
 -- what was found wants the change, where the version isn't used up
-pub wants_change : {A K : Type 0} (g : Ghosts A K) (row : _) (s : CallerState) (b word : ℕ) (key : K) (pair held : Option (ℕ × ℕ))
-    (found : Option ℕ) (change : Change) → pair ≡ held → found ≡ value_of pair → Found g row s b word key pair
-    → length (known_at s.view.known b) < g.LIMIT → effect_of change found ≢ Keep → IsStorable change
-    → WantsChange g row s b word key held change
-wants_change g row s b word key pair held found change is value h unworn wanted storable =
-    subst (λ (p : Option (ℕ × ℕ)). WantsChange g row s b word key p change) is record {
+pub wants_change : {A K : Type 0} (g : Ghosts A K) (row : _) (s : CallerState) (bucket : SeenBucket A K g) (pair held : Option (ℕ × ℕ))
+    (found : Option ℕ) (change : Change) → pair ≡ held → found ≡ value_of pair → Found g row s bucket pair
+    → length (known_at s.view.known bucket.hashed.bucket) < g.LIMIT → effect_of change found ≢ Keep → IsStorable change
+    → WantsChange g row s bucket held change
+wants_change g row s bucket pair held found change is value h unworn wanted storable =
+    subst (λ (p : Option (ℕ × ℕ)). WantsChange g row s bucket p change) is record {
       own = h.own;
       seen = h.seen;
       unworn = unworn;
@@ -201,28 +202,22 @@ module _ {A K : Type 0} (g : Ghosts A K) (s u t : CallerState) (b word : ℕ) (k
       tried_ahead g s u t b key found change told.same (locked_ahead (sizes_of g) s.view u.view b word (told.locked taken).locked) home (Err refused)
       (took_one h.no_lock) h.tried
 
--- what was seen is told under the lock, and the change may be made there
-pub under_lock : {A K : Type 0} (g : Ghosts A K) {row : _} (s u : CallerState) (b word : ℕ) (change : Change) {won : Bool} {P : Extent → List ℕ → Type 0}
-    → s.row ≡ row → length (known_at s.view.known b) < g.LIMIT → IsStorable change → HasSeen (sizes_of g) s.view b word P
-    → TellsLockTry (sizes_of g) s u b word won → won ≡ true → UnderLock (sizes_of g) row u b word change P
-under_lock g s u b word change own unworn storable h told taken = let k = told.locked taken in record {
+-- what was seen is told under the lock as it is used there, and the change may be made
+pub under_lock : {A K : Type 0} (g : Ghosts A K) {row : _} (s u : CallerState) (bucket : SeenBucket A K g) (change : Change) {won : Bool}
+    {P : Extent → List ℕ → Type 0} {Q : Sizes → List ℕ → Extent → List ℕ → Type 0}
+    → s.row ≡ row → length (known_at s.view.known bucket.hashed.bucket) < g.LIMIT → IsStorable change
+    → HasSeen (sizes_of g) s.view bucket.hashed.bucket bucket.word P
+    → (told : TellsLockTry (sizes_of g) s u bucket.hashed.bucket bucket.word won) (taken : won ≡ true)
+    → (P (told.locked taken).locked.lock.extent (told.locked taken).locked.lock.now
+    → Q (sizes_of g) (g.words_of bucket.hashed.key.now) (told.locked taken).locked.lock.extent (told.locked taken).locked.lock.now)
+    → UnderLock g row u bucket change Q
+under_lock g s u bucket change own unworn storable h told taken more = let k = told.locked taken in record {
   own = own_through s u u.view told.same own;
   lock = k.locked.lock;
   has = k.locked.has;
   unworn = subst (λ (l : List Write). length l < g.LIMIT) (sym k.known) unworn;
   storable = storable;
-  told = told_locked (sizes_of g) s.view u.view b word h k;
-}
-
-pub under_as : {z : Sizes} {row : _} {s : CallerState} {b word : ℕ} {change : Change} {P Q : Extent → List ℕ → Type 0}
-    → (h : UnderLock z row s b word change P) → (P h.lock.extent h.lock.now → Q h.lock.extent h.lock.now) → UnderLock z row s b word change Q
-under_as h more = record {
-  own = h.own;
-  lock = h.lock;
-  has = h.has;
-  unworn = h.unworn;
-  storable = h.storable;
-  told = more h.told;
+  told = more (told_locked (sizes_of g) s.view u.view bucket.hashed.bucket bucket.word h k);
 }
 
 -- whether another pair is there was told

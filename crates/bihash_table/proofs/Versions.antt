@@ -3,9 +3,9 @@ use Rattle.std.proofs.Common.{◌≡◌, ◌≢◌, ◌∙◌, ◌<◌, ◌≤�
 use Rattle.std.proofs.lemmas.Bool.{eqb-true}
 use Rattle.bihash_words.specs.Sizes.{Sizes}
 use Rattle.bihash_words.specs.Words.{Bucket, FitsWord, packed}
-use Rattle.bihash_steps.specs.Callers.{known_at}
-use Rattle.bihash_steps.specs.Buckets.{word_of}
-use Rattle.bihash_steps.specs.declared.view.View.{View}
+use Rattle.bihash_rule.specs.Callers.{known_at}
+use Rattle.bihash_rule.specs.Buckets.{word_of}
+use Rattle.bihash_rule.specs.declared.view.View.{View}
 use Rattle.bihash_table.specs.inner.OpenReads.{HasOpen}
 
 module _ (z : Sizes) (v : View) (b word : ℕ) (has : HasOpen z v b word) (used : Bool)

@@ -2,11 +2,11 @@
 use Rattle.std.proofs.Common.{◌≡◌, ◌≢◌, ◌∙◌, ◌<◌, ℕ, true, length, arith, eq-eqb, sym, ap, subst}
 use Rattle.bihash_words.specs.Sizes.{Sizes}
 use Rattle.bihash_steps.specs.CallerCalls.{HasCounted}
-use Rattle.bihash_steps.specs.Callers.{HasNumbers}
+use Rattle.bihash_rule.specs.Callers.{HasNumbers}
 use Rattle.bihash_steps.specs.Seats.{CallerState, with_view}
 use Rattle.bihash_steps.specs.Steps.{HaveBearers, IsToldWhole, view_after_count}
-use Rattle.bihash_steps.specs.declared.view.Notes.{Notes}
-use Rattle.bihash_steps.specs.declared.view.View.{View}
+use Rattle.bihash_rule.specs.declared.view.Notes.{Notes}
+use Rattle.bihash_rule.specs.declared.view.View.{View}
 use Rattle.bihash_steps.proofs.Numbers.{few_numbers}
 use Rattle.bihash_table.specs.Closing.{LeavesStrangers, StaysWhole, WasWhole}
 use Rattle.bihash_table.specs.inner.RowWords.{HasNoted}

@@ -1,5 +1,5 @@
 -- The entry of an answered call, and what is counted of it.
-use Rattle.std.specs.Prelude.{ℕ, Bool, if◌then◌else◌, List, [], ◌∷◌, Option}
+use Rattle.std.specs.Prelude.{ℕ, Bool, List, [], ◌∷◌, Option}
 use Rattle.bihash_words.specs.Expiries.{expired_words}
 use Rattle.bihash_words.specs.Maps.{Event, expired_told}
 use Rattle.bihash_words.specs.Sizes.{Sizes}
@@ -8,10 +8,10 @@ use Rattle.bihash_words.specs.declared.patch.Change.TheVariants.{Keep}
 use Rattle.bihash_words.specs.declared.patch.Reply.{Reply}
 use Rattle.bihash_words.specs.declared.patch.Reply.TheVariants.{Kept}
 use Rattle.bihash_steps.specs.BucketCalls.{event}
-use Rattle.bihash_steps.specs.Histories.{bucket_of, is_changed, store_of}
-use Rattle.bihash_steps.specs.declared.view.Call.{Call}
-use Rattle.bihash_steps.specs.declared.view.PageStore.{PageStore}
-use Rattle.bihash_steps.specs.declared.view.Record.{Record}
+use Rattle.bihash_rule.specs.Histories.{bucket_of, store_of}
+use Rattle.bihash_rule.specs.declared.view.Call.{Call}
+use Rattle.bihash_rule.specs.declared.view.PageStore.{PageStore}
+use Rattle.bihash_rule.specs.declared.view.Record.{Record}
 
 -- the acting record counts this many locks
 abbrev pub with_locks : ℕ → List Record → List Record
@@ -35,10 +35,6 @@ entry_of z stamp e noted = record {
   recycling = e.recycling;
   store = store_of e.reply noted;
 }
-
--- how many writes the call itself made
-abbrev pub own_writes : Reply → ℕ
-own_writes reply = if is_changed reply then 1 else 0
 
 -- a search of a key that answered this
 abbrev pub search_of : List ℕ → Option ℕ → Event

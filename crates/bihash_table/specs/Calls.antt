@@ -5,8 +5,8 @@ use Rattle.bihash_words.specs.declared.shape.Shape.{Ghosts}
 use Rattle.bihash_words.specs.declared.patch.Change.{Change}
 use Rattle.bihash_words.specs.declared.patch.Reply.{Reply}
 use Rattle.bihash_words.specs.declared.patch.Reply.TheVariants.{NoPages}
-use Rattle.bihash_steps.specs.Histories.{bucket_of}
-use Rattle.bihash_steps.specs.Callers.{IsLawfulCaller}
+use Rattle.bihash_rule.specs.Histories.{bucket_of}
+use Rattle.bihash_rule.specs.Callers.{IsLawfulCaller}
 use Rattle.bihash_steps.specs.Seats.{CallerState, with_view}
 use Rattle.bihash_steps.specs.Steps.{HaveBearers, IsToldWhole, view_after_count}
 use Rattle.bihash_table.specs.Answers.{locks_of, search_of}

@@ -7,12 +7,12 @@ use Rattle.std.specs.List.Sorted.{IsStrictlySortedBy}
 use Rattle.bihash_words.specs.Maps.{Pairs}
 use Rattle.bihash_words.specs.Sizes.{Sizes, sizes_of}
 use Rattle.bihash_words.specs.declared.shape.Shape.{Ghosts}
-use Rattle.bihash_steps.specs.Words.{buckets}
-use Rattle.bihash_steps.specs.Histories.{after, bucket_of}
-use Rattle.bihash_steps.specs.Callers.{known_at, opening_at}
+use Rattle.bihash_rule.specs.Words.{buckets}
+use Rattle.bihash_rule.specs.Histories.{after, bucket_of}
+use Rattle.bihash_rule.specs.Callers.{known_at, opening_at}
 use Rattle.bihash_steps.specs.Steps.{HaveBearers, IsToldWhole, view_after_count}
-use Rattle.bihash_steps.specs.declared.view.Known.{Known}
-use Rattle.bihash_steps.specs.declared.view.View.{View}
+use Rattle.bihash_rule.specs.declared.view.Known.{Known}
+use Rattle.bihash_rule.specs.declared.view.View.{View}
 use Rattle.bihash_table.specs.declared.close_fault.CloseFault.{CloseFault}
 use Rattle.bihash_table.specs.declared.close_fault.CloseFault.TheVariants.{Strangers, Memory}
 

@@ -1,22 +1,23 @@
 -- What a call of a shared table leaves of its caller: v is what the caller knew before the call, w what it
 -- knows after it. Each line is a fact about one field; docs/DEFINITIONS.md explains the words.
 use Rattle.std.specs.Prelude.{◌≡◌, ◌≤◌, ℕ, ◌+◌, ◌++◌, Bool, true, List, [], ◌∷◌, length, Option, Some}
+use Rattle.bihash_words.specs.Runs.{writes_of}
 use Rattle.bihash_words.specs.Maps.{Event}
 use Rattle.bihash_words.specs.Sizes.{Sizes}
 use Rattle.bihash_words.specs.declared.patch.Change.{Change}
 use Rattle.bihash_words.specs.declared.patch.Reply.{Reply}
-use Rattle.bihash_steps.specs.Histories.{IsPrefix, bucket_of}
+use Rattle.bihash_rule.specs.Histories.{IsPrefix, bucket_of}
 use Rattle.bihash_steps.specs.BucketCalls.{event}
-use Rattle.bihash_steps.specs.Callers.{known_at}
-use Rattle.bihash_steps.specs.Logs.{Begins, writes_on}
-use Rattle.bihash_steps.specs.Views.{nothing_held}
+use Rattle.bihash_rule.specs.Callers.{known_at}
+use Rattle.bihash_rule.specs.Logs.{Begins, writes_on}
+use Rattle.bihash_rule.specs.Views.{nothing_held}
 use Rattle.bihash_steps.specs.BucketSteps.{acting, with_history, push_call}
-use Rattle.bihash_steps.specs.declared.view.Call.{Call}
-use Rattle.bihash_steps.specs.declared.view.Entry.{Entry}
-use Rattle.bihash_steps.specs.declared.view.Write.{Write}
-use Rattle.bihash_steps.specs.declared.view.PageStore.{PageStore}
-use Rattle.bihash_steps.specs.declared.view.View.{View}
-use Rattle.bihash_table.specs.Answers.{entry_of, own_writes, recycled_update, with_locks}
+use Rattle.bihash_rule.specs.declared.view.Call.{Call}
+use Rattle.bihash_rule.specs.declared.view.Entry.{Entry}
+use Rattle.bihash_rule.specs.declared.view.Write.{Write}
+use Rattle.bihash_rule.specs.declared.view.PageStore.{PageStore}
+use Rattle.bihash_rule.specs.declared.view.View.{View}
+use Rattle.bihash_table.specs.Answers.{entry_of, recycled_update, with_locks}
 
 -- The call is the last entry of this log, under this number, behind all that was known of the log before. The
 -- writes on its bucket that stand in the log are this history.
@@ -44,7 +45,7 @@ pub record IsAnswered (z : Sizes) (v w : View) (e : Event) : Type 0 where
   pub free : w.holds ≡ nothing_held
   -- a lone caller learned of no write but its own
   pub alone : v.lone ≡ true → length history
-      ≤ length (known_at v.known (bucket_of z e.key)) + own_writes e.reply
+      ≤ length (known_at v.known (bucket_of z e.key)) + writes_of e.reply
 
 -- The call was given up. It has no entry, and more may be known of bucket b alone.
 pub record IsContended (z : Sizes) (v w : View) (b : ℕ) : Type 0 where

@@ -1,6 +1,6 @@
 -- Why a table could not be renewed.
 use Rattle.bihash_words.specs.Sizes.{Sizes}
-use Rattle.bihash_steps.specs.declared.view.View.{View}
+use Rattle.bihash_rule.specs.declared.view.View.{View}
 use Rattle.bihash_table.specs.Closing.{LeavesStrangers, StaysWhole}
 use Rattle.bihash_table.specs.declared.renew_fault.RenewFault.{RenewFault}
 use Rattle.bihash_table.specs.declared.renew_fault.RenewFault.TheVariants.{Strangers, Memory}

@@ -4,7 +4,6 @@ pub mod Laid
 pub mod Locked
 pub mod OpenReads
 pub mod PairLists
-pub mod Places
 pub mod Scans
 pub mod RowWords
 pub mod Seen

@@ -1,11 +1,11 @@
 //! Places of keys and values that are written into a block.
 ghost use Rattle.std.specs.Prelude.{◌≡◌, ◌≢◌, ◌≤◌, ◌+◌, ℕ, List, length};
 ghost use Rattle.bihash_words.specs.Sizes.{sizes_of};
-ghost use Rattle.bihash_steps.specs.Blocks.{free, places};
+ghost use Rattle.bihash_rule.specs.Blocks.{free, places};
 ghost use Rattle.bihash_steps.specs.Seats.{with_view};
-ghost use Rattle.bihash_steps.specs.declared.view.HeldBlock.{HeldBlock};
+ghost use Rattle.bihash_rule.specs.declared.view.HeldBlock.{HeldBlock};
 ghost use Rattle.bihash_table.specs.inner.Copying.{HasBlock, HoldsOwnBlock, IsPlaced, with_words};
-ghost use Rattle.bihash_table.specs.inner.Places.{ArePlaces};
+ghost use Rattle.bihash_rule.specs.Places.{ArePlaces};
 
 use crate::places::FREE;
 use bihash_steps::{CallerSeat, Row};

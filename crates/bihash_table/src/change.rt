@@ -2,12 +2,11 @@
 ghost use Rattle.std.specs.Prelude.{◌≡◌, ◌≢◌, ◌<◌, ◌+◌, ◌*◌, true, None, Some, Ok};
 ghost use Rattle.bihash_words.specs.Sizes.{sizes_of};
 ghost use Rattle.bihash_words.specs.declared.patch.Change.TheVariants.{Set, Remove};
-ghost use Rattle.bihash_steps.specs.Words.{place_words};
-ghost use Rattle.bihash_steps.specs.Blocks.{places};
+ghost use Rattle.bihash_rule.specs.Words.{place_words};
 ghost use Rattle.bihash_steps.specs.BucketSteps.{with_lock, stored_in};
-ghost use Rattle.bihash_steps.specs.declared.view.LockedBucket.{LockedBucket};
+ghost use Rattle.bihash_rule.specs.declared.view.LockedBucket.{LockedBucket};
 ghost use Rattle.bihash_steps.specs.Seats.{with_view};
-ghost use Rattle.bihash_table.specs.inner.Locked.{HasLock, IsPairBeside, IsPlaceForNew, UnderLock};
+ghost use Rattle.bihash_table.specs.inner.Locked.{HasLock, HasPlace, IsPairBeside, IsPlaceForNew, UnderLock};
 ghost use Rattle.bihash_table.specs.inner.OpenReads.{IsPairIn};
 ghost use Rattle.bihash_table.specs.inner.Seen.{MayReply, WantsChange};
 ghost use Rattle.bihash_table.specs.inner.Stores.{FindsWord, HasStored, HoldsWord};
@@ -31,8 +30,7 @@ pub(crate) fn answer<S: Shape>(
     change: Change,
     reply: Reply,
 ) -> Result<Reply, Contended>
-    requires { MayReply ⟦<S as Shape>⟧ row.now seat.old seen.now.hashed.bucket seen.now.word seen.now.hashed.key.now
-        found change reply }
+    requires { MayReply ⟦<S as Shape>⟧ row.now seat.old seen.now found change reply }
     ensures { Tried ⟦<S as Shape>⟧ seat.old seat.new seen.now.hashed.key.now found change result }
 {
     let event = Event {
@@ -55,8 +53,7 @@ pub(crate) fn overwrite<S: Shape>(
     pair: (usize, u64),
     value: u64,
 ) -> Reply
-    requires held { UnderLock (sizes_of S.Shape) row.now seat.old seen.now.hashed.bucket seen.now.word (Set value)
-        (IsPairIn (sizes_of S.Shape) (S.words_of seen.now.hashed.key.now) (Some pair)) }
+    requires held { UnderLock ⟦<S as Shape>⟧ row.now seat.old seen.now (Set value) (λ z key. IsPairIn z key (Some pair)) }
     requires other { value ≢ pair.1 }
     ensures { Finished ⟦<S as Shape>⟧ seat.old seat.new seen.now.hashed.key.now (Some pair.1) (Set value) (Ok result) }
 {
@@ -79,8 +76,7 @@ pub(crate) fn fill<S: Shape>(
     place: usize,
     value: u64,
 ) -> Reply
-    requires { UnderLock (sizes_of S.Shape) row.now seat.old seen.now.hashed.bucket seen.now.word (Set value)
-        (IsPlaceForNew (sizes_of S.Shape) (S.words_of seen.now.hashed.key.now) place) }
+    requires { UnderLock ⟦<S as Shape>⟧ row.now seat.old seen.now (Set value) (λ z key. IsPlaceForNew z key place) }
     ensures { Finished ⟦<S as Shape>⟧ seat.old seat.new seen.now.hashed.key.now None (Set value) (Ok result) }
 {
     store_key(row, seat, seen, place);
@@ -103,8 +99,7 @@ pub(crate) fn remove<S: Shape>(
     seen: &SeenBucket<'_, S>,
     pair: (usize, u64),
 ) -> Result<Reply, Contended>
-    requires { WantsChange ⟦<S as Shape>⟧ row.now seat.old seen.now.hashed.bucket seen.now.word seen.now.hashed.key.now
-        (Some pair) Remove }
+    requires { WantsChange ⟦<S as Shape>⟧ row.now seat.old seen.now (Some pair) Remove }
     ensures { Tried ⟦<S as Shape>⟧ seat.old seat.new seen.now.hashed.key.now (Some pair.1) Remove result }
 {
     let other = has_other_pair(row, seat, seen.word, pair.0);
@@ -124,8 +119,7 @@ fn vacate<S: Shape>(
     seen: &SeenBucket<'_, S>,
     pair: (usize, u64),
 ) -> Reply
-    requires { UnderLock (sizes_of S.Shape) row.now seat.old seen.now.hashed.bucket seen.now.word Remove
-        (IsPairBeside (sizes_of S.Shape) (S.words_of seen.now.hashed.key.now) pair true) }
+    requires { UnderLock ⟦<S as Shape>⟧ row.now seat.old seen.now Remove (λ z key. IsPairBeside z key pair true) }
     ensures { Finished ⟦<S as Shape>⟧ seat.old seat.new seen.now.hashed.key.now (Some pair.1) Remove (Ok result) }
 {
     store_word(row, seat, seen.word, pair.0, S::WORDS, FREE);
@@ -147,9 +141,7 @@ pub(crate) fn store_key<S: Shape>(
     seen: &SeenBucket<'_, S>,
     place: usize,
 )
-    requires own { seat.old.row ≡ row.now }
-    requires lock { (l : LockedBucket) × HasLock (sizes_of S.Shape) seat.old.view seen.now.hashed.bucket seen.now.word l
-        × (place < places l.extent.page l.extent.size.log2) }
+    requires { HasPlace ⟦<S as Shape>⟧ row.now seat.old seen.now place }
     ensures same { seat.new ≡ with_view seat.old seat.new.view }
     ensures stored { (l : LockedBucket) → HasLock (sizes_of S.Shape) seat.old.view seen.now.hashed.bucket seen.now.word l
         → HasStored (sizes_of S.Shape) seat.old.view seat.new.view l place (S.words_of seen.now.hashed.key.now) S.WORDS }

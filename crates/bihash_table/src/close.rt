@@ -4,9 +4,8 @@ ghost use Rattle.std.specs.Ordering.{is_lt, nat_cmp};
 ghost use Rattle.std.specs.Cmp.Lexicographic.{slice_cmp};
 ghost use Rattle.std.specs.List.Sorted.{IsSortedBy};
 ghost use Rattle.bihash_words.specs.Sizes.{sizes_of};
-ghost use Rattle.bihash_steps.specs.Words.{buckets};
-ghost use Rattle.bihash_steps.specs.Callers.{IsLawfulCaller};
-ghost use Rattle.bihash_steps.specs.Views.{no_notes};
+ghost use Rattle.bihash_rule.specs.Words.{buckets};
+ghost use Rattle.bihash_rule.specs.Callers.{IsLawfulCaller};
 ghost use Rattle.bihash_steps.specs.Seats.{with_view};
 ghost use Rattle.bihash_steps.specs.CallerCalls.{IsIdle};
 ghost use Rattle.bihash_table.specs.Closing.{ArePairsOf, IsCloseRefused, WasWhole};
@@ -34,8 +33,7 @@ impl<S: Shape> Sessions<S> {
         requires { IsIdle self.row caller.seat }
         ensures pairs { IfOk result (λ ps. ArePairsOf ⟦<S as Shape>⟧ caller.seat.view.known ps.items) }
         ensures whole { IfOk result (λ _. WasWhole (sizes_of S.Shape) caller.seat.view) }
-        ensures refused { IfErr result (λ r. (r.1.row ≡ self.row)
-            × (r.2.seat ≡ with_view caller.seat r.2.seat.view)
+        ensures refused { IfErr result (λ r. (r.1.row ≡ self.row) × (r.2.seat ≡ with_view caller.seat r.2.seat.view)
             × IsCloseRefused (sizes_of S.Shape) caller.seat.view r.0 r.2.seat.view) }
         ensures lawful { IfErr result (λ r. IsLawfulCaller (sizes_of S.Shape) r.2.seat.view) }
     {
@@ -59,8 +57,7 @@ fn read_all<S: Shape>(
     seat: &mut CallerSeat<S>,
     alloc: Global,
 ) -> Result<Vec<(S::Key, u64)>, AllocError>
-    requires lone { IsIdleAndLone (sizes_of S.Shape) row.now seat.old }
-    requires bare { seat.old.view.notes ≡ no_notes }
+    requires { IsIdleAndLone (sizes_of S.Shape) row.now seat.old }
     ensures noted { HasNoted (sizes_of S.Shape) seat.old seat.new }
     ensures pairs { IfOk result (λ ps. ListsBuckets ⟦<S as Shape>⟧ seat.old.view.known (buckets (sizes_of S.Shape)) ps.items) }
 {

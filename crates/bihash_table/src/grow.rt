@@ -6,8 +6,8 @@ ghost use Rattle.bihash_steps.specs.Seats.{with_view};
 ghost use Rattle.bihash_table.specs.inner.Copying.{GivenBack, MayLeave, Released};
 ghost use Rattle.bihash_table.specs.inner.Laid.{IsLaidFor};
 ghost use Rattle.bihash_table.specs.inner.Locked.{IsPairBeside, UnderLock};
-ghost use Rattle.bihash_table.specs.inner.Seen.{WantsRoom};
-ghost use Rattle.bihash_table.specs.Tries.{Finished, TriedOver};
+ghost use Rattle.bihash_table.specs.inner.Seen.{TriedToEnter, WantsRoom};
+ghost use Rattle.bihash_table.specs.Tries.{Finished};
 
 use crate::block::write_block;
 use crate::contended::Contended;
@@ -19,7 +19,7 @@ use crate::places::{place_count, places_of};
 use crate::recycling::recycle_or_refuse;
 use crate::snapshot::read_block;
 use bihash_plan::{Plan, larger, lay};
-use bihash_steps::view::Extent;
+use bihash_rule::Extent;
 use bihash_steps::{Caller, CallerSeat, Event, Row};
 use bihash_words::{BlockSize, BucketWord, Change, Expiry, Reply, Shape};
 
@@ -32,10 +32,8 @@ pub(crate) fn enter_larger<S: Shape, E: Expiry>(
     seen: &SeenBucket<'_, S>,
     entrant: &Entrant<'_, E>,
 ) -> Result<Reply, Contended>
-    requires { WantsRoom ⟦<S as Shape>⟧ row.now caller.old.seat seen.now.hashed.bucket seen.now.word seen.now.hashed.key.now
-        entrant.now.value }
-    ensures { TriedOver ⟦<S as Shape>⟧ caller.old.seat caller.new.seat seen.now.hashed.key.now None (Set entrant.now.value)
-        (E.is_expired entrant.now.expiry.now) result }
+    requires { WantsRoom ⟦<S as Shape>⟧ row.now caller.old.seat seen.now entrant.now.value }
+    ensures { TriedToEnter ⟦<S as Shape>⟧ ⟦<E as Expiry>⟧ caller.old.seat caller.new.seat seen.now entrant.now result }
 {
     let seat = &mut caller.seat;
     let scratch = &mut caller.scratch;
@@ -53,11 +51,9 @@ fn enter_as_planned<S: Shape, E: Expiry>(
     old: &mut [(S::Key, u64)],
     new: &mut [(S::Key, u64)],
 ) -> Result<Reply, Contended>
-    requires wants { WantsRoom ⟦<S as Shape>⟧ row.now seat.old seen.now.hashed.bucket seen.now.word seen.now.hashed.key.now
-        entrant.now.value }
+    requires wants { WantsRoom ⟦<S as Shape>⟧ row.now seat.old seen.now entrant.now.value }
     requires room { (length old.old ≡ 4 * 2 ^ S.MAX_LOG2) × (length new.old ≡ 4 * 2 ^ S.MAX_LOG2) }
-    ensures { TriedOver ⟦<S as Shape>⟧ seat.old seat.new seen.now.hashed.key.now None (Set entrant.now.value)
-        (E.is_expired entrant.now.expiry.now) result }
+    ensures { TriedToEnter ⟦<S as Shape>⟧ ⟦<E as Expiry>⟧ seat.old seat.new seen.now entrant.now result }
 {
     row.is_sound();
     let old = &mut old[..place_count::<S>(seen.word)];
@@ -82,8 +78,7 @@ fn enter<S: Shape>(
     size: BlockSize,
     block: &[(S::Key, u64)],
 ) -> Result<Reply, Contended>
-    requires { IsLaidFor ⟦<S as Shape>⟧ row.now seat.old seen.now.hashed.bucket seen.now.word seen.now.hashed.key.now
-        value size block.now }
+    requires { IsLaidFor ⟦<S as Shape>⟧ row.now seat.old seen.now value size block.now }
     ensures { Finished ⟦<S as Shape>⟧ seat.old seat.new seen.now.hashed.key.now None (Set value) result }
 {
     row.is_sound();
@@ -156,8 +151,7 @@ pub(crate) fn remove_last<S: Shape>(
     seen: &SeenBucket<'_, S>,
     pair: (usize, u64),
 ) -> Result<Reply, Contended>
-    requires { UnderLock (sizes_of S.Shape) row.now seat.old seen.now.hashed.bucket seen.now.word Remove
-        (IsPairBeside (sizes_of S.Shape) (S.words_of seen.now.hashed.key.now) pair false) }
+    requires { UnderLock ⟦<S as Shape>⟧ row.now seat.old seen.now Remove (λ z key. IsPairBeside z key pair false) }
     ensures { Finished ⟦<S as Shape>⟧ seat.old seat.new seen.now.hashed.key.now (Some pair.1) Remove result }
 {
     row.is_sound();

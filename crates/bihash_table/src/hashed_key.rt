@@ -2,8 +2,8 @@
 ghost use Rattle.std.specs.Prelude.{◌≡◌, ◌-◌, ◌/◌, ◌%◌, ◌^◌, ◌<◌, ◌≤◌, length, slice_index};
 ghost use Rattle.bihash_words.specs.Sizes.{IsSound, sizes_of};
 ghost use Rattle.bihash_words.specs.Pages.{page_of, word_paging};
-ghost use Rattle.bihash_steps.specs.Words.{buckets};
-ghost use Rattle.bihash_steps.specs.Histories.{bucket_of};
+ghost use Rattle.bihash_rule.specs.Words.{buckets};
+ghost use Rattle.bihash_rule.specs.Histories.{bucket_of};
 
 use bihash_words::{BucketWord, Shape};
 

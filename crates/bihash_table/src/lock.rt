@@ -1,7 +1,7 @@
 //! A look at a bucket, and its lock.
 ghost use Rattle.std.specs.Prelude.{◌≡◌, ◌<◌};
 ghost use Rattle.bihash_words.specs.Sizes.{sizes_of};
-ghost use Rattle.bihash_steps.specs.Words.{buckets};
+ghost use Rattle.bihash_rule.specs.Words.{buckets};
 ghost use Rattle.bihash_steps.specs.CallerCalls.{IsIdle};
 ghost use Rattle.bihash_table.specs.inner.OpenReads.{HasOpen};
 ghost use Rattle.bihash_table.specs.inner.Seen.{TellsLockTry, TellsUnlocked};

@@ -3,8 +3,8 @@ ghost use Rattle.std.specs.Prelude.{◌≡◌, Some, None};
 ghost use Rattle.bihash_words.specs.Sizes.{sizes_of};
 ghost use Rattle.bihash_steps.specs.Seats.{with_view};
 ghost use Rattle.bihash_steps.specs.StoreSteps.{holding, relisted};
-ghost use Rattle.bihash_steps.specs.declared.view.LockedStore.{LockedStore};
-ghost use Rattle.bihash_steps.specs.declared.view.HeldBlock.{HeldBlock};
+ghost use Rattle.bihash_rule.specs.declared.view.LockedStore.{LockedStore};
+ghost use Rattle.bihash_rule.specs.declared.view.HeldBlock.{HeldBlock};
 ghost use Rattle.bihash_table.specs.inner.Copying.{MayGiveBack, MayGiveBackBlock, MayTake, TellsTake};
 
 use bihash_steps::{CallerSeat, PoolWord, Row};

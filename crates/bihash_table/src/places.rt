@@ -6,15 +6,6 @@ ghost use Rattle.bihash_table.specs.inner.Scans.{CountsPlaces, NamesBlock};
 use bihash_words::{BucketWord, Shape};
 pub(crate) use bihash_words::{FREE, PAGE_PLACES};
 
-/// How many pages a block has.
-pub(crate) fn page_count(log2: u64) -> usize
-    requires { log2 ≤ 24 }
-    ensures count { result ≡ 2 ^ log2 }
-    ensures few { result ≤ 2 ^ 24 }
-{
-    1usize << log2
-}
-
 /// How many places a block of `2^log2` pages has.
 pub(crate) fn places_of(log2: u64) -> usize
     requires { log2 ≤ 24 }

@@ -2,12 +2,13 @@
 //! load are the block's, which a step on the bucket's word tells afterwards.
 ghost use Rattle.std.specs.Prelude.{◌≡◌, ◌+◌, ◌*◌, ◌^◌, ◌<◌, ◌≤◌, slice_index};
 ghost use Rattle.bihash_words.specs.Sizes.{sizes_of};
-ghost use Rattle.bihash_steps.specs.Words.{place_words};
+ghost use Rattle.bihash_rule.specs.Words.{place_words};
 ghost use Rattle.bihash_table.specs.inner.Scans.{NamesBlock, AreOpenPages};
 ghost use Rattle.bihash_table.specs.inner.OpenReads.{HasRead, MayRead, LastWordTells, AreMarks, first_set, later_set, set_count, TellsValue, IsPairAmong, IsPairIn, IsFirstFreeIn, OtherPairTells, value_of};
 
 use crate::hashed_key::HashedKey;
-use crate::places::{FREE, PAGE_PLACES, page_count, place_count};
+use crate::places::{FREE, PAGE_PLACES, place_count};
+use bihash_plan::page_count;
 use bihash_steps::{CallerSeat, Row};
 use bihash_words::{BucketWord, Shape};
 
@@ -96,8 +97,7 @@ pub(crate) fn load_word<S: Shape>(
 ) -> u64
     requires read { MayRead (sizes_of S.Shape) row.now seat.old word (place + 1) }
     requires inside { i ≤ S.WORDS }
-    ensures { HasRead seat.old seat.new (λ _ block.
-        result ≡ slice_index block (place * place_words (sizes_of S.Shape) + i)) }
+    ensures { HasRead seat.old seat.new (λ _ block. result ≡ slice_index block (place * place_words (sizes_of S.Shape) + i)) }
 {
     row.is_sound();
     row.load_open(seat, word.page(), place * (S::WORDS + 1) + i)
@@ -131,8 +131,7 @@ fn pair_in_page<S: Shape>(
 ) -> Option<(usize, u64)>
     requires read { MayRead (sizes_of S.Shape) row.now seat.old word (4 * (page + 1)) }
     requires few { page < 2 ^ 24 }
-    ensures { HasRead seat.old seat.new (IsPairAmong (sizes_of S.Shape) (S.words_of hashed.now.key.now)
-        (4 * page) (4 * (page + 1)) result) }
+    ensures { HasRead seat.old seat.new (IsPairAmong (sizes_of S.Shape) (S.words_of hashed.now.key.now) (4 * page) (4 * (page + 1)) result) }
 {
     let first = PAGE_PLACES * page;
     let mut marks = marks(row, seat, word, first, hashed);

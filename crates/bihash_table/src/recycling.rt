@@ -2,12 +2,9 @@
 ghost use Rattle.std.specs.Prelude.{◌≡◌, None};
 ghost use Rattle.bihash_words.specs.Sizes.{sizes_of};
 ghost use Rattle.bihash_words.specs.declared.patch.Change.TheVariants.{Set};
-ghost use Rattle.bihash_words.specs.declared.patch.Reply.TheVariants.{Full};
-ghost use Rattle.bihash_steps.specs.Callers.{known_at};
-ghost use Rattle.bihash_table.specs.Answers.{recycled_update};
-ghost use Rattle.bihash_table.specs.Tries.{FinishedOver, TriedOver};
+ghost use Rattle.bihash_table.specs.Tries.{FinishedOver};
 ghost use Rattle.bihash_table.specs.inner.Locked.{TakesPlace, UnderLock};
-ghost use Rattle.bihash_table.specs.inner.Seen.{MayRefuse, WantsPlace};
+ghost use Rattle.bihash_table.specs.inner.Seen.{MayRefuse, TriedToEnter, WantsPlace};
 
 use crate::change::{store_key, store_word};
 use crate::contended::Contended;
@@ -35,10 +32,8 @@ pub(crate) fn recycle_or_refuse<S: Shape, E: Expiry>(
     entrant: &Entrant<'_, E>,
     places: &[(S::Key, u64)],
 ) -> Result<Reply, Contended>
-    requires { WantsPlace ⟦<S as Shape>⟧ row.now seat.old seen.now.hashed.bucket seen.now.word seen.now.hashed.key.now
-        entrant.now.value places.now }
-    ensures { TriedOver ⟦<S as Shape>⟧ seat.old seat.new seen.now.hashed.key.now None (Set entrant.now.value)
-        (E.is_expired entrant.now.expiry.now) result }
+    requires { WantsPlace ⟦<S as Shape>⟧ row.now seat.old seen.now entrant.now.value places.now }
+    ensures { TriedToEnter ⟦<S as Shape>⟧ ⟦<E as Expiry>⟧ seat.old seat.new seen.now entrant.now result }
 {
     row.is_sound();
     let size = seen.word.block_size();
@@ -63,11 +58,8 @@ fn refuse<S: Shape, E: Expiry>(
     seen: &SeenBucket<'_, S>,
     entrant: &Entrant<'_, E>,
 ) -> Result<Reply, Contended>
-    requires { MayRefuse ⟦<S as Shape>⟧ row.now seat.old seen.now.hashed.bucket seen.now.word
-        (recycled_update (S.words_of seen.now.hashed.key.now) None (Set entrant.now.value)
-        (E.is_expired entrant.now.expiry.now) None Full) }
-    ensures { TriedOver ⟦<S as Shape>⟧ seat.old seat.new seen.now.hashed.key.now None (Set entrant.now.value)
-        (E.is_expired entrant.now.expiry.now) result }
+    requires { MayRefuse ⟦<S as Shape>⟧ row.now seat.old seen.now entrant.now.value (E.is_expired entrant.now.expiry.now) }
+    ensures { TriedToEnter ⟦<S as Shape>⟧ ⟦<E as Expiry>⟧ seat.old seat.new seen.now entrant.now result }
 {
     let event = Event {
         key: seen.hashed.key,
@@ -89,9 +81,8 @@ fn replace<S: Shape, E: Expiry>(
     entrant: &Entrant<'_, E>,
     going: &Going<'_, S>,
 ) -> Reply
-    requires { UnderLock (sizes_of S.Shape) row.now seat.old seen.now.hashed.bucket seen.now.word (Set entrant.now.value)
-        (TakesPlace (sizes_of S.Shape) (S.words_of seen.now.hashed.key.now) (S.words_of going.now.key.now)
-        (E.is_expired entrant.now.expiry.now) going.now.linear going.now.place) }
+    requires { UnderLock ⟦<S as Shape>⟧ row.now seat.old seen.now (Set entrant.now.value) (λ z key. TakesPlace z key
+        (S.words_of going.now.key.now) (E.is_expired entrant.now.expiry.now) going.now.linear going.now.place) }
     ensures { FinishedOver ⟦<S as Shape>⟧ seat.old seat.new seen.now.hashed.key.now None (Set entrant.now.value)
         (E.is_expired entrant.now.expiry.now) result }
 {

@@ -1,10 +1,9 @@
 //! A table that is opened again: its pairs stay, and its versions begin anew.
 ghost use Rattle.std.specs.Prelude.{◌≡◌, true, IfOk, IfErr};
 ghost use Rattle.bihash_words.specs.Sizes.{sizes_of};
-ghost use Rattle.bihash_steps.specs.Callers.{IsLawfulCaller};
+ghost use Rattle.bihash_rule.specs.Callers.{IsLawfulCaller};
 ghost use Rattle.bihash_steps.specs.Renewals.{AreRowWords, IsRenewed};
 ghost use Rattle.bihash_steps.specs.Seats.{with_view};
-ghost use Rattle.bihash_steps.specs.Views.{no_notes};
 ghost use Rattle.bihash_steps.specs.CallerCalls.{IsIdle};
 ghost use Rattle.bihash_table.specs.Closing.{WasWhole};
 ghost use Rattle.bihash_table.specs.Renewing.{IsRenewRefused};
@@ -32,8 +31,7 @@ impl<S: Shape> Sessions<S> {
         ensures renewed { IfOk result (λ r. IsRenewed (sizes_of S.Shape) caller.seat.view r.1.seat.view) }
         ensures whole { IfOk result (λ _. WasWhole (sizes_of S.Shape) caller.seat.view) }
         ensures begun { IfOk result (λ r. IsLawfulCaller (sizes_of S.Shape) r.1.seat.view) }
-        ensures refused { IfErr result (λ r. (r.1.row ≡ self.row)
-            × (r.2.seat ≡ with_view caller.seat r.2.seat.view)
+        ensures refused { IfErr result (λ r. (r.1.row ≡ self.row) × (r.2.seat ≡ with_view caller.seat r.2.seat.view)
             × IsRenewRefused (sizes_of S.Shape) caller.seat.view r.0 r.2.seat.view) }
         ensures lawful { IfErr result (λ r. IsLawfulCaller (sizes_of S.Shape) r.2.seat.view) }
     {
@@ -53,8 +51,7 @@ fn reopen<S: Shape>(
     caller: &mut Caller<S>,
     alloc: Global,
 ) -> Result<(Row<S>, Caller<S>), CreateFault>
-    requires lone { IsIdleAndLone (sizes_of S.Shape) row.now caller.old.seat }
-    requires bare { caller.old.seat.view.notes ≡ no_notes }
+    requires { IsIdleAndLone (sizes_of S.Shape) row.now caller.old.seat }
     ensures noted { HasNoted (sizes_of S.Shape) caller.old.seat caller.new.seat }
     ensures own { IfOk result (λ r. r.1.seat.row ≡ r.0) }
     ensures renewed { IfOk result (λ r. IsRenewed (sizes_of S.Shape) caller.old.seat.view r.1.seat.view) }
@@ -70,8 +67,7 @@ pub(crate) fn read_words<S: Shape>(
     seat: &mut CallerSeat<S>,
     alloc: Global,
 ) -> Result<Vec<u64>, AllocError>
-    requires lone { IsIdleAndLone (sizes_of S.Shape) row.now seat.old }
-    requires bare { seat.old.view.notes ≡ no_notes }
+    requires { IsIdleAndLone (sizes_of S.Shape) row.now seat.old }
     ensures noted { HasNoted (sizes_of S.Shape) seat.old seat.new }
     ensures words { IfOk result (λ words. AreRowWords (sizes_of S.Shape) seat.new.view words.items) }
 {

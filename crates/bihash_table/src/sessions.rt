@@ -2,8 +2,8 @@
 ghost use Rattle.std.specs.Prelude.{◌≡◌, ◌<◌, ◌≤◌, ℕ, IfOk, IfErr};
 ghost use Rattle.bihash_words.specs.Sizes.{sizes_of, IsSound};
 ghost use Rattle.bihash_steps.specs.CallerCalls.{AreIdle, AreInformed, IsIdle, IsJoined};
-ghost use Rattle.bihash_steps.specs.Callers.{IsLawfulCaller, Agrees};
-ghost use Rattle.bihash_steps.specs.Views.{first_view};
+ghost use Rattle.bihash_rule.specs.Callers.{IsLawfulCaller, Agrees};
+ghost use Rattle.bihash_rule.specs.Views.{first_view};
 ghost use Rattle.bihash_steps.specs.Steps.{parent, newcomer, IsRefused};
 ghost use Rattle.bihash_steps.specs.Seats.{with_view, stamp_of};
 ghost use Rattle.bihash_table.specs.Calls.{TellsLone};

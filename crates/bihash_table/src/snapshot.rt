@@ -2,7 +2,7 @@
 //! block's on the condition that the words they load are.
 ghost use Rattle.std.specs.Prelude.{◌≡◌, ◌+◌, length};
 ghost use Rattle.bihash_words.specs.Sizes.{sizes_of};
-ghost use Rattle.bihash_table.specs.inner.Places.{ArePlaces};
+ghost use Rattle.bihash_rule.specs.Places.{ArePlaces};
 ghost use Rattle.bihash_table.specs.inner.Scans.{CountsPlaces};
 ghost use Rattle.bihash_table.specs.inner.OpenReads.{HasRead, MayRead, StandsAt};
 

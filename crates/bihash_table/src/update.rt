@@ -77,7 +77,7 @@ fn make<S: Shape, E: Expiry>(
     change: Change,
     expiry: &E,
 ) -> Result<Reply, Contended>
-    requires found { Found ⟦<S as Shape>⟧ row.now caller.old.seat seen.now.hashed.bucket seen.now.word seen.now.hashed.key.now pair }
+    requires found { Found ⟦<S as Shape>⟧ row.now caller.old.seat seen.now pair }
     requires storable { IsStorable change }
     ensures { TriedOver ⟦<S as Shape>⟧ caller.old.seat caller.new.seat seen.now.hashed.key.now (value_of pair) change
         (E.is_expired expiry.now) result }
@@ -125,8 +125,7 @@ fn change_pair<S: Shape>(
     pair: (usize, u64),
     change: Change,
 ) -> Result<Reply, Contended>
-    requires { WantsChange ⟦<S as Shape>⟧ row.now seat.old seen.now.hashed.bucket seen.now.word seen.now.hashed.key.now
-        (Some pair) change }
+    requires { WantsChange ⟦<S as Shape>⟧ row.now seat.old seen.now (Some pair) change }
     ensures { Tried ⟦<S as Shape>⟧ seat.old seat.new seen.now.hashed.key.now (Some pair.1) change result }
 {
     match change {
@@ -150,8 +149,7 @@ fn enter_new<S: Shape, E: Expiry>(
     change: Change,
     expiry: &E,
 ) -> Result<Reply, Contended>
-    requires { WantsChange ⟦<S as Shape>⟧ row.now caller.old.seat seen.now.hashed.bucket seen.now.word seen.now.hashed.key.now
-        None change }
+    requires { WantsChange ⟦<S as Shape>⟧ row.now caller.old.seat seen.now None change }
     ensures { TriedOver ⟦<S as Shape>⟧ caller.old.seat caller.new.seat seen.now.hashed.key.now None change
         (E.is_expired expiry.now) result }
 {

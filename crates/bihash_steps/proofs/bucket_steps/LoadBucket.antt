@@ -8,20 +8,21 @@ use Rattle.std.specs.Prelude.{slice_index, is_some}
 use Rattle.atomic_table.specs.Table.{State, Act, keeps, Valid, stepped, carried_after, Allows}
 use Rattle.bihash_words.specs.Sizes.{Sizes}
 use Rattle.bihash_words.specs.Words.{FitsWord, packed}
-use Rattle.bihash_steps.specs.Words.{count_of, buckets, bucket_at}
-use Rattle.bihash_steps.specs.Histories.{IsWriteList, after}
-use Rattle.bihash_steps.specs.Callers.{Openings, known_at, opening_in}
-use Rattle.bihash_steps.specs.Blocks.{IsBlockOf}
-use Rattle.bihash_steps.specs.Partition.{of_bucket}
-use Rattle.bihash_steps.specs.Buckets.{BucketState, HoldsBucketIf, word_of}
-use Rattle.bihash_steps.specs.PageStores.{runs_now}
-use Rattle.bihash_steps.specs.Views.{no_notes}
-use Rattle.bihash_steps.specs.WordRule.{TableState, IsView, WordRule}
+use Rattle.bihash_rule.specs.Words.{count_of, buckets, bucket_at}
+use Rattle.bihash_rule.specs.Histories.{IsWriteList, after}
+use Rattle.bihash_rule.specs.Callers.{known_at, opening_in}
+use Rattle.bihash_rule.specs.declared.view.Openings.{Openings}
+use Rattle.bihash_rule.specs.Blocks.{IsBlockOf}
+use Rattle.bihash_rule.specs.Partition.{of_bucket}
+use Rattle.bihash_rule.specs.Buckets.{BucketState, HoldsBucketIf, word_of}
+use Rattle.bihash_rule.specs.PageStores.{runs_now}
+use Rattle.bihash_rule.specs.Views.{no_notes}
+use Rattle.bihash_rule.specs.WordRule.{TableState, IsView, WordRule}
 use Rattle.bihash_steps.specs.Steps.{ViewOfSeat}
 use Rattle.bihash_steps.specs.BucketSteps.{without_notes, with_history, open_on, IsFound, SeesOpen, TellsBucket}
-use Rattle.bihash_steps.specs.declared.view.Holdings.{Holdings}
-use Rattle.bihash_steps.specs.declared.view.LockedBucket.{LockedBucket}
-use Rattle.bihash_steps.specs.declared.view.View.{View}
+use Rattle.bihash_rule.specs.declared.view.Holdings.{Holdings}
+use Rattle.bihash_rule.specs.declared.view.LockedBucket.{LockedBucket}
+use Rattle.bihash_rule.specs.declared.view.View.{View}
 use Rattle.bihash_steps.proofs.KnownLists.{lawful_here, logged_at}
 use Rattle.bihash_steps.proofs.Lists.{there, no_row}
 use Rattle.bihash_steps.proofs.CountWord.{held_still, not_lone, others_apart, stays_at, kept_log}

@@ -9,14 +9,14 @@ use Rattle.std.specs.Prelude.{slice_index}
 use Rattle.atomic_table.specs.Table.{State, Act, keeps, Valid, stepped, carried_after, Allows}
 use Rattle.bihash_words.specs.Sizes.{Sizes}
 use Rattle.bihash_words.specs.Words.{Bucket, FitsWord, packed}
-use Rattle.bihash_steps.specs.Words.{count_of, buckets, bucket_at}
-use Rattle.bihash_steps.specs.Buckets.{StandsStillIf, word_of}
-use Rattle.bihash_steps.specs.PageStores.{all_used, runs_now}
-use Rattle.bihash_steps.specs.WordRule.{IsView, WordRule}
+use Rattle.bihash_rule.specs.Words.{count_of, buckets, bucket_at}
+use Rattle.bihash_rule.specs.Buckets.{StandsStillIf, word_of}
+use Rattle.bihash_rule.specs.PageStores.{all_used, runs_now}
+use Rattle.bihash_rule.specs.WordRule.{IsView, WordRule}
 use Rattle.bihash_steps.specs.Steps.{ViewOfSeat}
 use Rattle.bihash_steps.specs.BucketSteps.{without_notes, with_history, lock_counted, locked_on, locking, IsFound, TellsLock}
-use Rattle.bihash_steps.specs.declared.view.LockedBucket.{LockedBucket}
-use Rattle.bihash_steps.specs.declared.view.View.{View}
+use Rattle.bihash_rule.specs.declared.view.LockedBucket.{LockedBucket}
+use Rattle.bihash_rule.specs.declared.view.View.{View}
 use Rattle.bihash_steps.proofs.KnownLists.{lawful_here, lawful_set, logged_at}
 use Rattle.bihash_steps.proofs.CountWord.{kept_log, stays_at, others_apart}
 use Rattle.bihash_steps.proofs.NotedViews.{unnoted_view}

@@ -6,19 +6,19 @@ use Rattle.std.specs.Prelude.{slice_index, is_some}
 use Rattle.atomic_table.specs.Table.{State, keeps, Allows}
 use Rattle.bihash_words.specs.Sizes.{Sizes}
 use Rattle.bihash_words.specs.Words.{packed}
-use Rattle.bihash_steps.specs.Words.{bucket_at, page_at, page_words, block_words}
-use Rattle.bihash_steps.specs.Callers.{known_at}
-use Rattle.bihash_steps.specs.Partition.{held_by, run_of}
-use Rattle.bihash_steps.specs.Buckets.{HoldsBucket, HoldsBucketIf, word_of}
-use Rattle.bihash_steps.specs.PageStores.{HoldsBlockIf, run_in, run_held, runs_now}
-use Rattle.bihash_steps.specs.WordRule.{WordRule}
+use Rattle.bihash_rule.specs.Words.{bucket_at, page_at, page_words, block_words}
+use Rattle.bihash_rule.specs.Callers.{known_at}
+use Rattle.bihash_rule.specs.Partition.{held_by, run_of}
+use Rattle.bihash_rule.specs.Buckets.{HoldsBucket, HoldsBucketIf, word_of}
+use Rattle.bihash_rule.specs.PageStores.{HoldsBlockIf, run_in, run_held, runs_now}
+use Rattle.bihash_rule.specs.WordRule.{WordRule}
 use Rattle.bihash_steps.specs.Steps.{ViewOfSeat}
 use Rattle.bihash_steps.specs.BucketSteps.{with_lock, stored_in, IsLockedWord, TellsLockedWord, TellsStored}
-use Rattle.bihash_steps.specs.declared.view.Extent.{Extent}
-use Rattle.bihash_steps.specs.declared.view.Holdings.{Holdings}
-use Rattle.bihash_steps.specs.declared.view.LockedBucket.{LockedBucket}
-use Rattle.bihash_steps.specs.declared.view.HeldBlock.{HeldBlock}
-use Rattle.bihash_steps.specs.declared.view.View.{View}
+use Rattle.bihash_rule.specs.declared.view.Extent.{Extent}
+use Rattle.bihash_rule.specs.declared.view.Holdings.{Holdings}
+use Rattle.bihash_rule.specs.declared.view.LockedBucket.{LockedBucket}
+use Rattle.bihash_rule.specs.declared.view.HeldBlock.{HeldBlock}
+use Rattle.bihash_rule.specs.declared.view.View.{View}
 use Rattle.bihash_steps.proofs.CountWord.{kept_log, stays_at, others_apart}
 use Rattle.bihash_steps.proofs.Frames.{Beside, free_own, stands_beside}
 use Rattle.bihash_steps.proofs.OwnedWords.{beside_block, stored_stands, store_still, count_still, bucket_after, page_after, word_of_block}

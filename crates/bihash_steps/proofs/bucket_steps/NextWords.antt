@@ -3,14 +3,14 @@ use Rattle.std.proofs.Common.{◌≡◌, ℕ, ◌+◌, ◌-◌, ◌^◌, ◌<◌
 use Rattle.bihash_words.specs.declared.block_size.BlockSize.{BlockSize}
 use Rattle.bihash_words.specs.Sizes.{Sizes, IsSound}
 use Rattle.bihash_words.specs.Words.{Bucket, FitsWord, packed, version_of}
-use Rattle.bihash_steps.specs.Callers.{known_at}
-use Rattle.bihash_steps.specs.Buckets.{word_of, open_word}
+use Rattle.bihash_rule.specs.Callers.{known_at}
+use Rattle.bihash_rule.specs.Buckets.{word_of, open_word}
 use Rattle.bihash_steps.specs.BucketSteps.{MayAnswer, MayWrite, TellsEntry, view_after_answer, push_call, MayValidate, TellsValid}
 use Rattle.bihash_steps.specs.Steps.{ViewOfSeat}
-use Rattle.bihash_steps.specs.declared.view.Call.{Call}
-use Rattle.bihash_steps.specs.declared.view.Extent.{Extent}
-use Rattle.bihash_steps.specs.declared.view.OpenBucket.{OpenBucket}
-use Rattle.bihash_steps.specs.declared.view.View.{View}
+use Rattle.bihash_rule.specs.declared.view.Call.{Call}
+use Rattle.bihash_rule.specs.declared.view.Extent.{Extent}
+use Rattle.bihash_rule.specs.declared.view.OpenBucket.{OpenBucket}
+use Rattle.bihash_rule.specs.declared.view.View.{View}
 use Rattle.bihash_steps.proofs.Addresses.{HasVersion}
 use Rattle.bihash_steps.proofs.SeatCounts.{IsCounted, counted_call}
 

@@ -8,20 +8,20 @@ use Rattle.std.specs.Prelude.{slice_index}
 use Rattle.atomic_table.specs.Table.{State, Act, keeps, Valid, stepped, carried_after, Allows}
 use Rattle.bihash_words.specs.Sizes.{Sizes}
 use Rattle.bihash_words.specs.Words.{Bucket}
-use Rattle.bihash_steps.specs.Words.{count_of, buckets, bucket_at, page_at, block_words, Stands}
-use Rattle.bihash_steps.specs.Histories.{IsKeyOf, IsAnswer}
-use Rattle.bihash_steps.specs.Callers.{known_at}
-use Rattle.bihash_steps.specs.Buckets.{BucketState, HoldsBucket, HoldsBucketIf, AreReadIn, IsOpen, IsOpenIf, StandsStillIf, word_of, open_word}
-use Rattle.bihash_steps.specs.PageStores.{all_used}
-use Rattle.bihash_steps.specs.WordRule.{IsInformed, IsView, WordRule}
+use Rattle.bihash_rule.specs.Words.{count_of, buckets, bucket_at, page_at, block_words, Stands}
+use Rattle.bihash_rule.specs.Histories.{IsKeyOf, IsAnswer}
+use Rattle.bihash_rule.specs.Callers.{known_at}
+use Rattle.bihash_rule.specs.Buckets.{BucketState, HoldsBucket, HoldsBucketIf, AreReadIn, IsOpen, IsOpenIf, StandsStillIf, word_of, open_word}
+use Rattle.bihash_rule.specs.PageStores.{all_used}
+use Rattle.bihash_rule.specs.WordRule.{IsInformed, IsView, WordRule}
 use Rattle.bihash_steps.specs.Steps.{ViewOfSeat}
 use Rattle.bihash_steps.specs.BucketSteps.{without_notes, with_reading, read_more, IsOpenWord, TellsOpenWord, MayValidate, view_after_validate, TellsValid, entry_of, RestsOn, push_call, map_now}
-use Rattle.bihash_steps.specs.declared.view.Call.{Call}
-use Rattle.bihash_steps.specs.declared.view.Entry.{Entry}
-use Rattle.bihash_steps.specs.declared.view.Extent.{Extent}
-use Rattle.bihash_steps.specs.declared.view.LockedBucket.{LockedBucket}
-use Rattle.bihash_steps.specs.declared.view.OpenBucket.{OpenBucket}
-use Rattle.bihash_steps.specs.declared.view.View.{View}
+use Rattle.bihash_rule.specs.declared.view.Call.{Call}
+use Rattle.bihash_rule.specs.declared.view.Entry.{Entry}
+use Rattle.bihash_rule.specs.declared.view.Extent.{Extent}
+use Rattle.bihash_rule.specs.declared.view.LockedBucket.{LockedBucket}
+use Rattle.bihash_rule.specs.declared.view.OpenBucket.{OpenBucket}
+use Rattle.bihash_rule.specs.declared.view.View.{View}
 use Rattle.bihash_steps.proofs.KnownLists.{lawful_here, logged_at}
 use Rattle.bihash_steps.proofs.Lists.{there, no_row}
 use Rattle.bihash_steps.proofs.CountWord.{stays_at, others_apart, kept_log}

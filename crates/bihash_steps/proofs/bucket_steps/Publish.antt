@@ -9,25 +9,26 @@ use Rattle.atomic_table.specs.Table.{State, keeps, Allows}
 use Rattle.bihash_words.specs.Sizes.{Sizes}
 use Rattle.bihash_words.specs.Words.{packed}
 use Rattle.bihash_words.specs.declared.patch.Reply.TheVariants.{Changed, NoPages}
-use Rattle.bihash_steps.specs.Words.{count_of, front_words, buckets, bucket_at, page_at, block_words, Stands}
-use Rattle.bihash_steps.specs.Histories.{IsWrite, after, is_changed, write_of}
-use Rattle.bihash_steps.specs.Callers.{Openings, known_at, opening_in, HasNumber}
-use Rattle.bihash_steps.specs.Blocks.{IsBlockOf}
-use Rattle.bihash_steps.specs.Partition.{IsPartition, PageRun, run_of}
-use Rattle.bihash_steps.specs.Buckets.{BucketState, word_of, IsBucket, HoldsBucket, HoldsBucketIf}
-use Rattle.bihash_steps.specs.PageStores.{StoreState, IsStore, HoldsStoreIf, NotesStore, HoldsBlockIf, all_writes, all_used, runs_now}
-use Rattle.bihash_steps.specs.WordRule.{IsView, WordRule}
+use Rattle.bihash_rule.specs.Words.{count_of, front_words, buckets, bucket_at, page_at, block_words, Stands}
+use Rattle.bihash_rule.specs.Histories.{IsWrite, after, is_changed, write_of}
+use Rattle.bihash_rule.specs.Callers.{known_at, opening_in, HasNumber}
+use Rattle.bihash_rule.specs.declared.view.Openings.{Openings}
+use Rattle.bihash_rule.specs.Blocks.{IsBlockOf}
+use Rattle.bihash_rule.specs.Partition.{IsPartition, PageRun, run_of}
+use Rattle.bihash_rule.specs.Buckets.{BucketState, word_of, IsBucket, HoldsBucket, HoldsBucketIf}
+use Rattle.bihash_rule.specs.PageStores.{StoreState, IsStore, HoldsStoreIf, NotesStore, HoldsBlockIf, all_writes, all_used, runs_now}
+use Rattle.bihash_rule.specs.WordRule.{IsView, WordRule}
 use Rattle.bihash_steps.specs.Steps.{ViewOfSeat}
 use Rattle.bihash_steps.specs.BucketSteps.{acting, MayWrite, MayMark, marked, next_map, view_after_write, entry_of, Enters, TellsEntry}
-use Rattle.bihash_steps.specs.declared.view.Write.{Write}
-use Rattle.bihash_steps.specs.declared.view.Call.{Call}
-use Rattle.bihash_steps.specs.declared.view.Entry.{Entry}
-use Rattle.bihash_steps.specs.declared.view.Record.{Record}
-use Rattle.bihash_steps.specs.declared.view.Extent.{Extent}
-use Rattle.bihash_steps.specs.declared.view.LockedBucket.{LockedBucket}
-use Rattle.bihash_steps.specs.declared.view.LockedStore.{LockedStore}
-use Rattle.bihash_steps.specs.declared.view.HeldBlock.{HeldBlock}
-use Rattle.bihash_steps.specs.declared.view.View.{View}
+use Rattle.bihash_rule.specs.declared.view.Write.{Write}
+use Rattle.bihash_rule.specs.declared.view.Call.{Call}
+use Rattle.bihash_rule.specs.declared.view.Entry.{Entry}
+use Rattle.bihash_rule.specs.declared.view.Record.{Record}
+use Rattle.bihash_rule.specs.declared.view.Extent.{Extent}
+use Rattle.bihash_rule.specs.declared.view.LockedBucket.{LockedBucket}
+use Rattle.bihash_rule.specs.declared.view.LockedStore.{LockedStore}
+use Rattle.bihash_rule.specs.declared.view.HeldBlock.{HeldBlock}
+use Rattle.bihash_rule.specs.declared.view.View.{View}
 use Rattle.bihash_steps.proofs.KnownLists.{lawful_set}
 use Rattle.bihash_steps.proofs.Lists.{there, no_row}
 use Rattle.bihash_steps.proofs.Frames.{Keeps, Undisturbed, store_keeps, store_lock_beside, more_writes, used_more, more_short, moved}

@@ -7,25 +7,25 @@ use Rattle.std.specs.Prelude.{slice_index}
 use Rattle.atomic_table.specs.Table.{keeps, Allows}
 use Rattle.bihash_words.specs.Sizes.{Sizes}
 use Rattle.bihash_words.specs.Words.{bit, packed}
-use Rattle.bihash_steps.specs.Words.{count_of, front_words, buckets, bucket_at, page_at, block_words, Stands}
-use Rattle.bihash_steps.specs.Histories.{write_of}
-use Rattle.bihash_steps.specs.Callers.{known_at}
-use Rattle.bihash_steps.specs.Partition.{run_of}
-use Rattle.bihash_steps.specs.Buckets.{BucketState, word_of, HoldsBucket}
-use Rattle.bihash_steps.specs.PageStores.{StoreState, IsStore, IsListedIf, HoldsStore, HoldsStoreIf, HoldsBlockIf, writes_in, all_writes, all_used, run_in}
-use Rattle.bihash_steps.specs.WordRule.{IsView, WordRule}
+use Rattle.bihash_rule.specs.Words.{count_of, front_words, buckets, bucket_at, page_at, block_words, Stands}
+use Rattle.bihash_rule.specs.Histories.{write_of}
+use Rattle.bihash_rule.specs.Callers.{known_at}
+use Rattle.bihash_rule.specs.Partition.{run_of}
+use Rattle.bihash_rule.specs.Buckets.{BucketState, word_of, HoldsBucket}
+use Rattle.bihash_rule.specs.PageStores.{StoreState, IsStore, IsListedIf, HoldsStore, HoldsStoreIf, HoldsBlockIf, writes_in, all_writes, all_used, run_in}
+use Rattle.bihash_rule.specs.WordRule.{IsView, WordRule}
 use Rattle.bihash_steps.specs.Steps.{ViewOfSeat}
 use Rattle.bihash_steps.specs.BucketSteps.{acting, entry_of, TellsEntry}
 use Rattle.bihash_steps.specs.StoreSteps.{words_in, IsOf, MayReplace, old_block, freed, settled_in, view_after_replace}
-use Rattle.bihash_steps.specs.declared.view.Write.{Write}
-use Rattle.bihash_steps.specs.declared.view.Call.{Call}
-use Rattle.bihash_steps.specs.declared.view.Extent.{Extent}
-use Rattle.bihash_steps.specs.declared.view.LockedBucket.{LockedBucket}
-use Rattle.bihash_steps.specs.declared.view.LockedStore.{LockedStore}
-use Rattle.bihash_steps.specs.declared.view.PageStore.{PageStore}
-use Rattle.bihash_steps.specs.declared.view.ListedPage.{ListedPage}
-use Rattle.bihash_steps.specs.declared.view.HeldBlock.{HeldBlock}
-use Rattle.bihash_steps.specs.declared.view.View.{View}
+use Rattle.bihash_rule.specs.declared.view.Write.{Write}
+use Rattle.bihash_rule.specs.declared.view.Call.{Call}
+use Rattle.bihash_rule.specs.declared.view.Extent.{Extent}
+use Rattle.bihash_rule.specs.declared.view.LockedBucket.{LockedBucket}
+use Rattle.bihash_rule.specs.declared.view.LockedStore.{LockedStore}
+use Rattle.bihash_rule.specs.declared.view.PageStore.{PageStore}
+use Rattle.bihash_rule.specs.declared.view.ListedPage.{ListedPage}
+use Rattle.bihash_rule.specs.declared.view.HeldBlock.{HeldBlock}
+use Rattle.bihash_rule.specs.declared.view.View.{View}
 use Rattle.bihash_steps.proofs.KnownLists.{lawful_set}
 use Rattle.bihash_steps.proofs.Frames.{free_own, more_writes, used_more, store_keeps, store_lock_beside}
 use Rattle.bihash_steps.proofs.OwnedWords.{front_still, store_still}

@@ -7,20 +7,20 @@ use Rattle.bihash_words.specs.Sizes.{Sizes}
 use Rattle.bihash_words.specs.Words.{packed}
 use Rattle.bihash_words.specs.declared.patch.Reply.{Reply}
 use Rattle.bihash_words.specs.declared.patch.Reply.TheVariants.{NoPages}
-use Rattle.bihash_steps.specs.Words.{count_of, buckets, bucket_at, page_at, Stands}
-use Rattle.bihash_steps.specs.Histories.{IsKeyOf, IsAnswer, store_of}
-use Rattle.bihash_steps.specs.Callers.{HasNumber, HasNumbers, IsWhole, known_at}
-use Rattle.bihash_steps.specs.Buckets.{HoldsBucket, word_of}
-use Rattle.bihash_steps.specs.PageStores.{BearsOutOfPages, BearOutOfPages, LeftIf, all_used, runs_now}
-use Rattle.bihash_steps.specs.WordRule.{IsInformed, WordRule}
+use Rattle.bihash_rule.specs.Words.{count_of, buckets, bucket_at, page_at, Stands}
+use Rattle.bihash_rule.specs.Histories.{IsKeyOf, IsAnswer, store_of}
+use Rattle.bihash_rule.specs.Callers.{HasNumber, HasNumbers, IsWhole, known_at}
+use Rattle.bihash_rule.specs.Buckets.{HoldsBucket, word_of}
+use Rattle.bihash_rule.specs.PageStores.{BearsOutOfPages, BearOutOfPages, LeftIf, all_used, runs_now}
+use Rattle.bihash_rule.specs.WordRule.{IsInformed, WordRule}
 use Rattle.bihash_steps.specs.Steps.{ViewOfSeat}
 use Rattle.bihash_steps.specs.BucketSteps.{HoldsClean, MayAnswer, TellsEvent, TellsEntry, entry_of, without_lock, view_after_answer, push_call, map_now}
-use Rattle.bihash_steps.specs.declared.view.Call.{Call}
-use Rattle.bihash_steps.specs.LogRule.{LogRule}
-use Rattle.bihash_steps.specs.declared.view.Entry.{Entry}
-use Rattle.bihash_steps.specs.declared.view.Record.{Record}
-use Rattle.bihash_steps.specs.declared.view.Extent.{Extent}
-use Rattle.bihash_steps.specs.declared.view.View.{View}
+use Rattle.bihash_rule.specs.declared.view.Call.{Call}
+use Rattle.bihash_rule.specs.LogRule.{LogRule}
+use Rattle.bihash_rule.specs.declared.view.Entry.{Entry}
+use Rattle.bihash_rule.specs.declared.view.Record.{Record}
+use Rattle.bihash_rule.specs.declared.view.Extent.{Extent}
+use Rattle.bihash_rule.specs.declared.view.View.{View}
 use Rattle.bihash_steps.proofs.KnownLists.{lawful_here, logged_at}
 use Rattle.bihash_steps.proofs.Frames.{free_none, free_own}
 use Rattle.bihash_steps.proofs.OwnedWords.{beside_bucket, block_keeps, front_still, store_still, count_still, bucket_after, bucket_inside}

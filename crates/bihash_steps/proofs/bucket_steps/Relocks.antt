@@ -8,21 +8,21 @@ use Rattle.std.specs.Prelude.{slice_index, is_some}
 use Rattle.atomic_table.specs.Table.{State}
 use Rattle.bihash_words.specs.Sizes.{Sizes}
 use Rattle.bihash_words.specs.Words.{packed}
-use Rattle.bihash_steps.specs.Words.{count_of, front_words, buckets, bucket_at, page_at, Stands}
-use Rattle.bihash_steps.specs.Histories.{IsPrefix}
-use Rattle.bihash_steps.specs.Callers.{HasNumber, HasNumbers, IsWhole, known_at, opening_in}
-use Rattle.bihash_steps.specs.Partition.{IsPartition, run_of}
-use Rattle.bihash_steps.specs.Buckets.{BucketState, IsBucket, HoldsBucket, HoldsBucketIf, NotesLocks, word_of}
-use Rattle.bihash_steps.specs.PageStores.{BearOutOfPages, IsStore, HoldsBlockIf, writes_in, all_used, most_used, runs_now}
-use Rattle.bihash_steps.specs.Views.{no_notes}
-use Rattle.bihash_steps.specs.WordRule.{TableState, IsInformed, IsView, WordRule}
-use Rattle.bihash_steps.specs.declared.view.Write.{Write}
-use Rattle.bihash_steps.specs.LogRule.{LogRule}
-use Rattle.bihash_steps.specs.declared.view.Entry.{Entry}
-use Rattle.bihash_steps.specs.declared.view.Record.{Record}
-use Rattle.bihash_steps.specs.declared.view.Known.{Known}
-use Rattle.bihash_steps.specs.declared.view.LockedBucket.{LockedBucket}
-use Rattle.bihash_steps.specs.declared.view.View.{View}
+use Rattle.bihash_rule.specs.Words.{count_of, front_words, buckets, bucket_at, page_at, Stands}
+use Rattle.bihash_rule.specs.Histories.{IsPrefix}
+use Rattle.bihash_rule.specs.Callers.{HasNumber, HasNumbers, IsWhole, known_at, opening_in}
+use Rattle.bihash_rule.specs.Partition.{IsPartition, run_of}
+use Rattle.bihash_rule.specs.Buckets.{BucketState, IsBucket, HoldsBucket, HoldsBucketIf, NotesLocks, word_of}
+use Rattle.bihash_rule.specs.PageStores.{BearOutOfPages, IsStore, HoldsBlockIf, writes_in, all_used, most_used, runs_now}
+use Rattle.bihash_rule.specs.Views.{no_notes}
+use Rattle.bihash_rule.specs.WordRule.{TableState, IsInformed, IsView, WordRule}
+use Rattle.bihash_rule.specs.declared.view.Write.{Write}
+use Rattle.bihash_rule.specs.LogRule.{LogRule}
+use Rattle.bihash_rule.specs.declared.view.Entry.{Entry}
+use Rattle.bihash_rule.specs.declared.view.Record.{Record}
+use Rattle.bihash_rule.specs.declared.view.Known.{Known}
+use Rattle.bihash_rule.specs.declared.view.LockedBucket.{LockedBucket}
+use Rattle.bihash_rule.specs.declared.view.View.{View}
 use Rattle.bihash_steps.proofs.Lists.{no_row}
 use Rattle.bihash_steps.proofs.LogSteps.{histories_logged}
 use Rattle.bihash_steps.proofs.Put.{put, put_here, put_else}

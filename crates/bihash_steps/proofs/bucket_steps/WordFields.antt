@@ -4,10 +4,10 @@ use Rattle.std.specs.Prelude.{slice_index, is_some}
 use Rattle.atomic_table.specs.Table.{State}
 use Rattle.bihash_words.specs.Sizes.{Sizes}
 use Rattle.bihash_words.specs.Words.{Bucket, FitsWord, bit, packed}
-use Rattle.bihash_steps.specs.Words.{buckets, bucket_at}
-use Rattle.bihash_steps.specs.Buckets.{word_of}
-use Rattle.bihash_steps.specs.WordRule.{WordRule}
-use Rattle.bihash_steps.specs.declared.view.View.{View}
+use Rattle.bihash_rule.specs.Words.{buckets, bucket_at}
+use Rattle.bihash_rule.specs.Buckets.{word_of}
+use Rattle.bihash_rule.specs.WordRule.{WordRule}
+use Rattle.bihash_rule.specs.declared.view.View.{View}
 use Rattle.bihash_steps.proofs.bucket_steps.LoadBucket.{bucket_fits}
 
 few_bit : (mark : Bool) → bit mark ≤ 1

@@ -8,16 +8,16 @@ use Rattle.atomic_table.proofs.Lists.{at_last}
 use Rattle.bihash_words.specs.Maps.{Pairs, Event, IsEvent, written}
 use Rattle.bihash_words.specs.Sizes.{Sizes}
 use Rattle.bihash_words.specs.declared.patch.Reply.TheVariants.{Changed}
-use Rattle.bihash_steps.specs.Words.{buckets}
-use Rattle.bihash_steps.specs.Histories.{IsPrefix, IsKeyOf, IsLegal, IsAnswer, IsWrite, IsWriteList, after, bounds_of, event_of, event_of_write, is_changed, write_of}
-use Rattle.bihash_steps.specs.Callers.{known_at, opening_at, HasNumbers}
-use Rattle.bihash_steps.specs.WordRule.{TableState, IsInformed}
+use Rattle.bihash_rule.specs.Words.{buckets}
+use Rattle.bihash_rule.specs.Histories.{IsPrefix, IsKeyOf, IsLegal, IsAnswer, IsWrite, IsWriteList, after, bounds_of, event_of, event_of_write, is_changed, write_of}
+use Rattle.bihash_rule.specs.Callers.{known_at, opening_at, HasNumbers}
+use Rattle.bihash_rule.specs.WordRule.{TableState, IsInformed}
 use Rattle.bihash_steps.specs.BucketSteps.{acting, map_now, MayWrite, view_after_write}
-use Rattle.bihash_steps.specs.declared.view.Write.{Write}
-use Rattle.bihash_steps.specs.declared.view.Call.{Call}
-use Rattle.bihash_steps.specs.declared.view.Record.{Record}
-use Rattle.bihash_steps.specs.declared.view.Known.{Known}
-use Rattle.bihash_steps.specs.declared.view.View.{View}
+use Rattle.bihash_rule.specs.declared.view.Write.{Write}
+use Rattle.bihash_rule.specs.declared.view.Call.{Call}
+use Rattle.bihash_rule.specs.declared.view.Record.{Record}
+use Rattle.bihash_rule.specs.declared.view.Known.{Known}
+use Rattle.bihash_rule.specs.declared.view.View.{View}
 use Rattle.bihash_steps.proofs.Lists.{within, there, at_end}
 use Rattle.bihash_steps.proofs.Prefixes.{prefix_refl, after_longer}
 use Rattle.bihash_steps.proofs.LawfulCallers.{still_legal}

@@ -8,22 +8,22 @@ use Rattle.std.proofs.lemmas.List.{length-drop, length-replicate, length-take}
 use Rattle.atomic_table.specs.Table.{State, Splits, Joins}
 use Rattle.atomic_table.proofs.Lists.{at_set}
 use Rattle.bihash_words.specs.Sizes.{Sizes}
-use Rattle.bihash_steps.specs.Words.{count_of, buckets}
-use Rattle.bihash_steps.specs.Callers.{known_at, HasNumbers, IsLawful, IsLawfulCaller, Apart, Agrees, HaveOneLog}
-use Rattle.bihash_steps.specs.Buckets.{HoldsBucketIf}
-use Rattle.bihash_steps.specs.PageStores.{HoldsStoreIf, HoldsBlockIf, run_in}
-use Rattle.bihash_steps.specs.Views.{nothing_held, no_notes}
-use Rattle.bihash_steps.specs.WordRule.{TableState, IsInformed, IsView, WordRule}
+use Rattle.bihash_rule.specs.Words.{count_of, buckets}
+use Rattle.bihash_rule.specs.Callers.{known_at, HasNumbers, IsLawful, IsLawfulCaller, Apart, Agrees, HaveOneLog}
+use Rattle.bihash_rule.specs.Buckets.{HoldsBucketIf}
+use Rattle.bihash_rule.specs.PageStores.{HoldsStoreIf, HoldsBlockIf, run_in}
+use Rattle.bihash_rule.specs.Views.{nothing_held, no_notes}
+use Rattle.bihash_rule.specs.WordRule.{TableState, IsInformed, IsView, WordRule}
 use Rattle.bihash_steps.specs.Steps.{first_numbers, other_numbers, joining, view_after_spending}
-use Rattle.bihash_steps.specs.declared.view.Write.{Write}
-use Rattle.bihash_steps.specs.declared.view.Record.{Record}
-use Rattle.bihash_steps.specs.declared.view.Known.{Known}
-use Rattle.bihash_steps.specs.declared.view.Holdings.{Holdings}
-use Rattle.bihash_steps.specs.declared.view.View.{View}
+use Rattle.bihash_rule.specs.declared.view.Write.{Write}
+use Rattle.bihash_rule.specs.declared.view.Record.{Record}
+use Rattle.bihash_rule.specs.declared.view.Known.{Known}
+use Rattle.bihash_rule.specs.declared.view.Holdings.{Holdings}
+use Rattle.bihash_rule.specs.declared.view.View.{View}
 use Rattle.bihash_steps.proofs.Lists.{at_end, at_either, at_take, at_drop, no_row, within}
 use Rattle.bihash_steps.proofs.Prefixes.{prefix_refl}
 use Rattle.bihash_steps.proofs.LawfulCallers.{IsPart, first_part, other_part, part_informed, part_lawful, part_numbers, both_informed, both_numbers}
-use Rattle.bihash_steps.specs.Logs.{IsLogged}
+use Rattle.bihash_rule.specs.Logs.{IsLogged}
 use Rattle.bihash_steps.proofs.LogLemmas.{begins_refl}
 use Rattle.bihash_steps.proofs.LogSteps.{cut_logged, joined_logged, log_begins, one_log}
 use Rattle.bihash_steps.proofs.KnownLists.{BeginsEach, knows_own, matches_log}

@@ -8,22 +8,22 @@ use prog.Atomic.{either}
 use Rattle.std.proofs.lemmas.Bool.{eqb-true}
 use Rattle.atomic_table.specs.Table.{State, Act, keeps, Valid, stepped, carried_after, Allows}
 use Rattle.bihash_words.specs.Sizes.{Sizes}
-use Rattle.bihash_steps.specs.Words.{count_of, buckets}
-use Rattle.bihash_steps.specs.Histories.{IsPrefix}
-use Rattle.bihash_steps.specs.Callers.{IsWhole, known_writes, known_at, opening_in, IsConsistent, HasNumbers, Apart, Agrees, KnowsOwn, HaveOneLog, MatchesLog}
-use Rattle.bihash_steps.specs.Buckets.{IsBucket}
-use Rattle.bihash_steps.specs.PageStores.{BearOutOfPages, HasCall, most_used, writes_in}
-use Rattle.bihash_steps.specs.Views.{empty_record, no_notes}
+use Rattle.bihash_rule.specs.Words.{count_of, buckets}
+use Rattle.bihash_rule.specs.Histories.{IsPrefix}
+use Rattle.bihash_rule.specs.Callers.{IsWhole, known_writes, known_at, opening_in, IsConsistent, HasNumbers, Apart, Agrees, KnowsOwn, HaveOneLog, MatchesLog}
+use Rattle.bihash_rule.specs.Buckets.{IsBucket}
+use Rattle.bihash_rule.specs.PageStores.{BearOutOfPages, HasCall, most_used, writes_in}
+use Rattle.bihash_rule.specs.Views.{empty_record, no_notes}
 use Rattle.std.specs.Prelude.{◌==◌}
-use Rattle.bihash_steps.specs.WordRule.{TableState, HaveMet, HaveMetIf, IsView, WordRule}
+use Rattle.bihash_rule.specs.WordRule.{TableState, HaveMet, HaveMetIf, IsView, WordRule}
 use Rattle.bihash_steps.specs.Steps.{ViewOfSeat, view_after_count, view_after_number, recounted, joining, TellsCount, TellsNumber, TellsAgreement}
-use Rattle.bihash_steps.specs.declared.view.Known.{Known}
-use Rattle.bihash_steps.specs.Buckets.{BucketState}
-use Rattle.bihash_steps.specs.declared.view.Write.{Write}
-use Rattle.bihash_steps.specs.declared.view.Call.{Call}
-use Rattle.bihash_steps.specs.declared.view.Record.{Record}
-use Rattle.bihash_steps.specs.declared.view.Meeting.{Meeting}
-use Rattle.bihash_steps.specs.declared.view.View.{View}
+use Rattle.bihash_rule.specs.declared.view.Known.{Known}
+use Rattle.bihash_rule.specs.Buckets.{BucketState}
+use Rattle.bihash_rule.specs.declared.view.Write.{Write}
+use Rattle.bihash_rule.specs.declared.view.Call.{Call}
+use Rattle.bihash_rule.specs.declared.view.Record.{Record}
+use Rattle.bihash_rule.specs.declared.view.Meeting.{Meeting}
+use Rattle.bihash_rule.specs.declared.view.View.{View}
 use Rattle.bihash_steps.proofs.KnownLists.{known_bearers, lawful_here, lawful_set, logged_at, none_past}
 use Rattle.bihash_steps.proofs.Lists.{at_end, there}
 use Rattle.bihash_steps.proofs.WholeHistories.{prefix_whole}

@@ -8,11 +8,11 @@ use lib.Seq.{set-get_or}
 use Rattle.std.specs.Prelude.{slice_index}
 use Rattle.atomic_table.specs.Table.{keeps, Allows}
 use Rattle.bihash_words.specs.Sizes.{Sizes}
-use Rattle.bihash_steps.specs.Words.{count_of, Stands}
-use Rattle.bihash_steps.specs.WordRule.{IsView, WordRule}
+use Rattle.bihash_rule.specs.Words.{count_of, Stands}
+use Rattle.bihash_rule.specs.WordRule.{IsView, WordRule}
 use Rattle.bihash_steps.specs.Steps.{ViewOfSeat}
 use Rattle.bihash_steps.specs.Renewals.{IsNextWord, TellsRowWord, view_after_load}
-use Rattle.bihash_steps.specs.declared.view.View.{View}
+use Rattle.bihash_rule.specs.declared.view.View.{View}
 use Rattle.bihash_steps.proofs.KnownLists.{lawful_here, logged_at}
 use Rattle.bihash_steps.proofs.CountWord.{kept_log, others_apart, stays_at}
 use Rattle.bihash_steps.proofs.NotedViews.{seen_view}

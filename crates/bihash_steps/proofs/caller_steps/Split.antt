@@ -1,11 +1,11 @@
 -- What the steps of a split come to: the parent keeps its numbers, and the new caller has the next one.
 use Rattle.std.proofs.Common.{◌≡◌, ℕ, ◌+◌, List, [], ◌∷◌, ◌++◌, length, take, drop, refl, sym, ap, ◌∙◌, None}
 use Rattle.std.proofs.Math.Seq.{take-append_seam, drop-append_seam}
-use Rattle.bihash_steps.specs.Views.{empty_record}
+use Rattle.bihash_rule.specs.Views.{empty_record}
 use Rattle.bihash_steps.specs.Steps.{view_after_count, view_after_number, first_numbers, other_numbers, parent, newcomer}
 use Rattle.bihash_steps.specs.Seats.{CallerState, with_view, stamp_of}
-use Rattle.bihash_steps.specs.declared.view.Record.{Record}
-use Rattle.bihash_steps.specs.declared.view.View.{View}
+use Rattle.bihash_rule.specs.declared.view.Record.{Record}
+use Rattle.bihash_rule.specs.declared.view.View.{View}
 
 -- the steps of a split of the caller a: it loads the count n, and takes the next number
 module _ (a loaded taken : CallerState) (n kept : ℕ) (load : loaded ≡ with_view a (view_after_count a.view n)) (row : taken.row ≡ loaded.row)

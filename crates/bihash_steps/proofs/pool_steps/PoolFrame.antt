@@ -5,22 +5,22 @@ use lib.ListN.{get_elem?}
 use Rattle.std.specs.Prelude.{slice_index}
 use Rattle.atomic_table.specs.Table.{State}
 use Rattle.bihash_words.specs.Sizes.{Sizes}
-use Rattle.bihash_steps.specs.Words.{count_of, front_words, buckets, page_words}
-use Rattle.bihash_steps.specs.Callers.{known_at}
-use Rattle.bihash_steps.specs.Partition.{IsPartition}
-use Rattle.bihash_steps.specs.Buckets.{BucketState, HoldsBucketIf}
-use Rattle.bihash_steps.specs.PageStores.{StoreState, IsStore, all_used, IsListedIf, HoldsStore, HoldsStoreIf, NotesStore, HoldsBlockIf, LeftIf, runs_now}
-use Rattle.bihash_steps.specs.Views.{no_notes}
-use Rattle.bihash_steps.specs.WordRule.{TableState, IsView, WordRule}
+use Rattle.bihash_rule.specs.Words.{count_of, front_words, buckets, page_words}
+use Rattle.bihash_rule.specs.Callers.{known_at}
+use Rattle.bihash_rule.specs.Partition.{IsPartition}
+use Rattle.bihash_rule.specs.Buckets.{BucketState, HoldsBucketIf}
+use Rattle.bihash_rule.specs.PageStores.{StoreState, IsStore, all_used, IsListedIf, HoldsStore, HoldsStoreIf, NotesStore, HoldsBlockIf, LeftIf, runs_now}
+use Rattle.bihash_rule.specs.Views.{no_notes}
+use Rattle.bihash_rule.specs.WordRule.{TableState, IsView, WordRule}
 use Rattle.bihash_steps.specs.BucketSteps.{without_notes}
 use Rattle.bihash_steps.specs.StoreSteps.{holding}
-use Rattle.bihash_steps.specs.declared.view.Known.{Known}
-use Rattle.bihash_steps.specs.declared.view.LockedBucket.{LockedBucket}
-use Rattle.bihash_steps.specs.declared.view.PageStore.{PageStore}
-use Rattle.bihash_steps.specs.declared.view.ListedPage.{ListedPage}
-use Rattle.bihash_steps.specs.declared.view.LockedStore.{LockedStore}
-use Rattle.bihash_steps.specs.declared.view.HeldBlock.{HeldBlock}
-use Rattle.bihash_steps.specs.declared.view.View.{View}
+use Rattle.bihash_rule.specs.declared.view.Known.{Known}
+use Rattle.bihash_rule.specs.declared.view.LockedBucket.{LockedBucket}
+use Rattle.bihash_rule.specs.declared.view.PageStore.{PageStore}
+use Rattle.bihash_rule.specs.declared.view.ListedPage.{ListedPage}
+use Rattle.bihash_rule.specs.declared.view.LockedStore.{LockedStore}
+use Rattle.bihash_rule.specs.declared.view.HeldBlock.{HeldBlock}
+use Rattle.bihash_rule.specs.declared.view.View.{View}
 use Rattle.bihash_steps.proofs.Lists.{no_row}
 use Rattle.bihash_steps.proofs.CountWord.{held_still, others_apart, stays_at, kept_log}
 use Rattle.bihash_steps.proofs.NotedViews.{unnoted_view}

@@ -5,15 +5,15 @@ use mathlib.Core.Option.{some}
 use Rattle.std.specs.Prelude.{slice_index}
 use Rattle.atomic_table.specs.Table.{State, keeps, Allows}
 use Rattle.bihash_words.specs.Sizes.{Sizes}
-use Rattle.bihash_steps.specs.Words.{list_words}
-use Rattle.bihash_steps.specs.PageStores.{StoreState, returned_in}
-use Rattle.bihash_steps.specs.WordRule.{WordRule}
+use Rattle.bihash_rule.specs.Words.{list_words}
+use Rattle.bihash_rule.specs.PageStores.{StoreState, returned_in}
+use Rattle.bihash_rule.specs.WordRule.{WordRule}
 use Rattle.bihash_steps.specs.Steps.{ViewOfSeat}
 use Rattle.bihash_steps.specs.StoreSteps.{IsInStore, word_in, HasRoomFor, pool_word_at, TellsPoolWord}
-use Rattle.bihash_steps.specs.declared.view.PageStore.{PageStore}
-use Rattle.bihash_steps.specs.declared.view.LockedStore.{LockedStore}
-use Rattle.bihash_steps.specs.declared.view.HeldBlock.{HeldBlock}
-use Rattle.bihash_steps.specs.declared.view.View.{View}
+use Rattle.bihash_rule.specs.declared.view.PageStore.{PageStore}
+use Rattle.bihash_rule.specs.declared.view.LockedStore.{LockedStore}
+use Rattle.bihash_rule.specs.declared.view.HeldBlock.{HeldBlock}
+use Rattle.bihash_rule.specs.declared.view.View.{View}
 use Rattle.bihash_steps.specs.declared.pool.word.PoolWord.{PoolWord}
 use Rattle.bihash_steps.specs.declared.pool.word.PoolWord.TheVariants.{Used, Count, Listed}
 use Rattle.bihash_steps.proofs.pool_steps.Room.{room_for}

@@ -9,17 +9,17 @@ use Rattle.std.specs.Prelude.{is_some}
 use Rattle.atomic_table.specs.Table.{State, Act, keeps, Valid, stepped, carried_after, Allows}
 use Rattle.bihash_words.specs.Sizes.{Sizes}
 use Rattle.bihash_words.specs.Words.{bit}
-use Rattle.bihash_steps.specs.Words.{allocation_lock_of, returned_count_at}
-use Rattle.bihash_steps.specs.Partition.{IsPartition}
-use Rattle.bihash_steps.specs.PageStores.{StoreState, IsStore, returned_in, all_used, HoldsStore, LeftIf}
-use Rattle.bihash_steps.specs.WordRule.{WordRule}
+use Rattle.bihash_rule.specs.Words.{allocation_lock_of, returned_count_at}
+use Rattle.bihash_rule.specs.Partition.{IsPartition}
+use Rattle.bihash_rule.specs.PageStores.{StoreState, IsStore, returned_in, all_used, HoldsStore, LeftIf}
+use Rattle.bihash_rule.specs.WordRule.{WordRule}
 use Rattle.bihash_steps.specs.Steps.{ViewOfSeat}
 use Rattle.bihash_steps.specs.BucketSteps.{without_notes}
 use Rattle.bihash_steps.specs.StoreSteps.{holding, TellsStoreLock, store_opened, TellsStoreOpened}
-use Rattle.bihash_steps.specs.declared.view.PageStore.{PageStore}
-use Rattle.bihash_steps.specs.declared.view.Holdings.{Holdings}
-use Rattle.bihash_steps.specs.declared.view.LockedStore.{LockedStore}
-use Rattle.bihash_steps.specs.declared.view.View.{View}
+use Rattle.bihash_rule.specs.declared.view.PageStore.{PageStore}
+use Rattle.bihash_rule.specs.declared.view.Holdings.{Holdings}
+use Rattle.bihash_rule.specs.declared.view.LockedStore.{LockedStore}
+use Rattle.bihash_rule.specs.declared.view.View.{View}
 use Rattle.bihash_steps.proofs.Lists.{there}
 use Rattle.bihash_steps.proofs.CountWord.{front, not_lone}
 use Rattle.bihash_steps.proofs.Frames.{free_none, free_own}

@@ -6,16 +6,16 @@ use Rattle.std.specs.Prelude.{slice_index, slice_set}
 use Rattle.atomic_table.specs.Table.{keeps, Allows}
 use Rattle.bihash_words.specs.Sizes.{Sizes}
 use Rattle.bihash_words.specs.Words.{bit}
-use Rattle.bihash_steps.specs.Words.{returned_count_at, list_words, list_at, front_words, page_words, all_words, Stands}
-use Rattle.bihash_steps.specs.Partition.{IsPartition, run_of}
-use Rattle.bihash_steps.specs.PageStores.{StoreState, IsStore, returned_in, all_used, IsListed, IsListedIf, HoldsStore, HoldsBlock, HoldsBlockIf, run_in}
-use Rattle.bihash_steps.specs.WordRule.{WordRule}
+use Rattle.bihash_rule.specs.Words.{returned_count_at, list_words, list_at, front_words, page_words, all_words, Stands}
+use Rattle.bihash_rule.specs.Partition.{IsPartition, run_of}
+use Rattle.bihash_rule.specs.PageStores.{StoreState, IsStore, returned_in, all_used, IsListed, IsListedIf, HoldsStore, HoldsBlock, HoldsBlockIf, run_in}
+use Rattle.bihash_rule.specs.WordRule.{WordRule}
 use Rattle.bihash_steps.specs.Steps.{ViewOfSeat}
 use Rattle.bihash_steps.specs.StoreSteps.{holding, MayList, listing, TellsListed, MayReturn, relisted, TellsReturned}
-use Rattle.bihash_steps.specs.declared.view.PageStore.{PageStore}
-use Rattle.bihash_steps.specs.declared.view.LockedStore.{LockedStore}
-use Rattle.bihash_steps.specs.declared.view.HeldBlock.{HeldBlock}
-use Rattle.bihash_steps.specs.declared.view.View.{View}
+use Rattle.bihash_rule.specs.declared.view.PageStore.{PageStore}
+use Rattle.bihash_rule.specs.declared.view.LockedStore.{LockedStore}
+use Rattle.bihash_rule.specs.declared.view.HeldBlock.{HeldBlock}
+use Rattle.bihash_rule.specs.declared.view.View.{View}
 use Rattle.bihash_steps.proofs.CountWord.{front}
 use Rattle.bihash_steps.proofs.Frames.{list_inside}
 use Rattle.bihash_steps.proofs.OwnedWords.{block_keeps, runs_still}

@@ -7,16 +7,16 @@ use Rattle.std.proofs.lemmas.List.{get_or-take, length-take-le}
 use Rattle.atomic_table.specs.Table.{keeps, Allows}
 use Rattle.bihash_words.specs.Sizes.{Sizes}
 use Rattle.bihash_words.specs.Words.{bit}
-use Rattle.bihash_steps.specs.Words.{returned_count_at, front_words, page_at, block_words, page_words, all_words}
-use Rattle.bihash_steps.specs.Partition.{returned_at, run_of, IsPartition}
-use Rattle.bihash_steps.specs.PageStores.{IsStore, returned_in, all_used, HoldsBlock, run_in, runs_now}
-use Rattle.bihash_steps.specs.WordRule.{WordRule}
+use Rattle.bihash_rule.specs.Words.{returned_count_at, front_words, page_at, block_words, page_words, all_words}
+use Rattle.bihash_rule.specs.Partition.{returned_at, run_of, IsPartition}
+use Rattle.bihash_rule.specs.PageStores.{IsStore, returned_in, all_used, HoldsBlock, run_in, runs_now}
+use Rattle.bihash_rule.specs.WordRule.{WordRule}
 use Rattle.bihash_steps.specs.Steps.{ViewOfSeat}
 use Rattle.bihash_steps.specs.StoreSteps.{holding, unlisted, grown, TakesBlock, MayTakeReturned, TellsTakenReturned, MayTakeUnused, TellsTakenUnused}
-use Rattle.bihash_steps.specs.declared.view.PageStore.{PageStore}
-use Rattle.bihash_steps.specs.declared.view.LockedStore.{LockedStore}
-use Rattle.bihash_steps.specs.declared.view.HeldBlock.{HeldBlock}
-use Rattle.bihash_steps.specs.declared.view.View.{View}
+use Rattle.bihash_rule.specs.declared.view.PageStore.{PageStore}
+use Rattle.bihash_rule.specs.declared.view.LockedStore.{LockedStore}
+use Rattle.bihash_rule.specs.declared.view.HeldBlock.{HeldBlock}
+use Rattle.bihash_rule.specs.declared.view.View.{View}
 use Rattle.bihash_steps.proofs.CountWord.{front}
 use Rattle.bihash_steps.proofs.OwnedWords.{word_of_block}
 use Rattle.bihash_steps.proofs.Exchange.{returned_run, parted_unlisted, parted_grown}

@@ -5,7 +5,7 @@ use native.Mathlib.Decide.{ℕ_discrete, dec_lt}
 use Rattle.std.proofs.lemmas.Nat.{pow_below}
 use Rattle.std.proofs.lemmas.List.{length-take-le, length-drop, get_or-take, get_or-drop}
 use Rattle.bihash_words.specs.Sizes.{Sizes}
-use Rattle.bihash_steps.specs.Words.{list_words, lists_words, list_at, Stands}
+use Rattle.bihash_rule.specs.Words.{list_words, lists_words, list_at, Stands}
 use Rattle.bihash_steps.proofs.Frames.{lists_grow}
 
 -- powers of two differ

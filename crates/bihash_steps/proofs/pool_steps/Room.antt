@@ -12,15 +12,15 @@ use Rattle.std.proofs.lemmas.Map.Steps.{length-le_from_distinct_below}
 use Rattle.std.specs.Prelude.{slice_index}
 use Rattle.atomic_table.specs.Table.{State}
 use Rattle.bihash_words.specs.Sizes.{Sizes}
-use Rattle.bihash_steps.specs.Words.{list_words}
-use Rattle.bihash_steps.specs.Partition.{PageRun, returned_at, IsPartition}
-use Rattle.bihash_steps.specs.Buckets.{BucketState}
-use Rattle.bihash_steps.specs.PageStores.{returned_in, HoldsBlockIf, run_in, runs_now}
+use Rattle.bihash_rule.specs.Words.{list_words}
+use Rattle.bihash_rule.specs.Partition.{PageRun, returned_at, IsPartition}
+use Rattle.bihash_rule.specs.Buckets.{BucketState}
+use Rattle.bihash_rule.specs.PageStores.{returned_in, HoldsBlockIf, run_in, runs_now}
 use Rattle.bihash_steps.specs.StoreSteps.{relisted}
-use Rattle.bihash_steps.specs.WordRule.{WordRule}
-use Rattle.bihash_steps.specs.declared.view.PageStore.{PageStore}
-use Rattle.bihash_steps.specs.declared.view.HeldBlock.{HeldBlock}
-use Rattle.bihash_steps.specs.declared.view.View.{View}
+use Rattle.bihash_rule.specs.WordRule.{WordRule}
+use Rattle.bihash_rule.specs.declared.view.PageStore.{PageStore}
+use Rattle.bihash_rule.specs.declared.view.HeldBlock.{HeldBlock}
+use Rattle.bihash_rule.specs.declared.view.View.{View}
 use Rattle.bihash_steps.proofs.OwnedWords.{page_below}
 use Rattle.bihash_steps.proofs.Exchange.{returned_run, parted_relisted}
 

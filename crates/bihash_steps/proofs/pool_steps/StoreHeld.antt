@@ -5,18 +5,18 @@ use lib.ListN.{get_elem?}
 use Rattle.std.specs.Prelude.{slice_index}
 use Rattle.atomic_table.specs.Table.{State, keeps, Allows}
 use Rattle.bihash_words.specs.Sizes.{Sizes}
-use Rattle.bihash_steps.specs.Words.{count_of, front_words, buckets, page_at, block_words}
-use Rattle.bihash_steps.specs.Partition.{PageRun, Owner, of_bucket, held_by, IsPartition, run_of}
-use Rattle.bihash_steps.specs.Buckets.{HoldsBucketIf}
-use Rattle.bihash_steps.specs.PageStores.{HoldsBlock, HoldsBlockIf, all_used, run_in, run_held, runs_now}
-use Rattle.bihash_steps.specs.WordRule.{IsView, WordRule}
+use Rattle.bihash_rule.specs.Words.{count_of, front_words, buckets, page_at, block_words}
+use Rattle.bihash_rule.specs.Partition.{PageRun, Owner, of_bucket, held_by, IsPartition, run_of}
+use Rattle.bihash_rule.specs.Buckets.{HoldsBucketIf}
+use Rattle.bihash_rule.specs.PageStores.{HoldsBlock, HoldsBlockIf, all_used, run_in, run_held, runs_now}
+use Rattle.bihash_rule.specs.WordRule.{IsView, WordRule}
 use Rattle.bihash_steps.specs.Steps.{ViewOfSeat}
 use Rattle.bihash_steps.specs.StoreSteps.{holding, IsHeldWord, stored_at}
-use Rattle.bihash_steps.specs.declared.view.Extent.{Extent}
-use Rattle.bihash_steps.specs.declared.view.Known.{Known}
-use Rattle.bihash_steps.specs.declared.view.LockedBucket.{LockedBucket}
-use Rattle.bihash_steps.specs.declared.view.HeldBlock.{HeldBlock}
-use Rattle.bihash_steps.specs.declared.view.View.{View}
+use Rattle.bihash_rule.specs.declared.view.Extent.{Extent}
+use Rattle.bihash_rule.specs.declared.view.Known.{Known}
+use Rattle.bihash_rule.specs.declared.view.LockedBucket.{LockedBucket}
+use Rattle.bihash_rule.specs.declared.view.HeldBlock.{HeldBlock}
+use Rattle.bihash_rule.specs.declared.view.View.{View}
 use Rattle.bihash_steps.proofs.Lists.{no_row}
 use Rattle.bihash_steps.proofs.CountWord.{front, kept_log}
 use Rattle.bihash_steps.proofs.Frames.{Beside, free_none, grows_not, keeps_refl, stands_beside, store_keeps, store_lock_beside, moved}

@@ -6,17 +6,17 @@ ghost use Rattle.bihash_words.specs.Expiries.{no_recycling};
 ghost use Rattle.bihash_words.specs.declared.patch.Change.TheVariants.{Keep};
 ghost use Rattle.bihash_words.specs.declared.patch.Reply.TheVariants.{Full};
 ghost use Rattle.bihash_words.specs.Words.{FitsWord};
-ghost use Rattle.bihash_steps.specs.Callers.{known_at};
-ghost use Rattle.bihash_steps.specs.Buckets.{word_of, open_word};
-ghost use Rattle.bihash_steps.specs.Words.{bucket_at, page_at};
+ghost use Rattle.bihash_rule.specs.Callers.{known_at};
+ghost use Rattle.bihash_rule.specs.Buckets.{word_of, open_word};
+ghost use Rattle.bihash_rule.specs.Words.{bucket_at, page_at};
 ghost use Rattle.bihash_steps.specs.BucketSteps.{TellsBucket, TellsLock, IsLockedWord, TellsLockedWord, TellsStored, IsOpenWord, TellsOpenWord, TellsValid, TellsEntry, TellsEvent, without_lock, view_after_answer, view_after_write};
 ghost use Rattle.bihash_steps.specs.StoreSteps.{view_after_replace};
-ghost use Rattle.bihash_steps.specs.declared.view.Call.{Call};
-ghost use Rattle.bihash_steps.specs.declared.view.LockedBucket.{LockedBucket};
-ghost use Rattle.bihash_steps.specs.declared.view.OpenBucket.{OpenBucket};
+ghost use Rattle.bihash_rule.specs.declared.view.Call.{Call};
+ghost use Rattle.bihash_rule.specs.declared.view.LockedBucket.{LockedBucket};
+ghost use Rattle.bihash_rule.specs.declared.view.OpenBucket.{OpenBucket};
 
-use crate::view::View;
 use atomic_table::Play;
+use bihash_rule::View;
 use bihash_words::Shape;
 use std::marker::{Brand, PhantomData};
 

@@ -3,8 +3,8 @@ ghost use Rattle.std.specs.Prelude.{ℕ};
 ghost use Rattle.bihash_words.specs.Sizes.{sizes_of};
 ghost use Rattle.bihash_steps.specs.Steps.{TellsCount, TellsNumber, first_numbers, other_numbers, joining, view_after_spending, TellsAgreement};
 
-use crate::view::View;
 use atomic_table::{Join, Play, Split};
+use bihash_rule::View;
 use bihash_words::Shape;
 use std::marker::{Brand, PhantomData};
 

@@ -1,12 +1,12 @@
 //! What each kind of step on the page store, and on a block that no bucket has, tells its caller.
 ghost use Rattle.std.specs.Prelude.{◌≡◌, ℕ, ◌+◌, Some};
 ghost use Rattle.bihash_words.specs.Sizes.{sizes_of};
-ghost use Rattle.bihash_steps.specs.Words.{page_at};
+ghost use Rattle.bihash_rule.specs.Words.{page_at};
 ghost use Rattle.bihash_steps.specs.StoreSteps.{holding, TellsStoreLock, TellsStoreOpened, TellsPoolWord, TellsTakenReturned, TellsTakenUnused, IsHeldWord, stored_at, TellsListed, TellsReturned};
-ghost use Rattle.bihash_steps.specs.declared.view.HeldBlock.{HeldBlock};
+ghost use Rattle.bihash_rule.specs.declared.view.HeldBlock.{HeldBlock};
 
-use crate::view::View;
 use atomic_table::Play;
+use bihash_rule::View;
 use bihash_words::Shape;
 use std::marker::PhantomData;
 

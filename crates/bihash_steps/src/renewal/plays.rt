@@ -2,8 +2,8 @@
 ghost use Rattle.bihash_words.specs.Sizes.{sizes_of};
 ghost use Rattle.bihash_steps.specs.Renewals.{TellsRowWord};
 
-use crate::view::View;
 use atomic_table::Play;
+use bihash_rule::View;
 use bihash_words::Shape;
 use std::marker::PhantomData;
 

@@ -8,23 +8,25 @@ use Rattle.bihash_words.specs.Maps.{Pairs, most_pairs}
 use Rattle.bihash_words.specs.Pages.{page_of, word_paging}
 use Rattle.std.specs.Prelude.{◌≡◌, ◌≢◌, ℕ, ◌+◌, ◌^◌, ◌<◌, ◌≤◌, Bool, List, length, true, false, None, Some}
 use Rattle.bihash_words.specs.Patches.{IsStorable}
-use Rattle.bihash_words.specs.Sizes.{Sizes}
+use Rattle.bihash_words.specs.Sizes.{Sizes, sizes_of}
+use Rattle.bihash_words.specs.declared.shape.Shape.{Ghosts}
 use Rattle.bihash_words.specs.declared.patch.Change.{Change}
 use Rattle.bihash_words.specs.Words.{FitsWord, packed}
-use Rattle.bihash_steps.specs.Words.{buckets, block_words}
-use Rattle.bihash_steps.specs.Histories.{IsPrefix, IsWriteList, bounds_of}
-use Rattle.bihash_steps.specs.Callers.{known_at, opening_at}
-use Rattle.bihash_steps.specs.Blocks.{HoldsPair, IsBlockOf}
-use Rattle.bihash_steps.specs.Buckets.{word_of}
-use Rattle.bihash_steps.specs.Views.{nothing_held}
+use Rattle.bihash_rule.specs.Words.{buckets, block_words}
+use Rattle.bihash_rule.specs.Histories.{IsPrefix, IsWriteList, bounds_of}
+use Rattle.bihash_rule.specs.Callers.{known_at, opening_at}
+use Rattle.bihash_rule.specs.Blocks.{HoldsPair, IsBlockOf, places}
+use Rattle.bihash_rule.specs.Buckets.{word_of}
+use Rattle.bihash_rule.specs.Views.{nothing_held}
 use Rattle.bihash_steps.specs.BucketSteps.{with_history, locking, map_now}
 use Rattle.bihash_steps.specs.Seats.{CallerState}
-use Rattle.bihash_steps.specs.declared.view.Extent.{Extent}
-use Rattle.bihash_steps.specs.declared.view.Write.{Write}
-use Rattle.bihash_steps.specs.declared.view.LockedBucket.{LockedBucket}
-use Rattle.bihash_steps.specs.declared.view.View.{View}
+use Rattle.bihash_rule.specs.declared.view.Extent.{Extent}
+use Rattle.bihash_rule.specs.declared.view.Write.{Write}
+use Rattle.bihash_rule.specs.declared.view.LockedBucket.{LockedBucket}
+use Rattle.bihash_rule.specs.declared.view.View.{View}
+use Rattle.bihash_table.specs.declared.hashed_key.SeenBucket.{SeenBucket}
 use Rattle.bihash_table.specs.inner.OpenReads.{IsPairIn, OtherPairTells}
-use Rattle.bihash_table.specs.inner.Places.{IsFreeFor}
+use Rattle.bihash_rule.specs.Places.{IsFreeFor}
 
 -- The caller has the lock l of bucket b, whose word was this one, and nothing else. It knows the history
 -- whole and the words of the block, none of which it stored.
@@ -51,15 +53,23 @@ pub record IsLocked (z : Sizes) (v w : View) (b word : ℕ) : Type 0 where
   pub alone : v.lone ≡ true → length history ≤ length (known_at v.known b)
   pub has : HasLock z w b word lock
 
--- The caller of this row has the lock of bucket b for a change that it may make there, and this is told of the block.
-pub record UnderLock (z : Sizes) (row : _) (s : CallerState) (b word : ℕ) (change : Change)
-    (tells : Extent → List ℕ → Type 0) : Type 0 where
+-- The caller of this row has the lock of the bucket that was seen, for a change that it may make there. This is told of
+-- the key and the block.
+pub record UnderLock {A K : Type 0} (g : Ghosts A K) (row : _) (s : CallerState) (bucket : SeenBucket A K g) (change : Change)
+    (tells : Sizes → List ℕ → Extent → List ℕ → Type 0) : Type 0 where
   pub own : s.row ≡ row
   pub lock : LockedBucket
-  pub has : HasLock z s.view b word lock
-  pub unworn : length (known_at s.view.known b) < z.limit
+  pub has : HasLock (sizes_of g) s.view bucket.hashed.bucket bucket.word lock
+  pub unworn : length (known_at s.view.known bucket.hashed.bucket) < g.LIMIT
   pub storable : IsStorable change
-  pub told : tells lock.extent lock.now
+  pub told : tells (sizes_of g) (g.words_of bucket.hashed.key.now) lock.extent lock.now
+
+-- the same of a place of the block, before anything is told of it
+pub record HasPlace {A K : Type 0} (g : Ghosts A K) (row : _) (s : CallerState) (bucket : SeenBucket A K g) (i : ℕ) : Type 0 where
+  pub own : s.row ≡ row
+  pub lock : LockedBucket
+  pub has : HasLock (sizes_of g) s.view bucket.hashed.bucket bucket.word lock
+  pub inside : i < places lock.extent.page lock.extent.size.log2
 
 -- the key is new, and place i is free for it
 abbrev pub IsPlaceForNew : Sizes → List ℕ → ℕ → Extent → List ℕ → Type 0

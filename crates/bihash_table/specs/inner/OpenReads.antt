@@ -3,20 +3,20 @@ use Rattle.std.specs.Prelude.{◌≡◌, ◌≢◌, ℕ, ◌+◌, ◌-◌, ◌*�
 use Rattle.bihash_words.specs.Sizes.{Sizes, sizes_of}
 use Rattle.bihash_words.specs.declared.shape.Shape.{Ghosts}
 use Rattle.bihash_words.specs.Words.{FitsWord, packed}
-use Rattle.bihash_steps.specs.Words.{buckets, block_words, place_words}
-use Rattle.bihash_steps.specs.Histories.{IsPrefix}
-use Rattle.bihash_steps.specs.Callers.{known_at}
-use Rattle.bihash_steps.specs.Blocks.{HasPair, HoldsPair, IsBlockOf, key_in, places, value_in}
-use Rattle.bihash_steps.specs.Buckets.{AreReadIn, word_of}
-use Rattle.bihash_steps.specs.Views.{nothing_held}
+use Rattle.bihash_rule.specs.Words.{buckets, block_words, place_words}
+use Rattle.bihash_rule.specs.Histories.{IsPrefix}
+use Rattle.bihash_rule.specs.Callers.{known_at}
+use Rattle.bihash_rule.specs.Blocks.{HasPair, HoldsPair, IsBlockOf, key_in, places, value_in}
+use Rattle.bihash_rule.specs.Buckets.{AreReadIn, word_of}
+use Rattle.bihash_rule.specs.Views.{nothing_held}
 use Rattle.bihash_steps.specs.BucketSteps.{with_history, map_now, with_reading}
 use Rattle.bihash_steps.specs.Seats.{CallerState, with_view}
-use Rattle.bihash_steps.specs.declared.view.Write.{Write}
-use Rattle.bihash_steps.specs.declared.view.Extent.{Extent}
-use Rattle.bihash_steps.specs.declared.view.Notes.{Notes}
-use Rattle.bihash_steps.specs.declared.view.OpenBucket.{OpenBucket}
-use Rattle.bihash_steps.specs.declared.view.View.{View}
-use Rattle.bihash_table.specs.inner.Places.{HasPairOf, IsFreeFor, IsOpenTo, IsCrowdedFor}
+use Rattle.bihash_rule.specs.declared.view.Write.{Write}
+use Rattle.bihash_rule.specs.declared.view.Extent.{Extent}
+use Rattle.bihash_rule.specs.declared.view.Notes.{Notes}
+use Rattle.bihash_rule.specs.declared.view.OpenBucket.{OpenBucket}
+use Rattle.bihash_rule.specs.declared.view.View.{View}
+use Rattle.bihash_rule.specs.Places.{HasPairOf, IsFreeFor, IsOpenTo, IsCrowdedFor}
 
 -- The caller noted an open bucket whose unlocked word was this one, and so a block with this extent. Its
 -- words may be loaded, whatever became of them.

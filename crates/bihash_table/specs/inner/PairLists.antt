@@ -6,13 +6,13 @@ use Rattle.std.specs.Ordering.{eq_by_cmp, nat_cmp}
 use Rattle.std.specs.Cmp.Lexicographic.{slice_cmp}
 use Rattle.bihash_words.specs.Sizes.{Sizes, sizes_of}
 use Rattle.bihash_words.specs.declared.shape.Shape.{Ghosts}
-use Rattle.bihash_steps.specs.Histories.{IsWriteList, bucket_of}
-use Rattle.bihash_steps.specs.Callers.{IsLawfulCaller, known_at, opening_at}
-use Rattle.bihash_steps.specs.Blocks.{HoldsPair, IsBlockOf}
+use Rattle.bihash_rule.specs.Histories.{IsWriteList, bucket_of}
+use Rattle.bihash_rule.specs.Callers.{IsLawfulCaller, known_at, opening_at}
+use Rattle.bihash_rule.specs.Blocks.{HoldsPair, IsBlockOf}
 use Rattle.bihash_steps.specs.Seats.{CallerState}
-use Rattle.bihash_steps.specs.Views.{nothing_held}
-use Rattle.bihash_steps.specs.declared.view.Extent.{Extent}
-use Rattle.bihash_steps.specs.declared.view.Known.{Known}
+use Rattle.bihash_rule.specs.Views.{no_notes, nothing_held}
+use Rattle.bihash_rule.specs.declared.view.Extent.{Extent}
+use Rattle.bihash_rule.specs.declared.view.Known.{Known}
 use Rattle.bihash_table.specs.Closing.{keys_of, map_in}
 
 -- The pairs of the list are those that `has` has, and each key stands once.
@@ -57,9 +57,10 @@ abbrev pub AddsBlock : {A K : Type 0} → Ghosts A K → Extent → List ℕ →
 AddsBlock g e block old new = (known : Known) (b : ℕ) → IsBlockIn (sizes_of g) known b e block → ListsBuckets g known b old
     → ListsBuckets g known (b + 1) new
 
--- the caller belongs to this row, holds nothing, is lone and lawful
+-- the caller belongs to this row, holds and notes nothing, is lone and lawful
 pub record IsIdleAndLone (z : Sizes) (row : _) (s : CallerState) : Type 0 where
   pub own : s.row ≡ row
   pub free : s.view.holds ≡ nothing_held
   pub lone : s.view.lone ≡ true
   pub lawful : IsLawfulCaller z s.view
+  pub bare : s.view.notes ≡ no_notes

@@ -1,12 +1,12 @@
 -- A lone caller that loads the words of its row, one after the other, and the blocks among them.
 use Rattle.std.specs.Prelude.{◌≡◌, ◌≤◌, ◌+◌, ◌^◌, ℕ, List, length}
 use Rattle.bihash_words.specs.Sizes.{Sizes}
-use Rattle.bihash_steps.specs.Words.{Stands, all_words, block_words, page_at}
-use Rattle.bihash_steps.specs.Blocks.{places}
-use Rattle.bihash_steps.specs.Callers.{IsLawfulCaller}
+use Rattle.bihash_rule.specs.Words.{Stands, all_words, block_words, page_at}
+use Rattle.bihash_rule.specs.Blocks.{places}
+use Rattle.bihash_rule.specs.Callers.{IsLawfulCaller}
 use Rattle.bihash_steps.specs.Renewals.{AreRowWords}
 use Rattle.bihash_steps.specs.Seats.{CallerState, with_view}
-use Rattle.bihash_steps.specs.declared.view.Extent.{Extent}
+use Rattle.bihash_rule.specs.declared.view.Extent.{Extent}
 use Rattle.bihash_table.specs.inner.Scans.{IsWordOf}
 
 -- the same caller, lawful, whatever it notes now

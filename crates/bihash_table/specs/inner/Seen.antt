@@ -1,5 +1,5 @@
 -- A bucket that was seen without its lock, with what was read of it, and its lock after that.
-use Rattle.std.specs.Prelude.{◌≡◌, ◌≢◌, ◌<◌, ◌≤◌, ℕ, Bool, true, false, List, length, Option, None, Some, IfSome, IfNone, is_some}
+use Rattle.std.specs.Prelude.{◌≡◌, ◌≢◌, ◌<◌, ◌≤◌, ℕ, Bool, true, false, List, length, Option, None, Some, IfSome, IfNone, is_some, Result}
 use Rattle.std.specs.FinMap.{get, len}
 use Rattle.bihash_words.specs.Maps.{Event, Pairs, IsEvent, effect_of, most_pairs}
 use Rattle.bihash_words.specs.Patches.{IsStorable}
@@ -8,21 +8,27 @@ use Rattle.bihash_words.specs.declared.patch.Change.{Change}
 use Rattle.bihash_words.specs.declared.patch.Change.TheVariants.{Keep, Set}
 use Rattle.bihash_words.specs.declared.patch.Reply.{Reply}
 use Rattle.bihash_words.specs.declared.patch.Reply.TheVariants.{Full, NoPages}
+use Rattle.bihash_words.specs.declared.expiry.Expiry
 use Rattle.bihash_words.specs.declared.shape.Shape.{Ghosts}
-use Rattle.bihash_steps.specs.Histories.{bounds_of, is_changed}
-use Rattle.bihash_steps.specs.Callers.{IsLawfulCaller, known_at}
-use Rattle.bihash_steps.specs.Blocks.{IsBlockOf, places}
-use Rattle.bihash_steps.specs.Buckets.{AreReadIn}
+use Rattle.bihash_rule.specs.Histories.{bounds_of, is_changed}
+use Rattle.bihash_rule.specs.Callers.{IsLawfulCaller, known_at}
+use Rattle.bihash_rule.specs.Blocks.{IsBlockOf, places}
+use Rattle.bihash_rule.specs.Buckets.{AreReadIn}
 use Rattle.bihash_steps.specs.BucketSteps.{map_now}
 use Rattle.bihash_steps.specs.Seats.{CallerState, with_view}
-use Rattle.bihash_steps.specs.declared.view.Extent.{Extent}
-use Rattle.bihash_steps.specs.declared.view.OpenBucket.{OpenBucket}
-use Rattle.bihash_steps.specs.declared.view.View.{View}
+use Rattle.bihash_rule.specs.declared.view.Extent.{Extent}
+use Rattle.bihash_rule.specs.declared.view.OpenBucket.{OpenBucket}
+use Rattle.bihash_rule.specs.declared.view.View.{View}
 use Rattle.bihash_steps.specs.BucketCalls.{event}
+use Rattle.bihash_table.specs.Answers.{recycled_update}
+use Rattle.bihash_table.specs.Tries.{TriedOver}
+use Rattle.bihash_table.specs.declared.contended.Contended.{Contended}
+use Rattle.bihash_table.specs.declared.entrant.Entrant.{Entrant}
+use Rattle.bihash_table.specs.declared.hashed_key.SeenBucket.{SeenBucket}
 use Rattle.bihash_table.specs.inner.Locked.{IsLocked}
 use Rattle.bihash_table.specs.inner.OpenReads.{HasOpen, IsOpened, IsPairIn, value_of}
 use Rattle.bihash_table.specs.Promise.{IsContended}
-use Rattle.bihash_table.specs.inner.Places.{ArePlaces, IsCrowdedFor}
+use Rattle.bihash_rule.specs.Places.{ArePlaces, IsCrowdedFor}
 
 -- The caller saw bucket b without its lock, and read words of its block since. What they tell of the block
 -- holds on the condition that they are its words.
@@ -74,38 +80,42 @@ pub record TellsLockTry (z : Sizes) (s t : CallerState) (b word : ℕ) (won : Bo
 
 -- ---- What a call may do on what was seen
 
--- The caller of this row saw bucket b, and may give this reply, which is no write and no refusal for want of pages or
+-- The caller of this row saw the bucket, and may give this reply, which is no write and no refusal for want of pages or
 -- of room.
-pub record MayReply {A K : Type 0} (g : Ghosts A K) (row : _) (s : CallerState) (b word : ℕ) (key : K)
+pub record MayReply {A K : Type 0} (g : Ghosts A K) (row : _) (s : CallerState) (bucket : SeenBucket A K g)
     (found : Option ℕ) (change : Change) (reply : Reply) : Type 0 where
   pub own : s.row ≡ row
-  pub seen : HasSeen (sizes_of g) s.view b word (IsAnswerOf (sizes_of g) (length (known_at s.view.known b))
-      (event (g.words_of key) found change reply))
+  pub seen : HasSeen (sizes_of g) s.view bucket.hashed.bucket bucket.word
+      (IsAnswerOf (sizes_of g) (length (known_at s.view.known bucket.hashed.bucket))
+      (event (g.words_of bucket.hashed.key.now) found change reply))
   pub reads : is_changed reply ≡ false
   pub paged : (log2 left : ℕ) → reply ≡ NoPages log2 left → ⊥
   pub roomy : reply ≢ Full
 
--- The caller of this row saw bucket b, and what a look for the key's pair found there.
-pub record Found {A K : Type 0} (g : Ghosts A K) (row : _) (s : CallerState) (b word : ℕ) (key : K)
+-- The caller of this row saw the bucket, and what a look for the key's pair found there.
+pub record Found {A K : Type 0} (g : Ghosts A K) (row : _) (s : CallerState) (bucket : SeenBucket A K g)
     (pair : Option (ℕ × ℕ)) : Type 0 where
   pub own : s.row ≡ row
-  pub seen : HasSeen (sizes_of g) s.view b word (IsPairIn (sizes_of g) (g.words_of key) pair)
+  pub seen : HasSeen (sizes_of g) s.view bucket.hashed.bucket bucket.word
+      (IsPairIn (sizes_of g) (g.words_of bucket.hashed.key.now) pair)
 
 -- The same, where a change of that was decided and the version isn't used up.
-pub record WantsChange {A K : Type 0} (g : Ghosts A K) (row : _) (s : CallerState) (b word : ℕ) (key : K)
+pub record WantsChange {A K : Type 0} (g : Ghosts A K) (row : _) (s : CallerState) (bucket : SeenBucket A K g)
     (pair : Option (ℕ × ℕ)) (change : Change) : Type 0 where
   pub own : s.row ≡ row
-  pub seen : HasSeen (sizes_of g) s.view b word (IsPairIn (sizes_of g) (g.words_of key) pair)
-  pub unworn : length (known_at s.view.known b) < g.LIMIT
+  pub seen : HasSeen (sizes_of g) s.view bucket.hashed.bucket bucket.word
+      (IsPairIn (sizes_of g) (g.words_of bucket.hashed.key.now) pair)
+  pub unworn : length (known_at s.view.known bucket.hashed.bucket) < g.LIMIT
   pub wanted : effect_of change (value_of pair) ≢ Keep
   pub storable : IsStorable change
 
--- The caller of this row saw bucket b, which has no free place for a new key that is to have this value.
-pub record WantsRoom {A K : Type 0} (g : Ghosts A K) (row : _) (s : CallerState) (b word : ℕ) (key : K)
+-- The caller of this row saw the bucket, which has no free place for a new key that is to have this value.
+pub record WantsRoom {A K : Type 0} (g : Ghosts A K) (row : _) (s : CallerState) (bucket : SeenBucket A K g)
     (value : ℕ) : Type 0 where
   pub own : s.row ≡ row
-  pub seen : HasSeen (sizes_of g) s.view b word (IsNewAndCrowded (sizes_of g) (g.words_of key))
-  pub unworn : length (known_at s.view.known b) < g.LIMIT
+  pub seen : HasSeen (sizes_of g) s.view bucket.hashed.bucket bucket.word
+      (IsNewAndCrowded (sizes_of g) (g.words_of bucket.hashed.key.now))
+  pub unworn : length (known_at s.view.known bucket.hashed.bucket) < g.LIMIT
   pub storable : IsStorable (Set value)
 
 -- the places of a bucket that has no room for the new key
@@ -114,16 +124,24 @@ IsFullFor g key ps e block = IsNewAndCrowded (sizes_of g) (g.words_of key) e blo
     × ((m : Pairs) → IsBlockOf (sizes_of g) e block m → most_pairs (bounds_of (sizes_of g)) ≤ len m)
     × (length ps ≡ places e.page e.size.log2)
 
--- The caller of this row saw bucket b, which is full, with these places. A new key is to have this value.
-pub record WantsPlace {A K : Type 0} (g : Ghosts A K) (row : _) (s : CallerState) (b word : ℕ) (key : K)
+-- The caller of this row saw the bucket, which is full, with these places. A new key is to have this value.
+pub record WantsPlace {A K : Type 0} (g : Ghosts A K) (row : _) (s : CallerState) (bucket : SeenBucket A K g)
     (value : ℕ) (ps : List (K × ℕ)) : Type 0 where
   pub own : s.row ≡ row
-  pub seen : HasSeen (sizes_of g) s.view b word (IsFullFor g key ps)
+  pub seen : HasSeen (sizes_of g) s.view bucket.hashed.bucket bucket.word (IsFullFor g bucket.hashed.key.now ps)
   pub count : length ps ≡ places seen.seen.extent.page seen.seen.extent.size.log2
-  pub unworn : length (known_at s.view.known b) < g.LIMIT
+  pub unworn : length (known_at s.view.known bucket.hashed.bucket) < g.LIMIT
   pub storable : IsStorable (Set value)
 
--- The caller of this row saw bucket b, and may be refused so.
-pub record MayRefuse {A K : Type 0} (g : Ghosts A K) (row : _) (s : CallerState) (b word : ℕ) (call : Event) : Type 0 where
+-- The caller of this row saw the bucket, and may be refused for want of room: its expiry removes no pair.
+pub record MayRefuse {A K : Type 0} (g : Ghosts A K) (row : _) (s : CallerState) (bucket : SeenBucket A K g) (value : ℕ)
+    (is_expired : ℕ → Bool) : Type 0 where
   pub own : s.row ≡ row
-  pub seen : HasSeen (sizes_of g) s.view b word (IsAnswerOf (sizes_of g) (length (known_at s.view.known b)) call)
+  pub seen : HasSeen (sizes_of g) s.view bucket.hashed.bucket bucket.word
+      (IsAnswerOf (sizes_of g) (length (known_at s.view.known bucket.hashed.bucket))
+      (recycled_update (g.words_of bucket.hashed.key.now) None (Set value) is_expired None Full))
+
+-- One try to enter a new key in the bucket that was seen, with a value and an expiry.
+abbrev pub TriedToEnter : {A K E : Type 0} (g : Ghosts A K) (x : Expiry.Ghosts E) (s t : CallerState) → SeenBucket A K g → Entrant E
+    → Result Reply Contended → Type 0
+TriedToEnter g x s t bucket entrant r = TriedOver g s t bucket.hashed.key.now None (Set entrant.value) (x.is_expired entrant.expiry.now) r

@@ -2,12 +2,12 @@
 use Rattle.std.specs.Prelude.{◌≡◌, ◌⊎◌, ℕ, ◌+◌, ◌*◌, ◌^◌, ◌<◌, ◌≤◌, Bool, false, List, length, slice_index, Some}
 use Rattle.bihash_words.specs.Sizes.{Sizes}
 use Rattle.bihash_words.specs.Words.{FitsWord, packed}
-use Rattle.bihash_steps.specs.Words.{place_words}
-use Rattle.bihash_steps.specs.Blocks.{places}
-use Rattle.bihash_steps.specs.Buckets.{word_of}
+use Rattle.bihash_rule.specs.Words.{place_words}
+use Rattle.bihash_rule.specs.Blocks.{places}
+use Rattle.bihash_rule.specs.Buckets.{word_of}
 use Rattle.bihash_steps.specs.Seats.{CallerState}
-use Rattle.bihash_steps.specs.declared.view.LockedBucket.{LockedBucket}
-use Rattle.bihash_steps.specs.declared.view.View.{View}
+use Rattle.bihash_rule.specs.declared.view.LockedBucket.{LockedBucket}
+use Rattle.bihash_rule.specs.declared.view.View.{View}
 
 -- a place of the block that the caller has locked, in the bucket whose word was this one
 pub record HoldsPlace (z : Sizes) (v : View) (word place : ℕ) : Type 0 where

@@ -1,7 +1,7 @@
 use Rattle.std.proofs.Common.{◌≡◌, ℕ, [], ap, sym, subst, refl, le_refl, Option, None}
-use Rattle.bihash_steps.specs.Callers.{IsLawfulCaller}
+use Rattle.bihash_rule.specs.Callers.{IsLawfulCaller}
 use Rattle.bihash_steps.specs.Seats.{CanAct, stamp_of}
-use Rattle.bihash_steps.specs.Words.{IsFresh}
+use Rattle.bihash_rule.specs.Words.{IsFresh}
 use Rattle.bihash_steps.specs.Steps.{ViewOfSeat}
 use Rattle.bihash_steps.proofs.Fresh.{starts, first_lawful}
 use Rattle.bihash_steps.proofs.open.open_row.Goals as goal

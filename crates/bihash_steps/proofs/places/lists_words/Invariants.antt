@@ -1,6 +1,6 @@
 use Rattle.std.proofs.Common.{◌≡◌}
 use Rattle.bihash_words.specs.Sizes.{sizes_of}
-use Rattle.bihash_steps.specs.Words.{lists_words}
+use Rattle.bihash_rule.specs.Words.{lists_words}
 use Rattle.bihash_steps.proofs.places.lists_words.Given as goal
 
 abbrev pub invariant-loop-smaller : goal.invariant-loop-smaller

@@ -2,7 +2,7 @@ use Rattle.std.proofs.Common.{◌∙◌, ℕ, ◌^◌, ◌<◌, ◌≤◌, pow_m
 use Rattle.std.specs.Prelude.{slice_index}
 use Rattle.bihash_words.specs.Sizes.{sizes_of}
 use Rattle.bihash_words.specs.declared.block_size.BlockSize.{BlockSize}
-use Rattle.bihash_steps.specs.Words.{buckets}
+use Rattle.bihash_rule.specs.Words.{buckets}
 use Rattle.bihash_steps.proofs.RenewedWords.{renewed_more, packed_anew}
 use Rattle.bihash_steps.proofs.renewal.renewed_words.Goals as goal
 

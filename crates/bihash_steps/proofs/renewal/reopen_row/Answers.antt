@@ -1,13 +1,13 @@
 use Rattle.std.proofs.Common.{◌≡◌, ◌∙◌, ℕ, List, [], length, ap, sym, subst, refl, le_refl, Option, None}
 use Rattle.atomic_table.specs.Table.{opening}
 use Rattle.bihash_words.specs.Sizes.{sizes_of}
-use Rattle.bihash_steps.specs.Callers.{IsLawfulCaller}
+use Rattle.bihash_rule.specs.Callers.{IsLawfulCaller}
 use Rattle.bihash_steps.specs.Seats.{CanAct, stamp_of}
-use Rattle.bihash_steps.specs.Views.{opening_view}
-use Rattle.bihash_steps.specs.WordRule.{WordRule}
+use Rattle.bihash_rule.specs.Views.{opening_view}
+use Rattle.bihash_rule.specs.WordRule.{WordRule}
 use Rattle.bihash_steps.specs.Renewals.{AreRenewed, IsRenewed}
 use Rattle.bihash_steps.specs.Steps.{ViewOfSeat}
-use Rattle.bihash_steps.specs.declared.view.Openings.{Openings}
+use Rattle.bihash_rule.specs.declared.view.Openings.{Openings}
 use Rattle.bihash_steps.proofs.RenewedRows.{reopens, renewed_lawful, is_renewed, has_fields}
 use Rattle.bihash_steps.proofs.renewal.reopen_row.Goals as goal
 

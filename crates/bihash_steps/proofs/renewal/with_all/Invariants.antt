@@ -1,5 +1,5 @@
 use Rattle.bihash_words.specs.Sizes.{sizes_of}
-use Rattle.bihash_steps.specs.Words.{used_mark_of}
+use Rattle.bihash_rule.specs.Words.{used_mark_of}
 use Rattle.bihash_steps.specs.Renewals.{openings_after}
 use Rattle.bihash_steps.proofs.renewal.with_all.Given as goal
 

@@ -1,5 +1,5 @@
 use Rattle.bihash_words.specs.Sizes.{sizes_of}
-use Rattle.bihash_steps.specs.declared.view.HeldBlock.{HeldBlock}
+use Rattle.bihash_rule.specs.declared.view.HeldBlock.{HeldBlock}
 use Rattle.bihash_table.specs.inner.Copying.{HasBlock}
 use Rattle.bihash_table.proofs.Copies.{ArePlaced}
 use Rattle.bihash_table.proofs.block.write_block.Given as goal

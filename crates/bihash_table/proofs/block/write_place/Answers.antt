@@ -1,7 +1,7 @@
 use Rattle.std.proofs.Common.{◌<◌, ◌*◌, ◌+◌, arith, subst}
 use Rattle.bihash_words.specs.Sizes.{sizes_of}
-use Rattle.bihash_steps.specs.Blocks.{places}
-use Rattle.bihash_steps.specs.declared.view.HeldBlock.{HeldBlock}
+use Rattle.bihash_rule.specs.Blocks.{places}
+use Rattle.bihash_rule.specs.declared.view.HeldBlock.{HeldBlock}
 use Rattle.bihash_table.proofs.Copies.{next_word, placed, same_block, stored_inside, stored_more, stored_none}
 use Rattle.bihash_table.proofs.block.write_place.Goals as goal
 

@@ -1,6 +1,6 @@
 use Rattle.std.proofs.Common.{◌≡◌, ◌≤◌, length}
 use Rattle.bihash_words.specs.Sizes.{sizes_of}
-use Rattle.bihash_steps.specs.declared.view.HeldBlock.{HeldBlock}
+use Rattle.bihash_rule.specs.declared.view.HeldBlock.{HeldBlock}
 use Rattle.bihash_table.specs.inner.Copying.{HasBlock}
 use Rattle.bihash_table.proofs.Copies.{IsStored}
 use Rattle.bihash_table.proofs.block.write_place.Given as goal

@@ -2,7 +2,7 @@ use Rattle.std.proofs.Common.{◌∙◌, None, ap, arith, refl, sym}
 use Rattle.bihash_words.specs.Sizes.{sizes_of}
 use Rattle.bihash_words.specs.declared.patch.Change.TheVariants.{Set}
 use Rattle.bihash_steps.specs.BucketSteps.{map_now}
-use Rattle.bihash_steps.specs.declared.view.View.{View}
+use Rattle.bihash_rule.specs.declared.view.View.{View}
 use Rattle.bihash_steps.specs.Seats.{CallerState}
 use Rattle.bihash_table.specs.Answers.{locks_of}
 use Rattle.bihash_table.proofs.PlaceWrites.{filled, may_fill, value_is_stored}
@@ -13,11 +13,8 @@ use Rattle.bihash_table.proofs.StoredWords.{holds_stored, store_told}
 use Rattle.bihash_table.proofs.Tries.{finished_write}
 use Rattle.bihash_table.proofs.change.fill.Goals as goal
 
-pub store_key-requires-clause-own : goal.store_key-requires-clause-own
-store_key-requires-clause-own g c = c.requires.own
-
-pub store_key-requires-clause-lock : goal.store_key-requires-clause-lock
-store_key-requires-clause-lock g c = (c.requires.lock, c.requires.has, c.requires.told.1.inside)
+pub store_key-requires : goal.store_key-requires
+store_key-requires g c = let h = c.requires in record { own = h.own; lock = h.lock; has = h.has; inside = h.told.1.inside }
 
 pub store_word-requires : goal.store_word-requires
 store_word-requires g c = let h = c.requires in record {

@@ -4,7 +4,7 @@ use Rattle.bihash_words.specs.declared.patch.Change.TheVariants.{Remove}
 use Rattle.bihash_table.proofs.SameCallers.{own_through}
 use Rattle.bihash_table.proofs.OpenReadLemmas.{may_read}
 use Rattle.bihash_table.proofs.SeenBuckets.{seen_more}
-use Rattle.bihash_table.proofs.Tries.{beside, tried_locked, tried_not, tried_read, under_as, under_lock, unworn_read}
+use Rattle.bihash_table.proofs.Tries.{beside, tried_locked, tried_not, tried_read, under_lock, unworn_read}
 use Rattle.bihash_table.proofs.change.remove.Goals as goal
 
 pub has_other_pair-other-requires : goal.has_other_pair-other-requires
@@ -26,9 +26,9 @@ pub remove_last-requires : goal.remove_last-requires
 remove_last-requires g c =
     let z = sizes_of g.S.Shape in
     let read = c.has_other_pair-other.ensures in
-    under_as (under_lock g.S.Shape c.has_other_pair-other.new.seat _ _ _ Remove (own_through c.args.seat.now _ _ read.same c.requires.own)
+    under_lock g.S.Shape c.has_other_pair-other.new.seat _ c.args.seen.now Remove (own_through c.args.seat.now _ _ read.same c.requires.own)
     (unworn_read g.S.Shape c.args.seat.now _ _ read c.requires.unworn) tt (seen_more z _ _ _ _ read.saw c.requires.seen) c.lock_if_unchanged.ensures
-    c.if-not-lock_if_unchanged.false)
+    c.if-not-lock_if_unchanged.false
     (λ told. beside z (g.S.Shape.words_of c.args.seen.now.hashed.key.now) c.args.pair c.if-not-other.true _ _ told)
 
 pub returns-then-not-other : goal.returns-then-not-other
@@ -42,9 +42,9 @@ pub vacate-requires : goal.vacate-requires
 vacate-requires g c =
     let z = sizes_of g.S.Shape in
     let read = c.has_other_pair-other.ensures in
-    under_as (under_lock g.S.Shape c.has_other_pair-other.new.seat _ _ _ Remove (own_through c.args.seat.now _ _ read.same c.requires.own)
+    under_lock g.S.Shape c.has_other_pair-other.new.seat _ c.args.seen.now Remove (own_through c.args.seat.now _ _ read.same c.requires.own)
     (unworn_read g.S.Shape c.args.seat.now _ _ read c.requires.unworn) tt (seen_more z _ _ _ _ read.saw c.requires.seen) c.lock_if_unchanged.ensures
-    c.if-not-lock_if_unchanged.false)
+    c.if-not-lock_if_unchanged.false
     (λ told. beside z (g.S.Shape.words_of c.args.seen.now.hashed.key.now) c.args.pair c.if-not-other.false _ _ told)
 
 pub returns : goal.returns

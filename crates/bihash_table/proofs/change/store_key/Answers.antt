@@ -1,11 +1,11 @@
 use Rattle.std.proofs.Common.{◌≡◌, ◌∙◌, ◌+◌, ◌*◌, ◌<◌, ℕ, Some, arith, refl, subst, sym}
 use Rattle.std.specs.Prelude.{slice_index}
 use Rattle.bihash_words.specs.Sizes.{sizes_of}
-use Rattle.bihash_steps.specs.Words.{place_words}
-use Rattle.bihash_steps.specs.Blocks.{places}
+use Rattle.bihash_rule.specs.Words.{place_words}
+use Rattle.bihash_rule.specs.Blocks.{places}
 use Rattle.bihash_steps.specs.BucketSteps.{with_lock, stored_in}
 use Rattle.bihash_steps.specs.Seats.{CallerState, with_view}
-use Rattle.bihash_steps.specs.declared.view.LockedBucket.{LockedBucket}
+use Rattle.bihash_rule.specs.declared.view.LockedBucket.{LockedBucket}
 use Rattle.bihash_table.specs.inner.Stores.{HasStored, HoldsWord}
 use Rattle.bihash_table.proofs.PlaceReads.{same_lock}
 use Rattle.bihash_table.proofs.SameCallers.{own_through, same_through}
@@ -14,23 +14,23 @@ use Rattle.bihash_table.proofs.change.store_key.Goals as goal
 
 pub held_word-requires : goal.held_word-requires
 held_word-requires g c =
-    let lock = c.requires.lock in let key = g.S.Shape.words_of c.args.seen.now.hashed.key.now in
+    let h = c.requires in let key = g.S.Shape.words_of c.args.seen.now.hashed.key.now in
     record {
       own = own_through c.args.seat.now _ _ c.loop-i.invariant.0 c.requires.own;
-      held = holds_stored (sizes_of g.S.Shape) c.args.seat.now.view c.args.seen.now.hashed.bucket c.args.seen.now.word lock.0 lock.1
-          c.loop-i.seat.view c.args.place lock.2 key c.loop-i.i (c.loop-i.invariant.1 lock.0 lock.1);
+      held = holds_stored (sizes_of g.S.Shape) c.args.seat.now.view c.args.seen.now.hashed.bucket c.args.seen.now.word h.lock h.has
+          c.loop-i.seat.view c.args.place h.inside key c.loop-i.i (c.loop-i.invariant.1 h.lock h.has);
       inside = let below = c.loop-i-test.true in let same = c.WORDS-i-end.ensures in omega arith;
     }
 
 pub store_word-requires : goal.store_word-requires
 store_word-requires g c =
     let z = sizes_of g.S.Shape in
-    let lock = c.requires.lock in let key = g.S.Shape.words_of c.args.seen.now.hashed.key.now in
+    let h = c.requires in let key = g.S.Shape.words_of c.args.seen.now.hashed.key.now in
     subst (λ (s : CallerState). HoldsWord z c.args.row.now s c.args.seen.now.word c.args.place c.loop-i.i) (sym c.held_word.ensures.same)
     record {
       own = own_through c.args.seat.now _ _ c.loop-i.invariant.0 c.requires.own;
-      held = holds_stored z c.args.seat.now.view c.args.seen.now.hashed.bucket c.args.seen.now.word lock.0 lock.1 c.loop-i.seat.view
-          c.args.place lock.2 key c.loop-i.i (c.loop-i.invariant.1 lock.0 lock.1);
+      held = holds_stored z c.args.seat.now.view c.args.seen.now.hashed.bucket c.args.seen.now.word h.lock h.has c.loop-i.seat.view
+          c.args.place h.inside key c.loop-i.i (c.loop-i.invariant.1 h.lock h.has);
       inside = let below = c.loop-i-test.true in let same = c.WORDS-i-end.ensures in omega arith;
     }
 
@@ -51,7 +51,7 @@ loop-i-preserved-then-held_word-part g c =
       λ lock has.
           let inside : i < places lock.extent.page lock.extent.size.log2 =
           subst (λ (l : LockedBucket). i < places l.extent.page l.extent.size.log2)
-          (same_lock z v b word c.requires.lock.0 lock c.requires.lock.1 has) c.requires.lock.2 in
+          (same_lock z v b word c.requires.lock lock c.requires.has has) c.requires.inside in
           let h = c.loop-i.invariant.1 lock has in
           subst (λ (s : CallerState). HasStored z v s.view lock i key (c.loop-i.i + 1)) back
           (stored_same z v b word lock has w i inside key c.loop-i.i h c.held_word.result
@@ -64,7 +64,7 @@ loop-i-preserved g c =
     let z = sizes_of g.S.Shape in let v = c.args.seat.now.view in let w = c.loop-i.seat.view in
     let key = g.S.Shape.words_of c.args.seen.now.hashed.key.now in let b = c.args.seen.now.hashed.bucket in
     let word = c.args.seen.now.word in let i = c.args.place in
-    let own = c.requires.lock in let mine = c.loop-i.invariant.1 own.0 own.1 in
+    let own = c.requires in let mine = c.loop-i.invariant.1 own.lock own.has in
     let small : c.loop-i.i < g.S.Shape.WORDS =
     let below = c.loop-i-test.true in let same = c.WORDS-i-end.ensures in omega arith in
     let at : ℕ = i * place_words z + c.loop-i.i in
@@ -72,10 +72,10 @@ loop-i-preserved g c =
     → c.store_word.new.seat ≡ with_view s (with_lock s.view (Some (stored_in l at c.word-part.result)))) c.held_word.ensures.same
     c.store_word.ensures in (
       same_through c.args.seat.now c.loop-i.seat c.store_word.new.seat _ c.loop-i.invariant.0
-          (stores _ (held_now z v b word own.0 own.1 w i own.2 key c.loop-i.i mine)),
+          (stores _ (held_now z v b word own.lock own.has w i own.inside key c.loop-i.i mine)),
       λ lock has.
           let inside : i < places lock.extent.page lock.extent.size.log2 =
-          subst (λ (l : LockedBucket). i < places l.extent.page l.extent.size.log2) (same_lock z v b word own.0 lock own.1 has) own.2 in
+          subst (λ (l : LockedBucket). i < places l.extent.page l.extent.size.log2) (same_lock z v b word own.lock lock own.has has) own.inside in
           let h = c.loop-i.invariant.1 lock has in
           let now : LockedBucket = record lock { now = h.now; stored = h.stored } in
           stored_more z v b word lock has w i inside key c.loop-i.i h c.store_word.new.seat.view small

@@ -2,7 +2,7 @@ use Rattle.std.proofs.Common.{◌∙◌, Some, ap, arith, sym}
 use Rattle.bihash_words.specs.Sizes.{sizes_of}
 use Rattle.bihash_words.specs.declared.patch.Change.TheVariants.{Remove}
 use Rattle.bihash_steps.specs.Seats.{CallerState}
-use Rattle.bihash_steps.specs.declared.view.Holdings.{Holdings}
+use Rattle.bihash_rule.specs.declared.view.Holdings.{Holdings}
 use Rattle.bihash_table.specs.Answers.{locks_of}
 use Rattle.bihash_table.proofs.PlaceWrites.{may_remove, removed, value_is_stored}
 use Rattle.bihash_table.proofs.LockCounts.{locks_pushed}

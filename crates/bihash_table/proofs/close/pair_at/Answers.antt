@@ -1,7 +1,7 @@
 use Rattle.std.proofs.Common.{◌≡◌, ◌∙◌, ◌+◌, ◌-◌, ◌*◌, ℕ, drop, ap, arith, slice_index}
 use Rattle.std.proofs.Math.ListN.{take}
 use Rattle.bihash_words.specs.Sizes.{sizes_of}
-use Rattle.bihash_steps.specs.Words.{page_at}
+use Rattle.bihash_rule.specs.Words.{page_at}
 use Rattle.bihash_table.proofs.BlockPairs.{last_in_row, place_there, some_page}
 use Rattle.bihash_table.proofs.StoreLemmas.{page_is}
 use Rattle.bihash_table.proofs.close.pair_at.Goals as goal

@@ -2,7 +2,7 @@ use Rattle.std.proofs.Common.{◌≡◌, ◌∙◌, ℕ, ◌^◌, ◌≤◌, Lis
 use Rattle.bihash_words.specs.Sizes.{sizes_of}
 use Rattle.bihash_steps.specs.Renewals.{AreRowWords}
 use Rattle.bihash_steps.specs.Seats.{CallerState}
-use Rattle.bihash_steps.specs.declared.view.Known.{Known}
+use Rattle.bihash_rule.specs.declared.view.Known.{Known}
 use Rattle.bihash_steps.proofs.OwnedWords.{bucket_inside}
 use Rattle.bihash_table.specs.inner.PairLists.{ListsBuckets}
 use Rattle.bihash_table.proofs.BlockPairs.{bucket_added, bucket_below, has_block, row_wide}
@@ -27,7 +27,7 @@ read_pairs-requires g c =
     let z = sizes_of g.S.Shape in
     has_block z c.read_words.new.seat.view _ c.loop-bucket.bucket c.of-word.result
     (subst (AreRowWords z c.read_words.new.seat.view) (sym c.as_slice-words.ensures.value) c.in_ok-loaded.ensures.words)
-    (ap (λ (s : CallerState). s.view.holds) c.read_words.ensures.noted.same ∙ c.requires.lone.free)
+    (ap (λ (s : CallerState). s.view.holds) c.read_words.ensures.noted.same ∙ c.requires.free)
     (bucket_below z c.loop-bucket.bucket c.LOG2_BUCKETS.result c.is_sound.ensures c.LOG2_BUCKETS.ensures c.loop-bucket-test.true)
     (c.of-word.ensures ∙ ap (slice_index c.as_slice-words.result.now) c.bucket_at.ensures.place)
 
@@ -36,7 +36,7 @@ loop-bucket-preserved g c =
     let z = sizes_of g.S.Shape in
     bucket_added g.S.Shape c.read_words.new.seat.view c.as_slice-words.result.now c.loop-bucket.bucket c.of-word.result _ _
     (subst (AreRowWords z c.read_words.new.seat.view) (sym c.as_slice-words.ensures.value) c.in_ok-loaded.ensures.words)
-    (ap (λ (s : CallerState). s.view.holds) c.read_words.ensures.noted.same ∙ c.requires.lone.free)
+    (ap (λ (s : CallerState). s.view.holds) c.read_words.ensures.noted.same ∙ c.requires.free)
     (bucket_below z c.loop-bucket.bucket c.LOG2_BUCKETS.result c.is_sound.ensures c.LOG2_BUCKETS.ensures c.loop-bucket-test.true)
     (c.of-word.ensures ∙ ap (slice_index c.as_slice-words.result.now) c.bucket_at.ensures.place)
     c.in_ok-read_pairs.ensures c.loop-bucket.invariant

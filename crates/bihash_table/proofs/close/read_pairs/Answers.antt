@@ -1,6 +1,6 @@
 use Rattle.std.proofs.Common.{◌≡◌, ◌+◌, ◌∙◌, ℕ, List, arith, sym, subst}
 use Rattle.bihash_words.specs.Sizes.{sizes_of}
-use Rattle.bihash_steps.specs.declared.view.Extent.{Extent}
+use Rattle.bihash_rule.specs.declared.view.Extent.{Extent}
 use Rattle.bihash_table.specs.inner.PairLists.{AddsPlaces}
 use Rattle.bihash_table.specs.inner.RowWords.{OfBlockIn}
 use Rattle.bihash_table.proofs.BlockPairs.{added_none, added_free, added_pair, added_not, added_all}

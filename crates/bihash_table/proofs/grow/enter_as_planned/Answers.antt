@@ -3,7 +3,7 @@ use Rattle.bihash_words.specs.Sizes.{sizes_of}
 use Rattle.bihash_words.specs.declared.block_size.BlockSize.{BlockSize}
 use Rattle.bihash_words.specs.declared.patch.Change.TheVariants.{Set}
 use Rattle.bihash_plan.specs.declared.outcome.Plan.TheVariants.{Grow}
-use Rattle.bihash_steps.specs.Blocks.{places}
+use Rattle.bihash_rule.specs.Blocks.{places}
 use Rattle.bihash_table.specs.inner.Scans.{CountsPlaces}
 use Rattle.bihash_table.proofs.Bridge.{AreKeyWords, sized}
 use Rattle.bihash_table.proofs.LargerBlocks.{full_extent, full_seen, wants_place, laid_there, planned_there, room_there}
@@ -12,7 +12,7 @@ use Rattle.bihash_table.proofs.OpenReadLemmas.{may_read, names_block, word_notes
 use Rattle.bihash_table.proofs.SeenBuckets.{seen_more}
 use Rattle.bihash_table.proofs.StoreLemmas.{log2_is}
 use Rattle.bihash_table.proofs.BlockPlans.{places_read}
-use Rattle.bihash_table.proofs.Tries.{over, over_read, tried_locked, tried_not, tried_read, under_as, under_lock, unworn_read}
+use Rattle.bihash_table.proofs.Tries.{over, over_read, tried_locked, tried_not, tried_read, under_lock, unworn_read}
 use Rattle.bihash_table.proofs.grow.enter_as_planned.Goals as goal
 
 pub place_count-requires : goal.place_count-requires
@@ -58,7 +58,7 @@ recycle_or_refuse-requires g c =
     let keys : AreKeyWords g.S.Shape = record { law = g.met.S.Shape.key_of_words } in
     let full = full_seen g.S.Shape keys y.view hashed.bucket c.args.seen.now.word hashed.key.now c.read_block.new.out h c.block_size.result
     c.block_size.ensures c.larger.result c.larger.ensures.lawful c.in_default.not-Grow count in
-    wants_place g.S.Shape _ y hashed.bucket c.args.seen.now.word hashed.key.now c.args.entrant.now.value c.read_block.new.out
+    wants_place g.S.Shape _ y c.args.seen.now c.args.entrant.now.value c.read_block.new.out
     (own_through c.args.seat.now _ _ read.same w.own) full
     (full_extent g.S.Shape keys y.view hashed.bucket c.args.seen.now.word hashed.key.now c.read_block.new.out h c.block_size.result
     c.block_size.ensures c.larger.result c.larger.ensures.lawful c.in_default.not-Grow count)
@@ -119,8 +119,8 @@ enter-requires g c =
     let small : c.in-Grow.size.log2 ≤ g.S.Shape.MAX_LOG2 = c.in-Grow.ensures.safe in
     let few : 2 ^ c.in-Grow.size.log2 ≤ 2 ^ g.S.Shape.MAX_LOG2 = pow_mono small in
     let k = c.lock_if_unchanged.ensures.locked c.if-not-lock_if_unchanged.false in record {
-      held = under_as (under_lock g.S.Shape y _ _ _ (Set c.args.entrant.now.value) (own_through c.args.seat.now _ _ read.same w.own)
-          (unworn_read g.S.Shape c.args.seat.now y hashed.bucket read w.unworn) w.storable h c.lock_if_unchanged.ensures c.if-not-lock_if_unchanged.false)
+      held = under_lock g.S.Shape y _ c.args.seen.now (Set c.args.entrant.now.value) (own_through c.args.seat.now _ _ read.same w.own)
+          (unworn_read g.S.Shape c.args.seat.now y hashed.bucket read w.unworn) w.storable h c.lock_if_unchanged.ensures c.if-not-lock_if_unchanged.false
           (λ told. told.0.0);
       room = room_there g.S.Shape keys y.view hashed.bucket c.args.seen.now.word hashed.key.now c.read_block.new.out h c.block_size.result
           c.block_size.ensures (Grow c.in-Grow.size) c.in-Grow.ensures.lawful c.lock_if_unchanged.new.seat.view k c.in-Grow.size refl;

@@ -1,6 +1,6 @@
 use Rattle.bihash_words.specs.Sizes.{sizes_of}
 use Rattle.bihash_steps.proofs.SeatCounts.{seen_records}
-use Rattle.bihash_steps.specs.declared.view.Holdings.{Holdings}
+use Rattle.bihash_rule.specs.declared.view.Holdings.{Holdings}
 use Rattle.std.proofs.Common.{ap, refl}
 use Rattle.bihash_table.proofs.CallChains.{sees_open, sees_locked, open_not_locked, locked_turns_away}
 use Rattle.bihash_table.proofs.LocklessCalls.{opened}

@@ -1,7 +1,7 @@
 use Rattle.std.proofs.Common.{false, refl, ap}
 use Rattle.bihash_words.specs.Sizes.{sizes_of}
-use Rattle.bihash_steps.specs.Buckets.{word_of}
-use Rattle.bihash_steps.specs.declared.view.View.{View}
+use Rattle.bihash_rule.specs.Buckets.{word_of}
+use Rattle.bihash_rule.specs.declared.view.View.{View}
 use Rattle.bihash_table.proofs.LocklessCalls.{open_word_is, not_taken}
 use Rattle.bihash_table.proofs.SeenBuckets.{locks_seen}
 use Rattle.bihash_table.proofs.lock.lock_if_unchanged.Goals as goal

@@ -1,6 +1,6 @@
 use Rattle.std.proofs.Common.{false, arith}
 use Rattle.bihash_words.specs.Sizes.{sizes_of}
-use Rattle.bihash_steps.specs.Buckets.{word_of}
+use Rattle.bihash_rule.specs.Buckets.{word_of}
 use Rattle.bihash_table.proofs.OpenReadLemmas.{open_word_of_place, read_word_of_place}
 use Rattle.bihash_table.proofs.reads.load_word.Goals as goal
 

@@ -1,6 +1,6 @@
-use Rattle.std.proofs.Common.{false, arith, ◌∙◌, sym}
+use Rattle.std.proofs.Common.{false, arith, ◌∙◌, ◌≤◌, ◌^◌, pow_mono, sym}
 use Rattle.bihash_words.specs.Sizes.{sizes_of}
-use Rattle.bihash_steps.specs.Buckets.{word_of}
+use Rattle.bihash_rule.specs.Buckets.{word_of}
 use Rattle.bihash_table.proofs.OpenPlaces.{none_open, all_open, one_page_open}
 use Rattle.bihash_table.proofs.reads.open_pages.Goals as goal
 
@@ -21,11 +21,15 @@ page_count-requires g c =
 pub returns-then-linear : goal.returns-then-linear
 returns-then-linear g c = record {
   order = omega arith;
-  few = c.page_count.ensures.few;
+  few =
+      let h = c.requires in
+      let is = c.log2.ensures (word_of h.extent false h.names.version) h.names.fits h.names.stood in
+      let small : c.log2.result ≤ 24 = omega (arith, h.names.small, h.sound.few_buckets, is) in
+      let few : 2 ^ c.log2.result ≤ 2 ^ 24 = pow_mono small in omega (arith, c.page_count.ensures);
   pages = λ e w.
       let x = word_of e false w.version in
       all_open _ e _ _ (λ none_there. c.if-page-eq0.false (c.page.ensures x w.fits w.stood ∙ none_there))
-      (sym (c.linear.ensures x w.fits w.stood) ∙ c.if-linear.true) (rw (sym (c.log2.ensures x w.fits w.stood)) c.page_count.ensures.count);
+      (sym (c.linear.ensures x w.fits w.stood) ∙ c.if-linear.true) (rw (sym (c.log2.ensures x w.fits w.stood)) c.page_count.ensures);
 }
 
 pub page-page-requires-clause-sound : goal.page-page-requires-clause-sound

@@ -1,7 +1,7 @@
 use Rattle.std.proofs.Common.{◌+◌, ◌*◌, ◌<◌, ℕ, slice_index, ap, arith, subst, sym, ◌∙◌}
 use Rattle.bihash_words.specs.Sizes.{sizes_of}
-use Rattle.bihash_steps.specs.Blocks.{places}
-use Rattle.bihash_steps.specs.declared.view.Extent.{Extent}
+use Rattle.bihash_rule.specs.Blocks.{places}
+use Rattle.bihash_rule.specs.declared.view.Extent.{Extent}
 use Rattle.bihash_table.proofs.PairReads.{other_word, same_more, free_value, found_value}
 use Rattle.bihash_table.proofs.OpenReadLemmas.{may_still, note_extent, note_size, read_nothing, read_then}
 use Rattle.bihash_table.proofs.reads.value_at.Goals as goal

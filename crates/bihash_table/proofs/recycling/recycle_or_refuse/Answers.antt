@@ -6,16 +6,16 @@ use Rattle.bihash_words.specs.Sizes.{sizes_of}
 use Rattle.bihash_words.specs.declared.block_size.BlockSize.{BlockSize}
 use Rattle.bihash_words.specs.declared.patch.Change.TheVariants.{Set}
 use Rattle.bihash_plan.proofs.Places.{pair_inside}
-use Rattle.bihash_steps.specs.Blocks.{places}
-use Rattle.bihash_steps.specs.Histories.{bounds_of}
+use Rattle.bihash_rule.specs.Blocks.{places}
+use Rattle.bihash_rule.specs.Histories.{bounds_of}
 use Rattle.bihash_table.proofs.Bridge.{sized}
 use Rattle.bihash_table.proofs.PairReads.{pair_value}
 use Rattle.bihash_table.proofs.OpenPlaces.{word_tells}
-use Rattle.bihash_table.proofs.ExpiredPairs.{none_goes, refuses, spare_for, under_lock_as}
+use Rattle.bihash_table.proofs.ExpiredPairs.{none_goes, refuses, spare_for}
 use Rattle.bihash_table.proofs.OpenReadLemmas.{word_notes}
 use Rattle.bihash_table.proofs.SeenBuckets.{seen_as}
 use Rattle.bihash_table.proofs.StoreLemmas.{linear_is, log2_is}
-use Rattle.bihash_table.proofs.Tries.{over, over_locked, tried_not}
+use Rattle.bihash_table.proofs.Tries.{over, over_locked, tried_not, under_lock}
 use Rattle.bihash_table.proofs.recycling.recycle_or_refuse.Goals as goal
 
 pub recycle-requires : goal.recycle-requires
@@ -77,7 +77,7 @@ replace-requires g c =
     (λ x fits is. ap (λ (s : BlockSize). s.log2) (c.block_size-size.ensures x fits is)) in
     let linear_at : size.linear ≡ e.size.linear = linear_is z word e tells size.linear
     (λ x fits is. ap (λ (s : BlockSize). s.linear) (c.block_size-size.ensures x fits is)) in
-    under_lock_as g.S.Shape c.args.seat.now u hashed.bucket word (Set c.args.entrant.now.value) h.own h.unworn h.storable h.seen
+    under_lock g.S.Shape c.args.seat.now u c.args.seen.now (Set c.args.entrant.now.value) h.own h.unworn h.storable h.seen
     c.lock_if_unchanged.ensures c.if-not-lock_if_unchanged.false (λ told. (
       told.0.0,
       told.2,

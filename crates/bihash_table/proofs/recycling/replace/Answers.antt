@@ -1,7 +1,7 @@
 use Rattle.std.proofs.Common.{◌∙◌, ap, arith, refl, sym}
 use Rattle.bihash_words.specs.Sizes.{sizes_of}
 use Rattle.bihash_steps.specs.Seats.{CallerState}
-use Rattle.bihash_steps.specs.declared.view.View.{View}
+use Rattle.bihash_rule.specs.declared.view.View.{View}
 use Rattle.bihash_table.specs.Answers.{locks_of}
 use Rattle.bihash_table.proofs.PlaceWrites.{value_is_stored}
 use Rattle.bihash_table.proofs.LockCounts.{locks_pushed}
@@ -10,11 +10,8 @@ use Rattle.bihash_table.proofs.SameCallers.{entered_as, own_through, same_throug
 use Rattle.bihash_table.proofs.StoredWords.{holds_stored, store_told}
 use Rattle.bihash_table.proofs.recycling.replace.Goals as goal
 
-pub store_key-requires-clause-own : goal.store_key-requires-clause-own
-store_key-requires-clause-own g c = c.requires.own
-
-pub store_key-requires-clause-lock : goal.store_key-requires-clause-lock
-store_key-requires-clause-lock g c = (c.requires.lock, c.requires.has, c.requires.told.2.pair.pair.0)
+pub store_key-requires : goal.store_key-requires
+store_key-requires g c = let h = c.requires in record { own = h.own; lock = h.lock; has = h.has; inside = h.told.2.pair.pair.0 }
 
 pub store_word-requires : goal.store_word-requires
 store_word-requires g c = let h = c.requires in record {

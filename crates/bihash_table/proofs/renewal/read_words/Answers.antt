@@ -6,11 +6,11 @@ use Rattle.bihash_table.proofs.renewal.read_words.Goals as goal
 
 pub loop-at-init : goal.loop-at-init
 loop-at-init g c = let z = sizes_of g.S.Shape in let s = c.args.seat.now in
-    subst (HasLoaded z s s 0) (sym c.in_ok-words.ensures.items) (loaded_none z s c.requires.bare c.requires.lone.lawful)
+    subst (HasLoaded z s s 0) (sym c.in_ok-words.ensures.items) (loaded_none z s c.requires.bare c.requires.lawful)
 
 pub load_lone-requires-clause-next : goal.load_lone-requires-clause-next
 load_lone-requires-clause-next g c = next_word (sizes_of g.S.Shape) c.args.seat.now c.loop-at.seat c.loop-at.at c.loop-at.words.items
-    c.loop-at.invariant c.requires.lone.lone (subst (λ (n : ℕ). c.loop-at.at < n) c.word_count-count.ensures c.loop-at-test.true)
+    c.loop-at.invariant c.requires.lone (subst (λ (n : ℕ). c.loop-at.at < n) c.word_count-count.ensures c.loop-at-test.true)
 
 pub loop-at-preserved : goal.loop-at-preserved
 loop-at-preserved g c = let z = sizes_of g.S.Shape in let s = c.args.seat.now in

@@ -17,14 +17,13 @@ returns-then-not-lock_if_unchanged g c =
 
 pub overwrite-requires-clause-held : goal.overwrite-requires-clause-held
 overwrite-requires-clause-held g c =
-    let h = subst (λ (d : Change). WantsChange g.S.Shape c.args.row.now c.args.seat.now c.args.seen.now.hashed.bucket c.args.seen.now.word
-    c.args.seen.now.hashed.key.now (Some c.args.pair) d) c.in-Set.is c.requires in
-    under_lock g.S.Shape _ _ _ _ _ h.own h.unworn h.storable h.seen c.lock_if_unchanged.ensures c.if-not-lock_if_unchanged.false
+    let h = subst (λ (d : Change). WantsChange g.S.Shape c.args.row.now c.args.seat.now c.args.seen.now (Some c.args.pair) d) c.in-Set.is c.requires in
+    under_lock g.S.Shape _ _ c.args.seen.now _ h.own h.unworn h.storable h.seen c.lock_if_unchanged.ensures
+    c.if-not-lock_if_unchanged.false (λ told. told)
 
 pub overwrite-requires-clause-other : goal.overwrite-requires-clause-other
 overwrite-requires-clause-other g c =
-    let h = subst (λ (d : Change). WantsChange g.S.Shape c.args.row.now c.args.seat.now c.args.seen.now.hashed.bucket c.args.seen.now.word
-    c.args.seen.now.hashed.key.now (Some c.args.pair) d) c.in-Set.is c.requires in
+    let h = subst (λ (d : Change). WantsChange g.S.Shape c.args.row.now c.args.seat.now c.args.seen.now (Some c.args.pair) d) c.in-Set.is c.requires in
     other_value c.in-Set.value c.args.pair.1 h.wanted
 
 pub returns-else-not-lock_if_unchanged : goal.returns-else-not-lock_if_unchanged
@@ -35,8 +34,7 @@ returns-else-not-lock_if_unchanged g c = let hashed = c.args.seen.now.hashed in
     c.lock_if_unchanged.ensures c.if-not-lock_if_unchanged.false (sym hashed.home) (Ok c.overwrite.result) c.overwrite.ensures)
 
 pub remove-requires : goal.remove-requires
-remove-requires g c = subst (λ (d : Change). WantsChange g.S.Shape c.args.row.now c.args.seat.now c.args.seen.now.hashed.bucket c.args.seen.now.word
-    c.args.seen.now.hashed.key.now (Some c.args.pair) d) c.in-Remove.is c.requires
+remove-requires g c = subst (λ (d : Change). WantsChange g.S.Shape c.args.row.now c.args.seat.now c.args.seen.now (Some c.args.pair) d) c.in-Remove.is c.requires
 
 pub returns-in-Remove : goal.returns-in-Remove
 returns-in-Remove g c = let hashed = c.args.seen.now.hashed in

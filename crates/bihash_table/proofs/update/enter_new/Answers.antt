@@ -6,7 +6,7 @@ use Rattle.bihash_table.specs.Tries.{Tried, TriedOver}
 use Rattle.bihash_table.proofs.SameCallers.{own_through}
 use Rattle.bihash_table.proofs.OpenReadLemmas.{may_read}
 use Rattle.bihash_table.proofs.SeenBuckets.{seen_more}
-use Rattle.bihash_table.proofs.Tries.{over, over_read, tried_locked, tried_not, tried_read, under_as, under_lock, unworn_read}
+use Rattle.bihash_table.proofs.Tries.{over, over_read, tried_locked, tried_not, tried_read, under_lock, unworn_read}
 use Rattle.bihash_table.proofs.update.enter_new.Goals as goal
 
 pub find_free-requires : goal.find_free-requires
@@ -26,12 +26,11 @@ returns-then-not-lock_if_unchanged g c = let hashed = c.args.seen.now.hashed in
 
 pub fill-requires : goal.fill-requires
 fill-requires g c =
-    let h = subst (λ (d : Change). WantsChange g.S.Shape c.args.row.now c.args.caller.now.seat c.args.seen.now.hashed.bucket c.args.seen.now.word
-    c.args.seen.now.hashed.key.now None d) c.in-Set.is c.requires in
+    let h = subst (λ (d : Change). WantsChange g.S.Shape c.args.row.now c.args.caller.now.seat c.args.seen.now None d) c.in-Set.is c.requires in
     let read = c.in-Some.ensures in
-    under_as (under_lock g.S.Shape c.find_free.new.seat _ _ _ _ (own_through c.args.caller.now.seat _ _ read.same h.own)
+    under_lock g.S.Shape c.find_free.new.seat _ c.args.seen.now _ (own_through c.args.caller.now.seat _ _ read.same h.own)
     (unworn_read g.S.Shape c.args.caller.now.seat _ _ read h.unworn) h.storable (seen_more (sizes_of g.S.Shape) _ _ _ _ read.saw h.seen)
-    c.lock_if_unchanged.ensures c.if-not-lock_if_unchanged.false) (λ told. (told.0, told.1.0))
+    c.lock_if_unchanged.ensures c.if-not-lock_if_unchanged.false (λ told. (told.0, told.1.0))
 
 pub returns-else-not-lock_if_unchanged : goal.returns-else-not-lock_if_unchanged
 returns-else-not-lock_if_unchanged g c = let hashed = c.args.seen.now.hashed in
@@ -45,8 +44,7 @@ returns-else-not-lock_if_unchanged g c = let hashed = c.args.seen.now.hashed in
 
 pub enter_larger-requires : goal.enter_larger-requires
 enter_larger-requires g c =
-    let h = subst (λ (d : Change). WantsChange g.S.Shape c.args.row.now c.args.caller.now.seat c.args.seen.now.hashed.bucket c.args.seen.now.word
-    c.args.seen.now.hashed.key.now None d) c.in-Set.is c.requires in
+    let h = subst (λ (d : Change). WantsChange g.S.Shape c.args.row.now c.args.caller.now.seat c.args.seen.now None d) c.in-Set.is c.requires in
     let read = c.in-None.ensures in record {
       own = own_through c.args.caller.now.seat _ _ read.same h.own;
       seen = seen_more (sizes_of g.S.Shape) _ _ _ _ read.saw h.seen;

@@ -1,6 +1,6 @@
 use Rattle.std.proofs.Common.{ℕ, Option, ap, refl, subst, sym}
 use Rattle.bihash_words.specs.Sizes.{sizes_of}
-use Rattle.bihash_steps.specs.Histories.{bounds_of}
+use Rattle.bihash_rule.specs.Histories.{bounds_of}
 use Rattle.bihash_table.specs.inner.OpenReads.{value_of}
 use Rattle.bihash_table.specs.Tries.{TriedOver}
 use Rattle.bihash_table.proofs.Decisions.{kept_step, worn_step}
@@ -49,7 +49,7 @@ returns-then-is_worn g c = let hashed = c.args.seen.now.hashed in
     (over g.S.Shape _ _ _ _ _ _ c.answer-then-is_worn.result c.answer-then-is_worn.ensures)
 
 pub change_pair-requires : goal.change_pair-requires
-change_pair-requires g c = wants_change g.S.Shape _ _ _ _ _ _ _ _ _ c.in-Some.is c.value_found-found.ensures c.requires.found
+change_pair-requires g c = wants_change g.S.Shape _ _ c.args.seen.now _ _ _ _ c.in-Some.is c.value_found-found.ensures c.requires.found
     (unworn (sizes_of g.S.Shape) _ _ _ c.requires.found.seen.seen c.is_worn.result c.is_worn.ensures c.if-is_worn.false)
     (c.is_idle.ensures.no c.if-is_idle.false) c.requires.storable
 
@@ -60,7 +60,7 @@ returns-in-Some g c = let hashed = c.args.seen.now.hashed in
     (over g.S.Shape _ _ _ _ _ _ c.change_pair.result c.change_pair.ensures)
 
 pub enter_new-requires : goal.enter_new-requires
-enter_new-requires g c = wants_change g.S.Shape _ _ _ _ _ _ _ _ _ c.in-None.is c.value_found-found.ensures c.requires.found
+enter_new-requires g c = wants_change g.S.Shape _ _ c.args.seen.now _ _ _ _ c.in-None.is c.value_found-found.ensures c.requires.found
     (unworn (sizes_of g.S.Shape) _ _ _ c.requires.found.seen.seen c.is_worn.result c.is_worn.ensures c.if-is_worn.false)
     (c.is_idle.ensures.no c.if-is_idle.false) c.requires.storable
 

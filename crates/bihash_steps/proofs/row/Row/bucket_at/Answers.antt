@@ -1,6 +1,6 @@
 use Rattle.std.proofs.Common.{arith, ◌*◌, ℕ}
 use Rattle.bihash_words.specs.Sizes.{sizes_of}
-use Rattle.bihash_steps.specs.Words.{page_words}
+use Rattle.bihash_rule.specs.Words.{page_words}
 use Rattle.bihash_steps.proofs.Bounds.{few_words}
 use Rattle.bihash_steps.proofs.row.Row.bucket_at.Goals as goal
 

@@ -1,8 +1,8 @@
 use Rattle.std.proofs.Common.{rules, ap, arith, length, sym, subst, ◌∙◌}
-use Rattle.bihash_steps.specs.Callers.{IsLawfulCaller}
+use Rattle.bihash_rule.specs.Callers.{IsLawfulCaller}
 use Rattle.bihash_steps.specs.Seats.{CallerState}
 use Rattle.bihash_steps.specs.Steps.{ViewOfSeat}
-use Rattle.bihash_steps.specs.declared.view.View.{View}
+use Rattle.bihash_rule.specs.declared.view.View.{View}
 use Rattle.bihash_steps.proofs.CountWord.{some_words}
 use Rattle.bihash_steps.proofs.caller_steps.CutAndJoin.{cut_lawful, splits_numbers}
 use Rattle.bihash_steps.proofs.row.Row.cut.Goals as goal

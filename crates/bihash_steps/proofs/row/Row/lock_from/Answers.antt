@@ -1,5 +1,5 @@
 use Rattle.std.proofs.Common.{rules, ◌∙◌, ap}
-use Rattle.bihash_steps.specs.declared.view.Holdings.{Holdings}
+use Rattle.bihash_rule.specs.declared.view.Holdings.{Holdings}
 use Rattle.bihash_steps.specs.Seats.{CallerState}
 use Rattle.bihash_steps.proofs.Addresses.{locks_at}
 use Rattle.bihash_steps.proofs.SeatCounts.{can_act, counted_locks, tried_lock}

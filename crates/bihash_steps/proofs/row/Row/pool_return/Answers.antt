@@ -1,7 +1,7 @@
 use Rattle.std.proofs.Math.Nat.{div-le_self}
 use Rattle.std.proofs.Common.{rules, arith, ℕ, ◌+◌, ◌^◌, ◌≤◌, ◌∙◌, refl, ap, Some, None}
 use Rattle.bihash_words.specs.Sizes.{sizes_of}
-use Rattle.bihash_steps.specs.Words.{list_words}
+use Rattle.bihash_rule.specs.Words.{list_words}
 use Rattle.bihash_steps.specs.Seats.{CallerState}
 use Rattle.bihash_steps.specs.StoreSteps.{MayReturn, holding, relisted}
 use Rattle.bihash_steps.proofs.SeatCounts.{can_act, counted_next, state_next, of_seat}

@@ -1,7 +1,7 @@
 use Rattle.std.proofs.Common.{rules, false, arith, refl}
 use Rattle.std.proofs.lemmas.Nat.{pow_pos}
 use Rattle.bihash_words.specs.Sizes.{sizes_of}
-use Rattle.bihash_steps.specs.Buckets.{word_of}
+use Rattle.bihash_rule.specs.Buckets.{word_of}
 use Rattle.bihash_steps.specs.StoreSteps.{MayReplace, view_after_replace}
 use Rattle.bihash_steps.proofs.Addresses.{replaces_at}
 use Rattle.bihash_steps.proofs.bucket_steps.NextWords.{version_rises, counted_write}

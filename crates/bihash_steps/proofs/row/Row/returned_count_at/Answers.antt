@@ -1,7 +1,7 @@
 use Rattle.std.proofs.Common.{arith, ◌*◌, ℕ, sym, ◌∙◌, ap}
 use Rattle.atomic_table.specs.Seated.{TableId}
 use Rattle.bihash_words.specs.Sizes.{sizes_of}
-use Rattle.bihash_steps.specs.Words.{page_words}
+use Rattle.bihash_rule.specs.Words.{page_words}
 use Rattle.bihash_steps.proofs.CountWord.{front}
 use Rattle.bihash_steps.proofs.row.Row.returned_count_at.Goals as goal
 

@@ -1,6 +1,6 @@
 use Rattle.std.proofs.Common.{rules, ap, arith, sym, ◌∙◌, ◌≡◌, ◌+◌, ◌<◌, length, length-append}
 use Rattle.bihash_steps.specs.Seats.{CallerState}
-use Rattle.bihash_steps.specs.declared.view.View.{View}
+use Rattle.bihash_rule.specs.declared.view.View.{View}
 use Rattle.bihash_steps.proofs.caller_steps.Split.{old_caller, new_caller, new_stamp}
 use Rattle.bihash_steps.proofs.row.Row.split.Goals as goal
 

@@ -1,4 +1,4 @@
-use Rattle.std.proofs.Common.{refl, ap}
+use Rattle.std.proofs.Common.{refl, ap, rules}
 use Rattle.bihash_words.specs.Sizes.{sizes_of}
 use Rattle.bihash_steps.specs.Seats.{CallerState}
 use Rattle.bihash_table.proofs.RowWordLemmas.{renewed_counted}
@@ -10,8 +10,14 @@ returns-then-load_count-numbers-clause-refused g c =
     let left = strangers_left (sizes_of g.S.Shape) c.args.caller.seat _ _ _ c.load_count.ensures c.numbers.ensures.count
     c.if-load_count-numbers.true in (refl, left.0, left.1)
 
-pub reopen-requires-clause-bare : goal.reopen-requires-clause-bare
-reopen-requires-clause-bare g c = ap (λ (s : CallerState). s.view.notes) c.load_count.ensures.view
+pub reopen-requires : goal.reopen-requires
+reopen-requires g c = record {
+  own = search rules;
+  free = search rules;
+  lone = search rules;
+  lawful = search rules;
+  bare = ap (λ (s : CallerState). s.view.notes) c.load_count.ensures.view;
+}
 
 pub returns-in-Ok-clause-whole : goal.returns-in-Ok-clause-whole
 returns-in-Ok-clause-whole g c =

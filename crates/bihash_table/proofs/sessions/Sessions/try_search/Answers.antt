@@ -2,7 +2,7 @@ use Rattle.std.proofs.Common.{refl, true≢false, sym, ap, ◌∙◌, subst}
 use Rattle.bihash_words.specs.Sizes.{sizes_of}
 use Rattle.bihash_steps.specs.Seats.{CallerState}
 use Rattle.bihash_steps.specs.BucketSteps.{map_now}
-use Rattle.bihash_steps.specs.declared.view.View.{View}
+use Rattle.bihash_rule.specs.declared.view.View.{View}
 use Rattle.bihash_table.specs.Answers.{locks_of, search_of}
 use Rattle.bihash_table.specs.Promise.{IsAnswered}
 use Rattle.bihash_table.proofs.CallChains.{ahead_answered, ahead_contended}

@@ -1,7 +1,7 @@
 use Rattle.std.proofs.Common.{◌+◌, refl, ap, sym, ◌∙◌, true≢false}
 use Rattle.bihash_words.specs.Sizes.{sizes_of}
 use Rattle.bihash_steps.specs.Seats.{CallerState, with_view}
-use Rattle.bihash_steps.specs.declared.view.View.{View}
+use Rattle.bihash_rule.specs.declared.view.View.{View}
 use Rattle.bihash_table.proofs.CallChains.{not_yet_tried, again_contended, again_updated}
 use Rattle.bihash_table.proofs.LockCounts.{took_by_tries, took_no_lock, took_then}
 use Rattle.bihash_table.proofs.SameCallers.{same_through}

@@ -1,6 +1,6 @@
 use Rattle.std.proofs.Common.{◌≡◌, ℕ, true}
 use Rattle.bihash_words.specs.Sizes.{sizes_of}
-use Rattle.bihash_steps.specs.Histories.{bucket_of}
+use Rattle.bihash_rule.specs.Histories.{bucket_of}
 use Rattle.bihash_steps.specs.Seats.{with_view}
 use Rattle.bihash_table.specs.Promise.{IsContended}
 use Rattle.bihash_table.specs.Tries.{TookAtMost}

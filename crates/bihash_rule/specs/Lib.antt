@@ -1,0 +1,12 @@
+pub mod Words
+pub mod Histories
+pub mod Callers
+pub mod Logs
+pub mod Blocks
+pub mod Places
+pub mod Partition
+pub mod Buckets
+pub mod PageStores
+pub mod Views
+pub mod LogRule
+pub mod WordRule
