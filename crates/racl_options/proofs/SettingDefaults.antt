@@ -15,7 +15,7 @@ use Rattle.clap.specs.declared.error.kind.ErrorKind.{ErrorKind}
 use Rattle.clap.specs.declared.parser.matches.ValueSource.TheVariants.{DefaultValue}
 use Rattle.clap.proofs.OnLiterals.{clap_on_literals}
 use Rattle.racl_options.specs.CommandLine.{OptionName, Workers, Established, Transient, Udp, default_of, name_of, racl}
-use Rattle.racl_options.specs.Selections.{FlagName, Summary, Hits, Explain, JsonLines, Live, drops_id, flag_id, only_id, passes_id}
+use Rattle.racl_options.specs.Selections.{FlagName, Summary, Hits, Sessions, Explain, JsonLines, Live, drops_id, flag_id, only_id, passes_id}
 use Rattle.racl_options.specs.Sizes.{tables_id}
 use Rattle.racl_options.proofs.NameWalks.{has_row_behind}
 use Rattle.racl_options.proofs.SettingWalks.{at_row_missing, between, capture_filled, default_row, filled_rule, flag_filled, interface_filled, policy_filled, top, value_filled}
@@ -41,6 +41,7 @@ default_passes Udp rows = pass_either _ _ refl
 flag_passes : (f : FlagName) (rows : List Row) → default_fault rows (flag_filled f) ≡ []
 flag_passes Summary rows = pass_either _ _ refl
 flag_passes Hits rows = pass_either _ _ refl
+flag_passes Sessions rows = pass_either _ _ refl
 flag_passes Explain rows = pass_either _ _ refl
 flag_passes JsonLines rows = pass_either _ _ refl
 flag_passes Live rows = pass_either _ _ refl
@@ -72,50 +73,36 @@ transient_filled rows = with_default (established_filled rows) (filled_rule Tran
 abbrev pub udp_filled : List Row → List Row
 udp_filled rows = with_default (transient_filled rows) (filled_rule Udp)
 
+abbrev flags : List FlagName
+flags = Summary ∷ Hits ∷ Sessions ∷ Explain ∷ JsonLines ∷ Live ∷ []
+
+flags_pass : (fs : List FlagName) (rs : List Rule) → PassEach rs → PassEach (map flag_filled fs ++ rs)
+flags_pass [] rs pass = pass
+flags_pass (f ∷ fs) rs pass = (flag_passes f, flags_pass fs rs pass)
+
+abbrev files : List Rule
+files = policy_filled ∷ capture_filled ∷ filled help_rule ∷ filled version_rule ∷ []
+
+files_pass : PassEach files
+files_pass = (none_passes policy_filled refl, (none_passes capture_filled refl, (none_passes (filled help_rule) refl, (none_passes (filled version_rule) refl, tt))))
+
+abbrev others : List Rule
+others = value_filled tables_id ∷ interface_filled ∷ value_filled only_id ∷ value_filled drops_id ∷ value_filled passes_id ∷ []
+
+others_pass : (rs : List Rule) → PassEach rs → PassEach (others ++ rs)
+others_pass rs pass = (
+  none_passes (value_filled tables_id) refl,
+  (
+    none_passes interface_filled refl,
+    (none_passes (value_filled only_id) refl, (none_passes (value_filled drops_id) refl, (none_passes (value_filled passes_id) refl, pass))),
+  ),
+)
+
 defaults_pass : (rows : List Row) → defaults_fault rows top.rules ≡ []
 unfolding clap_on_literals
 defaults_pass rows = each_passes top.rules rows (
   default_passes Workers,
-  (
-    default_passes Established,
-    (
-      default_passes Transient,
-      (
-        default_passes Udp,
-        (
-          none_passes (value_filled tables_id) refl,
-          (
-            none_passes interface_filled refl,
-            (
-              none_passes (value_filled only_id) refl,
-              (
-                none_passes (value_filled drops_id) refl,
-                (
-                  none_passes (value_filled passes_id) refl,
-                  (
-                    flag_passes Summary,
-                    (
-                      flag_passes Hits,
-                      (
-                        flag_passes Explain,
-                        (
-                          flag_passes JsonLines,
-                          (
-                            flag_passes Live,
-                            (none_passes policy_filled refl, (none_passes capture_filled refl, (none_passes (filled help_rule) refl, (none_passes (filled version_rule) refl, tt)))),
-                          ),
-                        ),
-                      ),
-                    ),
-                  ),
-                ),
-              ),
-            ),
-          ),
-        ),
-      ),
-    ),
-  ),
+  (default_passes Established, (default_passes Transient, (default_passes Udp, others_pass (map flag_filled flags ++ files) (flags_pass flags files files_pass)))),
 )
 
 -- what the words come to in the end, by where the walk stopped
@@ -228,15 +215,13 @@ filled_by Udp rows = default_fills Udp (transient_filled rows)
 abbrev pub flag_row : FlagName → Row
 flag_row flag = record { id = flag_id flag; values = codes "false" ∷ []; count = None; source = Some DefaultValue; reading = AsWritten }
 
-abbrev flags : List FlagName
-flags = Summary ∷ Hits ∷ Explain ∷ JsonLines ∷ Live ∷ []
-
 abbrev pub flag_rows : List Row
 flag_rows = map flag_row flags
 
 flag_added : (f : FlagName) (rows : List Row) → has_row (flag_id f) rows ≡ false → with_default rows (flag_filled f) ≡ rows ++ flag_row f ∷ []
 flag_added Summary rows none = rw none (at_row_missing (flag_id Summary) (more_values DefaultValue (codes "false" ∷ [])) _ rows none)
 flag_added Hits rows none = rw none (at_row_missing (flag_id Hits) (more_values DefaultValue (codes "false" ∷ [])) _ rows none)
+flag_added Sessions rows none = rw none (at_row_missing (flag_id Sessions) (more_values DefaultValue (codes "false" ∷ [])) _ rows none)
 flag_added Explain rows none = rw none (at_row_missing (flag_id Explain) (more_values DefaultValue (codes "false" ∷ [])) _ rows none)
 flag_added JsonLines rows none = rw none (at_row_missing (flag_id JsonLines) (more_values DefaultValue (codes "false" ∷ [])) _ rows none)
 flag_added Live rows none = rw none (at_row_missing (flag_id Live) (more_values DefaultValue (codes "false" ∷ [])) _ rows none)
@@ -255,14 +240,17 @@ all_left_out : (rows : List Row) → ((f : FlagName) → has_row (flag_id f) row
 all_left_out rows out =
     let one : List Row = rows ++ flag_row Summary ∷ [] in
     let two : List Row = one ++ flag_row Hits ∷ [] in
-    let three : List Row = two ++ flag_row Explain ∷ [] in
+    let three : List Row = two ++ flag_row Sessions ∷ [] in
+    let four : List Row = three ++ flag_row Explain ∷ [] in
     let hits = has_row_behind (flag_id Hits) rows (flag_row Summary) (out Hits) refl in
-    let explain = has_row_behind (flag_id Explain) one (flag_row Hits) (has_row_behind (flag_id Explain) rows (flag_row Summary) (out Explain) refl) refl in
-    let json = has_row_behind (flag_id JsonLines) two (flag_row Explain) (has_row_behind (flag_id JsonLines) one (flag_row Hits)
-    (has_row_behind (flag_id JsonLines) rows (flag_row Summary) (out JsonLines) refl) refl) refl in
-    let live = has_row_behind (flag_id Live) three (flag_row JsonLines) (has_row_behind (flag_id Live) two (flag_row Explain) (has_row_behind (flag_id Live) one (flag_row Hits)
-    (has_row_behind (flag_id Live) rows (flag_row Summary) (out Live) refl) refl) refl) refl in
-    (out Summary, (hits, (explain, (json, (live, tt)))))
+    let sessions = has_row_behind (flag_id Sessions) one (flag_row Hits) (has_row_behind (flag_id Sessions) rows (flag_row Summary) (out Sessions) refl) refl in
+    let explain = has_row_behind (flag_id Explain) two (flag_row Sessions) (has_row_behind (flag_id Explain) one (flag_row Hits)
+    (has_row_behind (flag_id Explain) rows (flag_row Summary) (out Explain) refl) refl) refl in
+    let json = has_row_behind (flag_id JsonLines) three (flag_row Explain) (has_row_behind (flag_id JsonLines) two (flag_row Sessions)
+    (has_row_behind (flag_id JsonLines) one (flag_row Hits) (has_row_behind (flag_id JsonLines) rows (flag_row Summary) (out JsonLines) refl) refl) refl) refl in
+    let live = has_row_behind (flag_id Live) four (flag_row JsonLines) (has_row_behind (flag_id Live) three (flag_row Explain) (has_row_behind (flag_id Live) two (flag_row Sessions)
+    (has_row_behind (flag_id Live) one (flag_row Hits) (has_row_behind (flag_id Live) rows (flag_row Summary) (out Live) refl) refl) refl) refl) refl in
+    (out Summary, (hits, (sessions, (explain, (json, (live, tt))))))
 
 -- ---- all defaults
 
@@ -278,10 +266,9 @@ others_stay id rows other = id_keeps id Udp (transient_filled rows) (other Udp) 
 -- where no flag was given, the options get their defaults, and each flag a row
 pub all_filled : (rows : List Row) → ((f : FlagName) → IsOther (flag_id f)) → ((f : FlagName) → find_row (flag_id f) rows ≡ None)
     → fold with_default rows top.rules ≡ udp_filled rows ++ flag_rows
-all_filled rows other none = each_keeps (policy_filled ∷ capture_filled ∷ filled help_rule ∷ filled version_rule ∷ []) _
+all_filled rows other none = each_keeps files _
     (none_keeps policy_filled refl, (none_keeps capture_filled refl, (none_keeps (filled help_rule) refl, (none_keeps (filled version_rule) refl, tt))))
-    ∙ ap (λ all. fold with_default all (map flag_filled flags)) (each_keeps
-    (value_filled tables_id ∷ interface_filled ∷ value_filled only_id ∷ value_filled drops_id ∷ value_filled passes_id ∷ []) (udp_filled rows) (
+    ∙ ap (λ all. fold with_default all (map flag_filled flags)) (each_keeps others (udp_filled rows) (
       none_keeps (value_filled tables_id) refl,
       (
         none_keeps interface_filled refl,
@@ -320,6 +307,7 @@ flag_filled_in f rows other none = find_both (flag_id f) (udp_filled rows) flag_
     here : (f : FlagName) → find_row (flag_id f) flag_rows ≡ Some (flag_row f)
     here Summary = refl
     here Hits = refl
+    here Sessions = refl
     here Explain = refl
     here JsonLines = refl
     here Live = refl

@@ -16,7 +16,7 @@ use Rattle.clap.specs.declared.builder.value_parser.ValueParser.TheVariants.{Sig
 use Rattle.clap.proofs.ValueTestLemmas.{Accepts-accepts}
 use Rattle.racl_options.specs.Asking.{AskForRun, saved_in}
 use Rattle.racl_options.specs.CommandLine.{IsInRange, OptionName, Workers, Established, Transient, Udp, Spells, capture_id, default_of, has_flag, interface_id, most_of, most_seconds, name_of, number_of, policy_id, racl, values_at}
-use Rattle.racl_options.specs.Selections.{FlagName, Summary, Hits, Explain, JsonLines, Live, drops_id, flag_id, is_given, lines_by, only_id, passes_id, shown_by}
+use Rattle.racl_options.specs.Selections.{FlagName, Summary, Hits, Sessions, Explain, JsonLines, Live, drops_id, flag_id, is_given, lines_by, only_id, passes_id, shown_by}
 use Rattle.racl_options.specs.Sizes.{size_by, tables_id}
 use Rattle.racl_options.specs.Options.{AreInRange, AreNames, AreSettings, Setting, Use, asked_as, named_by, sets, times_set, value_at, words_as, words_of, words_of_use}
 use Rattle.racl_options.specs.Origins.{Name, OriginFacts, named_in}
@@ -188,6 +188,10 @@ no_flag Hits Workers = refl
 no_flag Hits Established = refl
 no_flag Hits Transient = refl
 no_flag Hits Udp = refl
+no_flag Sessions Workers = refl
+no_flag Sessions Established = refl
+no_flag Sessions Transient = refl
+no_flag Sessions Udp = refl
 no_flag Explain Workers = refl
 no_flag Explain Established = refl
 no_flag Explain Transient = refl
@@ -239,6 +243,7 @@ no_file Udp = (refl, refl, refl)
 flag_is_no_file : (f : FlagName) → IsNoFile (flag_id f)
 flag_is_no_file Summary = (refl, refl, refl)
 flag_is_no_file Hits = (refl, refl, refl)
+flag_is_no_file Sessions = (refl, refl, refl)
 flag_is_no_file Explain = (refl, refl, refl)
 flag_is_no_file JsonLines = (refl, refl, refl)
 flag_is_no_file Live = (refl, refl, refl)
@@ -291,6 +296,7 @@ words_ask program ss uses names origin are named says = record {
         shown = ap₂ shown_by (no_flag_given Summary) (no_value only_id no_only refl (refl, refl, refl));
         lines = ap₂ lines_by (no_flag_given JsonLines) (no_flag_given Explain);
         hits = no_flag_given Hits;
+        sessions = no_flag_given Sessions;
         live = no_flag_given Live;
       };
       names = subst (λ named. Name named origin) (sym named_is) says;

@@ -59,11 +59,6 @@ is_plain Plain = true
 is_plain Explained = false
 is_plain Json = false
 
-abbrev pub is_json : Lines → Bool
-is_json Plain = false
-is_json Explained = false
-is_json Json = true
-
 abbrev pub is_every : Shown → Bool
 is_every Every = true
 is_every Passing = false
@@ -72,23 +67,17 @@ is_every Nothing = false
 
 -- the options beside which verdicts can be written as packets come: one worker, and a plain line for every packet alone
 abbrev pub is_simple_run : OptionFacts → Bool
-is_simple_run options = (options.workers == 1) && (is_every options.shown && (is_plain options.lines && not options.hits))
-
--- lines of hits would stand behind objects
-abbrev pub has_mixed_lines : OptionFacts → Bool
-has_mixed_lines options = options.hits && is_json options.lines
+is_simple_run options = (options.workers == 1) && (is_every options.shown && (is_plain options.lines && not (options.hits || options.sessions)))
 
 -- verdicts can be written as packets come: of the capture in a file, and nothing is told beside them
 abbrev pub can_be_live : AskedFacts → Bool
 can_be_live asked = are_files asked.origin && (not (is_saved asked.saved) && is_simple_run asked.options)
 
--- Packets are saved of the capture in a file, and in two files. Lines of hits don't stand behind objects. `--live`
--- is asked for only where verdicts can be written as packets come.
+-- Packets are saved of the capture in a file, and in two files. `--live` is asked for only where verdicts can be written as
+-- packets come.
 abbrev pub fit_together : AskedFacts → Bool
 fit_together asked = (not (is_saved asked.saved) || are_files asked.origin)
-    && (not (is_shared asked.saved.drops asked.saved.passes)
-    && (not (has_mixed_lines asked.options)
-    && (not asked.options.live || can_be_live asked)))
+    && (not (is_shared asked.saved.drops asked.saved.passes) && (not asked.options.live || can_be_live asked))
 
 -- what a parse holds asks for this
 pub record AskBy (values : Values) (asked : AskedFacts) : Type 0 where

@@ -12,7 +12,7 @@ use Rattle.racl_io.specs.declared.shown.Shown.{Shown}
 use Rattle.racl_options.specs.declared.settings.Options.{Options}
 use Rattle.racl_options.specs.declared.settings.TableSize.{TableSize}
 use Rattle.racl_options.specs.declared.settings.Lines.{Lines}
-use Rattle.racl_options.specs.Selections.{FlagName, Summary, Hits, Explain, JsonLines, Live, drops_id, flag_id, is_given, lines_by, only_id, passes_id, shown_by}
+use Rattle.racl_options.specs.Selections.{FlagName, Summary, Hits, Sessions, Explain, JsonLines, Live, drops_id, flag_id, is_given, lines_by, only_id, passes_id, shown_by}
 use Rattle.racl_options.specs.Sizes.{size_by, tables_id}
 
 -- ---- the command
@@ -105,7 +105,8 @@ with_values = with_rule (with_rule with_selections (value_rule drops_id)) (value
 
 -- and with the flags
 abbrev pub with_reports : App
-with_reports = with_rule (with_rule with_values (flag_rule (flag_id Summary))) (flag_rule (flag_id Hits))
+with_reports = with_rule (with_rule (with_rule with_values (flag_rule (flag_id Summary))) (flag_rule (flag_id Hits)))
+    (flag_rule (flag_id Sessions))
 
 abbrev pub with_flags : App
 with_flags = with_rule (with_rule (with_rule with_reports (flag_rule (flag_id Explain))) (flag_rule (flag_id JsonLines)))
@@ -127,6 +128,7 @@ pub record OptionFacts : Type 0 where
   pub shown : Shown
   pub lines : Lines
   pub hits : Bool
+  pub sessions : Bool
   pub live : Bool
 
 abbrev pub option_facts : Options → OptionFacts
@@ -139,6 +141,7 @@ option_facts o = record {
   shown = o.shown;
   lines = o.lines;
   hits = o.hits;
+  sessions = o.sessions;
   live = o.live;
 }
 
@@ -186,6 +189,7 @@ pub record SetOptions (values : Values) (facts : OptionFacts) : Type 0 where
   pub shown : shown_by (has_flag values Summary) (values.first only_id) ≡ Some facts.shown
   pub lines : lines_by (has_flag values JsonLines) (has_flag values Explain) ≡ facts.lines
   pub hits : has_flag values Hits ≡ facts.hits
+  pub sessions : has_flag values Sessions ≡ facts.sessions
   pub live : has_flag values Live ≡ facts.live
 
 -- an error of this kind is a request for the help or for the version

@@ -60,6 +60,7 @@ facts_of settings = record {
   shown = Every;
   lines = Plain;
   hits = false;
+  sessions = false;
   live = false;
 }
 

@@ -1,5 +1,5 @@
--- What the words select: which packets have a line in the report and what it tells, whether hits are told, whether verdicts are
--- written as packets come, and the files that get packets (this project's profile).
+-- What the words select: which packets have a line in the report and what it tells, whether hits and sessions are told,
+-- whether verdicts are written as packets come, and the files that get packets (this project's profile).
 use Rattle.std.specs.Prelude.{Bool, false, Option, None, Some, codes, option_map, if◌then◌else◌}
 use Rattle.std.specs.Str.{bytes_eq}
 use Rattle.clap.specs.Words.{Text}
@@ -30,6 +30,7 @@ shown_only (Some value) = if bytes_eq value (codes "pass") then Some Passing
 pub data FlagName : Type 0 where
   Summary : FlagName
   Hits : FlagName
+  Sessions : FlagName
   Explain : FlagName
   JsonLines : FlagName
   Live : FlagName
@@ -37,6 +38,7 @@ pub data FlagName : Type 0 where
 abbrev pub flag_id : FlagName → Text
 flag_id Summary = codes "summary"
 flag_id Hits = codes "hits"
+flag_id Sessions = codes "sessions"
 flag_id Explain = codes "explain"
 flag_id JsonLines = codes "json"
 flag_id Live = codes "live"

@@ -7,7 +7,7 @@ ghost use Rattle.racl_options.specs.Asking.{AskBy, asked_facts, fit_together, sa
 ghost use Rattle.racl_options.specs.CommandLine as line;
 ghost use Rattle.racl_options.specs.CommandLine.{HoldsNumber, HoldsNumbers, OptionName, Spells, SpellsOptions, has_flag, option_facts};
 ghost use Rattle.racl_options.specs.Origins.{origin_facts};
-ghost use Rattle.racl_options.specs.Selections.{Explain, Hits, JsonLines, Live, lines_by};
+ghost use Rattle.racl_options.specs.Selections.{Explain, Hits, JsonLines, Live, Sessions, lines_by};
 ghost use Rattle.racl_options.specs.inner.Naming.{IsMistaken, values_in};
 
 use crate::naming::{Refusal, origin_named};
@@ -26,8 +26,6 @@ const NOT_SHOWN: &str = "--only takes pass or drop";
 const NOT_SAVED: &str = "--drops and --passes are of one capture: they need POLICY CAPTURE";
 
 const ONE_FILE: &str = "--drops and --passes need a file each";
-
-const NO_OBJECTS: &str = "--hits can't stand beside --json";
 
 const NOT_LIVE: &str = "--live needs POLICY CAPTURE, and goes with --tables and timeouts alone";
 
@@ -71,7 +69,7 @@ fn is_simple_run(options: &Options) -> bool
     options.workers == 1
         && matches!(options.shown, Shown::Every)
         && matches!(options.lines, Lines::Plain)
-        && !options.hits
+        && !(options.hits || options.sessions)
 }
 
 // Whether packets are to be saved.
@@ -98,13 +96,6 @@ fn can_be_live(asked: &Asked<'_>) -> bool
     are_files(&asked.origin) && !is_saved(&asked.saved) && is_simple_run(&asked.options)
 }
 
-// Whether lines of hits would stand behind objects.
-fn has_mixed_lines(options: &Options) -> bool
-    ensures { result ≡ told.has_mixed_lines (option_facts options.now) }
-{
-    options.hits && matches!(options.lines, Lines::Json)
-}
-
 // Why what is asked for doesn't go together.
 fn misfit(asked: &Asked<'_>) -> Option<&'static str>
     ensures { is_none result ≡ fit_together (asked_facts asked.now) }
@@ -114,9 +105,6 @@ fn misfit(asked: &Asked<'_>) -> Option<&'static str>
     }
     if is_shared(asked.saved.drops, asked.saved.passes) {
         return Some(ONE_FILE);
-    }
-    if has_mixed_lines(&asked.options) {
-        return Some(NO_OBJECTS);
     }
     if asked.options.live && !can_be_live(asked) {
         return Some(NOT_LIVE);
@@ -132,6 +120,7 @@ fn read_options(matches: &ArgMatches<'_>, tables: TableSize, shown: Shown) -> Op
     ensures shown { result.shown ≡ shown }
     ensures lines { let values = values_in (found_of matches.now) in lines_by (has_flag values JsonLines) (has_flag values Explain) ≡ result.lines }
     ensures hits { has_flag (values_in (found_of matches.now)) Hits ≡ result.hits }
+    ensures sessions { has_flag (values_in (found_of matches.now)) Sessions ≡ result.sessions }
     ensures live { has_flag (values_in (found_of matches.now)) Live ≡ result.live }
 {
     let workers = number_at(matches, "workers");
@@ -149,6 +138,7 @@ fn read_options(matches: &ArgMatches<'_>, tables: TableSize, shown: Shown) -> Op
         shown,
         lines: lines_named(matches),
         hits: is_given(matches, "hits"),
+        sessions: is_given(matches, "sessions"),
         live: is_given(matches, "live"),
     }
 }

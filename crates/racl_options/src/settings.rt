@@ -37,6 +37,8 @@ pub struct Options {
     pub lines: Lines,
     /// Whether the report tells how many packets each rule decided.
     pub hits: bool,
+    /// Whether it tells which sessions the tables hold after the run.
+    pub sessions: bool,
     /// Whether verdicts are written as packets come.
     pub live: bool,
     pub ghost few: { (1 ≤ workers) × (workers ≤ 16) },

@@ -73,7 +73,7 @@ fn after_help() -> &'static str {
     "INPUT is a policy, a line `pcap` or `hex`, and the capture in that form; POLICY and CAPTURE are such \
     a policy and a capture's bytes. Except with --live they have at most 67108864 bytes in all, in which a byte \
     of a capture after --interface counts twice. The report goes to standard output. --drops, --passes and \
-    --live need POLICY CAPTURE; --live goes with --tables and timeouts alone, and --hits not with --json.
+    --live need POLICY CAPTURE; --live goes with --tables and timeouts alone.
 
 Examples:
   racl check host.policy
@@ -81,7 +81,7 @@ Examples:
   racl --interface 1=eth1.pcap --interface 2=eth2.pcap router.policy
   racl --workers 4 --udp 60 < examples/first_path.racl
   racl --explain --only drop --hits host.policy host.pcap
-  racl --json host.policy host.pcap
+  racl --json --hits --sessions host.policy host.pcap
   racl --drops dropped.pcap --passes passed.pcap host.policy host.pcap
   tcpdump -i eth0 -U -w - | racl --live host.policy -
 
@@ -123,7 +123,7 @@ fn command_with_flags<'a>(alloc: Global) -> Result<Command<'a>, AllocError>
         .arg(flag(alloc, "live", "Lines are written as packets come"))
 }
 
-// The command with its options and the flags that say what is reported, up to the hits.
+// The command with its options and the flags that say what is reported, up to the sessions.
 fn command_with_reports<'a>(alloc: Global) -> Result<Command<'a>, AllocError>
     ensures { IfOk result (λ c. app_of c ≡ with_reports) }
 {
@@ -132,7 +132,12 @@ fn command_with_reports<'a>(alloc: Global) -> Result<Command<'a>, AllocError>
         .arg(flag(
             alloc,
             "hits",
-            "Behind the totals, how many packets each rule decided",
+            "Behind the totals, how many packets each rule decided, and counts of sessions",
+        ))?
+        .arg(flag(
+            alloc,
+            "sessions",
+            "Behind these, the sessions that the tables hold after the run",
         ))
 }
 

@@ -5,6 +5,7 @@ pub mod ChosenLaws
 pub mod ChosenLemmas
 pub mod CountLemmas
 pub mod EntryLemmas
+pub mod FlowKeyLemmas
 pub mod LineLemmas
 pub mod RuleTextLemmas
 pub mod TextLemmas

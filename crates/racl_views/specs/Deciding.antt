@@ -1,5 +1,5 @@
 -- Which rule decided a packet (this project's profile).
-use Rattle.std.specs.Prelude.{◌≡◌, ℕ, List, [], ◌∷◌, Option, None, Some, option_map}
+use Rattle.std.specs.Prelude.{◌≡◌, ℕ, Bool, false, ◌==◌, ◌&&◌, List, [], ◌∷◌, Option, None, Some, count_by, option_map}
 use Rattle.packet_view.specs.Captures.{PacketFacts}
 use Rattle.packet_view.specs.Frames.{FrameFacts, Ip, Malformed, NotIp, Short}
 use Rattle.acl_policy.specs.Policies.{PolicyFacts}
@@ -7,6 +7,7 @@ use Rattle.flow_filter.specs.Readings.{IsSeen}
 use Rattle.flow_filter.specs.declared.verdict.Verdict.{Verdict}
 use Rattle.flow_filter.specs.declared.verdict.Verdict.TheVariants as verdict
 use Rattle.racl_views.specs.declared.rule.RuleName.{RuleName}
+use Rattle.racl_views.specs.RuleLines.{same_way}
 
 -- the number of the rule that decided, where one did
 abbrev pub rule_number : Verdict → Option ℕ
@@ -42,3 +43,17 @@ AreDecided policy (packet ∷ packets) [] rules = rules ≡ []
 AreDecided policy (packet ∷ packets) (verdict ∷ verdicts) [] = ⊥
 AreDecided policy (packet ∷ packets) (verdict ∷ verdicts) (rule ∷ rules) =
     IsDecided policy packet verdict rule × AreDecided policy packets verdicts rules
+
+-- ---- counts
+
+abbrev pub same_rule : RuleName → RuleName → Bool
+same_rule one two = (one.interface == two.interface) && (same_way one.direction two.direction && (one.number == two.number))
+
+-- whether this rule decided, where one did
+abbrev pub decided_by : RuleName → Option RuleName → Bool
+decided_by name None = false
+decided_by name (Some rule) = same_rule name rule
+
+-- how many packets it decided
+abbrev pub hits_on : RuleName → List (Option RuleName) → ℕ
+hits_on name rules = count_by (decided_by name) rules

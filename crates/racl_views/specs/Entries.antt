@@ -8,8 +8,7 @@ use Rattle.flow_filter.specs.declared.verdict.Verdict.{Verdict}
 use Rattle.racl_views.specs.declared.entry.Entry.{Entry}
 use Rattle.racl_views.specs.declared.rule.RuleLine.{RuleLine}
 use Rattle.racl_views.specs.declared.rule.RuleName.{RuleName}
-use Rattle.racl_views.specs.Deciding.{rule_on}
-use Rattle.racl_views.specs.Hits.{same_rule}
+use Rattle.racl_views.specs.Deciding.{rule_on, same_rule}
 
 -- The verdict, where and when the packet was seen, what its frame is there, and the line of the rule that decided it: 0 where
 -- none did.

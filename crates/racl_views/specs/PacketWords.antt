@@ -1,14 +1,18 @@
 -- The words for what a packet and its verdict are (this project's profile; addresses as RFC 5952 writes them).
-use Rattle.std.specs.Prelude.{ℕ, ◌==◌, List, codes, if◌then◌else◌}
+use Rattle.std.specs.Prelude.{ℕ, ◌==◌, List, ◌++◌, codes, decimal, if◌then◌else◌}
 use Rattle.std.specs.Int.{to_be_bytes, w32, w128}
 use Rattle.std.specs.Net.Addr.{segments_of}
 use Rattle.std.specs.Net.Text.{ipv4_text, ipv6_text}
 use Rattle.packet_view.specs.Addresses.{icmp_of}
 use Rattle.packet_view.specs.declared.tuple.Family.{Family}
 use Rattle.packet_view.specs.declared.tuple.Family.TheVariants.{V4, V6}
+use Rattle.flow_filter.specs.Verdicts.{passes}
 use Rattle.flow_filter.specs.declared.verdict.Verdict.{Verdict}
 use Rattle.flow_filter.specs.declared.verdict.Verdict.TheVariants as verdict
-use Rattle.racl_views.specs.Hits.{numbered}
+
+-- a word and a number
+abbrev pub numbered : List ℕ → ℕ → List ℕ
+numbered word number = word ++ decimal number
 
 -- the name of a protocol as policies write it, or its number
 abbrev pub protocol_text : Family → ℕ → List ℕ
@@ -22,17 +26,7 @@ address_text V6 address = ipv6_text (segments_of (to_be_bytes w128 address))
 
 -- what became of the packet
 abbrev pub effect_word : Verdict → List ℕ
-effect_word verdict.Session = codes "pass"
-effect_word (verdict.Reflect n) = codes "pass"
-effect_word (verdict.Permit n) = codes "pass"
-effect_word (verdict.Deny n) = codes "drop"
-effect_word verdict.ByDefault = codes "drop"
-effect_word verdict.Worn = codes "drop"
-effect_word verdict.Full = codes "drop"
-effect_word verdict.NoPages = codes "drop"
-effect_word verdict.NotIp = codes "pass"
-effect_word verdict.Malformed = codes "drop"
-effect_word verdict.Short = codes "drop"
+effect_word verdict = if passes verdict then codes "pass" else codes "drop"
 
 -- and why
 abbrev pub reason_word : Verdict → List ℕ

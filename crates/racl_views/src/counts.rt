@@ -6,7 +6,7 @@ ghost use Rattle.racl_views.specs.declared.rule.RuleName as code;
 ghost use Rattle.racl_views.specs.inner.Places;
 ghost use Rattle.racl_views.specs.inner.Places.{place_of};
 ghost use Rattle.racl_views.specs.inner.Counts.{AreCounts};
-ghost use Rattle.racl_views.specs.Hits.{decided_by};
+ghost use Rattle.racl_views.specs.Deciding.{decided_by};
 
 use crate::deciding::deciding_rule;
 use crate::rule::RuleName;

@@ -1,17 +1,15 @@
 //! Objects of JSON, one a line (RFC 8259). No string in them has a byte that is to be escaped.
 ghost use Rattle.std.specs.Prelude.{◌≡◌, ◌+◌, ◌≤◌, ◌++◌, [], length};
-ghost use Rattle.packet_view.specs.Frames.{frame_facts};
-ghost use Rattle.packet_view.specs.Tuples.{tuple_facts};
 ghost use Rattle.racl_views.specs.Entries.{entry_facts};
 ghost use Rattle.racl_views.specs.JsonLines;
-ghost use Rattle.racl_views.specs.JsonLines.{carried_keys, dest_keys, from_key, json_line, json_totals, json_truncation, line_key, rule_keys, seen_keys, source_keys, to_keys, tuple_keys, verdict_keys, way_key};
+ghost use Rattle.racl_views.specs.JsonLines.{json_line, json_totals, json_truncation, line_key, rule_keys, verdict_keys};
 ghost use Rattle.racl_views.specs.PacketWords;
 
-use crate::address::push_address;
 use crate::entry::Entry;
+use crate::packet_text::{push_carried, push_seen};
 use crate::pieces::push_numbered;
+use crate::view::View;
 use flow_filter::Verdict;
-use packet_view::{Direction, Fields, Frame, Tuple};
 use racl_io::{Captured, Piece, Totals};
 
 fn effect_word(verdict: Verdict) -> &'static [u8]
@@ -86,116 +84,17 @@ fn push_line_key(piece: &mut Piece, line: u64)
     push_numbered(piece, b",\"line\":", line);
 }
 
-fn push_way(piece: &mut Piece, frame: Frame)
-    requires { length piece.old + 18 ≤ 262144 }
-    ensures text { piece.new ≡ piece.old ++ way_key (frame_facts frame) }
-    ensures short { length piece.new ≤ length piece.old + 18 }
-{
-    match frame {
-        Frame::Ip(Direction::Inbound, _) => piece.push(b",\"direction\":\"in\""),
-        Frame::Ip(Direction::Outbound, _) => piece.push(b",\"direction\":\"out\""),
-        Frame::NotIp | Frame::Malformed | Frame::Short => {}
-    }
-}
-
-// Where and when the packet was seen.
-fn push_seen(piece: &mut Piece, entry: &Entry)
-    requires { length piece.old + 87 ≤ 262144 }
-    ensures text { piece.new ≡ piece.old ++ seen_keys (entry_facts entry.now) }
-    ensures short { length piece.new ≤ length piece.old + 87 }
-{
-    push_numbered(piece, b",\"interface\":", u64::from(entry.interface));
-    push_way(piece, entry.frame);
-    push_numbered(piece, b",\"time\":", u64::from(entry.moment));
-}
-
-fn push_from(piece: &mut Piece, fields: Fields)
-    requires { length piece.old + 39 ≤ 262144 }
-    ensures text { piece.new ≡ piece.old ++ from_key fields }
-    ensures short { length piece.new ≤ length piece.old + 39 }
-{
-    match fields {
-        Fields::Ports { from, .. } | Fields::Tcp { from, .. } => {
-            push_numbered(piece, b",\"source_port\":", u64::from(from));
-        }
-        Fields::Absent | Fields::Icmp { .. } => {}
-    }
-}
-
-fn push_to(piece: &mut Piece, fields: Fields)
-    requires { length piece.old + 77 ≤ 262144 }
-    ensures text { piece.new ≡ piece.old ++ to_keys fields }
-    ensures short { length piece.new ≤ length piece.old + 77 }
-{
-    match fields {
-        Fields::Absent => {}
-        Fields::Ports { to, .. } => push_numbered(piece, b",\"destination_port\":", u64::from(to)),
-        Fields::Tcp { to, flags, .. } => {
-            push_numbered(piece, b",\"destination_port\":", u64::from(to));
-            push_numbered(piece, b",\"flags\":", u64::from(flags));
-        }
-        Fields::Icmp { kind, code } => {
-            push_numbered(piece, b",\"type\":", u64::from(kind));
-            push_numbered(piece, b",\"code\":", u64::from(code));
-        }
-    }
-}
-
-fn push_source(piece: &mut Piece, tuple: &Tuple)
-    requires { length piece.old + 157 ≤ 262144 }
-    ensures text { piece.new ≡ piece.old ++ source_keys (tuple_facts tuple.now) }
-    ensures short { length piece.new ≤ length piece.old + 157 }
-{
-    piece.push(b",\"source\":\"");
-    push_address(piece, tuple.family, tuple.source);
-    piece.push(b"\"");
-    push_from(piece, tuple.fields);
-}
-
-fn push_dest(piece: &mut Piece, tuple: &Tuple)
-    requires { length piece.old + 200 ≤ 262144 }
-    ensures text { piece.new ≡ piece.old ++ dest_keys (tuple_facts tuple.now) }
-    ensures short { length piece.new ≤ length piece.old + 200 }
-{
-    piece.push(b",\"destination\":\"");
-    push_address(piece, tuple.family, tuple.dest);
-    piece.push(b"\"");
-    push_to(piece, tuple.fields);
-}
-
-fn push_tuple(piece: &mut Piece, tuple: &Tuple)
-    requires { length piece.old + 393 ≤ 262144 }
-    ensures text { piece.new ≡ piece.old ++ tuple_keys (tuple_facts tuple.now) }
-    ensures short { length piece.new ≤ length piece.old + 393 }
-{
-    push_numbered(piece, b",\"protocol\":", u64::from(tuple.proto));
-    push_source(piece, tuple);
-    push_dest(piece, tuple);
-}
-
-// What the packet carries, where that is seen.
-fn push_carried(piece: &mut Piece, frame: &Frame)
-    requires { length piece.old + 393 ≤ 262144 }
-    ensures text { piece.new ≡ piece.old ++ carried_keys (frame_facts frame.now) }
-    ensures short { length piece.new ≤ length piece.old + 393 }
-{
-    match frame {
-        Frame::Ip(_, tuple) => push_tuple(piece, tuple),
-        Frame::NotIp | Frame::Malformed | Frame::Short => {}
-    }
-}
-
 /// The object of the packet with this number.
 pub fn push_object(piece: &mut Piece, number: u64, entry: &Entry)
-    requires { length piece.old + 640 ≤ 262144 }
+    requires { length piece.old + 700 ≤ 262144 }
     ensures text { piece.new ≡ piece.old ++ json_line number (entry_facts entry.now) }
-    ensures short { length piece.new ≤ length piece.old + 640 }
+    ensures short { length piece.new ≤ length piece.old + 700 }
 {
     push_numbered(piece, b"{\"packet\":", number);
     push_verdict(piece, entry.verdict);
     push_line_key(piece, entry.line);
-    push_seen(piece, entry);
-    push_carried(piece, &entry.frame);
+    push_seen(piece, View::Json, entry);
+    push_carried(piece, View::Json, &entry.frame);
     piece.push(b"}\n");
 }
 

@@ -1,5 +1,5 @@
-//! What is told of a run beside its verdicts: what its packets are, which rules decided them, and the chosen packets as a
-//! capture.
+//! What is told of a run beside its verdicts: what its packets are, which rules decided them, which sessions it left, and the
+//! chosen packets as a capture.
 #![tactic(auto)]
 
 mod address;
@@ -10,11 +10,14 @@ mod counts;
 mod deciding;
 mod entry;
 mod explained;
+mod flow_end;
+mod flow_key;
 mod hits;
 mod json;
 mod laws;
 mod numbering;
 mod other;
+mod packet_text;
 mod pieces;
 mod rule;
 mod rule_places;
@@ -22,21 +25,27 @@ mod rule_table;
 mod rule_text;
 mod run;
 mod save;
+mod session_counts;
+mod sessions;
 mod shown_text;
 mod spot;
 mod stored;
+mod stored_flow;
+mod tally;
 mod telling;
 mod view;
 mod writing;
 
 pub use capture_bytes::{CaptureBytes, packets_in};
 pub use chosen::Chosen;
+pub use flow_key::keys_tell_their_flows;
 pub use hits::hits_text;
 pub use laws::explained_lines_begin_as_the_report;
 pub use numbering::rule_lines;
 pub use rule::{RuleLine, RuleName};
 pub use run::Run;
 pub use save::{chosen_packets_are_a_capture, write_chosen};
+pub use sessions::sessions_text;
 pub use stored::StoredPairs;
 pub use view::View;
 pub use writing::write_view;

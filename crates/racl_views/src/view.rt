@@ -3,7 +3,7 @@
 /// In which form a run is told.
 #[derive(Clone, Copy, Debug, PartialEq, Eq)]
 pub enum View {
-    /// The report, whose lines say of their packets what these are, and which rule decided.
+    /// Lines of text; those of packets say what these are, and which rule decided.
     Explained,
     /// Objects of JSON, one a line.
     Json,

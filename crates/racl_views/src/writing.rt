@@ -26,13 +26,13 @@ use racl_io::{
 use std::alloc::Global;
 
 /// Up to how many bytes a piece has room for one more line.
-const FULL: usize = 261_344;
+const FULL: usize = 261_244;
 
 // Sees that the piece has room for a line.
 fn make_room<W: Sink>(writer: &mut W, piece: &mut Piece) -> Result<(), Fault>
     requires { W.failures writer.old < 2 ^ 64 - 1 }
     ensures pushed { HasPushed W.bytes W.failures writer.old writer.new piece.old piece.new [] result }
-    ensures room { OnOk result (length piece.new + 800 ≤ 262144) }
+    ensures room { OnOk result (length piece.new + 900 ≤ 262144) }
 {
     if piece.as_slice().len() <= FULL {
         return Ok(());
@@ -43,7 +43,7 @@ fn make_room<W: Sink>(writer: &mut W, piece: &mut Piece) -> Result<(), Fault>
 }
 
 fn push_line(piece: &mut Piece, telling: Telling<'_, '_>, place: Place, entry: &Entry)
-    requires { length piece.old + 800 ≤ 262144 }
+    requires { length piece.old + 900 ≤ 262144 }
     ensures { piece.new ≡ piece.old ++ line_in (format_of telling.entry).view (format_of telling.entry).texts place.named place.number (entry_facts entry.now) }
 {
     match telling.view {

@@ -50,5 +50,6 @@ const DEFAULTS: Options = Options {
     shown: Shown::Every,
     lines: Lines::Plain,
     hits: false,
+    sessions: false,
     live: false,
 };

@@ -92,6 +92,7 @@ fn words_set_the_options(rt: HostRuntime) {
         shown: Shown::Every,
         lines: Lines::Plain,
         hits: false,
+        sessions: false,
         live: false,
     };
     const MOST: Options = Options {
@@ -101,6 +102,7 @@ fn words_set_the_options(rt: HostRuntime) {
         shown: Shown::Every,
         lines: Lines::Plain,
         hits: false,
+        sessions: false,
         live: false,
     };
     const CASES: [(&[&str], Options); 3] = [
@@ -136,11 +138,12 @@ fn lines_after<'a>(alloc: Global, words: &'a [&'a str]) -> Option<(Lines, bool)>
 
 #[test]
 fn words_select_what_lines_tell(rt: HostRuntime) {
-    const CASES: [(&[&str], Option<(Lines, bool)>); 7] = [
+    const CASES: [(&[&str], Option<(Lines, bool)>); 8] = [
         (&["racl", "--explain"], Some((Lines::Explained, false))),
         (&["racl", "--explain", "--json"], Some((Lines::Json, false))),
         (&["racl", "--live", "p", "-"], Some((Lines::Plain, true))),
-        (&["racl", "--json", "--hits"], None),
+        (&["racl", "--json", "--hits"], Some((Lines::Json, false))),
+        (&["racl", "--live", "--sessions", "p", "-"], None),
         (&["racl", "--live"], None),
         (&["racl", "--live", "--explain", "p", "-"], None),
         (&["racl", "--live", "--workers=2", "p", "-"], None),

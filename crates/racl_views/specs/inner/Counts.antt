@@ -3,8 +3,7 @@ use Rattle.std.specs.Prelude.{◌≡◌, ◌<◌, ◌^◌, ℕ, List, Option, ge
 use Rattle.packet_view.specs.Captures.{PacketFacts}
 use Rattle.acl_policy.specs.Policies.{PolicyFacts}
 use Rattle.flow_filter.specs.declared.verdict.Verdict.{Verdict}
-use Rattle.racl_views.specs.Deciding.{AreDecided}
-use Rattle.racl_views.specs.Hits.{hits_on}
+use Rattle.racl_views.specs.Deciding.{AreDecided, hits_on}
 use Rattle.racl_views.specs.declared.rule.RuleName.{RuleName}
 use Rattle.racl_views.specs.inner.Places.{place_of}
 

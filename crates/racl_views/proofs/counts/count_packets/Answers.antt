@@ -4,8 +4,7 @@ use Rattle.std.proofs.lemmas.List.{length_push}
 use Rattle.packet_view.specs.CheckedCaptures.{remaining}
 use Rattle.packet_view.specs.Captures.{packet_facts}
 use Rattle.acl_policy.specs.Policies.{policy_facts}
-use Rattle.racl_views.specs.Deciding.{AreDecided}
-use Rattle.racl_views.specs.Hits.{decided_by}
+use Rattle.racl_views.specs.Deciding.{AreDecided, decided_by}
 use Rattle.racl_views.proofs.CountLemmas.{counted_all, decided_more, hits_more, none_left}
 use Rattle.racl_views.proofs.counts.count_packets.Goals as goal
 

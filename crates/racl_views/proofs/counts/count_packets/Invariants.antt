@@ -1,8 +1,7 @@
 use Rattle.std.proofs.Common.{◌≡◌, ◌≤◌, ◌<◌, ◌^◌, ◌++◌, ℕ, List, Option, drop, get_or, length}
 use Rattle.packet_view.specs.CheckedCaptures.{remaining}
 use Rattle.acl_policy.specs.Policies.{policy_facts}
-use Rattle.racl_views.specs.Deciding.{AreDecided}
-use Rattle.racl_views.specs.Hits.{hits_on}
+use Rattle.racl_views.specs.Deciding.{AreDecided, hits_on}
 use Rattle.racl_views.specs.declared.rule.RuleName.{RuleName}
 use Rattle.racl_views.specs.inner.Places.{place_of}
 use Rattle.racl_views.proofs.counts.count_packets.Given as goal

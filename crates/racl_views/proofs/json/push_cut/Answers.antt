@@ -1,6 +1,6 @@
 use Rattle.std.proofs.Common.{codes}
-use Rattle.racl_views.specs.Hits.{numbered}
 use Rattle.racl_views.specs.JsonLines.{number_of}
+use Rattle.racl_views.specs.PacketWords.{numbered}
 use Rattle.racl_views.proofs.TextLemmas.{three}
 use Rattle.racl_views.proofs.json.push_cut.Goals as goal
 

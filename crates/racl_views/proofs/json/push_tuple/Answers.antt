@@ -1,5 +1,0 @@
-use Rattle.racl_views.proofs.TextLemmas.{three}
-use Rattle.racl_views.proofs.json.push_tuple.Goals as goal
-
-pub returns-clause-text : goal.returns-clause-text
-returns-clause-text c = three _ _ _ _ _ _ _ (rw c.from.ensures at c.push_numbered.ensures.text) c.push_source.ensures.text c.push_dest.ensures.text
