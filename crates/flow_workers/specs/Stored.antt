@@ -5,8 +5,8 @@ use Rattle.std.specs.Ordering.{nat_cmp}
 use Rattle.std.specs.Cmp.Lexicographic.{slice_cmp}
 use Rattle.std.specs.List.Sorted.{IsStrictlySortedBy}
 use Rattle.bihash_words.specs.Sizes.{Sizes, bucket_of}
-use Rattle.bihash_steps.specs.Words.{buckets}
-use Rattle.bihash_steps.specs.declared.view.Known.{Known}
+use Rattle.bihash_rule.specs.Words.{buckets}
+use Rattle.bihash_rule.specs.declared.view.Known.{Known}
 use Rattle.bihash_table.specs.Closing.{map_in}
 
 -- the first part of each pair
