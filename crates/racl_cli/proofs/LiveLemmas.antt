@@ -15,15 +15,15 @@ use Rattle.flow_dealing.proofs.FewPackets.{pages_for_few}
 use Rattle.flow_dealing.proofs.OneReport.{one_report}
 use Rattle.flow_workers.proofs.AloneLemmas.{alone_begun}
 use Rattle.racl_options.specs.declared.settings.Options.{Options}
-use Rattle.racl_options.specs.declared.settings.TableSize.{TableSize}
 use Rattle.racl_io.specs.declared.fault.Fault.{Fault}
 use Rattle.racl_io.specs.declared.report.Totals.{Totals}
 use Rattle.racl_io.specs.Reports.{report_of, totals_of}
 use Rattle.capture_stream.specs.Lives.{HasToldAll, told_alone}
-use Rattle.racl_cli.specs.Crews.{AreResting, AreSaid, IsRestingAlone, Orders, orders_for, orders_of}
+use Rattle.racl_cli.specs.Crews.{AreResting, AreSaid, IsRestingAlone, Orders, orders_for, orders_of, size_of}
 use Rattle.racl_cli.specs.LiveRuns.{ByOneWorker, HasRunLive, IsEarlyFault}
 use Rattle.racl_cli.specs.Runs.{ByOneThread, bucket_deal}
 use Rattle.racl_cli.specs.inner.Heads.{HasReadHeader, IsHeadless}
+use Rattle.racl_cli.specs.declared.sized.SizedTables.{SizedTables}
 use Rattle.racl_cli.specs.declared.sized.SizedWorkers.{SizedWorkers}
 use Rattle.racl_cli.specs.declared.sized.SizedWorkers.TheVariants.{Standard, Large}
 use Rattle.racl_cli.proofs.OutcomeLemmas.{given_by_workers, judged_as}
@@ -34,15 +34,15 @@ begun_alone (Standard workers) one rest = alone_begun _ _ workers one rest
 begun_alone (Large workers) one rest = alone_begun _ _ workers one rest
 
 -- what one worker said
-pub by_one_worker : (options : Options) (set : Filter) (ready : InterfaceFilters) (size : TableSize) (orders : Orders) (packets : List PacketFacts)
-    (verdicts : List Verdict) → orders ≡ orders_for size ready 1 → size ≡ options.tables → ready.times ≡ set.times → ready.policy.now ≡ set.policy
+pub by_one_worker : (options : Options) (set : Filter) (ready : InterfaceFilters) (tables : SizedTables) (orders : Orders) (packets : List PacketFacts)
+    (verdicts : List Verdict) → orders ≡ orders_for tables ready 1 → size_of tables ≡ options.tables → ready.times ≡ set.times → ready.policy.now ≡ set.policy
     → set.times ≡ options.times → 1 ≤ options.workers → AreSaid orders packets verdicts → ByOneWorker options (policy_facts set.policy) packets verdicts
-by_one_worker options set ready size orders packets verdicts given sized times policy same some said =
+by_one_worker options set ready tables orders packets verdicts given sized times policy same some said =
     let judged : AreJudged (bucket_deal options.tables 1) set.times (policy_facts set.policy) packets verdicts =
-    judged_as packets verdicts orders size options.tables ready set 1 given sized times policy said in
+    (judged_as packets verdicts said.views orders tables options.tables ready set 1 given sized times policy (said, refl)).0 in
     record {
       judged = subst (λ t. AreJudged (bucket_deal options.tables 1) t (policy_facts set.policy) packets verdicts) same judged;
-      by_workers = given_by_workers options set.times (policy_facts set.policy) packets verdicts 1 same (omega arith) some judged (pages_for_few _ _ _ _ _);
+      by_workers = (given_by_workers options set.times (policy_facts set.policy) packets verdicts judged.views 1 same (omega arith) some (judged, refl) (pages_for_few _ _ _ _ _)).0;
       by_one_thread =
           subst (λ t. HavePages verdicts → ByOneThread options.tables t (policy_facts set.policy) packets verdicts) same
           (one_report _ _ _ _ _ judged (inl refl));

@@ -25,7 +25,7 @@ use Rattle.racl_io.specs.Transfers.{GaveAtMost, HasReadWithin}
 use Rattle.capture_stream.specs.Streams.{HasLongRecord, IsStreamFault, records_in}
 use Rattle.capture_stream.specs.declared.stream.Opening.{Opening}
 use Rattle.racl_cli.specs.Reads.{AnswersInput, AnswersRead, HasHeaded, HasJudged, HasRecordsAt, IsHeaded, IsSaid, IsUnnumbered, having_records}
-use Rattle.racl_cli.specs.Runs.{Outcome}
+use Rattle.racl_cli.specs.Runs.{JudgedFacts}
 use Rattle.racl_cli.specs.declared.opening.Headed.{Headed}
 use Rattle.racl_cli.proofs.OutcomeLemmas.{capture_answers, hex_answers, memory_answers, verdicts_answer}
 use Rattle.racl_cli.proofs.ReadLemmas.{all_known, gave_none, too_many_known}
@@ -284,9 +284,9 @@ module _ (options : Options) (front : List ℕ) (headed : Headed) (opening : Ope
       (subst (λ n. HasRecords (front ++ read) (policy_facts headed.filter.policy) headed.order (drop n (opening.bytes.items ++ read))) (sym is.from)
       (records_at options front opening.bytes.items read headed opening.ended headed.decoded refl has is.bytes all))
 
-  judged_answers : (before after : Option (List ℕ)) (outcome : Outcome) → HasJudged options (policy_facts headed.filter.policy) opening before after outcome
-      → AnswersRead options front before (Ok outcome)
-  judged_answers before after outcome judged =
+  judged_answers : (before after : Option (List ℕ)) (met : JudgedFacts) → HasJudged options (policy_facts headed.filter.policy) opening before after met
+      → AnswersRead options front before (Ok met)
+  judged_answers before after met judged =
       let at = stands judged.read judged.whole.all in
       let few = few_in_all front opening.bytes.items judged.read opening.ended headed.decoded is.bytes judged.whole.all is.few judged.whole.few in
       let all : AreRecords opening.order (drop 24 at.capture) judged.packets judged.rest =
@@ -296,7 +296,7 @@ module _ (options : Options) (front : List ℕ) (headed : Headed) (opening : Ope
         known = all_known before after judged.read judged.whole.consumed judged.whole.ended;
         few = few;
         answers = verdicts_answer options (front ++ judged.read) at.parts (policy_facts headed.filter.policy) at.parted at.said at.plain at.capture at.spelt opening.order
-            at.header judged.packets judged.rest judged.truncated outcome few all judged.end judged.reached;
+            at.header judged.packets judged.rest judged.truncated met few all judged.end judged.reached;
       })
 
   long_answers : (before after : Option (List ℕ)) (number : ℕ) → HasLongRecord opening before after number
@@ -325,8 +325,8 @@ module _ (options : Options) (front : List ℕ) (headed : Headed) (opening : Ope
   fault_answers before after (LongRecord number) of = long_answers before after number of
   fault_answers before after fault of = absurd of
 
-  pub stream_answers : (before after : Option (List ℕ)) (result : Result Outcome Fault)
+  pub stream_answers : (before after : Option (List ℕ)) (result : Result JudgedFacts Fault)
       → IfOk result (HasJudged options (policy_facts headed.filter.policy) opening before after) → IfErr result (IsStreamFault opening before after)
       → AnswersRead options front before result
-  stream_answers before after (Ok outcome) judged fault = judged_answers before after outcome judged
+  stream_answers before after (Ok met) judged fault = judged_answers before after met judged
   stream_answers before after (Err found) judged fault = fault_answers before after found fault

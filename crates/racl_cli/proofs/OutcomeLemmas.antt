@@ -17,7 +17,8 @@ use Rattle.flow_filter.proofs.OneThreadLemmas.{one_verdicts}
 use Rattle.flow_filter.specs.Judged.{readings_of, verdict_on}
 use Rattle.flow_filter.specs.Readings.{IsReading}
 use Rattle.flow_dealing.specs.Dealings.{Deal}
-use Rattle.flow_dealing.specs.WorkerRecords.{AreFew, AreJudged, HasPagesIn, HavePages}
+use Rattle.flow_dealing.specs.Views.{Views}
+use Rattle.flow_dealing.specs.WorkerRecords.{AreFew, AreJudged, AreJudgedBy, HasPagesIn, HavePages}
 use Rattle.flow_dealing.proofs.FewPackets.{pages_for_few}
 use Rattle.flow_dealing.proofs.OneReport.{one_report}
 use Rattle.flow_dealing.proofs.Places.{zip_count}
@@ -29,15 +30,18 @@ use Rattle.racl_io.specs.declared.report.Captured.{Captured}
 use Rattle.racl_io.specs.declared.report.Totals.{Totals}
 use Rattle.racl_io.specs.Faults.{IsFaultOfBytes, IsFaultOfContent, IsSystemFault, capture_fault, policy_fault}
 use Rattle.racl_io.specs.Inputs.{IsContent, IsInput, InputFacts, most_bytes}
-use Rattle.racl_cli.specs.Crews.{AreAfter, AreSaid, Orders, orders_for}
+use Rattle.racl_cli.specs.Crews.{AreAfter, AreSaidBy, Orders, orders_for, size_of, views_with}
 use Rattle.capture_stream.specs.Streams.{AreAllRead, records_in}
 use Rattle.capture_stream.specs.declared.stream.Opening.{Opening}
 use Rattle.flow_dealing.specs.WorkerRecords.{HavePages}
+use Rattle.racl_cli.specs.declared.outcome.Ended.{Ended}
+use Rattle.racl_cli.specs.declared.sized.SizedTables.{SizedTables}
 use Rattle.racl_cli.specs.declared.sized.SizedWorkers.{SizedWorkers}
 use Rattle.racl_cli.specs.Reads.{AnswersInput, AreKnown, HasJudged, HasKept, IsReached, IsSaid, IsUnnumbered}
+use Rattle.racl_cli.specs.inner.Stored.{HasStored}
 use Rattle.racl_cli.specs.inner.Streams.{HasEnded, HasSaidAll}
 use Rattle.racl_cli.specs.inner.Views.{HasReport, MayTell, needs_bytes}
-use Rattle.racl_cli.specs.Runs.{ByOneThread, ByWorkers, HasOutcome, HasReported, HasRun, IsRead, Outcome, bucket_deal, layout_for, told_of}
+use Rattle.racl_cli.specs.Runs.{AreStoredOf, ByOneThread, ByWorkers, HasOutcome, HasReported, HasRun, IsRead, JudgedFacts, Outcome, bucket_deal, layout_for, told_of}
 use Rattle.racl_cli.proofs.CaptureLaws.{alone_plain, fault_of_known, fault_plain, one_truncated, plain_alone, plain_fault}
 use Rattle.racl_cli.proofs.RunLemmas.{alone_in_capture, fault_of_known_parts, fault_of_right_policy, fault_of_wrong_policy, fault_without_parts, read_in}
 
@@ -45,36 +49,57 @@ abbrev pub outcome_of : List Verdict → List Captured → Outcome
 outcome_of verdicts captures = record { verdicts = verdicts; captures = captures }
 
 -- what the workers say of their verdicts, where sessions live as long as the words ask for
-pub given_by_workers : (options : Options) (times : Timeouts) (policy : PolicyFacts) (packets : List PacketFacts) (verdicts : List Verdict) (workers : ℕ)
-    → times ≡ options.times → 1 ≤ workers → workers ≤ options.workers → AreJudged (bucket_deal options.tables workers) times policy packets verdicts
+pub given_by_workers : (options : Options) (times : Timeouts) (policy : PolicyFacts) (packets : List PacketFacts) (verdicts : List Verdict) (views : Views) (workers : ℕ)
+    → times ≡ options.times → 1 ≤ workers → workers ≤ options.workers → AreJudgedBy (bucket_deal options.tables workers) times policy packets verdicts views
     → ((are : AreJudged (bucket_deal options.tables workers) times policy packets verdicts) (family : Family) → AreFew (layout_for options.tables) times family are.judged → All (HasPagesIn times family) are.judged)
-    → ByWorkers options policy packets verdicts
-given_by_workers options times policy packets verdicts workers same some few judged paged =
-    let moved = subst (λ t. (are : AreJudged (bucket_deal options.tables workers) t policy packets verdicts) × ((family : Family) → AreFew (layout_for options.tables) t family are.judged → All (HasPagesIn t family) are.judged))
-    same (judged, paged judged) in
-    record { workers = workers; some = some; few = few; judged = moved.0; paged = moved.1 }
+    → (by : ByWorkers options policy packets verdicts) × (by.judged.views ≡ views)
+given_by_workers options times policy packets verdicts views workers same some few judged paged =
+    let moved = subst (λ t. (are : AreJudged (bucket_deal options.tables workers) t policy packets verdicts) × (are.views ≡ views)
+    × ((family : Family) → AreFew (layout_for options.tables) t family are.judged → All (HasPagesIn t family) are.judged))
+    same (judged.0, judged.1, paged judged.0) in
+    (record { workers = workers; some = some; few = few; judged = moved.0; paged = moved.2 }, moved.1)
 
--- what workers said who had orders of this size of tables, these timeouts and this policy
-pub judged_as : (packets : List PacketFacts) (verdicts : List Verdict) (orders : Orders) (size asked : TableSize) (ready : InterfaceFilters) (set : Filter) (workers : ℕ)
-    → orders ≡ orders_for size ready workers → size ≡ asked → ready.times ≡ set.times → ready.policy.now ≡ set.policy → AreSaid orders packets verdicts
-    → AreJudged (bucket_deal asked workers) set.times (policy_facts set.policy) packets verdicts
-judged_as packets verdicts orders size asked ready set workers given sized times policy said =
-    subst (λ s. AreJudged (bucket_deal s workers) set.times (policy_facts set.policy) packets verdicts) sized
-    (subst (λ t. AreJudged (bucket_deal size workers) t (policy_facts set.policy) packets verdicts) times
-    (subst (λ p. AreJudged (bucket_deal size workers) ready.times (policy_facts p) packets verdicts) policy
-    (subst (λ o. AreSaid o packets verdicts) given said)))
+-- what workers said who had orders of these tables, these timeouts and this policy
+pub judged_as : (packets : List PacketFacts) (verdicts : List Verdict) (views : Views) (orders : Orders) (tables : SizedTables) (asked : TableSize) (ready : InterfaceFilters) (set : Filter) (workers : ℕ)
+    → orders ≡ orders_for tables ready workers → size_of tables ≡ asked → ready.times ≡ set.times → ready.policy.now ≡ set.policy
+    → AreJudgedBy orders.deal orders.times orders.policy packets verdicts views
+    → AreJudgedBy (bucket_deal asked workers) set.times (policy_facts set.policy) packets verdicts views
+judged_as packets verdicts views orders tables asked ready set workers given sized times policy said =
+    subst (λ s. AreJudgedBy (bucket_deal s workers) set.times (policy_facts set.policy) packets verdicts views) sized
+    (subst (λ t. AreJudgedBy (bucket_deal (size_of tables) workers) t (policy_facts set.policy) packets verdicts views) times
+    (subst (λ p. AreJudgedBy (bucket_deal (size_of tables) workers) ready.times (policy_facts p) packets verdicts views) policy
+    (subst (λ (o : Orders). AreJudgedBy o.deal o.times o.policy packets verdicts views) given said)))
+
+-- what workers reached who had these orders, with the sessions that stood in their tables when they had ended
+pub reached_by : (options : Options) (set : Filter) (ready : InterfaceFilters) (tables : SizedTables) (workers : ℕ) (orders : Orders)
+    (packets : List PacketFacts) (ended : Ended) (judged : JudgedFacts)
+    → set.times ≡ options.times → 1 ≤ workers → workers ≤ options.workers → orders ≡ orders_for tables ready workers → size_of tables ≡ options.tables
+    → ready.times ≡ set.times → ready.policy.now ≡ set.policy → AreSaidBy orders packets ended.verdicts.items ended.callers → HasStored options tables ended judged
+    → IsReached options (policy_facts set.policy) packets ended.captures.items judged
+reached_by options set ready tables workers orders packets ended judged timed some few given sized times policy said has =
+    let views = views_with ended.callers in
+    let verdicts = ended.verdicts.items in
+    let was = judged_as packets verdicts views orders tables options.tables ready set workers given sized times policy said.said in
+    let by = given_by_workers options set.times (policy_facts set.policy) packets verdicts views workers timed some few was (pages_for_few _ _ _ _ _) in
+    subst (λ (o : Outcome). IsReached options (policy_facts set.policy) packets ended.captures.items (record { outcome = o; stored = judged.stored })) (sym has.outcome)
+    (record {
+      by_workers = by.0;
+      kept = λ asked. subst (λ v. AreStoredOf (layout_for options.tables) v judged.stored) (sym by.1)
+          (subst (λ s. AreStoredOf (layout_for s) views judged.stored) sized (has.stored asked));
+      by_one_thread =
+          subst (λ t. HavePages verdicts → ByOneThread options.tables t (policy_facts set.policy) packets verdicts) timed
+          (one_report _ _ _ _ _ was.0 (inl refl));
+      told = refl;
+    })
 
 -- what is answered of all records where workers who had these orders said it
-pub judged_by_orders : (options : Options) (set : Filter) (ready : InterfaceFilters) (size : TableSize) (workers : ℕ) (orders : Orders)
-    (opening : Opening) (before after : Option (List ℕ)) (result : Result Outcome Fault)
-    → set.times ≡ options.times → 1 ≤ workers → workers ≤ options.workers → orders ≡ orders_for size ready workers → size ≡ options.tables
-    → ready.times ≡ set.times → ready.policy.now ≡ set.policy → IfOk result (HasSaidAll orders opening before after)
-    → IfOk result (HasJudged options (policy_facts set.policy) opening before after)
-judged_by_orders options set ready size workers orders opening before after (Ok outcome) timed some few given sized times policy s =
+pub judged_by_orders : (options : Options) (set : Filter) (ready : InterfaceFilters) (tables : SizedTables) (workers : ℕ) (orders : Orders)
+    (opening : Opening) (before after : Option (List ℕ)) (ended : Ended) (judged : JudgedFacts)
+    → set.times ≡ options.times → 1 ≤ workers → workers ≤ options.workers → orders ≡ orders_for tables ready workers → size_of tables ≡ options.tables
+    → ready.times ≡ set.times → ready.policy.now ≡ set.policy → HasSaidAll orders opening before after ended → HasStored options tables ended judged
+    → HasJudged options (policy_facts set.policy) opening before after judged
+judged_by_orders options set ready tables workers orders opening before after ended judged timed some few given sized times policy s has =
     let packets = packets_at 0 s.packets in
-    let verdicts = outcome.verdicts in
-    let judged : AreJudged (bucket_deal options.tables workers) set.times (policy_facts set.policy) packets verdicts =
-    judged_as packets verdicts orders size options.tables ready set workers given sized times policy s.said in
     record {
       read = s.read;
       whole = s.whole;
@@ -83,15 +108,9 @@ judged_by_orders options set ready size workers orders opening before after (Ok 
       records = s.records;
       truncated = s.truncated;
       end = s.end;
-      reached = record {
-        by_workers = given_by_workers options set.times (policy_facts set.policy) packets verdicts workers timed some few judged (pages_for_few _ _ _ _ _);
-        by_one_thread =
-            subst (λ t. HavePages verdicts → ByOneThread options.tables t (policy_facts set.policy) packets verdicts) timed
-            (one_report _ _ _ _ _ judged (inl refl));
-        told = s.told;
-      };
+      reached = subst (λ cs. IsReached options (policy_facts set.policy) packets cs judged) s.told
+          (reached_by options set ready tables workers orders packets ended judged timed some few given sized times policy s.said has);
     }
-judged_by_orders options set ready size workers orders opening before after (Err fault) timed some few given sized times policy s = tt
 
 -- each packet has a verdict
 pub judged_count : (d : Deal) (times : Timeouts) (policy : PolicyFacts) (packets : List PacketFacts) (verdicts : List Verdict)
@@ -101,16 +120,17 @@ judged_count d times policy packets verdicts is =
     ∙ sym (zip_count (IsReading policy) packets (readings_of is.judged) is.read)
 
 -- what is answered of all records where workers who judged them ended
-pub said_at_end : {T : Type 0} (orders : Orders) (ended : SizedWorkers T) (opening : Opening) (before after : Option (List ℕ)) (read : List ℕ)
-    (packets : List RecordFacts) (rest : List ℕ) (truncated : Bool) (result : Result Outcome Fault)
+pub said_at_end : {T : Type 0} (orders : Orders) (after_all : SizedWorkers T) (opening : Opening) (before after : Option (List ℕ)) (read : List ℕ)
+    (packets : List RecordFacts) (rest : List ℕ) (truncated : Bool) (result : Result Ended Fault)
     → AreAllRead before after opening read → AreRecords opening.order (records_in opening read) packets rest → IsEnd opening.order rest (end_of truncated)
-    → AreAfter orders (packets_at 0 packets) ended → IfOk result (HasEnded ended truncated) → IfOk result (HasSaidAll orders opening before after)
-said_at_end orders ended opening before after read packets rest truncated (Ok outcome) whole records end judged is =
-    let said : AreSaid orders (packets_at 0 packets) outcome.verdicts =
-    subst (λ o. AreSaid o (packets_at 0 packets) outcome.verdicts) judged.given (is.said (packets_at 0 packets) judged.rest) in
-    let counted : length outcome.verdicts ≡ length (packets_at 0 packets) =
-    judged_count orders.deal orders.times orders.policy (packets_at 0 packets) outcome.verdicts said in
-    let told : outcome.captures ≡ told_of None (packets_at 0 packets) truncated ∷ [] =
+    → AreAfter orders (packets_at 0 packets) after_all → IfOk result (HasEnded after_all truncated) → IfOk result (HasSaidAll orders opening before after)
+said_at_end orders after_all opening before after read packets rest truncated (Ok ended) whole records end judged is =
+    let verdicts = ended.verdicts.items in
+    let said : AreSaidBy orders (packets_at 0 packets) verdicts ended.callers =
+    subst (λ o. AreSaidBy o (packets_at 0 packets) verdicts ended.callers) judged.given (is.said (packets_at 0 packets) judged.rest) in
+    let counted : length verdicts ≡ length (packets_at 0 packets) =
+    judged_count orders.deal orders.times orders.policy (packets_at 0 packets) verdicts said.said.0 in
+    let told : ended.captures.items ≡ told_of None (packets_at 0 packets) truncated ∷ [] =
     is.told ∙ ap (λ n. record { named = None; packets = n; truncated = truncated } ∷ []) counted in
     record {
       read = read;
@@ -123,7 +143,7 @@ said_at_end orders ended opening before after read packets rest truncated (Ok ou
       said = said;
       told = told;
     }
-said_at_end orders ended opening before after read packets rest truncated (Err fault) whole records end judged is = tt
+said_at_end orders after_all opening before after read packets rest truncated (Err fault) whole records end judged is = tt
 
 -- ---- an input without a right policy
 
@@ -200,11 +220,11 @@ module _ (options : Options) (bytes : List ℕ) (parts : InputFacts) (policy : P
     }
 
     -- the packets of its capture were judged
-    pub verdicts_answer : (order : Order) (header : IsHeaderOf order capture) (packets : List RecordFacts) (rest : List ℕ) (truncated : Bool) (outcome : Outcome) → length bytes ≤ most_bytes
+    pub verdicts_answer : (order : Order) (header : IsHeaderOf order capture) (packets : List RecordFacts) (rest : List ℕ) (truncated : Bool) (judged : JudgedFacts) → length bytes ≤ most_bytes
         → AreRecords order (drop 24 capture) packets rest → IsEnd order rest (end_of truncated)
-        → IsReached options policy (packets_at 0 packets) (told_of None (packets_at 0 packets) truncated ∷ []) outcome
-        → AnswersInput options bytes (Ok outcome)
-    verdicts_answer order header packets rest truncated outcome few all end reached = record {
+        → IsReached options policy (packets_at 0 packets) (told_of None (packets_at 0 packets) truncated ∷ []) judged
+        → AnswersInput options bytes (Ok judged)
+    verdicts_answer order header packets rest truncated judged few all end reached = record {
       ok = record {
         policy = policy;
         packets = packets_at 0 packets;
@@ -213,7 +233,7 @@ module _ (options : Options) (bytes : List ℕ) (parts : InputFacts) (policy : P
           parts = parts;
           parted = parted;
           says = said.says;
-          content = alone_plain parts.form parts.content (packets_at 0 packets) outcome.captures plain (record {
+          content = alone_plain parts.form parts.content (packets_at 0 packets) judged.outcome.captures plain (record {
             capture = capture;
             spelt = spelt;
             truncated = truncated;
@@ -221,7 +241,7 @@ module _ (options : Options) (bytes : List ℕ) (parts : InputFacts) (policy : P
             told = reached.told;
           });
         };
-        reached = record { by_workers = reached.by_workers; by_one_thread = reached.by_one_thread; told = refl };
+        reached = record { by_workers = reached.by_workers; kept = reached.kept; by_one_thread = reached.by_one_thread; told = refl };
       };
       accepts = λ other others captures read.
           let is = read_in bytes parts other others captures parted read in
@@ -229,9 +249,9 @@ module _ (options : Options) (bytes : List ℕ) (parts : InputFacts) (policy : P
           let same = ended_accepts order capture header packets rest (end_of truncated) all end at.records.0 (end_of at.truncated) at.records.1 in
           let packets_are = ap (packets_at 0) same.0 ∙ sym at.records.2 in
           let told = ap₂ (λ ps t. told_of None ps t ∷ []) packets_are (one_truncated truncated at.truncated same.1) ∙ sym at.told in
-          subst (λ p. IsReached options p others captures outcome) (said.one other is.says)
-          (subst (λ ps. IsReached options policy ps captures outcome) packets_are
-          (record { by_workers = reached.by_workers; by_one_thread = reached.by_one_thread; told = reached.told ∙ told }));
+          subst (λ p. IsReached options p others captures judged) (said.one other is.says)
+          (subst (λ ps. IsReached options policy ps captures judged) packets_are
+          (record { by_workers = reached.by_workers; kept = reached.kept; by_one_thread = reached.by_one_thread; told = reached.told ∙ told }));
       fault = tt;
       refuses = λ fault of.
           let cause = fault_of_known parts.form parts.content capture fault spelt (plain_fault parts.form parts.content fault plain (known_fault fault of)) in
@@ -241,35 +261,37 @@ module _ (options : Options) (bytes : List ℕ) (parts : InputFacts) (policy : P
 -- ---- the report
 
 -- the report on the input that was judged is written, whichever input it is
-abbrev pub Tells : Option (List ℕ) → Option (List ℕ) → Options → List ℕ → Outcome → Result Totals Fault → Type 0
-Tells old new options kept outcome result = (input : List ℕ) (policy : PolicyFacts) (packets : List PacketFacts)
-    → MayTell options kept input → IsRead input policy packets outcome.captures → IfOk result (HasReport options input policy packets outcome old new)
+abbrev pub Tells : Option (List ℕ) → Option (List ℕ) → Options → List ℕ → JudgedFacts → Result Totals Fault → Type 0
+Tells old new options kept judged result = (input : List ℕ) (policy : PolicyFacts) (packets : List PacketFacts)
+    → MayTell options kept input → IsRead input policy packets judged.outcome.captures → IfOk result (HasReport options input policy packets judged old new)
 
 -- what is told of bytes is told of those that were kept
-pub kept_told : (old new : Option (List ℕ)) (options : Options) (bytes kept : List ℕ) (outcome : Outcome) (result : Result Totals Fault) → bytes ≡ kept
-    → Tells old new options bytes outcome result → Tells old new options kept outcome result
-kept_told old new options bytes kept outcome result same tells = subst (λ (b : List ℕ). Tells old new options b outcome result) same tells
+pub kept_told : (old new : Option (List ℕ)) (options : Options) (bytes kept : List ℕ) (judged : JudgedFacts) (result : Result Totals Fault) → bytes ≡ kept
+    → Tells old new options bytes judged result → Tells old new options kept judged result
+kept_told old new options bytes kept judged result same tells = subst (λ (b : List ℕ). Tells old new options b judged result) same tells
 
-module _ (old new : Option (List ℕ)) (options : Options) (given : Option (List ℕ)) (keep : Bool) (kept : List ℕ) (outcome : Outcome) (result : Result Totals Fault)
-    (k : HasKept options given keep kept outcome) (needed : needs_bytes options ≡ true → keep ≡ true) (tells : Tells old new options kept outcome result) where
+module _ (old new : Option (List ℕ)) (options : Options) (given : Option (List ℕ)) (keep : Bool) (kept : List ℕ) (judged : JudgedFacts) (result : Result Totals Fault)
+    (k : HasKept options given keep kept judged) (needed : needs_bytes options ≡ true → keep ≡ true) (tells : Tells old new options kept judged result) where
   -- a run on the input, whose outcome is this one
   abbrev pub RunsOn : Option (List ℕ) → Totals → Type 0
-  RunsOn known totals = (run : HasRun options known old new totals) × (run.outcome ≡ outcome) × (run.bytes ≡ k.bytes)
+  RunsOn known totals = (run : HasRun options known old new totals) × (run.outcome ≡ judged.outcome) × (run.bytes ≡ k.bytes)
 
-  run_on : (policy : PolicyFacts) (packets : List PacketFacts) (read : IsRead k.bytes policy packets outcome.captures) → IsReached options policy packets outcome.captures outcome
-      → (known : Option (List ℕ)) → AreKnown known k.bytes → IfOk result (RunsOn known)
+  run_on : (policy : PolicyFacts) (packets : List PacketFacts) (read : IsRead k.bytes policy packets judged.outcome.captures)
+      → IsReached options policy packets judged.outcome.captures judged → (known : Option (List ℕ)) → AreKnown known k.bytes → IfOk result (RunsOn known)
   run_on policy packets read reached known is = go result (tells k.bytes policy packets (λ asked. k.same (needed asked)) read)
     where
-      go : (r : Result Totals Fault) → IfOk r (HasReport options k.bytes policy packets outcome old new) → IfOk r (RunsOn known)
+      go : (r : Result Totals Fault) → IfOk r (HasReport options k.bytes policy packets judged old new) → IfOk r (RunsOn known)
       go (Ok totals) w = (
         record {
           bytes = k.bytes;
           known = is;
           policy = policy;
           packets = packets;
-          outcome = outcome;
+          outcome = judged.outcome;
           read = read;
           by_workers = reached.by_workers;
+          stored = judged.stored;
+          kept = reached.kept;
           by_one_thread = reached.by_one_thread;
           report = w.report;
           told = w.is;
@@ -296,18 +318,18 @@ module _ (old new : Option (List ℕ)) (options : Options) (given : Option (List
       → MatchResult result (HasReported options k.bytes one_thread old new) IsSystemFault
   has_reported one_thread has fails = go result (run_on has.policy has.packets read reached (Some k.bytes) refl) fails
     where
-      met : IsReached options has.policy has.packets one_thread.captures outcome
+      met : IsReached options has.policy has.packets one_thread.captures judged
       met = k.answers.accepts has.policy has.packets one_thread.captures has.read
 
-      read : IsRead k.bytes has.policy has.packets outcome.captures
+      read : IsRead k.bytes has.policy has.packets judged.outcome.captures
       read = subst (λ told. IsRead k.bytes has.policy has.packets told) (sym met.told) has.read
 
-      reached : IsReached options has.policy has.packets outcome.captures outcome
-      reached = record { by_workers = met.by_workers; by_one_thread = met.by_one_thread; told = refl }
+      reached : IsReached options has.policy has.packets judged.outcome.captures judged
+      reached = record { by_workers = met.by_workers; kept = met.kept; by_one_thread = met.by_one_thread; told = refl }
 
-      same : HavePages outcome.verdicts → one_thread ≡ outcome
+      same : HavePages judged.outcome.verdicts → one_thread ≡ judged.outcome
       same paged =
-          let verdicts = one_verdicts (layout_for options.tables) options.times has.policy has.packets one_thread.verdicts outcome.verdicts has.verdicts (met.by_one_thread paged) in
+          let verdicts = one_verdicts (layout_for options.tables) options.times has.policy has.packets one_thread.verdicts judged.outcome.verdicts has.verdicts (met.by_one_thread paged) in
           ap₂ outcome_of verdicts (sym met.told)
 
       go : (r : Result Totals Fault) → IfOk r (RunsOn (Some k.bytes)) → IfErr r (λ e. (e ≡ Memory) ⊎ (e ≡ Write))

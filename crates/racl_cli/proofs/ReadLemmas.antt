@@ -13,7 +13,7 @@ use Rattle.racl_io.specs.Transfers.{GaveAtMost, HasRead, HasReadWithin, failures
 use Rattle.racl_io.proofs.TransferLemmas.{gave_more}
 use Rattle.racl_io.specs.Inputs.{most_bytes}
 use Rattle.racl_cli.specs.Reads.{AnswersInput, AnswersRead, AreKnown, HasKept, IsUnread}
-use Rattle.racl_cli.specs.Runs.{HasOutcome, Outcome}
+use Rattle.racl_cli.specs.Runs.{HasOutcome, JudgedFacts, Outcome}
 use Rattle.racl_cli.proofs.RunLemmas.{IsWhole, device_or, excluded_by_input, fault_of_input, no_device, steady}
 
 -- ---- bytes that a source had
@@ -49,7 +49,7 @@ known_before (Some all) None read more consumed known = absurd consumed
 known_before (Some all) (Some left) read more consumed known = ap (λ bytes. read ++ bytes) known ∙ sym consumed
 
 -- what is answered after more was read behind a front is answered of the front and all that the source had
-answers_more : (options : Options) (before after : Option (List ℕ)) (front read : List ℕ) (result : Result Outcome Fault) → Consumes before after read
+answers_more : (options : Options) (before after : Option (List ℕ)) (front read : List ℕ) (result : Result JudgedFacts Fault) → Consumes before after read
     → AnswersRead options (front ++ read) after result → AnswersRead options front before result
 answers_more options before after front read result consumed (inl (fault, same, unread)) =
     inl (
@@ -67,7 +67,7 @@ answers_more options before after front read result consumed (inr whole) =
       answers = subst (λ (b : List ℕ). AnswersInput options b result) one whole.answers;
     })
 
-pub answers_on : (options : Options) (before after : Option (List ℕ)) (old front all : List ℕ) (least : ℕ) (at_end : Bool) (result : Result Outcome Fault)
+pub answers_on : (options : Options) (before after : Option (List ℕ)) (old front all : List ℕ) (least : ℕ) (at_end : Bool) (result : Result JudgedFacts Fault)
     → old ≡ front → HasRead before after old all least at_end → AnswersRead options all after result → AnswersRead options front before result
 answers_on options before after old front all least at_end result same has answers =
     answers_more options before after front has.read result has.consumed
@@ -78,7 +78,7 @@ at_end_known : (before : Option (List ℕ)) → IsAtEnd before → AreKnown befo
 at_end_known None ended = tt
 at_end_known (Some known) ended = sym ended
 
-pub answers_ended : (options : Options) (before : Option (List ℕ)) (bytes : List ℕ) (result : Result Outcome Fault) → IsAtEnd before → length bytes ≤ most_bytes
+pub answers_ended : (options : Options) (before : Option (List ℕ)) (bytes : List ℕ) (result : Result JudgedFacts Fault) → IsAtEnd before → length bytes ≤ most_bytes
     → AnswersInput options bytes result → AnswersRead options bytes before result
 answers_ended options before bytes result ended few answers = inr (record {
   read = [];
@@ -116,12 +116,12 @@ gave_none (Some known) (Some left) most other ended (given, consumed, few) =
 -- ---- what is answered of an input that was read
 
 -- an outcome is that of all bytes that were read
-pub record HasReached (options : Options) (given : Option (List ℕ)) (outcome : Outcome) : Type 0 where
+pub record HasReached (options : Options) (given : Option (List ℕ)) (judged : JudgedFacts) : Type 0 where
   pub bytes : List ℕ
   pub whole : IsWhole given bytes
-  pub answers : AnswersInput options bytes (Ok outcome)
+  pub answers : AnswersInput options bytes (Ok judged)
 
-pub outcome_read : (options : Options) (given : Option (List ℕ)) (outcome : Outcome) → AnswersRead options [] given (Ok outcome) → HasReached options given outcome
+pub outcome_read : (options : Options) (given : Option (List ℕ)) (judged : JudgedFacts) → AnswersRead options [] given (Ok judged) → HasReached options given judged
 outcome_read options given outcome (inl (fault, same, unread)) = absurd (let f : ⊥ = cc in f)
 outcome_read options given outcome (inr whole) = record { bytes = whole.read; whole = record { whole = whole.known; few = whole.few }; answers = whole.answers }
 
@@ -182,7 +182,7 @@ known_as None bytes kept known same = tt
 known_as (Some all) bytes kept known same = same ∙ known
 
 -- where nothing is to be kept
-pub kept_none : (options : Options) (given : Option (List ℕ)) (keep : Bool) (kept : List ℕ) (result : Result Outcome Fault) → keep ≡ false
+pub kept_none : (options : Options) (given : Option (List ℕ)) (keep : Bool) (kept : List ℕ) (result : Result JudgedFacts Fault) → keep ≡ false
     → AnswersRead options [] given result → IfOk result (HasKept options given keep kept)
 kept_none options given keep kept (Ok outcome) off answers =
     let r = outcome_read options given outcome answers in
@@ -190,7 +190,7 @@ kept_none options given keep kept (Ok outcome) off answers =
 kept_none options given keep kept (Err fault) off answers = tt
 
 -- what was kept is all
-pub kept_all : (options : Options) (given : Option (List ℕ)) (keep : Bool) (kept : List ℕ) (result : Result Outcome Fault) → AreKnown given kept
+pub kept_all : (options : Options) (given : Option (List ℕ)) (keep : Bool) (kept : List ℕ) (result : Result JudgedFacts Fault) → AreKnown given kept
     → AnswersRead options [] (Some kept) result → IfOk result (HasKept options given keep kept)
 kept_all options given keep kept (Ok outcome) known answers =
     let r = outcome_read options (Some kept) outcome answers in
@@ -204,7 +204,7 @@ kept_all options given keep kept (Ok outcome) known answers =
 kept_all options given keep kept (Err fault) known answers = tt
 
 -- and is answered as the source's bytes are
-pub answers_again : (options : Options) (given : Option (List ℕ)) (kept : List ℕ) (result : Result Outcome Fault) → AreKnown given kept
+pub answers_again : (options : Options) (given : Option (List ℕ)) (kept : List ℕ) (result : Result JudgedFacts Fault) → AreKnown given kept
     → AnswersRead options [] (Some kept) result → AnswersRead options [] given result
 answers_again options given kept result known (inl (fault, same, inl memory)) = inl (fault, same, inl memory)
 answers_again options given kept result known (inl (fault, same, inr (inl failed))) = inl (fault, same, inr (inl failed))
@@ -215,11 +215,11 @@ answers_again options given kept result known (inr whole) =
     inr (record { read = whole.read; known = known_as given whole.read kept known whole.known; few = whole.few; answers = whole.answers })
 
 -- reading them never fails
-pub sound_again : (before after : ℕ) (result : Result Outcome Fault) → after ≡ before → 0 ≡ failures_after_reads 0 result
+pub sound_again : (before after : ℕ) (result : Result JudgedFacts Fault) → after ≡ before → 0 ≡ failures_after_reads 0 result
     → after ≡ failures_after_reads before result
 sound_again before after (Ok outcome) same never = same
 sound_again before after (Err fault) same never =
-    same ∙ sym (steady before fault (λ is. absurd (let f : 0 ≡ 0 + 1 = subst (λ e. 0 ≡ failures_after_reads {X = Outcome} 0 (Err e)) is never in omega arith)))
+    same ∙ sym (steady before fault (λ is. absurd (let f : 0 ≡ 0 + 1 = subst (λ e. 0 ≡ failures_after_reads {X = JudgedFacts} 0 (Err e)) is never in omega arith)))
 
 -- all that the source had is kept
 pub known_kept : (before after : Option (List ℕ)) (old kept : List ℕ) (least : ℕ) (at_end : Bool) → old ≡ [] → at_end ≡ true

@@ -1,5 +1,5 @@
 -- What an input says, and its faults, are those of its parts.
-use Rattle.std.proofs.Common.{◌≡◌, ◌≢◌, ◌≤◌, ◌∙◌, ◌⊎◌, ℕ, Bool, List, [], ◌∷◌, Option, Some, None, IfSome, Result, Ok, Err, length, arith, refl, sym, ap, subst, inl, inr}
+use Rattle.std.proofs.Common.{◌≡◌, ◌≢◌, ◌≤◌, ◌∙◌, ◌⊎◌, ℕ, Bool, List, [], ◌∷◌, Option, Some, None, IfErr, IfSome, Result, Ok, Err, length, arith, refl, sym, ap, subst, inl, inr}
 use Rattle.packet_view.specs.Captures.{IsCaptureAt, PacketFacts, end_of}
 use Rattle.acl_policy.specs.Policies.{IsPolicyFault, IsPolicyText, PolicyFacts}
 use Rattle.acl_policy.specs.declared.policy.PolicyFault.{PolicyFault}
@@ -18,7 +18,7 @@ use Rattle.racl_options.specs.declared.settings.Options.{Options}
 use Rattle.packet_view.specs.declared.capture.CaptureFault.{CaptureFault}
 use Rattle.packet_view.specs.declared.capture.CaptureFault.TheVariants as capture
 use Rattle.racl_cli.specs.Reads.{AnswersInput, IsUnnumbered}
-use Rattle.racl_cli.specs.Runs.{HasPackets, IsRead, Outcome, told_of}
+use Rattle.racl_cli.specs.Runs.{HasPackets, IsRead, JudgedFacts, told_of}
 use Rattle.racl_cli.proofs.CaptureLaws.{one_content, plain_alone}
 
 -- a policy and captures as these parts say them
@@ -162,7 +162,7 @@ no_device options bytes fault answers = (
   (λ same. subst IsOfInput same (bytes_of_input bytes fault (answers.fault (λ memory. let f : ⊥ = cc in f)))),
 )
 
-pub steady : (n : ℕ) (fault : Fault) → (fault ≡ Read → ⊥) → failures_after_reads {X = Outcome} n (Err fault) ≡ n
+pub steady : (n : ℕ) (fault : Fault) → (fault ≡ Read → ⊥) → failures_after_reads {X = JudgedFacts} n (Err fault) ≡ n
 steady n Read other = absurd (other refl)
 steady n Memory other = refl
 steady n Write other = refl
@@ -181,7 +181,17 @@ steady n (LongRecord number) other = refl
 
 -- a source from which nothing is read answers what the bytes do
 pub within_unread : {R : Type 0} (left : R → Option (List ℕ)) (failures : R → ℕ) (most : ℕ) (source : R) (options : Options) (bytes : List ℕ)
-    (result : Result Outcome Fault) → AnswersInput options bytes result → HasReadWithin left failures most source source result
+    (result : Result JudgedFacts Fault) → AnswersInput options bytes result → HasReadWithin left failures most source source result
 within_unread left failures most source options bytes (Ok outcome) answers = record { gave = gave_none (left source) most; failed = refl }
 within_unread left failures most source options bytes (Err fault) answers =
     record { gave = gave_none (left source) most; failed = sym (steady (failures source) fault (no_device options bytes fault answers).0) }
+
+-- what was read, where nothing more was and memory alone can be wanting
+pub within_memory : {R X Y : Type 0} (left : R → Option (List ℕ)) (failures : R → ℕ) (most : ℕ) (before after : R) (value : X)
+    (result : Result Y Fault) → IfErr result (λ fault. fault ≡ Memory) → HasReadWithin {X = X} left failures most before after (Ok value)
+    → HasReadWithin left failures most before after result
+within_memory {X = X} {Y = Y} left failures most before after value (Ok y) memory within = record { gave = within.gave; failed = within.failed }
+within_memory {X = X} {Y = Y} left failures most before after value (Err fault) memory within = record {
+  gave = within.gave;
+  failed = subst (λ (e : Fault). failures after ≡ failures_after_reads {X = Y} (failures before) (Err e)) (sym memory) within.failed;
+}

@@ -23,7 +23,7 @@ use Rattle.racl_cli.specs.declared.captures.Walk.{Walk}
 use Rattle.racl_cli.specs.declared.opening.Marked.{Marked}
 use Rattle.racl_cli.specs.Crews.{AreResting, orders_of}
 use Rattle.racl_cli.specs.Reads.{AnswersInput, HasMarked, IsReached}
-use Rattle.racl_cli.specs.Runs.{HasPackets, IsTaken, Outcome, told_of}
+use Rattle.racl_cli.specs.Runs.{HasPackets, IsTaken, JudgedFacts, told_of}
 use Rattle.racl_cli.specs.inner.Captures.{AreTakenFrom, CanTake, HasTaken, IsFaultFrom, MayTake, facts_of, left_at}
 use Rattle.racl_cli.proofs.CaptureLaws.{no_fault_from, one_fault_from, one_from}
 use Rattle.racl_cli.proofs.OpenedLemmas.{content_short}
@@ -257,27 +257,27 @@ module _ (options : Options) (bytes : List ℕ) (marked : Marked) (has : HasMark
       subst (λ c. IsFaultOfContent (Numbered marked.number) c fault) (sym has.content)
       (subst (λ form. IsFaultOfContent form has.parts.content fault) has.form content)
 
-  taken_answers : (packets : List PacketFacts) (outcome : Outcome) → length bytes ≤ most_bytes
-      → AreTakenFrom [] (first_of bytes marked) packets outcome.captures
-      → IsReached options (policy_facts marked.filter.policy) packets outcome.captures outcome → AnswersInput options bytes (Ok outcome)
-  taken_answers packets outcome few taken reached = record {
+  taken_answers : (packets : List PacketFacts) (judged : JudgedFacts) → length bytes ≤ most_bytes
+      → AreTakenFrom [] (first_of bytes marked) packets judged.outcome.captures
+      → IsReached options (policy_facts marked.filter.policy) packets judged.outcome.captures judged → AnswersInput options bytes (Ok judged)
+  taken_answers packets judged few taken reached = record {
     ok = record {
       policy = policy_facts marked.filter.policy;
       packets = packets;
-      read = record { few = few; parts = has.parts; parted = has.parted; says = has.policy.says; content = has_packets packets outcome.captures taken };
+      read = record { few = few; parts = has.parts; parted = has.parted; says = has.policy.says; content = has_packets packets judged.outcome.captures taken };
       reached = reached;
     };
     accepts = λ other others captures read.
         let is = read_in bytes has.parts other others captures has.parted read in
         let same =
-        one_from [] (first_of bytes marked) packets others outcome.captures captures taken
+        one_from [] (first_of bytes marked) packets others judged.outcome.captures captures taken
         (packets_there others captures is.content) in
-        subst (λ p. IsReached options p others captures outcome) (has.policy.one other is.says)
-        (subst (λ ps. IsReached options (policy_facts marked.filter.policy) ps captures outcome) same.0
-        (record { by_workers = reached.by_workers; by_one_thread = reached.by_one_thread; told = same.1 }));
+        subst (λ p. IsReached options p others captures judged) (has.policy.one other is.says)
+        (subst (λ ps. IsReached options (policy_facts marked.filter.policy) ps captures judged) same.0
+        (record { by_workers = reached.by_workers; kept = reached.kept; by_one_thread = reached.by_one_thread; told = same.1 }));
     fault = tt;
     refuses = λ fault of.
-        no_fault_from [] (first_of bytes marked) packets outcome.captures fault taken (fault_there fault of);
+        no_fault_from [] (first_of bytes marked) packets judged.outcome.captures fault taken (fault_there fault of);
   }
 
   fault_answers : (fault : Fault) → (fault ≡ Memory) ⊎ IsFaultFrom [] (first_of bytes marked) fault
@@ -294,11 +294,11 @@ module _ (options : Options) (bytes : List ℕ) (marked : Marked) (has : HasMark
     refuses = λ other is. inl (one_fault_from [] (first_of bytes marked) fault other of (fault_there other is));
   }
 
-  pub answered : (result : Result Outcome Fault)
-      → IfOk result (λ outcome. (packets : List PacketFacts)
-      × AreTakenFrom [] (first_of bytes marked) packets outcome.captures
-      × IsReached options (policy_facts marked.filter.policy) packets outcome.captures outcome)
+  pub answered : (result : Result JudgedFacts Fault)
+      → IfOk result (λ judged. (packets : List PacketFacts)
+      × AreTakenFrom [] (first_of bytes marked) packets judged.outcome.captures
+      × IsReached options (policy_facts marked.filter.policy) packets judged.outcome.captures judged)
       → IfErr result (λ fault. (fault ≡ Memory) ⊎ IsFaultFrom [] (first_of bytes marked) fault)
       → length bytes ≤ most_bytes → AnswersInput options bytes result
-  answered (Ok outcome) ok fault few = taken_answers ok.0 outcome few ok.1 ok.2
+  answered (Ok judged) ok fault few = taken_answers ok.0 judged few ok.1 ok.2
   answered (Err found) ok fault few = fault_answers found fault

@@ -18,6 +18,7 @@ use Rattle.racl_io.specs.declared.shown.Shown.{Shown}
 use Rattle.racl_io.specs.Reports.{totals_of}
 use Rattle.racl_io.specs.ShownReports.{report_shown}
 use Rattle.racl_io.specs.Sinks.{Writes}
+use Rattle.session_state.specs.declared.timeouts.Timeouts.{Timeouts}
 use Rattle.racl_options.specs.Asking.{is_plain}
 use Rattle.racl_options.specs.declared.settings.Lines.{Lines}
 use Rattle.racl_options.specs.declared.settings.Lines.TheVariants.{Plain, Explained, Json}
@@ -25,10 +26,10 @@ use Rattle.racl_options.specs.declared.settings.Options.{Options}
 use Rattle.racl_views.specs.Hits.{AreHits}
 use Rattle.racl_views.specs.Views.{RunFacts}
 use Rattle.racl_cli.specs.Reads.{IsUnnumbered}
-use Rattle.racl_cli.specs.Runs.{AreLines, AreTaken, HasPackets, IsRead, IsTaken, Outcome}
+use Rattle.racl_cli.specs.Runs.{AreLines, AreTaken, HasPackets, IsRead, IsTaken, JudgedFacts, sessions_behind, told_facts, view_behind}
 use Rattle.racl_cli.specs.declared.viewing.Again.{Again}
 use Rattle.racl_cli.specs.inner.Captures.{AreTakenFrom}
-use Rattle.racl_cli.specs.inner.Views.{AreAmid, EndsOnce, HasLines, HasReport, IsAgain, needs_bytes}
+use Rattle.racl_cli.specs.inner.Views.{AreAmid, EndsOnce, HasLines, HasPlain, HasReport, IsAgain, needs_bytes}
 use Rattle.racl_cli.proofs.CaptureLaws.{one_content}
 use Rattle.racl_cli.proofs.RunLemmas.{alone_in_capture}
 
@@ -107,61 +108,65 @@ pub ends_by : {W : Type 0} (bytes : W → Option (List ℕ)) (failures : W → �
     → Writes bytes failures old new text totals result → EndsOnce failures old new result
 ends_by bytes failures old new text totals result w = record { fault = w.fault; write = w.write; steady = w.steady; unwritten = w.unwritten }
 
--- a run on an input, as its lines tell it
-abbrev pub told_facts : PolicyFacts → List ℕ → List PacketFacts → Outcome → Shown → RunFacts
-told_facts policy text packets outcome shown =
-    record { policy = policy; text = text; packets = packets; verdicts = outcome.verdicts; captures = outcome.captures; shown = shown }
-
--- its lines, and behind them the hits
-pub told_again : (options : Options) (input : List ℕ) (policy : PolicyFacts) (packets : List PacketFacts) (outcome : Outcome) (again : Again) (run : RunFacts) (hits : List ℕ) (old mid new : Option (List ℕ)) (totals : Totals)
-    → (is : IsAgain input policy packets again) → run ≡ told_facts policy is.parts.policy packets outcome options.shown
+-- its lines, and behind them the hits and the sessions
+pub told_again : (options : Options) (input : List ℕ) (policy : PolicyFacts) (packets : List PacketFacts) (judged : JudgedFacts) (again : Again) (run : RunFacts) (hits sessions : List ℕ) (old mid late new : Option (List ℕ)) (totals : Totals)
+    → (is : IsAgain input policy packets again) → run ≡ told_facts policy is.parts.policy packets judged.outcome options.shown
     → (IsPolicyText run.text run.policy → HasLines options.lines run old mid totals)
-    → (IsPolicyText run.text run.policy → AreHits options.hits run.policy run.text run.packets run.verdicts hits)
-    → Appends mid new hits → HasReport options input policy packets outcome old new totals
-told_again options input policy packets outcome again run hits old mid new totals is same lines told behind =
+    → (IsPolicyText run.text run.policy → AreHits options.hits (view_behind options.lines) options.times run judged.stored hits)
+    → sessions ≡ sessions_behind options judged.stored
+    → Appends mid late hits → Appends late new sessions → HasReport options input policy packets judged old new totals
+told_again options input policy packets judged again run hits sessions old mid late new totals is same lines told stand behind last =
     let has = subst (λ (r : RunFacts). IsPolicyText r.text r.policy → HasLines options.lines r old mid totals) same lines is.says in
-    let hit = subst (λ (r : RunFacts). IsPolicyText r.text r.policy → AreHits options.hits r.policy r.text r.packets r.verdicts hits) same told is.says in
+    let hit = subst (λ (r : RunFacts). IsPolicyText r.text r.policy → AreHits options.hits (view_behind options.lines) options.times r judged.stored hits) same told is.says in
     record {
-      report = has.lines ++ hits;
-      is = record { parts = is.parts; parted = is.parted; lines = has.lines; are = has.are; hits = hits; told = hit; all = refl };
-      text = Appends-trans old mid new has.lines hits has.text behind;
+      report = has.lines ++ (hits ++ sessions);
+      is = record {
+        parts = is.parts;
+        parted = is.parted;
+        lines = has.lines;
+        are = has.are;
+        hits = hits;
+        told = hit;
+        all = ap (λ (text : List ℕ). has.lines ++ (hits ++ text)) stand;
+      };
+      text = Appends-trans old mid new has.lines (hits ++ sessions) has.text (Appends-trans mid late new hits sessions behind last);
       counted = has.counted;
     }
 
 -- plain lines alone
-plain_alone_told : (asked : Bool) (form : Lines) (policy : PolicyFacts) (text : List ℕ) (packets : List PacketFacts) (outcome : Outcome) (shown : Shown) → (asked || not (is_plain form)) ≡ false
-    → AreLines form (told_facts policy text packets outcome shown) (report_shown shown outcome.verdicts outcome.captures) × AreHits asked policy text packets outcome.verdicts []
-plain_alone_told true form policy text packets outcome shown e = cc
-plain_alone_told false Plain policy text packets outcome shown e = (refl, refl)
-plain_alone_told false Explained policy text packets outcome shown e = cc
-plain_alone_told false Json policy text packets outcome shown e = cc
+plain_alone_told : (asked : Bool) (form : Lines) (times : Timeouts) (policy : PolicyFacts) (text : List ℕ) (packets : List PacketFacts) (judged : JudgedFacts) (shown : Shown) → (asked || not (is_plain form)) ≡ false
+    → AreLines form (told_facts policy text packets judged.outcome shown) (report_shown shown judged.outcome.verdicts judged.outcome.captures)
+    × AreHits asked (view_behind form) times (told_facts policy text packets judged.outcome shown) judged.stored []
+plain_alone_told true form times policy text packets judged shown e = cc
+plain_alone_told false Plain times policy text packets judged shown e = (refl, refl)
+plain_alone_told false Explained times policy text packets judged shown e = cc
+plain_alone_told false Json times policy text packets judged shown e = cc
 
-pub told_plain : {W : Type 0} (bytes : W → Option (List ℕ)) (failures : W → ℕ) (old new : W) (options : Options) (input : List ℕ) (policy : PolicyFacts) (packets : List PacketFacts) (outcome : Outcome)
-    (result : Result Totals Fault) → needs_bytes options ≡ false → IsRead input policy packets outcome.captures
-    → Writes bytes failures old new (report_shown options.shown outcome.verdicts outcome.captures) (totals_of outcome.verdicts outcome.captures) result
-    → IfOk result (HasReport options input policy packets outcome (bytes old) (bytes new))
-told_plain bytes failures old new options input policy packets outcome (Ok totals) plain read w =
-    let are = plain_alone_told options.hits options.lines policy read.parts.policy packets outcome options.shown plain in
+pub told_plain : (options : Options) (input : List ℕ) (policy : PolicyFacts) (packets : List PacketFacts) (judged : JudgedFacts) (old new : Option (List ℕ))
+    (result : Result Totals Fault) → needs_bytes options ≡ false → IsRead input policy packets judged.outcome.captures
+    → IfOk result (HasPlain options judged old new) → IfOk result (HasReport options input policy packets judged old new)
+told_plain options input policy packets judged old new (Ok totals) plain read has =
+    let are = plain_alone_told options.hits options.lines options.times policy read.parts.policy packets judged options.shown plain in
     record {
-      report = report_shown options.shown outcome.verdicts outcome.captures;
+      report = report_shown options.shown judged.outcome.verdicts judged.outcome.captures ++ sessions_behind options judged.stored;
       is = record {
         parts = read.parts;
         parted = read.parted;
-        lines = report_shown options.shown outcome.verdicts outcome.captures;
+        lines = report_shown options.shown judged.outcome.verdicts judged.outcome.captures;
         are = are.0;
         hits = [];
         told = are.1;
-        all = sym (append-nil _);
+        all = refl;
       };
-      text = w.whole;
-      counted = w.counted;
+      text = has.text;
+      counted = has.counted;
     }
-told_plain bytes failures old new options input policy packets outcome (Err fault) plain read w = tt
+told_plain options input policy packets judged old new (Err fault) plain read has = tt
 
 -- what was gone over once more is the input
-pub told_of_input : (options : Options) (bytes input : List ℕ) (policy : PolicyFacts) (packets : List PacketFacts) (outcome : Outcome) (old new : Option (List ℕ)) (result : Result Totals Fault) → bytes ≡ input
-    → (IsRead bytes policy packets outcome.captures → IfOk result (HasReport options bytes policy packets outcome old new))
-    → IsRead input policy packets outcome.captures → IfOk result (HasReport options input policy packets outcome old new)
-told_of_input options bytes input policy packets outcome old new result same told read =
-    subst (λ (b : List ℕ). IfOk result (HasReport options b policy packets outcome old new)) same
-    (told (subst (λ (b : List ℕ). IsRead b policy packets outcome.captures) (sym same) read))
+pub told_of_input : (options : Options) (bytes input : List ℕ) (policy : PolicyFacts) (packets : List PacketFacts) (judged : JudgedFacts) (old new : Option (List ℕ)) (result : Result Totals Fault) → bytes ≡ input
+    → (IsRead bytes policy packets judged.outcome.captures → IfOk result (HasReport options bytes policy packets judged old new))
+    → IsRead input policy packets judged.outcome.captures → IfOk result (HasReport options input policy packets judged old new)
+told_of_input options bytes input policy packets judged old new result same told read =
+    subst (λ (b : List ℕ). IfOk result (HasReport options b policy packets judged old new)) same
+    (told (subst (λ (b : List ℕ). IsRead b policy packets judged.outcome.captures) (sym same) read))

@@ -10,7 +10,8 @@ use Rattle.flow_filter.specs.OneThread.{layout_of}
 use Rattle.flow_filter.specs.declared.interface_filters.InterfaceFilters.{InterfaceFilters}
 use Rattle.flow_filter.specs.declared.verdict.Verdict.{Verdict}
 use Rattle.flow_dealing.specs.Dealings.{Deal}
-use Rattle.flow_dealing.specs.WorkerRecords.{AreJudged}
+use Rattle.flow_dealing.specs.Views.{Views}
+use Rattle.flow_dealing.specs.WorkerRecords.{AreJudged, AreJudgedBy}
 use Rattle.flow_workers.specs.Callers.{AreIdle, first_views, views_of}
 use Rattle.flow_workers.specs.Progress.{AreAtRest, IsAlone}
 use Rattle.flow_workers.specs.declared.tables.Callers.{Callers}
@@ -43,28 +44,48 @@ AreFirstOf (laid.Standard own) (called.Standard first) = AreFirst own first
 AreFirstOf (laid.Large own) (called.Large first) = AreFirst own first
 AreFirstOf _ _ = ⊥
 
+-- callers of these tables that hold no lock and no block
+abbrev AreIdleIn : {A B K L : Type 0} {ga : Ghosts A K} {gb : Ghosts B L} → Tables A B K L → Callers A B K L ga gb → Type 0
+AreIdleIn {ga = ga} {gb = gb} tables callers = AreIdle ga gb tables callers
+
+abbrev pub AreIdleOf : SizedTables → SizedCallers → Type 0
+AreIdleOf (laid.Standard own) (called.Standard callers) = AreIdleIn own callers
+AreIdleOf (laid.Large own) (called.Large callers) = AreIdleIn own callers
+AreIdleOf _ _ = ⊥
+
+-- what callers know
+abbrev views_in : {A B K L : Type 0} {ga : Ghosts A K} {gb : Ghosts B L} → Callers A B K L ga gb → Views
+views_in {ga = ga} {gb = gb} callers = views_of ga gb callers
+
+abbrev pub views_with : SizedCallers → Views
+views_with (called.Standard callers) = views_in callers
+views_with (called.Large callers) = views_in callers
+
 -- ---- workers
 
--- what workers judge by: their tables and how packets are dealt to them, how long sessions live, and the rules
+-- what workers judge by: their tables, how packets are dealt to them, how long sessions live, and the rules
 pub record Orders : Type 0 where
+  pub tables : SizedTables
   pub deal : Deal
   pub times : Timeouts
   pub policy : PolicyFacts
 
-abbrev pub orders_for : TableSize → InterfaceFilters → ℕ → Orders
-orders_for size filter workers = record { deal = bucket_deal size workers; times = filter.times; policy = policy_facts filter.policy.now }
+abbrev pub orders_for : SizedTables → InterfaceFilters → ℕ → Orders
+orders_for tables filter workers =
+    record { tables = tables; deal = bucket_deal (size_of tables) workers; times = filter.times; policy = policy_facts filter.policy.now }
 
 -- those of workers whatever the size of their tables
-abbrev orders_in : {A B R G K L : Type 0} {ga : Ghosts A K} {gb : Ghosts B L} → Workers A B R G K L ga gb → Orders
-orders_in {ga = ga} {gb = gb} workers = record {
+abbrev orders_in : {A B R G K L : Type 0} {ga : Ghosts A K} {gb : Ghosts B L} → SizedTables → Workers A B R G K L ga gb → Orders
+orders_in {ga = ga} {gb = gb} tables workers = record {
+  tables = tables;
   deal = record { layout = layout_of ga gb; dealing = workers.setup.dealing; workers = workers.setup.workers };
   times = workers.setup.filter.now.times;
   policy = policy_facts workers.setup.filter.now.policy.now;
 }
 
 abbrev pub orders_of : {T : Type 0} → SizedWorkers T → Orders
-orders_of (Standard workers) = orders_in workers
-orders_of (Large workers) = orders_in workers
+orders_of (Standard workers) = orders_in (laid.Standard workers.setup.tables.now) workers
+orders_of (Large workers) = orders_in (laid.Large workers.setup.tables.now) workers
 
 -- workers after these packets
 abbrev pub AreResting : {T : Type 0} → List PacketFacts → SizedWorkers T → Type 0
@@ -95,9 +116,14 @@ HaveJudgedSome workers = (packets : List PacketFacts) × AreResting packets work
 abbrev pub AreSaid : Orders → List PacketFacts → List Verdict → Type 0
 AreSaid orders packets verdicts = AreJudged orders.deal orders.times orders.policy packets verdicts
 
--- these are the verdicts on the packets that they judged
-abbrev pub HaveSaidOn : {T : Type 0} → SizedWorkers T → List Verdict → Type 0
-HaveSaidOn workers verdicts = (packets : List PacketFacts) → AreResting packets workers → AreSaid (orders_of workers) packets verdicts
+-- callers of their tables that hold nothing, and these are the verdicts on these packets by workers who knew what the callers know
+pub record AreSaidBy (orders : Orders) (packets : List PacketFacts) (verdicts : List Verdict) (callers : SizedCallers) : Type 0 where
+  pub idle : AreIdleOf orders.tables callers
+  pub said : AreJudgedBy orders.deal orders.times orders.policy packets verdicts (views_with callers)
+
+-- these are the verdicts on the packets that they judged, and their callers
+abbrev pub HaveEndedOn : {T : Type 0} → SizedWorkers T → List Verdict → SizedCallers → Type 0
+HaveEndedOn workers verdicts callers = (packets : List PacketFacts) → AreResting packets workers → AreSaidBy (orders_of workers) packets verdicts callers
 
 -- ---- one worker that keeps no verdict
 

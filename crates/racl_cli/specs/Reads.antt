@@ -24,26 +24,28 @@ use Rattle.racl_cli.specs.declared.opening.Marked.{Marked}
 use Rattle.racl_cli.specs.declared.opening.Opened.{Opened}
 use Rattle.racl_cli.specs.declared.opening.Opened.TheVariants.{One, Several}
 use Rattle.racl_cli.specs.declared.streaming.Front.{Front}
-use Rattle.racl_cli.specs.Runs.{ByOneThread, ByWorkers, IsRead, Outcome, told_of}
+use Rattle.racl_cli.specs.Runs.{AreKept, ByOneThread, ByWorkers, IsRead, JudgedFacts, told_of}
 
 -- ---- what is answered of the bytes of an input
 
--- workers gave the verdicts on these packets, and these are the one-thread filter's where none says no-pages
-pub record IsReached (options : Options) (policy : PolicyFacts) (packets : List PacketFacts) (captures : List Captured) (outcome : Outcome) : Type 0 where
-  pub by_workers : ByWorkers options policy packets outcome.verdicts
-  pub by_one_thread : HavePages outcome.verdicts → ByOneThread options.tables options.times policy packets outcome.verdicts
-  pub told : outcome.captures ≡ captures
+-- workers gave the verdicts on these packets, and these are the one-thread filter's where none says no-pages; the sessions
+-- stood in the tables then
+pub record IsReached (options : Options) (policy : PolicyFacts) (packets : List PacketFacts) (captures : List Captured) (judged : JudgedFacts) : Type 0 where
+  pub by_workers : ByWorkers options policy packets judged.outcome.verdicts
+  pub kept : AreKept options by_workers.judged.views judged.stored
+  pub by_one_thread : HavePages judged.outcome.verdicts → ByOneThread options.tables options.times policy packets judged.outcome.verdicts
+  pub told : judged.outcome.captures ≡ captures
 
 -- the bytes are an input, and its outcome is one that workers reached
-pub record IsOutcomeOf (options : Options) (bytes : List ℕ) (outcome : Outcome) : Type 0 where
+pub record IsOutcomeOf (options : Options) (bytes : List ℕ) (judged : JudgedFacts) : Type 0 where
   pub policy : PolicyFacts
   pub packets : List PacketFacts
-  pub read : IsRead bytes policy packets outcome.captures
-  pub reached : IsReached options policy packets outcome.captures outcome
+  pub read : IsRead bytes policy packets judged.outcome.captures
+  pub reached : IsReached options policy packets judged.outcome.captures judged
 
 -- What is right gets an outcome that workers reached, what has a fault gets that fault, and either may be told that memory
 -- ran out.
-pub record AnswersInput (options : Options) (bytes : List ℕ) (result : Result Outcome Fault) : Type 0 where
+pub record AnswersInput (options : Options) (bytes : List ℕ) (result : Result JudgedFacts Fault) : Type 0 where
   pub ok : IfOk result (IsOutcomeOf options bytes)
   pub accepts : (policy : PolicyFacts) (packets : List PacketFacts) (captures : List Captured) → IsRead bytes policy packets captures
       → MatchResult result (IsReached options policy packets captures) (λ fault. fault ≡ Memory)
@@ -55,11 +57,11 @@ abbrev pub AreKnown : Option (List ℕ) → List ℕ → Type 0
 AreKnown given bytes = IfSome given (λ known. bytes ≡ known)
 
 -- this is the outcome of all bytes that the source had, which are kept where that is asked for
-pub record HasKept (options : Options) (given : Option (List ℕ)) (keep : Bool) (kept : List ℕ) (outcome : Outcome) : Type 0 where
+pub record HasKept (options : Options) (given : Option (List ℕ)) (keep : Bool) (kept : List ℕ) (judged : JudgedFacts) : Type 0 where
   pub bytes : List ℕ
   pub known : AreKnown given bytes
   pub few : length bytes ≤ most_bytes
-  pub answers : AnswersInput options bytes (Ok outcome)
+  pub answers : AnswersInput options bytes (Ok judged)
   pub same : keep ≡ true → kept ≡ bytes
 
 -- memory ran out, reading failed, or there are too many bytes after so many
@@ -68,14 +70,14 @@ IsUnread count given fault =
     (fault ≡ Memory) ⊎ (fault ≡ Read) ⊎ ((fault ≡ TooLarge) × IfSome given (λ known. most_bytes < count + length known))
 
 -- the source's bytes follow what was read before, and all of them are answered so
-pub record AnswersWhole (options : Options) (front : List ℕ) (given : Option (List ℕ)) (result : Result Outcome Fault) : Type 0 where
+pub record AnswersWhole (options : Options) (front : List ℕ) (given : Option (List ℕ)) (result : Result JudgedFacts Fault) : Type 0 where
   pub read : List ℕ
   pub known : AreKnown given read
   pub few : length (front ++ read) ≤ most_bytes
   pub answers : AnswersInput options (front ++ read) result
 
 -- what is answered of an input whose front was read, and whose other bytes the source has
-abbrev pub AnswersRead : Options → List ℕ → Option (List ℕ) → Result Outcome Fault → Type 0
+abbrev pub AnswersRead : Options → List ℕ → Option (List ℕ) → Result JudgedFacts Fault → Type 0
 AnswersRead options front given result =
     ((fault : Fault) × (result ≡ Err fault) × IsUnread (length front) given fault) ⊎ AnswersWhole options front given result
 
@@ -151,7 +153,7 @@ pub record MayJudge (options : Options) (filter : Filter) (opening : Opening) (b
   pub ended : opening.ended ≡ true → IsAtEnd before
 
 -- the source gave all its bytes, and these are the verdicts on the packets of all records
-pub record HasJudged (options : Options) (policy : PolicyFacts) (opening : Opening) (before after : Option (List ℕ)) (outcome : Outcome) : Type 0 where
+pub record HasJudged (options : Options) (policy : PolicyFacts) (opening : Opening) (before after : Option (List ℕ)) (judged : JudgedFacts) : Type 0 where
   pub read : List ℕ
   pub whole : AreAllRead before after opening read
   pub packets : List RecordFacts
@@ -159,4 +161,4 @@ pub record HasJudged (options : Options) (policy : PolicyFacts) (opening : Openi
   pub records : AreRecords opening.order (records_in opening read) packets rest
   pub truncated : Bool
   pub end : IsEnd opening.order rest (end_of truncated)
-  pub reached : IsReached options policy (packets_at 0 packets) (told_of None (packets_at 0 packets) truncated ∷ []) outcome
+  pub reached : IsReached options policy (packets_at 0 packets) (told_of None (packets_at 0 packets) truncated ∷ []) judged

@@ -1,5 +1,5 @@
 -- What a run has filtered, from the bytes of its input.
-use Rattle.std.specs.Prelude.{◌≡◌, ◌≤◌, ◌++◌, ℕ, Bool, List, [], ◌∷◌, length, Option, None, Some, IfSome, All, MatchResult, Result}
+use Rattle.std.specs.Prelude.{◌≡◌, ◌≤◌, ◌++◌, ◌||◌, ℕ, Bool, true, List, [], ◌∷◌, length, Option, None, Some, IfSome, All, MatchResult, Result, if◌then◌else◌}
 use Rattle.std.specs.Io.KnownBytes.{Appends}
 use Rattle.packet_view.specs.Captures.{IsCaptureAt, PacketFacts, end_of}
 use Rattle.packet_view.specs.declared.tuple.Family.{Family}
@@ -10,7 +10,9 @@ use Rattle.flow_filter.specs.declared.verdict.Verdict.{Verdict}
 use Rattle.flow_filter.specs.OneThread.{AreVerdicts, Layout}
 use Rattle.flow_dealing.specs.declared.dealing.Dealing.TheVariants.{Bucket}
 use Rattle.flow_dealing.specs.Dealings.{Deal}
+use Rattle.flow_dealing.specs.Views.{Views}
 use Rattle.flow_dealing.specs.WorkerRecords.{AreFew, AreJudged, HasPagesIn, HavePages}
+use Rattle.flow_workers.specs.Stored.{AreStored}
 use Rattle.racl_options.specs.declared.settings.Options.{Options}
 use Rattle.racl_options.specs.declared.settings.TableSize.{TableSize}
 use Rattle.racl_options.specs.declared.settings.TableSize.TheVariants.{Standard, Large}
@@ -23,10 +25,14 @@ use Rattle.racl_io.specs.declared.report.Totals.{Totals}
 use Rattle.racl_io.specs.Inputs.{AreCaptures, DigitsFacts, IsContent, IsInput, InputFacts, most_bytes}
 use Rattle.racl_io.specs.Reports.{totals_of}
 use Rattle.racl_io.specs.ShownReports.{report_shown}
+use Rattle.racl_io.specs.declared.shown.Shown.{Shown}
 use Rattle.racl_options.specs.declared.settings.Lines.{Lines}
 use Rattle.racl_options.specs.declared.settings.Lines.TheVariants.{Plain, Explained, Json}
 use Rattle.racl_views.specs.Hits.{AreHits}
+use Rattle.racl_views.specs.SessionLines.{sessions_told}
+use Rattle.racl_views.specs.Stored.{StoredFacts}
 use Rattle.racl_views.specs.Views.{IsTold, RunFacts}
+use Rattle.racl_views.specs.declared.view.View.{View}
 use Rattle.racl_views.specs.declared.view.View.TheVariants as view
 
 -- ---- inputs
@@ -115,12 +121,32 @@ pub record ByWorkers (options : Options) (policy : PolicyFacts) (packets : List 
   pub judged : AreJudged (bucket_deal options.tables workers) options.times policy packets verdicts
   pub paged : (family : Family) → AreFew (layout_for options.tables) options.times family judged.judged → All (HasPagesIn options.times family) judged.judged
 
+-- ---- sessions that stand in tables at the end
+
+-- whether what is told needs them
+abbrev pub keeps_stored : Options → Bool
+keeps_stored options = options.hits || options.sessions
+
+-- the pairs of both families' tables, where this is what all callers know together
+pub record AreStoredOf (layout : Layout) (views : Views) (stored : StoredFacts) : Type 0 where
+  pub four : AreStored layout.four views.four.known stored.four
+  pub six : AreStored layout.six views.six.known stored.six
+
+-- they are, where what is told needs them
+abbrev pub AreKept : Options → Views → StoredFacts → Type 0
+AreKept options views stored = keeps_stored options ≡ true → AreStoredOf (layout_for options.tables) views stored
+
 -- ---- outcomes
 
 -- what the packets met, and what is told of their captures
 pub record Outcome : Type 0 where
   pub verdicts : List Verdict
   pub captures : List Captured
+
+-- what came of the packets of an input, and which sessions stand in the tables at the end
+pub record JudgedFacts : Type 0 where
+  pub outcome : Outcome
+  pub stored : StoredFacts
 
 -- the bytes are an input on which the one-thread filter comes to this outcome over tables of this size
 pub record HasOutcome (size : TableSize) (times : Timeouts) (bytes : List ℕ) (outcome : Outcome) : Type 0 where
@@ -137,19 +163,34 @@ AreLines Plain run lines = lines ≡ report_shown run.shown run.verdicts run.cap
 AreLines Explained run lines = IsTold view.Explained run lines
 AreLines Json run lines = IsTold view.Json run lines
 
--- what is told of a run on an input: its lines, and behind them the hits, where these are asked for
-pub record IsReport (options : Options) (bytes : List ℕ) (policy : PolicyFacts) (packets : List PacketFacts) (outcome : Outcome) (report : List ℕ) : Type 0 where
+-- a run as its lines tell it
+abbrev pub told_facts : PolicyFacts → List ℕ → List PacketFacts → Outcome → Shown → RunFacts
+told_facts policy text packets outcome shown =
+    record { policy = policy; text = text; packets = packets; verdicts = outcome.verdicts; captures = outcome.captures; shown = shown }
+
+-- the form of what is told behind lines of this form
+abbrev pub view_behind : Lines → View
+view_behind Plain = view.Explained
+view_behind Explained = view.Explained
+view_behind Json = view.Json
+
+-- the sessions, where they are asked for
+abbrev pub sessions_behind : Options → StoredFacts → List ℕ
+sessions_behind options stored = if options.sessions then sessions_told (view_behind options.lines) options.times stored else []
+
+-- what is told of a run on an input: its lines, and behind them the hits and the sessions, where these are asked for
+pub record IsReport (options : Options) (bytes : List ℕ) (policy : PolicyFacts) (packets : List PacketFacts) (judged : JudgedFacts) (report : List ℕ) : Type 0 where
   pub parts : InputFacts
   pub parted : IsInput bytes parts
   pub lines : List ℕ
-  pub are : AreLines options.lines (record { policy = policy; text = parts.policy; packets = packets; verdicts = outcome.verdicts; captures = outcome.captures; shown = options.shown }) lines
+  pub are : AreLines options.lines (told_facts policy parts.policy packets judged.outcome options.shown) lines
   pub hits : List ℕ
-  pub told : AreHits options.hits policy parts.policy packets outcome.verdicts hits
-  pub all : report ≡ lines ++ hits
+  pub told : AreHits options.hits (view_behind options.lines) options.times (told_facts policy parts.policy packets judged.outcome options.shown) judged.stored hits
+  pub all : report ≡ lines ++ (hits ++ sessions_behind options judged.stored)
 
 -- An input was read, workers gave these verdicts on its packets, and after what was written before stands the report on it.
--- The verdicts are those of the one-thread filter where none of them says no-pages. Where it is known which bytes the reader
--- gives, these are the input.
+-- The verdicts are those of the one-thread filter where none of them says no-pages. The sessions that are told stood in the
+-- tables when these workers had ended. Where it is known which bytes the reader gives, these are the input.
 pub record HasRun (options : Options) (given old new : Option (List ℕ)) (totals : Totals) : Type 0 where
   pub bytes : List ℕ
   pub known : IfSome given (λ known. bytes ≡ known)
@@ -158,9 +199,11 @@ pub record HasRun (options : Options) (given old new : Option (List ℕ)) (total
   pub outcome : Outcome
   pub read : IsRead bytes policy packets outcome.captures
   pub by_workers : ByWorkers options policy packets outcome.verdicts
+  pub stored : StoredFacts
+  pub kept : AreKept options by_workers.judged.views stored
   pub by_one_thread : HavePages outcome.verdicts → ByOneThread options.tables options.times policy packets outcome.verdicts
   pub report : List ℕ
-  pub told : IsReport options bytes policy packets outcome report
+  pub told : IsReport options bytes policy packets (record { outcome = outcome; stored = stored }) report
   pub text : Appends old new report
   pub counted : totals ≡ totals_of outcome.verdicts outcome.captures
 

@@ -1,4 +1,5 @@
 pub mod Captures
 pub mod Heads
+pub mod Stored
 pub mod Streams
 pub mod Views

@@ -7,8 +7,9 @@ ghost use Rattle.racl_cli.specs.Reads.{AnswersInput, HasMarked};
 ghost use Rattle.racl_cli.specs.inner.Captures.{CanTake, HasTaken, HasTakenAll, IsFaultAt, IsFaultOfWalk, MayTake};
 
 use crate::opening::Marked;
-use crate::outcome::Judged;
+use crate::outcome::{Ended, Judged};
 use crate::sized::{SizedWorkers, create_sized};
+use crate::stored::with_stored;
 use crate::streaming::plan_for;
 use packet_view::{CheckedCapture, Packets, check_capture};
 use racl_io::{Captured, Digits, Fault, Numbered, cut_digits, decode_digits};
@@ -106,7 +107,7 @@ fn judge_next<'t, 'f, 'b, T: Threads + Wait + Sync>(
 fn judge_each<'t, 'f, 'b, T: Threads + Wait + Sync>(
     alloc: Global,
     begun: Walk<'t, 'f, 'b, T>,
-) -> Result<Judged, Fault>
+) -> Result<Ended, Fault>
     requires { MayTake begun }
     ensures ok { IfOk result (HasTakenAll begun.entry) }
     ensures fault { IfErr result (λ fault. (fault ≡ Memory) ⊎ IsFaultOfWalk begun.entry fault) }
@@ -120,10 +121,14 @@ fn judge_each<'t, 'f, 'b, T: Threads + Wait + Sync>(
         captures,
         ..
     } = walk;
-    let Ok(verdicts) = workers.end(alloc) else {
+    let Ok((verdicts, callers)) = workers.end(alloc) else {
         return Err(Fault::Memory);
     };
-    Ok(Judged { verdicts, captures })
+    Ok(Ended {
+        verdicts,
+        captures,
+        callers,
+    })
 }
 
 /// What the packets of captures with numbers met, of an input of which all was read.
@@ -157,5 +162,8 @@ pub fn judge_captures<T: Threads + Wait + Sync>(
         interface: number,
         content,
     };
-    judge_each(alloc, Walk::at(alloc, workers, first))
+    match judge_each(alloc, Walk::at(alloc, workers, first)) {
+        Ok(ended) => with_stored(rt, alloc, options, tables, ended),
+        Err(fault) => Err(fault),
+    }
 }

@@ -14,6 +14,7 @@ mod opening;
 mod outcome;
 mod saving;
 mod sized;
+mod stored;
 mod streaming;
 mod viewing;
 

@@ -1,15 +1,18 @@
 //! Session tables of the size that the words ask for, and workers over them.
 ghost use Rattle.std.specs.Prelude.{[], ◌≡◌, ◌≤◌, IfOk};
 ghost use Rattle.flow_dealing.specs.declared.dealing.Dealing.TheVariants.{Bucket};
-ghost use Rattle.racl_cli.specs.Crews.{AreAfter, AreFirstOf, HasFollowedAlone, HaveFollowedOn, HaveJudgedSome, HaveSaidOn, MayFollow, MayFollowAlone};
-ghost use Rattle.racl_cli.specs.Crews.{orders_for, size_of};
+ghost use Rattle.racl_views.specs.Stored.{stored_facts};
+ghost use Rattle.racl_cli.specs.Crews.{AreAfter, AreFirstOf, AreIdleOf, HasFollowedAlone, HaveEndedOn, HaveFollowedOn, HaveJudgedSome, MayFollow, MayFollowAlone};
+ghost use Rattle.racl_cli.specs.Crews.{orders_for, size_of, views_with};
+ghost use Rattle.racl_cli.specs.Runs.{AreStoredOf, layout_for};
 
 use bihash_words::{Shape, ShapeV4, ShapeV6, flow_shapes_are_sound};
 use flow_filter::{InterfaceFilters, Verdict};
-use flow_workers::{Callers, Dealing, Gate, Setup, Tables, Workers, create_tables};
+use flow_workers::{Callers, Dealing, Gate, Setup, Tables, Workers, close_tables, create_tables};
 use large_shapes::{LargeV4, LargeV6, large_shapes_are_sound};
 use packet_view::Packets;
 use racl_options::TableSize;
+use racl_views::StoredPairs;
 use std::alloc::{AllocError, Global};
 use std::sync::Wait;
 use std::thread::Threads;
@@ -102,6 +105,39 @@ pub fn create_sized(
     }
 }
 
+/// The pairs of the tables, which end. Callers that aren't joined into these are waited for. An error says that memory was
+/// refused.
+pub fn close_sized<T: Wait>(
+    rt: &T,
+    alloc: Global,
+    tables: SizedTables,
+    callers: SizedCallers,
+) -> Result<StoredPairs, AllocError>
+    requires { AreIdleOf tables callers }
+    ensures { IfOk result (λ s. AreStoredOf (layout_for (size_of tables)) (views_with callers) (stored_facts s)) }
+{
+    match tables {
+        SizedTables::Standard(tables) => {
+            let SizedCallers::Standard(callers) = callers else {
+                unreachable!()
+            };
+            match close_tables(rt, alloc, tables, callers) {
+                Ok((four, six)) => Ok(StoredPairs { four, six }),
+                Err(_) => Err(AllocError),
+            }
+        }
+        SizedTables::Large(tables) => {
+            let SizedCallers::Large(callers) = callers else {
+                unreachable!()
+            };
+            match close_tables(rt, alloc, tables, callers) {
+                Ok((four, six)) => Ok(StoredPairs { four, six }),
+                Err(_) => Err(AllocError),
+            }
+        }
+    }
+}
+
 impl<'t, 'f, T: Wait> SizedWorkers<'t, 'f, T> {
     /// So many workers that judged no packet, and judge by this filter. The callers are of the tables, and made no call.
     /// An error says that memory was refused.
@@ -115,7 +151,7 @@ impl<'t, 'f, T: Wait> SizedWorkers<'t, 'f, T> {
     ) -> Result<SizedWorkers<'t, 'f, T>, AllocError>
         requires first { AreFirstOf tables.now callers }
         requires count { (1 ≤ workers) × (workers ≤ 16) }
-        ensures { IfOk result (AreAfter (orders_for (size_of tables.now) filter.now workers) []) }
+        ensures { IfOk result (AreAfter (orders_for tables.now filter.now workers) []) }
     {
         match callers {
             SizedCallers::Standard(callers) => {
@@ -141,18 +177,21 @@ impl<'t, 'f, T: Wait> SizedWorkers<'t, 'f, T> {
         }
     }
 
-    /// The verdicts on all packets, in their order. An error says that memory was refused.
-    pub fn end(self, alloc: Global) -> Result<Vec<Verdict>, AllocError>
+    /// The verdicts on all packets, in their order, and all callers of each table as one. An error says that memory was
+    /// refused.
+    pub fn end(self, alloc: Global) -> Result<(Vec<Verdict>, SizedCallers), AllocError>
         requires { HaveJudgedSome self }
-        ensures { IfOk result (λ v. HaveSaidOn self.entry v.items) }
+        ensures { IfOk result (λ r. HaveEndedOn self.entry r.0.items r.1) }
     {
-        let said = match self {
-            SizedWorkers::Standard(workers) => workers.end(alloc),
-            SizedWorkers::Large(workers) => workers.end(alloc),
-        };
-        match said {
-            Ok(verdicts) => Ok(verdicts),
-            Err(_) => Err(AllocError),
+        match self {
+            SizedWorkers::Standard(workers) => match workers.end(alloc) {
+                Ok((verdicts, callers)) => Ok((verdicts, SizedCallers::Standard(callers))),
+                Err(_) => Err(AllocError),
+            },
+            SizedWorkers::Large(workers) => match workers.end(alloc) {
+                Ok((verdicts, callers)) => Ok((verdicts, SizedCallers::Large(callers))),
+                Err(_) => Err(AllocError),
+            },
         }
     }
 

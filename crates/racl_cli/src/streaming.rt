@@ -11,8 +11,9 @@ ghost use Rattle.racl_cli.specs.Reads.{AnswersRead, HasHeaded, HasJudged, MayGoO
 
 use crate::crew::Crew;
 use crate::opening::Headed;
-use crate::outcome::Judged;
+use crate::outcome::{Ended, Judged};
 use crate::sized::{MANY_PACKETS, SizedWorkers, create_sized};
+use crate::stored::with_stored;
 use capture_stream::{Opening, Streamed, WindowSize, judge_stream};
 use flow_workers::Filter;
 use packet_view::front_records;
@@ -72,14 +73,14 @@ pub fn plan_for(options: &Options, ended: bool, count: usize) -> (usize, usize)
     }
 }
 
-// The verdicts of workers who judged all packets of a capture, and what the report tells of it.
-fn end_capture<T: Wait>(crew: Crew<'_, '_, T>, truncated: bool) -> Result<Judged, Fault>
+// The verdicts of workers who judged all packets of a capture, what the report tells of it, and their callers.
+fn end_capture<T: Wait>(crew: Crew<'_, '_, T>, truncated: bool) -> Result<Ended, Fault>
     requires { HaveJudgedSome crew.workers }
     ensures ok { IfOk result (HasEnded crew.entry.workers truncated) }
     ensures fault { IfErr result (λ fault. fault ≡ Memory) }
 {
     let Crew { alloc, workers } = crew;
-    let Ok(verdicts) = workers.end(alloc) else {
+    let Ok((verdicts, callers)) = workers.end(alloc) else {
         return Err(Fault::Memory);
     };
     let mut captures = Vec::new(alloc);
@@ -88,17 +89,21 @@ fn end_capture<T: Wait>(crew: Crew<'_, '_, T>, truncated: bool) -> Result<Judged
         packets: verdicts.len(),
         truncated,
     })?;
-    Ok(Judged { verdicts, captures })
+    Ok(Ended {
+        verdicts,
+        captures,
+        callers,
+    })
 }
 
-// The verdicts of workers who judge the packets of all records while these are read: in windows for several workers where
+// What workers leave who judge the packets of all records while these are read: in windows for several workers where
 // there is a runtime beside which the next one is read.
 fn stream_records<R: Source + Send, T: Threads + Wait + Sync>(
     beside: Option<&T>,
     crew: Crew<'_, '_, T>,
     reader: &mut R,
     opening: Opening,
-) -> Result<Judged, Fault>
+) -> Result<Ended, Fault>
     requires may { MayRead crew.workers opening (R.bytes reader.old) }
     requires sound { R.failures reader.old < 2 ^ 64 - 1 }
     ensures ok { IfOk result (HasSaidAll (orders_of crew.entry.workers) opening (R.bytes reader.old) (R.bytes reader.new)) }
@@ -113,7 +118,7 @@ fn stream_records<R: Source + Send, T: Threads + Wait + Sync>(
     }
 }
 
-// The verdicts on the packets of all records.
+// The verdicts on the packets of all records, and the sessions behind them.
 fn judge_records<'t, R: Source + Send, T: Threads + Wait + Sync>(
     rt: &'t T,
     alloc: Global,
@@ -145,7 +150,10 @@ fn judge_records<'t, R: Source + Send, T: Threads + Wait + Sync>(
         return Err(Fault::Memory);
     };
     let beside = if are_several { Some(rt) } else { None };
-    stream_records(beside, Crew { alloc, workers }, reader, opening)
+    match stream_records(beside, Crew { alloc, workers }, reader, opening) {
+        Ok(ended) => with_stored(rt, alloc, options, tables, ended),
+        Err(fault) => Err(fault),
+    }
 }
 
 /// What was read of an input.

@@ -8,11 +8,13 @@ ghost use Rattle.racl_io.specs.Inputs.{input_facts};
 ghost use Rattle.racl_io.specs.Reports;
 ghost use Rattle.racl_views.specs.CapturePackets.{HavePackets};
 ghost use Rattle.racl_views.specs.Hits.{AreHits};
+ghost use Rattle.racl_views.specs.Stored.{stored_facts};
 ghost use Rattle.racl_views.specs.Views.{run_facts};
-ghost use Rattle.racl_cli.specs.Runs.{HasPackets, IsRead, Outcome};
+ghost use Rattle.racl_cli.specs.Runs;
+ghost use Rattle.racl_cli.specs.Runs.{HasPackets, IsRead, sessions_behind, told_facts};
 ghost use Rattle.racl_cli.specs.inner.Captures.{AreTakenFrom, facts_of};
 ghost use Rattle.racl_cli.specs.inner.Views;
-ghost use Rattle.racl_cli.specs.inner.Views.{EndsOnce, HasLines, HasReport, IsAgain, MayTell};
+ghost use Rattle.racl_cli.specs.inner.Views.{EndsOnce, HasLines, HasPlain, HasReport, IsAgain, MayTell};
 
 use crate::outcome::Judged;
 use acl_policy::{Policy, read_policy};
@@ -23,7 +25,9 @@ use racl_io::{
     split_input, write_all, write_shown,
 };
 use racl_options::{Lines, Options};
-use racl_views::{CaptureBytes, Run, View, hits_text, packets_in, write_view};
+use racl_views::{
+    CaptureBytes, Run, StoredPairs, View, hits_text, packets_in, sessions_text, write_view,
+};
 use std::alloc::{AllocError, Global};
 use std::thread::Threads;
 
@@ -158,14 +162,8 @@ fn run_of<'a>(
     captures: &'a [Captured],
     shown: Shown,
 ) -> Run<'a>
-    ensures { run_facts result ≡ record {
-      policy = policy_facts policy.entry.now;
-      text = text.entry.now;
-      packets = remaining packets.entry;
-      verdicts = verdicts.entry.now;
-      captures = captures.entry.now;
-      shown = shown;
-    } }
+    ensures { run_facts result ≡ told_facts (policy_facts policy.entry.now) text.entry.now (remaining packets.entry)
+        (record { verdicts = verdicts.entry.now; captures = captures.entry.now }) shown }
 {
     Run {
         policy,
@@ -177,16 +175,79 @@ fn run_of<'a>(
     }
 }
 
-// What is told of hits, where it is asked for.
-fn hits_of(alloc: Global, asked: bool, run: Run<'_>) -> Result<Vec<u8>, AllocError>
-    ensures { IfOk result (λ told. IsPolicyText run.entry.text.now (policy_facts run.entry.policy.now)
-        → AreHits asked (policy_facts run.entry.policy.now) run.entry.text.now (remaining run.entry.packets) run.entry.verdicts.now told.items) }
+// The form of what is told behind lines of this form.
+fn view_behind(lines: Lines) -> View
+    ensures { result ≡ Runs.view_behind lines }
 {
-    if asked {
-        hits_text(alloc, run.policy, run.text, run.packets, run.verdicts)
+    match lines {
+        Lines::Plain | Lines::Explained => View::Explained,
+        Lines::Json => View::Json,
+    }
+}
+
+// What is told of hits, where it is asked for.
+fn hits_of(
+    alloc: Global,
+    options: &Options,
+    run: Run<'_>,
+    stored: &StoredPairs,
+) -> Result<Vec<u8>, AllocError>
+    ensures { IfOk result (λ told. IsPolicyText run.entry.text.now (policy_facts run.entry.policy.now)
+        → AreHits options.now.hits (Runs.view_behind options.now.lines) options.now.times (run_facts run.entry) (stored_facts stored.now) told.items) }
+{
+    if options.hits {
+        hits_text(
+            alloc,
+            view_behind(options.lines),
+            options.times,
+            run,
+            stored,
+        )
     } else {
         Ok(Vec::new(alloc))
     }
+}
+
+// What is told of sessions, where it is asked for.
+fn sessions_of(
+    alloc: Global,
+    options: &Options,
+    stored: &StoredPairs,
+) -> Result<Vec<u8>, AllocError>
+    ensures { IfOk result (λ told. told.items ≡ sessions_behind options.now (stored_facts stored.now)) }
+{
+    if options.sessions {
+        sessions_text(alloc, view_behind(options.lines), options.times, stored)
+    } else {
+        Ok(Vec::new(alloc))
+    }
+}
+
+// Writes plain lines, and the sessions behind them.
+fn write_plain<W: Sink, T: Threads>(
+    beside: Option<&T>,
+    alloc: Global,
+    writer: &mut W,
+    options: &Options,
+    judged: &Judged,
+) -> Result<Totals, Fault>
+    requires { W.failures writer.old < 2 ^ 64 - 1 }
+    ensures told { IfOk result (HasPlain options.now judged.now (W.bytes writer.old) (W.bytes writer.new)) }
+    ensures ends { EndsOnce W.failures writer.old writer.new result }
+{
+    let Ok(sessions) = sessions_of(alloc, options, &judged.stored) else {
+        return Err(Fault::Memory);
+    };
+    let totals = write_shown(
+        beside,
+        alloc,
+        writer,
+        options.shown,
+        &judged.verdicts,
+        &judged.captures,
+    )?;
+    write_all(writer, &sessions)?;
+    Ok(totals)
 }
 
 // Writes the report on what was judged of an input that was gone over once more.
@@ -214,11 +275,15 @@ fn write_again<W: Sink, T: Threads>(
         &judged.captures,
         options.shown,
     );
-    let Ok(hits) = hits_of(alloc, options.hits, run) else {
+    let Ok(hits) = hits_of(alloc, options, run, &judged.stored) else {
+        return Err(Fault::Memory);
+    };
+    let Ok(sessions) = sessions_of(alloc, options, &judged.stored) else {
         return Err(Fault::Memory);
     };
     let totals = write_lines(beside, alloc, writer, options.lines, run)?;
     write_all(writer, &hits)?;
+    write_all(writer, &sessions)?;
     Ok(totals)
 }
 
@@ -233,19 +298,12 @@ pub fn write_judged<W: Sink, T: Threads>(
 ) -> Result<Totals, Fault>
     requires { W.failures writer.old < 2 ^ 64 - 1 }
     ensures told { (input : List ℕ) (policy : PolicyFacts) (packets : List PacketFacts) → MayTell options.now bytes.now input
-        → IsRead input policy packets (judged.now).captures
+        → IsRead input policy packets (judged.now).outcome.captures
         → IfOk result (HasReport options.now input policy packets judged.now (W.bytes writer.old) (W.bytes writer.new)) }
     ensures ends { EndsOnce W.failures writer.old writer.new result }
 {
     if !needs_bytes(options) {
-        return write_shown(
-            beside,
-            alloc,
-            writer,
-            options.shown,
-            &judged.verdicts,
-            &judged.captures,
-        );
+        return write_plain(beside, alloc, writer, options, judged);
     }
     match read_again(alloc, bytes) {
         Ok(again) => write_again(beside, alloc, writer, options, &again, judged),

@@ -7,8 +7,9 @@ use Rattle.racl_io.specs.declared.report.Captured.{Captured}
 use Rattle.racl_io.specs.Faults.{IsFaultOfCaptures}
 use Rattle.racl_io.specs.Inputs.{AreCaptures, DigitsFacts, AreCutDigits, NumberedFacts, most_bytes, numbered_facts}
 use Rattle.racl_cli.specs.declared.captures.Walk.{Walk}
-use Rattle.racl_cli.specs.Crews.{AreResting, AreSaid, orders_of}
-use Rattle.racl_cli.specs.Runs.{AreTaken, IsTaken, Outcome}
+use Rattle.racl_cli.specs.declared.outcome.Ended.{Ended}
+use Rattle.racl_cli.specs.Crews.{AreResting, AreSaidBy, orders_of}
+use Rattle.racl_cli.specs.Runs.{AreTaken, IsTaken}
 
 -- a capture's number, and what follows its marker line
 abbrev pub facts_of : mark.Numbered → NumberedFacts
@@ -60,11 +61,11 @@ pub record MayTake {T : Type 0} (begun : Walk T) : Type 0 where
   pub seen : begun.seen.items ≡ []
   pub few : left_at (numbered_facts begun.next) ≤ most_bytes + 1
 
--- all captures were taken, and these are the verdicts on their packets
-pub record HasTakenAll {T : Type 0} (begun : Walk T) (outcome : Outcome) : Type 0 where
+-- all captures were taken, and these are the verdicts on their packets, and the callers
+pub record HasTakenAll {T : Type 0} (begun : Walk T) (ended : Ended) : Type 0 where
   pub packets : List PacketFacts
-  pub taken : AreTakenFrom [] (numbered_facts begun.next) packets outcome.captures
-  pub said : AreSaid (orders_of begun.workers) packets outcome.verdicts
+  pub taken : AreTakenFrom [] (numbered_facts begun.next) packets ended.captures.items
+  pub said : AreSaidBy (orders_of begun.workers) packets ended.verdicts.items ended.callers
 
 abbrev pub IsFaultOfWalk : {T : Type 0} → Walk T → Fault → Type 0
 IsFaultOfWalk begun fault = IsFaultFrom [] (numbered_facts begun.next) fault

@@ -9,13 +9,14 @@ use Rattle.racl_io.specs.declared.report.Captured.{Captured}
 use Rattle.racl_io.specs.declared.report.Totals.{Totals}
 use Rattle.racl_io.specs.Inputs.{InputFacts, IsInput, NumberedFacts}
 use Rattle.racl_io.specs.Reports.{totals_of}
+use Rattle.racl_io.specs.ShownReports.{report_shown}
 use Rattle.racl_options.specs.Asking.{is_plain}
 use Rattle.racl_options.specs.declared.settings.Lines.{Lines}
 use Rattle.racl_options.specs.declared.settings.Options.{Options}
 use Rattle.racl_views.specs.CapturePackets.{HavePackets}
 use Rattle.racl_views.specs.Views.{RunFacts}
 use Rattle.racl_views.specs.declared.capture_bytes.CaptureBytes.{CaptureBytes}
-use Rattle.racl_cli.specs.Runs.{AreLines, IsReport, Outcome}
+use Rattle.racl_cli.specs.Runs.{AreLines, IsReport, JudgedFacts, sessions_behind}
 use Rattle.racl_cli.specs.declared.viewing.Again.{Again}
 use Rattle.racl_cli.specs.inner.Captures.{AreTakenFrom}
 
@@ -50,12 +51,17 @@ pub record HasLines (asked : Lines) (run : RunFacts) (old new : Option (List ℕ
   pub text : Appends old new lines
   pub counted : totals ≡ totals_of run.verdicts run.captures
 
--- and so does the report on an input
-pub record HasReport (options : Options) (input : List ℕ) (policy : PolicyFacts) (packets : List PacketFacts) (outcome : Outcome) (old new : Option (List ℕ)) (totals : Totals) : Type 0 where
+-- plain lines stand behind it, and the sessions behind them
+pub record HasPlain (options : Options) (judged : JudgedFacts) (old new : Option (List ℕ)) (totals : Totals) : Type 0 where
+  pub text : Appends old new (report_shown options.shown judged.outcome.verdicts judged.outcome.captures ++ sessions_behind options judged.stored)
+  pub counted : totals ≡ totals_of judged.outcome.verdicts judged.outcome.captures
+
+-- the report on an input stands behind it
+pub record HasReport (options : Options) (input : List ℕ) (policy : PolicyFacts) (packets : List PacketFacts) (judged : JudgedFacts) (old new : Option (List ℕ)) (totals : Totals) : Type 0 where
   pub report : List ℕ
-  pub is : IsReport options input policy packets outcome report
+  pub is : IsReport options input policy packets judged report
   pub text : Appends old new report
-  pub counted : totals ≡ totals_of outcome.verdicts outcome.captures
+  pub counted : totals ≡ totals_of judged.outcome.verdicts judged.outcome.captures
 
 -- the captures so far are the first of those that have these packets, and the others begin with the next one
 pub record AreAmid (all : List CaptureBytes) (next : Option NumberedFacts) (packets : List PacketFacts) : Type 0 where

@@ -1,6 +1,6 @@
 use Rattle.std.proofs.Common.{◌∙◌, Ok, ap, inl, inr, refl, subst, sym, true}
 use Rattle.racl_io.specs.Faults.{IsSystemFault}
-use Rattle.racl_cli.specs.Runs.{Outcome}
+use Rattle.racl_cli.specs.Runs.{JudgedFacts}
 use Rattle.racl_cli.proofs.OutcomeLemmas.{has_reported, kept_told, ran}
 use Rattle.racl_cli.proofs.SaveLemmas.{has_saved}
 use Rattle.std.proofs.lemmas.Result.{err_from_is_err_and}
@@ -39,10 +39,10 @@ returns-clause-ok g c =
     let old = g.W.Sink.bytes c.args.writer.now in
     let new = g.W.Sink.bytes c.write_judged.new.writer in
     let told = kept_told old new c.args.options.now c.deref.result.now c.judge_kept.new.kept.items c.in_ok-judged.judged (Ok c.in_ok-totals.totals) c.deref.ensures.value c.in_ok-totals.ensures.told in
-    has_saved g.S.Sink.bytes c.args.options.now (g.R.Source.bytes c.args.reader.now) old new c.args.saves.now c.save_packets.new.saves c.in_ok-totals.totals c.in_ok-judged.judged k.bytes
+    has_saved g.S.Sink.bytes c.args.options.now (g.R.Source.bytes c.args.reader.now) old new c.args.saves.now c.save_packets.new.saves c.in_ok-totals.totals c.in_ok-judged.judged.outcome k.bytes
     c.deref-2.result.now c.deref-3.result.now
     (ran old new c.args.options.now (g.R.Source.bytes c.args.reader.now) true c.judge_kept.new.kept.items c.in_ok-judged.judged (Ok c.in_ok-totals.totals) k (λ asked. refl) told)
-    (c.deref-2.ensures.value ∙ k.same refl) (c.deref-3.ensures.value ∙ ap (λ (o : Outcome). o.verdicts) c.judged.view_is) c.in_ok-save_packets.ensures.ok
+    (c.deref-2.ensures.value ∙ k.same refl) (c.deref-3.ensures.value ∙ ap (λ (j : JudgedFacts). j.outcome.verdicts) c.judged.view_is) c.in_ok-save_packets.ensures.ok
 
 pub returns-in_err-judged-clause-accepts : goal.returns-in_err-judged-clause-accepts
 returns-in_err-judged-clause-accepts g c =
