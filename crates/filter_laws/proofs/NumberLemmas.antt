@@ -17,7 +17,7 @@ use Rattle.session_state.specs.declared.flow.Flow.{Flow}
 use Rattle.session_state.specs.declared.timeouts.Timeouts.{Timeouts}
 use Rattle.session_state.specs.Flows.{flow_of, key_of, ports_word}
 use Rattle.session_state.proofs.FlowLemmas.{flow_told}
-use Rattle.flow_filter.specs.Apart.{HasKeyNumber, number_in}
+use Rattle.filter_laws.specs.Apart.{HasKeyNumber, number_in}
 use Rattle.flow_filter.specs.Readings.{IsReading, IsReadingOf, IsSeen, Reading, Ruled, Ruling}
 use Rattle.flow_filter.specs.Updates.{Update, update_in, update_of, words_of}
 

@@ -22,7 +22,7 @@ use Rattle.flow_filter.specs.Readings.{Ruled, Ruling}
 use Rattle.flow_filter.specs.Updates.{Update, reflects, update_of, words_of}
 use Rattle.flow_filter.specs.Verdicts.{verdict_entered, verdict_of, verdict_of_rules, verdict_reflected}
 use Rattle.flow_filter.proofs.PassingLemmas.{reflects_by_rule}
-use Rattle.flow_filter.proofs.RecyclingLemmas.{none_goes, none_while_live}
+use Rattle.filter_laws.proofs.RecyclingLemmas.{none_goes, none_while_live}
 
 -- what a refusal for want of room tells of the map before it
 record IsRefusedFull (b : Bounds) (m : Pairs) (w : ℕ) (e : Event) : Type 0 where

@@ -15,15 +15,15 @@ use Rattle.bihash_words.specs.Refusals.{IsTaken}
 use Rattle.bihash_words.specs.Runs.{writes_of}
 use Rattle.session_state.specs.declared.timeouts.Timeouts.{Timeouts}
 use Rattle.flow_filter.specs.declared.verdict.Verdict.{Verdict}
-use Rattle.flow_filter.specs.Apart.{HasKeyNumber, TookNoPlaceOf, WasTaken, packets_of, those_of}
+use Rattle.filter_laws.specs.Apart.{HasKeyNumber, TookNoPlaceOf, WasTaken, packets_of, those_of}
 use Rattle.flow_filter.specs.Judged.{IsAsked, Judged, expired_for, readings_of, verdict_by_event, verdict_on, verdict_with, verdicts_on}
 use Rattle.flow_filter.specs.OneThread.{AreVerdicts, HasPages, Home, Layout, bounds_in, home_of, nothing, same_home}
 use Rattle.flow_filter.specs.Readings.{AreReadings, Framed, IsReading, Reading, Ruled, Ruling}
 use Rattle.flow_filter.specs.Updates.{Update, update_of, words_of}
 use Rattle.flow_filter.proofs.HomeLemmas.{homes_are_one}
-use Rattle.flow_filter.proofs.NumberLemmas.{is_of, of_interface, unlike}
+use Rattle.filter_laws.proofs.NumberLemmas.{is_of, of_interface, unlike}
 use Rattle.flow_filter.proofs.OneThreadLemmas.{IsThread, counts_after, first_asked, first_unasked, maps_after, of_one_thread, one_verdicts, thread_asked, thread_unasked}
-use Rattle.flow_filter.proofs.PartedMaps.{AreParts, bare, own_step, rest_step}
+use Rattle.filter_laws.proofs.PartedMaps.{AreParts, bare, own_step, rest_step}
 
 -- what the buckets hold is of two kinds of keys, within its bounds, and the one kind has changed no oftener
 record ArePartings (l : Layout) (kind : List ℕ → Bool) (maps own rest : Home → Pairs)

@@ -16,7 +16,7 @@ use Rattle.flow_filter.specs.Passing.{FindsNoRoom, HoldsLive, Leave, LetsThrough
 use Rattle.flow_filter.specs.Verdicts.{passes}
 use Rattle.flow_filter.proofs.HomeLemmas.{is_home, same_as_itself}
 use Rattle.flow_filter.proofs.OneThreadLemmas.{Runs, events_are}
-use Rattle.flow_filter.proofs.FullLemmas.{full_by_reading}
+use Rattle.filter_laws.proofs.FullLemmas.{full_by_reading}
 use Rattle.flow_filter.proofs.PassingLemmas.{pass_by_reading}
 
 -- what holds of all holds of each

@@ -9,7 +9,7 @@ ghost use Rattle.bihash_words.specs.Maps.{Bounds, Event, Pairs, IsEvent};
 ghost use Rattle.session_state.specs.declared.timeouts.Timeouts.{Timeouts};
 ghost use Rattle.flow_filter.specs.declared.verdict.Verdict.{Verdict};
 ghost use Rattle.flow_filter.specs.declared.verdict.Verdict.TheVariants.{Full};
-ghost use Rattle.flow_filter.specs.Apart.{HasKeyNumber, TookNoPlaceOf, WasTaken, packets_of, those_of};
+ghost use Rattle.filter_laws.specs.Apart.{HasKeyNumber, TookNoPlaceOf, WasTaken, packets_of, those_of};
 ghost use Rattle.flow_filter.specs.Judged.{IsEventOf, Judged, readings_of, verdict_on, verdict_with};
 ghost use Rattle.flow_filter.specs.OneThread.{AreVerdicts, Home, IsOneThread, Layout, bounds_in, home_of};
 ghost use Rattle.flow_filter.specs.Passing.{FindsNoRoom, HoldsLive, IsPermitting, Leave, LetsThrough, MakesRoom};
@@ -19,8 +19,7 @@ ghost use Rattle.flow_filter.specs.Verdicts.{passes};
 
 /// A policy reads each packet, and in one way.
 pub fn each_packet_has_one_reading()
-    ensures some { (policy : PolicyFacts) (packet : PacketFacts)
-        → (reading : Reading) × IsReading policy packet reading }
+    ensures some { (policy : PolicyFacts) (packet : PacketFacts) → (reading : Reading) × IsReading policy packet reading }
     ensures one { (policy : PolicyFacts) (packet : PacketFacts) (a b : Reading)
         → IsReading policy packet a → IsReading policy packet b → a ≡ b }
     ensures list { (policy : PolicyFacts) (packets : List PacketFacts)
@@ -31,32 +30,28 @@ pub fn each_packet_has_one_reading()
 
 /// Packets that are judged one after the other are judged in one way: their readings and what the buckets
 /// hold at first give the event of each.
-#[tactic(auto, using(crate::proofs::OneThreadLemmas::some_judged, crate::proofs::OneThreadLemmas::one_judged))]
 pub fn each_list_is_judged_once()
     ensures some { (l : Layout) (times : Timeouts) (opening : Home → Pairs) (readings : List Reading)
         → (js : List Judged) × (readings_of js ≡ readings) × IsOneThread l times opening js }
-    ensures one { (l : Layout) (times : Timeouts) (opening : Home → Pairs) (js ks : List Judged)
-        → readings_of js ≡ readings_of ks → IsOneThread l times opening js → IsOneThread l times opening ks
-        → js ≡ ks }
+    ensures one { (l : Layout) (times : Timeouts) (opening : Home → Pairs) (js ks : List Judged) → readings_of js ≡ readings_of ks
+        → IsOneThread l times opening js → IsOneThread l times opening ks → js ≡ ks }
 {}
 
 /// The packets of a capture have one list of verdicts.
-#[tactic(auto, using(crate::proofs::OneThreadLemmas::some_verdicts, crate::proofs::OneThreadLemmas::one_verdicts))]
 pub fn each_capture_has_one_list_of_verdicts()
     ensures some { (l : Layout) (times : Timeouts) (policy : PolicyFacts) (packets : List PacketFacts)
         → (verdicts : List Verdict) × AreVerdicts l times policy packets verdicts }
-    ensures one { (l : Layout) (times : Timeouts) (policy : PolicyFacts) (packets : List PacketFacts)
-        (a b : List Verdict) → AreVerdicts l times policy packets a → AreVerdicts l times policy packets b → a ≡ b }
+    ensures one { (l : Layout) (times : Timeouts) (policy : PolicyFacts) (packets : List PacketFacts) (a b : List Verdict)
+        → AreVerdicts l times policy packets a → AreVerdicts l times policy packets b → a ≡ b }
 {}
 
 /// A packet passes exactly where a session of its flow is live in its bucket, or the first rule that matches
 /// lets it through: it permits, or it reflects and the session is there that the packet may start. A packet
 /// without a flow passes exactly where that rule permits or reflects.
 pub fn packets_pass_by_rule_or_session()
-    ensures flow { (times : Timeouts) (moment : ℕ) (tuple : TupleFacts) (ruling : Ruling) (u : Update) (b : Bounds)
-        (m n : Pairs) (w : ℕ) (e : Event) → update_of times (Ruled moment tuple ruling) ≡ Some u
-        → IsEventOf u e → IsEvent b m w e n → (passes (verdict_with times (Ruled moment tuple ruling) (Some e)) ≡ true)
-        ↔ (HoldsLive u m ⊎ LetsThrough u n ruling) }
+    ensures flow { (times : Timeouts) (moment : ℕ) (tuple : TupleFacts) (ruling : Ruling) (u : Update) (b : Bounds) (m n : Pairs)
+        (w : ℕ) (e : Event) → update_of times (Ruled moment tuple ruling) ≡ Some u → IsEventOf u e → IsEvent b m w e n
+        → (passes (verdict_with times (Ruled moment tuple ruling) (Some e)) ≡ true) ↔ (HoldsLive u m ⊎ LetsThrough u n ruling) }
     ensures no_flow { (times : Timeouts) (moment : ℕ) (tuple : TupleFacts) (ruling : Ruling) (event : Option Event)
         → update_of times (Ruled moment tuple ruling) ≡ None
         → (passes (verdict_with times (Ruled moment tuple ruling) event) ≡ true) ↔ IsPermitting ruling }
@@ -65,17 +60,16 @@ pub fn packets_pass_by_rule_or_session()
     ensures in_order { (l : Layout) (times : Timeouts) (opening : Home → Pairs) (before after : List Judged)
         (j : Judged) (moment : ℕ) (tuple : TupleFacts) (ruling : Ruling) (u : Update)
         → IsOneThread l times opening (before ++ j ∷ after) → j.reading ≡ Ruled moment tuple ruling
-        → update_of times j.reading ≡ Some u → (m n : Pairs) × Leave l times opening before (home_of l u.key) m
-        × Leave l times opening (before ++ j ∷ []) (home_of l u.key) n
+        → update_of times j.reading ≡ Some u → (m n : Pairs)
+        × Leave l times opening before (home_of l u.key) m × Leave l times opening (before ++ j ∷ []) (home_of l u.key) n
         × ((passes (verdict_on times j) ≡ true) ↔ (HoldsLive u m ⊎ LetsThrough u n ruling)) }
 {}
 
 /// A packet is dropped as full exactly where it would start a session and its bucket, which may still change, has its
 /// most sessions, all of which are live and none of which is of its flow.
 pub fn full_buckets_hold_live_sessions()
-    ensures flow { (times : Timeouts) (moment : ℕ) (tuple : TupleFacts) (ruling : Ruling) (u : Update) (b : Bounds)
-        (m n : Pairs) (w : ℕ) (e : Event) → update_of times (Ruled moment tuple ruling) ≡ Some u
-        → IsEventOf u e → IsEvent b m w e n
+    ensures flow { (times : Timeouts) (moment : ℕ) (tuple : TupleFacts) (ruling : Ruling) (u : Update) (b : Bounds) (m n : Pairs)
+        (w : ℕ) (e : Event) → update_of times (Ruled moment tuple ruling) ≡ Some u → IsEventOf u e → IsEvent b m w e n
         → (verdict_with times (Ruled moment tuple ruling) (Some e) ≡ Full) ↔ FindsNoRoom u b m w }
     ensures in_order { (l : Layout) (times : Timeouts) (opening : Home → Pairs) (before after : List Judged)
         (j : Judged) (moment : ℕ) (tuple : TupleFacts) (ruling : Ruling) (u : Update)
