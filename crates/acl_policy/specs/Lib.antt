@@ -1,10 +1,5 @@
 pub mod Lines
 pub mod Matching
-pub mod Numerals
 pub mod Policies
-pub mod Prefixes
 pub mod Rules
-pub mod Traffic
-pub mod Widths
-pub mod Words
 pub mod inner

@@ -1,17 +1,15 @@
 //! What a line of a policy says.
 ghost use Rattle.std.specs.Prelude.{◌≡◌, ◌≤◌, ◌<◌, IfSome, option_map};
 ghost use Rattle.acl_policy.specs.inner.Reading.Lines.{action_in, direction_in, ends_in, family_in, head_in, heading_in, interface_in, line_facts, line_in, own_line_in, rule_line_in};
-ghost use Rattle.acl_policy.specs.Widths.{width};
-ghost use Rattle.acl_policy.specs.Words.{words_of};
+ghost use Rattle.policy_words.specs.Widths.{width};
+ghost use Rattle.policy_words.specs.Words.{words_of};
 ghost use Rattle.packet_view.specs.Addresses.{address_limit};
 
-use crate::mac::mac_of;
-use crate::parts::number_up_to;
-use crate::prefix::prefix_of;
 use crate::rule::{Action, Rule};
-use crate::traffic::traffic_of;
-use crate::words::{before_comment, is_end, next_word};
 use packet_view::{Direction, Family, Mac};
+use policy_words::{
+    before_comment, is_end, mac_of, next_word, number_up_to, prefix_of, traffic_of,
+};
 
 /// What a line says: nothing, the beginning of an interface's section, the interface's own address, or a rule of a
 /// direction.

@@ -3,13 +3,13 @@ ghost use Rattle.std.specs.Prelude.{◌≡◌, ◌≤◌, ◌<◌, ◌↔◌, �
 ghost use Rattle.acl_policy.specs.declared.rule.Action.{Action};
 ghost use Rattle.acl_policy.specs.Matching.{HasFields, HoldsPrefix, IsRuling, IsIn, Matches};
 ghost use Rattle.acl_policy.specs.Rules.{rule_facts};
-ghost use Rattle.acl_policy.specs.Widths.{width};
+ghost use Rattle.policy_words.specs.Widths.{width};
 ghost use Rattle.packet_view.specs.Addresses.{address_limit};
 ghost use Rattle.packet_view.specs.Tuples.{tuple_facts};
 
-use crate::family::width_of;
 use crate::rule::{Action, Rule};
 use packet_view::{Family, Fields, Tuple};
+use policy_words::width_of;
 
 #[tactic(auto, using(crate::proofs::PrefixBits::begins_alike))]
 pub fn has_prefix(family: Family, prefix: (u128, u8), address: u128) -> bool

@@ -1,11 +1,5 @@
-pub mod ApartLemmas
-pub mod FullLemmas
 pub mod HomeLemmas
-pub mod NumberLemmas
 pub mod OneThreadLemmas
-pub mod OrderLemmas
-pub mod PartedMaps
 pub mod PassingLemmas
 pub mod ReadingLemmas
-pub mod RecyclingLemmas
 pub mod Rulings

@@ -1,4 +1,3 @@
-pub mod Apart
 pub mod Deciders
 pub mod Filters
 pub mod InterfaceFilters

@@ -5,7 +5,6 @@
 mod decider;
 mod filter;
 mod interface_filters;
-mod laws;
 mod lazy_patch;
 mod packet_flow;
 mod ready;
@@ -18,11 +17,6 @@ mod verdicts;
 
 pub use filter::{Filter, InterfaceFilter};
 pub use interface_filters::InterfaceFilters;
-pub use laws::{
-    each_capture_has_one_list_of_verdicts, each_list_is_judged_once, each_packet_has_one_reading,
-    full_buckets_hold_live_sessions, interfaces_are_apart, only_expired_sessions_make_room,
-    packets_pass_by_rule_or_session,
-};
 pub use lazy_patch::{HasReading, LazyPatch};
 pub use packet_flow::{PacketFlow, tuple_copy};
 pub use rule_indexes::RuleIndexes;

@@ -1,5 +1,0 @@
-use Rattle.flow_filter.proofs.ApartLemmas.{apart_verdicts}
-use Rattle.flow_filter.proofs.laws.interfaces_are_apart.Goals as goal
-
-pub returns : goal.returns
-returns c = apart_verdicts

@@ -1,0 +1,13 @@
+pub mod ColonLaws
+pub mod GroupLaws
+pub mod GroupLemmas
+pub mod NumeralBounds
+pub mod NumeralLaws
+pub mod OptionLemmas
+pub mod PartLaws
+pub mod PieceLaws
+pub mod PlaceLemmas
+pub mod PrefixLaws
+pub mod RangeLaws
+pub mod TrafficLaws
+pub mod WordLemmas

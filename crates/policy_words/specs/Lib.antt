@@ -1,0 +1,6 @@
+pub mod Numerals
+pub mod Prefixes
+pub mod Traffic
+pub mod Widths
+pub mod Words
+pub mod inner

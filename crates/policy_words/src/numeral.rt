@@ -1,0 +1,60 @@
+//! Numbers as digits.
+ghost use Rattle.std.specs.Prelude.{◌≡◌, ◌≤◌, ◌<◌, ◌^◌, IfSome};
+ghost use Rattle.policy_words.specs.inner.Reading.Numerals.{group_in, number_in, numeral_in, octet_in, pair_in};
+
+/// The number that at least one and at most so many digits in a base spell. `None`: they don't.
+#[tactic(auto, unfolding(crate::specs::inner::Reading::Numerals::numeral_in))]
+fn numeral_of(word: &[u8], base: u32, most: usize) -> Option<u32>
+    requires digits { 2 ≤ base }
+    requires small_base { base ≤ 16 }
+    requires few { most ≤ 5 }
+    ensures value { result ≡ numeral_in base most word.now }
+    ensures fits { IfSome result (λ number. number < 16 ^ most) }
+{
+    if word.is_empty() || word.len() > most {
+        return None;
+    }
+    let mut number = 0;
+    for byte in word {
+        number = number * base + char::from(*byte).to_digit(base)?;
+    }
+    Some(number)
+}
+
+/// The number that one to five decimal digits spell.
+#[tactic(auto, unfolding(crate::specs::inner::Reading::Numerals::number_in))]
+pub fn number_of(word: &[u8]) -> Option<u32>
+    ensures { result ≡ number_in word.now }
+{
+    numeral_of(word, 10, 5)
+}
+
+/// A part of an IPv4 address, or the number of a capture's interface: at most 255, in one to three digits.
+#[tactic(auto, unfolding(crate::specs::inner::Reading::Numerals::octet_in))]
+pub fn octet_of(word: &[u8]) -> Option<u8>
+    ensures { result ≡ octet_in word.now }
+{
+    let number = numeral_of(word, 10, 3)?;
+    u8::try_from(number).ok()
+}
+
+/// A group of an IPv6 address: one to four hexadecimal digits.
+#[tactic(auto, unfolding(crate::specs::inner::Reading::Numerals::group_in))]
+pub fn group_of(word: &[u8]) -> Option<u16>
+    ensures { result ≡ group_in word.now }
+{
+    let number = numeral_of(word, 16, 4)?;
+    Some(number as u16)
+}
+
+/// Two hexadecimal digits.
+#[tactic(auto, unfolding(crate::specs::inner::Reading::Numerals::pair_in))]
+pub fn pair_of(word: &[u8]) -> Option<u8>
+    ensures { result ≡ pair_in word.now }
+{
+    if word.len() != 2 {
+        return None;
+    }
+    let number = numeral_of(word, 16, 2)?;
+    Some(number as u8)
+}

@@ -1,0 +1,70 @@
+//! The words of a line, and the pieces of a word.
+ghost use Rattle.std.specs.Prelude.{◌≡◌, ◌<◌, ◌↔◌, ◌==◌, [], not, IsTrue, IfSome, length, option_map, position};
+ghost use Rattle.policy_words.specs.inner.Reading.{next_in};
+ghost use Rattle.policy_words.specs.inner.Reading.Numerals.{cut_in};
+ghost use Rattle.policy_words.specs.Words;
+ghost use Rattle.policy_words.specs.Words.{without_comment, words_of};
+
+fn is_blank(byte: u8) -> bool
+    ensures { result ≡ Words.is_blank byte }
+{
+    byte == b' ' || byte == b'\t'
+}
+
+fn place_of(text: &[u8], byte: u8) -> Option<usize>
+    ensures place { result ≡ position (λ b. b == byte) text.now }
+    ensures within { IfSome result (λ i. i < length text.now) }
+{
+    text.iter().position(|b| *b == byte)
+}
+
+fn word_start(text: &[u8]) -> Option<usize>
+    ensures place { result ≡ position (λ b. not (Words.is_blank b)) text.now }
+    ensures within { IfSome result (λ i. i < length text.now) }
+{
+    text.iter().position(|b| !is_blank(*b))
+}
+
+fn word_end(text: &[u8]) -> Option<usize>
+    ensures place { result ≡ position Words.is_blank text.now }
+    ensures within { IfSome result (λ i. i < length text.now) }
+{
+    text.iter().position(|b| is_blank(*b))
+}
+
+/// A line up to its comment.
+#[tactic(auto, unfolding(crate::specs::Words::without_comment))]
+pub fn before_comment(line: &[u8]) -> &[u8]
+    ensures { result.now ≡ without_comment line.now }
+{
+    match place_of(line, b'#') {
+        Some(start) => &line[..start],
+        None => line,
+    }
+}
+
+/// The first word of a text, and what follows it.
+pub fn next_word(text: &[u8]) -> Option<(&[u8], &[u8])>
+    ensures { option_map (λ r. (r.0.now, words_of r.1.now)) result ≡ next_in (words_of text.now) }
+{
+    let start = word_start(text)?;
+    let (_, text) = text.split_at(start);
+    let end = word_end(text).unwrap_or(text.len());
+    Some(text.split_at(end))
+}
+
+/// Whether a text has no word.
+pub fn is_end(text: &[u8]) -> bool
+    ensures { IsTrue result ↔ (words_of text.now ≡ []) }
+{
+    next_word(text).is_none()
+}
+
+/// What stands before the first such byte of a word, and what after it.
+#[tactic(auto, unfolding(crate::specs::inner::Reading::Numerals::cut_in))]
+pub fn cut_at(word: &[u8], byte: u8) -> Option<(&[u8], &[u8])>
+    ensures { option_map (λ r. (r.0.now, r.1.now)) result ≡ cut_in byte word.now }
+{
+    let place = place_of(word, byte)?;
+    Some((&word[..place], &word[place + 1..]))
+}
