@@ -2,9 +2,10 @@
 
 An edit turns the meaning of one function. It is refused where the check leaves a goal of that function unproved, or of
 one that calls it. Edits of different functions are tried together, in one check of a copy of the crate: no contract
-changes, so a goal of one function doesn't depend on how another is edited. What isn't refused by a goal of its own
-function is tried alone: on the functions that call it, then on those that call these, and at last on the whole crate.
-So most crates cost a check or two of a few functions, and not one for each edit.
+changes, so a goal of one function doesn't depend on how another is edited, nor on how it is proved. So in the copy the
+proofs of all other functions are left open, and their contracts are taken at their word. What isn't refused by a goal of
+its own function is tried alone: on the functions that call it, then on those that call these, and at last on the whole
+crate. So most crates cost a check or two of a few functions, and not one for each edit.
 
 Where the toolchain's gate has left the libraries in crates/NAME/out these are used, or those of `rt check`. What an
 edit came to is told in a line; the last one is `N passed, M failed`. One that can't be applied or read has failed, and
@@ -29,6 +30,7 @@ FUNCTION = re.compile(r"\bfn (\w+)")
 CONSTANT = re.compile(r"\s*(?:pub )?const (\w+)")
 # Where a block of methods begins and ends, and what declares a type.
 BLOCK = re.compile(r"^impl\b(.*?)(?:\bwhere\b|\{)|^\}", re.M | re.S)
+TRAIT = re.compile(r"^(?:pub(?:\(.*?\))? )?trait\b|^\}", re.M)
 IN_BRACKETS = re.compile(r"<[^<>]*>")
 TYPE = re.compile(r"^(?:pub(?:\(.*?\))? )?(?:struct|enum) (\w+)", re.M)
 # A goal that a written answer doesn't prove, one that has no answer, and a function's own line where it is searched.
@@ -37,6 +39,13 @@ GOAL = re.compile(r"^note: src/(\S+)\.rt:(\d+):\d+: (it is not proved that .*)",
 SEARCHED = re.compile(r"^(?:fn|impl|trait) (\S+): .*(`\w+` did not prove `[^`]*`)", re.M)
 # What is said of a proof that names what isn't there any more.
 NAMES_ALONE = re.compile(r"has no field|is not in scope|has no `|was not admitted|\(nearest: ")
+# A proof that leaves all of it open.
+OPEN = """use Rattle.{crate}.proofs.{path}.Statement.{{statement}}
+
+pub {name}_spec : {{M : Type 1}} → statement M
+{name}_spec = ?
+"""
+PROOF_FILES = ("Answers.antt", "Invariants.antt", "Proof.antt")
 UNREAD = re.compile(r"^(?:\./)?(?:src|specs)/\S+:\d+:\d+: error.*|^error(?:\[.*|:.*)", re.M)
 
 
@@ -56,6 +65,8 @@ class Function:
         self.inside = file[len("src/"):-len(".rt")]
         blocks = [*BLOCK.finditer(text, 0, found.start())]
         self.block = blocks[-1][1] if blocks else None
+        traits = [*TRAIT.finditer(text, 0, found.start())]
+        self.is_of_trait = bool(traits) and traits[-1][0] != "}" or " for " in IN_BRACKETS.sub("", self.block or "")
 
     def module(self):
         """The path of its module below the crate."""
@@ -93,6 +104,8 @@ class Sources:
 
     def __init__(self, crate):
         self.texts, self.functions, self.types = {}, [], {}
+        # closures have their proofs in a folder `fn` beside those of the function
+        self.with_closures = {it for at, names, _ in os.walk(f"{crate}/proofs") if at.endswith("/fn") for it in names}
         for at, _, files in sorted(os.walk(f"{crate}/src")):
             for path in sorted(f"{at}/{it}" for it in files):
                 file = os.path.relpath(path, crate)
@@ -114,10 +127,16 @@ class Sources:
     def is_named_once(self, function):
         return sum(it.name == function.name for it in self.functions) == 1
 
-    def paths(self, crate, functions):
-        """What a check of these functions alone is asked with."""
-        paths = sorted({f"{crate}::{it.path(self.types)}" for it in functions})
-        return [word for it in paths for word in ("--only", it)]
+    def key(self, function):
+        """What tells a function apart from others, in a copy of the sources as well."""
+        return function.file, function.path(self.types)
+
+    def item(self, function):
+        """The whole of a function, without what is said above it."""
+        text = self.texts[function.file]
+        start = text.rindex("\n", 0, function.start) + 1
+        indentation = re.match(r"[ \t]*", text[start:])[0]
+        return text[start:re.compile(rf"^{indentation}\}}\n", re.M).search(text, function.start).end()]
 
     def callers(self, functions):
         """Those that may call these functions, then those that may call them, and so on."""
@@ -130,10 +149,12 @@ class Sources:
 
 
 class Edit:
-    """Texts that become others, each of which stands once in a file."""
+    """Texts that become others, each of which stands once in a file; or in a copy of their function, which is put beside it
+    under the name `twin`."""
 
     def __init__(self, path, sources):
         self.name, self.places, self.functions, self.why = os.path.basename(path)[:-len(".edit")], [], [], None
+        self.twin = None
         words = {}
         with open(path, encoding="utf-8") as file:
             for line in file.read().splitlines():
@@ -153,12 +174,55 @@ class Edit:
         self.places.append((file, old, new))
         self.functions += [it for it in sources.turned_by(file, old) if it not in self.functions]
 
-    def apply(self, room):
+    def can_have_twin(self, sources):
+        """Whether all of it stands in one function, which says its contract itself and has no closures with proofs."""
+        if len(self.functions) != 1 or self.functions[0].is_of_trait or self.functions[0].name in sources.with_closures:
+            return False
+        return all(file == self.functions[0].file and sources.item(self.functions[0]).count(old) == 1
+                   for file, old, _ in self.places)
+
+    def keys(self, sources):
+        """Its functions."""
+        if not self.twin:
+            return {sources.key(it) for it in self.functions}
+        file, path = sources.key(self.functions[0])
+        return {(file, path.removesuffix(self.functions[0].name) + self.twin)}
+
+    def apply(self, room, sources):
+        if self.twin:
+            self.plant(room, sources)
+            return
         for name, old, new in self.places:
             with open(f"{room}/{name}", encoding="utf-8") as file:
                 text = file.read()
             with open(f"{room}/{name}", "w", encoding="utf-8") as file:
                 file.write(text.replace(old, new))
+
+    def plant(self, room, sources):
+        """Puts the twin above its function, and its proofs beside those of that."""
+        function, planted = self.functions[0], sources.item(self.functions[0])
+        for _, old, new in self.places:
+            planted = planted.replace(old, new)
+        planted = re.sub(rf"\bfn {function.name}\b", f"fn {self.twin}", planted, count=1)
+        place = sum(it.name == function.name and it.file == function.file and it.start < function.start
+                    for it in sources.functions)
+        with open(f"{room}/{function.file}", encoding="utf-8") as file:
+            text = file.read()
+        found = [it for it in FUNCTION.finditer(text) if it[1] == function.name][place]
+        start = text.rindex("\n", 0, found.start()) + 1
+        with open(f"{room}/{function.file}", "w", encoding="utf-8") as file:
+            file.write(text[:start] + planted + "\n" + text[start:])
+        path = function.path(sources.types)
+        folder = f"{room}/proofs/{path.replace('::', '/')}"
+        named = f".proofs.{path.replace('::', '.')}"
+        for name in PROOF_FILES:
+            if os.path.exists(f"{folder}/{name}"):
+                other = folder.removesuffix(function.name) + self.twin
+                os.makedirs(other, exist_ok=True)
+                with open(f"{folder}/{name}", encoding="utf-8") as file:
+                    text = file.read().replace(f"{named}.", f"{named.removesuffix(function.name)}{self.twin}.")
+                with open(f"{other}/{name}", "w", encoding="utf-8") as file:
+                    file.write(text.replace(f"{function.name}_spec", f"{self.twin}_spec"))
 
 
 class Trial:
@@ -172,40 +236,62 @@ class Trial:
                       if it.endswith(".edit") and (not wanted or it[:-len(".edit")] in wanted)]
 
     def rounds(self):
-        """The edits, those of different functions together."""
+        """The edits, those of different functions together, and of one function by twins where it can have them."""
         found = []
         for edit in (it for it in self.edits if not it.why):
             for together in found:
-                if not any(it in other.functions for other in together for it in edit.functions):
+                same = [other for other in together if any(it in other.functions for it in edit.functions)]
+                if all(it.can_have_twin(self.sources) for it in [*same, *([edit] if same else [])]):
+                    edit.twin = f"{edit.functions[0].name}_{len(same) + 1}" if same else None
                     together.append(edit)
                     break
             else:
                 found.append([edit])
-        return found
+        # twins are planted where the others have changed what they change
+        return [sorted(it, key=lambda edit: edit.twin is not None) for it in found]
 
-    def check(self, edits, kept, functions):
-        """What the check of these functions says in a copy with these edits, over what earlier ones left in `kept`; of all
-        where none is given."""
+    def check(self, edits, kept, wanted):
+        """What the check of the wanted functions says in a copy with these edits, over what earlier ones left in `kept`; of
+        all where none is given. And the copy's functions."""
         with tempfile.TemporaryDirectory() as room:
             for part in self.rt.rtlib.PARTS:
                 if os.path.isdir(f"{self.crate.folder}/{part}"):
                     shutil.copytree(f"{self.crate.folder}/{part}", f"{room}/{part}")
             for edit in edits:
-                edit.apply(room)
-            only = self.sources.paths(self.crate.name, functions)
-            words = self.crate.words(["--jobs", "1", *only], keeps=False)
+                edit.apply(room, self.sources)
+            sources = Sources(room)
+            left_open = self.leave_open(room, sources, wanted)
+            only = [word for _, path in sorted(wanted) for word in ("--only", f"{self.crate.name}::{path}")]
+            words = self.crate.words(["--jobs", "1", "--allow-holes", *only], keeps=False)
             ran = subprocess.run([self.rt.rtlib.RATTLE, "check", *words, "--incremental", kept], cwd=room,
                                  stdin=subprocess.DEVNULL, stdout=subprocess.PIPE, stderr=subprocess.STDOUT,
                                  text=True, errors="replace")
-        return ran.returncode, ran.stdout
+        said = [it for it in ran.stdout.splitlines(True) if not it.removeprefix("./").startswith(left_open)]
+        return ran.returncode, "".join(said), sources
+
+    def leave_open(self, room, sources, wanted):
+        """Leaves open, in a copy of the crate, the proofs of all other functions, but where a trait says the contract, and
+        gives the files that say so."""
+        files = []
+        for it in sources.functions if wanted else []:
+            if sources.key(it) in wanted or it.is_of_trait:
+                continue
+            path = it.path(sources.types)
+            folder = f"proofs/{path.replace('::', '/')}"
+            for name in PROOF_FILES:
+                if os.path.exists(f"{room}/{folder}/{name}"):
+                    os.remove(f"{room}/{folder}/{name}")
+            os.makedirs(f"{room}/{folder}", exist_ok=True)
+            files.append(f"{folder}/Proof.antt")
+            with open(f"{room}/{files[-1]}", "w", encoding="utf-8") as file:
+                file.write(OPEN.format(crate=self.crate.name, path=path.replace("::", "."), name=it.name))
+        return tuple(files)
 
     def alone(self, edit, kept):
         """What an edit comes to that no goal of its own function refuses."""
-        told = (False, "is still proved")
+        edit.twin, told = None, (False, "is still proved")
         for callers in [*self.sources.callers(edit.functions), []]:
-            status, said = self.check([edit], kept, callers)
-            if status == 0:
-                continue
+            status, said, _ = self.check([edit], kept, {self.sources.key(it) for it in callers})
             unread = UNREAD.search(said)
             if unread:
                 return False, f"can't be read: {unread[0]}"
@@ -214,7 +300,10 @@ class Trial:
             meant = [it for it in goals if not NAMES_ALONE.search(it)]
             if meant:
                 return True, f"refused in a caller: {meant[0]}"
-            told = False, f"is refused for names alone: {goals[0]}" if goals else f"has no verdict (status {status})"
+            if goals:
+                told = False, f"is refused for names alone: {goals[0]}"
+            elif status > 1:
+                told = False, f"has no verdict (status {status})"
         return told
 
     def run(self):
@@ -228,9 +317,11 @@ class Trial:
             else:
                 os.mkdir(kept)
             for together in self.rounds():
-                status, said = self.check(together, kept, [it for edit in together for it in edit.functions])
+                keys = {it: it.keys(self.sources) for it in together}
+                status, said, sources = self.check(together, kept, set().union(*keys.values()))
                 for edit in together:
-                    goals = [goal for it in edit.functions for goal in it.goals_in(said, self.sources.is_named_once(it))]
+                    functions = [it for it in sources.functions if sources.key(it) in keys[edit]]
+                    goals = [goal for it in functions for goal in it.goals_in(said, sources.is_named_once(it))]
                     told[edit.name] = (True, f"refused: {goals[0]}") if goals and status == 1 else self.alone(edit, kept)
         return [(it.name, *told[it.name]) for it in self.edits]
 

@@ -1,4 +1,5 @@
 //! The tests of the crates from `racl_options` to `racl_cli`.
+use std::test::Fail;
 
 mod checks;
 mod devices;
@@ -11,3 +12,8 @@ mod saved;
 mod views;
 mod windows;
 mod words;
+
+// A test that ends since what it begins with was refused.
+fn refused() -> Result<(), Fail> {
+    Err("what the test begins with was refused")?
+}

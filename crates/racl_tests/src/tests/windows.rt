@@ -1,5 +1,5 @@
 //! Captures that are read in parts, and packets that are counted.
-ghost use Rattle.std.specs.Prelude.{◌≡◌, ◌≤◌, None, IfOk, false, length};
+ghost use Rattle.std.specs.Prelude.{◌≡◌, ◌≤◌, None, IfSome, false, length};
 ghost use Rattle.racl_io.specs.Inputs.{most_bytes};
 ghost use Rattle.capture_stream.specs.Streams.{IsSize};
 
@@ -68,16 +68,16 @@ fn windows_of(bytes: usize) -> WindowSize
 }
 
 // What a source of so many zeros has left and how often it failed, and what was answered, after 54 bytes that were read.
-fn read_zeros<T: Threads>(
-    rt: &T,
-    alloc: Global,
-    left: usize,
-) -> Result<(Zeros, Option<Fault>), AllocError> {
-    let opening = opened(alloc, &[0; 54])?;
+fn read_zeros<T: Threads>(rt: &T, alloc: Global, left: usize) -> (Zeros, Option<Fault>) {
     let mut reader = Zeros { left, failures: 0 };
     let counter = Counter { count: 0 };
-    let answer = judge_stream(Some(rt), alloc, &mut reader, counter, opening, GROWING);
-    Ok((reader, answer.err()))
+    let Some(opening) = opened(alloc, &[0; 54]) else {
+        return (reader, Some(Fault::Memory));
+    };
+    match judge_stream(Some(rt), alloc, &mut reader, counter, opening, GROWING) {
+        Ok(_) => (reader, None),
+        Err(fault) => (reader, Some(fault)),
+    }
 }
 
 // A record with a frame of so many bytes, of which four follow.
@@ -86,16 +86,19 @@ fn record(kept: [u8; 4]) -> [u8; 20] {
     [7, 0, 0, 0, 0, 0, 0, 0, a, b, c, d, 4, 0, 0, 0, 1, 2, 3, 4]
 }
 
-fn opened(alloc: Global, front: &[u8]) -> Result<Opening, AllocError>
+// A capture of which this was read. `None`: memory was refused.
+fn opened(alloc: Global, front: &[u8]) -> Option<Opening>
     requires long { 24 ≤ length front.now }
     requires few { length front.now ≤ most_bytes }
-    ensures within { IfOk result (λ opening. opening.from ≤ length opening.bytes.items) }
-    ensures few { IfOk result (λ opening. length opening.bytes.items ≤ most_bytes) }
-    ensures more { IfOk result (λ opening. opening.ended ≡ false) }
+    ensures within { IfSome result (λ opening. opening.from ≤ length opening.bytes.items) }
+    ensures few { IfSome result (λ opening. length opening.bytes.items ≤ most_bytes) }
+    ensures more { IfSome result (λ opening. opening.ended ≡ false) }
 {
     let mut bytes = Vec::new(alloc);
-    bytes.extend_from_slice(front)?;
-    Ok(Opening {
+    let Ok(()) = bytes.extend_from_slice(front) else {
+        return None;
+    };
+    Some(Opening {
         bytes,
         from: 24,
         order: Order::Little,
@@ -116,7 +119,9 @@ fn count_in<T: Threads>(
     if capture.len() < 54 {
         return Err(Fault::Short);
     }
-    let opening = opened(alloc, &capture[..54])?;
+    let Some(opening) = opened(alloc, &capture[..54]) else {
+        return Err(Fault::Memory);
+    };
     let mut reader = Device::new(&capture[54..]);
     let counter = Counter { count: 0 };
     match judge_stream(beside, alloc, &mut reader, counter, opening, size) {
@@ -160,22 +165,20 @@ fn a_record_is_read_in_two_parts(rt: HostRuntime) -> Result<(), Fail> {
 }
 
 #[test]
-fn an_open_source_is_read_to_the_limit_and_no_further(rt: HostRuntime) -> Result<(), Fail> {
+fn an_open_source_is_read_to_the_limit_and_no_further(rt: HostRuntime) {
     let most = MOST_BYTES + 1 - 54;
-    let (reader, answer) = read_zeros(&rt, rt.alloc(), 2 * MOST_BYTES)?;
+    let (reader, answer) = read_zeros(&rt, rt.alloc(), 2 * MOST_BYTES);
     assert_eq!(rt; (answer, reader.failures), (Some(Fault::TooLarge), 0));
     assert_eq!(rt; reader.left, 2 * MOST_BYTES - most);
-    Ok(())
 }
 
 #[test]
-fn a_source_that_fails_past_the_limit_is_too_large(rt: HostRuntime) -> Result<(), Fail> {
+fn a_source_that_fails_past_the_limit_is_too_large(rt: HostRuntime) {
     let most = MOST_BYTES + 1 - 54;
-    let (reader, answer) = read_zeros(&rt, rt.alloc(), most)?;
+    let (reader, answer) = read_zeros(&rt, rt.alloc(), most);
     assert_eq!(rt; (answer, reader.failures), (Some(Fault::TooLarge), 0));
-    let (reader, answer) = read_zeros(&rt, rt.alloc(), most - 1)?;
+    let (reader, answer) = read_zeros(&rt, rt.alloc(), most - 1);
     assert_eq!(rt; (answer, reader.failures), (Some(Fault::Read), 1));
-    Ok(())
 }
 
 // Windows of up to two records and a byte, read beside and in turn.
