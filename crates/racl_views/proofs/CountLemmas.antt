@@ -1,5 +1,5 @@
 -- Packets that are counted one after the other.
-use Rattle.std.proofs.Common.{◌≡◌, ◌∙◌, ◌++◌, ◌+◌, ◌<◌, ℕ, suc, List, [], ◌∷◌, Option, append_assoc, append-nil, arith, ap, drop, get_or, length, refl, subst, sym, cond}
+use Rattle.std.proofs.Common.{◌≡◌, ◌∙◌, ◌++◌, ◌+◌, ◌-◌, ◌<◌, ◌≤◌, ℕ, suc, List, [], ◌∷◌, Option, append_assoc, append-nil, arith, ap, drop, get_or, length, refl, subst, sym, cond}
 use Rattle.std.proofs.Math.Seq.{drop-cons}
 use Rattle.std.proofs.lemmas.List.Sums.{sum_by-append}
 use Rattle.packet_view.specs.Captures.{PacketFacts}
@@ -12,6 +12,11 @@ use Rattle.racl_views.specs.inner.Counts.{Count}
 -- what is left begins with the next one
 pub drop_one : {A : Type 0} (xs : List A) (k : ℕ) (d : A) → k < length xs → drop k xs ≡ get_or xs k d ∷ drop (k + 1) xs
 drop_one xs k d within = let one : suc k ≡ k + 1 = omega arith in drop-cons xs k d within ∙ ap (λ n. get_or xs k d ∷ drop n xs) one
+
+-- and before what is left stands the last one that was taken
+pub drop_before : {A : Type 0} (xs : List A) (i : ℕ) (d : A) → 0 < i → i ≤ length xs → drop (i - 1) xs ≡ get_or xs (i - 1) d ∷ drop i xs
+drop_before xs i d some within =
+    let back : i - 1 + 1 ≡ i = omega arith in drop_one xs (i - 1) d (omega arith) ∙ ap (λ n. get_or xs (i - 1) d ∷ drop n xs) back
 
 -- one more packet is decided
 pub decided_more : (policy : PolicyFacts) (packets all left now : List PacketFacts) (packet : PacketFacts) (verdicts : List Verdict) (k : ℕ) (verdict : Verdict)

@@ -9,7 +9,7 @@ use Rattle.session_state.specs.declared.flow.Flow.{Flow}
 use Rattle.session_state.specs.Flows.{IsFlow, key_of, receiver_of, sender_of}
 use Rattle.session_state.specs.SameFlow.{IsTuple}
 use Rattle.session_state.proofs.SameFlowLemmas.{are_ends}
-use Rattle.racl_views.specs.SessionLines.{FlowFacts, SaysPacket, flow_of_key}
+use Rattle.racl_views.specs.SessionLines.{SaysPacket, flow_of_key}
 
 -- an end whose numbers have the widths that they have in a packet
 record IsEndOf (family : Family) (end : End) : Type 0 where

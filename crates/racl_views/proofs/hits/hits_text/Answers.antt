@@ -1,4 +1,4 @@
-use Rattle.std.proofs.Common.{◌∙◌, ◌++◌, ℕ, List, ap}
+use Rattle.std.proofs.Common.{◌∙◌, ◌++◌, List, ap}
 use Rattle.acl_policy.specs.Policies.{policy_facts}
 use Rattle.racl_views.specs.Hits.{all_others, counts_told, others_told, rules_told}
 use Rattle.racl_views.specs.declared.rule.RuleLine.{RuleLine}
