@@ -2,11 +2,11 @@
 use Rattle.std.specs.Prelude.{◌≡◌, ◌≤◌, ◌<◌, ◌⊎◌, ℕ, List}
 use Rattle.bihash_words.specs.Sizes.{Sizes, sizes_of}
 use Rattle.bihash_words.specs.declared.shape.Shape.{Ghosts}
-use Rattle.bihash_steps.specs.Callers.{Agrees, IsLawfulCaller}
+use Rattle.bihash_rule.specs.Callers.{Agrees, IsLawfulCaller}
 use Rattle.bihash_steps.specs.Renewals.{IsRenewed}
 use Rattle.bihash_steps.specs.Steps.{newcomer, parent}
 use Rattle.bihash_steps.specs.Seats.{CallerState, with_view}
-use Rattle.bihash_steps.specs.declared.view.View.{View}
+use Rattle.bihash_rule.specs.declared.view.View.{View}
 use Rattle.bihash_table.specs.Closing.{ArePairsOf, IsCloseRefused, WasWhole}
 use Rattle.bihash_table.specs.Renewing.{IsRenewRefused}
 use Rattle.bihash_table.specs.declared.close_fault.CloseFault.{CloseFault}

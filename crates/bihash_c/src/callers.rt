@@ -4,7 +4,7 @@ ghost use Rattle.bihash_words.specs.Sizes.{sizes_of, IsSound};
 ghost use Rattle.bihash_steps.specs.CallerCalls.{AreInformed, IsJoined};
 ghost use Rattle.bihash_steps.specs.Steps.{IsRefused};
 ghost use Rattle.bihash_steps.specs.Seats.{with_view};
-ghost use Rattle.bihash_steps.specs.Views.{first_view};
+ghost use Rattle.bihash_rule.specs.Views.{first_view};
 ghost use Rattle.bihash_c.specs.Members.{IsSplit};
 
 use crate::member::Member;

@@ -1,7 +1,7 @@
 //! A caller together with its table.
 ghost use Rattle.std.specs.Prelude.{◌≡◌};
 ghost use Rattle.bihash_steps.specs.Seats.{CallerState};
-ghost use Rattle.bihash_steps.specs.Views.{nothing_held};
+ghost use Rattle.bihash_rule.specs.Views.{nothing_held};
 ghost use Rattle.bihash_c.specs.Shares.{row_of};
 
 use crate::share::Share;

@@ -10,7 +10,7 @@ use Rattle.bihash_words.specs.Maps.{Event}
 use Rattle.bihash_words.specs.declared.patch.Reply.TheVariants as reply
 use Rattle.bihash_words.specs.Runs.{IsRun}
 use Rattle.bihash_steps.specs.BucketSteps.{map_now}
-use Rattle.bihash_steps.specs.Histories.{bounds_of}
+use Rattle.bihash_rule.specs.Histories.{bounds_of}
 use Rattle.session_state.specs.declared.flow.Flow.{Flow}
 use Rattle.session_state.specs.declared.timeouts.Timeouts.{Timeouts}
 use Rattle.flow_filter.specs.declared.verdict.Verdict.{Verdict}

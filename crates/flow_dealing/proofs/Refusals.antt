@@ -18,11 +18,11 @@ use Rattle.bihash_words.specs.declared.patch.Change.{Change}
 use Rattle.bihash_words.specs.declared.patch.Change.TheVariants.{Keep, Set, Remove}
 use Rattle.bihash_words.specs.declared.patch.Reply.{Reply}
 use Rattle.bihash_words.specs.declared.patch.Reply.TheVariants as reply
-use Rattle.bihash_steps.specs.Histories.{IsLegal, after, bounds_of, event_of, is_changed}
-use Rattle.bihash_steps.specs.Callers.{IsLawfulCaller, known_at, opening_at}
-use Rattle.bihash_steps.specs.declared.view.Call.{Call}
-use Rattle.bihash_steps.specs.declared.view.Record.{Record}
-use Rattle.bihash_steps.specs.declared.view.View.{View}
+use Rattle.bihash_rule.specs.Histories.{IsLegal, after, bounds_of, event_of, is_changed}
+use Rattle.bihash_rule.specs.Callers.{IsLawfulCaller, known_at, opening_at}
+use Rattle.bihash_rule.specs.declared.view.Call.{Call}
+use Rattle.bihash_rule.specs.declared.view.Record.{Record}
+use Rattle.bihash_rule.specs.declared.view.View.{View}
 use Rattle.session_state.specs.Decisions.{PatchFacts, decision_of, is_live_for}
 use Rattle.session_state.specs.declared.flow.Flow.{Flow}
 use Rattle.session_state.specs.declared.timeouts.Timeouts.{Timeouts}

@@ -15,9 +15,9 @@ use Rattle.packet_view.specs.declared.tuple.Family.{Family}
 use Rattle.packet_view.proofs.FrameLemmas.{view_shown}
 use Rattle.acl_policy.specs.Policies.{PolicyFacts, section_of}
 use Rattle.bihash_words.specs.Maps.{Event}
-use Rattle.bihash_steps.specs.Histories.{event_of}
-use Rattle.bihash_steps.specs.declared.view.Call.{Call}
-use Rattle.bihash_steps.specs.declared.view.Record.{Record}
+use Rattle.bihash_rule.specs.Histories.{event_of}
+use Rattle.bihash_rule.specs.declared.view.Call.{Call}
+use Rattle.bihash_rule.specs.declared.view.Record.{Record}
 use Rattle.bihash_steps.proofs.Lists.{there, within}
 use Rattle.session_state.specs.declared.flow.Flow.{Flow}
 use Rattle.session_state.specs.declared.timeouts.Timeouts.{Timeouts}

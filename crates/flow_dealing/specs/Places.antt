@@ -7,11 +7,11 @@ use Rattle.packet_view.specs.Tuples.{TupleFacts}
 use Rattle.acl_policy.specs.Policies.{PolicyFacts}
 use Rattle.bihash_words.specs.Maps.{Event, IsEvent, Pairs}
 use Rattle.bihash_words.specs.Sizes.{Sizes}
-use Rattle.bihash_steps.specs.Callers.{known_at, opening_at}
-use Rattle.bihash_steps.specs.Histories.{after, bounds_of, event_of, is_changed}
-use Rattle.bihash_steps.specs.declared.view.Call.{Call}
-use Rattle.bihash_steps.specs.declared.view.Record.{Record}
-use Rattle.bihash_steps.specs.declared.view.View.{View}
+use Rattle.bihash_rule.specs.Callers.{known_at, opening_at}
+use Rattle.bihash_rule.specs.Histories.{after, bounds_of, event_of, is_changed}
+use Rattle.bihash_rule.specs.declared.view.Call.{Call}
+use Rattle.bihash_rule.specs.declared.view.Record.{Record}
+use Rattle.bihash_rule.specs.declared.view.View.{View}
 use Rattle.session_state.specs.declared.timeouts.Timeouts.{Timeouts}
 use Rattle.flow_filter.specs.Judged.{Judged, verdict_on}
 use Rattle.flow_filter.specs.OneThread.{family_of, sizes_in}

@@ -8,13 +8,13 @@ use Rattle.packet_view.specs.Frames as frames
 use Rattle.packet_view.specs.declared.tuple.Family.{Family}
 use Rattle.acl_policy.specs.Policies.{PolicyFacts}
 use Rattle.bihash_words.specs.Sizes.{Sizes}
-use Rattle.bihash_steps.specs.Views.{no_openings}
-use Rattle.bihash_steps.specs.Callers.{IsLawfulCaller}
-use Rattle.bihash_steps.specs.Histories.{event_of}
+use Rattle.bihash_rule.specs.Views.{no_openings}
+use Rattle.bihash_rule.specs.Callers.{IsLawfulCaller}
+use Rattle.bihash_rule.specs.Histories.{event_of}
 use Rattle.bihash_steps.specs.Steps.{IsToldWhole}
-use Rattle.bihash_steps.specs.declared.view.Call.{Call}
-use Rattle.bihash_steps.specs.declared.view.Record.{Record}
-use Rattle.bihash_steps.specs.declared.view.View.{View}
+use Rattle.bihash_rule.specs.declared.view.Call.{Call}
+use Rattle.bihash_rule.specs.declared.view.Record.{Record}
+use Rattle.bihash_rule.specs.declared.view.View.{View}
 use Rattle.session_state.specs.declared.timeouts.Timeouts.{Timeouts}
 use Rattle.flow_filter.specs.declared.verdict.Verdict.{Verdict}
 use Rattle.flow_filter.specs.Readings.{IsReading, IsSeen, Reading}

@@ -9,11 +9,11 @@ use Rattle.bihash_words.specs.declared.patch.Reply.TheVariants.{NoPages}
 use Rattle.bihash_plan.specs.Blocks.{HasPairAt, IsLawfulBlock}
 use Rattle.bihash_plan.specs.Plans.{IsPlan}
 use Rattle.bihash_plan.specs.declared.outcome.Plan.TheVariants.{Grow}
-use Rattle.bihash_steps.specs.Callers.{known_at, opening_at}
-use Rattle.bihash_steps.specs.Histories.{after}
-use Rattle.bihash_steps.specs.declared.view.Call.{Call}
-use Rattle.bihash_steps.specs.declared.view.Known.{Known}
-use Rattle.bihash_steps.specs.declared.view.View.{View}
+use Rattle.bihash_rule.specs.Callers.{known_at, opening_at}
+use Rattle.bihash_rule.specs.Histories.{after}
+use Rattle.bihash_rule.specs.declared.view.Call.{Call}
+use Rattle.bihash_rule.specs.declared.view.Known.{Known}
+use Rattle.bihash_rule.specs.declared.view.View.{View}
 
 -- the key of these words wants a block of 2 ^ log2 pages, as the plan of a block that holds the map says
 pub record WantsBlock (z : Sizes) (m : Pairs) (key : List ℕ) (log2 : ℕ) : Type 0 where

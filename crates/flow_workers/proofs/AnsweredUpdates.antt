@@ -6,10 +6,10 @@ use Rattle.bihash_words.specs.declared.shape.Shape.{Ghosts}
 use Rattle.bihash_words.specs.declared.patch.Change.{Change}
 use Rattle.bihash_words.specs.declared.patch.Reply.{Reply}
 use Rattle.bihash_words.proofs.MapLemmas.{found_is_told}
-use Rattle.bihash_steps.specs.Callers.{IsLawfulCaller, known_at, opening_at}
+use Rattle.bihash_rule.specs.Callers.{IsLawfulCaller, known_at, opening_at}
 use Rattle.bihash_steps.specs.BucketSteps.{acting}
-use Rattle.bihash_steps.specs.Histories.{IsLegal, is_changed}
-use Rattle.bihash_steps.specs.declared.view.View.{View}
+use Rattle.bihash_rule.specs.Histories.{IsLegal, is_changed}
+use Rattle.bihash_rule.specs.declared.view.View.{View}
 use Rattle.bihash_table.specs.Answers.{entry_of, recycled_update}
 use Rattle.bihash_table.specs.Promise.{IsAnswered, IsUpdatedOver}
 use Rattle.bihash_table.specs.OutOfPages.{IsOutOfPages}

@@ -10,7 +10,7 @@ use Rattle.acl_policy.proofs.RulingLaws.{some_ruling_of}
 use Rattle.bihash_words.specs.Expiries.{expired_words}
 use Rattle.bihash_words.specs.Maps.{Event, HasExpiry, expired_told, found_by}
 use Rattle.bihash_words.specs.declared.patch.Reply.{Reply}
-use Rattle.bihash_steps.specs.declared.view.View.{View}
+use Rattle.bihash_rule.specs.declared.view.View.{View}
 use Rattle.session_state.specs.declared.timeouts.Timeouts.{Timeouts}
 use Rattle.session_state.specs.declared.flow.Flow.{Flow}
 use Rattle.session_state.specs.Decisions.{decision_of}

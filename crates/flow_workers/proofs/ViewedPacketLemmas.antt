@@ -5,7 +5,7 @@ use Rattle.bihash_words.specs.Maps.{found_by}
 use Rattle.bihash_words.specs.declared.patch.Change.{Change}
 use Rattle.bihash_words.specs.declared.patch.Reply.{Reply}
 use Rattle.bihash_words.specs.declared.shape.Shape.{Ghosts}
-use Rattle.bihash_steps.specs.declared.view.View.{View}
+use Rattle.bihash_rule.specs.declared.view.View.{View}
 use Rattle.session_state.specs.Decisions.{decision_of}
 use Rattle.session_state.specs.Sessions.{is_expired_at}
 use Rattle.session_state.specs.declared.flow.FlowKey.{FlowKey}

@@ -21,20 +21,21 @@ use Rattle.bihash_plan.specs.Plans.{HasRoom, IsGrowth, IsLinearSize, IsPlan, IsS
 use Rattle.bihash_plan.specs.declared.outcome.Plan.TheVariants.{Grow}
 use Rattle.bihash_plan.proofs.Pairs.{count_by-map}
 use Rattle.bihash_steps.specs.BucketSteps.{last_call, map_now, push_call}
-use Rattle.bihash_steps.specs.Callers.{IsConsistent, IsLawfulCaller, known_at, opening_at, opening_in}
-use Rattle.bihash_steps.specs.Histories.{IsPrefix, after}
+use Rattle.bihash_rule.specs.Callers.{IsConsistent, IsLawfulCaller, known_at, opening_at, opening_in}
+use Rattle.bihash_rule.specs.Histories.{IsPrefix, after}
 use Rattle.bihash_steps.specs.Steps.{longer, longer_each, view_after_join}
-use Rattle.bihash_steps.specs.Views.{empty_record}
-use Rattle.bihash_steps.specs.declared.view.Call.{Call}
-use Rattle.bihash_steps.specs.declared.view.Known.{Known}
-use Rattle.bihash_steps.specs.declared.view.Openings.{Openings}
-use Rattle.bihash_steps.specs.declared.view.Record.{Record}
-use Rattle.bihash_steps.specs.declared.view.View.{View}
-use Rattle.bihash_steps.specs.declared.view.Write.{Write}
+use Rattle.bihash_rule.specs.Views.{empty_record}
+use Rattle.bihash_rule.specs.declared.view.Call.{Call}
+use Rattle.bihash_rule.specs.declared.view.Known.{Known}
+use Rattle.bihash_rule.specs.declared.view.Openings.{Openings}
+use Rattle.bihash_rule.specs.declared.view.Record.{Record}
+use Rattle.bihash_rule.specs.declared.view.View.{View}
+use Rattle.bihash_rule.specs.declared.view.Write.{Write}
 use Rattle.bihash_steps.proofs.Homes.{after_home}
 use Rattle.bihash_steps.proofs.Prefixes.{after_longer, longer_known, prefix_length, prefix_refl}
 use Rattle.bihash_table.specs.Answers.{entry_of, with_locks}
-use Rattle.bihash_table.specs.OutOfPages.{IsOutOfPages, IsPlanned}
+use Rattle.bihash_plan.specs.Wants.{IsPlanned}
+use Rattle.bihash_table.specs.OutOfPages.{IsOutOfPages}
 use Rattle.bihash_table.specs.Promise.{IsAnswered, IsUpdatedOver}
 use Rattle.bihash_laws.specs.CallRuns.{IsLawfulAnswer}
 use Rattle.bihash_laws.proofs.AnsweredCalls.{continues, openings_same, others_known}

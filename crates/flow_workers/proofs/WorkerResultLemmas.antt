@@ -11,9 +11,9 @@ use Rattle.packet_view.specs.Captures.{PacketFacts}
 use Rattle.packet_view.specs.declared.tuple.Family.{Family}
 use Rattle.packet_view.specs.declared.tuple.Family.TheVariants.{V4, V6}
 use Rattle.bihash_words.specs.declared.shape.Shape.{Ghosts}
-use Rattle.bihash_steps.specs.Callers.{IsLawfulCaller}
+use Rattle.bihash_rule.specs.Callers.{IsLawfulCaller}
 use Rattle.bihash_steps.specs.Steps.{IsToldWhole}
-use Rattle.bihash_steps.specs.Views.{nothing_held}
+use Rattle.bihash_rule.specs.Views.{nothing_held}
 use Rattle.bihash_steps.specs.declared.row.Caller.{Caller}
 use Rattle.bihash_steps.proofs.Lists.{within}
 use Rattle.flow_filter.specs.declared.verdict.Verdict.{Verdict}

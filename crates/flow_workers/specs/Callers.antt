@@ -2,9 +2,9 @@
 use Rattle.std.specs.Prelude.{◌≡◌}
 use Rattle.bihash_words.specs.Sizes.{sizes_of}
 use Rattle.bihash_words.specs.declared.shape.Shape.{Ghosts}
-use Rattle.bihash_steps.specs.Callers.{IsLawfulCaller}
+use Rattle.bihash_rule.specs.Callers.{IsLawfulCaller}
 use Rattle.bihash_steps.specs.Seats.{with_view}
-use Rattle.bihash_steps.specs.Views.{first_view, nothing_held}
+use Rattle.bihash_rule.specs.Views.{first_view, nothing_held}
 use Rattle.flow_filter.specs.OneThread.{Layout}
 use Rattle.flow_workers.specs.declared.tables.Tables.{Tables}
 use Rattle.flow_workers.specs.declared.tables.Callers.{Callers}

@@ -3,7 +3,7 @@ use Rattle.std.specs.Prelude.{◌≡◌, Option, Some, None, Ok}
 use Rattle.bihash_words.specs.Maps.{Event}
 use Rattle.bihash_words.specs.Sizes.{bucket_of}
 use Rattle.bihash_words.specs.declared.patch.Reply.{Reply}
-use Rattle.bihash_steps.specs.declared.view.View.{View}
+use Rattle.bihash_rule.specs.declared.view.View.{View}
 use Rattle.bihash_table.specs.Promise.{IsAnswered, IsContended}
 use Rattle.bihash_table.specs.Tries.{TookAtMost, try_locks}
 use Rattle.packet_view.specs.Captures.{PacketFacts}

@@ -7,8 +7,8 @@ use Rattle.std.specs.List.Sorted.{IsStrictlySortedBy}
 use Rattle.bihash_words.specs.Maps.{Pairs}
 use Rattle.bihash_words.specs.Runs.{IsRun}
 use Rattle.bihash_words.specs.Sizes.{Sizes, bucket_of}
-use Rattle.bihash_steps.specs.Words.{buckets}
-use Rattle.bihash_steps.specs.declared.view.Known.{Known}
+use Rattle.bihash_rule.specs.Words.{buckets}
+use Rattle.bihash_rule.specs.declared.view.Known.{Known}
 use Rattle.bihash_table.specs.Closing.{map_in}
 use Rattle.session_state.specs.declared.timeouts.Timeouts.{Timeouts}
 use Rattle.flow_filter.specs.Judged.{Judged}

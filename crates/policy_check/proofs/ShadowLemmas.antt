@@ -3,7 +3,7 @@ use Rattle.std.proofs.Common.{◌≡◌, ◌≤◌, ℕ, ◌+◌, ◌-◌, ◌/�
 use Rattle.std.proofs.lemmas.Nat.{and_assoc, shr-shr}
 use Rattle.packet_view.specs.declared.tuple.Family.{Family}
 use Rattle.acl_policy.specs.Matching.{HoldsPrefix}
-use Rattle.acl_policy.specs.Widths.{width}
+use Rattle.policy_words.specs.Widths.{width}
 
 -- numbers that begin alike in more bits do so in fewer
 alike : (w e l a b : ℕ) → e ≤ l → l ≤ w → a / 2 ^ (w - l) ≡ b / 2 ^ (w - l) → a / 2 ^ (w - e) ≡ b / 2 ^ (w - e)

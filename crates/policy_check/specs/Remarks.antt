@@ -6,7 +6,7 @@ use Rattle.packet_view.specs.declared.tuple.Family.{Family}
 use Rattle.acl_policy.specs.Matching.{Matches}
 use Rattle.acl_policy.specs.Policies.{PolicyFacts, SectionFacts, rules_of}
 use Rattle.acl_policy.specs.Rules.{RuleFacts}
-use Rattle.acl_policy.specs.Widths.{width}
+use Rattle.policy_words.specs.Widths.{width}
 use Rattle.policy_check.specs.declared.remark.Remark.{Remark}
 use Rattle.policy_check.specs.declared.remark.Remark.TheVariants.{NoMac, NoRule, Shadowed, SourceBits, DestBits}
 

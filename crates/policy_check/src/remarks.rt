@@ -2,7 +2,7 @@
 ghost use Rattle.std.specs.Prelude.{◌≡◌, ◌≤◌, ◌<◌, ◌++◌, All, IfOk, IfSome, IsTrue, None, OnOk, length, map, option_to_list};
 ghost use Rattle.acl_policy.specs.Policies.{policy_facts, rules_of, section_facts};
 ghost use Rattle.acl_policy.specs.Rules.{rule_facts};
-ghost use Rattle.acl_policy.specs.Widths.{width};
+ghost use Rattle.policy_words.specs.Widths.{width};
 ghost use Rattle.policy_check.specs.Remarks.{HasBits, HasNoRule, IsRemark, IsRuleRemark, IsSectionRemark, IsShadowed, LacksMac};
 ghost use Rattle.policy_check.specs.declared.remark.Remark.TheVariants.{NoMac};
 ghost use Rattle.policy_check.specs.inner.Added.{Adds};

@@ -9,7 +9,7 @@ use Rattle.racl_io.specs.declared.input.Input as code
 use Rattle.racl_io.specs.declared.input.Numbered as mark
 use Rattle.racl_io.specs.declared.input.Marks.{Marks}
 use Rattle.racl_io.specs.declared.input.Marks.TheVariants.{Every, Numbers}
-use Rattle.acl_policy.specs.Numerals.{IsOctet}
+use Rattle.policy_words.specs.Numerals.{IsOctet}
 
 -- the most bytes of an input
 abbrev pub most_bytes : ℕ

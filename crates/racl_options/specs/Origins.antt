@@ -1,7 +1,7 @@
 -- Where an input comes from, as the words name it (this project's profile).
 use Rattle.std.specs.Prelude.{◌≡◌, ◌≢◌, ◌≤◌, ℕ, Bool, List, [], ◌∷◌, ◌++◌, map, Option, None, Some, codes, count_by}
 use Rattle.std.specs.Str.{bytes_eq}
-use Rattle.acl_policy.specs.Numerals.{IsOctet}
+use Rattle.policy_words.specs.Numerals.{IsOctet}
 use Rattle.clap.specs.Words.{Text}
 use Rattle.racl_options.specs.CommandLine.{Values, capture_id, interface_id, policy_id}
 use Rattle.racl_options.specs.declared.settings.CaptureFile.{CaptureFile}

@@ -1,7 +1,7 @@
 -- The text of a rule, as its line has it (this project's profile).
 use Rattle.std.specs.Prelude.{ℕ, List, [], ◌∷◌, drop, take, map, not, position, Option, None, Some, if◌then◌else◌}
 use Rattle.std.specs.Str.Lines as split
-use Rattle.acl_policy.specs.Words.{is_blank, without_comment}
+use Rattle.policy_words.specs.Words.{is_blank, without_comment}
 use Rattle.racl_views.specs.declared.shown_text.RuleText.{RuleText}
 
 -- a text from the place on, or nothing where there is none

@@ -1,7 +1,7 @@
 //! The texts of rules, as their lines have them.
 ghost use Rattle.std.specs.Prelude.{◌≡◌, ◌-◌, ◌<◌, ◌≤◌, [], IfOk, IfSome, get_or, length, map, not, position, take};
 ghost use Rattle.std.specs.Str.{IsUtf8};
-ghost use Rattle.acl_policy.specs.Words;
+ghost use Rattle.policy_words.specs.Words;
 ghost use Rattle.racl_views.specs.RuleTexts;
 ghost use Rattle.racl_views.specs.RuleTexts.{from_word, most_shown, rule_texts, shown_of, without_end};
 

@@ -3,7 +3,7 @@
 #![tactic(auto)]
 
 ghost use Rattle.std.specs.Prelude.{◌≡◌, IfOk, IfErr, IfSome};
-ghost use Rattle.bihash_steps.specs.Views.{nothing_held};
+ghost use Rattle.bihash_rule.specs.Views.{nothing_held};
 
 use bihash_table::{Caller, CloseFault, RenewFault, Sessions, SplitFault, create, stamp};
 use bihash_words::{Add, Tiny};

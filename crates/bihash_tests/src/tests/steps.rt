@@ -1,6 +1,6 @@
 //! New rows, callers of a small table that split, meet and join, and as many callers as it may have.
 ghost use Rattle.std.specs.Prelude.{◌≡◌, IfOk};
-ghost use Rattle.bihash_steps.specs.Views.{nothing_held};
+ghost use Rattle.bihash_rule.specs.Views.{nothing_held};
 
 use bihash_steps::{Caller, PoolWord, Row, SplitFault, open_row};
 use bihash_words::{ShapeV4, ShapeV6, Tiny};

@@ -2,7 +2,7 @@
 //! tables that end.
 ghost use Rattle.std.specs.Prelude.{◌≡◌, ◌<◌, IfOk};
 ghost use Rattle.bihash_words.specs.Sizes.{sizes_of, IsSound};
-ghost use Rattle.bihash_steps.specs.Views.{nothing_held};
+ghost use Rattle.bihash_rule.specs.Views.{nothing_held};
 
 use bihash_steps::PoolWord;
 use bihash_table::{Caller, CloseFault, Contended, Sessions, create, stamp};

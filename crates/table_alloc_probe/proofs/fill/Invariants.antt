@@ -1,5 +1,5 @@
 use Rattle.std.proofs.Common.{◌≡◌}
-use Rattle.bihash_steps.specs.Views.{nothing_held}
+use Rattle.bihash_rule.specs.Views.{nothing_held}
 use Rattle.table_alloc_probe.proofs.fill.Given as goal
 
 abbrev pub invariant-loop-key : goal.invariant-loop-key

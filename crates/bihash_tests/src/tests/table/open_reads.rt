@@ -1,6 +1,6 @@
 //! A search that takes no lock, made step by step while another caller gives the page away that it reads.
 ghost use Rattle.std.specs.Prelude.{◌≡◌};
-ghost use Rattle.bihash_steps.specs.Views.{nothing_held};
+ghost use Rattle.bihash_rule.specs.Views.{nothing_held};
 
 use super::Call::{Add, Remove, Search};
 use super::{Eight, Row, block, first_wrong, two_callers};

@@ -1,7 +1,7 @@
 //! A full bucket in which pairs are expired.
 ghost use Rattle.std.specs.Prelude.{◌≡◌, ◌<◌, ◌==◌, ◌||◌, false, nat_lt};
 ghost use Rattle.std.specs.Thread.{IsSync};
-ghost use Rattle.bihash_steps.specs.Views.{nothing_held};
+ghost use Rattle.bihash_rule.specs.Views.{nothing_held};
 
 use super::Call::Search;
 use super::{Eight, Row, block, fill, first_wrong, has, two_callers};

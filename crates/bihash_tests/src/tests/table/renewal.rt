@@ -1,6 +1,6 @@
 //! Tables that are opened again: with versions used up, under a stranger, and after as many callers as there may be.
 ghost use Rattle.std.specs.Prelude.{◌≡◌, IfOk};
-ghost use Rattle.bihash_steps.specs.Views.{nothing_held};
+ghost use Rattle.bihash_rule.specs.Views.{nothing_held};
 
 use super::Call::{Add, Search, Touch};
 use super::{Eight, Row, ends_with, first_wrong, renew, two_callers};

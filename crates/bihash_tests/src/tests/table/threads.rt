@@ -2,7 +2,7 @@
 ghost use Rattle.std.specs.Prelude.{◌≡◌};
 ghost use Rattle.std.specs.Thread.{IsSync};
 ghost use Rattle.bihash_words.specs.declared.patch.Change.TheVariants.{Keep};
-ghost use Rattle.bihash_steps.specs.Views.{nothing_held};
+ghost use Rattle.bihash_rule.specs.Views.{nothing_held};
 
 use super::Call::{Add, Search};
 use super::{Eight, Row, answer, first_wrong, two_callers};

@@ -1,6 +1,6 @@
 //! Calls that wait for their turn, and callers that meet. What they answer is worked out by hand.
 ghost use Rattle.std.specs.Prelude.{◌≡◌};
-ghost use Rattle.bihash_steps.specs.Views.{nothing_held};
+ghost use Rattle.bihash_rule.specs.Views.{nothing_held};
 
 use super::{Call, Eight, Row, first_wrong, two_callers};
 use bihash_table::{Caller, Sessions, create, stamp};

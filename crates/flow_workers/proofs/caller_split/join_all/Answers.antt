@@ -1,6 +1,6 @@
 use Rattle.std.proofs.Common.{◌≡◌, ◌∙◌, ◌++◌, ◌∷◌, [], All, List, ap, append_assoc, arith, sym, subst}
 use Rattle.std.specs.List.{AllZip}
-use Rattle.bihash_steps.specs.Views.{nothing_held}
+use Rattle.bihash_rule.specs.Views.{nothing_held}
 use Rattle.flow_dealing.specs.Traces.{HaveTraces, Item}
 use Rattle.flow_workers.proofs.CallerSplitLemmas.{all_but_last, last_of, no_traces}
 use Rattle.flow_workers.proofs.caller_split.join_all.Goals as goal

@@ -2,7 +2,7 @@ use Rattle.std.proofs.Common.{◌≡◌, ◌∙◌, ap, subst, sym}
 use Rattle.bihash_words.specs.Sizes.{Sizes, sizes_of}
 use Rattle.bihash_steps.specs.Seats.{CallerState}
 use Rattle.bihash_steps.specs.Steps.{IsRefused}
-use Rattle.bihash_steps.specs.declared.view.View.{View}
+use Rattle.bihash_rule.specs.declared.view.View.{View}
 use Rattle.bihash_steps.specs.declared.faults.SplitFault.{SplitFault}
 use Rattle.bihash_steps.specs.declared.faults.SplitFault.TheVariants.{Memory, Numbers, Contended}
 use Rattle.flow_workers.specs.inner.Fresh.{IsFreshView}

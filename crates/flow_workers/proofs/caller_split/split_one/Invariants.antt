@@ -1,5 +1,5 @@
 use Rattle.std.proofs.Common.{◌≡◌}
-use Rattle.bihash_steps.specs.Views.{nothing_held}
+use Rattle.bihash_rule.specs.Views.{nothing_held}
 use Rattle.flow_workers.specs.inner.Fresh.{IsFreshView}
 use Rattle.flow_workers.proofs.caller_split.split_one.Given as goal
 

@@ -1,5 +1,5 @@
 use Rattle.std.proofs.Common.{◌≡◌}
-use Rattle.bihash_steps.specs.Views.{nothing_held}
+use Rattle.bihash_rule.specs.Views.{nothing_held}
 use Rattle.flow_workers.proofs.closing.close_one.Given as goal
 
 abbrev pub invariant-loop : goal.invariant-loop

@@ -1,5 +1,5 @@
 use Rattle.std.proofs.Common.{[], ◌∷◌, ◌++◌}
-use Rattle.acl_policy.specs.Words.{words_of}
+use Rattle.policy_words.specs.Words.{words_of}
 use Rattle.policy_check.proofs.UnseenLemmas.{words_left}
 use Rattle.policy_check.proofs.unseen.unseen.Goals as goal
 

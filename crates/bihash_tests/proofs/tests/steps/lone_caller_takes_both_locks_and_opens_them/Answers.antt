@@ -1,6 +1,6 @@
 use Rattle.std.proofs.Common.{rules, ◌≡◌, true, None, ap, ◌∙◌}
 use Rattle.bihash_steps.specs.Seats.{CallerState}
-use Rattle.bihash_steps.specs.declared.view.View.{View}
+use Rattle.bihash_rule.specs.declared.view.View.{View}
 use Rattle.bihash_tests.proofs.tests.steps.lone_caller_takes_both_locks_and_opens_them.Goals as goal
 
 pub pool_load-requires-clause-locked : goal.pool_load-requires-clause-locked

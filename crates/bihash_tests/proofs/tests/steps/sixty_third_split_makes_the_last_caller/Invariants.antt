@@ -1,5 +1,5 @@
 use Rattle.std.proofs.Common.{◌≡◌}
-use Rattle.bihash_steps.specs.Views.{nothing_held}
+use Rattle.bihash_rule.specs.Views.{nothing_held}
 use Rattle.bihash_tests.proofs.tests.steps.sixty_third_split_makes_the_last_caller.Given as goal
 
 abbrev pub invariant-loop-made : goal.invariant-loop-made

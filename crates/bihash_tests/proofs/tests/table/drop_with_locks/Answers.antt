@@ -1,5 +1,5 @@
 use Rattle.std.proofs.Common.{rules, false, length, refl}
-use Rattle.bihash_steps.specs.Buckets.{word_of}
+use Rattle.bihash_rule.specs.Buckets.{word_of}
 use Rattle.bihash_table.proofs.CallChains.{sees_open}
 use Rattle.bihash_tests.proofs.tests.table.drop_with_locks.Goals as goal
 

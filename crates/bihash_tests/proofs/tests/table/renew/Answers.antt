@@ -1,5 +1,5 @@
 use Rattle.std.proofs.Common.{ap}
-use Rattle.bihash_steps.specs.declared.view.View.{View}
+use Rattle.bihash_rule.specs.declared.view.View.{View}
 use Rattle.bihash_tests.proofs.tests.table.renew.Goals as goal
 
 pub returns-in-Ok-clause-free : goal.returns-in-Ok-clause-free

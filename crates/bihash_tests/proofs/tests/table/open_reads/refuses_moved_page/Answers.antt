@@ -6,16 +6,16 @@ use Rattle.bihash_words.specs.Sizes.{Sizes}
 use Rattle.bihash_words.specs.Maps.{Pairs}
 use Rattle.bihash_words.specs.declared.patch.Change.TheVariants.{Keep}
 use Rattle.bihash_words.specs.declared.patch.Reply.TheVariants.{Kept}
-use Rattle.bihash_steps.specs.Words.{block_words, place_words}
-use Rattle.bihash_steps.specs.Histories.{IsKeyOf, after}
-use Rattle.bihash_steps.specs.Callers.{known_at, opening_at}
-use Rattle.bihash_steps.specs.Blocks.{IsBlockOf, free, places}
-use Rattle.bihash_steps.specs.Buckets.{AreReadIn, word_of}
+use Rattle.bihash_rule.specs.Words.{block_words, place_words}
+use Rattle.bihash_rule.specs.Histories.{IsKeyOf, after}
+use Rattle.bihash_rule.specs.Callers.{known_at, opening_at}
+use Rattle.bihash_rule.specs.Blocks.{IsBlockOf, free, places}
+use Rattle.bihash_rule.specs.Buckets.{AreReadIn, word_of}
 use Rattle.bihash_steps.specs.Seats.{CallerState}
 use Rattle.bihash_steps.specs.BucketCalls.{event}
 use Rattle.bihash_steps.specs.BucketSteps.{IsOpenWord, MayValidate, SeesOpen, call_of, map_now, open_on, read_more, with_reading}
-use Rattle.bihash_steps.specs.declared.view.Known.{Known}
-use Rattle.bihash_steps.specs.declared.view.View.{View}
+use Rattle.bihash_rule.specs.declared.view.Known.{Known}
+use Rattle.bihash_rule.specs.declared.view.View.{View}
 use Rattle.bihash_steps.proofs.InformedViews.{known_learned}
 use Rattle.bihash_table.proofs.CallChains.{sees_open}
 use Rattle.bihash_table.proofs.PlaceReads.{all_same, place_inside}

@@ -1,5 +1,5 @@
 use Rattle.std.proofs.Common.{◌≡◌}
-use Rattle.bihash_steps.specs.Views.{nothing_held}
+use Rattle.bihash_rule.specs.Views.{nothing_held}
 use Rattle.bihash_tests.proofs.tests.table.renewal.renew_after_many_callers.Given as goal
 
 abbrev pub invariant-splits : goal.invariant-splits

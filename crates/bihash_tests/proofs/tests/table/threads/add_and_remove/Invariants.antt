@@ -1,5 +1,5 @@
 use Rattle.std.proofs.Common.{◌≡◌}
-use Rattle.bihash_steps.specs.Views.{nothing_held}
+use Rattle.bihash_rule.specs.Views.{nothing_held}
 use Rattle.bihash_tests.proofs.tests.table.threads.add_and_remove.Given as goal
 
 abbrev pub invariant-rounds : goal.invariant-rounds
