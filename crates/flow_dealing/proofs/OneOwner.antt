@@ -9,7 +9,7 @@ use Rattle.std.proofs.lemmas.List.Elements.{All-head, All-tail}
 use lib.ListN.{get_elem?}
 use mathlib.Core.Option.{some, some-injective}
 use Rattle.packet_view.specs.declared.tuple.Family.{Family}
-use Rattle.bihash_words.specs.Maps.{Event, Pairs}
+use Rattle.bihash_words.specs.Maps.{Event}
 use Rattle.bihash_words.specs.Runs.{IsRun}
 use Rattle.bihash_words.specs.Sizes.{Sizes, bucket_of}
 use Rattle.bihash_rule.specs.Words.{buckets}
@@ -186,8 +186,8 @@ module _ (d : Deal) (times : Timeouts) (family : Family) (b w : ℕ)
         let same : m.1 ≡ r = some-injective m.1 r (sym m.2 ∙ (ap (get_elem? v.records) place ∙ at)) in
         sym m.3 ∙ ap (λ (y : Record). y.number) same
 
-    pub runs_at : (last : Pairs) × (writes : ℕ)
-        × IsRun (bounds_in d.layout family) empty 0 (events_at d.layout times home js) last writes
+    -- the events lead to the map that is known
+    pub runs_at : (writes : ℕ) × IsRun (bounds_in d.layout family) empty 0 (events_at d.layout times home js) (map_now v b) writes
     runs_at =
         let r = there v.records w (let few = own.few in let count = recorded.count in omega arith) in
         let run = one_map z v w b r.0 recorded.lawful r.1 inside (one_writer r.0 r.1) in
@@ -195,7 +195,6 @@ module _ (d : Deal) (times : Timeouts) (family : Family) (b w : ℕ)
         = on_bucket z b r.0.calls (λ k c at. (legal_call z v w k r.0 c recorded.lawful r.1 at).key.home)
         ∙ (ap (events_on z b) (recorded.each w r.0 r.1) ∙ its_events 0 js asked) in
         let start : opening_at v.known b ≡ empty = ap (λ openings. opening_in openings b) recorded.openings in (
-          map_now v b,
           length (known_at v.known b),
           subst (λ es. IsRun (bounds_of z) empty 0 es (map_now v b) (length (known_at v.known b))) its
               (subst (λ m. IsRun (bounds_of z) m 0 (map event_of (calls_on b r.0.calls)) (map_now v b)

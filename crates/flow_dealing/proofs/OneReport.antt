@@ -1,5 +1,6 @@
 -- The report of all workers is that of one thread.
 use Rattle.std.proofs.Common.{◌≡◌, ◌≢◌, ◌⊎◌, ◌∙◌, ℕ, List, Option, Some, None, ap, refl, sym, subst}
+use Rattle.std.specs.FinMap.{empty}
 use lib.ListN.{get_elem?}
 use mathlib.Core.Option.{some}
 use Rattle.packet_view.specs.Captures.{PacketFacts}
@@ -7,13 +8,15 @@ use Rattle.packet_view.specs.declared.tuple.Family.{Family}
 use Rattle.acl_policy.specs.Policies.{PolicyFacts}
 use Rattle.bihash_words.specs.Maps.{Event}
 use Rattle.bihash_words.specs.declared.patch.Reply.TheVariants as reply
+use Rattle.bihash_words.specs.Runs.{IsRun}
+use Rattle.bihash_steps.specs.BucketSteps.{map_now}
 use Rattle.bihash_rule.specs.Histories.{bounds_of}
 use Rattle.session_state.specs.declared.flow.Flow.{Flow}
 use Rattle.session_state.specs.declared.timeouts.Timeouts.{Timeouts}
 use Rattle.flow_filter.specs.declared.verdict.Verdict.{Verdict}
 use Rattle.flow_filter.specs.declared.verdict.Verdict.TheVariants as verdict
 use Rattle.flow_filter.specs.Judged.{IsAsked, Judged, verdict_on}
-use Rattle.flow_filter.specs.OneThread.{AreVerdicts, HasPages, family_of, sizes_in}
+use Rattle.flow_filter.specs.OneThread.{AreVerdicts, HasPages, Home, IsHome, IsOneThread, bounds_in, events_at, family_of, nothing, sizes_in}
 use Rattle.flow_dealing.specs.declared.dealing.Dealing.TheVariants.{Bucket}
 use Rattle.flow_dealing.specs.Views.{view_in}
 use Rattle.flow_dealing.specs.Dealings.{Deal, flow_of_reading, worker_of}
@@ -51,23 +54,29 @@ module _ (d : Deal) (times : Timeouts) (policy : PolicyFacts) (packets : List Pa
           (subst (λ (x : Event). IsWant (bounds_of (sizes_in d.layout family)) x.found x.change log2 left) c.event want)
           short
 
+  -- the events on a bucket lead to the map that all workers know of it
+  pub run_at : (d.dealing ≡ Bucket) ⊎ (d.workers ≡ 1) → (home : Home) → IsHome d.layout home → (writes : ℕ)
+      × IsRun (bounds_in d.layout home.family) empty 0 (events_at d.layout times home are.judged)
+      (map_now (view_in are.views home.family) home.bucket) writes
+  run_at one home inside =
+      let recorded = are.recorded home.family in
+      let o =
+      owner d home (some_worker d times home.family are.judged (view_in are.views home.family) recorded) one in
+      runs_at d times home.family home.bucket o.0 o.1 are.judged
+      (view_in are.views home.family) recorded are.asked inside
+
+  pub judged_by_one : (d.dealing ≡ Bucket) ⊎ (d.workers ≡ 1) → HavePages verdicts
+      → IsOneThread d.layout times nothing are.judged
+  judged_by_one one paged = record {
+    asked = are.asked;
+    runs = λ home inside. let run = run_at one home inside in (map_now (view_in are.views home.family) home.bucket, run.0, run.1);
+    paged = all_from HasPages are.judged (λ k j at e its log2 left short.
+        all_at (λ v. v ≢ verdict.NoPages) verdicts k (verdict_on times j) paged
+        (ap (λ vs. get_elem? vs k) are.said ∙ after_map (verdict_on times) are.judged k j at)
+        (refused k j e log2 left at its short));
+  }
+
   pub one_report : (d.dealing ≡ Bucket) ⊎ (d.workers ≡ 1) → HavePages verdicts
       → AreVerdicts d.layout times policy packets verdicts
-  one_report one paged = record {
-    judged = are.judged;
-    read = are.read;
-    one_thread = record {
-      asked = are.asked;
-      runs = λ home inside.
-          let recorded = are.recorded home.family in
-          let o =
-          owner d home (some_worker d times home.family are.judged (view_in are.views home.family) recorded) one in
-          runs_at d times home.family home.bucket o.0 o.1 are.judged
-          (view_in are.views home.family) recorded are.asked inside;
-      paged = all_from HasPages are.judged (λ k j at e its log2 left short.
-          all_at (λ v. v ≢ verdict.NoPages) verdicts k (verdict_on times j) paged
-          (ap (λ vs. get_elem? vs k) are.said ∙ after_map (verdict_on times) are.judged k j at)
-          (refused k j e log2 left at its short));
-    };
-    said = are.said;
-  }
+  one_report one paged =
+      record { judged = are.judged; read = are.read; one_thread = judged_by_one one paged; said = are.said }

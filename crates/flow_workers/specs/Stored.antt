@@ -4,10 +4,15 @@ use Rattle.std.specs.FinMap.{get}
 use Rattle.std.specs.Ordering.{nat_cmp}
 use Rattle.std.specs.Cmp.Lexicographic.{slice_cmp}
 use Rattle.std.specs.List.Sorted.{IsStrictlySortedBy}
+use Rattle.bihash_words.specs.Maps.{Pairs}
+use Rattle.bihash_words.specs.Runs.{IsRun}
 use Rattle.bihash_words.specs.Sizes.{Sizes, bucket_of}
 use Rattle.bihash_rule.specs.Words.{buckets}
 use Rattle.bihash_rule.specs.declared.view.Known.{Known}
 use Rattle.bihash_table.specs.Closing.{map_in}
+use Rattle.session_state.specs.declared.timeouts.Timeouts.{Timeouts}
+use Rattle.flow_filter.specs.Judged.{Judged}
+use Rattle.flow_filter.specs.OneThread.{Home, Layout, bounds_in, events_at, nothing, sizes_in}
 
 -- the first part of each pair
 abbrev pub keys_in : List (List ℕ × ℕ) → List (List ℕ)
@@ -21,3 +26,13 @@ pub record AreStored (z : Sizes) (known : Known) (pairs : List (List ℕ × ℕ)
       → get (map_in known (bucket_of z key)) key ≡ Some value
   pub all : (b : ℕ) (key : List ℕ) (value : ℕ) → b < buckets z → get (map_in known b) key ≡ Some value
       → Contains pairs (key, value)
+
+-- Of a family's pairs, those of this bucket are all of the map to which the one-thread filter comes there by these packets,
+-- where no bucket held anything at first.
+pub record AreLeft (l : Layout) (times : Timeouts) (judged : List Judged) (home : Home) (pairs : List (List ℕ × ℕ)) : Type 0 where
+  pub last : Pairs
+  pub writes : ℕ
+  pub run : IsRun (bounds_in l home.family) (nothing home) 0 (events_at l times home judged) last writes
+  pub kept : (key : List ℕ) (value : ℕ) → Contains pairs (key, value)
+      → bucket_of (sizes_in l home.family) key ≡ home.bucket → get last key ≡ Some value
+  pub all : (key : List ℕ) (value : ℕ) → get last key ≡ Some value → Contains pairs (key, value)

@@ -6,5 +6,6 @@ pub mod OutcomeLemmas
 pub mod ReadLemmas
 pub mod RunLemmas
 pub mod SaveLemmas
+pub mod StoredLaws
 pub mod TakenLemmas
 pub mod ViewLemmas

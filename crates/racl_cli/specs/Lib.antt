@@ -5,4 +5,5 @@ pub mod Reads
 pub mod Runs
 pub mod Saves
 pub mod Statuses
+pub mod StoredRuns
 pub mod inner

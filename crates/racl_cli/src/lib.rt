@@ -20,7 +20,7 @@ mod viewing;
 
 pub use end_to_end::{run, run_saving};
 pub use exits::{ending, failure_ending, hint, remark, status, words_ending};
-pub use laws::each_input_has_one_outcome;
+pub use laws::{each_input_has_one_outcome, told_sessions_are_those_of_one_thread};
 pub use live::run_live;
 pub use message::{Ending, Hint, Message, Remark, Unopened};
 pub use racl_io::{
