@@ -1,5 +1,6 @@
 //! The tests of the crates up to `flow_workers`.
 use session_state::Timeouts;
+use std::test::Fail;
 
 mod captures;
 mod dealing;
@@ -23,3 +24,8 @@ const TIMES: Timeouts = Timeouts {
     transient: 120,
     udp: 600,
 };
+
+// A test that ends since what it begins with was refused.
+fn refused() -> Result<(), Fail> {
+    Err("what the test begins with was refused")?
+}

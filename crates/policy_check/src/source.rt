@@ -34,7 +34,10 @@ pub fn check_source<R: Source, W: Sink>(
         Ok(false) => return Err(Fault::TooLarge),
         Err(fault) => return Err(fault),
     }
-    let told = tell(alloc, &text)?;
+    let told = match tell(alloc, &text) {
+        Ok(told) => told,
+        Err(_) => return Err(Fault::Memory),
+    };
     match write_all(writer, &told.text) {
         Ok(()) => Ok(told.is_policy),
         Err(fault) => Err(fault),

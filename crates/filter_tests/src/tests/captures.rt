@@ -1,5 +1,6 @@
 //! Captures byte by byte, with the packets that the format gives them, of which `checks/rows/captures.txt` has more.
 use super::frames::UDP;
+use super::refused;
 use packet_view::{
     Order, Packet, PacketBursts, Packets, Piece, Stop, capture_header, check_capture,
     front_records, next_record, read_capture,
@@ -67,7 +68,9 @@ fn finds_the_whole_records_at_the_front(rt: HostRuntime) {
 
 #[test]
 fn reads_the_packets_of_a_capture(rt: HostRuntime) -> Result<(), Fail> {
-    let capture = read_capture(rt.alloc(), &BIG, 0)?;
+    let Ok(capture) = read_capture(rt.alloc(), &BIG, 0) else {
+        return refused();
+    };
     assert!(rt; !capture.truncated);
     assert_eq!(rt; front_of_list(&capture.packets), (1, Some(100), 0));
     Ok(())
@@ -75,7 +78,9 @@ fn reads_the_packets_of_a_capture(rt: HostRuntime) -> Result<(), Fail> {
 
 #[test]
 fn takes_the_packets_of_a_capture_where_they_stand(rt: HostRuntime) -> Result<(), Fail> {
-    let checked = check_capture(&LITTLE[..197], 0)?;
+    let Ok(checked) = check_capture(&LITTLE[..197], 0) else {
+        return refused();
+    };
     assert!(rt; checked.truncated);
     let records = Packets::Records(checked.records);
     assert_eq!(rt; front_of(records), (2, Some(100), 1));
@@ -130,11 +135,15 @@ fn takes_packets_that_are_found_ahead(rt: HostRuntime) -> Result<(), Fail> {
             bytes.push(number)?;
         }
     }
-    let checked = check_capture(&bytes, 0)?;
+    let Ok(checked) = check_capture(&bytes, 0) else {
+        return refused();
+    };
     assert_eq!(rt; checked.records.count(), 150);
     assert!(rt; !checked.truncated);
     assert!(rt; are_numbered(PacketBursts::new(Packets::Records(checked.records))));
-    let capture = read_capture(rt.alloc(), &bytes, 0)?;
+    let Ok(capture) = read_capture(rt.alloc(), &bytes, 0) else {
+        return refused();
+    };
     assert!(rt; are_listed_by_number(&capture.packets));
     Ok(())
 }

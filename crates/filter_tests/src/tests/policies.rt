@@ -1,6 +1,6 @@
 //! A policy's text with what it says, and the texts of faults. `checks/rows/policies.txt` has the lines that are refused,
 //! and which packets a line takes.
-use super::EVERY;
+use super::{EVERY, refused};
 use acl_policy::{Action, PolicyFault, Rule, add_line, empty_draft, read_policy};
 use packet_view::{Family, Mac};
 use std::test::Fail;
@@ -11,8 +11,12 @@ fn whole_policy(rt: HostRuntime) -> Result<(), Fail> {
         out permit+reflect ipv4 10.0.0.1 any udp dport 53\n\
         in\tpermit ipv4 any 10.0.0.1/32 icmp type 8\n\
         in deny ipv6 any any";
-    let read = read_policy(rt.alloc(), text)?;
-    let policy = read.section(0).ok_or("no section")?;
+    let Ok(read) = read_policy(rt.alloc(), text) else {
+        return refused();
+    };
+    let Some(policy) = read.section(0) else {
+        return refused();
+    };
     assert_eq!(rt; policy.own, Some(Mac([2, 0, 0, 10, 11, 255])));
     assert_eq!(rt; policy.inbound.len(), 2);
     let names = Rule {
@@ -39,10 +43,14 @@ fn sections_of_two_interfaces(rt: HostRuntime) -> Result<(), Fail> {
         mac 02:00:00:00:00:02\n\
         out deny ipv4 any any\n\
         out permit ipv4 any any udp\n";
-    let policy = read_policy(rt.alloc(), text)?;
+    let Ok(policy) = read_policy(rt.alloc(), text) else {
+        return refused();
+    };
     assert_eq!(rt; policy.sections.len(), 2);
     for (number, own, rules) in [(0, 1, 1), (2, 2, 2)] {
-        let section = policy.section(number).ok_or("no section")?;
+        let Some(section) = policy.section(number) else {
+            return refused();
+        };
         assert_eq!(rt; section.own, Some(Mac([2, 0, 0, 0, 0, own])));
         assert_eq!(rt; section.outbound.len(), rules);
     }
@@ -63,8 +71,12 @@ fn bits_beyond_a_length(rt: HostRuntime) -> Result<(), Fail> {
     let text = b"in deny ipv4 255.255.255.255/0 any\n\
         in deny ipv4 010.000.00.1/8 any\n\
         in deny ipv6 0001:2::7:0/064 any\n";
-    let read = read_policy(rt.alloc(), text)?;
-    let policy = read.section(0).ok_or("no section")?;
+    let Ok(read) = read_policy(rt.alloc(), text) else {
+        return refused();
+    };
+    let Some(policy) = read.section(0) else {
+        return refused();
+    };
     assert_eq!(rt; policy.inbound.len(), 3);
     let groups = 0x0001_0002_0000_0000_0000_0000_0007_0000;
     for (number, rule) in policy.inbound.iter().enumerate() {

@@ -16,10 +16,13 @@ pub const NAMES: &str =
     "mac 02:00:00:00:00:01\nout permit+reflect ipv4 10.0.0.1 any udp dport 53\n";
 
 pub fn filter_of(alloc: Global, text: &str) -> Result<Filter, PolicyFault> {
-    Ok(Filter {
-        policy: read_policy(alloc, text.as_bytes())?,
-        times: TIMES,
-    })
+    match read_policy(alloc, text.as_bytes()) {
+        Ok(policy) => Ok(Filter {
+            policy,
+            times: TIMES,
+        }),
+        Err(fault) => Err(fault),
+    }
 }
 
 // A request from 10.0.0.1:1000 to the name server 10.0.0.n, on its way out.

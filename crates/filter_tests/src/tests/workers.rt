@@ -1,6 +1,7 @@
 //! Workers that run at once, and what their verdicts have in common.
 ghost use Rattle.std.specs.Prelude.{◌≤◌, ◌+◌, length};
 
+use super::refused;
 use super::tables::{NAMES, answer, filter_of, request};
 use bihash_words::{ShapeV4, ShapeV6, flow_shapes_are_sound};
 use flow_workers::{
@@ -139,8 +140,12 @@ fn verdicts_on_parts<R: Threads + Wait + Sync, G: Gate + Sync>(
     let Ok((tables, callers)) = create_tables::<ShapeV4, ShapeV6>(alloc) else {
         return Err(RunFault::Memory);
     };
-    let prepared = filter.prepare(alloc, 0)?;
-    let ready = filter.ready_with(alloc, &prepared)?;
+    let Ok(prepared) = filter.prepare(alloc, 0) else {
+        return Err(RunFault::Memory);
+    };
+    let Ok(ready) = filter.ready_with(alloc, &prepared) else {
+        return Err(RunFault::Memory);
+    };
     let setup = Setup {
         rt,
         gate,
@@ -172,7 +177,9 @@ fn verdicts_on_parts<R: Threads + Wait + Sync, G: Gate + Sync>(
 #[test]
 fn workers(rt: HostRuntime) -> Result<(), Fail> {
     let alloc = rt.alloc();
-    let filter = filter_of(alloc, NAMES)?;
+    let Ok(filter) = filter_of(alloc, NAMES) else {
+        return refused();
+    };
     let frames = [request(2), answer(2), answer(3)];
     let packets = [
         Packet {
@@ -192,7 +199,9 @@ fn workers(rt: HostRuntime) -> Result<(), Fail> {
         },
     ];
     let gate = Meeting::new(true);
-    let found = verdicts(&rt, alloc, &filter, &packets, 2, &gate, Dealing::Round)?;
+    let Ok(found) = verdicts(&rt, alloc, &filter, &packets, 2, &gate, Dealing::Round) else {
+        return refused();
+    };
     assert!(rt; !gate.gave_up.load(Ordering::SeqCst));
     let wanted = [Verdict::Reflect(1), Verdict::ByDefault, Verdict::ByDefault];
     assert_eq!(rt; found.as_slice(), wanted.as_slice());
@@ -204,7 +213,9 @@ fn workers(rt: HostRuntime) -> Result<(), Fail> {
 #[test]
 fn both_before(rt: HostRuntime) -> Result<(), Fail> {
     let alloc = rt.alloc();
-    let filter = filter_of(alloc, NAMES)?;
+    let Ok(filter) = filter_of(alloc, NAMES) else {
+        return refused();
+    };
     let foreign = [2, 0, 0, 0, 0, 2, 2, 0, 0, 0, 0, 1, 8, 6];
     let mut odd = request(2);
     odd[35] = 0xe9;
@@ -223,7 +234,9 @@ fn both_before(rt: HostRuntime) -> Result<(), Fail> {
     let wanted = [Verdict::NotIp, Verdict::Reflect(1)];
     for dealing in [Dealing::Round, Dealing::Bucket] {
         let gate = Meeting::new(false);
-        let found = verdicts(&rt, alloc, &filter, &packets, 2, &gate, dealing)?;
+        let Ok(found) = verdicts(&rt, alloc, &filter, &packets, 2, &gate, dealing) else {
+            return refused();
+        };
         assert!(rt; !gate.gave_up.load(Ordering::SeqCst));
         assert_eq!(rt; found.as_slice(), wanted.as_slice());
     }
@@ -235,7 +248,9 @@ fn both_before(rt: HostRuntime) -> Result<(), Fail> {
 #[test]
 fn packets_of_parts_are_numbered_on(rt: HostRuntime) -> Result<(), Fail> {
     let alloc = rt.alloc();
-    let filter = filter_of(alloc, NAMES)?;
+    let Ok(filter) = filter_of(alloc, NAMES) else {
+        return refused();
+    };
     let frames = [request(2), answer(3), answer(2), request(3)];
     let first = [
         Packet {
@@ -265,7 +280,11 @@ fn packets_of_parts_are_numbered_on(rt: HostRuntime) -> Result<(), Fail> {
         before: AtomicU64::new(0),
         after: AtomicU64::new(0),
     };
-    let (found, four, others) = verdicts_on_parts(&rt, alloc, &filter, &gate, &first, &second)?;
+    let Ok((found, four, others)) =
+        verdicts_on_parts(&rt, alloc, &filter, &gate, &first, &second)
+    else {
+        return refused();
+    };
     let wanted = [
         Verdict::Reflect(1),
         Verdict::ByDefault,
