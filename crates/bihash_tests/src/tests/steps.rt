@@ -1,5 +1,5 @@
 //! New rows, callers of a small table that split, meet and join, and as many callers as it may have.
-ghost use Rattle.std.specs.Prelude.{◌≡◌, IfOk};
+ghost use Rattle.std.specs.Prelude.{◌≡◌, IfSome};
 ghost use Rattle.bihash_rule.specs.Views.{nothing_held};
 
 use bihash_steps::{Caller, PoolWord, Row, SplitFault, open_row};
@@ -10,27 +10,36 @@ use std::test::Fail;
 // Four pages, and eight writes to a bucket. A table of this shape may have 64 callers.
 type Small = Tiny<4, 8>;
 
-// A caller and a new one. A refusal fails the test.
+// A test that ends since a row or a split was refused.
+fn refused() -> Result<(), Fail> {
+    Err("a row or a caller was refused")?
+}
+
+// A caller and a new one.
 fn split(
     alloc: Global,
     row: &Row<Small>,
     caller: Caller<Small>,
-) -> Result<(Caller<Small>, Caller<Small>), Fail>
+) -> Option<(Caller<Small>, Caller<Small>)>
     requires { (caller.seat.row ≡ row.now) × (caller.seat.view.holds ≡ nothing_held) }
-    ensures old { IfOk result (λ r. (r.0.seat.row ≡ row.now) × (r.0.seat.view.holds ≡ nothing_held)) }
-    ensures new { IfOk result (λ r. (r.1.seat.row ≡ row.now) × (r.1.seat.view.holds ≡ nothing_held)) }
+    ensures old { IfSome result (λ r. (r.0.seat.row ≡ row.now) × (r.0.seat.view.holds ≡ nothing_held)) }
+    ensures new { IfSome result (λ r. (r.1.seat.row ≡ row.now) × (r.1.seat.view.holds ≡ nothing_held)) }
 {
     match row.split(alloc, caller) {
-        Ok(both) => Ok(both),
-        Err((fault, _)) => Err(fault)?,
+        Ok(both) => Some(both),
+        Err(_) => None,
     }
 }
 
 #[test]
 fn rows_of_both_flow_shapes_open(rt: HostRuntime) -> Result<(), Fail> {
-    let (four, mut first) = open_row::<ShapeV4>(rt.alloc())?;
+    let Ok((four, mut first)) = open_row::<ShapeV4>(rt.alloc()) else {
+        return refused();
+    };
     assert_eq!(rt; four.load_count(&mut first.seat), 1);
-    let (six, mut first) = open_row::<ShapeV6>(rt.alloc())?;
+    let Ok((six, mut first)) = open_row::<ShapeV6>(rt.alloc()) else {
+        return refused();
+    };
     assert_eq!(rt; six.load_count(&mut first.seat), 1);
     Ok(())
 }
@@ -46,9 +55,13 @@ fn counts(row: &Row<Small>, caller: &mut Caller<Small>) -> (u64, u64)
 
 #[test]
 fn a_split_makes_a_caller(rt: HostRuntime) -> Result<(), Fail> {
-    let (row, mut first) = open_row::<Small>(rt.alloc())?;
+    let Ok((row, mut first)) = open_row::<Small>(rt.alloc()) else {
+        return refused();
+    };
     assert_eq!(rt; counts(&row, &mut first), (1, 1));
-    let (mut first, mut second) = split(rt.alloc(), &row, first)?;
+    let Some((mut first, mut second)) = split(rt.alloc(), &row, first) else {
+        return refused();
+    };
     assert_eq!(rt; counts(&row, &mut second), (2, 1));
     assert_eq!(rt; counts(&row, &mut first), (2, 1));
     Ok(())
@@ -56,8 +69,12 @@ fn a_split_makes_a_caller(rt: HostRuntime) -> Result<(), Fail> {
 
 #[test]
 fn callers_that_meet_keep_their_numbers(rt: HostRuntime) -> Result<(), Fail> {
-    let (row, first) = open_row::<Small>(rt.alloc())?;
-    let (first, second) = split(rt.alloc(), &row, first)?;
+    let Ok((row, first)) = open_row::<Small>(rt.alloc()) else {
+        return refused();
+    };
+    let Some((first, second)) = split(rt.alloc(), &row, first) else {
+        return refused();
+    };
     let (first, second) = row.meet(first, second);
     assert_eq!(rt; (first.seat.numbers(), second.seat.numbers()), (1, 1));
     assert_eq!(rt; (first.seat.stamp(), second.seat.stamp()), (None, None));
@@ -67,10 +84,16 @@ fn callers_that_meet_keep_their_numbers(rt: HostRuntime) -> Result<(), Fail> {
 // A caller that takes in another has the numbers of both, and keeps them where it splits and meets.
 #[test]
 fn a_caller_takes_in_another(rt: HostRuntime) -> Result<(), Fail> {
-    let (row, first) = open_row::<Small>(rt.alloc())?;
-    let (first, second) = split(rt.alloc(), &row, first)?;
+    let Ok((row, first)) = open_row::<Small>(rt.alloc()) else {
+        return refused();
+    };
+    let Some((first, second)) = split(rt.alloc(), &row, first) else {
+        return refused();
+    };
     let both = row.join(first, second);
-    let (both, third) = split(rt.alloc(), &row, both)?;
+    let Some((both, third)) = split(rt.alloc(), &row, both) else {
+        return refused();
+    };
     let (mut both, mut third) = row.meet(both, third);
     assert_eq!(rt; counts(&row, &mut both), (3, 2));
     assert_eq!(rt; counts(&row, &mut third), (3, 1));
@@ -81,7 +104,9 @@ fn a_caller_takes_in_another(rt: HostRuntime) -> Result<(), Fail> {
 
 #[test]
 fn lone_caller_takes_both_locks_and_opens_them(rt: HostRuntime) -> Result<(), Fail> {
-    let (row, mut first) = open_row::<Small>(rt.alloc())?;
+    let Ok((row, mut first)) = open_row::<Small>(rt.alloc()) else {
+        return refused();
+    };
     let seat = &mut first.seat;
     let word = row.load_bucket(seat, 1);
     assert_eq!(rt; word.to_word(), 0);
@@ -99,14 +124,19 @@ fn lone_caller_takes_both_locks_and_opens_them(rt: HostRuntime) -> Result<(), Fa
 
 #[test]
 fn sixty_third_split_makes_the_last_caller(rt: HostRuntime) -> Result<(), Fail> {
-    let (row, mut caller) = open_row::<Small>(rt.alloc())?;
+    let Ok((row, mut caller)) = open_row::<Small>(rt.alloc()) else {
+        return refused();
+    };
     for made in 2..65u64 {
-        let (old, mut new) = split(rt.alloc(), &row, caller)?;
+        let Some((old, mut new)) = split(rt.alloc(), &row, caller) else {
+            return refused();
+        };
         assert_eq!(rt; row.load_count(&mut new.seat), made);
         caller = old;
     }
-    let refused = row.split(rt.alloc(), caller).err();
-    let (fault, mut caller) = refused.ok_or("a sixty-fifth caller was made")?;
+    let Err((fault, mut caller)) = row.split(rt.alloc(), caller) else {
+        return Err("a sixty-fifth caller was made")?;
+    };
     assert_eq!(rt; fault, SplitFault::Numbers);
     assert_eq!(rt; row.load_count(&mut caller.seat), 64);
     Ok(())

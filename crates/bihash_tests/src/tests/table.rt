@@ -1,6 +1,6 @@
 //! The shared table: worked rows with one try a call, searches that take no lock, threads, calls that wait, and
 //! tables that end.
-ghost use Rattle.std.specs.Prelude.{◌≡◌, ◌<◌, IfOk};
+ghost use Rattle.std.specs.Prelude.{◌≡◌, ◌<◌, IfSome};
 ghost use Rattle.bihash_words.specs.Sizes.{sizes_of, IsSound};
 ghost use Rattle.bihash_rule.specs.Views.{nothing_held};
 
@@ -36,16 +36,23 @@ enum Call {
 // A call on a key, its answer, and the bucket and stamp of its caller after it. A search answers `Kept`.
 type Row = (Call, [u64; 2], Reply, (u64, u64));
 
-// A new table and two callers. A refusal fails the test.
-fn two_callers<S: Shape>(alloc: Global) -> Result<(Sessions<S>, Caller<S>, Caller<S>), Fail>
+// A test that ends since a table, a split or a renewal was refused.
+fn refused() -> Result<(), Fail> {
+    Err("a table or a caller was refused")?
+}
+
+// A new table and two callers.
+fn two_callers<S: Shape>(alloc: Global) -> Option<(Sessions<S>, Caller<S>, Caller<S>)>
     requires sound { IsSound (sizes_of S.Shape) }
-    ensures own { IfOk result (λ r. (r.1.seat.row ≡ r.0.row) × (r.2.seat.row ≡ r.0.row)) }
-    ensures free { IfOk result (λ r. (r.1.seat.view.holds ≡ nothing_held) × (r.2.seat.view.holds ≡ nothing_held)) }
+    ensures own { IfSome result (λ r. (r.1.seat.row ≡ r.0.row) × (r.2.seat.row ≡ r.0.row)) }
+    ensures free { IfSome result (λ r. (r.1.seat.view.holds ≡ nothing_held) × (r.2.seat.view.holds ≡ nothing_held)) }
 {
-    let (table, first) = create::<S>(alloc)?;
+    let Ok((table, first)) = create::<S>(alloc) else {
+        return None;
+    };
     match table.split(alloc, first) {
-        Ok((first, second)) => Ok((table, first, second)),
-        Err((fault, _)) => Err(fault)?,
+        Ok((first, second)) => Some((table, first, second)),
+        Err(_) => None,
     }
 }
 
@@ -153,20 +160,20 @@ fn block<const P: u64, const L: u64>(
     (word.page(), word.log2(), word.linear())
 }
 
-// The table opened again, with its caller 1. A refusal fails the test.
+// The table opened again, with its caller 1.
 fn renew<S: Shape>(
     alloc: Global,
     table: Sessions<S>,
     caller: Caller<S>,
-) -> Result<(Sessions<S>, Caller<S>), Fail>
+) -> Option<(Sessions<S>, Caller<S>)>
     requires own { caller.seat.row ≡ table.row }
     requires free { caller.seat.view.holds ≡ nothing_held }
-    ensures own { IfOk result (λ r. r.1.seat.row ≡ r.0.row) }
-    ensures free { IfOk result (λ r. r.1.seat.view.holds ≡ nothing_held) }
+    ensures own { IfSome result (λ r. r.1.seat.row ≡ r.0.row) }
+    ensures free { IfSome result (λ r. r.1.seat.view.holds ≡ nothing_held) }
 {
     match table.renew(alloc, caller) {
-        Ok((table, caller)) => Ok((table, caller)),
-        Err((fault, _, _)) => Err(fault)?,
+        Ok((table, caller)) => Some((table, caller)),
+        Err(_) => None,
     }
 }
 
@@ -219,23 +226,23 @@ fn ends_with<const P: u64, const L: u64>(
     }
 }
 
-// The table, which can't be closed while there is the second caller, and both callers joined.
+// The table, which can't be closed while there is the second caller, and both callers joined. `None`: it was closed.
 fn stays_open<S: Shape>(
     alloc: Global,
     table: Sessions<S>,
     first: Caller<S>,
     second: Caller<S>,
-) -> Result<(Sessions<S>, Caller<S>), Fail>
+) -> Option<(Sessions<S>, Caller<S>)>
     requires own { (first.seat.row ≡ table.row) × (second.seat.row ≡ table.row) }
     requires free { (first.seat.view.holds ≡ nothing_held) × (second.seat.view.holds ≡ nothing_held) }
-    ensures own { IfOk result (λ r. r.1.seat.row ≡ r.0.row) }
-    ensures free { IfOk result (λ r. r.1.seat.view.holds ≡ nothing_held) }
+    ensures own { IfSome result (λ r. r.1.seat.row ≡ r.0.row) }
+    ensures free { IfSome result (λ r. r.1.seat.view.holds ≡ nothing_held) }
 {
     match table.close(alloc, first) {
         Err((CloseFault::Strangers, table, first)) => {
             let both = table.join(first, second);
-            Ok((table, both))
+            Some((table, both))
         }
-        _ => Err("the table was closed under a stranger")?,
+        _ => None,
     }
 }

@@ -1,6 +1,6 @@
 //! Tables that run out of writes and pages, and a caller that is dropped with both of its locks.
 use super::Call::{Add, Remove, Search};
-use super::{Eight, Row, answer, drop_with_locks, first_wrong, two_callers};
+use super::{Eight, Row, answer, drop_with_locks, first_wrong, refused, two_callers};
 use bihash_table::{Contended, create, stamp};
 use bihash_words::Reply::{Changed, Kept, NoPages, Worn};
 use bihash_words::Tiny;
@@ -9,7 +9,9 @@ use std::test::Fail;
 // The one page of a table goes and comes with its bucket's writes, and stays with the bucket whose writes are used up.
 #[test]
 fn one_page_worn(rt: HostRuntime) -> Result<(), Fail> {
-    let (table, mut caller) = create::<Tiny<1, 5>>(rt.alloc())?;
+    let Ok((table, mut caller)) = create::<Tiny<1, 5>>(rt.alloc()) else {
+        return refused();
+    };
     const ROWS: [Row; 7] = [
         (Add(7), [0, 0], Changed(None), (0, 1)),
         (Remove, [0, 0], Changed(Some(7)), (0, 2)),
@@ -26,7 +28,9 @@ fn one_page_worn(rt: HostRuntime) -> Result<(), Fail> {
 // A bucket whose writes are used up while it is empty leaves its page to the other.
 #[test]
 fn worn_then_page_free(rt: HostRuntime) -> Result<(), Fail> {
-    let (table, mut caller) = create::<Tiny<1, 4>>(rt.alloc())?;
+    let Ok((table, mut caller)) = create::<Tiny<1, 4>>(rt.alloc()) else {
+        return refused();
+    };
     const ROWS: [Row; 6] = [
         (Add(7), [0, 0], Changed(None), (0, 1)),
         (Remove, [0, 0], Changed(Some(7)), (0, 2)),
@@ -43,7 +47,9 @@ fn worn_then_page_free(rt: HostRuntime) -> Result<(), Fail> {
 // other buckets are answered.
 #[test]
 fn dropped_pool_holder(rt: HostRuntime) -> Result<(), Fail> {
-    let (table, mut first, second) = two_callers::<Eight>(rt.alloc())?;
+    let Some((table, mut first, second)) = two_callers::<Eight>(rt.alloc()) else {
+        return refused();
+    };
     assert!(rt; drop_with_locks(&table, second, true));
     assert_eq!(rt; answer(&table, &mut first, Add(3), &[1, 0]), Err(Contended));
     assert_eq!(rt; stamp(&first), None);

@@ -1,6 +1,6 @@
 //! The worked rows of one caller: blocks that grow, are full, go, and a bucket whose versions are used up.
 use super::Call::{Add, AddIfAbsent, Remove, Search, Touch};
-use super::{Eight, Row, block, fill, first_wrong, has, pages};
+use super::{Eight, Row, block, fill, first_wrong, has, pages, refused};
 use bihash_table::create;
 use bihash_words::Reply::{Changed, Full, Kept, NoPages, Worn};
 use bihash_words::Tiny;
@@ -8,7 +8,9 @@ use std::test::Fail;
 
 #[test]
 fn first_split(rt: HostRuntime) -> Result<(), Fail> {
-    let (table, mut caller) = create::<Eight>(rt.alloc())?;
+    let Ok((table, mut caller)) = create::<Eight>(rt.alloc()) else {
+        return refused();
+    };
     const ADDED: [Row; 5] = [
         (Add(100), [0, 0], Changed(None), (0, 1)),
         (Add(101), [2, 0], Changed(None), (0, 2)),
@@ -33,7 +35,9 @@ fn first_split(rt: HostRuntime) -> Result<(), Fail> {
 
 #[test]
 fn second_split(rt: HostRuntime) -> Result<(), Fail> {
-    let (table, mut caller) = create::<Eight>(rt.alloc())?;
+    let Ok((table, mut caller)) = create::<Eight>(rt.alloc()) else {
+        return refused();
+    };
     assert!(rt; fill(&table, &mut caller, &[0, 4, 8, 12, 16]));
     assert_eq!(rt; block(&table, &mut caller, 0), (2, 2, false));
     assert_eq!(rt; pages(&table, &mut caller), Some((1, 5)));
@@ -43,7 +47,9 @@ fn second_split(rt: HostRuntime) -> Result<(), Fail> {
 
 #[test]
 fn linear(rt: HostRuntime) -> Result<(), Fail> {
-    let (table, mut caller) = create::<Eight>(rt.alloc())?;
+    let Ok((table, mut caller)) = create::<Eight>(rt.alloc()) else {
+        return refused();
+    };
     assert!(rt; fill(&table, &mut caller, &[0, 8, 16, 24, 32]));
     assert_eq!(rt; block(&table, &mut caller, 0), (2, 1, true));
     assert!(rt; has(&table, &mut caller, &[0, 8, 16, 24, 32]));
@@ -58,7 +64,9 @@ fn linear(rt: HostRuntime) -> Result<(), Fail> {
 
 #[test]
 fn full(rt: HostRuntime) -> Result<(), Fail> {
-    let (table, mut caller) = create::<Eight>(rt.alloc())?;
+    let Ok((table, mut caller)) = create::<Eight>(rt.alloc()) else {
+        return refused();
+    };
     const KEYS: [u32; 16] = [
         0, 8, 16, 24, 32, 40, 48, 56, 64, 72, 80, 88, 96, 104, 112, 120,
     ];
@@ -74,7 +82,9 @@ fn full(rt: HostRuntime) -> Result<(), Fail> {
 
 #[test]
 fn linear_at_the_limit(rt: HostRuntime) -> Result<(), Fail> {
-    let (table, mut caller) = create::<Tiny<9, 1000>>(rt.alloc())?;
+    let Ok((table, mut caller)) = create::<Tiny<9, 1000>>(rt.alloc()) else {
+        return refused();
+    };
     assert!(rt; fill(&table, &mut caller, &[0, 4, 8, 12, 16, 24, 32]));
     assert_eq!(rt; block(&table, &mut caller, 0), (6, 2, true));
     assert!(rt; has(&table, &mut caller, &[0, 4, 8, 12, 16, 24, 32]));
@@ -83,7 +93,9 @@ fn linear_at_the_limit(rt: HostRuntime) -> Result<(), Fail> {
 
 #[test]
 fn no_pages_at_the_limit(rt: HostRuntime) -> Result<(), Fail> {
-    let (table, mut caller) = create::<Eight>(rt.alloc())?;
+    let Ok((table, mut caller)) = create::<Eight>(rt.alloc()) else {
+        return refused();
+    };
     assert!(rt; fill(&table, &mut caller, &[0, 4, 8, 12, 16, 24]));
     const REFUSED: [Row; 1] = [(Add(32), [32, 0], NoPages { log2: 2, left: 3 }, (0, 6))];
     assert_eq!(rt; first_wrong(&table, &mut caller, &REFUSED), None);
@@ -93,7 +105,9 @@ fn no_pages_at_the_limit(rt: HostRuntime) -> Result<(), Fail> {
 
 #[test]
 fn pages_used_up(rt: HostRuntime) -> Result<(), Fail> {
-    let (table, mut caller) = create::<Tiny<2, 1000>>(rt.alloc())?;
+    let Ok((table, mut caller)) = create::<Tiny<2, 1000>>(rt.alloc()) else {
+        return refused();
+    };
     assert!(rt; fill(&table, &mut caller, &[0, 2, 4, 6, 1]));
     assert_eq!(rt; block(&table, &mut caller, 1), (2, 0, false));
     const REMOVED: [Row; 1] = [(Remove, [1, 0], Changed(Some(1)), (1, 2))];
@@ -110,7 +124,9 @@ fn pages_used_up(rt: HostRuntime) -> Result<(), Fail> {
 
 #[test]
 fn worn(rt: HostRuntime) -> Result<(), Fail> {
-    let (table, mut caller) = create::<Tiny<8, 3>>(rt.alloc())?;
+    let Ok((table, mut caller)) = create::<Tiny<8, 3>>(rt.alloc()) else {
+        return refused();
+    };
     const ROWS: [Row; 10] = [
         (Add(7), [0, 0], Changed(None), (0, 1)),
         (Add(8), [0, 0], Changed(Some(7)), (0, 2)),

@@ -3,7 +3,7 @@ ghost use Rattle.std.specs.Prelude.{◌≡◌};
 ghost use Rattle.bihash_rule.specs.Views.{nothing_held};
 
 use super::Call::{Add, Remove, Search};
-use super::{Eight, Row, block, first_wrong, two_callers};
+use super::{Eight, Row, block, first_wrong, refused, two_callers};
 use bihash_steps::Event;
 use bihash_table::{Caller, Sessions};
 use bihash_words::Reply::{Changed, Kept};
@@ -25,12 +25,12 @@ fn gives_page_away(table: &Sessions<Eight>, caller: &mut Caller<Eight>) -> bool
 }
 
 // The second caller reads the key in page 1, which is bucket 0's, and the value when the first one gave the page away.
-// Whether that is refused as an answer.
+// Whether that is refused as an answer. `None`: bucket 0 doesn't have the key in page 1, or the page stays where it is.
 fn refuses_moved_page(
     table: &Sessions<Eight>,
     first: &mut Caller<Eight>,
     second: &mut Caller<Eight>,
-) -> Result<bool, Fail>
+) -> Option<bool>
     requires own { (first.old.seat.row ≡ table.now.row) × (second.old.seat.row ≡ table.now.row) }
     requires free { (first.old.seat.view.holds ≡ nothing_held) × (second.old.seat.view.holds ≡ nothing_held) }
     ensures own { (first.new.seat.row ≡ table.now.row) × (second.new.seat.row ≡ table.now.row) }
@@ -41,25 +41,25 @@ fn refuses_moved_page(
     let key = [0, 0];
     let word = row.load_bucket(seat, 0);
     if word.locked() {
-        return Err("bucket 0 is locked")?;
+        return None;
     }
     if word.page() != 1 {
-        return Err("bucket 0 does not have page 1")?;
+        return None;
     }
     let low = row.load_open(seat, 1, 0);
     let high = row.load_open(seat, 1, 1);
     if low != 0 {
-        return Err("the first place does not have the key")?;
+        return None;
     }
     if high != 0 {
-        return Err("the first place does not have the key")?;
+        return None;
     }
     if !gives_page_away(table, first) {
-        return Err("page 1 stays where it is")?;
+        return None;
     }
     let value = row.load_open(seat, 1, 2);
     if value != 9 {
-        return Err("page 1 does not have the other pair")?;
+        return None;
     }
     let event = Event {
         key: &key,
@@ -67,17 +67,22 @@ fn refuses_moved_page(
         change: Change::Keep,
         reply: Reply::Kept(Some(value)),
     };
-    Ok(!row.validate(seat, 0, word, &event) && seat.stamp().is_none())
+    Some(!row.validate(seat, 0, word, &event) && seat.stamp().is_none())
 }
 
 // Bucket 0 has page 1. The second caller reads the key there, the first one removes the pair and adds one to
 // bucket 1, which takes page 1, and the second caller reads the value that is there then. It is no answer.
 #[test]
 fn read_across_a_moved_page(rt: HostRuntime) -> Result<(), Fail> {
-    let (table, mut first, mut second) = two_callers::<Eight>(rt.alloc())?;
+    let Some((table, mut first, mut second)) = two_callers::<Eight>(rt.alloc()) else {
+        return refused();
+    };
     const ADDED: [Row; 1] = [(Add(7), [0, 0], Changed(None), (0, 1))];
     assert_eq!(rt; first_wrong(&table, &mut first, &ADDED), None);
-    assert!(rt; refuses_moved_page(&table, &mut first, &mut second)?);
+    assert_eq!(rt;
+        refuses_moved_page(&table, &mut first, &mut second),
+        Some(true)
+    );
     const FOUND: [Row; 2] = [
         (Search, [0, 0], Kept(None), (0, 2)),
         (Search, [1, 0], Kept(Some(9)), (1, 1)),

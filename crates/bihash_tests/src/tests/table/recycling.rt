@@ -4,7 +4,7 @@ ghost use Rattle.std.specs.Thread.{IsSync};
 ghost use Rattle.bihash_rule.specs.Views.{nothing_held};
 
 use super::Call::Search;
-use super::{Eight, Row, block, fill, first_wrong, has, two_callers};
+use super::{Eight, Row, block, fill, first_wrong, has, refused, two_callers};
 use bihash_table::{Caller, Contended, Sessions, create, stamp};
 use bihash_words::Reply::{Changed, Full, Kept};
 use bihash_words::{Add, Expiry, Reply};
@@ -54,7 +54,9 @@ const KEYS: [u32; 16] = [0, 2, 4, 6, 8, 10, 12, 14, 16, 18, 20, 22, 24, 26, 28, 
 
 #[test]
 fn recycled_pair(rt: HostRuntime) -> Result<(), Fail> {
-    let (table, mut caller) = create::<Eight>(rt.alloc())?;
+    let Ok((table, mut caller)) = create::<Eight>(rt.alloc()) else {
+        return refused();
+    };
     let caller = &mut caller;
     assert!(rt; fill(&table, caller, &KEYS));
     assert_eq!(rt; enter(&table, caller, 32, &TwoAndFour), Ok(Changed(None)));
@@ -86,7 +88,9 @@ impl Expiry for BelowHundred {
 // of these go, and nothing else does.
 #[test]
 fn two_recyclers(rt: HostRuntime) -> Result<(), Fail> {
-    let (table, mut first, second) = two_callers::<Eight>(rt.alloc())?;
+    let Some((table, mut first, second)) = two_callers::<Eight>(rt.alloc()) else {
+        return refused();
+    };
     assert!(rt; fill(&table, &mut first, &KEYS));
     let (mut both, all_new) = recycle_both(&rt, &table, first, second);
     assert!(rt; all_new);

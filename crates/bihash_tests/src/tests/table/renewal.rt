@@ -1,9 +1,9 @@
 //! Tables that are opened again: with versions used up, under a stranger, and after as many callers as there may be.
-ghost use Rattle.std.specs.Prelude.{◌≡◌, IfOk};
+ghost use Rattle.std.specs.Prelude.{◌≡◌, IfSome};
 ghost use Rattle.bihash_rule.specs.Views.{nothing_held};
 
 use super::Call::{Add, Search, Touch};
-use super::{Eight, Row, ends_with, first_wrong, renew, two_callers};
+use super::{Eight, Row, ends_with, first_wrong, refused, renew, two_callers};
 use bihash_table::{Caller, RenewFault, Sessions, create, stamp};
 use bihash_words::Reply::{Changed, Kept, Worn};
 use bihash_words::Tiny;
@@ -13,7 +13,9 @@ use std::test::Fail;
 // A bucket whose writes are used up takes writes again, and its pairs are there.
 #[test]
 fn renewed_worn_table(rt: HostRuntime) -> Result<(), Fail> {
-    let (table, mut caller) = create::<Tiny<8, 3>>(rt.alloc())?;
+    let Ok((table, mut caller)) = create::<Tiny<8, 3>>(rt.alloc()) else {
+        return refused();
+    };
     const WORN: [Row; 5] = [
         (Add(7), [0, 0], Changed(None), (0, 1)),
         (Add(8), [0, 0], Changed(Some(7)), (0, 2)),
@@ -22,7 +24,9 @@ fn renewed_worn_table(rt: HostRuntime) -> Result<(), Fail> {
         (Add(10), [0, 0], Worn(Some(9)), (0, 3)),
     ];
     assert_eq!(rt; first_wrong(&table, &mut caller, &WORN), None);
-    let (table, mut caller) = renew(rt.alloc(), table, caller)?;
+    let Some((table, mut caller)) = renew(rt.alloc(), table, caller) else {
+        return refused();
+    };
     assert_eq!(rt; stamp(&caller), None);
     const RENEWED: [Row; 4] = [
         (Search, [0, 0], Kept(Some(9)), (0, 0)),
@@ -31,41 +35,49 @@ fn renewed_worn_table(rt: HostRuntime) -> Result<(), Fail> {
         (Search, [1, 0], Kept(Some(5)), (1, 0)),
     ];
     assert_eq!(rt; first_wrong(&table, &mut caller, &RENEWED), None);
-    let (table, mut caller) = renew(rt.alloc(), table, caller)?;
+    let Some((table, mut caller)) = renew(rt.alloc(), table, caller) else {
+        return refused();
+    };
     assert_eq!(rt; stamp(&caller), None);
     const AGAIN: [Row; 1] = [(Search, [0, 0], Kept(Some(10)), (0, 0))];
     assert_eq!(rt; first_wrong(&table, &mut caller, &AGAIN), None);
     Ok(())
 }
 
-// The table, which can't be renewed while there is the second caller, and both callers joined.
+// The table, which can't be renewed while there is the second caller, and both callers joined. `None`: it was renewed.
 fn stays_worn(
     alloc: Global,
     table: Sessions<Eight>,
     first: Caller<Eight>,
     second: Caller<Eight>,
-) -> Result<(Sessions<Eight>, Caller<Eight>), Fail>
+) -> Option<(Sessions<Eight>, Caller<Eight>)>
     requires own { (first.seat.row ≡ table.row) × (second.seat.row ≡ table.row) }
     requires free { (first.seat.view.holds ≡ nothing_held) × (second.seat.view.holds ≡ nothing_held) }
-    ensures own { IfOk result (λ r. r.1.seat.row ≡ r.0.row) }
-    ensures free { IfOk result (λ r. r.1.seat.view.holds ≡ nothing_held) }
+    ensures own { IfSome result (λ r. r.1.seat.row ≡ r.0.row) }
+    ensures free { IfSome result (λ r. r.1.seat.view.holds ≡ nothing_held) }
 {
     match table.renew(alloc, first) {
         Err((RenewFault::Strangers, table, first)) => {
             let both = table.join(first, second);
-            Ok((table, both))
+            Some((table, both))
         }
-        _ => Err("the table was renewed under a stranger")?,
+        _ => None,
     }
 }
 
 #[test]
 fn renew_strangers(rt: HostRuntime) -> Result<(), Fail> {
-    let (table, mut first, second) = two_callers::<Eight>(rt.alloc())?;
+    let Some((table, mut first, second)) = two_callers::<Eight>(rt.alloc()) else {
+        return refused();
+    };
     const ADDED: [Row; 1] = [(Add(5), [2, 0], Changed(None), (0, 1))];
     assert_eq!(rt; first_wrong(&table, &mut first, &ADDED), None);
-    let (table, both) = stays_worn(rt.alloc(), table, first, second)?;
-    let (table, caller) = renew(rt.alloc(), table, both)?;
+    let Some((table, both)) = stays_worn(rt.alloc(), table, first, second) else {
+        return refused();
+    };
+    let Some((table, caller)) = renew(rt.alloc(), table, both) else {
+        return refused();
+    };
     assert!(rt; ends_with(rt.alloc(), table, caller, &[([2, 0], 5)]));
     Ok(())
 }
@@ -73,14 +85,18 @@ fn renew_strangers(rt: HostRuntime) -> Result<(), Fail> {
 // As many callers as a table may have are joined, and the renewed table has as many numbers left.
 #[test]
 fn renew_after_many_callers(rt: HostRuntime) -> Result<(), Fail> {
-    let (table, mut caller) = create::<Eight>(rt.alloc())?;
+    let Ok((table, mut caller)) = create::<Eight>(rt.alloc()) else {
+        return refused();
+    };
     'splits: for _ in 1..64u32 {
         let Ok((old, new)) = table.split(rt.alloc(), caller) else {
-            return Err("a split was refused")?;
+            return refused();
         };
         caller = table.join(old, new);
     }
-    let (table, caller) = renew(rt.alloc(), table, caller)?;
+    let Some((table, caller)) = renew(rt.alloc(), table, caller) else {
+        return refused();
+    };
     assert!(rt; table.split(rt.alloc(), caller).is_ok());
     Ok(())
 }

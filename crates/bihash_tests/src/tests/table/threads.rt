@@ -5,7 +5,7 @@ ghost use Rattle.bihash_words.specs.declared.patch.Change.TheVariants.{Keep};
 ghost use Rattle.bihash_rule.specs.Views.{nothing_held};
 
 use super::Call::{Add, Search};
-use super::{Eight, Row, answer, first_wrong, two_callers};
+use super::{Eight, Row, answer, first_wrong, refused, two_callers};
 use bihash_table::{Caller, Sessions};
 use bihash_words::Reply::{Changed, Kept};
 use bihash_words::{Change, Patch, Reply, Tiny};
@@ -23,7 +23,9 @@ type OnePage = Tiny<1, 100000>;
 // Each of two threads writes a key of one bucket a thousand times.
 #[test]
 fn two_writers(rt: HostRuntime) -> Result<(), Fail> {
-    let (table, first, second) = two_callers::<Deep>(rt.alloc())?;
+    let Some((table, first, second)) = two_callers::<Deep>(rt.alloc()) else {
+        return refused();
+    };
     let (mut both, all_changed) = write_both(&rt, &table, first, second);
     assert!(rt; all_changed);
     const FOUND: [Row; 2] = [
@@ -113,7 +115,9 @@ impl Patch for KeepsLate {
 // While an update decides to keep what it found, a search of the same key is answered: neither has a lock.
 #[test]
 fn kept_beside_read(rt: HostRuntime) -> Result<(), Fail> {
-    let (table, mut first, second) = two_callers::<Eight>(rt.alloc())?;
+    let Some((table, mut first, second)) = two_callers::<Eight>(rt.alloc()) else {
+        return refused();
+    };
     const ADDED: [Row; 1] = [(Add(7), [0, 0], Changed(None), (0, 1))];
     assert_eq!(rt; first_wrong(&table, &mut first, &ADDED), None);
     let patch = KeepsLate {
@@ -157,9 +161,11 @@ const ROUNDS: u32 = 10_000;
 // The only page of a table goes from bucket to bucket while a third caller searches both.
 #[test]
 fn page_given_away_under_readers(rt: HostRuntime) -> Result<(), Fail> {
-    let (table, first, second) = two_callers::<OnePage>(rt.alloc())?;
+    let Some((table, first, second)) = two_callers::<OnePage>(rt.alloc()) else {
+        return refused();
+    };
     let Ok((second, third)) = table.split(rt.alloc(), second) else {
-        return Err("the split was refused")?;
+        return refused();
     };
     let (mut all, as_written) = write_and_read(&rt, &table, first, second, third);
     assert!(rt; as_written);

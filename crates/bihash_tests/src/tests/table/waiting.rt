@@ -2,7 +2,7 @@
 ghost use Rattle.std.specs.Prelude.{◌≡◌};
 ghost use Rattle.bihash_rule.specs.Views.{nothing_held};
 
-use super::{Call, Eight, Row, first_wrong, two_callers};
+use super::{Call, Eight, Row, first_wrong, refused, two_callers};
 use bihash_table::{Caller, Sessions, create, stamp};
 use bihash_words::Reply::{Changed, Kept};
 use bihash_words::{Add, AddIfAbsent, Delete, Reply, Touch};
@@ -90,7 +90,9 @@ fn first_wrong_waiting<R: Wait>(
 
 #[test]
 fn fixed_calls(rt: HostRuntime) -> Result<(), Fail> {
-    let (table, mut caller) = create::<Eight>(rt.alloc())?;
+    let Ok((table, mut caller)) = create::<Eight>(rt.alloc()) else {
+        return refused();
+    };
     const ROWS: [Row; 11] = [
         (Call::Touch(6), [0, 0], Kept(None), (0, 0)),
         (Call::AddIfAbsent(7), [0, 0], Changed(None), (0, 1)),
@@ -113,7 +115,9 @@ fn fixed_calls(rt: HostRuntime) -> Result<(), Fail> {
 
 #[test]
 fn updates_by_each_fixed_patch(rt: HostRuntime) -> Result<(), Fail> {
-    let (table, mut caller) = create::<Eight>(rt.alloc())?;
+    let Ok((table, mut caller)) = create::<Eight>(rt.alloc()) else {
+        return refused();
+    };
     const ROWS: [Row; 10] = [
         (Call::Touch(2), [1, 5], Kept(None), (1, 0)),
         (Call::Remove, [1, 5], Kept(None), (1, 0)),
@@ -133,26 +137,11 @@ fn updates_by_each_fixed_patch(rt: HostRuntime) -> Result<(), Fail> {
     Ok(())
 }
 
-// Two callers that know the same writes of every bucket afterwards.
-fn met(
-    table: &Sessions<Eight>,
-    first: Caller<Eight>,
-    second: Caller<Eight>,
-) -> (Caller<Eight>, Caller<Eight>)
-    requires own { (first.seat.row ≡ table.now.row) × (second.seat.row ≡ table.now.row) }
-    requires free { (first.seat.view.holds ≡ nothing_held) × (second.seat.view.holds ≡ nothing_held) }
-    ensures own { (result.0.seat.row ≡ table.now.row) × (result.1.seat.row ≡ table.now.row) }
-    ensures free { (result.0.seat.view.holds ≡ nothing_held) × (result.1.seat.view.holds ≡ nothing_held) }
-    ensures same { result.0.seat.view.known.writes ≡ result.1.seat.view.known.writes }
-    ensures records { (result.0.seat.view.records ≡ first.seat.view.records)
-        × (result.1.seat.view.records ≡ second.seat.view.records) }
-{
-    table.meet(first, second)
-}
-
 #[test]
 fn callers_that_met_keep_their_stamps(rt: HostRuntime) -> Result<(), Fail> {
-    let (table, mut first, mut second) = two_callers::<Eight>(rt.alloc())?;
+    let Some((table, mut first, mut second)) = two_callers::<Eight>(rt.alloc()) else {
+        return refused();
+    };
     const BY_FIRST: [Row; 1] = [(Call::Add(7), [0, 0], Changed(None), (0, 1))];
     assert_eq!(rt; first_wrong(&table, &mut first, &BY_FIRST), None);
     const BY_SECOND: [Row; 2] = [
@@ -160,7 +149,7 @@ fn callers_that_met_keep_their_stamps(rt: HostRuntime) -> Result<(), Fail> {
         (Call::Add(8), [1, 0], Changed(Some(9)), (1, 2)),
     ];
     assert_eq!(rt; first_wrong(&table, &mut second, &BY_SECOND), None);
-    let (mut first, mut second) = met(&table, first, second);
+    let (mut first, mut second) = table.meet(first, second);
     assert_eq!(rt;
         (stamp(&first), stamp(&second)),
         (Some((0, 1)), Some((1, 2)))
