@@ -280,8 +280,7 @@ fn packets_of_parts_are_numbered_on(rt: HostRuntime) -> Result<(), Fail> {
         before: AtomicU64::new(0),
         after: AtomicU64::new(0),
     };
-    let Ok((found, four, others)) =
-        verdicts_on_parts(&rt, alloc, &filter, &gate, &first, &second)
+    let Ok((found, four, others)) = verdicts_on_parts(&rt, alloc, &filter, &gate, &first, &second)
     else {
         return refused();
     };

@@ -179,13 +179,15 @@ const SIX: [([u64; 5], u64); 2] = [
     ),
 ];
 
-const LINES: &str = "session interface 0 udp 10.0.0.1 port 1000 and 10.0.0.2 port 53 last 100 until 700\n\
+const LINES: &str =
+    "session interface 0 udp 10.0.0.1 port 1000 and 10.0.0.2 port 53 last 100 until 700\n\
     session interface 0 tcp 10.0.0.1 port 40000 flags 12 and 10.0.0.2 port 80 flags 12 last 1700000000 until 1700003600\n\
     session interface 2 icmp 10.0.0.3 and 10.0.0.1 last 50 until 650\n\
     session interface 255 udp ::1 port 5353 and 2001:db8::1 port 53 last 4294967295 until 4294967895\n\
     session interface 0 tcp ::1 port 65535 flags 02 and 2001:db8::1 port 22 flags 00 last 7 until 127\n";
 
-const OBJECTS: &str = "{\"interface\":0,\"protocol\":17,\"ends\":[{\"address\":\"10.0.0.1\",\"port\":1000},\
+const OBJECTS: &str =
+    "{\"interface\":0,\"protocol\":17,\"ends\":[{\"address\":\"10.0.0.1\",\"port\":1000},\
     {\"address\":\"10.0.0.2\",\"port\":53}],\"last\":100,\"until\":700}\n\
     {\"interface\":0,\"protocol\":6,\"ends\":[{\"address\":\"10.0.0.1\",\"port\":40000,\"flags\":18},\
     {\"address\":\"10.0.0.2\",\"port\":80,\"flags\":18}],\"last\":1700000000,\"until\":1700003600}\n\
