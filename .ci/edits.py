@@ -46,6 +46,7 @@ pub {name}_spec : {{M : Type 1}} → statement M
 {name}_spec = ?
 """
 PROOF_FILES = ("Answers.antt", "Invariants.antt", "Proof.antt")
+RESERVED = re.compile(r"^(?:\./)?(proofs/\S+?): error\[reserved-name\]", re.M)
 UNREAD = re.compile(r"^(?:\./)?(?:src|specs)/\S+:\d+:\d+: error.*|^error(?:\[.*|:.*)", re.M)
 
 
@@ -229,7 +230,7 @@ class Trial:
     """A crate whose edits are tried."""
 
     def __init__(self, rt, crate, wanted):
-        self.rt, self.crate, self.sources = rt, crate, Sources(crate.folder)
+        self.rt, self.crate, self.sources, self.proved_together = rt, crate, Sources(crate.folder), set()
         folder = f"{crate.folder}/{EDITS}"
         names = sorted(os.listdir(folder)) if os.path.isdir(folder) else []
         self.edits = [Edit(f"{folder}/{it}", self.sources) for it in names
@@ -253,6 +254,17 @@ class Trial:
     def check(self, edits, kept, wanted):
         """What the check of the wanted functions says in a copy with these edits, over what earlier ones left in `kept`; of
         all where none is given. And the copy's functions."""
+        while True:
+            status, said, sources, left_open = self.check_copy(edits, kept, wanted)
+            # functions that call one another, closures too, have one proof, and none in the place of each
+            taken = {it for it in RESERVED.findall(said) if it in left_open}
+            if not taken:
+                said = [it for it in said.splitlines(True) if not it.removeprefix("./").startswith(left_open)]
+                return status, "".join(said), sources
+            self.proved_together |= taken
+
+    def check_copy(self, edits, kept, wanted):
+        """The same, with all that is said, and the files of proofs that were left open."""
         with tempfile.TemporaryDirectory() as room:
             for part in self.rt.rtlib.PARTS:
                 if os.path.isdir(f"{self.crate.folder}/{part}"):
@@ -266,8 +278,7 @@ class Trial:
             ran = subprocess.run([self.rt.rtlib.RATTLE, "check", *words, "--incremental", kept], cwd=room,
                                  stdin=subprocess.DEVNULL, stdout=subprocess.PIPE, stderr=subprocess.STDOUT,
                                  text=True, errors="replace")
-        said = [it for it in ran.stdout.splitlines(True) if not it.removeprefix("./").startswith(left_open)]
-        return ran.returncode, "".join(said), sources
+        return ran.returncode, ran.stdout, sources, left_open
 
     def leave_open(self, room, sources, wanted):
         """Leaves open, in a copy of the crate, the proofs of all other functions, but where a trait says the contract, and
@@ -278,6 +289,8 @@ class Trial:
                 continue
             path = it.path(sources.types)
             folder = f"proofs/{path.replace('::', '/')}"
+            if f"{folder}/Proof.antt" in self.proved_together:
+                continue
             for name in PROOF_FILES:
                 if os.path.exists(f"{room}/{folder}/{name}"):
                     os.remove(f"{room}/{folder}/{name}")
