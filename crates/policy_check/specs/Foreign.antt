@@ -2,7 +2,9 @@
 -- of its destination and that of its source; the first bit of an address that is sent is set where it is that of a group).
 use Rattle.std.specs.Prelude.{◌≡◌, ◌⊎◌, ℕ, ◌%◌, List, ◌∷◌, take, drop, All, Any, Some}
 use Rattle.packet_view.specs.Captures.{AreRecords, HasFileHeader, PacketFacts, RecordFacts, packets_at}
+use Rattle.packet_view.specs.Fronts.{Stops}
 use Rattle.packet_view.specs.declared.capture.Order.{Order}
+use Rattle.packet_view.specs.declared.front.Stop.{Stop}
 use Rattle.packet_view.specs.declared.tuple.Mac.{Mac}
 use Rattle.acl_policy.specs.Policies.{SectionFacts}
 
@@ -20,7 +22,7 @@ pub record AreForeign (own : List ℕ) (packets : List PacketFacts) : Type 0 whe
   pub none : All (λ packet. IsOf own packet.frame → ⊥) packets
 
 -- The section has an own address. Its interface, of this number, has a capture that begins so, and this is so of the packets
--- of its first records.
+-- of all records that stand whole in these bytes.
 pub record IsForeignOf (section : SectionFacts) (front : List ℕ) (number : ℕ) : Type 0 where
   pub same : number ≡ section.interface
   pub own : Mac
@@ -30,4 +32,6 @@ pub record IsForeignOf (section : SectionFacts) (front : List ℕ) (number : ℕ
   pub records : List RecordFacts
   pub rest : List ℕ
   pub are : AreRecords order (drop 24 front) records rest
+  pub stop : Stop
+  pub ends : Stops order rest stop
   pub foreign : AreForeign own.0 (packets_at number records)

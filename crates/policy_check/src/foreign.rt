@@ -49,8 +49,8 @@ fn are_foreign(own: Mac, packets: Packets<'_>) -> bool
     some
 }
 
-/// That the frames at the front of the capture of a section's interface have nothing to do with the address of its `mac` line,
-/// though one at least is for one station. None where that isn't so.
+/// That the frames that stand whole in these first bytes of the capture of a section's interface have nothing to do with the
+/// address of its `mac` line, though one at least is for one station. Where None is answered nothing is said.
 pub fn foreign_mac(section: &Section, front: &[u8]) -> Option<ForeignMac>
     ensures { IfSome result (λ told. IsForeignOf (section_facts section.now) front.now told.0) }
 {

@@ -200,18 +200,19 @@ fn status_of_live<T: Wait>(
         &mut writer,
     );
     let status = say_ending(rt, &ending(&outcome))?;
-    let seen = Seen {
-        interface: 0,
-        front: reader.inner.front(),
-    };
-    say_foreign(rt, alloc, files.policy, text.as_slice(), &[seen]);
     if let Some(hint) = hint(&outcome, text.as_slice()) {
         rt.eprintln(&hint)?;
     }
-    if let Some(other) = remark(&outcome, reader.inner.front()) {
+    let front = reader.inner.front();
+    if let Some(other) = remark(&outcome, front) {
         let name = files.capture;
         rt.eprintln(&Remark { name, other })?;
     }
+    let seen = Seen {
+        interface: 0,
+        front,
+    };
+    say_foreign(rt, alloc, files.policy, text.as_slice(), &[seen]);
     Ok(status)
 }
 

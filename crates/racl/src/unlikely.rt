@@ -31,8 +31,8 @@ pub fn say_unlooked(rt: &HostRuntime, alloc: Global, name: &str, text: &[u8]) {
     }
 }
 
-/// Says of each capture whose first frames have nothing to do with the own address of their interface that this is so, where
-/// `say_unlooked` says something.
+/// Says of each capture whose first frames have nothing to do with the own address of their interface that this is so.
+/// Nothing is said where `say_unlooked` could say nothing.
 pub fn say_foreign(rt: &HostRuntime, alloc: Global, name: &str, text: &[u8], seen: &[Seen<'_>]) {
     let Some(checked) = checked(alloc, text) else {
         return;

@@ -79,7 +79,7 @@ has_ports proto = (proto == 6) || (proto == 17)
 abbrev pub port_told : View → ℕ → ℕ → List ℕ
 port_told view proto port = if has_ports proto then numbered (by_view view (codes " port ") (codes ",\"port\":")) port else []
 
--- the flags that the end sent
+-- the flags that are kept of the end
 abbrev pub end_flags : View → ℕ → ℕ → List ℕ
 end_flags view proto flags = if is_tcp proto then flags_told view flags else []
 
@@ -92,7 +92,7 @@ abbrev pub flow_told : View → FlowFacts → List ℕ
 flow_told view flow = numbered (by_view view (codes "session interface ") (codes "{\"interface\":")) flow.interface
     ++ protocol_told view flow.family flow.proto
 
--- the second of the last packet, and the last second in which the session is live
+-- the latest second of its packets, and the last second in which the session is live
 abbrev pub seconds_told : View → Timeouts → SessionFacts → List ℕ
 seconds_told view times session = numbered (by_view view (codes " last ") (codes "}],\"last\":")) session.last
     ++ (numbered (by_view view (codes " until ") (codes ",\"until\":")) (live_until session times) ++ line_end view)

@@ -175,7 +175,7 @@ fn text_of(
 
 /// What is told of hits: for each rule of the policy's text its interface, direction and number, its line and how many packets
 /// it decided; for each verdict that is no rule's how many packets have it; and how many sessions were entered, how many packets
-/// they let through, and how many have expired by the latest second of any packet. These are the sessions that the tables hold
+/// they let through, and how many have expired by the latest second of any packet. `stored` has the sessions that the tables hold
 /// after the run. An `Err` says that memory ran out.
 pub fn hits_text(
     alloc: Global,

@@ -34,7 +34,7 @@ fn push_port(piece: &mut Piece, view: View, proto: u8, port: u16)
     }
 }
 
-// The flags that an end sent, where the protocol has flags.
+// The flags that are kept of an end, where the protocol has flags.
 fn push_end_flags(piece: &mut Piece, view: View, proto: u8, flags: u8)
     requires { length piece.old + 34 ≤ 262144 }
     ensures text { piece.new ≡ piece.old ++ line.end_flags view proto flags }
@@ -77,7 +77,7 @@ fn live_until(times: &Timeouts, session: &Session) -> u64
     u64::from(session.last()) + u64::from(session.timeout(times))
 }
 
-// The second of the last packet, and the last second in which the session is live.
+// The latest second of its packets, and the last second in which the session is live.
 fn push_seconds(piece: &mut Piece, view: View, times: &Timeouts, session: &Session)
     requires { length piece.old + 90 ≤ 262144 }
     ensures text { piece.new ≡ piece.old ++ line.seconds_told view times.now session.now }
@@ -171,8 +171,8 @@ fn push_six(
 }
 
 /// What is told of the sessions that the tables hold, a line or an object for each, in the order of their keys, those of IPv4
-/// first: the ends of its flow, the TCP flags that each sent, the second of its last packet, and the last second in which it is
-/// live. An `Err` says that memory ran out.
+/// first: the ends of its flow, the TCP flags that are kept of each, the latest second of its packets, and the last second in which
+/// it is live. An `Err` says that memory ran out.
 pub fn sessions_text(
     alloc: Global,
     view: View,

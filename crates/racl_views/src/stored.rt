@@ -1,7 +1,7 @@
 //! The sessions that stand in tables.
 
-/// The pairs of the tables of both families: the words of a flow's key, and the word of its session. The keys of each
-/// ascend, first word first.
+/// The pairs of the tables of both families: the words of a flow's key, and the word of its session. They are told
+/// in this order.
 #[derive(Drop)]
 pub struct StoredPairs {
     pub four: Vec<([u64; 2], u64)>,

@@ -18,6 +18,8 @@ returns-then-are_foreign c =
       records = records;
       rest = c.front_records-first.result.rest.now;
       are = subst (λ bytes. AreRecords c.in-Ok.order bytes records c.front_records-first.result.rest.now) all c.front_records-first.ensures.records;
+      stop = c.front_records-first.result.stop;
+      ends = c.front_records-first.ensures.stop;
       foreign = subst (λ number. AreForeign c.in-Some.own.0 (packets_at number records)) c.front_records-first.ensures.at
           (c.are_foreign.ensures c.if-are_foreign.true);
     }
