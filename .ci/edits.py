@@ -55,6 +55,14 @@ def module_of(inside):
     return "::".join(it for it in inside.split("/") if it not in ("lib", "mod"))
 
 
+def line_of(text, at):
+    """The line of what stands at a place, with the attributes above it: there a check places goals."""
+    above = text[:at].split("\n")[:-1]
+    while above and above[-1].lstrip().startswith("#["):
+        above.pop()
+    return len(above) + 1
+
+
 class Function:
     """A function of a source file, with the text up to the next one."""
 
@@ -62,7 +70,7 @@ class Function:
         self.name, self.file, self.text = found[1], file, text[found.start():end]
         self.start, self.end = found.start(), end
         # its lines, for goals that are told by where they are
-        self.first, self.last = text.count("\n", 0, found.start()) + 1, text.count("\n", 0, end) + 1
+        self.first, self.last = line_of(text, found.start()), line_of(text, end) - (end < len(text))
         self.inside = file[len("src/"):-len(".rt")]
         blocks = [*BLOCK.finditer(text, 0, found.start())]
         self.block = blocks[-1][1] if blocks else None
