@@ -8,7 +8,7 @@ use std::alloc::AllocFailed;
 use thiserror::Error;
 
 /// What a policy says of one interface: its own address, and the rules of each direction in their order.
-#[derive(Debug, Drop)]
+#[derive(Drop)]
 pub struct Section {
     /// The number of the interface.
     pub interface: u8,
@@ -20,7 +20,7 @@ pub struct Section {
 }
 
 /// What a policy says of each interface that it names, and of interface 0.
-#[derive(Debug, Drop)]
+#[derive(Drop)]
 pub struct Policy {
     pub sections: Vec<Section>,
 }

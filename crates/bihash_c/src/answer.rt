@@ -55,7 +55,7 @@ pub struct Answer {
 
 /// The bucket and the stamp of a call. `known` is 0 before the first.
 #[repr(C)]
-#[derive(Clone, Copy, Debug, PartialEq, Eq)]
+#[derive(Clone, Copy)]
 pub struct Stamp {
     pub known: u32,
     pub bucket: u64,

@@ -6,7 +6,7 @@ use bihash_words::Expiry;
 
 /// Those values whose bits that `mask` has are, as a number, below `least`.
 #[repr(C)]
-#[derive(Clone, Copy, Debug, PartialEq, Eq)]
+#[derive(Clone, Copy)]
 pub struct MaskExpiry {
     pub mask: u64,
     pub least: u64,

@@ -3,7 +3,7 @@ ghost use Rattle.bihash_c.specs.Contents.{IsGiven};
 
 /// The words of a key, and its value.
 #[repr(C)]
-#[derive(Clone, Copy, Debug, PartialEq, Eq)]
+#[derive(Clone, Copy)]
 pub struct Pair4 {
     pub key: [u64; 2],
     pub value: u64,

@@ -40,7 +40,7 @@ pub struct Entry {
 }
 
 /// Where the block of a bucket lies: its first page (0: there is no block), and its size.
-#[derive(Clone, Copy, Debug, PartialEq, Eq)]
+#[derive(Clone, Copy)]
 pub struct Extent {
     pub page: u64,
     pub size: BlockSize,

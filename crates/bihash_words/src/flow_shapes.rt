@@ -6,7 +6,7 @@ use crate::hash::hash_words;
 use crate::shape::Shape;
 
 /// The table of IPv4 flows: keys of two words, 4096 buckets, at most 256 pairs in each.
-#[derive(Clone, Copy, Debug, PartialEq, Eq)]
+#[derive(Clone, Copy)]
 pub struct ShapeV4;
 
 impl Shape for ShapeV4 {
@@ -60,7 +60,7 @@ impl Shape for ShapeV4 {
 }
 
 /// The table of IPv6 flows: keys of five words, 1024 buckets, at most 256 pairs in each.
-#[derive(Clone, Copy, Debug, PartialEq, Eq)]
+#[derive(Clone, Copy)]
 pub struct ShapeV6;
 
 impl Shape for ShapeV6 {

@@ -43,7 +43,7 @@ pub trait Patch {
 }
 
 /// Sets the value, whatever was found.
-#[derive(Clone, Copy, Debug, PartialEq, Eq)]
+#[derive(Clone, Copy)]
 pub struct Add {
     pub value: u64,
     pub ghost storable: { value ≢ free_mark },
@@ -58,7 +58,7 @@ impl Patch for Add {
 }
 
 /// Sets the value where there is none, and keeps one that is there.
-#[derive(Clone, Copy, Debug, PartialEq, Eq)]
+#[derive(Clone, Copy)]
 pub struct AddIfAbsent {
     pub value: u64,
     pub ghost storable: { value ≢ free_mark },
@@ -76,7 +76,7 @@ impl Patch for AddIfAbsent {
 }
 
 /// Removes the value.
-#[derive(Clone, Copy, Debug, PartialEq, Eq)]
+#[derive(Clone, Copy)]
 pub struct Delete;
 
 impl Patch for Delete {
@@ -88,7 +88,7 @@ impl Patch for Delete {
 }
 
 /// Sets the value where there is one.
-#[derive(Clone, Copy, Debug, PartialEq, Eq)]
+#[derive(Clone, Copy)]
 pub struct Touch {
     pub value: u64,
     pub ghost storable: { value ≢ free_mark },

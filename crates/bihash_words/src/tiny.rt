@@ -5,7 +5,7 @@ use crate::shape::Shape;
 
 /// A table of `P` pages and two buckets, each of which takes `L` changes and 16 pairs. A key's hash is
 /// its first word.
-#[derive(Clone, Copy, Debug, PartialEq, Eq)]
+#[derive(Clone, Copy)]
 pub struct Tiny<const P: u64, const L: u64>;
 
 impl<const P: u64, const L: u64> Shape for Tiny<P, L> {

@@ -1,7 +1,7 @@
 //! How packets are dealt to workers.
 
 /// How packets are dealt to workers. Each worker judges its packets in the order of the file.
-#[derive(Clone, Copy, Debug, PartialEq, Eq)]
+#[derive(Clone, Copy)]
 pub enum Dealing {
     /// In turn: the packet with number p, from 0, goes to worker p modulo the number of workers.
     Round,

@@ -5,7 +5,7 @@ ghost use Rattle.bihash_words.specs.Hash.{hash_of};
 use bihash_words::{Shape, ShapeV4, ShapeV6};
 
 /// The large table of IPv4 flows: keys of two words, 65,536 buckets, at most 256 pairs in each.
-#[derive(Clone, Copy, Debug, PartialEq, Eq)]
+#[derive(Clone, Copy)]
 pub struct LargeV4;
 
 impl Shape for LargeV4 {
@@ -59,7 +59,7 @@ impl Shape for LargeV4 {
 }
 
 /// The large table of IPv6 flows: keys of five words, 65,536 buckets, at most 256 pairs in each.
-#[derive(Clone, Copy, Debug, PartialEq, Eq)]
+#[derive(Clone, Copy)]
 pub struct LargeV6;
 
 impl Shape for LargeV6 {

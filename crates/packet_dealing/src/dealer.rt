@@ -12,7 +12,7 @@ use packet_view::{Frame, Packet, plain, view};
 use session_state::{Flow, orient, plain_flow};
 
 /// What packets are dealt by.
-#[derive(Clone, Copy, Debug)]
+#[derive(Clone, Copy)]
 pub struct Dealer {
     pub dealing: Dealing,
     pub workers: usize,

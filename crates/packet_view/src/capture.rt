@@ -41,7 +41,7 @@ pub enum Order {
 }
 
 /// What is at the front of the records that are left.
-#[derive(Clone, Copy, Debug)]
+#[derive(Clone, Copy)]
 pub enum Piece<'a> {
     /// A record, and the bytes after it.
     Whole {
@@ -104,7 +104,7 @@ pub struct Capture<'a> {
 }
 
 /// The records of a capture where they stand, and whether it ends inside a record.
-#[derive(Clone, Copy, Debug)]
+#[derive(Clone, Copy)]
 pub struct CheckedCapture<'a> {
     pub records: Records<'a>,
     pub truncated: bool,

@@ -10,7 +10,7 @@ use crate::capture::{Order, Piece, next_record, u32_in};
 use crate::records::Records;
 
 /// Why no more whole records stand at the front.
-#[derive(Clone, Copy, Debug, PartialEq, Eq)]
+#[derive(Clone, Copy, Debug)]
 pub enum Stop {
     /// No byte is left.
     End,
@@ -21,7 +21,7 @@ pub enum Stop {
 }
 
 /// The whole records at the front of some bytes.
-#[derive(Clone, Copy, Debug)]
+#[derive(Clone, Copy)]
 pub struct Front<'a> {
     pub records: Records<'a>,
     /// The bytes behind them.

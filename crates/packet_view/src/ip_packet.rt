@@ -6,7 +6,7 @@ ghost use Rattle.packet_view.specs.IpPackets.{extent};
 use crate::tuple::Family;
 
 /// What follows the headers of an IP packet.
-#[derive(Clone, Copy, Debug)]
+#[derive(Clone, Copy)]
 pub enum Upper<'a> {
     /// A fragment other than the first, by its protocol.
     LaterFragment(u8),
@@ -15,7 +15,7 @@ pub enum Upper<'a> {
 }
 
 /// An IP packet whose headers are right.
-#[derive(Clone, Copy, Debug)]
+#[derive(Clone, Copy)]
 pub struct IpPacket<'a> {
     pub family: Family,
     pub source: u128,

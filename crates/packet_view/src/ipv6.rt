@@ -8,7 +8,7 @@ use crate::tuple::Family;
 use byteorder::{BigEndian, ByteOrder};
 
 /// What stands under a number in the chain of headers.
-#[derive(Clone, Copy, Debug)]
+#[derive(Clone, Copy)]
 enum Header<'a> {
     /// An extension header that is skipped: the next number, and the bytes after the header.
     Skipped(u8, &'a [u8]),

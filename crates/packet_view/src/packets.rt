@@ -7,7 +7,7 @@ use crate::packet::Packet;
 use crate::records::{BURST, Records};
 
 /// Packets that are taken one by one, in their order. A copy has a front of its own.
-#[derive(Clone, Copy, Debug)]
+#[derive(Clone, Copy)]
 pub enum Packets<'a> {
     /// From a list.
     Slice(&'a [Packet<'a>]),

@@ -35,7 +35,7 @@ fn front_of<'a>(bytes: &'a [u8], order: Order, interface: u8, kept: usize) -> (P
 pub(crate) const BURST: usize = 64;
 
 /// Records that are known to be whole, and the bytes after them.
-#[derive(Clone, Copy, Debug)]
+#[derive(Clone, Copy)]
 pub struct Records<'a> {
     pub bytes: &'a [u8],
     pub order: Order,

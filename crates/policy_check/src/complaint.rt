@@ -3,7 +3,7 @@ use crate::reason::Reason;
 use acl_policy::Policy;
 
 /// What is the matter with a line.
-#[derive(Clone, Copy, Debug)]
+#[derive(Clone, Copy)]
 pub struct Complaint<'a> {
     /// The number of the line, from 1.
     pub line: u64,
@@ -13,7 +13,7 @@ pub struct Complaint<'a> {
 }
 
 /// What a check found.
-#[derive(Debug, Drop)]
+#[derive(Drop)]
 pub struct Checked<'a> {
     /// The wrong lines, in their order.
     pub complaints: Vec<Complaint<'a>>,

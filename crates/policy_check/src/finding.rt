@@ -4,7 +4,7 @@ ghost use Rattle.policy_check.specs.declared.reason.Reason.TheVariants.{Missing}
 
 use crate::reason::Reason;
 
-#[derive(Clone, Copy, Debug)]
+#[derive(Clone, Copy)]
 pub struct Finding<'a> {
     pub reason: Reason,
     /// The word, and nothing where the line ends too early.

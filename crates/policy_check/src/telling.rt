@@ -10,7 +10,7 @@ use acl_policy::Policy;
 use std::alloc::{AllocError, Global};
 
 /// The lines that tell what a check found, and whether the text is a policy.
-#[derive(Debug, Drop)]
+#[derive(Drop)]
 pub struct Told {
     pub text: Vec<u8>,
     pub is_policy: bool,

@@ -15,7 +15,7 @@ pub enum Message {
 }
 
 /// How the program ends.
-#[derive(Clone, Copy, Debug, PartialEq, Eq)]
+#[derive(Clone, Copy)]
 pub struct Ending {
     /// What is said on standard error, before a line feed; None where nothing is.
     pub message: Option<Message>,

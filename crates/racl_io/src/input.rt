@@ -26,7 +26,7 @@ enum Marks {
 }
 
 /// The parts of an input.
-#[derive(Clone, Copy, Debug)]
+#[derive(Clone, Copy)]
 pub struct Input<'a> {
     pub policy: &'a [u8],
     pub form: Form,
@@ -34,14 +34,14 @@ pub struct Input<'a> {
 }
 
 /// A marker line with a number, and what follows it.
-#[derive(Clone, Copy, Debug)]
+#[derive(Clone, Copy)]
 pub struct Numbered<'a> {
     pub interface: u8,
     pub content: &'a [u8],
 }
 
 /// The digits of a capture, and what ends them.
-#[derive(Clone, Copy, Debug)]
+#[derive(Clone, Copy)]
 pub struct Digits<'a> {
     pub digits: &'a [u8],
     /// The next marker line with a number; None where the digits end with the input.

@@ -28,7 +28,7 @@ const FEW_LINES: usize = 262_144;
 const BATCH_LINES: usize = 131_072;
 
 /// A capture of an input, as the report tells it.
-#[derive(Clone, Copy, Debug, PartialEq, Eq)]
+#[derive(Clone, Copy)]
 pub struct Captured {
     /// The interface that its lines name, where they name one.
     pub named: Option<u8>,

@@ -59,14 +59,14 @@ pub struct CaptureFile<'a> {
 }
 
 /// The names of a policy's file, and of those of interfaces' captures in the order of the words.
-#[derive(Debug, Drop)]
+#[derive(Drop)]
 pub struct Interfaces<'a> {
     pub policy: &'a str,
     pub captures: Vec<CaptureFile<'a>>,
 }
 
 /// Where an input comes from. The name `-`, which one file at most has, is standard input.
-#[derive(Debug, Drop)]
+#[derive(Drop)]
 pub enum Origin<'a> {
     /// All of it comes from standard input.
     Standard,
@@ -82,7 +82,7 @@ pub struct Saved<'a> {
 }
 
 /// What the words of the command line ask for.
-#[derive(Debug, Drop)]
+#[derive(Drop)]
 pub struct Asked<'a> {
     pub options: Options,
     pub origin: Origin<'a>,

@@ -5,7 +5,7 @@ ghost use Rattle.racl_views.specs.ChosenRecords;
 use flow_filter::Verdict;
 
 /// Packets that are chosen by their verdicts.
-#[derive(Clone, Copy, Debug, PartialEq, Eq)]
+#[derive(Clone, Copy)]
 pub enum Chosen {
     /// Those that pass.
     Passing,

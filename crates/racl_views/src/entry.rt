@@ -4,7 +4,7 @@ use flow_filter::Verdict;
 use packet_view::Frame;
 
 /// What is told of a packet: its verdict, the interface where it was seen, at which second, and what its frame is.
-#[derive(Clone, Copy, Debug)]
+#[derive(Clone, Copy)]
 pub struct Entry {
     pub verdict: Verdict,
     pub interface: u8,

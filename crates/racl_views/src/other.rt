@@ -1,7 +1,7 @@
 //! Verdicts that are no rule's.
 
 /// A verdict that is no rule's.
-#[derive(Clone, Copy, Debug, PartialEq, Eq)]
+#[derive(Clone, Copy)]
 pub enum Other {
     Session,
     ByDefault,

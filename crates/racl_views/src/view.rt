@@ -1,7 +1,7 @@
 //! The forms in which a run is told.
 
 /// In which form a run is told.
-#[derive(Clone, Copy, Debug, PartialEq, Eq)]
+#[derive(Clone, Copy)]
 pub enum View {
     /// Lines of text; those of packets say what these are, and which rule decided.
     Explained,

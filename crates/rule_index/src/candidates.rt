@@ -1,7 +1,7 @@
 //! The rows of bits for one packet.
 
 /// For one packet, a row of each kind: a rule that matches has its bit in all of them.
-#[derive(Clone, Copy, Debug)]
+#[derive(Clone, Copy)]
 pub struct Candidates<'a> {
     pub source: &'a [u64],
     pub dest: &'a [u64],

@@ -7,7 +7,7 @@ mod starts;
 mod turns;
 
 /// For some ranges, which of them may hold a number: a row of bits for each interval of numbers.
-#[derive(Debug, Drop)]
+#[derive(Drop)]
 pub struct Column {
     /// The words of a row.
     width: usize,

@@ -1,7 +1,7 @@
 //! The numbers of a packet that ranges of a rule are about.
 
 /// A number of a packet.
-#[derive(Clone, Copy, Debug, PartialEq, Eq)]
+#[derive(Clone, Copy)]
 pub enum Dimension {
     Source,
     Dest,

@@ -4,7 +4,7 @@ ghost use Rattle.std.specs.Prelude.{◌≡◌, ◌*◌, length};
 mod build;
 
 /// A row of bits for each value of the flags.
-#[derive(Debug, Drop)]
+#[derive(Drop)]
 pub struct FlagRows {
     /// The words of a row.
     width: usize,

@@ -12,7 +12,7 @@ use acl_policy::Rule;
 mod lookup;
 
 /// Rules in their order, and for each number of a packet which of them may match it.
-#[derive(Debug, Drop)]
+#[derive(Drop)]
 pub struct RuleIndex {
     pub rules: Vec<Rule>,
     source: Column,

@@ -8,7 +8,7 @@ use bihash_words::{Change, Patch};
 /// What a packet does to its flow's session. It is made once, on whatever value is stored then.
 ///
 /// A live session is touched. Otherwise a packet that `reflects` starts one, and any other value goes.
-#[derive(Clone, Copy, Debug, PartialEq, Eq)]
+#[derive(Clone, Copy)]
 pub struct PacketPatch {
     /// When the packet came, in seconds.
     pub moment: u32,

@@ -7,7 +7,7 @@ use crate::timeouts::Timeouts;
 use bihash_words::Expiry;
 
 /// Which stored words are expired at a moment in seconds: each that is no session, and each session that isn't live then.
-#[derive(Clone, Copy, Debug, PartialEq, Eq)]
+#[derive(Clone, Copy)]
 pub struct SessionExpiry {
     pub moment: u32,
     pub times: Timeouts,
