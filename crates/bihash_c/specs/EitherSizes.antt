@@ -7,8 +7,8 @@ use Rattle.bihash_steps.specs.declared.faults.SplitFault.{SplitFault}
 use Rattle.bihash_c.specs.Answers.{split_number}
 use Rattle.bihash_c.specs.Contents as one
 use Rattle.bihash_c.specs.declared.answer.Stamp.{Stamp}
-use Rattle.bihash_c.specs.declared.content.Content.{Content}
-use Rattle.bihash_c.specs.declared.content.Content.TheVariants.{Empty}
+use Rattle.bihash_c.specs.declared.handle_content.Content.{Content}
+use Rattle.bihash_c.specs.declared.handle_content.Content.TheVariants.{Empty}
 use Rattle.bihash_c.specs.declared.either_size.EitherSize.{EitherSize}
 use Rattle.bihash_c.specs.declared.either_size.EitherSize.TheVariants.{Small, Large}
 

@@ -3,7 +3,7 @@ ghost use Rattle.bihash_words.specs.Sizes.{sizes_of};
 ghost use Rattle.bihash_c.specs.EitherSizes.{AreOfOneTable, CloseTold, CountTold, HasCaller, HasPairs, JoinTold, MeetTold, PairTold, RenewTold, SplitTold};
 
 use crate::answer::DONE;
-use crate::content::Content;
+use crate::handle_content::Content;
 use crate::either_size::EitherSize;
 use bihash_words::Shape;
 use std::alloc::Global;

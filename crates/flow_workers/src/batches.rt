@@ -6,9 +6,9 @@ ghost use Rattle.flow_workers.specs.inner.Together.{HaveJudgedBatch};
 ghost use Rattle.flow_workers.specs.inner.Turns.{MayJudgeBatch};
 
 use crate::gate::Gate;
-use crate::share::{Batch, Dealt, Share};
-use crate::together::judge_together;
-use crate::turns::run_shares;
+use crate::worker_share::{Batch, Dealt, Share};
+use crate::one_thread::judge_together;
+use crate::worker_threads::run_shares;
 use bihash_words::Shape;
 use packet_dealing::{DealtChunk, deal_packets};
 use std::alloc::{AllocError, Global};

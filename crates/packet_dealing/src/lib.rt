@@ -2,14 +2,14 @@
 #![tactic(auto)]
 
 mod chunk;
-mod chunks;
-mod dealer;
-mod deals;
+mod chunk_dealing;
+mod chunk_jobs;
+mod dealing_in_threads;
 mod dealt_chunk;
-mod one_chunk;
+mod packet_worker;
 mod task;
 
-pub use dealer::{Dealer, flow_of_frame, worker_of_packet};
-pub use deals::deal_packets;
+pub use dealing_in_threads::deal_packets;
 pub use dealt_chunk::{DealtChunk, DealtPacket};
+pub use packet_worker::{Dealer, flow_of_frame, worker_of_packet};
 pub use task::{Task, run_all};

@@ -4,7 +4,7 @@ ghost use Rattle.packet_view.specs.Captures.{Takes, packet_facts};
 ghost use Rattle.packet_view.specs.CheckedCaptures.{remaining};
 
 use crate::packet::Packet;
-use crate::records::{BURST, Records};
+use crate::capture_records::{BURST, Records};
 
 /// Packets that are taken one by one, in their order. A copy has a front of its own.
 #[derive(Clone, Copy, Debug)]
