@@ -8,7 +8,7 @@ use Rattle.bihash_steps.specs.CallerCalls.{AreInformed, IsJoined}
 use Rattle.bihash_steps.specs.Steps.{IsRefused}
 use Rattle.bihash_steps.specs.Seats.{CallerState, stamp_of, with_view}
 use Rattle.bihash_rule.specs.Views.{first_view}
-use Rattle.bihash_steps.specs.declared.faults.SplitFault.{SplitFault}
+use Rattle.bihash_steps.specs.declared.split_fault.SplitFault.{SplitFault}
 use Rattle.bihash_table.specs.Calls.{TellsRecycleTry, TellsSearchTry, TellsUpdateTry}
 use Rattle.bihash_table.specs.declared.close_fault.CloseFault.{CloseFault}
 use Rattle.bihash_table.specs.declared.contended.Contended.{Contended}

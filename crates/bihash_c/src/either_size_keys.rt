@@ -1,10 +1,8 @@
-//! The calls of what is behind a handle, whichever size its table has.
-ghost use Rattle.bihash_words.specs.Sizes.{sizes_of};
-ghost use Rattle.bihash_table.specs.Calls.{TellsLone};
+//! The calls on keys of what is behind a handle, whichever size its table has.
 ghost use Rattle.bihash_c.specs.Contents.{RecycleTold, SearchTold, UpdateTold};
-ghost use Rattle.bihash_c.specs.EitherSizes.{Calls, HasCaller, StampTold};
+ghost use Rattle.bihash_c.specs.EitherSizes.{Calls, HasCaller};
 
-use crate::answer::{Answer, Stamp};
+use crate::answer::Answer;
 use crate::either_size::EitherSize;
 use bihash_words::{Expiry, Patch, Shape};
 
@@ -51,29 +49,6 @@ impl<S: Shape, L: Shape<Key = S::Key>> EitherSize<S, L> {
         match self {
             EitherSize::Small(content) => content.add_or_recycle(key, patch, expiry),
             EitherSize::Large(content) => content.add_or_recycle(key, patch, expiry),
-        }
-    }
-
-    /// Whether the caller has every number that was made.
-    pub fn is_lone(&mut self) -> bool
-        requires { HasCaller self.old }
-        ensures { Calls self.old self.new (λ s t. TellsLone (sizes_of S.Shape) s t result)
-            (λ s t. TellsLone (sizes_of L.Shape) s t result) }
-    {
-        match self {
-            EitherSize::Small(content) => content.is_lone(),
-            EitherSize::Large(content) => content.is_lone(),
-        }
-    }
-
-    /// The bucket and the stamp of the last answered call.
-    pub fn stamp(&self) -> Stamp
-        requires { HasCaller self.now }
-        ensures { StampTold self.now result }
-    {
-        match self {
-            EitherSize::Small(content) => content.stamp(),
-            EitherSize::Large(content) => content.stamp(),
         }
     }
 }

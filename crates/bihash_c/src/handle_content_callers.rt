@@ -1,9 +1,10 @@
-//! What is behind a handle: made, split, joined, told of another one, renewed and closed.
+//! What is behind a handle: made, split, joined and told of another one.
 ghost use Rattle.std.specs.Prelude.{IfSome};
 ghost use Rattle.bihash_words.specs.Sizes.{sizes_of, IsSound};
-ghost use Rattle.bihash_c.specs.Contents.{AreOfOneTable, CloseTold, CountTold, HasCaller, HasPairs, IsFirst, JoinTold, MeetTold, PairTold, RenewTold, SplitTold};
+ghost use Rattle.bihash_table.specs.Calls.{TellsLone};
+ghost use Rattle.bihash_c.specs.Contents.{AreOfOneTable, Calls, HasCaller, IsFirst, JoinTold, MeetTold, SplitTold, StampTold};
 
-use crate::answer::{DONE, close_refusal, renew_refusal, split_refusal};
+use crate::answer::{DONE, Stamp, split_refusal, stamp_answer};
 use crate::handle_content::Content;
 use crate::member::Member;
 use bihash_words::Shape;
@@ -73,68 +74,25 @@ impl<S: Shape> Content<S> {
         *other = Content::Caller(met);
     }
 
-    /// Ends the table, whose pairs are there then. Refused, the caller is there.
-    pub fn close(&mut self, alloc: Global) -> u32
+    /// Whether the caller has every number that was made.
+    pub fn is_lone(&mut self) -> bool
         requires { HasCaller self.old }
-        ensures { CloseTold ⟦<S as Shape>⟧ self.old self.new result }
+        ensures { Calls self.old self.new (λ s t. TellsLone (sizes_of S.Shape) s t result) }
     {
-        let Content::Caller(member) = mem::replace(self, Content::Empty) else {
+        let Content::Caller(member) = self else {
             unreachable!();
         };
-        match member.close(alloc) {
-            Ok(pairs) => {
-                *self = Content::Pairs(pairs);
-                DONE
-            }
-            Err((fault, member)) => {
-                *self = Content::Caller(member);
-                close_refusal(fault)
-            }
-        }
+        member.is_lone()
     }
 
-    /// Opens the table again: caller 1 is there then. Refused, the caller is there.
-    pub fn renew(&mut self, alloc: Global) -> u32
-        requires { HasCaller self.old }
-        ensures { RenewTold (sizes_of S.Shape) self.old self.new result }
+    /// The bucket and the stamp of the last answered call.
+    pub fn stamp(&self) -> Stamp
+        requires { HasCaller self.now }
+        ensures { StampTold self.now result }
     {
-        let Content::Caller(member) = mem::replace(self, Content::Empty) else {
+        let Content::Caller(member) = self else {
             unreachable!();
         };
-        match member.renew(alloc) {
-            Ok(member) => {
-                *self = Content::Caller(member);
-                DONE
-            }
-            Err((fault, member)) => {
-                *self = Content::Caller(member);
-                renew_refusal(fault)
-            }
-        }
-    }
-
-    /// How many pairs are there.
-    pub fn pair_count(&self) -> u64
-        requires { HasPairs self.now }
-        ensures { CountTold self.now result }
-    {
-        let Content::Pairs(pairs) = self else {
-            unreachable!();
-        };
-        pairs.len() as u64
-    }
-
-    /// The pair at a place, counted from 0. `None` behind the last.
-    pub fn pair(&self, at: u64) -> Option<(S::Key, u64)>
-        requires { HasPairs self.now }
-        ensures { PairTold self.now at result }
-    {
-        let Content::Pairs(pairs) = self else {
-            unreachable!();
-        };
-        match pairs.get(at as usize) {
-            Some(pair) => Some(*pair),
-            None => None,
-        }
+        stamp_answer(member.stamp())
     }
 }

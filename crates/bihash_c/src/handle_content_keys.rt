@@ -1,10 +1,7 @@
-//! The calls of what is behind a handle, answered as C is told.
-ghost use Rattle.std.specs.Prelude.{◌≡◌};
-ghost use Rattle.bihash_words.specs.Sizes.{sizes_of};
-ghost use Rattle.bihash_table.specs.Calls.{TellsLone};
-ghost use Rattle.bihash_c.specs.Contents.{Calls, HasCaller, RecycleTold, SearchTold, StampTold, UpdateTold};
+//! The calls on keys of what is behind a handle, answered as C is told.
+ghost use Rattle.bihash_c.specs.Contents.{Calls, HasCaller, RecycleTold, SearchTold, UpdateTold};
 
-use crate::answer::{Answer, Stamp, reply_answer, search_answer, stamp_answer};
+use crate::answer::{Answer, reply_answer, search_answer};
 use crate::handle_content::Content;
 use bihash_words::{Expiry, Patch, Shape};
 
@@ -49,27 +46,5 @@ impl<S: Shape> Content<S> {
             unreachable!();
         };
         reply_answer(member.add_or_recycle(key, patch, expiry))
-    }
-
-    /// Whether the caller has every number that was made.
-    pub fn is_lone(&mut self) -> bool
-        requires { HasCaller self.old }
-        ensures { Calls self.old self.new (λ s t. TellsLone (sizes_of S.Shape) s t result) }
-    {
-        let Content::Caller(member) = self else {
-            unreachable!();
-        };
-        member.is_lone()
-    }
-
-    /// The bucket and the stamp of the last answered call.
-    pub fn stamp(&self) -> Stamp
-        requires { HasCaller self.now }
-        ensures { StampTold self.now result }
-    {
-        let Content::Caller(member) = self else {
-            unreachable!();
-        };
-        stamp_answer(member.stamp())
     }
 }

@@ -3,12 +3,15 @@
 
 mod answer;
 mod bihash4_callers;
+mod bihash4_ends;
 mod bihash4_keys;
 mod bihash6_callers;
+mod bihash6_ends;
 mod bihash6_keys;
 mod box_parts;
 mod either_size;
 mod either_size_callers;
+mod either_size_ends;
 mod either_size_keys;
 mod handle4;
 mod handle4_place;
@@ -16,6 +19,7 @@ mod handle6;
 mod handle6_place;
 mod handle_content;
 mod handle_content_callers;
+mod handle_content_ends;
 mod handle_content_keys;
 mod handles_are_send;
 mod mask_expiry;

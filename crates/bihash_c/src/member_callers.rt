@@ -3,13 +3,14 @@ ghost use Rattle.std.specs.Prelude.{◌≡◌, IfOk, IfErr, IfSome};
 ghost use Rattle.bihash_words.specs.Sizes.{sizes_of, IsSound};
 ghost use Rattle.bihash_steps.specs.CallerCalls.{AreInformed, IsJoined};
 ghost use Rattle.bihash_steps.specs.Steps.{IsRefused};
-ghost use Rattle.bihash_steps.specs.Seats.{with_view};
+ghost use Rattle.bihash_steps.specs.Seats.{stamp_of, with_view};
 ghost use Rattle.bihash_rule.specs.Views.{first_view};
+ghost use Rattle.bihash_table.specs.Calls.{TellsLone};
 ghost use Rattle.bihash_c.specs.Members.{IsSplit};
 
 use crate::member::Member;
 use crate::table_share::Share;
-use bihash_table::{SplitFault, create};
+use bihash_table::{SplitFault, create, stamp};
 use bihash_words::Shape;
 use std::alloc::Global;
 
@@ -82,5 +83,20 @@ impl<S: Shape> Member<S> {
                 caller: other,
             },
         )
+    }
+
+    /// Whether the caller has every number that was made.
+    pub fn is_lone(&mut self) -> bool
+        ensures { TellsLone (sizes_of S.Shape) self.old self.new result }
+    {
+        let sessions = self.share.sessions();
+        sessions.is_lone(&mut self.caller)
+    }
+
+    /// The bucket and the stamp of the last answered call, `None` before the first.
+    pub fn stamp(&self) -> Option<(u64, u64)>
+        ensures { result ≡ stamp_of self.now.view.records }
+    {
+        stamp(&self.caller)
     }
 }

@@ -1,11 +1,8 @@
-//! The calls of a member: one try each.
-ghost use Rattle.std.specs.Prelude.{◌≡◌};
-ghost use Rattle.bihash_words.specs.Sizes.{sizes_of};
-ghost use Rattle.bihash_steps.specs.Seats.{stamp_of};
-ghost use Rattle.bihash_table.specs.Calls.{TellsLone, TellsRecycleTry, TellsSearchTry, TellsUpdateTry};
+//! The calls of a member on keys: one try each.
+ghost use Rattle.bihash_table.specs.Calls.{TellsRecycleTry, TellsSearchTry, TellsUpdateTry};
 
 use crate::member::Member;
-use bihash_table::{Contended, stamp};
+use bihash_table::Contended;
 use bihash_words::{Expiry, Patch, Reply, Shape};
 
 impl<S: Shape> Member<S> {
@@ -40,20 +37,5 @@ impl<S: Shape> Member<S> {
     {
         let sessions = self.share.sessions();
         sessions.try_add_or_recycle(&mut self.caller, key, patch, expiry)
-    }
-
-    /// Whether the caller has every number that was made.
-    pub fn is_lone(&mut self) -> bool
-        ensures { TellsLone (sizes_of S.Shape) self.old self.new result }
-    {
-        let sessions = self.share.sessions();
-        sessions.is_lone(&mut self.caller)
-    }
-
-    /// The bucket and the stamp of the last answered call, `None` before the first.
-    pub fn stamp(&self) -> Option<(u64, u64)>
-        ensures { result ≡ stamp_of self.now.view.records }
-    {
-        stamp(&self.caller)
     }
 }

@@ -2,20 +2,22 @@
 #![tactic(auto)]
 
 mod event;
-mod faults;
+mod create_fault;
 mod new_row;
 mod recycling_write;
 mod renewed_row;
 mod row;
 mod row_beginning;
 mod row_layout;
+mod split_fault;
 mod steps_on_buckets;
 mod steps_on_callers;
 mod steps_on_page_store;
 mod working_copy;
 
 pub use event::Event;
-pub use faults::{CreateFault, SplitFault};
+pub use create_fault::CreateFault;
+pub use split_fault::SplitFault;
 pub use new_row::open_row;
 pub use recycling_write::Recycled;
 pub use renewed_row::reopen_row;

@@ -5,7 +5,7 @@ ghost use Rattle.bihash_rule.specs.Words.{IsFresh};
 ghost use Rattle.bihash_rule.specs.Callers.{IsLawfulCaller};
 ghost use Rattle.bihash_rule.specs.Views.{first_view};
 
-use crate::faults::CreateFault;
+use crate::create_fault::CreateFault;
 use crate::row_layout::row_words;
 use crate::row::{Caller, CallerSeat, Row};
 use crate::working_copy::Scratch;

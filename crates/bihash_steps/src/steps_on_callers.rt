@@ -6,7 +6,7 @@ ghost use Rattle.bihash_rule.specs.Callers.{IsLawfulCaller, Agrees};
 ghost use Rattle.bihash_steps.specs.Steps.{parent, newcomer, IsRefused};
 ghost use Rattle.bihash_steps.specs.Seats.{with_view, stamp_of};
 
-use crate::faults::SplitFault;
+use crate::split_fault::SplitFault;
 use crate::row::{Caller, CallerSeat, Row};
 use crate::working_copy::Scratch;
 use bihash_words::Shape;

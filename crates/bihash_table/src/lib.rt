@@ -22,6 +22,7 @@ mod search;
 mod shared_table;
 mod try_update;
 mod waiting_update;
+mod worn_bucket;
 
 pub use bihash_steps::{Caller, CallerSeat, CreateFault, SplitFault};
 pub use close_fault::CloseFault;

@@ -1,8 +1,7 @@
 //! Updates, one try each.
-ghost use Rattle.std.specs.Prelude.{◌≡◌, ◌≢◌, ◌==◌, true, false, None, Option, Some};
+ghost use Rattle.std.specs.Prelude.{◌≡◌, ◌≢◌, true, false, None, Option, Some};
 ghost use Rattle.bihash_words.specs.Maps.{effect_of};
 ghost use Rattle.bihash_words.specs.Patches.{IsStorable};
-ghost use Rattle.bihash_words.specs.Words.{Bucket, FitsWord, packed};
 ghost use Rattle.bihash_words.specs.declared.patch.Change.TheVariants.{Keep};
 ghost use Rattle.bihash_steps.specs.CallerCalls.{IsIdle};
 ghost use Rattle.bihash_table.specs.Calls.{TellsRecycleTry, TellsUpdateTry};
@@ -19,8 +18,9 @@ use crate::bucket_lock::{load_unlocked, lock_if_unchanged};
 use crate::never_expired::Never;
 use crate::open_reads::{find_free, find_pair, value_found};
 use crate::shared_table::Sessions;
+use crate::worn_bucket::is_worn;
 use bihash_steps::{Caller, CallerSeat, Row};
-use bihash_words::{BucketWord, Change, Expiry, Patch, Reply, Shape};
+use bihash_words::{Change, Expiry, Patch, Reply, Shape};
 
 impl<S: Shape> Sessions<S> {
     /// Decides once on the value of the key, and makes the change that was decided. The answers come in
@@ -107,13 +107,6 @@ fn is_idle(change: Change, found: Option<u64>) -> bool
         (Change::Remove, None) => true,
         _ => false,
     }
-}
-
-// Whether the version of a bucket is used up.
-fn is_worn<S: Shape>(word: BucketWord) -> bool
-    ensures { (x : Bucket) → FitsWord x → word ≡ packed x → result ≡ (x.version == S.LIMIT) }
-{
-    word.version() == S::LIMIT
 }
 
 // Gives the key's pair another value, or removes it.

@@ -14,6 +14,7 @@ mod recycling_note;
 mod shape;
 mod shape_laws;
 mod tiny_shape;
+mod word_laws;
 
 pub use block_size::BlockSize;
 pub use bucket_of_key::bucket_of;
@@ -21,10 +22,6 @@ pub use bucket_word::BucketWord;
 pub use expiry::Expiry;
 pub use flow_shapes::{ShapeV4, ShapeV6};
 pub use hash::mix;
-pub use shape_laws::{
-    flow_shapes_are_sound, flow_shapes_have_their_sizes, mix_has_its_published_values,
-    tiny_has_its_sizes, tiny_is_sound, words_pack_exactly,
-};
 pub use map_laws::{
     each_call_has_one_answer, maps_stay_bounded, other_keys_stay, refusals_change_nothing,
     replies_tell_what_was_found, runs_join_and_part, taken_values_stand,
@@ -33,4 +30,8 @@ pub use map_laws::{
 pub use patch::{Add, AddIfAbsent, Change, Delete, FREE, Patch, Reply, Touch};
 pub use recycling_note::Recycling;
 pub use shape::{PAGE_PLACES, Shape, compare, is_same};
+pub use shape_laws::{
+    flow_shapes_are_sound, flow_shapes_have_their_sizes, tiny_has_its_sizes, tiny_is_sound,
+};
 pub use tiny_shape::Tiny;
+pub use word_laws::{mix_has_its_published_values, words_pack_exactly};

@@ -6,10 +6,12 @@ mod chunk_dealing;
 mod chunk_jobs;
 mod dealing_in_threads;
 mod dealt_chunk;
+mod frame_flow;
 mod packet_worker;
 mod task;
 
 pub use dealing_in_threads::deal_packets;
 pub use dealt_chunk::{DealtChunk, DealtPacket};
-pub use packet_worker::{Dealer, flow_of_frame, worker_of_packet};
+pub use frame_flow::flow_of_frame;
+pub use packet_worker::{Dealer, worker_of_packet};
 pub use task::{Task, run_all};

@@ -1,33 +1,19 @@
 //! Who judges a packet, by its flow.
-ghost use Rattle.std.specs.Prelude.{◌≡◌, ◌<◌};
-ghost use Rattle.std.specs.Option.{ForSome};
+ghost use Rattle.std.specs.Prelude.{◌<◌};
 ghost use Rattle.packet_view.specs.Captures.{packet_facts};
-ghost use Rattle.packet_view.specs.Frames.{frame_facts};
-ghost use Rattle.flow_dealing.specs.Dealings;
 ghost use Rattle.packet_dealing.specs.Dealt.{AreShapes, IsDealtTo};
 
+use crate::frame_flow::flow_of_frame;
 use bihash_words::Shape;
 use flow_dealing::{Dealing, worker_of};
-use packet_view::{Frame, Packet, plain, view};
-use session_state::{Flow, orient, plain_flow};
+use packet_view::{Packet, plain, view};
+use session_state::plain_flow;
 
 /// What packets are dealt by.
 #[derive(Clone, Copy, Debug)]
 pub struct Dealer {
     pub dealing: Dealing,
     pub workers: usize,
-}
-
-/// The flow of a packet with this frame. `None`: it takes no part in sessions.
-#[inline(always)]
-pub fn flow_of_frame(frame: &Frame) -> Option<Flow>
-    ensures shown { result ≡ Dealings.flow_of_frame (frame_facts frame.now) }
-    ensures side { ForSome result (λ f. f.side < 2) }
-{
-    match frame {
-        Frame::Ip(_, tuple) => orient(tuple),
-        Frame::NotIp | Frame::Malformed | Frame::Short => None,
-    }
 }
 
 // Who judges the packet with this number, by the view of its frame at any own address. Few frames aren't plain, and the

@@ -2,6 +2,7 @@
 #![tactic(auto)]
 
 mod capture;
+mod capture_laws;
 mod capture_records;
 mod ethernet;
 mod frame;
@@ -17,19 +18,19 @@ mod plain_packet;
 mod transport;
 mod tuple;
 
-pub use packet_bursts::PacketBursts;
 pub use capture::{
     Capture, CaptureFault, CheckedCapture, Order, Piece, capture_header, check_capture,
     next_record, read_capture,
 };
-pub use frame::{Frame, plain_frame, view};
-pub use front_records::{Front, Stop, front_records};
-pub use frame_laws::{
-    a_cut_capture_keeps_its_front, bytes_after_the_packet_are_not_seen,
-    each_capture_has_one_reading, each_frame_has_one_view, own_address_decides_the_way_alone,
-};
+pub use capture_laws::{a_cut_capture_keeps_its_front, each_capture_has_one_reading};
 pub use capture_records::Records;
+pub use frame::{Frame, plain_frame, view};
+pub use frame_laws::{
+    bytes_after_the_packet_are_not_seen, each_frame_has_one_view, own_address_decides_the_way_alone,
+};
+pub use front_records::{Front, Stop, front_records};
 pub use packet::Packet;
+pub use packet_bursts::PacketBursts;
 pub use packets::Packets;
 pub use plain_packet::{PlainPacket, plain};
 pub use tuple::{Direction, Family, Fields, Mac, Tuple};

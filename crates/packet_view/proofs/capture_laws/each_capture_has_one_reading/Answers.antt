@@ -1,6 +1,6 @@
 use Rattle.packet_view.proofs.CutLemmas.{no_fault_too, one_reading}
 use Rattle.packet_view.proofs.ReadingLemmas.{one_fault, some_reading}
-use Rattle.packet_view.proofs.frame_laws.each_capture_has_one_reading.Goals as goal
+use Rattle.packet_view.proofs.capture_laws.each_capture_has_one_reading.Goals as goal
 
 pub returns-clause-some : goal.returns-clause-some
 returns-clause-some c = some_reading

@@ -3,7 +3,7 @@ use Rattle.std.proofs.Common.{◌≡◌, ◌+◌, ◌*◌, ◌/◌, ◌%◌, ◌
 use Rattle.std.specs.Prelude.{◌==◌}
 use Rattle.std.proofs.lemmas.Bool.Decides.{eqb_tells}
 use Rattle.bihash_words.specs.Words.{Bucket, bit}
-use Rattle.bihash_words.proofs.shape_laws.words_pack_exactly.Goals as goal
+use Rattle.bihash_words.proofs.word_laws.words_pack_exactly.Goals as goal
 
 bucket_of_word : ℕ → Bucket
 bucket_of_word word = record {
