@@ -1,7 +1,6 @@
 //! Packets judged by many workers over session tables that they share.
 #![tactic(auto)]
 
-mod batches;
 mod caller_split;
 mod gate;
 mod lone_worker;
@@ -11,6 +10,7 @@ mod packet_plan;
 mod packet_verdict;
 mod run_fault;
 mod session_tables;
+mod several_threads;
 mod table_closing;
 mod table_renewal;
 mod table_update;

@@ -4,7 +4,7 @@ ghost use Rattle.packet_view.specs.Captures.{packet_facts};
 ghost use Rattle.flow_workers.specs.inner.Jobs.{CanWork, HasWorked, HasWorkedOn, IsShareOf, MayJudgePacket, MayJudgeChunk, MayJudgeViewed};
 
 use crate::gate::Gate;
-use crate::packet_verdict::judge_viewed;
+use crate::packet_verdict::judge_as;
 use crate::worker_share::{Batch, Dealt, Job, Share};
 use crate::viewed_packet::ViewedPacket;
 use bihash_words::Shape;
@@ -12,6 +12,7 @@ use flow_filter::InterfaceFilter;
 use packet_dealing::{DealtChunk, flow_of_frame};
 use packet_view::{Packet, plain_frame, view};
 use std::alloc::AllocError;
+use std::marker::Brand;
 use std::sync::Wait;
 
 // Judges a packet of the worker, which stands at this place among those of the batch and was viewed, by the filter at its
@@ -31,7 +32,8 @@ fn record_verdict<A: Shape, B: Shape, R: Wait, G: Gate>(
     let setup = &batch.setup;
     let number = batch.first + at;
     setup.gate.before(worker, number);
-    let verdict = judge_viewed(setup.rt, filter, setup.tables, &mut share.callers, packet);
+    let callers = &mut share.callers;
+    let verdict = judge_as::<A, B, Brand, R>(setup.rt, filter, setup.tables, callers, packet);
     setup.gate.after(worker, number);
     share.said.push(verdict)?;
     Ok(())

@@ -47,9 +47,10 @@ fn try_judge_as<A: Shape, B: Shape, D: HasReading>(
     }
 }
 
-// The verdict, under what the rules will say of the packet.
+/// The verdict on a packet that was viewed, under what the rules will say of it. It tries again where another caller's
+/// change or lock was met.
 #[inline(always)]
-fn judge_as<A: Shape, B: Shape, D: HasReading, R: Wait>(
+pub fn judge_as<A: Shape, B: Shape, D: HasReading, R: Wait>(
     rt: &R,
     filter: &InterfaceFilter<'_>,
     tables: &Tables<A, B>,
@@ -74,21 +75,6 @@ fn judge_as<A: Shape, B: Shape, D: HasReading, R: Wait>(
     }
 }
 
-/// The verdict on a packet that was viewed. It tries again where another caller's change or lock was met.
-#[inline(always)]
-pub fn judge_viewed<A: Shape, B: Shape, R: Wait>(
-    rt: &R,
-    filter: &InterfaceFilter<'_>,
-    tables: &Tables<A, B>,
-    callers: &mut Callers<A, B>,
-    packet: &ViewedPacket<'_>,
-) -> Verdict
-    requires { MayAsk tables.now callers.old }
-    ensures { TellsViewed TookByTries filter.now packet.now tables.now callers.old callers.new result }
-{
-    judge_as::<A, B, Brand, R>(rt, filter, tables, callers, packet)
-}
-
 /// The verdict on a packet. It tries again where another caller's change or lock was met.
 pub fn judge<A: Shape, B: Shape, R: Wait>(
     rt: &R,
@@ -104,7 +90,7 @@ pub fn judge<A: Shape, B: Shape, R: Wait>(
     let frame = view(packet.frame, packet.interface, filter.own);
     let flow = flow_of_frame(&frame);
     let packet = ViewedPacket::new(packet, &frame, &flow);
-    judge_viewed(rt, &filter, tables, callers, &packet)
+    judge_as::<A, B, Brand, R>(rt, &filter, tables, callers, &packet)
 }
 
 /// The verdict on a packet, by one try. `Contended`: another caller's change or lock was met.

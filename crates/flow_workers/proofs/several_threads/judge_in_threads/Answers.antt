@@ -5,7 +5,7 @@ use Rattle.packet_dealing.specs.Dealt.{AreDealt}
 use Rattle.flow_workers.specs.inner.Shares.{workers_in}
 use Rattle.flow_workers.specs.inner.Turns.{HaveWorked}
 use Rattle.flow_workers.proofs.RestLemmas.{dealt_noted}
-use Rattle.flow_workers.proofs.batches.judge_batch.Goals as goal
+use Rattle.flow_workers.proofs.several_threads.judge_in_threads.Goals as goal
 
 pub returns : goal.returns
 returns g c =

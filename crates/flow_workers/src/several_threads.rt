@@ -1,4 +1,4 @@
-//! One batch of packets, by all workers.
+//! All workers, each in a thread of its own: the packets of a batch are dealt, and then judged at once.
 ghost use Rattle.std.specs.Prelude.{◌≡◌, ◌++◌, IfOk};
 ghost use Rattle.packet_dealing.specs.declared.dealt_chunk.DealtChunk.{DealtChunk};
 ghost use Rattle.flow_workers.specs.inner.Shares.{workers_in};
@@ -7,7 +7,6 @@ ghost use Rattle.flow_workers.specs.inner.Turns.{MayJudgeBatch};
 
 use crate::gate::Gate;
 use crate::worker_share::{Batch, Dealt, Share};
-use crate::one_thread::judge_together;
 use crate::worker_threads::run_shares;
 use bihash_words::Shape;
 use packet_dealing::{DealtChunk, deal_packets};
@@ -25,9 +24,9 @@ fn note_workers(judges: &mut Vec<u8>, dealt: &[DealtChunk<'_>]) -> Result<(), Al
     Ok(())
 }
 
-/// The shares of all workers after they judged the packets of a batch: each in a thread of its own where there are several
-/// and the packets are many. The workers of the packets come after those that are noted.
-pub fn judge_batch<
+/// The shares of all workers after they judged the packets of a batch, each in a thread of its own. The workers of the
+/// packets come after those that are noted.
+pub fn judge_in_threads<
     A: Shape + Send + Sync,
     B: Shape + Send + Sync,
     R: Threads + Wait + Sync,
@@ -44,9 +43,6 @@ where
     requires { MayJudgeBatch batch shares.items }
     ensures { IfOk result (λ v. HaveJudgedBatch batch.entry shares.items v.items judges.old.items judges.new.items) }
 {
-    if batch.setup.is_alone() || batch.packets.count() < batch.setup.many {
-        return judge_together(batch, shares, judges);
-    }
     let setup = &batch.setup;
     let dealt = deal_packets::<A, B, R>(
         setup.rt,
