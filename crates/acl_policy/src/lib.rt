@@ -11,15 +11,15 @@ mod policy_text_laws;
 mod rule;
 mod rule_match;
 
+pub use first_match_laws::rules_decide_each_packet;
 pub use policy::{Policy, PolicyFault, Section};
 pub use policy_draft::Draft;
 pub use policy_line::{Line, action_of, direction_of, family_of, interface_of, line_of};
+pub use policy_reading::{add_line, empty_draft, read_policy};
 pub use policy_text_laws::one_reading;
-pub use rule_match::{first_match, has_prefix, is_match};
 pub use policy_words::{
     address_of, before_comment, cut_at, flags_of_word, icmp_number, is_end, mac_of, next_word,
     number_of, number_up_to, octet_of, prefix_of, protocol_of, range_of, width_of,
 };
-pub use first_match_laws::rules_decide_each_packet;
-pub use policy_reading::{add_line, empty_draft, read_policy};
 pub use rule::{Action, Rule};
+pub use rule_match::{first_match, has_prefix, is_match};

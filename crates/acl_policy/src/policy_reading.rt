@@ -7,11 +7,11 @@ ghost use Rattle.acl_policy.specs.inner.Reading.Lines.{line_in};
 ghost use Rattle.acl_policy.specs.inner.Reading.Policies.{Fails, LinesFail, draft_facts, is_among, line_added, policy_so_far, rule_added};
 ghost use Rattle.acl_policy.specs.Rules.{most_rules, rule_facts};
 
+use crate::interface_sections::empty;
+use crate::policy::{Policy, PolicyFault, Section};
 use crate::policy_draft::Draft;
 use crate::policy_line::{Line, line_of};
-use crate::policy::{Policy, PolicyFault, Section};
 use crate::rule::Rule;
-use crate::interface_sections::empty;
 use packet_view::Direction;
 use std::alloc::Global;
 use std::mem;

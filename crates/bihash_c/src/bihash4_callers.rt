@@ -7,8 +7,8 @@ ghost use Rattle.bihash_c.specs.EitherSizes.{AreOfOneTable, Calls, CreateTold, H
 ghost use Rattle.bihash_c.specs.Handles4.{HasPlace, content_in};
 
 use crate::answer::{DONE, MEMORY, Stamp};
-use crate::handle_content::Content;
 use crate::either_size::EitherSize;
+use crate::handle_content::Content;
 use crate::handle4::Handle4;
 use crate::handle4_place::Place4;
 use bihash_words::{Shape, ShapeV4, flow_shapes_are_sound};

@@ -7,8 +7,8 @@ ghost use Rattle.bihash_c.specs.EitherSizes.{AreOfOneTable, Calls, CreateTold, H
 ghost use Rattle.bihash_c.specs.Handles6.{HasPlace, content_in};
 
 use crate::answer::{DONE, MEMORY, Stamp};
-use crate::handle_content::Content;
 use crate::either_size::EitherSize;
+use crate::handle_content::Content;
 use crate::handle6::Handle6;
 use crate::handle6_place::Place6;
 use bihash_words::{Shape, ShapeV6, flow_shapes_are_sound};

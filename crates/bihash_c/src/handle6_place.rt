@@ -1,6 +1,6 @@
 //! What is behind a handle of a table of IPv6 flows.
-use crate::handle_content::Content;
 use crate::either_size::EitherSize;
+use crate::handle_content::Content;
 use bihash_words::ShapeV6;
 use large_shapes::LargeV6;
 use std::alloc::Global;

@@ -7,9 +7,9 @@ ghost use Rattle.bihash_plan.specs.Searches.{IsOnlyPlan, IsPlace, IsRange, MayHa
 ghost use Rattle.bihash_plan.specs.Plans.{HasRoom, IsSafe, keys_of};
 
 use crate::block_fit::fits;
-use crate::plan_answer::Plan;
 use crate::block_pages::{open_places, page};
 use crate::block_search::{free_place, place_of_key};
+use crate::plan_answer::Plan;
 use bihash_words::{BlockSize, Shape};
 
 /// What the key needs of its bucket's block: its own place; for a new key the first free place

@@ -1,8 +1,8 @@
 //! The words of a shared session table under one rule, and the atomic steps on them.
 #![tactic(auto)]
 
-mod event;
 mod create_fault;
+mod event;
 mod new_row;
 mod recycling_write;
 mod renewed_row;
@@ -15,12 +15,12 @@ mod steps_on_callers;
 mod steps_on_page_store;
 mod working_copy;
 
-pub use event::Event;
 pub use create_fault::CreateFault;
-pub use split_fault::SplitFault;
+pub use event::Event;
 pub use new_row::open_row;
 pub use recycling_write::Recycled;
 pub use renewed_row::reopen_row;
 pub use row::{Caller, CallerSeat, Row};
+pub use split_fault::SplitFault;
 pub use steps_on_page_store::PoolWord;
 pub use working_copy::Scratch;

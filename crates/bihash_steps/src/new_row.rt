@@ -6,8 +6,8 @@ ghost use Rattle.bihash_rule.specs.Callers.{IsLawfulCaller};
 ghost use Rattle.bihash_rule.specs.Views.{first_view};
 
 use crate::create_fault::CreateFault;
-use crate::row_layout::row_words;
 use crate::row::{Caller, CallerSeat, Row};
+use crate::row_layout::row_words;
 use crate::working_copy::Scratch;
 use atomic_table::Table;
 use bihash_words::Shape;

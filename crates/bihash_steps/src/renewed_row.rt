@@ -6,9 +6,9 @@ ghost use Rattle.bihash_rule.specs.Callers.{IsLawfulCaller};
 ghost use Rattle.bihash_rule.specs.Views.{nothing_held};
 ghost use Rattle.bihash_steps.specs.Renewals.{AreRenewed, AreRowWords, HaveFields, IsNextWord, IsRenewed, LoadsRowWord, openings_after};
 
-use crate::row_beginning::{Beginning, mark};
 use crate::create_fault::CreateFault;
 use crate::row::{Caller, CallerSeat, Row};
+use crate::row_beginning::{Beginning, mark};
 use crate::working_copy::Scratch;
 use atomic_table::{Mark, Table};
 use bihash_rule::Openings;

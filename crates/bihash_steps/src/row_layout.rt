@@ -7,8 +7,8 @@ ghost use Rattle.bihash_steps.specs.StoreSteps;
 ghost use Rattle.bihash_steps.specs.StoreSteps.{IsInStore};
 ghost use Rattle.bihash_rule.specs.declared.view.PageStore.{PageStore};
 
-use crate::steps_on_page_store::PoolWord;
 use crate::row::Row;
+use crate::steps_on_page_store::PoolWord;
 use bihash_words::Shape;
 
 /// Where the allocation lock stands, and where the used mark does.

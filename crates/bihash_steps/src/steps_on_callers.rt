@@ -6,8 +6,8 @@ ghost use Rattle.bihash_rule.specs.Callers.{IsLawfulCaller, Agrees};
 ghost use Rattle.bihash_steps.specs.Steps.{parent, newcomer, IsRefused};
 ghost use Rattle.bihash_steps.specs.Seats.{with_view, stamp_of};
 
-use crate::split_fault::SplitFault;
 use crate::row::{Caller, CallerSeat, Row};
+use crate::split_fault::SplitFault;
 use crate::working_copy::Scratch;
 use bihash_words::Shape;
 use std::alloc::Global;

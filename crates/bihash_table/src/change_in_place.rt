@@ -12,11 +12,11 @@ ghost use Rattle.bihash_table.specs.inner.Seen.{MayReply, WantsChange};
 ghost use Rattle.bihash_table.specs.inner.Stores.{FindsWord, HasStored, HoldsWord};
 ghost use Rattle.bihash_table.specs.Tries.{Finished, Tried};
 
-use crate::contended::Contended;
-use crate::change_of_block::remove_last;
-use crate::hashed_key::SeenBucket;
-use crate::bucket_lock::lock_if_unchanged;
 use crate::block_places::FREE;
+use crate::bucket_lock::lock_if_unchanged;
+use crate::change_of_block::remove_last;
+use crate::contended::Contended;
+use crate::hashed_key::SeenBucket;
 use crate::open_reads::has_other_pair;
 use bihash_steps::{CallerSeat, Event, Row};
 use bihash_words::{BucketWord, Change, Reply, Shape};

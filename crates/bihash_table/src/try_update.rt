@@ -9,12 +9,12 @@ ghost use Rattle.bihash_table.specs.inner.OpenReads.{value_of};
 ghost use Rattle.bihash_table.specs.inner.Seen.{Found, WantsChange};
 ghost use Rattle.bihash_table.specs.Tries.{Tried, TriedOver};
 
+use crate::bucket_lock::{load_unlocked, lock_if_unchanged};
 use crate::change_in_place::{answer, fill, overwrite, remove};
+use crate::change_of_block::enter_larger;
 use crate::contended::Contended;
 use crate::entered_value::Entrant;
-use crate::change_of_block::enter_larger;
 use crate::hashed_key::{HashedKey, SeenBucket};
-use crate::bucket_lock::{load_unlocked, lock_if_unchanged};
 use crate::never_expired::Never;
 use crate::open_reads::{find_free, find_pair, value_found};
 use crate::shared_table::Sessions;

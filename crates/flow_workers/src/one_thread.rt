@@ -7,9 +7,9 @@ ghost use Rattle.flow_workers.specs.inner.Together.{HasJudgedNext, HaveJudgedBat
 ghost use Rattle.flow_workers.specs.inner.Turns.{HaveWorkedOn, MayJudgeBatch};
 
 use crate::gate::Gate;
+use crate::one_worker::judge_packet;
 use crate::worker_setup::Setup;
 use crate::worker_share::{Batch, Share};
-use crate::one_worker::judge_packet;
 use bihash_words::Shape;
 use packet_dealing::worker_of_packet;
 use packet_view::{Packet, PacketBursts};

@@ -5,8 +5,8 @@ ghost use Rattle.flow_workers.specs.inner.Jobs.{CanWork, HasWorked, HasWorkedOn,
 
 use crate::gate::Gate;
 use crate::packet_verdict::judge_as;
-use crate::worker_share::{Batch, Dealt, Job, Share};
 use crate::viewed_packet::ViewedPacket;
+use crate::worker_share::{Batch, Dealt, Job, Share};
 use bihash_words::Shape;
 use flow_filter::InterfaceFilter;
 use packet_dealing::{DealtChunk, flow_of_frame};

@@ -12,8 +12,8 @@ ghost use Rattle.flow_workers.specs.Progress.{HaveAllSaid, MayBegin};
 
 use crate::gate::Gate;
 use crate::run_fault::RunFault;
-use crate::worker_setup::Setup;
 use crate::session_tables::{Callers, create_tables};
+use crate::worker_setup::Setup;
 use crate::workers::Workers;
 use bihash_words::Shape;
 use flow_dealing::Dealing;

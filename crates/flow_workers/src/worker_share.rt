@@ -1,7 +1,7 @@
 //! What a worker is given, and what it gives back.
 use crate::gate::Gate;
-use crate::worker_setup::Setup;
 use crate::session_tables::Callers;
+use crate::worker_setup::Setup;
 use bihash_table::Caller;
 use bihash_words::Shape;
 use flow_filter::Verdict;

@@ -1,7 +1,7 @@
 //! A worker before its turn and after it.
 use crate::gate::Gate;
-use crate::worker_share::{Job, Share};
 use crate::one_worker::work;
+use crate::worker_share::{Job, Share};
 use bihash_words::Shape;
 use packet_dealing::Task;
 use std::alloc::AllocError;

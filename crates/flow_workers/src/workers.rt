@@ -4,14 +4,14 @@ ghost use Rattle.flow_workers.specs.inner.Shares.{AreFresh, AreSplit, MaySplit};
 
 use crate::caller_split::{join_whole, split_one};
 use crate::gate::Gate;
-use crate::verdict_merge::merge_verdicts;
 use crate::one_thread::judge_together;
 use crate::run_fault::RunFault;
+use crate::session_tables::{Callers, Tables};
 use crate::several_threads::judge_in_threads;
+use crate::verdict_merge::merge_verdicts;
+use crate::worker_results::results_of;
 use crate::worker_setup::Setup;
 use crate::worker_share::{Batch, Share, WorkerResults};
-use crate::session_tables::{Callers, Tables};
-use crate::worker_results::results_of;
 use bihash_words::Shape;
 use flow_filter::Verdict;
 use packet_view::Packets;

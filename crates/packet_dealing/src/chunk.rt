@@ -1,7 +1,7 @@
 //! A chunk of the packets before it is dealt and after it.
-use crate::packet_worker::Dealer;
-use crate::dealt_chunk::DealtChunk;
 use crate::chunk_dealing::deal_chunk;
+use crate::dealt_chunk::DealtChunk;
+use crate::packet_worker::Dealer;
 use crate::task::Task;
 use bihash_words::Shape;
 use packet_view::Packets;

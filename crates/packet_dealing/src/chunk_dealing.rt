@@ -4,8 +4,8 @@ ghost use Rattle.packet_view.specs.CheckedCaptures.{remaining};
 ghost use Rattle.packet_dealing.specs.inner.Chunks.{CanDeal, IsChunkOfJob};
 
 use crate::chunk::Job;
-use crate::packet_worker::worker_of_packet;
 use crate::dealt_chunk::DealtChunk;
+use crate::packet_worker::worker_of_packet;
 use bihash_words::Shape;
 use packet_view::{PacketBursts, Packets};
 use std::alloc::AllocError;

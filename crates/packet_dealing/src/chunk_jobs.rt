@@ -5,8 +5,8 @@ ghost use Rattle.packet_dealing.specs.declared.chunk.Chunk.TheVariants.{Over};
 ghost use Rattle.packet_dealing.specs.inner.Chunks.{AreChunksAhead, IsAhead, IsChunkPast, MayDeal, begin_of};
 
 use crate::chunk::{Chunk, Job};
-use crate::packet_worker::Dealer;
 use crate::dealt_chunk::{DealtChunk, empty_chunk};
+use crate::packet_worker::Dealer;
 use bihash_words::Shape;
 use packet_view::Packets;
 use std::alloc::{AllocError, Global};

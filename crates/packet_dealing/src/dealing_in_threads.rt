@@ -4,8 +4,8 @@ ghost use Rattle.packet_view.specs.CheckedCaptures.{remaining};
 ghost use Rattle.packet_dealing.specs.Dealt.{AreDealt, AreShapes};
 
 use crate::chunk_jobs::{chunks_ahead, chunks_over};
-use crate::packet_worker::Dealer;
 use crate::dealt_chunk::DealtChunk;
+use crate::packet_worker::Dealer;
 use crate::task::run_all;
 use bihash_words::Shape;
 use packet_view::Packets;

@@ -24,9 +24,9 @@ ghost use Rattle.packet_view.specs.declared.capture.CaptureFault.{CaptureFault};
 ghost use Rattle.packet_view.specs.declared.capture.CaptureFault.TheVariants.{Memory};
 ghost use Rattle.packet_view.specs.declared.capture.Order.{Order};
 
+use crate::capture_records::Records;
 use crate::front_records::{Front, Stop, front_records};
 use crate::packet::Packet;
-use crate::capture_records::Records;
 use byteorder::{BigEndian, ByteOrder, LittleEndian};
 use std::alloc::{AllocError, AllocFailed, Global};
 

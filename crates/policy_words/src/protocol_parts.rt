@@ -5,8 +5,8 @@ ghost use Rattle.policy_words.specs.Traffic.{parts_of};
 ghost use Rattle.policy_words.specs.Words.{words_of};
 
 use crate::family::icmp_number;
-use crate::ranges_and_flags::{EVERY, flags_part, number_up_to, ranges_of};
 use crate::line_words::{is_end, next_word};
+use crate::ranges_and_flags::{EVERY, flags_part, number_up_to, ranges_of};
 use packet_view::Family;
 
 const TCP: u8 = 6;

@@ -4,8 +4,8 @@ ghost use Rattle.policy_words.specs.inner.Reading.Traffic.{after_in, flags_in, n
 ghost use Rattle.policy_words.specs.Traffic.{every};
 ghost use Rattle.policy_words.specs.Words.{words_of};
 
-use crate::number_words::{number_of, pair_of};
 use crate::line_words::{cut_at, next_word};
+use crate::number_words::{number_of, pair_of};
 
 /// Every port, type or code.
 pub const EVERY: (u16, u16) = (0, u16::MAX);

@@ -5,17 +5,17 @@
 ghost use Rattle.std.specs.Prelude.{◌<◌, ◌-◌, ◌^◌};
 
 mod input_files;
-mod progress;
 mod named_reader;
+mod policy_remarks;
+mod progress;
 mod save_file;
 mod saved_packets;
-mod policy_remarks;
 
 use crate::input_files::{interface_at, name_at, opened_or_told, opened_parts, policy_name};
-use crate::progress::{Progress, Watched};
 use crate::named_reader::{Reader, bytes_of, held};
-use crate::saved_packets::{saves_to, say_unsaved};
 use crate::policy_remarks::{Seen, say_foreign, say_unlooked};
+use crate::progress::{Progress, Watched};
+use crate::saved_packets::{saves_to, say_unsaved};
 use clap::Error;
 use policy_check::check_source;
 use racl_cli::{

@@ -5,10 +5,10 @@ ghost use Rattle.racl_io.specs.Joined as told;
 ghost use Rattle.racl_io.specs.Joined.{joined_bytes, marked_bytes};
 ghost use Rattle.racl_io.specs.Writings.{front_at, joined_left, marked_left};
 
-use crate::device::{Device, DeviceFault, Source};
-use crate::readers_in_turn::InTurn;
-use crate::input::Form;
 use crate::capture_encoding::Written;
+use crate::device::{Device, DeviceFault, Source};
+use crate::input::Form;
+use crate::readers_in_turn::InTurn;
 use itoa::Buffer;
 use std::alloc::{AllocError, Global};
 use std::io::{Chain, Cursor, Read};

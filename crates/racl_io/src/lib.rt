@@ -27,10 +27,10 @@ pub use first_bytes::FrontKept;
 pub use input::{Digits, Form, Input, Numbered, cut_digits, split_input};
 pub use joined_source::{Joined, Marked, marked};
 pub use number_text::Numeral;
-pub use report_piece::Piece;
+pub use partial_report::{Shown, has_line, write_shown};
+pub use reading_and_writing::{MOST_BYTES, drain, read_until, write_all};
 pub use report::{
     Captured, Place, Totals, push_name, totals_on, write_lines, write_report, write_totals,
     write_truncation,
 };
-pub use partial_report::{Shown, has_line, write_shown};
-pub use reading_and_writing::{MOST_BYTES, drain, read_until, write_all};
+pub use report_piece::Piece;

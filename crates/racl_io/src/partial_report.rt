@@ -10,12 +10,12 @@ use crate::device::Sink;
 use crate::fault::Fault;
 use crate::interface_name::Name;
 use crate::number_text::Counter;
-use crate::report_piece::Piece;
+use crate::reading_and_writing::write_all;
 use crate::report::{
     Captured, LINES, Place, Totals, push_named_line, totals_on, write_report, write_totals,
     write_truncation,
 };
-use crate::reading_and_writing::write_all;
+use crate::report_piece::Piece;
 use flow_filter::Verdict;
 use std::alloc::Global;
 use std::thread::Threads;
