@@ -9,8 +9,8 @@ use Rattle.packet_view.specs.CheckedCaptures.{records_of}
 use Rattle.packet_view.specs.Fronts.{Stops}
 use Rattle.packet_view.specs.RecordLists.{records_from}
 use Rattle.packet_view.specs.declared.capture.Order.{Order}
-use Rattle.packet_view.specs.declared.front_records.Stop.{Stop}
-use Rattle.packet_view.specs.declared.front_records.Stop.TheVariants.{TooLong}
+use Rattle.packet_view.specs.declared.records_at_front.Stop.{Stop}
+use Rattle.packet_view.specs.declared.records_at_front.Stop.TheVariants.{TooLong}
 use Rattle.packet_view.specs.declared.packets.Packets.TheVariants as kind
 use Rattle.packet_view.specs.declared.capture_records.Records.{Records}
 use Rattle.packet_view.proofs.FrontLemmas.{records_appended, records_joined}

@@ -25,8 +25,8 @@ ghost use Rattle.packet_view.specs.declared.capture.CaptureFault.TheVariants.{Me
 ghost use Rattle.packet_view.specs.declared.capture.Order.{Order};
 
 use crate::capture_records::Records;
-use crate::front_records::{Front, Stop, front_records};
 use crate::packet::Packet;
+use crate::records_at_front::{Front, Stop, front_records};
 use byteorder::{BigEndian, ByteOrder, LittleEndian};
 use std::alloc::{AllocError, AllocFailed, Global};
 

@@ -7,7 +7,6 @@ mod capture_records;
 mod ethernet;
 mod frame;
 mod frame_laws;
-mod front_records;
 mod ip_packet;
 mod ipv4;
 mod ipv6;
@@ -15,6 +14,7 @@ mod packet;
 mod packet_bursts;
 mod packets;
 mod plain_packet;
+mod records_at_front;
 mod transport;
 mod tuple;
 
@@ -28,9 +28,9 @@ pub use frame::{Frame, plain_frame, view};
 pub use frame_laws::{
     bytes_after_the_packet_are_not_seen, each_frame_has_one_view, own_address_decides_the_way_alone,
 };
-pub use front_records::{Front, Stop, front_records};
 pub use packet::Packet;
 pub use packet_bursts::PacketBursts;
 pub use packets::Packets;
 pub use plain_packet::{PlainPacket, plain};
+pub use records_at_front::{Front, Stop, front_records};
 pub use tuple::{Direction, Family, Fields, Mac, Tuple};

@@ -1,7 +1,7 @@
 use Rattle.std.proofs.Common.{◌≤◌, length}
 use Rattle.packet_view.specs.Captures.{kept_limit}
 use Rattle.packet_view.proofs.RecordListLemmas.{AreBefore}
-use Rattle.packet_view.proofs.front_records.front_records.Given as goal
+use Rattle.packet_view.proofs.records_at_front.front_records.Given as goal
 
 -- so many records stand before what is left, and a record may keep the likely length
 abbrev pub invariant-records : goal.invariant-records

@@ -4,8 +4,8 @@ use Rattle.packet_view.specs.Fronts.{Stops}
 use Rattle.packet_view.specs.RecordLists.{bytes_of, front_record}
 use Rattle.packet_view.proofs.RecordLemmas.{part_shown}
 use Rattle.packet_view.proofs.RecordListLemmas.{before_few, before_listed, before_more}
-use Rattle.packet_view.proofs.front_records.front_records.Goals as goal
-use Rattle.packet_view.proofs.front_records.front_records.Goals.{in-End, in-TooLong, in-Truncated}
+use Rattle.packet_view.proofs.records_at_front.front_records.Goals as goal
+use Rattle.packet_view.proofs.records_at_front.front_records.Goals.{in-End, in-TooLong, in-Truncated}
 
 pub records-init : goal.records-init
 records-init c = (([], refl, refl), lit≤ tt)
