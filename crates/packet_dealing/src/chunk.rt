@@ -2,7 +2,7 @@
 use crate::chunk_dealing::deal_chunk;
 use crate::dealt_chunk::DealtChunk;
 use crate::packet_worker::Dealer;
-use crate::task::Task;
+use crate::tasks_in_threads::Task;
 use bihash_words::Shape;
 use packet_view::Packets;
 use std::alloc::AllocError;

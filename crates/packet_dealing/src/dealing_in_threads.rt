@@ -6,7 +6,7 @@ ghost use Rattle.packet_dealing.specs.Dealt.{AreDealt, AreShapes};
 use crate::chunk_jobs::{chunks_ahead, chunks_over};
 use crate::dealt_chunk::DealtChunk;
 use crate::packet_worker::Dealer;
-use crate::task::run_all;
+use crate::tasks_in_threads::run_all;
 use bihash_words::Shape;
 use packet_view::Packets;
 use std::alloc::{AllocError, Global};
