@@ -7,7 +7,7 @@ use Rattle.packet_view.specs.declared.tuple.Family.TheVariants.{V4, V6}
 use Rattle.packet_view.specs.declared.tuple.Mac.{Mac}
 use Rattle.acl_policy.specs.declared.rule.Action.{Action}
 use Rattle.acl_policy.specs.declared.rule.Action.TheVariants.{Deny, Permit, Reflect}
-use Rattle.policy_words.specs.declared.traffic.Traffic.{Traffic}
+use Rattle.policy_words.specs.declared.protocol_parts.Traffic.{Traffic}
 use Rattle.policy_words.specs.Numerals.{IsNumber}
 use Rattle.policy_words.specs.Prefixes.{IsMac, IsPrefix}
 use Rattle.acl_policy.specs.Rules.{RuleFacts}

@@ -2,8 +2,8 @@
 use Rattle.std.specs.Prelude.{ℕ, Option, Some, None, Result, Ok, Err}
 use Rattle.bihash_words.specs.declared.patch.Reply.{Reply}
 use Rattle.bihash_words.specs.declared.patch.Reply.TheVariants.{Kept, Changed, Worn, Full, NoPages}
-use Rattle.bihash_steps.specs.declared.faults.SplitFault as Split
-use Rattle.bihash_steps.specs.declared.faults.SplitFault.TheVariants as SplitFaults
+use Rattle.bihash_steps.specs.declared.split_fault.SplitFault as Split
+use Rattle.bihash_steps.specs.declared.split_fault.SplitFault.TheVariants as SplitFaults
 use Rattle.bihash_table.specs.declared.contended.Contended.{Contended}
 use Rattle.bihash_table.specs.declared.close_fault.CloseFault as Close
 use Rattle.bihash_table.specs.declared.close_fault.CloseFault.TheVariants as CloseFaults

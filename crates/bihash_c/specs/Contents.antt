@@ -8,7 +8,7 @@ use Rattle.bihash_steps.specs.CallerCalls.{AreInformed, IsJoined}
 use Rattle.bihash_steps.specs.Steps.{IsRefused}
 use Rattle.bihash_steps.specs.Seats.{CallerState, stamp_of, with_view}
 use Rattle.bihash_rule.specs.Views.{first_view}
-use Rattle.bihash_steps.specs.declared.faults.SplitFault.{SplitFault}
+use Rattle.bihash_steps.specs.declared.split_fault.SplitFault.{SplitFault}
 use Rattle.bihash_table.specs.Calls.{TellsRecycleTry, TellsSearchTry, TellsUpdateTry}
 use Rattle.bihash_table.specs.declared.close_fault.CloseFault.{CloseFault}
 use Rattle.bihash_table.specs.declared.contended.Contended.{Contended}
@@ -17,8 +17,8 @@ use Rattle.bihash_c.specs.Answers.{answer_of, close_number, renew_number, search
 use Rattle.bihash_c.specs.Members.{IsCloseTold, IsClosed, IsRenewTold, IsRenewedFrom, IsSplit}
 use Rattle.bihash_c.specs.declared.answer.Answer.{Answer}
 use Rattle.bihash_c.specs.declared.answer.Stamp.{Stamp}
-use Rattle.bihash_c.specs.declared.content.Content.{Content}
-use Rattle.bihash_c.specs.declared.content.Content.TheVariants.{Empty, Caller, Pairs}
+use Rattle.bihash_c.specs.declared.handle_content.Content.{Content}
+use Rattle.bihash_c.specs.declared.handle_content.Content.TheVariants.{Empty, Caller, Pairs}
 
 -- there is a caller
 abbrev pub HasCaller : {A K : Type 0} → Content A K → Type 0

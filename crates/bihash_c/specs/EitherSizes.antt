@@ -3,12 +3,12 @@ use Rattle.std.specs.Prelude.{◌≡◌, ◌⊎◌, ℕ, Bool, Option}
 use Rattle.bihash_words.specs.Sizes.{Sizes}
 use Rattle.bihash_words.specs.declared.shape.Shape.{Ghosts}
 use Rattle.bihash_steps.specs.Seats.{CallerState}
-use Rattle.bihash_steps.specs.declared.faults.SplitFault.{SplitFault}
+use Rattle.bihash_steps.specs.declared.split_fault.SplitFault.{SplitFault}
 use Rattle.bihash_c.specs.Answers.{split_number}
 use Rattle.bihash_c.specs.Contents as one
 use Rattle.bihash_c.specs.declared.answer.Stamp.{Stamp}
-use Rattle.bihash_c.specs.declared.content.Content.{Content}
-use Rattle.bihash_c.specs.declared.content.Content.TheVariants.{Empty}
+use Rattle.bihash_c.specs.declared.handle_content.Content.{Content}
+use Rattle.bihash_c.specs.declared.handle_content.Content.TheVariants.{Empty}
 use Rattle.bihash_c.specs.declared.either_size.EitherSize.{EitherSize}
 use Rattle.bihash_c.specs.declared.either_size.EitherSize.TheVariants.{Small, Large}
 

@@ -6,11 +6,11 @@ use Rattle.std.specs.Box.Ownership.{box_owns}
 use Rattle.std.specs.Global.{Global}
 use Rattle.std_heap.specs.contracts.GlobalAllocator.TheImpl.{ghosts}
 use Rattle.bihash_words.specs.declared.flow_shapes.ShapeV4.{ShapeV4}
-use Rattle.large_shapes.specs.declared.shapes.LargeV4.{LargeV4}
+use Rattle.large_shapes.specs.declared.large_flow_shapes.LargeV4.{LargeV4}
 use Rattle.bihash_c.specs.EitherSizes.{nothing}
 use Rattle.bihash_c.specs.declared.either_size.EitherSize.{EitherSize}
-use Rattle.bihash_c.specs.declared.place4.Place4.{Place4}
-use Rattle.bihash_c.specs.contracts.place4.Place4.{the_row}
+use Rattle.bihash_c.specs.declared.handle4_place.Place4.{Place4}
+use Rattle.bihash_c.specs.contracts.handle4_place.Place4.{the_row}
 
 abbrev pub handle_owns : Global → Ptr → Option the_row.Denot → Fml
 handle_owns alloc p None = ftrue

@@ -6,11 +6,11 @@ use Rattle.std.specs.Box.Ownership.{box_owns}
 use Rattle.std.specs.Global.{Global}
 use Rattle.std_heap.specs.contracts.GlobalAllocator.TheImpl.{ghosts}
 use Rattle.bihash_words.specs.declared.flow_shapes.ShapeV6.{ShapeV6}
-use Rattle.large_shapes.specs.declared.shapes.LargeV6.{LargeV6}
+use Rattle.large_shapes.specs.declared.large_flow_shapes.LargeV6.{LargeV6}
 use Rattle.bihash_c.specs.EitherSizes.{nothing}
 use Rattle.bihash_c.specs.declared.either_size.EitherSize.{EitherSize}
-use Rattle.bihash_c.specs.declared.place6.Place6.{Place6}
-use Rattle.bihash_c.specs.contracts.place6.Place6.{the_row}
+use Rattle.bihash_c.specs.declared.handle6_place.Place6.{Place6}
+use Rattle.bihash_c.specs.contracts.handle6_place.Place6.{the_row}
 
 abbrev pub handle_owns : Global → Ptr → Option the_row.Denot → Fml
 handle_owns alloc p None = ftrue

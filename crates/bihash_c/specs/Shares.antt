@@ -1,8 +1,8 @@
 -- Which table a hold of a table is of.
 use Rattle.atomic_table.specs.Seated.{TableId}
 use Rattle.std.specs.Arc.{arc_value}
-use Rattle.bihash_c.specs.declared.share.Share.{Share}
-use Rattle.bihash_c.specs.declared.share.Share.TheVariants.{Own, Shared}
+use Rattle.bihash_c.specs.declared.table_share.Share.{Share}
+use Rattle.bihash_c.specs.declared.table_share.Share.TheVariants.{Own, Shared}
 
 -- the row of the table
 abbrev pub row_of : {A K : Type 0} → Share A K → TableId

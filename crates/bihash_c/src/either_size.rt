@@ -1,5 +1,5 @@
 //! What is behind a handle, by the size of its table.
-use crate::content::Content;
+use crate::handle_content::Content;
 use bihash_words::Shape;
 
 /// What is behind a handle of a small or a large table.

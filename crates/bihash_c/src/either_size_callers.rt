@@ -1,10 +1,11 @@
-//! What is behind a handle, whichever size its table has: split, joined, told of another one, renewed and closed.
+//! What is behind a handle, whichever size its table has: split, joined and told of another one.
 ghost use Rattle.bihash_words.specs.Sizes.{sizes_of};
-ghost use Rattle.bihash_c.specs.EitherSizes.{AreOfOneTable, CloseTold, CountTold, HasCaller, HasPairs, JoinTold, MeetTold, PairTold, RenewTold, SplitTold};
+ghost use Rattle.bihash_table.specs.Calls.{TellsLone};
+ghost use Rattle.bihash_c.specs.EitherSizes.{AreOfOneTable, Calls, HasCaller, JoinTold, MeetTold, SplitTold, StampTold};
 
-use crate::answer::DONE;
-use crate::content::Content;
+use crate::answer::{DONE, Stamp};
 use crate::either_size::EitherSize;
+use crate::handle_content::Content;
 use bihash_words::Shape;
 use std::alloc::Global;
 
@@ -76,47 +77,26 @@ impl<S: Shape, L: Shape<Key = S::Key>> EitherSize<S, L> {
         }
     }
 
-    /// Ends the table, whose pairs are there then. Refused, the caller is there.
-    pub fn close(&mut self, alloc: Global) -> u32
+    /// Whether the caller has every number that was made.
+    pub fn is_lone(&mut self) -> bool
         requires { HasCaller self.old }
-        ensures { CloseTold ⟦<S as Shape>⟧ ⟦<L as Shape>⟧ self.old self.new result }
+        ensures { Calls self.old self.new (λ s t. TellsLone (sizes_of S.Shape) s t result)
+            (λ s t. TellsLone (sizes_of L.Shape) s t result) }
     {
         match self {
-            EitherSize::Small(content) => content.close(alloc),
-            EitherSize::Large(content) => content.close(alloc),
+            EitherSize::Small(content) => content.is_lone(),
+            EitherSize::Large(content) => content.is_lone(),
         }
     }
 
-    /// Opens the table again: caller 1 is there then. Refused, the caller is there.
-    pub fn renew(&mut self, alloc: Global) -> u32
-        requires { HasCaller self.old }
-        ensures { RenewTold (sizes_of S.Shape) (sizes_of L.Shape) self.old self.new result }
+    /// The bucket and the stamp of the last answered call.
+    pub fn stamp(&self) -> Stamp
+        requires { HasCaller self.now }
+        ensures { StampTold self.now result }
     {
         match self {
-            EitherSize::Small(content) => content.renew(alloc),
-            EitherSize::Large(content) => content.renew(alloc),
-        }
-    }
-
-    /// How many pairs are there.
-    pub fn pair_count(&self) -> u64
-        requires { HasPairs self.now }
-        ensures { CountTold self.now result }
-    {
-        match self {
-            EitherSize::Small(content) => content.pair_count(),
-            EitherSize::Large(content) => content.pair_count(),
-        }
-    }
-
-    /// The pair at a place, counted from 0. `None` behind the last.
-    pub fn pair(&self, at: u64) -> Option<(S::Key, u64)>
-        requires { HasPairs self.now }
-        ensures { PairTold self.now at result }
-    {
-        match self {
-            EitherSize::Small(content) => content.pair(at),
-            EitherSize::Large(content) => content.pair(at),
+            EitherSize::Small(content) => content.stamp(),
+            EitherSize::Large(content) => content.stamp(),
         }
     }
 }

@@ -1,10 +1,10 @@
 //! A handle of a table of IPv4 flows: a pointer whose type names no other type, so that it may go to C.
 ghost use Rattle.std.specs.Prelude.{◌≡◌, None, Option, Some};
-ghost use Rattle.bihash_c.specs.declared.place4.Place4.{Place4};
+ghost use Rattle.bihash_c.specs.declared.handle4_place.Place4.{Place4};
 ghost use Rattle.bihash_c.specs.Handles4.{HasPlace, content_in, handle_owns};
 
-use crate::parts::Parts;
-use crate::place4::Place4;
+use crate::box_parts::Parts;
+use crate::handle4_place::Place4;
 use std::alloc::Global;
 use std::marker::Model;
 use std::mem;

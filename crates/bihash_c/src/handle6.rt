@@ -1,10 +1,10 @@
 //! A handle of a table of IPv6 flows: a pointer whose type names no other type, so that it may go to C.
 ghost use Rattle.std.specs.Prelude.{◌≡◌, None, Option, Some};
-ghost use Rattle.bihash_c.specs.declared.place6.Place6.{Place6};
+ghost use Rattle.bihash_c.specs.declared.handle6_place.Place6.{Place6};
 ghost use Rattle.bihash_c.specs.Handles6.{HasPlace, content_in, handle_owns};
 
-use crate::parts::Parts;
-use crate::place6::Place6;
+use crate::box_parts::Parts;
+use crate::handle6_place::Place6;
 use std::alloc::Global;
 use std::marker::Model;
 use std::mem;

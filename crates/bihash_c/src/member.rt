@@ -4,7 +4,7 @@ ghost use Rattle.bihash_steps.specs.Seats.{CallerState};
 ghost use Rattle.bihash_rule.specs.Views.{nothing_held};
 ghost use Rattle.bihash_c.specs.Shares.{row_of};
 
-use crate::share::Share;
+use crate::table_share::Share;
 use bihash_table::Caller;
 use bihash_words::Shape;
 use std::marker::Model;

@@ -9,7 +9,7 @@ use Rattle.std.specs.declared.cmp.Ordering.TheVariants.{Less, Equal, Greater}
 use Rattle.bihash_plan.specs.Blocks.{HasPairAt}
 use Rattle.bihash_plan.specs.Recycles.{IsLeastExpired, NoneIsExpired}
 use Rattle.bihash_plan.specs.inner.LeastPairs.{IsBound, IsLeastAmong, IsLeastTo}
-use Rattle.bihash_plan.specs.declared.expired.Least.{Least}
+use Rattle.bihash_plan.specs.declared.recycling_plan.Least.{Least}
 use Rattle.bihash_plan.proofs.Places.{pair_inside}
 
 -- a key below one that is not above another is not above that other

@@ -7,8 +7,8 @@ use Rattle.std.proofs.lemmas.Nat.{pow_below, pow_pos}
 use Rattle.std.proofs.Math.Pow.{pow_mono}
 use Rattle.bihash_words.specs.declared.block_size.BlockSize.{BlockSize}
 use Rattle.bihash_words.specs.Pages.{Paging, page_of}
-use Rattle.bihash_plan.specs.declared.outcome.Plan.{Plan}
-use Rattle.bihash_plan.specs.declared.outcome.Plan.TheVariants.{InPlace, Grow, Full}
+use Rattle.bihash_plan.specs.declared.plan_answer.Plan.{Plan}
+use Rattle.bihash_plan.specs.declared.plan_answer.Plan.TheVariants.{InPlace, Grow, Full}
 use Rattle.bihash_plan.specs.Blocks.{IsCrowded, IsFirstFree, IsFree, IsLawfulBlock, IsNew, is_taken, pairs}
 use Rattle.bihash_plan.specs.Searches.{IsOnlyPlan}
 use Rattle.bihash_plan.specs.Plans.{CanBecomeLinear, HasRoom, IsExhausted, IsGrowth, IsLinearSize, IsPlan, IsSplit, NeedsLinear, keys_of}

@@ -2,8 +2,8 @@
 -- the table's own rule.
 use Rattle.std.specs.Prelude.{◌≡◌, ◌≤◌, ◌<◌, ◌⊎◌, ℕ, ◌+◌, Bool, true, false, ◌==◌, List, [], ◌∷◌, map, count_by}
 use Rattle.bihash_words.specs.Pages.{Paging, page_of}
-use Rattle.bihash_plan.specs.declared.outcome.Plan.{Plan}
-use Rattle.bihash_plan.specs.declared.outcome.Plan.TheVariants.{InPlace, Grow, Full}
+use Rattle.bihash_plan.specs.declared.plan_answer.Plan.{Plan}
+use Rattle.bihash_plan.specs.declared.plan_answer.Plan.TheVariants.{InPlace, Grow, Full}
 use Rattle.bihash_plan.specs.Blocks.{HasKey, IsCrowded, IsFirstFree, IsFree, IsNew, pairs}
 
 -- the keys of a block's pairs

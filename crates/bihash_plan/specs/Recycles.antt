@@ -6,7 +6,7 @@ use Rattle.std.specs.declared.cmp.Ordering.TheVariants.{Greater}
 use Rattle.bihash_words.specs.Pages.{Paging, page_of}
 use Rattle.bihash_words.specs.declared.block_size.BlockSize.{BlockSize}
 use Rattle.bihash_plan.specs.Blocks.{HasPairAt}
-use Rattle.bihash_plan.specs.declared.spare_place.Recycle.{Recycle}
+use Rattle.bihash_plan.specs.declared.recycled_place.Recycle.{Recycle}
 
 -- the pair at place i is expired, and no expired pair has a key that is less by its words
 pub record IsLeastExpired {K : Type 0} (words_of : K → List ℕ) (is_expired : ℕ → Bool) (places : List (K × ℕ))

@@ -7,8 +7,8 @@ use Rattle.bihash_words.specs.Pages.{Paging}
 use Rattle.bihash_words.specs.Sizes.{IsSound, sizes_of}
 use Rattle.bihash_plan.specs.Blocks.{HasKey, IsFree, IsNew, IsSized, NamesPage, pairs}
 use Rattle.bihash_plan.specs.Plans.{IsPlan}
-use Rattle.bihash_plan.specs.declared.outcome.Plan.{Plan}
-use Rattle.bihash_plan.specs.declared.outcome.Plan.TheVariants.{Full}
+use Rattle.bihash_plan.specs.declared.plan_answer.Plan.{Plan}
+use Rattle.bihash_plan.specs.declared.plan_answer.Plan.TheVariants.{Full}
 
 -- the shape is sound, and its blocks may have 2 ^ log2 pages
 pub record MayHavePages {A K : Type 0} (s : Ghosts A K) (log2 : ℕ) : Type 0 where

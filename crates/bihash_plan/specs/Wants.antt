@@ -5,7 +5,7 @@ use Rattle.bihash_words.specs.Maps.{Pairs}
 use Rattle.bihash_words.specs.Pages.{paging_of}
 use Rattle.bihash_words.specs.declared.block_size.BlockSize.{BlockSize}
 use Rattle.bihash_words.specs.declared.shape.Shape.{Ghosts}
-use Rattle.bihash_plan.specs.declared.outcome.Plan.TheVariants.{Grow}
+use Rattle.bihash_plan.specs.declared.plan_answer.Plan.TheVariants.{Grow}
 use Rattle.bihash_plan.specs.Blocks.{HasPairAt, IsLawfulBlock}
 use Rattle.bihash_plan.specs.Plans.{IsPlan}
 

@@ -2,19 +2,19 @@
 //! larger block is laid out.
 #![tactic(auto)]
 
-mod expired;
-mod fit;
-mod growth;
-mod outcome;
-mod place;
+mod block_fit;
+mod block_pages;
+mod block_search;
+mod key_plan;
+mod plan_answer;
+mod recycled_place;
+mod recycling_plan;
 mod rehash;
-mod search;
-mod spare_place;
 
-pub use expired::recycle;
-pub use growth::{larger, plan};
-pub use outcome::Plan;
-pub use place::page_count;
+pub use block_pages::page_count;
+pub use block_search::find;
+pub use key_plan::{larger, plan};
+pub use plan_answer::Plan;
+pub use recycled_place::Recycle;
+pub use recycling_plan::recycle;
 pub use rehash::lay;
-pub use search::find;
-pub use spare_place::Recycle;

@@ -7,8 +7,8 @@ ghost use Rattle.bihash_plan.specs.Blocks.{IsCrowded, IsFirstFree};
 ghost use Rattle.bihash_plan.specs.Layouts.{HasPlacesTo, IsFirstFreeOrNone, IsNamed, IsRehash, IsTakenBefore};
 ghost use Rattle.bihash_plan.specs.Searches.{HasPlaces};
 
-use crate::place::open_places;
-use crate::search::free_place;
+use crate::block_pages::open_places;
+use crate::block_search::free_place;
 use bihash_words::{BlockSize, FREE, Shape};
 
 /// Writes a block of this size into `out`: the pairs in the order of their places and then

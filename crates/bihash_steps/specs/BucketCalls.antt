@@ -13,7 +13,7 @@ use Rattle.bihash_steps.specs.BucketSteps.{Enters, RestsOn, SeesLocked, SeesOpen
 use Rattle.bihash_steps.specs.Seats.{CallerState, IsSameSeat, with_view}
 use Rattle.bihash_rule.specs.Views.{nothing_held}
 use Rattle.bihash_steps.specs.declared.event.Event.{Event}
-use Rattle.bihash_steps.specs.declared.recycled.Recycled.{Recycled}
+use Rattle.bihash_steps.specs.declared.recycling_write.Recycled.{Recycled}
 use Rattle.bihash_rule.specs.declared.view.Call.{Call}
 use Rattle.bihash_rule.specs.declared.view.LockedBucket.{LockedBucket}
 use Rattle.bihash_rule.specs.declared.view.OpenBucket.{OpenBucket}

@@ -12,8 +12,8 @@ use Rattle.bihash_rule.specs.declared.view.Write.{Write}
 use Rattle.bihash_rule.specs.declared.view.Entry.{Entry}
 use Rattle.bihash_rule.specs.declared.view.Meeting.{Meeting}
 use Rattle.bihash_rule.specs.declared.view.View.{View}
-use Rattle.bihash_steps.specs.declared.faults.SplitFault.{SplitFault}
-use Rattle.bihash_steps.specs.declared.faults.SplitFault.TheVariants.{Memory, Numbers, Contended}
+use Rattle.bihash_steps.specs.declared.split_fault.SplitFault.{SplitFault}
+use Rattle.bihash_steps.specs.declared.split_fault.SplitFault.TheVariants.{Memory, Numbers, Contended}
 
 -- a seat: its view, and the slots that it holds, of which a row has none
 abbrev pub ViewOfSeat : Type 0

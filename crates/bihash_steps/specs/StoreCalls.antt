@@ -4,7 +4,7 @@ use Rattle.bihash_words.specs.Sizes.{Sizes}
 use Rattle.bihash_steps.specs.BucketSteps.{without_notes}
 use Rattle.bihash_steps.specs.StoreSteps.{HasRoomFor, LocksStore, word_in}
 use Rattle.bihash_steps.specs.Seats.{CallerState, IsSameSeat}
-use Rattle.bihash_steps.specs.declared.pool.word.PoolWord.{PoolWord}
+use Rattle.bihash_steps.specs.declared.steps_on_page_store.word.PoolWord.{PoolWord}
 use Rattle.bihash_rule.specs.declared.view.LockedStore.{LockedStore}
 
 -- The allocation lock was taken, or somebody has it. A lone caller that doesn't hold it takes it.

@@ -15,8 +15,8 @@ use Rattle.bihash_rule.specs.declared.view.PageStore.{PageStore}
 use Rattle.bihash_rule.specs.declared.view.LockedStore.{LockedStore}
 use Rattle.bihash_rule.specs.declared.view.HeldBlock.{HeldBlock}
 use Rattle.bihash_rule.specs.declared.view.View.{View}
-use Rattle.bihash_steps.specs.declared.pool.word.PoolWord.{PoolWord}
-use Rattle.bihash_steps.specs.declared.pool.word.PoolWord.TheVariants.{Used, Count, Listed}
+use Rattle.bihash_steps.specs.declared.steps_on_page_store.word.PoolWord.{PoolWord}
+use Rattle.bihash_steps.specs.declared.steps_on_page_store.word.PoolWord.TheVariants.{Used, Count, Listed}
 
 -- the caller holds this of the page store, and this block; its notes are dropped
 abbrev pub holding : View → Option LockedStore → Option HeldBlock → View

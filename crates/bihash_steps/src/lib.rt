@@ -1,24 +1,26 @@
 //! The words of a shared session table under one rule, and the atomic steps on them.
 #![tactic(auto)]
 
-mod began;
-mod buckets;
-mod callers;
+mod create_fault;
 mod event;
-mod faults;
-mod open;
-mod places;
-mod pool;
-mod recycled;
-mod renewal;
+mod new_row;
+mod recycling_write;
+mod renewed_row;
 mod row;
-mod scratch;
+mod row_beginning;
+mod row_layout;
+mod split_fault;
+mod steps_on_buckets;
+mod steps_on_callers;
+mod steps_on_page_store;
+mod working_copy;
 
+pub use create_fault::CreateFault;
 pub use event::Event;
-pub use faults::{CreateFault, SplitFault};
-pub use open::open_row;
-pub use pool::PoolWord;
-pub use recycled::Recycled;
-pub use renewal::reopen_row;
+pub use new_row::open_row;
+pub use recycling_write::Recycled;
+pub use renewed_row::reopen_row;
 pub use row::{Caller, CallerSeat, Row};
-pub use scratch::Scratch;
+pub use split_fault::SplitFault;
+pub use steps_on_page_store::PoolWord;
+pub use working_copy::Scratch;

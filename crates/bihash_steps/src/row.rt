@@ -6,8 +6,8 @@ ghost use Rattle.bihash_steps.specs.Seats.{CallerState, caller_state, IsRow, Can
 ghost use Rattle.bihash_rule.specs.Views.{opening_view, openings_told};
 ghost use Rattle.bihash_rule.specs.WordRule.{WordRule};
 
-use crate::began::Began;
-use crate::scratch::Scratch;
+use crate::row_beginning::Began;
+use crate::working_copy::Scratch;
 use atomic_table::{Seat, Table, TableRule};
 use bihash_rule::View;
 use bihash_words::Shape;

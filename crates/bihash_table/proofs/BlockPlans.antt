@@ -13,8 +13,8 @@ use Rattle.bihash_plan.specs.Blocks.{HasKey, HasPairAt, IsCrowded, IsFree, IsLaw
 use Rattle.bihash_plan.specs.Layouts.{IsNamed}
 use Rattle.bihash_plan.specs.Plans.{CanBecomeLinear, IsExhausted, IsGrowth, IsPlan}
 use Rattle.bihash_plan.specs.Searches.{IsOnlyPlan}
-use Rattle.bihash_plan.specs.declared.outcome.Plan.{Plan}
-use Rattle.bihash_plan.specs.declared.outcome.Plan.TheVariants.{Full, Grow, InPlace}
+use Rattle.bihash_plan.specs.declared.plan_answer.Plan.{Plan}
+use Rattle.bihash_plan.specs.declared.plan_answer.Plan.TheVariants.{Full, Grow, InPlace}
 use Rattle.bihash_plan.proofs.Places.{free_at, free_inside}
 use Rattle.bihash_rule.specs.Words.{block_words}
 use Rattle.bihash_rule.specs.Histories.{bounds_of}

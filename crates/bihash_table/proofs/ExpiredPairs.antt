@@ -16,7 +16,7 @@ use Rattle.bihash_words.specs.declared.patch.Reply.TheVariants.{Changed, Full}
 use Rattle.bihash_words.specs.declared.shape.Shape.{Ghosts}
 use Rattle.bihash_words.proofs.SpareLemmas.{among_words, counted_told, none_spare, not_counted, spare_only}
 use Rattle.bihash_plan.specs.Recycles.{IsLeastExpired, IsMarked, NoneIsExpired}
-use Rattle.bihash_plan.specs.declared.spare_place.Recycle.{Recycle}
+use Rattle.bihash_plan.specs.declared.recycled_place.Recycle.{Recycle}
 use Rattle.bihash_rule.specs.Blocks.{HoldsPair, IsBlockOf, places}
 use Rattle.bihash_steps.specs.BucketSteps.{Enters, MayMark, acting, call_of, map_now, view_after_write, with_lock}
 use Rattle.bihash_rule.specs.Callers.{IsLawfulCaller, known_at}

@@ -13,8 +13,8 @@ use Rattle.bihash_plan.specs.Blocks.{IsCrowded, IsLawfulBlock, IsNew}
 use Rattle.bihash_plan.specs.Layouts.{IsNamed, IsRehash}
 use Rattle.bihash_plan.specs.Plans.{IsPlan}
 use Rattle.bihash_plan.specs.Searches.{IsOnlyPlan}
-use Rattle.bihash_plan.specs.declared.outcome.Plan.{Plan}
-use Rattle.bihash_plan.specs.declared.outcome.Plan.TheVariants.{Grow}
+use Rattle.bihash_plan.specs.declared.plan_answer.Plan.{Plan}
+use Rattle.bihash_plan.specs.declared.plan_answer.Plan.TheVariants.{Grow}
 use Rattle.bihash_rule.specs.Histories.{bounds_of}
 use Rattle.bihash_rule.specs.Blocks.{IsBlockOf, places}
 use Rattle.bihash_words.specs.declared.patch.Change.TheVariants.{Set}

@@ -13,10 +13,10 @@ ghost use Rattle.bihash_table.specs.inner.OpenReads.{StandsAt};
 ghost use Rattle.bihash_table.specs.inner.PairLists.{AddsBlock, IsIdleAndLone, ListsBuckets};
 ghost use Rattle.bihash_table.specs.inner.RowWords.{HasBlockIn, HasNoted, OfBlockIn};
 
+use crate::block_places::{FREE, place_count};
 use crate::close_fault::CloseFault;
-use crate::places::{FREE, place_count};
-use crate::renewal::read_words;
-use crate::sessions::Sessions;
+use crate::renew::read_words;
+use crate::shared_table::Sessions;
 use bihash_steps::{Caller, CallerSeat, Row};
 use bihash_words::{BucketWord, Shape, compare};
 use std::alloc::{AllocError, Global};

@@ -1,30 +1,31 @@
 //! A session table that many callers share: each answer is a place in one legal history of its bucket.
 #![tactic(auto)]
 
-mod block;
-mod change;
+mod block_copies;
+mod block_places;
+mod block_writes;
+mod bucket_lock;
+mod change_in_place;
+mod change_of_block;
 mod close;
 mod close_fault;
 mod contended;
-mod entrant;
-mod grow;
+mod entered_value;
 mod hashed_key;
-mod lock;
-mod never;
-mod pages;
-mod places;
-mod reads;
+mod never_expired;
+mod open_reads;
+mod page_allocation;
 mod recycling;
+mod renew;
 mod renew_fault;
-mod renewal;
 mod search;
-mod sessions;
-mod snapshot;
-mod update;
-mod wait;
+mod shared_table;
+mod try_update;
+mod waiting_update;
+mod worn_bucket;
 
 pub use bihash_steps::{Caller, CallerSeat, CreateFault, SplitFault};
 pub use close_fault::CloseFault;
 pub use contended::Contended;
 pub use renew_fault::RenewFault;
-pub use sessions::{Sessions, create, stamp};
+pub use shared_table::{Sessions, create, stamp};

@@ -6,11 +6,11 @@ ghost use Rattle.bihash_table.specs.Tries.{FinishedOver};
 ghost use Rattle.bihash_table.specs.inner.Locked.{TakesPlace, UnderLock};
 ghost use Rattle.bihash_table.specs.inner.Seen.{MayRefuse, TriedToEnter, WantsPlace};
 
-use crate::change::{store_key, store_word};
+use crate::bucket_lock::lock_if_unchanged;
+use crate::change_in_place::{store_key, store_word};
 use crate::contended::Contended;
-use crate::entrant::Entrant;
+use crate::entered_value::Entrant;
 use crate::hashed_key::SeenBucket;
-use crate::lock::lock_if_unchanged;
 use bihash_plan::recycle;
 use bihash_steps::{CallerSeat, Event, Recycled, Row};
 use bihash_words::{Change, Expiry, Reply, Shape};

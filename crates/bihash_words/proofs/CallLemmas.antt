@@ -4,7 +4,7 @@ use Rattle.std.specs.FinMap.{get, len, remove}
 use Rattle.bihash_words.specs.declared.patch.Change.{Change}
 use Rattle.bihash_words.specs.declared.patch.Reply.{Reply}
 use Rattle.bihash_words.specs.declared.patch.Reply.TheVariants.{Changed, Full, Kept, NoPages, Worn}
-use Rattle.bihash_words.specs.declared.recycling.Recycling.{Recycling}
+use Rattle.bihash_words.specs.declared.recycling_note.Recycling.{Recycling}
 use Rattle.bihash_words.specs.Refusals.{IsNoRefusal}
 use Rattle.bihash_words.specs.Maps.{Answers, AnswersFull, Bounds, NoRoom, NewKey, Event, WornOut, Unchanged, Pairs, OldKey, Case, IsEvent, changed, effect_of, case_with, removed_in, spare, expired_told, HasExpiry}
 

@@ -1,7 +1,7 @@
 -- Which words count as expired, as a list that an entry can bear, and which pair of a map goes first. This is the
 -- table's own rule.
 use Rattle.std.specs.Prelude.{ℕ, zero, suc, ◌^◌, ◌==◌, Bool, true, false, if◌then◌else◌, List, [], ◌∷◌, Option, Some, None}
-use Rattle.bihash_words.specs.declared.recycling.Recycling.{Recycling}
+use Rattle.bihash_words.specs.declared.recycling_note.Recycling.{Recycling}
 
 -- the words below a bound of which the test holds
 unfoldable pub words_below : (ℕ → Bool) → ℕ → List ℕ

@@ -5,7 +5,7 @@ use Rattle.std.specs.declared.cmp.Ordering.TheVariants.{Greater}
 use Rattle.std.specs.Cmp.Lexicographic.{slice_cmp}
 use Rattle.std.specs.FinMap.{FinMap, entries, get, insert, remove, len}
 use Rattle.bihash_words.specs.Expiries.{first_expired, is_among}
-use Rattle.bihash_words.specs.declared.recycling.Recycling.{Recycling}
+use Rattle.bihash_words.specs.declared.recycling_note.Recycling.{Recycling}
 use Rattle.bihash_words.specs.declared.patch.Change.{Change}
 use Rattle.bihash_words.specs.declared.patch.Change.TheVariants.{Keep, Set, Remove}
 use Rattle.bihash_words.specs.declared.patch.Reply.{Reply}

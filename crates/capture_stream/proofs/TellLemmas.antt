@@ -9,10 +9,10 @@ use Rattle.packet_view.specs.CheckedCaptures.{records_of}
 use Rattle.packet_view.specs.Fronts.{Stops}
 use Rattle.packet_view.specs.RecordLists.{records_from}
 use Rattle.packet_view.specs.declared.capture.Order.{Order}
-use Rattle.packet_view.specs.declared.front.Stop.{Stop}
-use Rattle.packet_view.specs.declared.front.Stop.TheVariants.{TooLong}
+use Rattle.packet_view.specs.declared.records_at_front.Stop.{Stop}
+use Rattle.packet_view.specs.declared.records_at_front.Stop.TheVariants.{TooLong}
 use Rattle.packet_view.specs.declared.packets.Packets.TheVariants as kind
-use Rattle.packet_view.specs.declared.records.Records.{Records}
+use Rattle.packet_view.specs.declared.capture_records.Records.{Records}
 use Rattle.packet_view.proofs.FrontLemmas.{records_appended, records_joined}
 use Rattle.packet_view.proofs.RecordListLemmas.{packets_count, records_within}
 use Rattle.flow_filter.specs.declared.verdict.Verdict.{Verdict}

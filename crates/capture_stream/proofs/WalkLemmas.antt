@@ -6,10 +6,10 @@ use Rattle.packet_view.specs.Captures.{AreRecords, IsEnd, IsTooLong, PacketFacts
 use Rattle.packet_view.specs.Fronts.{Stops}
 use Rattle.packet_view.specs.CheckedCaptures.{records_of}
 use Rattle.packet_view.specs.declared.capture.Order.{Order}
-use Rattle.packet_view.specs.declared.front.Stop.{Stop}
-use Rattle.packet_view.specs.declared.front.Stop.TheVariants.{End, TooLong, Truncated}
+use Rattle.packet_view.specs.declared.records_at_front.Stop.{Stop}
+use Rattle.packet_view.specs.declared.records_at_front.Stop.TheVariants.{End, TooLong, Truncated}
 use Rattle.packet_view.specs.declared.packets.Packets.TheVariants as kind
-use Rattle.packet_view.specs.declared.records.Records.{Records}
+use Rattle.packet_view.specs.declared.capture_records.Records.{Records}
 use Rattle.packet_view.proofs.FrontLemmas.{records_appended, records_joined}
 use Rattle.packet_view.proofs.RecordLemmas.{number_from-append}
 use Rattle.packet_view.proofs.RecordListLemmas.{packets_count, records_within}

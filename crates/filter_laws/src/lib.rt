@@ -1,9 +1,9 @@
 //! What follows of the filter's definitions, as laws.
 #![tactic(auto)]
 
-mod laws;
+mod verdict_laws;
 
-pub use laws::{
+pub use verdict_laws::{
     each_capture_has_one_list_of_verdicts, each_list_is_judged_once, each_packet_has_one_reading,
     full_buckets_hold_live_sessions, interfaces_are_apart, only_expired_sessions_make_room,
     packets_pass_by_rule_or_session,

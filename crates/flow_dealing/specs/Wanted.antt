@@ -8,7 +8,7 @@ use Rattle.bihash_words.specs.declared.block_size.BlockSize.{BlockSize}
 use Rattle.bihash_words.specs.declared.patch.Reply.TheVariants.{NoPages}
 use Rattle.bihash_plan.specs.Blocks.{HasPairAt, IsLawfulBlock}
 use Rattle.bihash_plan.specs.Plans.{IsPlan}
-use Rattle.bihash_plan.specs.declared.outcome.Plan.TheVariants.{Grow}
+use Rattle.bihash_plan.specs.declared.plan_answer.Plan.TheVariants.{Grow}
 use Rattle.bihash_rule.specs.Callers.{known_at, opening_at}
 use Rattle.bihash_rule.specs.Histories.{after}
 use Rattle.bihash_rule.specs.declared.view.Call.{Call}

@@ -17,11 +17,11 @@ use Rattle.flow_filter.specs.declared.verdict.Verdict.{Verdict}
 use Rattle.flow_dealing.specs.Traces.{IsTrace}
 use Rattle.flow_dealing.specs.Wanted.{HasWanted, HaveWanted}
 use Rattle.flow_dealing.proofs.TraceMerges.{judge_each_packet}
-use Rattle.flow_workers.specs.declared.setup.Setup.{Setup}
-use Rattle.flow_workers.specs.declared.share.Batch.{Batch}
-use Rattle.flow_workers.specs.declared.share.Share.{Share}
-use Rattle.flow_workers.specs.declared.tables.Callers.{Callers}
-use Rattle.flow_workers.specs.declared.tables.Tables.{Tables}
+use Rattle.flow_workers.specs.declared.worker_setup.Setup.{Setup}
+use Rattle.flow_workers.specs.declared.worker_share.Batch.{Batch}
+use Rattle.flow_workers.specs.declared.worker_share.Share.{Share}
+use Rattle.flow_workers.specs.declared.session_tables.Callers.{Callers}
+use Rattle.flow_workers.specs.declared.session_tables.Tables.{Tables}
 use Rattle.flow_workers.specs.declared.workers.Workers.{Workers}
 use Rattle.flow_workers.specs.Callers.{AreIdle, views_of}
 use Rattle.flow_workers.specs.Progress.{AreAtRest, HasGoneOn, HaveAllSaid, IsAlone, IsAtRestAfter}

@@ -19,9 +19,9 @@ use Rattle.flow_filter.specs.declared.verdict.Verdict.{Verdict}
 use Rattle.packet_dealing.proofs.DealtLists.{next_there, some_left, stands_at, there_behind}
 use Rattle.packet_dealing.specs.Dealt.{AreDealt, IsDealtTo}
 use Rattle.packet_dealing.specs.declared.dealt_chunk.DealtChunk.{DealtChunk}
-use Rattle.flow_workers.specs.declared.share.Batch.{Batch}
-use Rattle.flow_workers.specs.declared.share.Share.{Share}
-use Rattle.flow_workers.specs.declared.tables.Callers.{Callers}
+use Rattle.flow_workers.specs.declared.worker_share.Batch.{Batch}
+use Rattle.flow_workers.specs.declared.worker_share.Share.{Share}
+use Rattle.flow_workers.specs.declared.session_tables.Callers.{Callers}
 use Rattle.flow_workers.specs.declared.viewed_packet.ViewedPacket.{ViewedPacket}
 use Rattle.flow_workers.specs.Callers.{AreIdle}
 use Rattle.flow_workers.specs.Verdicts.{HasVerdict}

@@ -12,8 +12,8 @@ use Rattle.packet_dealing.proofs.HandedPackets.{none_picked, none_there, picked_
 use Rattle.packet_dealing.specs.Dealt.{IsDealtTo, picked, placed_facts}
 use Rattle.packet_dealing.specs.declared.dealt_chunk.DealtPacket.{DealtPacket}
 use Rattle.packet_dealing.specs.declared.dealt_chunk.DealtChunk.{DealtChunk}
-use Rattle.flow_workers.specs.declared.share.Batch.{Batch}
-use Rattle.flow_workers.specs.declared.share.Share.{Share}
+use Rattle.flow_workers.specs.declared.worker_share.Batch.{Batch}
+use Rattle.flow_workers.specs.declared.worker_share.Share.{Share}
 use Rattle.flow_workers.specs.Callers.{AreIdle}
 use Rattle.flow_workers.specs.inner.Jobs.{HasWorkedOn, IsChunkAt, dealer_of}
 use Rattle.flow_workers.proofs.DealtLemmas.{chunk_left, chunk_mine, worked_none, worked_on, worked_past, worked_to}

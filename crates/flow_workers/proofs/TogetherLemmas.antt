@@ -7,9 +7,9 @@ use Rattle.packet_view.specs.CheckedCaptures.{remaining}
 use Rattle.bihash_words.specs.declared.shape.Shape.{Ghosts}
 use Rattle.packet_dealing.proofs.DealtLists.{workers_push}
 use Rattle.packet_dealing.specs.Dealt.{IsDealtTo}
-use Rattle.packet_dealing.specs.declared.dealer.Dealer.{Dealer}
-use Rattle.flow_workers.specs.declared.share.Batch.{Batch}
-use Rattle.flow_workers.specs.declared.share.Share.{Share}
+use Rattle.packet_dealing.specs.declared.packet_worker.Dealer.{Dealer}
+use Rattle.flow_workers.specs.declared.worker_share.Batch.{Batch}
+use Rattle.flow_workers.specs.declared.worker_share.Share.{Share}
 use Rattle.flow_workers.specs.Callers.{AreIdle}
 use Rattle.flow_workers.specs.inner.Jobs.{HasWorkedOn, dealer_of}
 use Rattle.flow_workers.specs.inner.Together.{HaveNotedSome}

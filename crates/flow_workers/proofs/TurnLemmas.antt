@@ -13,12 +13,12 @@ use Rattle.bihash_steps.proofs.Lists.{there}
 use Rattle.session_state.specs.declared.timeouts.Timeouts.{Timeouts}
 use Rattle.flow_dealing.specs.Traces.{HasCalls, HaveTraces, Item, calls_in}
 use Rattle.flow_dealing.specs.Wanted.{HaveWanted}
-use Rattle.flow_workers.specs.declared.share.Dealt.{Dealt}
-use Rattle.flow_workers.specs.declared.share.Job.{Job}
-use Rattle.flow_workers.specs.declared.share.Batch.{Batch}
-use Rattle.flow_workers.specs.declared.share.Share.{Share}
-use Rattle.flow_workers.specs.declared.turn.Turn.{Turn}
-use Rattle.flow_workers.specs.declared.turn.Turn.TheVariants.{Ahead, Over}
+use Rattle.flow_workers.specs.declared.worker_share.Dealt.{Dealt}
+use Rattle.flow_workers.specs.declared.worker_share.Job.{Job}
+use Rattle.flow_workers.specs.declared.worker_share.Batch.{Batch}
+use Rattle.flow_workers.specs.declared.worker_share.Share.{Share}
+use Rattle.flow_workers.specs.declared.worker_turn.Turn.{Turn}
+use Rattle.flow_workers.specs.declared.worker_turn.Turn.TheVariants.{Ahead, Over}
 use Rattle.flow_workers.specs.inner.Fresh.{IsFreshView}
 use Rattle.flow_workers.specs.inner.Work.{RecordContinues}
 use Rattle.flow_workers.specs.inner.Jobs.{AreDealtFrom, CanWork}

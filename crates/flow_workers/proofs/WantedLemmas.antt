@@ -18,7 +18,7 @@ use Rattle.bihash_words.specs.declared.shape.Shape.{Ghosts}
 use Rattle.bihash_words.proofs.BlockLemmas.{lawful_as}
 use Rattle.bihash_plan.specs.Blocks.{HasKey, HasPairAt, IsFree, IsLawfulBlock, IsSized, is_taken, pairs}
 use Rattle.bihash_plan.specs.Plans.{HasRoom, IsGrowth, IsLinearSize, IsPlan, IsSplit, NeedsLinear, keys_of}
-use Rattle.bihash_plan.specs.declared.outcome.Plan.TheVariants.{Grow}
+use Rattle.bihash_plan.specs.declared.plan_answer.Plan.TheVariants.{Grow}
 use Rattle.bihash_plan.proofs.Pairs.{count_by-map}
 use Rattle.bihash_steps.specs.BucketSteps.{last_call, map_now, push_call}
 use Rattle.bihash_rule.specs.Callers.{IsConsistent, IsLawfulCaller, known_at, opening_at, opening_in}

@@ -24,10 +24,10 @@ use Rattle.packet_dealing.specs.Dealt.{AreWorkers}
 use Rattle.flow_filter.specs.OneThread.{layout_of}
 use Rattle.flow_workers.specs.inner.Merges.{AreAllSaid}
 use Rattle.flow_workers.proofs.MergeLemmas.{all_judges, dealer_by}
-use Rattle.flow_workers.specs.declared.share.WorkerResults.{WorkerResults}
-use Rattle.flow_workers.specs.declared.share.Share.{Share}
-use Rattle.flow_workers.specs.declared.tables.Tables.{Tables}
-use Rattle.flow_workers.specs.declared.setup.Setup.{Setup}
+use Rattle.flow_workers.specs.declared.worker_share.WorkerResults.{WorkerResults}
+use Rattle.flow_workers.specs.declared.worker_share.Share.{Share}
+use Rattle.flow_workers.specs.declared.session_tables.Tables.{Tables}
+use Rattle.flow_workers.specs.declared.worker_setup.Setup.{Setup}
 use Rattle.flow_workers.specs.Callers.{AreIdle, views_of}
 use Rattle.flow_workers.specs.Progress.{IsAtRest, IsAtRestAfter}
 use Rattle.flow_workers.specs.inner.Jobs.{run_facts}

@@ -6,8 +6,8 @@ use Rattle.bihash_rule.specs.Callers.{IsLawfulCaller}
 use Rattle.bihash_steps.specs.Seats.{with_view}
 use Rattle.bihash_rule.specs.Views.{first_view, nothing_held}
 use Rattle.flow_filter.specs.OneThread.{Layout}
-use Rattle.flow_workers.specs.declared.tables.Tables.{Tables}
-use Rattle.flow_workers.specs.declared.tables.Callers.{Callers}
+use Rattle.flow_workers.specs.declared.session_tables.Tables.{Tables}
+use Rattle.flow_workers.specs.declared.session_tables.Callers.{Callers}
 use Rattle.flow_dealing.specs.Views.{Views}
 pub use Rattle.packet_dealing.specs.Dealt.{AreShapes}
 

@@ -8,8 +8,8 @@ use Rattle.bihash_table.specs.Tries.{TookByTries}
 use Rattle.bihash_table.specs.declared.contended.Contended.{Contended}
 use Rattle.flow_filter.specs.declared.filter.Filter.{Filter}
 use Rattle.flow_filter.specs.declared.verdict.Verdict.{Verdict}
-use Rattle.flow_workers.specs.declared.tables.Callers.{Callers}
-use Rattle.flow_workers.specs.declared.tables.Tables.{Tables}
+use Rattle.flow_workers.specs.declared.session_tables.Callers.{Callers}
+use Rattle.flow_workers.specs.declared.session_tables.Tables.{Tables}
 use Rattle.flow_workers.specs.Callers.{AreIdle, AreSame, AreShapes}
 use Rattle.flow_workers.specs.Judging.{TookByOneTry}
 use Rattle.flow_workers.specs.Verdicts.{HasNoFlow, HasNoVerdict, HasVerdict, ShowsOutOfPages}

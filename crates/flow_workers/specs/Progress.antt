@@ -10,9 +10,9 @@ use Rattle.flow_dealing.specs.Dealings.{Deal}
 use Rattle.flow_dealing.specs.WorkerRecords.{AreJudged, AreJudgedBy}
 use Rattle.flow_dealing.specs.Views.{Views}
 use Rattle.packet_dealing.specs.Dealt.{AreWorkers}
-use Rattle.flow_workers.specs.declared.setup.Setup.{Setup}
-use Rattle.flow_workers.specs.declared.share.Share.{Share}
-use Rattle.flow_workers.specs.declared.tables.Callers.{Callers}
+use Rattle.flow_workers.specs.declared.worker_setup.Setup.{Setup}
+use Rattle.flow_workers.specs.declared.worker_share.Share.{Share}
+use Rattle.flow_workers.specs.declared.session_tables.Callers.{Callers}
 use Rattle.flow_workers.specs.declared.workers.Workers.{Workers}
 use Rattle.flow_workers.specs.Callers.{AreIdle, AreShapes, views_of}
 use Rattle.flow_workers.specs.inner.Fresh.{IsFreshView}

@@ -9,8 +9,8 @@ use Rattle.bihash_steps.specs.Seats.{with_view}
 use Rattle.bihash_table.specs.Closing.{WasWhole}
 use Rattle.bihash_table.specs.Renewing.{IsRenewRefused}
 use Rattle.bihash_table.specs.declared.renew_fault.RenewFault.{RenewFault}
-use Rattle.flow_workers.specs.declared.tables.Callers.{Callers}
-use Rattle.flow_workers.specs.declared.tables.Tables.{Tables}
+use Rattle.flow_workers.specs.declared.session_tables.Callers.{Callers}
+use Rattle.flow_workers.specs.declared.session_tables.Tables.{Tables}
 
 -- the family's caller had every number, and the new one begins with what it knew; the other family's table and caller
 -- are the same

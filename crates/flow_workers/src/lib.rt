@@ -1,37 +1,37 @@
 //! Packets judged by many workers over session tables that they share.
 #![tactic(auto)]
 
-mod batches;
 mod caller_split;
-mod closing;
 mod gate;
-mod judging;
 mod lone_worker;
-mod merge;
+mod one_thread;
+mod one_worker;
 mod packet_plan;
-mod renewal;
+mod packet_verdict;
 mod run_fault;
-mod runs;
-mod setup;
-mod share;
-mod tables;
-mod together;
-mod turn;
-mod turns;
-mod updates;
+mod session_tables;
+mod several_threads;
+mod table_closing;
+mod table_renewal;
+mod table_update;
+mod verdict_merge;
 mod viewed_packet;
-mod work;
+mod whole_run;
 mod worker_results;
+mod worker_setup;
+mod worker_share;
+mod worker_threads;
+mod worker_turn;
 mod workers;
 
-pub use closing::close_tables;
 pub use flow_dealing::Dealing;
 pub use flow_filter::{Filter, Verdict};
 pub use gate::Gate;
-pub use judging::{judge, try_judge};
-pub use renewal::renew_tables;
+pub use packet_verdict::{judge, try_judge};
 pub use run_fault::RunFault;
-pub use runs::run_workers;
-pub use setup::Setup;
-pub use tables::{Callers, Tables, create_tables};
+pub use session_tables::{Callers, Tables, create_tables};
+pub use table_closing::close_tables;
+pub use table_renewal::renew_tables;
+pub use whole_run::run_workers;
+pub use worker_setup::Setup;
 pub use workers::Workers;

@@ -4,10 +4,10 @@ ghost use Rattle.flow_workers.specs.inner.Alone.{HasLetGo};
 
 use crate::caller_split::wait_until_lone;
 use crate::gate::Gate;
+use crate::one_thread::judge_together;
 use crate::run_fault::RunFault;
-use crate::share::{Batch, Share};
-use crate::tables::Tables;
-use crate::together::judge_together;
+use crate::session_tables::Tables;
+use crate::worker_share::{Batch, Share};
 use crate::workers::Workers;
 use bihash_words::Shape;
 use flow_filter::Verdict;

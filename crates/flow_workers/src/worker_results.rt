@@ -2,8 +2,8 @@
 ghost use Rattle.std.specs.Prelude.{IfOk};
 ghost use Rattle.flow_workers.specs.inner.WorkerResults.{AreResultsOf, HasAdded};
 
-use crate::share::{Share, WorkerResults};
-use crate::tables::Callers;
+use crate::session_tables::Callers;
+use crate::worker_share::{Share, WorkerResults};
 use bihash_words::Shape;
 use std::alloc::{AllocError, Global};
 

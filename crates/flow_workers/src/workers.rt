@@ -2,15 +2,16 @@
 ghost use Rattle.std.specs.Prelude.{◌≡◌, [], IfOk};
 ghost use Rattle.flow_workers.specs.inner.Shares.{AreFresh, AreSplit, MaySplit};
 
-use crate::batches::judge_batch;
 use crate::caller_split::{join_whole, split_one};
 use crate::gate::Gate;
-use crate::merge::merge_verdicts;
+use crate::one_thread::judge_together;
 use crate::run_fault::RunFault;
-use crate::setup::Setup;
-use crate::share::{Batch, Share, WorkerResults};
-use crate::tables::{Callers, Tables};
+use crate::session_tables::{Callers, Tables};
+use crate::several_threads::judge_in_threads;
+use crate::verdict_merge::merge_verdicts;
 use crate::worker_results::results_of;
+use crate::worker_setup::Setup;
+use crate::worker_share::{Batch, Share, WorkerResults};
 use bihash_words::Shape;
 use flow_filter::Verdict;
 use packet_view::Packets;
@@ -169,7 +170,12 @@ where
             first: count,
             packets,
         };
-        match judge_batch(alloc, batch, shares, &mut judges) {
+        let judged = if setup.is_alone() || batch.packets.count() < setup.many {
+            judge_together(batch, shares, &mut judges)
+        } else {
+            judge_in_threads(alloc, batch, shares, &mut judges)
+        };
+        match judged {
             Ok(shares) => Ok(Workers {
                 setup,
                 shares,

@@ -2,8 +2,8 @@
 //! as many of IPv6 flows.
 #![tactic(auto)]
 
-mod laws;
-mod shapes;
+mod large_flow_shapes;
+mod large_shape_laws;
 
-pub use laws::{large_shapes_are_sound, large_shapes_have_their_sizes};
-pub use shapes::{LargeV4, LargeV6};
+pub use large_flow_shapes::{LargeV4, LargeV6};
+pub use large_shape_laws::{large_shapes_are_sound, large_shapes_have_their_sizes};

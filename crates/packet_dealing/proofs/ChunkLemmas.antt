@@ -9,7 +9,7 @@ use Rattle.packet_view.specs.CheckedCaptures.{remaining}
 use Rattle.packet_view.specs.declared.packets.Packets.{Packets}
 use Rattle.bihash_words.specs.declared.shape.Shape.{Ghosts}
 use Rattle.packet_dealing.specs.Dealt.{AreDealt}
-use Rattle.packet_dealing.specs.declared.dealer.Dealer.{Dealer}
+use Rattle.packet_dealing.specs.declared.packet_worker.Dealer.{Dealer}
 use Rattle.packet_dealing.specs.declared.dealt_chunk.DealtChunk.{DealtChunk}
 use Rattle.packet_dealing.specs.declared.chunk.Job.{Job}
 use Rattle.packet_dealing.specs.declared.chunk.Chunk.{Chunk}

@@ -7,7 +7,7 @@ use Rattle.packet_view.specs.Captures.{PacketFacts, Takes, packet_facts}
 use Rattle.packet_view.specs.declared.packet.Packet.{Packet}
 use Rattle.bihash_words.specs.declared.shape.Shape.{Ghosts}
 use Rattle.packet_dealing.specs.Dealt.{AreWorkers, IsDealtTo}
-use Rattle.packet_dealing.specs.declared.dealer.Dealer.{Dealer}
+use Rattle.packet_dealing.specs.declared.packet_worker.Dealer.{Dealer}
 
 -- ---- What is left behind packets that were taken
 

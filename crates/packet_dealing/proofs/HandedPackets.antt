@@ -10,7 +10,7 @@ use Rattle.packet_view.specs.declared.packet.Packet.{Packet}
 use Rattle.bihash_words.specs.declared.shape.Shape.{Ghosts}
 use Rattle.packet_dealing.proofs.DealtLists.{workers_push}
 use Rattle.packet_dealing.specs.Dealt.{AreWorkers, HaveOwn, IsDealtChunk, IsDealtTo, picked, placed_facts}
-use Rattle.packet_dealing.specs.declared.dealer.Dealer.{Dealer}
+use Rattle.packet_dealing.specs.declared.packet_worker.Dealer.{Dealer}
 use Rattle.packet_dealing.specs.declared.dealt_chunk.DealtPacket.{DealtPacket}
 use Rattle.packet_dealing.specs.declared.dealt_chunk.DealtChunk.{DealtChunk}
 use Rattle.packet_dealing.specs.inner.OwnPackets.{HasHanded, IsEmptyChunk}

@@ -1,8 +1,8 @@
 //! A chunk of the packets before it is dealt and after it.
-use crate::dealer::Dealer;
+use crate::chunk_dealing::deal_chunk;
 use crate::dealt_chunk::DealtChunk;
-use crate::one_chunk::deal_chunk;
-use crate::task::Task;
+use crate::packet_worker::Dealer;
+use crate::tasks_in_threads::Task;
 use bihash_words::Shape;
 use packet_view::Packets;
 use std::alloc::AllocError;

@@ -2,14 +2,16 @@
 #![tactic(auto)]
 
 mod chunk;
-mod chunks;
-mod dealer;
-mod deals;
+mod chunk_dealing;
+mod chunk_jobs;
+mod dealing_in_threads;
 mod dealt_chunk;
-mod one_chunk;
-mod task;
+mod frame_flow;
+mod packet_worker;
+mod tasks_in_threads;
 
-pub use dealer::{Dealer, flow_of_frame, worker_of_packet};
-pub use deals::deal_packets;
+pub use dealing_in_threads::deal_packets;
 pub use dealt_chunk::{DealtChunk, DealtPacket};
-pub use task::{Task, run_all};
+pub use frame_flow::flow_of_frame;
+pub use packet_worker::{Dealer, worker_of_packet};
+pub use tasks_in_threads::{Task, run_all};

@@ -3,9 +3,9 @@ use Rattle.std.specs.Prelude.{◌≡◌, ◌+◌, ◌-◌, ℕ, List, [], drop, 
 use Rattle.packet_view.specs.Captures.{IsCutRecord, IsTooLong}
 use Rattle.packet_view.specs.RecordLists.{bytes_of}
 use Rattle.packet_view.specs.declared.capture.Order.{Order}
-use Rattle.packet_view.specs.declared.front.Front.{Front}
-use Rattle.packet_view.specs.declared.front.Stop.{Stop}
-use Rattle.packet_view.specs.declared.front.Stop.TheVariants.{End, Truncated, TooLong}
+use Rattle.packet_view.specs.declared.records_at_front.Front.{Front}
+use Rattle.packet_view.specs.declared.records_at_front.Stop.{Stop}
+use Rattle.packet_view.specs.declared.records_at_front.Stop.TheVariants.{End, Truncated, TooLong}
 
 -- what the bytes behind the whole records are
 abbrev pub Stops : Order → List ℕ → Stop → Type 0

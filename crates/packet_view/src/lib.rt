@@ -1,35 +1,36 @@
 //! Captures of the classic pcap format, and Ethernet frames as IP packets with their five-tuples.
 #![tactic(auto)]
 
-mod bursts;
 mod capture;
+mod capture_laws;
+mod capture_records;
 mod ethernet;
 mod frame;
-mod front;
+mod frame_laws;
 mod ip_packet;
 mod ipv4;
 mod ipv6;
-mod laws;
 mod packet;
+mod packet_bursts;
 mod packets;
 mod plain_packet;
-mod records;
+mod records_at_front;
 mod transport;
 mod tuple;
 
-pub use bursts::PacketBursts;
 pub use capture::{
     Capture, CaptureFault, CheckedCapture, Order, Piece, capture_header, check_capture,
     next_record, read_capture,
 };
+pub use capture_laws::{a_cut_capture_keeps_its_front, each_capture_has_one_reading};
+pub use capture_records::Records;
 pub use frame::{Frame, plain_frame, view};
-pub use front::{Front, Stop, front_records};
-pub use laws::{
-    a_cut_capture_keeps_its_front, bytes_after_the_packet_are_not_seen,
-    each_capture_has_one_reading, each_frame_has_one_view, own_address_decides_the_way_alone,
+pub use frame_laws::{
+    bytes_after_the_packet_are_not_seen, each_frame_has_one_view, own_address_decides_the_way_alone,
 };
 pub use packet::Packet;
+pub use packet_bursts::PacketBursts;
 pub use packets::Packets;
 pub use plain_packet::{PlainPacket, plain};
-pub use records::Records;
+pub use records_at_front::{Front, Stop, front_records};
 pub use tuple::{Direction, Family, Fields, Mac, Tuple};

@@ -5,7 +5,7 @@ use Rattle.std.specs.Str.{bytes_eq}
 use Rattle.std.proofs.lemmas.List.{append-nil}
 use Rattle.packet_view.specs.Addresses.{icmp_of}
 use Rattle.packet_view.specs.declared.tuple.Family.{Family}
-use Rattle.policy_words.specs.declared.traffic.Traffic.{Traffic}
+use Rattle.policy_words.specs.declared.protocol_parts.Traffic.{Traffic}
 use Rattle.policy_words.specs.inner.Reading.{◌>>=◌}
 use Rattle.policy_words.specs.inner.Reading.Traffic.{flags_in, made, part_in, parts_in, protocol_flags_in, protocol_in, protocol_ranges_in, traffic_in}
 use Rattle.policy_words.specs.Traffic.{AreParts, IsFlags, IsProtocol, IsTraffic, OfIcmp, OfNone, OfTcp, OfUdp, Parts, every, parts_of}

@@ -2,7 +2,7 @@
 use Rattle.std.specs.Prelude.{◌≡◌, ◌≤◌, ◌⊎◌, ℕ, ◌==◌, List, [], ◌∷◌, ◌++◌, codes, if◌then◌else◌}
 use Rattle.packet_view.specs.Addresses.{icmp_of}
 use Rattle.packet_view.specs.declared.tuple.Family.{Family}
-use Rattle.policy_words.specs.declared.traffic.Traffic.{Traffic}
+use Rattle.policy_words.specs.declared.protocol_parts.Traffic.{Traffic}
 use Rattle.policy_words.specs.Numerals.{IsNumber, IsPair}
 
 -- A name, or a number below 256; 0 stands for every protocol.

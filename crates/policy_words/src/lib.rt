@@ -3,18 +3,18 @@
 
 mod address;
 mod family;
+mod line_words;
 mod mac;
-mod numeral;
-mod parts;
+mod number_words;
 mod prefix;
-mod traffic;
-mod words;
+mod protocol_parts;
+mod ranges_and_flags;
 
 pub use address::address_of;
 pub use family::{icmp_number, width_of};
+pub use line_words::{before_comment, cut_at, is_end, next_word};
 pub use mac::mac_of;
-pub use numeral::{number_of, octet_of};
-pub use parts::{flags_of_word, number_up_to, range_of};
+pub use number_words::{number_of, octet_of};
 pub use prefix::prefix_of;
-pub use traffic::{Traffic, protocol_of, traffic_of};
-pub use words::{before_comment, cut_at, is_end, next_word};
+pub use protocol_parts::{Traffic, protocol_of, traffic_of};
+pub use ranges_and_flags::{flags_of_word, number_up_to, range_of};

@@ -3,8 +3,8 @@ ghost use Rattle.std.specs.Prelude.{◌≡◌, option_map};
 ghost use Rattle.policy_words.specs.inner.Reading.Numerals.{pair_in, piece_in};
 ghost use Rattle.policy_words.specs.inner.Reading.Prefixes.{mac_in};
 
-use crate::numeral::pair_of;
-use crate::words::cut_at;
+use crate::line_words::cut_at;
+use crate::number_words::pair_of;
 use packet_view::Mac;
 
 #[tactic(auto, unfolding(crate::specs::inner::Reading::Numerals::piece_in))]

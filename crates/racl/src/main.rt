@@ -4,18 +4,18 @@
 
 ghost use Rattle.std.specs.Prelude.{◌<◌, ◌-◌, ◌^◌};
 
-mod parts;
+mod input_files;
+mod named_reader;
+mod policy_remarks;
 mod progress;
-mod reader;
 mod save_file;
-mod saving;
-mod unlikely;
+mod saved_packets;
 
-use crate::parts::{interface_at, name_at, opened_or_told, opened_parts, policy_name};
+use crate::input_files::{interface_at, name_at, opened_or_told, opened_parts, policy_name};
+use crate::named_reader::{Reader, bytes_of, held};
+use crate::policy_remarks::{Seen, say_foreign, say_unlooked};
 use crate::progress::{Progress, Watched};
-use crate::reader::{Reader, bytes_of, held};
-use crate::saving::{saves_to, say_unsaved};
-use crate::unlikely::{Seen, say_foreign, say_unlooked};
+use crate::saved_packets::{saves_to, say_unsaved};
 use clap::Error;
 use policy_check::check_source;
 use racl_cli::{

@@ -5,7 +5,7 @@ use Rattle.std.proofs.lemmas.Bool.{cases_eq, eq-eqb, ne_eqb}
 use Rattle.std.proofs.lemmas.List.{length-append, length-drop, length-map, take_all}
 use Rattle.packet_view.specs.Captures.{IsCapture, IsCaptureAt, PacketFacts, end_of, packet_at, packets_at}
 use Rattle.packet_view.specs.CheckedCaptures.{packets_of, records_of}
-use Rattle.packet_view.specs.declared.records.Records.{Records}
+use Rattle.packet_view.specs.declared.capture_records.Records.{Records}
 use Rattle.packet_view.proofs.RecordListLemmas.{records_within}
 use Rattle.acl_policy.specs.Policies.{IsAmong, policy_facts}
 use Rattle.racl_options.specs.declared.settings.Options.{Options}

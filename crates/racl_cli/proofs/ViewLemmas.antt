@@ -14,7 +14,7 @@ use Rattle.std.proofs.KnownBytes.{Appends-trans}
 use Rattle.acl_policy.specs.Policies.{IsPolicyText, PolicyFacts}
 use Rattle.racl_io.specs.declared.fault.Fault.{Fault}
 use Rattle.racl_io.specs.declared.report.Totals.{Totals}
-use Rattle.racl_io.specs.declared.shown.Shown.{Shown}
+use Rattle.racl_io.specs.declared.partial_report.Shown.{Shown}
 use Rattle.racl_io.specs.Reports.{totals_of}
 use Rattle.racl_io.specs.ShownReports.{report_shown}
 use Rattle.racl_io.specs.Sinks.{Writes}

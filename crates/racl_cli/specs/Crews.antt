@@ -14,8 +14,8 @@ use Rattle.flow_dealing.specs.Views.{Views}
 use Rattle.flow_dealing.specs.WorkerRecords.{AreJudged, AreJudgedBy}
 use Rattle.flow_workers.specs.Callers.{AreIdle, first_views, views_of}
 use Rattle.flow_workers.specs.Progress.{AreAtRest, IsAlone}
-use Rattle.flow_workers.specs.declared.tables.Callers.{Callers}
-use Rattle.flow_workers.specs.declared.tables.Tables.{Tables}
+use Rattle.flow_workers.specs.declared.session_tables.Callers.{Callers}
+use Rattle.flow_workers.specs.declared.session_tables.Tables.{Tables}
 use Rattle.flow_workers.specs.declared.workers.Workers.{Workers}
 use Rattle.racl_options.specs.declared.settings.TableSize.{TableSize}
 use Rattle.racl_options.specs.declared.settings.TableSize.TheVariants as asked

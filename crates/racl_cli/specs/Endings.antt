@@ -3,7 +3,7 @@ use Rattle.std.specs.Prelude.{ℕ, List, Option, None, Some, Result, Ok, Err, na
 use Rattle.racl_io.specs.Others.{is_capture, other_of}
 use Rattle.racl_io.specs.declared.fault.Fault.{Fault}
 use Rattle.racl_io.specs.declared.fault.Fault.TheVariants.{Magic, LinkType, LongRecord, NotUtf8}
-use Rattle.racl_io.specs.declared.other.Other.{Other}
+use Rattle.racl_io.specs.declared.file_kind.Other.{Other}
 use Rattle.racl_cli.specs.declared.message.Hint.{Hint}
 use Rattle.racl_cli.specs.declared.message.Hint.TheVariants.{Swapped, TwoCaptures}
 use Rattle.racl_cli.specs.declared.message.Message.{Message}

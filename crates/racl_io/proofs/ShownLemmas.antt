@@ -2,8 +2,8 @@
 use Rattle.std.proofs.Common.{◌≡◌, ◌∙◌, ◌+◌, ◌++◌, ℕ, List, [], ◌∷◌, Option, length, take, drop, arith, append_assoc, refl, sym, ap, ap₂}
 use Rattle.flow_filter.specs.declared.verdict.Verdict.{Verdict}
 use Rattle.racl_io.specs.declared.report.Captured.{Captured}
-use Rattle.racl_io.specs.declared.shown.Shown.{Shown}
-use Rattle.racl_io.specs.declared.shown.Shown.TheVariants.{Every}
+use Rattle.racl_io.specs.declared.partial_report.Shown.{Shown}
+use Rattle.racl_io.specs.declared.partial_report.Shown.TheVariants.{Every}
 use Rattle.racl_io.specs.Reports.{captures_from, line_of, lines_from, report_of, totals_line, totals_of, truncation_line}
 use Rattle.racl_io.specs.ShownReports.{captures_shown, line_shown, lines_shown, report_shown}
 

@@ -4,8 +4,8 @@ use Rattle.std.specs.Prelude.{ℕ, Bool, false, ◌==◌, ◌&&◌, ◌||◌, Li
 use Rattle.packet_view.specs.Captures.{link_type, number_from}
 use Rattle.packet_view.specs.declared.capture.Order.{Order}
 use Rattle.packet_view.specs.declared.capture.Order.TheVariants.{Little, Big}
-use Rattle.racl_io.specs.declared.other.Other.{Other}
-use Rattle.racl_io.specs.declared.other.Other.TheVariants.{Pcapng, Gzip, Xz, Zstd, Modified, Cooked}
+use Rattle.racl_io.specs.declared.file_kind.Other.{Other}
+use Rattle.racl_io.specs.declared.file_kind.Other.TheVariants.{Pcapng, Gzip, Xz, Zstd, Modified, Cooked}
 
 -- the magic number of modified pcap
 abbrev pub is_modified : Order → List ℕ → Bool

@@ -4,8 +4,8 @@ use Rattle.std.specs.Prelude.{ℕ, ◌+◌, Bool, true, false, not, List, [], �
 use Rattle.flow_filter.specs.Verdicts.{passes}
 use Rattle.flow_filter.specs.declared.verdict.Verdict.{Verdict}
 use Rattle.racl_io.specs.declared.report.Captured.{Captured}
-use Rattle.racl_io.specs.declared.shown.Shown.{Shown}
-use Rattle.racl_io.specs.declared.shown.Shown.TheVariants.{Every, Passing, Dropped, Nothing}
+use Rattle.racl_io.specs.declared.partial_report.Shown.{Shown}
+use Rattle.racl_io.specs.declared.partial_report.Shown.TheVariants.{Every, Passing, Dropped, Nothing}
 use Rattle.racl_io.specs.Reports.{line_of, totals_line, totals_of, truncation_line}
 
 -- whether a packet with this verdict has a line

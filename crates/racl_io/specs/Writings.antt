@@ -7,9 +7,9 @@ use Rattle.std.specs.declared.io.impls.Cursor.{Cursor}
 use Rattle.std.specs.declared.io.traits.Chain.{Chain}
 use Rattle.racl_io.specs.Fronts.{front_of}
 use Rattle.racl_io.specs.Joined.{bytes_in_turn, content_in}
-use Rattle.racl_io.specs.declared.in_turn.InTurn.{InTurn}
-use Rattle.racl_io.specs.declared.joined.Joined.{Joined}
-use Rattle.racl_io.specs.declared.written.Written.{Written}
+use Rattle.racl_io.specs.declared.readers_in_turn.InTurn.{InTurn}
+use Rattle.racl_io.specs.declared.joined_source.Joined.{Joined}
+use Rattle.racl_io.specs.declared.capture_encoding.Written.{Written}
 
 -- a digit that is to be given yet
 abbrev pub kept_digit : Option ℕ → List ℕ

@@ -2,35 +2,35 @@
 //! faults.
 #![tactic(auto)]
 
-mod beside;
+mod capture_encoding;
 mod content;
 mod device;
 mod fault;
-mod front;
-mod in_turn;
+mod file_kind;
+mod first_bytes;
 mod input;
-mod joined;
-mod name;
-mod numeral;
-mod other;
-mod piece;
+mod interface_name;
+mod joined_source;
+mod number_text;
+mod parallel_lines;
+mod partial_report;
+mod readers_in_turn;
+mod reading_and_writing;
 mod report;
-mod shown;
-mod transfer;
-mod written;
+mod report_piece;
 
 pub use content::decode_digits;
 pub use device::{Device, DeviceFault, Sink, Source};
 pub use fault::Fault;
-pub use front::FrontKept;
+pub use file_kind::{Other, is_capture, other_file};
+pub use first_bytes::FrontKept;
 pub use input::{Digits, Form, Input, Numbered, cut_digits, split_input};
-pub use joined::{Joined, Marked, marked};
-pub use numeral::Numeral;
-pub use other::{Other, is_capture, other_file};
-pub use piece::Piece;
+pub use joined_source::{Joined, Marked, marked};
+pub use number_text::Numeral;
+pub use partial_report::{Shown, has_line, write_shown};
+pub use reading_and_writing::{MOST_BYTES, drain, read_until, write_all};
 pub use report::{
     Captured, Place, Totals, push_name, totals_on, write_lines, write_report, write_totals,
     write_truncation,
 };
-pub use shown::{Shown, has_line, write_shown};
-pub use transfer::{MOST_BYTES, drain, read_until, write_all};
+pub use report_piece::Piece;

@@ -7,13 +7,13 @@ ghost use Rattle.racl_io.specs.Sinks.{GotFront, HasPutFront};
 ghost use Rattle.racl_io.specs.inner.Lines.{HasTold, HasWritten, lines_at};
 ghost use Rattle.racl_io.specs.declared.fault.Fault.TheVariants.{Memory, Write};
 
-use crate::beside::{Lines, write_beside};
 use crate::device::Sink;
 use crate::fault::Fault;
-use crate::name::Name;
-use crate::numeral::{Counter, Numeral};
-use crate::piece::Piece;
-use crate::transfer::write_all;
+use crate::interface_name::Name;
+use crate::number_text::{Counter, Numeral};
+use crate::parallel_lines::{Lines, write_beside};
+use crate::reading_and_writing::write_all;
+use crate::report_piece::Piece;
 use flow_filter::Verdict;
 use std::alloc::Global;
 use std::thread::Threads;

@@ -7,7 +7,7 @@ use Rattle.clap.specs.Words.{Text}
 use Rattle.racl_options.specs.CommandLine.{IsInRange, OptionFacts}
 use Rattle.racl_options.specs.CommandLine.{OptionName, Workers, Established, Transient, Udp}
 use Rattle.racl_options.specs.CommandLine.{default_of, interface_id, name_of, number_of}
-use Rattle.racl_io.specs.declared.shown.Shown.TheVariants.{Every}
+use Rattle.racl_io.specs.declared.partial_report.Shown.TheVariants.{Every}
 use Rattle.racl_options.specs.declared.settings.Lines.TheVariants.{Plain}
 use Rattle.racl_options.specs.declared.settings.TableSize.TheVariants.{Standard}
 use Rattle.racl_options.specs.Asking.{AskedFacts}

@@ -1,16 +1,16 @@
 //! The words of the command line, and the options and files that they ask for.
 #![tactic(auto)]
 
-mod asking;
-mod check_words;
-mod naming;
+mod asked_options;
+mod check_command;
+mod command_line;
+mod named_files;
 mod selection;
 mod settings;
-mod size;
-mod words;
+mod table_size;
 
-pub use check_words::check_name;
+pub use check_command::check_name;
 pub use settings::{
     Asked, CaptureFile, Files, Interfaces, Lines, Options, Origin, Saved, TableSize,
 };
-pub use words::{options, words_status};
+pub use command_line::{options, words_status};

@@ -6,8 +6,8 @@ use Rattle.packet_view.proofs.RecordLemmas.{IsStop, part_only, part_shown}
 use Rattle.packet_view.specs.Captures.{AreRecords, Cut, IsPiece, Nothing, PieceFacts, Record, RecordFacts, TooLong}
 use Rattle.packet_view.specs.Fronts.{Stops}
 use Rattle.packet_view.specs.declared.capture.Order.{Order}
-use Rattle.packet_view.specs.declared.front.Stop.{Stop}
-use Rattle.packet_view.specs.declared.front.Stop.TheVariants as stop
+use Rattle.packet_view.specs.declared.records_at_front.Stop.{Stop}
+use Rattle.packet_view.specs.declared.records_at_front.Stop.TheVariants as stop
 use Rattle.packet_view.specs.inner.RecordSteps.{part_of}
 use Rattle.flow_filter.specs.declared.verdict.Verdict.{Verdict}
 use Rattle.racl_views.specs.ChosenRecords.{AreRecordsOf, HasRecords, IsChosen, IsRecordOf, chosen_among, is_chosen, kept_before}

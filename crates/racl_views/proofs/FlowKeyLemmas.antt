@@ -4,7 +4,7 @@ use Rattle.packet_view.specs.Addresses.{address_limit}
 use Rattle.packet_view.specs.Tuples.{TupleFacts}
 use Rattle.packet_view.specs.declared.tuple.Family.{Family}
 use Rattle.packet_view.specs.declared.tuple.Family.TheVariants.{V4, V6}
-use Rattle.session_state.specs.declared.end.End.{End}
+use Rattle.session_state.specs.declared.flow_end.End.{End}
 use Rattle.session_state.specs.declared.flow.Flow.{Flow}
 use Rattle.session_state.specs.Flows.{IsFlow, key_of, receiver_of, sender_of}
 use Rattle.session_state.specs.SameFlow.{IsTuple}

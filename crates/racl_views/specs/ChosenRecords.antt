@@ -4,7 +4,7 @@ use Rattle.std.specs.List.{concat}
 use Rattle.packet_view.specs.Captures.{AreRecords, HasFileHeader, IsRecord, RecordFacts}
 use Rattle.packet_view.specs.Fronts.{Stops}
 use Rattle.packet_view.specs.declared.capture.Order.{Order}
-use Rattle.packet_view.specs.declared.front.Stop.{Stop}
+use Rattle.packet_view.specs.declared.records_at_front.Stop.{Stop}
 use Rattle.flow_filter.specs.Verdicts.{passes}
 use Rattle.flow_filter.specs.declared.verdict.Verdict.{Verdict}
 use Rattle.racl_views.specs.declared.chosen.Chosen.{Chosen}

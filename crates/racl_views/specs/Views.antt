@@ -6,7 +6,7 @@ use Rattle.acl_policy.specs.Policies.{PolicyFacts, policy_facts}
 use Rattle.flow_filter.specs.declared.verdict.Verdict.{Verdict}
 use Rattle.racl_io.specs.declared.report.Captured.{Captured}
 use Rattle.racl_io.specs.declared.report.Totals.{Totals}
-use Rattle.racl_io.specs.declared.shown.Shown.{Shown}
+use Rattle.racl_io.specs.declared.partial_report.Shown.{Shown}
 use Rattle.racl_io.specs.Reports.{totals_line, totals_of, truncation_line}
 use Rattle.racl_io.specs.ShownReports.{is_shown}
 use Rattle.racl_views.specs.declared.rule.RuleLine.{RuleLine}

@@ -3,8 +3,8 @@ ghost use Rattle.std.specs.Prelude.{◌≡◌, ◌*◌, length};
 ghost use Rattle.rule_index.specs.Rows.{AreStarts};
 
 mod build;
-mod starts;
-mod turns;
+mod interval_rows;
+mod interval_starts;
 
 /// For some ranges, which of them may hold a number: a row of bits for each interval of numbers.
 #[derive(Drop)]

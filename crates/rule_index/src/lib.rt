@@ -6,15 +6,15 @@
 //! out rules that can't match: each rule that they leave is asked itself.
 #![tactic(auto)]
 
-mod bits;
-mod candidates;
+mod bit_rows;
+mod candidate_rows;
 mod column;
 mod dimension;
+mod first_candidate;
 mod flag_rows;
 mod index;
 mod ranges;
-mod sieve;
-mod worth;
+mod when_to_prepare;
 
 pub use index::RuleIndex;
-pub use worth::worth_preparing;
+pub use when_to_prepare::worth_preparing;

@@ -1,7 +1,7 @@
 -- The order of two ends.
 use Rattle.std.proofs.Common.{◌≡◌, ◌≢◌, ◌∙◌, ◌⊎◌, true, false, ap, ap₂, arith, sym, subst, inl, inr}
 use Rattle.std.proofs.lemmas.Bool.{cases_order}
-use Rattle.session_state.specs.declared.end.End.{End}
+use Rattle.session_state.specs.declared.flow_end.End.{End}
 use Rattle.session_state.specs.Flows.{LesserFirst, Precedes, side_of, stands_first}
 
 -- equal addresses and ports make equal ends

@@ -9,7 +9,7 @@ use Rattle.packet_view.specs.declared.tuple.Family.TheVariants.{V4, V6}
 use Rattle.packet_view.specs.declared.tuple.Fields.{Fields}
 use Rattle.packet_view.specs.declared.tuple.Fields.TheVariants.{Absent, Ports, Tcp, Icmp}
 use Rattle.packet_view.specs.Tuples.{TupleFacts}
-use Rattle.session_state.specs.declared.end.End.{End}
+use Rattle.session_state.specs.declared.flow_end.End.{End}
 use Rattle.session_state.specs.declared.flow.Flow.{Flow}
 use Rattle.session_state.specs.Flows.{IsEchoReply, IsFlow, LesserFirst, StandAs, echo_flow, flow_by_order, flow_of, oriented, receiver_of, reply_type, request_type, sender_of, side_of, stands_first}
 use Rattle.session_state.proofs.EndLemmas.{apart_ends, end_order, first_by_order, not_ordered, ordered, second_by_order, side_first, side_second, test_same}

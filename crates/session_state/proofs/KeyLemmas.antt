@@ -3,7 +3,7 @@ use Rattle.std.proofs.Common.{◌≡◌, ◌∙◌, ◌<◌, ◌+◌, ◌*◌, �
 use Rattle.packet_view.specs.Addresses.{address_limit}
 use Rattle.packet_view.specs.declared.tuple.Family.{Family}
 use Rattle.packet_view.specs.declared.tuple.Family.TheVariants.{V4, V6}
-use Rattle.session_state.specs.declared.end.End.{End}
+use Rattle.session_state.specs.declared.flow_end.End.{End}
 use Rattle.session_state.specs.declared.flow.FlowKey.{FlowKey}
 use Rattle.session_state.specs.Flows.{key_of, ports_word}
 use Rattle.session_state.proofs.EndLemmas.{same_end}

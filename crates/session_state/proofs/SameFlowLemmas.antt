@@ -6,7 +6,7 @@ use Rattle.packet_view.specs.declared.tuple.Family.{Family}
 use Rattle.packet_view.specs.declared.tuple.Family.TheVariants.{V4, V6}
 use Rattle.packet_view.specs.declared.tuple.Fields.{Fields}
 use Rattle.packet_view.specs.declared.tuple.Fields.TheVariants.{Absent, Ports, Tcp, Icmp}
-use Rattle.session_state.specs.declared.end.End.{End}
+use Rattle.session_state.specs.declared.flow_end.End.{End}
 use Rattle.session_state.specs.declared.flow.Flow.{Flow}
 use Rattle.session_state.specs.Flows.{IsEchoReply, IsEchoRequest, IsFlow, LesserFirst, StandAs, dest_port, flow_of, flow_with, receiver_of, reply_type, request_type, sender_of, source_port}
 use Rattle.session_state.specs.SameFlow.{AnswerFields, AreFlows, HavePorts, IsAnswer, IsEcho, IsTuple, SameEnds, SameFlow}

@@ -6,7 +6,7 @@ use Rattle.packet_view.specs.declared.tuple.Family.TheVariants.{V4, V6}
 use Rattle.packet_view.specs.declared.tuple.Fields.{Fields}
 use Rattle.packet_view.specs.declared.tuple.Fields.TheVariants.{Absent, Ports, Tcp, Icmp}
 use Rattle.packet_view.specs.Tuples.{TupleFacts}
-use Rattle.session_state.specs.declared.end.End.{End}
+use Rattle.session_state.specs.declared.flow_end.End.{End}
 use Rattle.session_state.specs.declared.flow.Flow.{Flow}
 use Rattle.session_state.specs.declared.flow.FlowKey.{FlowKey}
 use Rattle.session_state.specs.declared.flow.FlowKey.TheVariants.{Four, Six}

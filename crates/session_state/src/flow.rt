@@ -8,7 +8,7 @@ ghost use Rattle.session_state.specs.declared.flow.Flow.{Flow};
 ghost use Rattle.session_state.specs.Flows;
 ghost use Rattle.session_state.specs.Flows.{IsFlow, echo_flow, end_of_number, flow_by_order, flow_of, key_of};
 
-use crate::end::{End, is_first, receiver, sender};
+use crate::flow_end::{End, is_first, receiver, sender};
 use packet_view::{Family, Fields, PlainPacket, Tuple};
 
 /// What names a flow in its family's table: the interface, and addresses, ports and protocol of both ends.

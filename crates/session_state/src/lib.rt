@@ -1,22 +1,25 @@
 //! Flow keys, sessions, and the decision of a packet on its session.
 #![tactic(auto)]
 
-mod end;
-mod flags;
 mod flow;
-mod laws;
+mod flow_end;
+mod flow_laws;
 mod packet_patch;
 mod session;
 mod session_expiry;
+mod session_flags;
+mod session_laws;
 mod timeouts;
 
 pub use flow::{Flow, FlowKey, orient, plain_flow};
-pub use laws::{
-    both_directions_share_a_key, computations_meet_definitions, expired_words_are_not_live,
-    keys_tell_flows, last_never_falls, last_second_counts, replies_start_nothing,
-    sides_tell_senders, tests_tell_live_sessions, tuples_are_in_range, words_tell_sessions,
+pub use flow_laws::{
+    both_directions_share_a_key, keys_tell_flows, sides_tell_senders, tuples_are_in_range,
 };
 pub use packet_patch::PacketPatch;
 pub use session::Session;
 pub use session_expiry::SessionExpiry;
+pub use session_laws::{
+    computations_meet_definitions, expired_words_are_not_live, last_never_falls,
+    last_second_counts, replies_start_nothing, tests_tell_live_sessions, words_tell_sessions,
+};
 pub use timeouts::Timeouts;

@@ -3,7 +3,7 @@ ghost use Rattle.std.specs.Prelude.{◌≡◌, ◌<◌, ◌↔◌, IsTrue, ℕ, 
 ghost use Rattle.session_state.specs.Flags.{IsKept};
 ghost use Rattle.session_state.specs.Sessions.{SessionFacts, IsSession, IsLive, flags_seen, new_session, session_of, session_word, timeout_of, touched_session, with_flags};
 
-use crate::flags::{joined, kept};
+use crate::session_flags::{joined, kept};
 use crate::timeouts::Timeouts;
 use std::marker::Model;
 

@@ -23,7 +23,7 @@ use Rattle.bihash_steps.specs.BucketCalls.{event}
 use Rattle.bihash_table.specs.Answers.{recycled_update}
 use Rattle.bihash_table.specs.Tries.{TriedOver}
 use Rattle.bihash_table.specs.declared.contended.Contended.{Contended}
-use Rattle.bihash_table.specs.declared.entrant.Entrant.{Entrant}
+use Rattle.bihash_table.specs.declared.entered_value.Entrant.{Entrant}
 use Rattle.bihash_table.specs.declared.hashed_key.SeenBucket.{SeenBucket}
 use Rattle.bihash_table.specs.inner.Locked.{IsLocked}
 use Rattle.bihash_table.specs.inner.OpenReads.{HasOpen, IsOpened, IsPairIn, value_of}

@@ -4,8 +4,8 @@ use Rattle.std.specs.Io.KnownBytes.{Appends, Consumes, IsAtEnd, Keeps}
 use Rattle.packet_view.specs.Captures.{AreRecords, IsEnd, PacketFacts, RecordFacts, end_of, packets_at}
 use Rattle.packet_view.specs.Fronts.{Stops}
 use Rattle.packet_view.specs.declared.capture.Order.{Order}
-use Rattle.packet_view.specs.declared.front.Stop.{Stop}
-use Rattle.packet_view.specs.declared.front.Stop.TheVariants.{TooLong}
+use Rattle.packet_view.specs.declared.records_at_front.Stop.{Stop}
+use Rattle.packet_view.specs.declared.records_at_front.Stop.TheVariants.{TooLong}
 use Rattle.flow_filter.specs.declared.verdict.Verdict.{Verdict}
 use Rattle.racl_io.specs.declared.fault.Fault.{Fault}
 use Rattle.racl_io.specs.declared.fault.Fault.TheVariants.{LongRecord, Memory, Read, Write}

@@ -10,7 +10,7 @@ use Rattle.bihash_steps.specs.Steps.{IsToldWhole}
 use Rattle.bihash_rule.specs.Views.{nothing_held}
 use Rattle.bihash_steps.specs.declared.row.Caller.{Caller}
 use Rattle.bihash_rule.specs.declared.view.View.{View}
-use Rattle.bihash_table.specs.declared.sessions.Sessions.{Sessions}
+use Rattle.bihash_table.specs.declared.shared_table.Sessions.{Sessions}
 use Rattle.session_state.specs.declared.timeouts.Timeouts.{Timeouts}
 use Rattle.flow_dealing.specs.Traces.{HaveTraces, Item}
 use Rattle.flow_workers.specs.inner.Fresh.{IsFreshView}

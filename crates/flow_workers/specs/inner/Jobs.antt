@@ -13,12 +13,12 @@ use Rattle.flow_filter.specs.declared.verdict.Verdict.{Verdict}
 use Rattle.flow_dealing.specs.Dealings.{flow_of_frame, worker_of}
 use Rattle.flow_dealing.specs.Views.{Views}
 use Rattle.packet_dealing.specs.Dealt.{AreDealt, IsDealtChunk, IsDealtTo, deal_of}
-use Rattle.packet_dealing.specs.declared.dealer.Dealer.{Dealer}
+use Rattle.packet_dealing.specs.declared.packet_worker.Dealer.{Dealer}
 use Rattle.packet_dealing.specs.declared.dealt_chunk.DealtChunk.{DealtChunk}
-use Rattle.flow_workers.specs.declared.setup.Setup.{Setup}
-use Rattle.flow_workers.specs.declared.share.Job.{Job}
-use Rattle.flow_workers.specs.declared.share.Batch.{Batch}
-use Rattle.flow_workers.specs.declared.share.Share.{Share}
+use Rattle.flow_workers.specs.declared.worker_setup.Setup.{Setup}
+use Rattle.flow_workers.specs.declared.worker_share.Job.{Job}
+use Rattle.flow_workers.specs.declared.worker_share.Batch.{Batch}
+use Rattle.flow_workers.specs.declared.worker_share.Share.{Share}
 use Rattle.flow_workers.specs.declared.viewed_packet.ViewedPacket.{ViewedPacket}
 use Rattle.flow_workers.specs.Callers.{AreIdle, AreShapes, views_of}
 use Rattle.flow_workers.specs.inner.ViewedPackets.{IsViewed}

@@ -10,7 +10,7 @@ use Rattle.flow_filter.specs.Readings.{IsSeen}
 use Rattle.flow_filter.specs.declared.verdict.Verdict.{Verdict}
 use Rattle.flow_dealing.specs.Dealings.{flow_of_frame, worker_of}
 use Rattle.flow_dealing.specs.Traces.{ArePlaced, AreTraces, AreFrames, Item, numbers_from, numbers_of, verdict_in}
-use Rattle.flow_workers.specs.declared.merge.VerdictMerge.{VerdictMerge}
+use Rattle.flow_workers.specs.declared.verdict_merge.VerdictMerge.{VerdictMerge}
 use Rattle.flow_workers.specs.inner.Work.{AreSaid, RunFacts}
 
 -- these are the workers of the run's packets from this number on

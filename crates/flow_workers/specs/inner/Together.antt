@@ -4,10 +4,10 @@ use Rattle.packet_view.specs.Captures.{PacketFacts}
 use Rattle.packet_view.specs.CheckedCaptures.{remaining}
 use Rattle.bihash_words.specs.declared.shape.Shape.{Ghosts}
 use Rattle.packet_dealing.specs.Dealt.{AreWorkers, IsDealtTo}
-use Rattle.packet_dealing.specs.declared.dealer.Dealer.{Dealer}
-use Rattle.flow_workers.specs.declared.setup.Setup.{Setup}
-use Rattle.flow_workers.specs.declared.share.Batch.{Batch}
-use Rattle.flow_workers.specs.declared.share.Share.{Share}
+use Rattle.packet_dealing.specs.declared.packet_worker.Dealer.{Dealer}
+use Rattle.flow_workers.specs.declared.worker_setup.Setup.{Setup}
+use Rattle.flow_workers.specs.declared.worker_share.Batch.{Batch}
+use Rattle.flow_workers.specs.declared.worker_share.Share.{Share}
 use Rattle.flow_workers.specs.Callers.{AreIdle, AreShapes}
 use Rattle.flow_workers.specs.inner.Jobs.{dealer_of}
 use Rattle.flow_workers.specs.inner.Turns.{HaveWorked, HaveWorkedOn}

@@ -2,11 +2,11 @@
 use Rattle.std.specs.Prelude.{◌≡◌, ◌<◌, ◌≤◌, ◌+◌, ◌^◌, ℕ, List, All, length, slice_index_or, IfOk}
 use Rattle.packet_view.specs.CheckedCaptures.{remaining}
 use Rattle.bihash_words.specs.declared.shape.Shape.{Ghosts}
-use Rattle.flow_workers.specs.declared.share.Dealt.{Dealt}
-use Rattle.flow_workers.specs.declared.share.Batch.{Batch}
-use Rattle.flow_workers.specs.declared.share.Share.{Share}
-use Rattle.flow_workers.specs.declared.turn.Turn.{Turn}
-use Rattle.flow_workers.specs.declared.turn.Turn.TheVariants.{Ahead, Over}
+use Rattle.flow_workers.specs.declared.worker_share.Dealt.{Dealt}
+use Rattle.flow_workers.specs.declared.worker_share.Batch.{Batch}
+use Rattle.flow_workers.specs.declared.worker_share.Share.{Share}
+use Rattle.flow_workers.specs.declared.worker_turn.Turn.{Turn}
+use Rattle.flow_workers.specs.declared.worker_turn.Turn.TheVariants.{Ahead, Over}
 use Rattle.flow_workers.specs.Callers.{AreIdle, AreShapes}
 use Rattle.flow_workers.specs.inner.Jobs.{CanWork, HasWorkedOn, IsShareOf}
 

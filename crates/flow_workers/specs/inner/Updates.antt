@@ -19,8 +19,8 @@ use Rattle.flow_filter.specs.OneThread.{Layout, layout_of}
 use Rattle.flow_filter.specs.Updates.{words_of}
 use Rattle.flow_dealing.specs.Views.{Views}
 use Rattle.flow_dealing.specs.Wanted.{HaveWanted}
-use Rattle.flow_workers.specs.declared.tables.Callers.{Callers}
-use Rattle.flow_workers.specs.declared.tables.Tables.{Tables}
+use Rattle.flow_workers.specs.declared.session_tables.Callers.{Callers}
+use Rattle.flow_workers.specs.declared.session_tables.Tables.{Tables}
 use Rattle.flow_workers.specs.Callers.{AreIdle, AreSame, views_of}
 use Rattle.flow_workers.specs.Judging.{IsAway, IsFlowEntry, TookByOneTry}
 use Rattle.flow_workers.specs.OutOfPages.{IsFlowOutOfPages}

@@ -5,9 +5,9 @@ use Rattle.packet_view.specs.declared.tuple.Family.TheVariants.{V4, V6}
 use Rattle.bihash_words.specs.declared.shape.Shape.{Ghosts}
 use Rattle.bihash_rule.specs.Views.{nothing_held}
 use Rattle.flow_dealing.specs.Traces.{AreTraces, HaveTraces, Item}
-use Rattle.flow_workers.specs.declared.share.WorkerResults.{WorkerResults}
-use Rattle.flow_workers.specs.declared.share.Share.{Share}
-use Rattle.flow_workers.specs.declared.tables.Tables.{Tables}
+use Rattle.flow_workers.specs.declared.worker_share.WorkerResults.{WorkerResults}
+use Rattle.flow_workers.specs.declared.worker_share.Share.{Share}
+use Rattle.flow_workers.specs.declared.session_tables.Tables.{Tables}
 use Rattle.flow_workers.specs.inner.Work.{AreSaid, RunFacts}
 
 -- each worker judged its packets: its trace is in the records of its callers, and it said its verdicts

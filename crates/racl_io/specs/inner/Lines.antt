@@ -2,7 +2,7 @@
 use Rattle.std.specs.Prelude.{◌≡◌, ◌+◌, ◌*◌, ◌<◌, ◌≤◌, ◌^◌, ℕ, List, [], Option, Result, IfErr, IfOk, OnErr, OnOk, length, vec_capacity}
 use Rattle.std.specs.Io.KnownBytes.{Appends}
 use Rattle.flow_filter.specs.declared.verdict.Verdict.{Verdict}
-use Rattle.racl_io.specs.declared.beside.Lines.{Lines}
+use Rattle.racl_io.specs.declared.parallel_lines.Lines.{Lines}
 use Rattle.racl_io.specs.declared.fault.Fault.{Fault}
 use Rattle.racl_io.specs.declared.fault.Fault.TheVariants.{Write}
 use Rattle.racl_io.specs.declared.report.Place.{Place}

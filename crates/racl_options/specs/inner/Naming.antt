@@ -6,8 +6,8 @@ use Rattle.clap.specs.declared.parser.matches.Found.{Found}
 use Rattle.racl_options.specs.Asking.{AskBy, AskedFacts}
 use Rattle.racl_options.specs.CommandLine.{Values}
 use Rattle.racl_options.specs.Origins.{CaptureFacts, Name, NamedFacts, OriginFacts, AreNamed}
-use Rattle.racl_options.specs.declared.naming.Refusal.{Refusal}
-use Rattle.racl_options.specs.declared.naming.Refusal.TheVariants.{Memory, Mistake}
+use Rattle.racl_options.specs.declared.named_files.Refusal.{Refusal}
+use Rattle.racl_options.specs.declared.named_files.Refusal.TheVariants.{Memory, Mistake}
 
 abbrev pub named_as : Option (Bor Text) → Option (Bor Text) → Option (List Text) → NamedFacts
 named_as policy capture captures = record {

@@ -2,7 +2,7 @@
 use Rattle.std.specs.Prelude.{◌≤◌, ℕ, List, length}
 use Rattle.acl_policy.specs.Rules.{RuleFacts}
 use Rattle.packet_view.specs.Tuples.{TupleFacts}
-use Rattle.rule_index.specs.declared.candidates.Candidates.{Candidates}
+use Rattle.rule_index.specs.declared.candidate_rows.Candidates.{Candidates}
 use Rattle.rule_index.specs.inner.Sieves.{Sifts}
 
 -- Each of the rows has the bit of each rule that matches.

@@ -11,7 +11,7 @@ ghost use Rattle.rule_index.specs.inner.Sieves.{Sifts};
 use super::Column;
 use super::starts::{place, starts_of};
 use super::turns::fill;
-use crate::bits::words_for;
+use crate::bit_rows::words_for;
 use crate::dimension::Dimension;
 use crate::ranges::ranges_of;
 use acl_policy::Rule;

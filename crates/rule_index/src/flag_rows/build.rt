@@ -9,7 +9,7 @@ ghost use Rattle.rule_index.specs.Rows.{bit_in};
 ghost use Rattle.rule_index.specs.inner.Sieves.{Sifts};
 
 use super::FlagRows;
-use crate::bits::{accumulate, set_bit, words_for};
+use crate::bit_rows::{accumulate, set_bit, words_for};
 use acl_policy::Rule;
 use std::alloc::{AllocError, Global};
 

@@ -10,12 +10,12 @@ ghost use Rattle.rule_index.specs.Dimensions.{IsAt, IsFirst, IsSecond};
 ghost use Rattle.rule_index.specs.Flagged.{IsFlagsOf};
 
 use super::RuleIndex;
-use crate::candidates::Candidates;
+use crate::candidate_rows::Candidates;
 use crate::column::Column;
 use crate::dimension::Dimension;
+use crate::first_candidate::first_of;
 use crate::flag_rows::FlagRows;
 use crate::ranges::base_of;
-use crate::sieve::first_of;
 use acl_policy::{Action, Rule};
 use packet_view::{Fields, Tuple};
 use std::alloc::{AllocError, Global};

@@ -5,8 +5,8 @@ use Rattle.packet_view.specs.declared.tuple.Direction.{Direction}
 use Rattle.packet_view.specs.declared.tuple.Direction.TheVariants.{Inbound, Outbound}
 use Rattle.packet_view.specs.declared.tuple.Family.{Family}
 use Rattle.packet_view.specs.declared.tuple.Family.TheVariants.{V4, V6}
-use Rattle.acl_policy.specs.declared.line.Line.{Line}
-use Rattle.acl_policy.specs.declared.line.Line.TheVariants as read
+use Rattle.acl_policy.specs.declared.policy_line.Line.{Line}
+use Rattle.acl_policy.specs.declared.policy_line.Line.TheVariants as read
 use Rattle.acl_policy.specs.declared.rule.Action.{Action}
 use Rattle.acl_policy.specs.declared.rule.Action.TheVariants.{Deny, Permit, Reflect}
 use Rattle.acl_policy.specs.Lines.{Begins, Blank, LineFacts, Own, Ruled}

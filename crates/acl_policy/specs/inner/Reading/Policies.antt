@@ -3,7 +3,7 @@ use Rattle.std.specs.Prelude.{◌≡◌, ℕ, Bool, false, ◌||◌, ◌==◌, n
 use Rattle.packet_view.specs.declared.tuple.Direction.TheVariants.{Inbound, Outbound}
 use Rattle.acl_policy.specs.declared.policy.PolicyFault.{PolicyFault}
 use Rattle.acl_policy.specs.declared.policy.PolicyFault.TheVariants.{Memory, NotUtf8, BadLine, TooMany}
-use Rattle.acl_policy.specs.declared.draft.Draft.{Draft}
+use Rattle.acl_policy.specs.declared.policy_draft.Draft.{Draft}
 use Rattle.acl_policy.specs.Lines.{Begins, Blank, LineFacts, Own, Ruled}
 use Rattle.acl_policy.specs.Policies.{IsFirstFault, IsSurplus, IsWrong, PolicyFacts, SectionFacts, empty_section, numbers_of, section_facts}
 use Rattle.acl_policy.specs.Rules.{RuleFacts, most_rules}

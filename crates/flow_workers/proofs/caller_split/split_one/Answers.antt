@@ -3,8 +3,8 @@ use Rattle.bihash_words.specs.Sizes.{Sizes, sizes_of}
 use Rattle.bihash_steps.specs.Seats.{CallerState}
 use Rattle.bihash_steps.specs.Steps.{IsRefused}
 use Rattle.bihash_rule.specs.declared.view.View.{View}
-use Rattle.bihash_steps.specs.declared.faults.SplitFault.{SplitFault}
-use Rattle.bihash_steps.specs.declared.faults.SplitFault.TheVariants.{Memory, Numbers, Contended}
+use Rattle.bihash_steps.specs.declared.split_fault.SplitFault.{SplitFault}
+use Rattle.bihash_steps.specs.declared.split_fault.SplitFault.TheVariants.{Memory, Numbers, Contended}
 use Rattle.flow_workers.specs.inner.Fresh.{IsFreshView}
 use Rattle.flow_workers.proofs.caller_split.split_one.Goals as goal
 

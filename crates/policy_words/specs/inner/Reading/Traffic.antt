@@ -3,7 +3,7 @@ use Rattle.std.specs.Prelude.{ℕ, nat_le, List, [], ◌∷◌, codes, Option, S
 use Rattle.std.specs.Str.{bytes_eq}
 use Rattle.packet_view.specs.Addresses.{icmp_of}
 use Rattle.packet_view.specs.declared.tuple.Family.{Family}
-use Rattle.policy_words.specs.declared.traffic.Traffic.{Traffic}
+use Rattle.policy_words.specs.declared.protocol_parts.Traffic.{Traffic}
 use Rattle.policy_words.specs.inner.Reading.{at_most, if_last, next_in, ◌>>=◌}
 use Rattle.policy_words.specs.inner.Reading.Numerals.{cut_in, number_in, pair_in}
 use Rattle.policy_words.specs.Traffic.{OfIcmp, OfNone, OfTcp, OfUdp, Parts, every, parts_of}

@@ -1,0 +1,54 @@
+//! The calls on keys of what is behind a handle, whichever size its table has.
+ghost use Rattle.bihash_c.specs.Contents.{RecycleTold, SearchTold, UpdateTold};
+ghost use Rattle.bihash_c.specs.EitherSizes.{Calls, HasCaller};
+
+use crate::answer::Answer;
+use crate::either_size::EitherSize;
+use bihash_words::{Expiry, Patch, Shape};
+
+impl<S: Shape, L: Shape<Key = S::Key>> EitherSize<S, L> {
+    /// One try of a search.
+    #[inline(always)]
+    pub fn search(&mut self, key: &S::Key) -> Answer
+        requires { HasCaller self.old }
+        ensures { Calls self.old self.new (SearchTold ⟦<S as Shape>⟧ key.now result)
+            (SearchTold ⟦<L as Shape>⟧ key.now result) }
+    {
+        match self {
+            EitherSize::Small(content) => content.search(key),
+            EitherSize::Large(content) => content.search(key),
+        }
+    }
+
+    /// One try of an update.
+    #[inline(always)]
+    pub fn update<P: Patch>(&mut self, key: &S::Key, patch: &P) -> Answer
+        requires { HasCaller self.old }
+        ensures { Calls self.old self.new (UpdateTold ⟦<S as Shape>⟧ key.now (P.decision patch.now) result)
+            (UpdateTold ⟦<L as Shape>⟧ key.now (P.decision patch.now) result) }
+    {
+        match self {
+            EitherSize::Small(content) => content.update(key, patch),
+            EitherSize::Large(content) => content.update(key, patch),
+        }
+    }
+
+    /// One try of an update with an expiry.
+    #[inline(always)]
+    pub fn add_or_recycle<P: Patch, E: Expiry>(
+        &mut self,
+        key: &S::Key,
+        patch: &P,
+        expiry: &E,
+    ) -> Answer
+        requires { HasCaller self.old }
+        ensures { Calls self.old self.new
+            (RecycleTold ⟦<S as Shape>⟧ key.now (P.decision patch.now) (E.is_expired expiry.now) result)
+            (RecycleTold ⟦<L as Shape>⟧ key.now (P.decision patch.now) (E.is_expired expiry.now) result) }
+    {
+        match self {
+            EitherSize::Small(content) => content.add_or_recycle(key, patch, expiry),
+            EitherSize::Large(content) => content.add_or_recycle(key, patch, expiry),
+        }
+    }
+}

@@ -1,0 +1,50 @@
+//! The calls on keys of what is behind a handle, answered as C is told.
+ghost use Rattle.bihash_c.specs.Contents.{Calls, HasCaller, RecycleTold, SearchTold, UpdateTold};
+
+use crate::answer::{Answer, reply_answer, search_answer};
+use crate::handle_content::Content;
+use bihash_words::{Expiry, Patch, Shape};
+
+impl<S: Shape> Content<S> {
+    /// One try of a search.
+    #[inline(always)]
+    pub fn search(&mut self, key: &S::Key) -> Answer
+        requires { HasCaller self.old }
+        ensures { Calls self.old self.new (SearchTold ⟦<S as Shape>⟧ key.now result) }
+    {
+        let Content::Caller(member) = self else {
+            unreachable!();
+        };
+        search_answer(member.search(key))
+    }
+
+    /// One try of an update.
+    #[inline(always)]
+    pub fn update<P: Patch>(&mut self, key: &S::Key, patch: &P) -> Answer
+        requires { HasCaller self.old }
+        ensures { Calls self.old self.new (UpdateTold ⟦<S as Shape>⟧ key.now (P.decision patch.now) result) }
+    {
+        let Content::Caller(member) = self else {
+            unreachable!();
+        };
+        reply_answer(member.update(key, patch))
+    }
+
+    /// One try of an update with an expiry.
+    #[inline(always)]
+    pub fn add_or_recycle<P: Patch, E: Expiry>(
+        &mut self,
+        key: &S::Key,
+        patch: &P,
+        expiry: &E,
+    ) -> Answer
+        requires { HasCaller self.old }
+        ensures { Calls self.old self.new (RecycleTold ⟦<S as Shape>⟧ key.now (P.decision patch.now)
+            (E.is_expired expiry.now) result) }
+    {
+        let Content::Caller(member) = self else {
+            unreachable!();
+        };
+        reply_answer(member.add_or_recycle(key, patch, expiry))
+    }
+}

@@ -1,0 +1,50 @@
+use Rattle.std.proofs.Common.{◌∙◌, ap, subst, sym}
+use Rattle.bihash_words.specs.Sizes.{sizes_of}
+use Rattle.bihash_table.specs.Answers.{locks_of}
+use Rattle.bihash_table.specs.Tries.{TriedOver}
+use Rattle.bihash_table.specs.inner.OpenReads.{value_of}
+use Rattle.bihash_table.proofs.SameCallers.{own_through, same_through}
+use Rattle.bihash_table.proofs.OpenReadLemmas.{may_read}
+use Rattle.bihash_table.proofs.SeenBuckets.{seen_ahead, seen_first, seen_records}
+use Rattle.bihash_table.proofs.Tries.{over_seen, update_answered_over}
+use Rattle.bihash_table.proofs.shared_table.Sessions.try_add_or_recycle.Goals as goal
+
+pub find_pair-pair-requires : goal.find_pair-pair-requires
+find_pair-pair-requires g c = may_read (own_through c.args.caller.now.seat _ _ c.load_unlocked.ensures.same c.requires.own) c.in-Some.ensures.opened.has
+
+pub make-requires-clause-found : goal.make-requires-clause-found
+make-requires-clause-found g c = record {
+  own = own_through c.load_unlocked.new.seat _ _ c.find_pair-pair.ensures.same (own_through c.args.caller.now.seat _ _ c.load_unlocked.ensures.same c.requires.own);
+  seen = seen_first (sizes_of g.S.Shape) _ _ _ _ c.find_pair-pair.ensures.saw c.in-Some.ensures.opened.has;
+}
+
+pub returns : goal.returns
+returns g c =
+    let z = sizes_of g.S.Shape in
+    let s = c.args.caller.now.seat in
+    let x = c.load_unlocked.new.seat in
+    let y = c.find_pair-pair.new.seat in
+    let t = c.make.new.caller.seat in
+    let hashed = c.of-hashed.result in
+    let found = value_of c.find_pair-pair.result in
+    let change = c.decide-change.result in
+    let r = c.make.result in
+    let same = same_through s x y _ c.load_unlocked.ensures.same c.find_pair-pair.ensures.same in
+    let ahead = seen_ahead z s.view x.view y.view hashed.bucket c.in-Some.word c.in-Some.ensures.opened c.find_pair-pair.ensures.saw in
+    let locks = ap locks_of (seen_records z s.view x.view y.view hashed.bucket c.in-Some.word c.in-Some.ensures.opened c.find_pair-pair.ensures.saw) in
+    let is_expired = g.E.Expiry.is_expired c.args.expiry.now in
+    let all : TriedOver g.S.Shape s t hashed.key.now found change is_expired r
+    = over_seen g.S.Shape s y t hashed.bucket hashed.key.now found change is_expired same ahead (sym hashed.home) locks r c.make.ensures in
+    let key = c.args.key.now in
+    let tried : TriedOver g.S.Shape s t key found change is_expired r
+    = subst (λ k. TriedOver g.S.Shape s t k found change is_expired r) c.of-hashed.ensures.key all in
+    record {
+      same = tried.same;
+      answered = update_answered_over g.S.Shape s t key found change (g.P.Patch.decision c.args.patch.now) is_expired
+          (c.decide-change.ensures.decision ∙ ap (g.P.Patch.decision c.args.patch.now) c.value_found-found.ensures) r tried;
+      no_pages = tried.no_pages;
+      locks = tried.locks;
+      contended = tried.contended;
+      lone = tried.lone;
+      lawful = tried.lawful;
+    }

@@ -1,0 +1,188 @@
+//! Changes that a bucket's block has room for, and answers that leave it.
+ghost use Rattle.std.specs.Prelude.{◌≡◌, ◌≢◌, ◌<◌, ◌+◌, ◌*◌, true, None, Some, Ok};
+ghost use Rattle.bihash_words.specs.Sizes.{sizes_of};
+ghost use Rattle.bihash_words.specs.declared.patch.Change.TheVariants.{Set, Remove};
+ghost use Rattle.bihash_rule.specs.Words.{place_words};
+ghost use Rattle.bihash_steps.specs.BucketSteps.{with_lock, stored_in};
+ghost use Rattle.bihash_rule.specs.declared.view.LockedBucket.{LockedBucket};
+ghost use Rattle.bihash_steps.specs.Seats.{with_view};
+ghost use Rattle.bihash_table.specs.inner.Locked.{HasLock, HasPlace, IsPairBeside, IsPlaceForNew, UnderLock};
+ghost use Rattle.bihash_table.specs.inner.OpenReads.{IsPairIn};
+ghost use Rattle.bihash_table.specs.inner.Seen.{MayReply, WantsChange};
+ghost use Rattle.bihash_table.specs.inner.Stores.{FindsWord, HasStored, HoldsWord};
+ghost use Rattle.bihash_table.specs.Tries.{Finished, Tried};
+
+use crate::block_places::FREE;
+use crate::bucket_lock::lock_if_unchanged;
+use crate::change_of_block::remove_last;
+use crate::contended::Contended;
+use crate::hashed_key::SeenBucket;
+use crate::open_reads::has_other_pair;
+use bihash_steps::{CallerSeat, Event, Row};
+use bihash_words::{BucketWord, Change, Reply, Shape};
+
+/// Gives a reply that is no write, where the bucket still has the word that was seen.
+pub(crate) fn answer<S: Shape>(
+    row: &Row<S>,
+    seat: &mut CallerSeat<S>,
+    seen: &SeenBucket<'_, S>,
+    found: Option<u64>,
+    change: Change,
+    reply: Reply,
+) -> Result<Reply, Contended>
+    requires { MayReply ⟦<S as Shape>⟧ row.now seat.old seen.now found change reply }
+    ensures { Tried ⟦<S as Shape>⟧ seat.old seat.new seen.now.hashed.key.now found change result }
+{
+    let event = Event {
+        key: seen.hashed.key,
+        found,
+        change,
+        reply,
+    };
+    if !row.validate(seat, seen.hashed.bucket, seen.word, &event) {
+        return Err(Contended);
+    }
+    Ok(reply)
+}
+
+/// Gives the pair at a place another value.
+pub(crate) fn overwrite<S: Shape>(
+    row: &Row<S>,
+    seat: &mut CallerSeat<S>,
+    seen: &SeenBucket<'_, S>,
+    pair: (usize, u64),
+    value: u64,
+) -> Reply
+    requires held { UnderLock ⟦<S as Shape>⟧ row.now seat.old seen.now (Set value) (λ z key. IsPairIn z key (Some pair)) }
+    requires other { value ≢ pair.1 }
+    ensures { Finished ⟦<S as Shape>⟧ seat.old seat.new seen.now.hashed.key.now (Some pair.1) (Set value) (Ok result) }
+{
+    store_word(row, seat, seen.word, pair.0, S::WORDS, value);
+    let event = Event {
+        key: seen.hashed.key,
+        found: Some(pair.1),
+        change: Change::Set(value),
+        reply: Reply::Changed(Some(pair.1)),
+    };
+    row.publish(seat, seen.hashed.bucket, seen.word, &event);
+    Reply::Changed(Some(pair.1))
+}
+
+/// Enters a pair of a new key at a free place.
+pub(crate) fn fill<S: Shape>(
+    row: &Row<S>,
+    seat: &mut CallerSeat<S>,
+    seen: &SeenBucket<'_, S>,
+    place: usize,
+    value: u64,
+) -> Reply
+    requires { UnderLock ⟦<S as Shape>⟧ row.now seat.old seen.now (Set value) (λ z key. IsPlaceForNew z key place) }
+    ensures { Finished ⟦<S as Shape>⟧ seat.old seat.new seen.now.hashed.key.now None (Set value) (Ok result) }
+{
+    store_key(row, seat, seen, place);
+    store_word(row, seat, seen.word, place, S::WORDS, value);
+    let event = Event {
+        key: seen.hashed.key,
+        found: None,
+        change: Change::Set(value),
+        reply: Reply::Changed(None),
+    };
+    row.publish(seat, seen.hashed.bucket, seen.word, &event);
+    Reply::Changed(None)
+}
+
+/// Removes the key's pair. With the last pair the block goes too.
+#[inline(always)]
+pub(crate) fn remove<S: Shape>(
+    row: &Row<S>,
+    seat: &mut CallerSeat<S>,
+    seen: &SeenBucket<'_, S>,
+    pair: (usize, u64),
+) -> Result<Reply, Contended>
+    requires { WantsChange ⟦<S as Shape>⟧ row.now seat.old seen.now (Some pair) Remove }
+    ensures { Tried ⟦<S as Shape>⟧ seat.old seat.new seen.now.hashed.key.now (Some pair.1) Remove result }
+{
+    let other = has_other_pair(row, seat, seen.word, pair.0);
+    if !lock_if_unchanged(row, seat, seen.hashed.bucket, seen.word) {
+        return Err(Contended);
+    }
+    if !other {
+        return remove_last(row, seat, seen, pair);
+    }
+    Ok(vacate(row, seat, seen, pair))
+}
+
+// Frees the place of a pair, where another pair is left.
+fn vacate<S: Shape>(
+    row: &Row<S>,
+    seat: &mut CallerSeat<S>,
+    seen: &SeenBucket<'_, S>,
+    pair: (usize, u64),
+) -> Reply
+    requires { UnderLock ⟦<S as Shape>⟧ row.now seat.old seen.now Remove (λ z key. IsPairBeside z key pair true) }
+    ensures { Finished ⟦<S as Shape>⟧ seat.old seat.new seen.now.hashed.key.now (Some pair.1) Remove (Ok result) }
+{
+    store_word(row, seat, seen.word, pair.0, S::WORDS, FREE);
+    let event = Event {
+        key: seen.hashed.key,
+        found: Some(pair.1),
+        change: Change::Remove,
+        reply: Reply::Changed(Some(pair.1)),
+    };
+    row.publish(seat, seen.hashed.bucket, seen.word, &event);
+    Reply::Changed(Some(pair.1))
+}
+
+// Stores the words of a key at a place of the block that the caller has locked, but those that stand there. A
+// freed place shows the key that it had, and a store costs far more than a load.
+pub(crate) fn store_key<S: Shape>(
+    row: &Row<S>,
+    seat: &mut CallerSeat<S>,
+    seen: &SeenBucket<'_, S>,
+    place: usize,
+)
+    requires { HasPlace ⟦<S as Shape>⟧ row.now seat.old seen.now place }
+    ensures same { seat.new ≡ with_view seat.old seat.new.view }
+    ensures stored { (l : LockedBucket) → HasLock (sizes_of S.Shape) seat.old.view seen.now.hashed.bucket seen.now.word l
+        → HasStored (sizes_of S.Shape) seat.old.view seat.new.view l place (S.words_of seen.now.hashed.key.now) S.WORDS }
+{
+    for i in 0..S::WORDS {
+        let part = S::word(seen.hashed.key, i);
+        if held_word(row, seat, seen.word, place, i) == part {
+            continue;
+        }
+        store_word(row, seat, seen.word, place, i, part);
+    }
+}
+
+// Word i of a place of the block that the caller has locked.
+fn held_word<S: Shape>(
+    row: &Row<S>,
+    seat: &mut CallerSeat<S>,
+    word: BucketWord,
+    place: usize,
+    i: usize,
+) -> u64
+    requires { HoldsWord (sizes_of S.Shape) row.now seat.old word place i }
+    ensures { FindsWord (sizes_of S.Shape) seat.old seat.new place i result }
+{
+    row.is_sound();
+    row.load_locked(seat, word.page(), place * (S::WORDS + 1) + i)
+}
+
+// Stores word i of a place of the block that the caller has locked.
+pub(crate) fn store_word<S: Shape>(
+    row: &Row<S>,
+    seat: &mut CallerSeat<S>,
+    word: BucketWord,
+    place: usize,
+    i: usize,
+    value: u64,
+)
+    requires { HoldsWord (sizes_of S.Shape) row.now seat.old word place i }
+    ensures { (l : LockedBucket) → seat.old.view.holds.bucket ≡ Some l → seat.new ≡ with_view seat.old
+        (with_lock seat.old.view (Some (stored_in l (place * place_words (sizes_of S.Shape) + i) value))) }
+{
+    row.is_sound();
+    row.store_locked(seat, word.page(), place * (S::WORDS + 1) + i, value);
+}

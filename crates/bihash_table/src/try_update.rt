@@ -1,0 +1,162 @@
+//! Updates, one try each.
+ghost use Rattle.std.specs.Prelude.{◌≡◌, ◌≢◌, true, false, None, Option, Some};
+ghost use Rattle.bihash_words.specs.Maps.{effect_of};
+ghost use Rattle.bihash_words.specs.Patches.{IsStorable};
+ghost use Rattle.bihash_words.specs.declared.patch.Change.TheVariants.{Keep};
+ghost use Rattle.bihash_steps.specs.CallerCalls.{IsIdle};
+ghost use Rattle.bihash_table.specs.Calls.{TellsRecycleTry, TellsUpdateTry};
+ghost use Rattle.bihash_table.specs.inner.OpenReads.{value_of};
+ghost use Rattle.bihash_table.specs.inner.Seen.{Found, WantsChange};
+ghost use Rattle.bihash_table.specs.Tries.{Tried, TriedOver};
+
+use crate::bucket_lock::{load_unlocked, lock_if_unchanged};
+use crate::change_in_place::{answer, fill, overwrite, remove};
+use crate::change_of_block::enter_larger;
+use crate::contended::Contended;
+use crate::entered_value::Entrant;
+use crate::hashed_key::{HashedKey, SeenBucket};
+use crate::never_expired::Never;
+use crate::open_reads::{find_free, find_pair, value_found};
+use crate::shared_table::Sessions;
+use crate::worn_bucket::is_worn;
+use bihash_steps::{Caller, CallerSeat, Row};
+use bihash_words::{Change, Expiry, Patch, Reply, Shape};
+
+impl<S: Shape> Sessions<S> {
+    /// Decides once on the value of the key, and makes the change that was decided. The answers come in
+    /// this order: `Contended`, `Kept`, `Worn`, `Full`, `NoPages`, `Changed`. The first four of them but
+    /// `Contended` take no lock.
+    #[inline(always)]
+    pub fn try_update<P: Patch>(
+        &self,
+        caller: &mut Caller<S>,
+        key: &S::Key,
+        patch: &P,
+    ) -> Result<Reply, Contended>
+        requires { IsIdle self.now.row caller.old.seat }
+        ensures { TellsUpdateTry ⟦<S as Shape>⟧ caller.old.seat caller.new.seat key.now (P.decision patch.now) result }
+    {
+        self.try_add_or_recycle(caller, key, patch, &Never)
+    }
+
+    /// The same, but where the answer would be `Full`, the new pair takes the place of the expired pair of the bucket
+    /// with the least key by its words, first word first, and the answer is `Changed(None)`. It is `Full` where no
+    /// pair of the bucket is expired.
+    #[inline(always)]
+    pub fn try_add_or_recycle<P: Patch, E: Expiry>(
+        &self,
+        caller: &mut Caller<S>,
+        key: &S::Key,
+        patch: &P,
+        expiry: &E,
+    ) -> Result<Reply, Contended>
+        requires { IsIdle self.now.row caller.old.seat }
+        ensures { TellsRecycleTry ⟦<S as Shape>⟧ caller.old.seat caller.new.seat key.now (P.decision patch.now)
+            (E.is_expired expiry.now) result }
+    {
+        self.row.is_sound();
+        let hashed = HashedKey::of(key);
+        let Some(word) = load_unlocked(&self.row, &mut caller.seat, hashed.bucket) else {
+            return Err(Contended);
+        };
+        let pair = find_pair(&self.row, &mut caller.seat, word, &hashed);
+        let found = value_found(pair);
+        let change = patch.decide(found);
+        let seen = SeenBucket { word, hashed };
+        make(&self.row, caller, &seen, pair, change, expiry)
+    }
+}
+
+// Makes the change that was decided on what was found, where it is one and the version isn't used up.
+#[inline(always)]
+fn make<S: Shape, E: Expiry>(
+    row: &Row<S>,
+    caller: &mut Caller<S>,
+    seen: &SeenBucket<'_, S>,
+    pair: Option<(usize, u64)>,
+    change: Change,
+    expiry: &E,
+) -> Result<Reply, Contended>
+    requires found { Found ⟦<S as Shape>⟧ row.now caller.old.seat seen.now pair }
+    requires storable { IsStorable change }
+    ensures { TriedOver ⟦<S as Shape>⟧ caller.old.seat caller.new.seat seen.now.hashed.key.now (value_of pair) change
+        (E.is_expired expiry.now) result }
+{
+    let found = value_found(pair);
+    let seat = &mut caller.seat;
+    if is_idle(change, found) {
+        return answer(row, seat, seen, found, change, Reply::Kept(found));
+    }
+    if is_worn::<S>(seen.word) {
+        return answer(row, seat, seen, found, change, Reply::Worn(found));
+    }
+    match pair {
+        Some(held) => change_pair(row, seat, seen, held, change),
+        None => enter_new(row, caller, seen, change, expiry),
+    }
+}
+
+// Whether a change of what was found leaves it.
+fn is_idle(change: Change, found: Option<u64>) -> bool
+    ensures yes { result ≡ true → effect_of change found ≡ Keep }
+    ensures no { result ≡ false → effect_of change found ≢ Keep }
+{
+    match (change, found) {
+        (Change::Keep, _) => true,
+        (Change::Set(value), Some(old)) => old == value,
+        (Change::Remove, None) => true,
+        _ => false,
+    }
+}
+
+// Gives the key's pair another value, or removes it.
+#[inline(always)]
+fn change_pair<S: Shape>(
+    row: &Row<S>,
+    seat: &mut CallerSeat<S>,
+    seen: &SeenBucket<'_, S>,
+    pair: (usize, u64),
+    change: Change,
+) -> Result<Reply, Contended>
+    requires { WantsChange ⟦<S as Shape>⟧ row.now seat.old seen.now (Some pair) change }
+    ensures { Tried ⟦<S as Shape>⟧ seat.old seat.new seen.now.hashed.key.now (Some pair.1) change result }
+{
+    match change {
+        Change::Set(value) => {
+            if !lock_if_unchanged(row, seat, seen.hashed.bucket, seen.word) {
+                return Err(Contended);
+            }
+            Ok(overwrite(row, seat, seen, pair, value))
+        }
+        Change::Remove => remove(row, seat, seen, pair),
+        Change::Keep => unreachable!(),
+    }
+}
+
+// Enters a pair of a new key: at a free place that is open to it, or in a larger block.
+#[inline(always)]
+fn enter_new<S: Shape, E: Expiry>(
+    row: &Row<S>,
+    caller: &mut Caller<S>,
+    seen: &SeenBucket<'_, S>,
+    change: Change,
+    expiry: &E,
+) -> Result<Reply, Contended>
+    requires { WantsChange ⟦<S as Shape>⟧ row.now caller.old.seat seen.now None change }
+    ensures { TriedOver ⟦<S as Shape>⟧ caller.old.seat caller.new.seat seen.now.hashed.key.now None change
+        (E.is_expired expiry.now) result }
+{
+    let Change::Set(value) = change else {
+        unreachable!();
+    };
+    let seat = &mut caller.seat;
+    match find_free(row, seat, seen.word, &seen.hashed) {
+        Some(place) => {
+            if !lock_if_unchanged(row, seat, seen.hashed.bucket, seen.word) {
+                return Err(Contended);
+            }
+            Ok(fill(row, seat, seen, place, value))
+        }
+        None => enter_larger(row, caller, seen, &Entrant { value, expiry }),
+    }
+}

@@ -1,0 +1,103 @@
+//! Updates that wait for their turn: one of any decision, and the four fixed ones.
+ghost use Rattle.std.specs.Prelude.{◌≢◌};
+ghost use Rattle.bihash_words.specs.Patches.{free_mark, set_if_absent, set_if_present};
+ghost use Rattle.bihash_words.specs.declared.patch.Change.TheVariants.{Set, Remove};
+ghost use Rattle.bihash_steps.specs.CallerCalls.{IsIdle};
+ghost use Rattle.bihash_table.specs.Calls.{TellsRecycle, TellsUpdate};
+
+use crate::shared_table::Sessions;
+use bihash_steps::Caller;
+use bihash_words::{Add, AddIfAbsent, Delete, Expiry, Patch, Reply, Shape, Touch};
+use crossbeam_utils::Backoff;
+use std::sync::Wait;
+
+impl<S: Shape> Sessions<S> {
+    /// Decides once on the value of the key, and makes the change that was decided. It tries again until
+    /// no other caller holds a lock or changes the bucket meanwhile.
+    #[inline(always)]
+    pub fn update<P: Patch, R: Wait>(
+        &self,
+        rt: &R,
+        caller: &mut Caller<S>,
+        key: &S::Key,
+        patch: &P,
+    ) -> Reply
+        requires { IsIdle self.now.row caller.old.seat }
+        ensures { TellsUpdate ⟦<S as Shape>⟧ caller.old.seat caller.new.seat key.now (P.decision patch.now) result }
+    {
+        let backoff = Backoff::new();
+        for _ in rt.forever() {
+            if let Ok(reply) = self.try_update(caller, key, patch) {
+                return reply;
+            }
+            backoff.snooze();
+        }
+        unreachable!()
+    }
+
+    /// The same, but a new key that finds no room takes the place of the expired pair of the bucket with the least
+    /// key, if any: the answer is `Changed(None)` then.
+    #[inline(always)]
+    pub fn add_or_recycle<P: Patch, E: Expiry, R: Wait>(
+        &self,
+        rt: &R,
+        caller: &mut Caller<S>,
+        key: &S::Key,
+        patch: &P,
+        expiry: &E,
+    ) -> Reply
+        requires { IsIdle self.now.row caller.old.seat }
+        ensures { TellsRecycle ⟦<S as Shape>⟧ caller.old.seat caller.new.seat key.now (P.decision patch.now)
+            (E.is_expired expiry.now) result }
+    {
+        let backoff = Backoff::new();
+        for _ in rt.forever() {
+            if let Ok(reply) = self.try_add_or_recycle(caller, key, patch, expiry) {
+                return reply;
+            }
+            backoff.snooze();
+        }
+        unreachable!()
+    }
+
+    /// Sets the value, whatever was found.
+    pub fn add<R: Wait>(&self, rt: &R, caller: &mut Caller<S>, key: &S::Key, value: u64) -> Reply
+        requires idle { IsIdle self.now.row caller.old.seat }
+        requires storable { value ≢ free_mark }
+        ensures { TellsUpdate ⟦<S as Shape>⟧ caller.old.seat caller.new.seat key.now (λ _. Set value) result }
+    {
+        self.update(rt, caller, key, &Add { value })
+    }
+
+    /// Sets the value where there is none, and keeps one that is there.
+    pub fn add_if_absent<R: Wait>(
+        &self,
+        rt: &R,
+        caller: &mut Caller<S>,
+        key: &S::Key,
+        value: u64,
+    ) -> Reply
+        requires idle { IsIdle self.now.row caller.old.seat }
+        requires storable { value ≢ free_mark }
+        ensures { TellsUpdate ⟦<S as Shape>⟧ caller.old.seat caller.new.seat key.now (set_if_absent value) result }
+    {
+        self.update(rt, caller, key, &AddIfAbsent { value })
+    }
+
+    /// Sets the value where there is one.
+    pub fn touch<R: Wait>(&self, rt: &R, caller: &mut Caller<S>, key: &S::Key, value: u64) -> Reply
+        requires idle { IsIdle self.now.row caller.old.seat }
+        requires storable { value ≢ free_mark }
+        ensures { TellsUpdate ⟦<S as Shape>⟧ caller.old.seat caller.new.seat key.now (set_if_present value) result }
+    {
+        self.update(rt, caller, key, &Touch { value })
+    }
+
+    /// Removes the value.
+    pub fn remove<R: Wait>(&self, rt: &R, caller: &mut Caller<S>, key: &S::Key) -> Reply
+        requires { IsIdle self.now.row caller.old.seat }
+        ensures { TellsUpdate ⟦<S as Shape>⟧ caller.old.seat caller.new.seat key.now (λ _. Remove) result }
+    {
+        self.update(rt, caller, key, &Delete)
+    }
+}

@@ -1,0 +1,111 @@
+//! The verdict on one packet, by one update at most.
+ghost use Rattle.packet_view.specs.Frames.{frame_facts};
+ghost use Rattle.bihash_table.specs.Tries.{TookByTries};
+ghost use Rattle.flow_filter.specs.Filters.{section_in};
+ghost use Rattle.flow_filter.specs.Liveness.{IsForeseen};
+ghost use Rattle.flow_workers.specs.Calls.{MayAsk, TellsVerdict, TellsVerdictTry};
+ghost use Rattle.flow_workers.specs.inner.PacketPlans.{IsFrameRuling};
+ghost use Rattle.flow_workers.specs.inner.ViewedPackets.{TellsViewed, TellsViewedTry};
+
+use crate::packet_plan::PacketPlan;
+use crate::session_tables::{Callers, Tables};
+use crate::table_update::{try_update, update};
+use crate::viewed_packet::ViewedPacket;
+use bihash_table::Contended;
+use bihash_words::Shape;
+use flow_filter::{Filter, HasReading, InterfaceFilter, Verdict};
+use packet_dealing::flow_of_frame;
+use packet_view::{Packet, view};
+use session_state::SessionExpiry;
+use std::marker::Brand;
+use std::sync::Wait;
+
+// One try, under what the rules will say of the packet.
+fn try_judge_as<A: Shape, B: Shape, D: HasReading>(
+    filter: &InterfaceFilter<'_>,
+    tables: &Tables<A, B>,
+    callers: &mut Callers<A, B>,
+    packet: &ViewedPacket<'_>,
+) -> Result<Verdict, Contended>
+    requires asks { MayAsk tables.now callers.old }
+    requires ruling { IsFrameRuling (section_in filter.now) (frame_facts packet.now.frame.now) D.ruling }
+    requires lives { IsForeseen filter.now.times packet.now.moment D.is_live }
+    ensures { TellsViewedTry filter.now packet.now tables.now callers.old callers.new result }
+{
+    match PacketPlan::<D>::new(filter, packet) {
+        PacketPlan::Settled(verdict) => Ok(verdict),
+        PacketPlan::Asks(key, patch) => {
+            let expiry = SessionExpiry {
+                moment: packet.moment,
+                times: filter.times,
+            };
+            match try_update(tables, callers, *key, &patch, &expiry) {
+                Ok(reply) => Ok(patch.verdict(reply)),
+                Err(contended) => Err(contended),
+            }
+        }
+    }
+}
+
+/// The verdict on a packet that was viewed, under what the rules will say of it. It tries again where another caller's
+/// change or lock was met.
+#[inline(always)]
+pub fn judge_as<A: Shape, B: Shape, D: HasReading, R: Wait>(
+    rt: &R,
+    filter: &InterfaceFilter<'_>,
+    tables: &Tables<A, B>,
+    callers: &mut Callers<A, B>,
+    packet: &ViewedPacket<'_>,
+) -> Verdict
+    requires asks { MayAsk tables.now callers.old }
+    requires ruling { IsFrameRuling (section_in filter.now) (frame_facts packet.now.frame.now) D.ruling }
+    requires lives { IsForeseen filter.now.times packet.now.moment D.is_live }
+    ensures { TellsViewed TookByTries filter.now packet.now tables.now callers.old callers.new result }
+{
+    match PacketPlan::<D>::new(filter, packet) {
+        PacketPlan::Settled(verdict) => verdict,
+        PacketPlan::Asks(key, patch) => {
+            let expiry = SessionExpiry {
+                moment: packet.moment,
+                times: filter.times,
+            };
+            let reply = update(rt, tables, callers, *key, &patch, &expiry);
+            patch.verdict(reply)
+        }
+    }
+}
+
+/// The verdict on a packet. It tries again where another caller's change or lock was met.
+pub fn judge<A: Shape, B: Shape, R: Wait>(
+    rt: &R,
+    filter: &Filter,
+    tables: &Tables<A, B>,
+    callers: &mut Callers<A, B>,
+    packet: &Packet<'_>,
+) -> Verdict
+    requires { MayAsk tables.now callers.old }
+    ensures { TellsVerdict filter.now packet.now tables.now callers.old callers.new result }
+{
+    let filter = filter.ready(packet.interface);
+    let frame = view(packet.frame, packet.interface, filter.own);
+    let flow = flow_of_frame(&frame);
+    let packet = ViewedPacket::new(packet, &frame, &flow);
+    judge_as::<A, B, Brand, R>(rt, &filter, tables, callers, &packet)
+}
+
+/// The verdict on a packet, by one try. `Contended`: another caller's change or lock was met.
+pub fn try_judge<A: Shape, B: Shape>(
+    filter: &Filter,
+    tables: &Tables<A, B>,
+    callers: &mut Callers<A, B>,
+    packet: &Packet<'_>,
+) -> Result<Verdict, Contended>
+    requires { MayAsk tables.now callers.old }
+    ensures { TellsVerdictTry filter.now packet.now tables.now callers.old callers.new result }
+{
+    let filter = filter.ready(packet.interface);
+    let frame = view(packet.frame, packet.interface, filter.own);
+    let flow = flow_of_frame(&frame);
+    let packet = ViewedPacket::new(packet, &frame, &flow);
+    try_judge_as::<A, B, Brand>(&filter, tables, callers, &packet)
+}

@@ -1,0 +1,30 @@
+//! A worker before its turn and after it.
+use crate::gate::Gate;
+use crate::one_worker::work;
+use crate::worker_share::{Job, Share};
+use bihash_words::Shape;
+use packet_dealing::Task;
+use std::alloc::AllocError;
+use std::sync::Wait;
+
+/// What a worker is to do, or what it did.
+#[derive(Drop)]
+pub enum Turn<'t, 'f, 'a, A: Shape, B: Shape, R: Wait, G: Gate> {
+    Ahead(Job<'t, 'f, 'a, A, B, R, G>),
+    Over(Result<Share<A, B>, AllocError>),
+}
+
+impl<'t, 'f, 'a, A: Shape, B: Shape, R: Wait, G: Gate> Task for Turn<'t, 'f, 'a, A, B, R, G> {
+    ghost use Rattle.flow_workers.specs.inner.Turns.{BecomesWorked, CanTakeTurn};
+
+    ghost can_run = { CanTakeTurn ⟦<A as Shape>⟧ ⟦<B as Shape>⟧ };
+
+    ghost becomes = { BecomesWorked ⟦<A as Shape>⟧ ⟦<B as Shape>⟧ };
+
+    fn run(self) -> Turn<'t, 'f, 'a, A, B, R, G> {
+        match self {
+            Turn::Ahead(job) => Turn::Over(work(job)),
+            Turn::Over(done) => Turn::Over(done),
+        }
+    }
+}

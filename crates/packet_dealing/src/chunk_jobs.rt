@@ -1,0 +1,91 @@
+//! All chunks of the packets.
+ghost use Rattle.std.specs.Prelude.{◌≡◌, ◌≤◌, ◌<◌, ◌+◌, ◌^◌, All, IfOk, length, map, Ok};
+ghost use Rattle.packet_view.specs.CheckedCaptures.{remaining};
+ghost use Rattle.packet_dealing.specs.declared.chunk.Chunk.TheVariants.{Over};
+ghost use Rattle.packet_dealing.specs.inner.Chunks.{AreChunksAhead, IsAhead, IsChunkPast, MayDeal, begin_of};
+
+use crate::chunk::{Chunk, Job};
+use crate::dealt_chunk::{DealtChunk, empty_chunk};
+use crate::packet_worker::Dealer;
+use bihash_words::Shape;
+use packet_view::Packets;
+use std::alloc::{AllocError, Global};
+use std::marker::PhantomData;
+
+// The place of a chunk's first packet. There is one chunk for each worker, and the packets end where one more began.
+fn begin(packets: usize, workers: usize, chunk: usize) -> usize
+    requires some { 0 < workers }
+    requires one { chunk ≤ workers }
+    ensures is { result ≡ begin_of packets workers chunk }
+    ensures inside { result ≤ packets }
+{
+    if chunk == workers {
+        packets
+    } else {
+        chunk * (packets / workers)
+    }
+}
+
+// This chunk of the packets, which is ahead.
+fn chunk_ahead<'a, A: Shape, B: Shape>(
+    alloc: Global,
+    dealer: Dealer,
+    number: usize,
+    packets: Packets<'a>,
+    chunk: usize,
+) -> Result<Chunk<'a, A, B>, AllocError>
+    requires may { MayDeal ⟦<A as Shape>⟧ ⟦<B as Shape>⟧ dealer }
+    requires fits { number + length (remaining packets) < 2 ^ 64 }
+    requires one { chunk < dealer.workers }
+    ensures { IfOk result (IsAhead ⟦<A as Shape>⟧ ⟦<B as Shape>⟧ dealer number packets.entry (begin_of (length (remaining packets.entry)) dealer.workers chunk) (begin_of (length (remaining packets.entry)) dealer.workers (chunk + 1))) }
+{
+    let count = packets.count();
+    let first = begin(count, dealer.workers, chunk);
+    let next = begin(count, dealer.workers, chunk + 1);
+    Ok(Chunk::Ahead(Job {
+        dealer,
+        packets,
+        number,
+        first,
+        next,
+        chunk: empty_chunk(alloc, dealer.workers, next - first)?,
+        shapes: PhantomData,
+    }))
+}
+
+/// The chunks of the packets, which are ahead, one for each worker. The packets' numbers begin with this one. This thread
+/// gets the memory for all chunks: what another thread gives back goes back to the system, and costs a first touch again.
+pub fn chunks_ahead<'a, A: Shape, B: Shape>(
+    alloc: Global,
+    dealer: Dealer,
+    number: usize,
+    packets: Packets<'a>,
+) -> Result<Vec<Chunk<'a, A, B>>, AllocError>
+    requires may { MayDeal ⟦<A as Shape>⟧ ⟦<B as Shape>⟧ dealer }
+    requires fits { number + length (remaining packets) < 2 ^ 64 }
+    ensures { IfOk result (λ v. AreChunksAhead ⟦<A as Shape>⟧ ⟦<B as Shape>⟧ dealer number packets.entry v.items) }
+{
+    let mut chunks = Vec::with_capacity(alloc, dealer.workers)?;
+    for chunk in 0..dealer.workers {
+        chunks.push(chunk_ahead(alloc, dealer, number, packets, chunk)?)?;
+    }
+    Ok(chunks)
+}
+
+/// The packets of all chunks, where none of them was refused memory.
+pub fn chunks_over<'a, A: Shape, B: Shape>(
+    alloc: Global,
+    chunks: Vec<Chunk<'a, A, B>>,
+) -> Result<Vec<DealtChunk<'a>>, AllocError>
+    requires { All IsChunkPast chunks.items }
+    ensures { IfOk result (λ v. chunks.entry.items ≡ map (λ chunk. Over (Ok chunk)) v.items) }
+{
+    let mut all = Vec::with_capacity(alloc, chunks.len())?;
+    for chunk in chunks {
+        let Chunk::Over(done) = chunk else {
+            unreachable!()
+        };
+        all.push(done?)?;
+    }
+    Ok(all)
+}

@@ -1,0 +1,36 @@
+//! Packets with the workers that judge them, which several threads find at once.
+ghost use Rattle.std.specs.Prelude.{◌≤◌, ◌<◌, ◌+◌, ◌^◌, IfOk, length};
+ghost use Rattle.packet_view.specs.CheckedCaptures.{remaining};
+ghost use Rattle.packet_dealing.specs.Dealt.{AreDealt, AreShapes};
+
+use crate::chunk_jobs::{chunks_ahead, chunks_over};
+use crate::dealt_chunk::DealtChunk;
+use crate::packet_worker::Dealer;
+use crate::tasks_in_threads::run_all;
+use bihash_words::Shape;
+use packet_view::Packets;
+use std::alloc::{AllocError, Global};
+use std::thread::Threads;
+
+/// The packets, whose numbers begin with this one, with the workers that judge them, in their order, in as many chunks
+/// as there are workers. Each chunk is found by a thread of its own, or by this one where no thread can be made.
+pub fn deal_packets<'a, A: Shape + Send, B: Shape + Send, R: Threads + Sync>(
+    rt: &R,
+    alloc: Global,
+    dealer: Dealer,
+    number: usize,
+    packets: Packets<'a>,
+) -> Result<Vec<DealtChunk<'a>>, AllocError>
+where
+    A::Key: Send,
+    B::Key: Send,
+    requires shapes { AreShapes ⟦<A as Shape>⟧ ⟦<B as Shape>⟧ }
+    requires some { 1 ≤ dealer.workers }
+    requires few { dealer.workers ≤ 16 }
+    requires fits { number + length (remaining packets) < 2 ^ 64 }
+    ensures { IfOk result (λ chunks. AreDealt ⟦<A as Shape>⟧ ⟦<B as Shape>⟧ dealer number chunks.items (remaining packets.entry)) }
+{
+    let ahead = chunks_ahead::<A, B>(alloc, dealer, number, packets)?;
+    let over = run_all(rt, ahead)?;
+    chunks_over(alloc, over)
+}

@@ -1,0 +1,11 @@
+use Rattle.std.proofs.Common.{◌≤◌, length}
+use Rattle.packet_view.specs.Captures.{kept_limit}
+use Rattle.packet_view.proofs.RecordListLemmas.{AreBefore}
+use Rattle.packet_view.proofs.records_at_front.front_records.Given as goal
+
+-- so many records stand before what is left, and a record may keep the likely length
+abbrev pub invariant-records : goal.invariant-records
+invariant-records l = AreBefore l.order l.bytes l.rest l.count × (l.predicted_len ≤ kept_limit)
+
+abbrev pub decreases-records : goal.decreases-records
+decreases-records l = length l.rest

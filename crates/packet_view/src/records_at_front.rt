@@ -1,0 +1,93 @@
+//! The whole records at the front of some bytes.
+ghost use Rattle.std.specs.Prelude.{◌≡◌, ◌≤◌, IfSome};
+ghost use Rattle.packet_view.specs.Captures.{AreRecords, Record};
+ghost use Rattle.packet_view.specs.CheckedCaptures.{records_of};
+ghost use Rattle.packet_view.specs.Fronts.{IsSplit, Stops};
+ghost use Rattle.packet_view.specs.RecordLists.{front_record};
+ghost use Rattle.packet_view.specs.inner.RecordSteps.{part_of};
+
+use crate::capture::{Order, Piece, next_record, u32_in};
+use crate::capture_records::Records;
+
+/// Why no more whole records stand at the front.
+#[derive(Clone, Copy, Debug)]
+pub enum Stop {
+    /// No byte is left.
+    End,
+    /// The front of a record is left, and not all of it.
+    Truncated,
+    /// A record is left that keeps more than 262144 bytes.
+    TooLong,
+}
+
+/// The whole records at the front of some bytes.
+#[derive(Clone, Copy)]
+pub struct Front<'a> {
+    pub records: Records<'a>,
+    /// The bytes behind them.
+    pub rest: &'a [u8],
+    pub stop: Stop,
+}
+
+// Where the record at the front is whole and keeps so many bytes, the bytes after it. They are found from that
+// number and not from the one that was read: so the walk goes on before the read is done.
+#[inline(always)]
+fn rest_if_len(rest: &[u8], order: Order, predicted_len: usize) -> Option<&[u8]>
+    requires { predicted_len ≤ 262144 }
+    ensures { IfSome result (λ behind. part_of order rest.now ≡ Record (front_record order rest.now) behind.now) }
+{
+    if rest.len() < 16 || rest.len() - 16 < predicted_len {
+        return None;
+    }
+    if u32_in(order, &rest[8..]) as usize != predicted_len {
+        return None;
+    }
+    Some(&rest[16 + predicted_len..])
+}
+
+/// The records in this order that stand whole at the front of the bytes, of a capture that was taken at the interface
+/// with this number. No memory is asked for.
+pub fn front_records(bytes: &[u8], order: Order, interface: u8) -> Front<'_>
+    ensures records { AreRecords order bytes.now (records_of result.records) result.rest.now }
+    ensures stop { Stops order result.rest.now result.stop }
+    ensures split { IsSplit order bytes.now result }
+    ensures at { result.records.interface ≡ interface }
+{
+    let mut rest = bytes;
+    let mut count = 0;
+    // Most records keep as many bytes as the one before. Nothing but speed depends on this guess.
+    let mut predicted_len = 0;
+    'records: loop {
+        if let Some(behind) = rest_if_len(rest, order, predicted_len) {
+            rest = behind;
+            count += 1;
+            continue;
+        }
+        let stop = match next_record(rest, order) {
+            Piece::Whole {
+                frame,
+                rest: behind,
+                ..
+            } => {
+                predicted_len = frame.len();
+                rest = behind;
+                count += 1;
+                continue;
+            }
+            Piece::End => Stop::End,
+            Piece::Truncated => Stop::Truncated,
+            Piece::TooLong => Stop::TooLong,
+        };
+        let records = Records {
+            bytes,
+            order,
+            interface,
+            count,
+        };
+        return Front {
+            records,
+            rest,
+            stop,
+        };
+    }
+}

@@ -1,0 +1,156 @@
+//! What the words ask for.
+ghost use Rattle.std.specs.Prelude.{◌≡◌, MatchResult, is_none, option_map};
+ghost use Rattle.std.specs.Borrow.{Bor};
+ghost use Rattle.clap.specs.Words.{Text, found_of, one_text};
+ghost use Rattle.racl_options.specs.Asking as told;
+ghost use Rattle.racl_options.specs.Asking.{AskBy, asked_facts, fit_together, saved_facts};
+ghost use Rattle.racl_options.specs.CommandLine as line;
+ghost use Rattle.racl_options.specs.CommandLine.{HoldsNumber, HoldsNumbers, OptionName, Spells, SpellsOptions, has_flag, option_facts};
+ghost use Rattle.racl_options.specs.Origins.{origin_facts};
+ghost use Rattle.racl_options.specs.Selections.{Explain, Hits, JsonLines, Live, Sessions, lines_by};
+ghost use Rattle.racl_options.specs.inner.Naming.{IsMistaken, values_in};
+
+use crate::named_files::{Refusal, origin_named};
+use crate::selection::{is_given, lines_named, saved_named, shown_named};
+use crate::settings::{Asked, Lines, Options, Origin, Saved, TableSize};
+use crate::table_size::size_named;
+use clap::ArgMatches;
+use racl_io::Shown;
+use session_state::Timeouts;
+use std::alloc::Global;
+
+const NO_SIZE: &str = "--tables takes standard or large";
+
+const NOT_SHOWN: &str = "--only takes pass or drop";
+
+const NOT_SAVED: &str = "--drops and --passes are of one capture: they need POLICY CAPTURE";
+
+const ONE_FILE: &str = "--drops and --passes need a file each";
+
+const NOT_LIVE: &str = "--live needs POLICY CAPTURE, and goes with --tables and timeouts alone";
+
+/// What the matches ask for.
+pub fn asked_by<'a>(alloc: Global, matches: &ArgMatches<'a>) -> Result<Asked<'a>, Refusal>
+    requires { HoldsNumbers (one_text (found_of matches.now)) }
+    ensures { let values = values_in (found_of matches.now) in MatchResult result (λ asked. AskBy values (asked_facts asked)) (IsMistaken values) }
+{
+    let Some(tables) = size_named(matches) else {
+        return Err(Refusal::Mistake(NO_SIZE));
+    };
+    let Some(shown) = shown_named(matches) else {
+        return Err(Refusal::Mistake(NOT_SHOWN));
+    };
+    let origin = match origin_named(alloc, matches) {
+        Ok(origin) => origin,
+        Err(refusal) => return Err(refusal),
+    };
+    let asked = Asked {
+        options: read_options(matches, tables, shown),
+        origin,
+        saved: saved_named(matches),
+    };
+    match misfit(&asked) {
+        Some(mistake) => Err(Refusal::Mistake(mistake)),
+        None => Ok(asked),
+    }
+}
+
+// Whether these are the files of a policy and a capture.
+fn are_files(origin: &Origin<'_>) -> bool
+    ensures { result ≡ told.are_files (origin_facts origin.now) }
+{
+    matches!(origin, Origin::Files(_))
+}
+
+// Whether verdicts can be written as packets come beside these options.
+fn is_simple_run(options: &Options) -> bool
+    ensures { result ≡ told.is_simple_run (option_facts options.now) }
+{
+    options.workers == 1
+        && matches!(options.shown, Shown::Every)
+        && matches!(options.lines, Lines::Plain)
+        && !(options.hits || options.sessions)
+}
+
+// Whether packets are to be saved.
+fn is_saved(saved: &Saved<'_>) -> bool
+    ensures { result ≡ told.is_saved (saved_facts saved.now) }
+{
+    saved.drops.is_some() || saved.passes.is_some()
+}
+
+// Whether one file is to get both.
+fn is_shared(drops: Option<&str>, passes: Option<&str>) -> bool
+    ensures { result ≡ told.is_shared (option_map (λ (t : Bor Text). t.now) drops.entry) (option_map (λ (t : Bor Text). t.now) passes.entry) }
+{
+    match (drops, passes) {
+        (Some(drops), Some(passes)) => drops == passes,
+        _ => false,
+    }
+}
+
+// Whether verdicts can be written as packets come.
+fn can_be_live(asked: &Asked<'_>) -> bool
+    ensures { result ≡ told.can_be_live (asked_facts asked.now) }
+{
+    are_files(&asked.origin) && !is_saved(&asked.saved) && is_simple_run(&asked.options)
+}
+
+// Why what is asked for doesn't go together.
+fn misfit(asked: &Asked<'_>) -> Option<&'static str>
+    ensures { is_none result ≡ fit_together (asked_facts asked.now) }
+{
+    if is_saved(&asked.saved) && !are_files(&asked.origin) {
+        return Some(NOT_SAVED);
+    }
+    if is_shared(asked.saved.drops, asked.saved.passes) {
+        return Some(ONE_FILE);
+    }
+    if asked.options.live && !can_be_live(asked) {
+        return Some(NOT_LIVE);
+    }
+    None
+}
+
+// The options, of which this size and these packets are known.
+fn read_options(matches: &ArgMatches<'_>, tables: TableSize, shown: Shown) -> Options
+    requires { HoldsNumbers (one_text (found_of matches.now)) }
+    ensures spelt { SpellsOptions (one_text (found_of matches.now)) (option_facts result) }
+    ensures tables { result.tables ≡ tables }
+    ensures shown { result.shown ≡ shown }
+    ensures lines { let values = values_in (found_of matches.now) in lines_by (has_flag values JsonLines) (has_flag values Explain) ≡ result.lines }
+    ensures hits { has_flag (values_in (found_of matches.now)) Hits ≡ result.hits }
+    ensures sessions { has_flag (values_in (found_of matches.now)) Sessions ≡ result.sessions }
+    ensures live { has_flag (values_in (found_of matches.now)) Live ≡ result.live }
+{
+    let workers = number_at(matches, "workers");
+    let established = number_at(matches, "tcp-established");
+    let transient = number_at(matches, "tcp-transient");
+    let udp = number_at(matches, "udp");
+    Options {
+        workers: workers as usize,
+        times: Timeouts {
+            established,
+            transient,
+            udp,
+        },
+        tables,
+        shown,
+        lines: lines_named(matches),
+        hits: is_given(matches, "hits"),
+        sessions: is_given(matches, "sessions"),
+        live: is_given(matches, "live"),
+    }
+}
+
+fn number_at(matches: &ArgMatches<'_>, name: &str) -> u32
+    requires { HoldsNumber line.most_seconds (one_text (found_of matches.now) name.now) }
+    ensures { (option : OptionName)
+        → HoldsNumber (line.most_of option) (one_text (found_of matches.now) name.now)
+        → Spells option (one_text (found_of matches.now) name.now) result }
+{
+    match matches.get_one::<u32>(name) {
+        Some(number) => number,
+        None => unreachable!(),
+    }
+}

@@ -1,0 +1,70 @@
+//! The first rule that matches, among those that rows of bits leave.
+ghost use Rattle.std.specs.Prelude.{◌≤◌, ◌*◌, ◌+◌, List, map, length, MatchOption};
+ghost use Rattle.acl_policy.specs.Matching.{Decides, IsRuling};
+ghost use Rattle.acl_policy.specs.Rules.{RuleFacts, rule_facts};
+ghost use Rattle.packet_view.specs.Tuples.{TupleFacts, tuple_facts};
+ghost use Rattle.rule_index.specs.inner.Candidates.{AllSift, AreLong};
+ghost use Rattle.rule_index.specs.inner.Sieves.{KeepsMatches, MatchesAt, NoneBefore, NotAt};
+
+use crate::candidate_rows::Candidates;
+use acl_policy::{Action, Rule, is_match};
+use packet_view::Tuple;
+
+/// What the rule at a place does, where it matches.
+fn match_at(rules: &[Rule], tuple: &Tuple, place: usize) -> Option<Action>
+    ensures { MatchOption result (NotAt (map rule_facts rules.now) (tuple_facts tuple.now) place)
+        (MatchesAt (map rule_facts rules.now) (tuple_facts tuple.now) place) }
+{
+    if rules.len() <= place {
+        return None;
+    }
+    let rule = &rules[place];
+    if is_match(rule, tuple) {
+        return Some(rule.action);
+    }
+    None
+}
+
+/// The first rule that matches among the 64 from a place on, where a word has the bit of each that does.
+fn first_in(rules: &[Rule], tuple: &Tuple, from: usize, word: u64) -> Option<(usize, Action)>
+    requires from { from ≤ length rules.now }
+    requires before { NoneBefore (map rule_facts rules.now) (tuple_facts tuple.now) from }
+    requires kept { KeepsMatches (map rule_facts rules.now) (tuple_facts tuple.now) from word }
+    ensures { MatchOption result (NoneBefore (map rule_facts rules.now) (tuple_facts tuple.now) (from + 64))
+        (λ d. Decides (map rule_facts rules.now) (tuple_facts tuple.now) d.0 d.1) }
+{
+    let mut left = word;
+    while left != 0 {
+        let bit = left.trailing_zeros() as usize;
+        if let Some(action) = match_at(rules, tuple, from + bit) {
+            return Some((from + bit, action));
+        }
+        left = left & !(1u64 << bit);
+    }
+    None
+}
+
+/// The word of the intersection of the rows. The addresses, which rules differ in most, come first.
+fn word_of(rows: &Candidates<'_>, i: usize) -> u64
+    requires { AreLong rows.now (i + 1) }
+    ensures { (rules : List RuleFacts) (tuple : TupleFacts) → AllSift rules tuple rows.now → KeepsMatches rules tuple (i * 64) result }
+{
+    let addresses = rows.source[i] & rows.dest[i];
+    if addresses == 0 {
+        return 0;
+    }
+    addresses & rows.protocol[i] & rows.first[i] & rows.second[i] & rows.flags[i]
+}
+
+/// The first rule that matches, where each of the packet's rows has the bit of each rule that does.
+pub fn first_of(rules: &[Rule], tuple: &Tuple, rows: &Candidates<'_>) -> Option<(usize, Action)>
+    requires { AllSift (map rule_facts rules.now) (tuple_facts tuple.now) rows.now }
+    ensures { IsRuling (map rule_facts rules.now) (tuple_facts tuple.now) result }
+{
+    for i in 0..rows.source.len() {
+        if let Some(found) = first_in(rules, tuple, i * 64, word_of(rows, i)) {
+            return Some(found);
+        }
+    }
+    None
+}
