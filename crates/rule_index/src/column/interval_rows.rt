@@ -2,7 +2,7 @@
 ghost use Rattle.std.specs.Prelude.{◌≡◌, ◌≤◌, ◌<◌, ◌*◌, ◌/◌, ◌≢◌, ℕ, Some, length, slice_get};
 ghost use Rattle.rule_index.specs.Rows.{AreStarts, bit_in, HasTurns, IsPlace, IsWithin};
 
-use super::starts::place;
+use super::interval_starts::place;
 use crate::bit_rows::{accumulate, set_bit};
 
 /// Sets the bit of a rule where its range begins, and after its end.
