@@ -24,17 +24,20 @@ use Rattle.session_state.specs.declared.timeouts.Timeouts.{Timeouts}
 use Rattle.flow_filter.specs.declared.verdict.Verdict.{Verdict}
 use Rattle.flow_filter.specs.Readings.{AreReadings, IsReading}
 use Rattle.flow_filter.specs.Updates.{Update, update_of}
-use Rattle.flow_filter.specs.Judged.{IsAsked, Judged, readings_of, verdicts_on}
+use Rattle.flow_filter.specs.Judged.{IsAsked, Judged, readings_of, verdict_on, verdicts_on}
 use Rattle.flow_filter.specs.OneThread.{family_of, home_of, same_family}
 use Rattle.flow_dealing.specs.declared.dealing.Dealing.{Dealing}
 use Rattle.flow_dealing.specs.declared.dealing.Dealing.TheVariants.{Round, Bucket}
 use Rattle.flow_dealing.specs.Views.{Views, view_in}
 use Rattle.flow_dealing.specs.Dealings.{Deal, flow_of_reading, flow_of_frame, worker_by_dealing, worker_of}
-use Rattle.flow_dealing.specs.Traces.{AreGathered, ArePlaced, AreTraces, AreFrames, HasCalls, IsItem, IsItemOf, IsTrace, Item, call_in, calls_in, judged_of, numbers_from, numbers_of, verdict_in}
+use Rattle.flow_dealing.specs.Traces.{AreGathered, ArePlaced, AreTraces, AreFrames, IsItem, IsItemOf, IsTrace, Item, calls_in, judged_of, numbers_from}
 use Rattle.flow_dealing.specs.WorkerRecords.{AreJudgedBy, add_in, events_by}
 use Rattle.flow_dealing.proofs.Places.{all_at, all_from, zip_count}
 
 -- ---- Lists that are dealt
+
+abbrev numbers_of : List Item → List ℕ
+numbers_of is = map (λ i. i.packet) is
 
 -- a worker is one of them
 pub worker_few : (d : Deal) (number : ℕ) (flow : Option Flow) → 0 < d.workers → worker_of d number flow < d.workers
@@ -71,7 +74,7 @@ events_by-nil d times family w n = refl
 
 -- the events of calls, with one more call
 events_of_call : (family : Family) (u : Option Update) (call : Option Call) (calls : List Call)
-    → map event_of (call_in family u call calls) ≡ add_in family u (option_map event_of call) (map event_of calls)
+    → map event_of (add_in family u call calls) ≡ add_in family u (option_map event_of call) (map event_of calls)
 events_of_call family None call calls = refl
 events_of_call family (Some u) None calls = refl
 events_of_call family (Some u) (Some c) calls = go (same_family family (family_of u.key))
@@ -87,7 +90,7 @@ module _ (d : Deal) (times : Timeouts) (policy : PolicyFacts) (packets : List Pa
   -- what is known of an item, whichever worker's it is
   pub record IsSaid (i : Item) : Type 0 where
     pub item : IsItem d.layout times i
-    pub said : get_elem? verdicts i.packet ≡ some (verdict_in times i)
+    pub said : get_elem? verdicts i.packet ≡ some (verdict_on times (judged_of i))
 
   -- what is known of an item of this worker
   pub record IsOwn (w : ℕ) (i : Item) : Type 0 where
@@ -276,6 +279,10 @@ trace_there [] w t at = absurd (some-ne-none t (sym at))
 trace_there (x ∷ xs) zero t at = some-injective x t at
 trace_there (x ∷ xs) (suc w) t at = trace_there xs w t at
 
+-- the record has the calls of this trace
+abbrev pub HasCalls : Timeouts → Family → List Item → Record → Type 0
+HasCalls times family trace r = r.calls ≡ calls_in times family trace
+
 -- the trace of a record
 trace_of : (times : Timeouts) (family : Family) (ts : List (List Item)) (rs : List Record) (w : ℕ) (r : Record)
     → AllZip (HasCalls times family) ts rs → get_elem? rs w ≡ some r
@@ -289,13 +296,13 @@ trace_of times family (t ∷ ts) (x ∷ xs) (suc w) r all at = trace_of times fa
 
 -- a list whose elements are at their places
 same_list : (times : Timeouts) (is : List Item) (verdicts : List Verdict) → length verdicts ≡ length is
-    → ((k : ℕ) (i : Item) → get_elem? is k ≡ some i → get_elem? verdicts k ≡ some (verdict_in times i))
+    → ((k : ℕ) (i : Item) → get_elem? is k ≡ some i → get_elem? verdicts k ≡ some (verdict_on times (judged_of i)))
     → verdicts ≡ verdicts_on times (map judged_of is)
 same_list times [] [] count each = refl
 same_list times [] (v ∷ vs) count each = absurd (omega arith)
 same_list times (i ∷ is) [] count each = absurd (omega arith)
 same_list times (i ∷ is) (v ∷ vs) count each =
-    (λ k. some-injective v (verdict_in times i) (each 0 i refl) k ∷ same_list times is vs (omega arith)
+    (λ k. some-injective v (verdict_on times (judged_of i)) (each 0 i refl) k ∷ same_list times is vs (omega arith)
     (λ k j at. each (suc k) j at) k)
 
 -- what is known of the items of one worker's trace

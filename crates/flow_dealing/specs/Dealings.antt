@@ -14,15 +14,11 @@ pub record Deal : Type 0 where
   pub dealing : Dealing
   pub workers : ℕ
 
--- by bucket, the worker of a packet with this flow, or with none
-abbrev pub worker_by_bucket : Layout → ℕ → Option Flow → ℕ
-worker_by_bucket l workers None = 0
-worker_by_bucket l workers (Some flow) = (home_of l flow.key).bucket % workers
-
 -- of so many workers, the one of the packet with this number and this flow, or none
 abbrev pub worker_by_dealing : Dealing → Layout → ℕ → ℕ → Option Flow → ℕ
 worker_by_dealing Round l workers number flow = number % workers
-worker_by_dealing Bucket l workers number flow = worker_by_bucket l workers flow
+worker_by_dealing Bucket l workers number None = 0
+worker_by_dealing Bucket l workers number (Some flow) = (home_of l flow.key).bucket % workers
 
 -- the worker of the packet with this number, from 0, and this flow, or none
 abbrev pub worker_of : Deal → ℕ → Option Flow → ℕ

@@ -13,16 +13,16 @@ use Rattle.bihash_rule.specs.Callers.{IsLawfulCaller}
 use Rattle.bihash_rule.specs.Histories.{event_of}
 use Rattle.bihash_steps.specs.Steps.{IsToldWhole}
 use Rattle.bihash_rule.specs.declared.view.Call.{Call}
-use Rattle.bihash_rule.specs.declared.view.Record.{Record}
 use Rattle.bihash_rule.specs.declared.view.View.{View}
 use Rattle.session_state.specs.declared.timeouts.Timeouts.{Timeouts}
 use Rattle.flow_filter.specs.declared.verdict.Verdict.{Verdict}
 use Rattle.flow_filter.specs.Readings.{IsReading, IsSeen, Reading}
 use Rattle.flow_filter.specs.Updates.{Update, update_of}
 use Rattle.flow_filter.specs.Judged.{IsAsked, Judged, verdict_on}
-use Rattle.flow_filter.specs.OneThread.{Layout, family_of, home_of, same_family, sizes_in}
+use Rattle.flow_filter.specs.OneThread.{Layout, home_of, sizes_in}
 use Rattle.flow_dealing.specs.Dealings.{Deal, flow_of_reading, flow_of_frame, worker_of}
 use Rattle.flow_dealing.specs.Wanted.{HaveWanted}
+use Rattle.flow_dealing.specs.WorkerRecords.{add_in}
 
 -- a packet by its number, from 0, its reading, and the call that it made
 pub record Item : Type 0 where
@@ -33,19 +33,11 @@ pub record Item : Type 0 where
 abbrev pub judged_of : Item → Judged
 judged_of i = record { reading = i.reading; event = option_map event_of i.call }
 
-abbrev pub verdict_in : Timeouts → Item → Verdict
-verdict_in times i = verdict_on times (judged_of i)
-
--- the call is one on the bucket of the update's key
-abbrev pub IsCallAt : Layout → Option Update → Option Call → Type 0
-IsCallAt l None call = Unit {0}
-IsCallAt l (Some u) None = Unit {0}
-IsCallAt l (Some u) (Some c) = c.bucket ≡ (home_of l u.key).bucket
-
 -- the packet asked once, on the bucket of its flow's key, where it has a flow
 pub record IsItem (l : Layout) (times : Timeouts) (i : Item) : Type 0 where
   pub asked : IsAsked times (judged_of i)
-  pub placed : IsCallAt l (update_of times i.reading) i.call
+  pub placed : (u : Update) (c : Call) → update_of times i.reading ≡ Some u → i.call ≡ Some c
+      → c.bucket ≡ (home_of l u.key).bucket
 
 -- the item is of a packet of this worker, and has its reading
 pub record IsItemOf (d : Deal) (worker : ℕ) (policy : PolicyFacts) (packets : List PacketFacts)
@@ -55,15 +47,10 @@ pub record IsItemOf (d : Deal) (worker : ℕ) (policy : PolicyFacts) (packets : 
   pub read : IsReading policy packet i.reading
   pub dealt : worker_of d i.packet (flow_of_reading i.reading) ≡ worker
 
-abbrev pub call_in : Family → Option Update → Option Call → List Call → List Call
-call_in family None call calls = calls
-call_in family (Some u) None calls = calls
-call_in family (Some u) (Some c) calls = if same_family family (family_of u.key) then c ∷ calls else calls
-
 -- the calls on one family's table, in the order of the items
 abbrev pub calls_in : Timeouts → Family → List Item → List Call
 calls_in times family [] = []
-calls_in times family (i ∷ is) = call_in family (update_of times i.reading) i.call (calls_in times family is)
+calls_in times family (i ∷ is) = add_in family (update_of times i.reading) i.call (calls_in times family is)
 
 -- what each packet's frame turns out to be
 abbrev pub AreFrames : PolicyFacts → List PacketFacts → List frames.FrameFacts → Type 0
@@ -76,26 +63,19 @@ numbers_from d worker at (view ∷ views) =
     if worker_of d at (flow_of_frame view) == worker then at ∷ numbers_from d worker (at + 1) views
     else numbers_from d worker (at + 1) views
 
-abbrev pub numbers_of : List Item → List ℕ
-numbers_of is = map (λ i. i.packet) is
-
 -- the items are those of a worker's packets, all of them, in the order of the packets
 pub record IsTrace (d : Deal) (times : Timeouts) (worker : ℕ) (policy : PolicyFacts) (packets : List PacketFacts)
     (trace : List Item) : Type 0 where
   pub items : All (IsItem d.layout times) trace
   pub of : All (IsItemOf d worker policy packets) trace
   pub dealt : (views : List frames.FrameFacts) → AreFrames policy packets views
-      → numbers_of trace ≡ numbers_from d worker 0 views
+      → map (λ i. i.packet) trace ≡ numbers_from d worker 0 views
 
--- the record has the calls of this trace
-abbrev pub HasCalls : Timeouts → Family → List Item → Record → Type 0
-HasCalls times family trace r = r.calls ≡ calls_in times family trace
-
--- The records are those of the workers in their order, of a table whose buckets began empty; calls that were refused
--- for want of a block had wanted it.
+-- The records are those of the workers in their order, each with the calls of its worker's trace, of a table whose buckets
+-- began empty; calls that were refused for want of a block had wanted it.
 pub record HaveTraces (z : Sizes) (times : Timeouts) (family : Family) (traces : List (List Item)) (v : View)
     : Type 0 where
-  pub records : AllZip (HasCalls times family) traces v.records
+  pub records : AllZip (λ trace r. r.calls ≡ calls_in times family trace) traces v.records
   pub openings : v.known.openings ≡ no_openings
   pub wanted : HaveWanted z v
 
@@ -117,4 +97,4 @@ pub record ArePlaced (times : Timeouts) (packets : List PacketFacts) (traces : L
     (verdicts : List Verdict) : Type 0 where
   pub count : length verdicts ≡ length packets
   pub each : (w : ℕ) (trace : List Item) → get_elem? traces w ≡ some trace → (k : ℕ) (i : Item)
-      → get_elem? trace k ≡ some i → get_elem? verdicts i.packet ≡ some (verdict_in times i)
+      → get_elem? trace k ≡ some i → get_elem? verdicts i.packet ≡ some (verdict_on times (judged_of i))

@@ -24,15 +24,11 @@ pub record WantsBlock (z : Sizes) (m : Pairs) (key : List ℕ) (log2 : ℕ) : Ty
   pub map : HoldsMap (λ words. words) (HasPairAt places) m
   pub plan : IsPlan (word_paging z) was.log2 was.linear places key (Grow (record { log2 = log2; linear = linear }))
 
--- the key of the call wants such a block at the map of its bucket where the call stands: that after as many of the known
--- writes as its stamp says
-pub record IsWantedAt (z : Sizes) (known : Known) (c : Call) (log2 : ℕ) : Type 0 where
-  pub inside : c.stamp ≤ length (known_at known c.bucket)
-  pub wants : WantsBlock z (after (opening_at known c.bucket) (known_at known c.bucket) c.stamp) c.key log2
-
--- if the call was refused for want of a block, its key wanted it
+-- if the call was refused for want of such a block, its key wanted it at the map of its bucket where the call stands: that
+-- after as many of the known writes as its stamp says
 abbrev pub HasWanted : Sizes → Known → Call → Type 0
-HasWanted z known c = (log2 left : ℕ) → c.reply ≡ NoPages log2 left → IsWantedAt z known c log2
+HasWanted z known c = (log2 left : ℕ) → c.reply ≡ NoPages log2 left → (c.stamp ≤ length (known_at known c.bucket))
+    × WantsBlock z (after (opening_at known c.bucket) (known_at known c.bucket) c.stamp) c.key log2
 
 -- so it is with each call of the caller's records
 abbrev pub HaveWanted : Sizes → View → Type 0

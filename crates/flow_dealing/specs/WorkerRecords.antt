@@ -17,18 +17,18 @@ use Rattle.flow_filter.specs.declared.verdict.Verdict.{Verdict}
 use Rattle.flow_filter.specs.declared.verdict.Verdict.TheVariants.{NoPages}
 use Rattle.flow_filter.specs.Readings.{AreReadings}
 use Rattle.flow_filter.specs.Updates.{Update, update_of}
-use Rattle.flow_filter.specs.Judged.{AreAsked, Judged, readings_of, verdict_on, verdicts_on}
+use Rattle.flow_filter.specs.Judged.{IsAsked, Judged, verdict_on}
 use Rattle.flow_filter.specs.OneThread.{HasPages, Layout, family_of, same_family, sizes_in}
 use Rattle.flow_dealing.specs.Views.{Views, view_in}
 use Rattle.flow_dealing.specs.Dealings.{Deal, flow_of_reading, worker_of}
 use Rattle.flow_dealing.specs.Wanted.{HaveWanted}
 
--- An event of this family stands before the others.
--- An update without an event can't occur where packets are asked (AreAsked).
-abbrev pub add_in : Family → Option Update → Option Event → List Event → List Event
-add_in family None event events = events
-add_in family (Some u) None events = events
-add_in family (Some u) (Some e) events = if same_family family (family_of u.key) then e ∷ events else events
+-- What came of an update of this family, an event or a call, stands before the others. An update of which nothing came can't
+-- occur where packets are asked (`asked`).
+abbrev pub add_in : {A : Type 0} → Family → Option Update → Option A → List A → List A
+add_in family None this others = others
+add_in family (Some u) None others = others
+add_in family (Some u) (Some this) others = if same_family family (family_of u.key) then this ∷ others else others
 
 -- the events of a worker's packets on one family's table, in the order of the packets, whose numbers begin with n
 unfoldable pub events_by : Deal → Timeouts → Family → ℕ → ℕ → List Judged → List Event
@@ -55,9 +55,9 @@ pub record AreRecorded (d : Deal) (times : Timeouts) (family : Family) (js : Lis
 pub record AreJudged (d : Deal) (times : Timeouts) (policy : PolicyFacts) (packets : List PacketFacts)
     (verdicts : List Verdict) : Type 0 where
   pub judged : List Judged
-  pub read : AreReadings policy packets (readings_of judged)
-  pub asked : AreAsked times judged
-  pub said : verdicts ≡ verdicts_on times judged
+  pub read : AreReadings policy packets (map (λ j. j.reading) judged)
+  pub asked : All (IsAsked times) judged
+  pub said : verdicts ≡ map (verdict_on times) judged
   pub views : Views
   pub recorded : (family : Family) → AreRecorded d times family judged (view_in views family)
 

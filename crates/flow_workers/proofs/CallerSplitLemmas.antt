@@ -10,7 +10,8 @@ use Rattle.bihash_rule.specs.declared.view.Known.{Known}
 use Rattle.bihash_rule.specs.declared.view.Record.{Record}
 use Rattle.bihash_rule.specs.declared.view.View.{View}
 use Rattle.session_state.specs.declared.timeouts.Timeouts.{Timeouts}
-use Rattle.flow_dealing.specs.Traces.{HasCalls, HaveTraces, Item}
+use Rattle.flow_dealing.specs.Traces.{HaveTraces, Item}
+use Rattle.flow_dealing.proofs.TraceMerges.{HasCalls}
 use Rattle.flow_dealing.specs.Wanted.{HasWanted}
 use Rattle.flow_workers.proofs.WantedLemmas.{joined_wanted}
 

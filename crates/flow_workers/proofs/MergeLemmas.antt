@@ -22,11 +22,11 @@ use Rattle.acl_policy.specs.Policies.{section_of}
 use Rattle.flow_filter.specs.declared.verdict.Verdict.{Verdict}
 use Rattle.flow_filter.specs.OneThread.{layout_of}
 use Rattle.flow_dealing.specs.Dealings.{Deal, flow_of_frame, worker_of}
-use Rattle.flow_dealing.specs.Traces.{AreFrames, ArePlaced, IsTrace, Item, numbers_from, numbers_of, verdict_in}
+use Rattle.flow_dealing.specs.Traces.{AreFrames, ArePlaced, IsTrace, Item, numbers_from}
 use Rattle.flow_dealing.proofs.TraceMerges.{all_views, worker_few}
 use Rattle.flow_dealing.proofs.Places.{after_map, at_front, before_map, zip_count}
 use Rattle.flow_workers.specs.declared.verdict_merge.VerdictMerge.{VerdictMerge}
-use Rattle.flow_workers.specs.inner.Work.{AreSaid, RunFacts}
+use Rattle.flow_workers.specs.inner.Work.{AreSaid, RunFacts, numbers_of, verdict_in}
 use Rattle.flow_workers.specs.inner.Merges.{AreAllJudges, ArePlacedBefore, AreTold, IsNext, MayPlace, numbers_behind}
 use Rattle.flow_workers.proofs.WorkSteps.{IsAt, no_numbers, numbers_at, numbers_cons}
 

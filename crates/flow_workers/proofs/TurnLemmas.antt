@@ -11,7 +11,8 @@ use Rattle.bihash_rule.specs.Views.{empty_record}
 use Rattle.bihash_rule.specs.declared.view.View.{View}
 use Rattle.bihash_steps.proofs.Lists.{there}
 use Rattle.session_state.specs.declared.timeouts.Timeouts.{Timeouts}
-use Rattle.flow_dealing.specs.Traces.{HasCalls, HaveTraces, Item, calls_in}
+use Rattle.flow_dealing.specs.Traces.{HaveTraces, Item, calls_in}
+use Rattle.flow_dealing.proofs.TraceMerges.{HasCalls}
 use Rattle.flow_dealing.specs.Wanted.{HaveWanted}
 use Rattle.flow_workers.specs.declared.worker_share.Dealt.{Dealt}
 use Rattle.flow_workers.specs.declared.worker_share.Job.{Job}

@@ -215,12 +215,12 @@ record Grows (k m : Known) : Type 0 where
   each : (b : ℕ) → IsPrefix (known_at k b) (known_at m b)
 
 still_wanted : (z : Sizes) (k m : Known) → Grows k m → (c : Call) → HasWanted z k c → HasWanted z m c
-still_wanted z k m grows c had log2 left is = let at = had log2 left is in record {
-  inside = let few = at.inside in let more = prefix_length _ _ (grows.each c.bucket) in omega arith;
-  wants = subst (λ x. WantsBlock z x c.key log2)
+still_wanted z k m grows c had log2 left is = let at = had log2 left is in (
+  (let few = at.0 in let more = prefix_length _ _ (grows.each c.bucket) in omega arith),
+  subst (λ x. WantsBlock z x c.key log2)
       (sym (ap (λ (o : Openings). after (opening_in o c.bucket) (known_at m c.bucket) c.stamp) grows.openings
-      ∙ after_longer (opening_at k c.bucket) _ _ c.stamp (grows.each c.bucket) at.inside)) at.wants;
-}
+      ∙ after_longer (opening_at k c.bucket) _ _ c.stamp (grows.each c.bucket) at.0)) at.1,
+)
 
 all_still : (z : Sizes) (k m : Known) → Grows k m → (rs : List Record)
     → All (λ r. All (HasWanted z k) r.calls) rs → All (λ r. All (HasWanted z m) r.calls) rs
@@ -324,11 +324,11 @@ keep_wanted g back there v w e key same answered lawful short had =
         ∙ pushed_last entry (with_locks answered.locks v.records)
         (subst (λ rs. 1 ≤ length rs) answered.records lawful.acts) in
         let stamp : entry.stamp ≡ length (known_at w.known b) = (o.bears entry last).0 in
-        record {
-          inside = omega arith;
-          wants = subst (λ n. WantsBlock z (after (opening_at w.known b) (known_at w.known b) n) e.key log2) (sym stamp)
-              (wants_planned g back there (map_now w b) key e.key log2 o.linear same long o.planned);
-        }
+        (
+          omega arith,
+          subst (λ n. WantsBlock z (after (opening_at w.known b) (known_at w.known b) n) e.key log2) (sym stamp)
+              (wants_planned g back there (map_now w b) key e.key log2 o.linear same long o.planned),
+        )
 
 -- an update was answered so
 pub update_keeps_wanted : {A K : Type 0} (g : Ghosts A K) → ((key : K) → g.key_of (g.words_of key) ≡ key)

@@ -31,9 +31,10 @@ use Rattle.flow_filter.specs.OneThread.{Layout, family_of, home_of, same_family}
 use Rattle.flow_dealing.specs.Views.{Views}
 use Rattle.flow_dealing.specs.Dealings.{Deal, flow_of_reading, flow_of_frame, worker_of}
 use Rattle.flow_dealing.proofs.TraceMerges.{worker_few}
-use Rattle.flow_dealing.specs.Traces.{AreFrames, IsCallAt, IsItem, IsItemOf, Item, call_in, calls_in, numbers_from, numbers_of, verdict_in}
+use Rattle.flow_dealing.specs.Traces.{AreFrames, IsItem, IsItemOf, Item, calls_in, numbers_from}
+use Rattle.flow_dealing.specs.WorkerRecords.{add_in}
 use Rattle.flow_workers.specs.Judging.{IsFlowEntry, IsEnteredBy, IsJudged}
-use Rattle.flow_workers.specs.inner.Work.{AreSaid, RecordContinues, IsWork, IsWorkUntil, RunFacts}
+use Rattle.flow_workers.specs.inner.Work.{AreSaid, RecordContinues, IsWork, IsWorkUntil, RunFacts, numbers_of, verdict_in}
 use Rattle.flow_workers.specs.inner.Wanted.{KeepWanted}
 
 -- ---- Records that go on
@@ -62,14 +63,29 @@ continues_push z v u w cs e a old = record {
 
 -- ---- One packet's call
 
+-- the call is one on the bucket of the update's key
+abbrev IsCallAt : Layout → Option Update → Option Call → Type 0
+IsCallAt l None call = Unit {0}
+IsCallAt l (Some u) None = Unit {0}
+IsCallAt l (Some u) (Some c) = c.bucket ≡ (home_of l u.key).bucket
+
+call_at : (l : Layout) (update : Option Update) (call : Option Call) → IsCallAt l update call
+    → (u : Update) (c : Call) → update ≡ Some u → call ≡ Some c → c.bucket ≡ (home_of l u.key).bucket
+call_at l None call at u c is called = cc
+call_at l (Some v) None at u c is called = cc
+call_at l (Some v) (Some d) at u c is called =
+    let update : v ≡ u = cc in
+    let same : d ≡ c = cc in
+    subst (λ (x : Update). c.bucket ≡ (home_of l x.key).bucket) update (subst (λ (x : Call). x.bucket ≡ (home_of l v.key).bucket) same at)
+
 -- the call of a packet with this update and event, and what it leaves of both callers
 record Left (l : Layout) (update : Option Update) (event : Option Event) (v w : Views)
     (c4 c6 : List Call) : Type 0 where
   call : Option Call
   is : option_map event_of call ≡ event
   placed : IsCallAt l update call
-  four : RecordContinues v.four w.four (c4 ++ call_in V4 update call [])
-  six : RecordContinues v.six w.six (c6 ++ call_in V6 update call [])
+  four : RecordContinues v.four w.four (c4 ++ add_in V4 update call [])
+  six : RecordContinues v.six w.six (c6 ++ add_in V6 update call [])
 
 by_key : (l : Layout) (u : Update) (key : FlowKey) (e : Event) (v x w : Views) (c4 c6 : List Call)
     → u.key ≡ key → e.key ≡ words_of key → IsFlowEntry l TookByTries key e x w
@@ -119,11 +135,11 @@ left_by l (Some u) (Some e) v x w c4 c6 asked entered four six =
 
 -- ---- Lists of items
 
-call_in_append : (family : Family) (u : Option Update) (call : Option Call) (xs ys : List Call)
-    → call_in family u call xs ++ ys ≡ call_in family u call (xs ++ ys)
-call_in_append family None call xs ys = refl
-call_in_append family (Some u) None xs ys = refl
-call_in_append family (Some u) (Some c) xs ys = go (same_family family (family_of u.key))
+add_in_append : (family : Family) (u : Option Update) (call : Option Call) (xs ys : List Call)
+    → add_in family u call xs ++ ys ≡ add_in family u call (xs ++ ys)
+add_in_append family None call xs ys = refl
+add_in_append family (Some u) None xs ys = refl
+add_in_append family (Some u) (Some c) xs ys = go (same_family family (family_of u.key))
   where
     go : (t : Bool) → (if t then c ∷ xs else xs) ++ ys ≡ (if t then c ∷ (xs ++ ys) else (xs ++ ys))
     go true = refl
@@ -131,12 +147,12 @@ call_in_append family (Some u) (Some c) xs ys = go (same_family family (family_o
 
 pub calls_push : (times : Timeouts) (family : Family) (is : List Item) (i : Item)
     → calls_in times family (is ++ i ∷ [])
-    ≡ calls_in times family is ++ call_in family (update_of times i.reading) i.call []
+    ≡ calls_in times family is ++ add_in family (update_of times i.reading) i.call []
 calls_push times family [] i = refl
 calls_push times family (x ∷ xs) i =
-    ap (call_in family (update_of times x.reading) x.call) (calls_push times family xs i)
-    ∙ sym (call_in_append family (update_of times x.reading) x.call (calls_in times family xs)
-    (call_in family (update_of times i.reading) i.call []))
+    ap (add_in family (update_of times x.reading) x.call) (calls_push times family xs i)
+    ∙ sym (add_in_append family (update_of times x.reading) x.call (calls_in times family xs)
+    (add_in family (update_of times i.reading) i.call []))
 
 -- ---- Dealing
 
@@ -251,7 +267,7 @@ work_push run w at v x y verdicts packet view verdict is mine j keep old = recor
   trace = old.trace ++ item ∷ [];
   items = All-push (IsItem run.deal.layout run.times) old.trace item old.items (record {
     asked = asked;
-    placed = left.placed;
+    placed = call_at run.deal.layout _ _ left.placed;
   });
   of = All-push (IsItemOf run.deal w run.policy run.packets) old.trace item old.of (record {
     packet = packet;

@@ -16,7 +16,7 @@ use Rattle.clap.proofs.OnLiterals.{clap_on_literals}
 use Rattle.clap.proofs.SimpleLemmas.{plain_fields}
 use Rattle.clap.proofs.WalkLemmas.{first_value-rows}
 use Rattle.racl_options.specs.Checks.{AskForCheck, IsCheck, RefusesCheck, policy_rule, racl_check, unnamed_check}
-use Rattle.racl_options.specs.CommandLine.{policy_id}
+use Rattle.racl_options.specs.inner.Commands.{policy_id}
 use Rattle.racl_options.proofs.CommandLemmas.{only_memory}
 
 -- the second of the words

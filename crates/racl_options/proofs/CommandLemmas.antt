@@ -17,9 +17,8 @@ use Rattle.clap.specs.declared.parser.matches.ArgMatches.{ArgMatches}
 use Rattle.clap.proofs.OnLiterals.{clap_on_literals}
 use Rattle.clap.proofs.SimpleLemmas.{all_simple, plain_fields, simple_groups}
 use Rattle.clap.proofs.WalkLemmas.{first_value-rows, one_text-rows, raw_values-rows}
-use Rattle.racl_options.specs.Asking.{AskForRun, AskedFacts, Say}
-use Rattle.racl_options.specs.CommandLine.{HoldsNumber, HoldsNumbers, OptionFacts, OptionName, Workers, Established, Transient, Udp, SetOptions, Spells, Values, most_of, name_of, number_of, option_rule, racl, values_at}
-use Rattle.racl_options.specs.Origins.{named_in}
+use Rattle.racl_options.specs.Asking.{AskBy, AskForRun, AskedFacts}
+use Rattle.racl_options.specs.CommandLine.{HoldsNumber, HoldsNumbers, OptionFacts, OptionName, Workers, Established, Transient, Udp, SetOptions, Spells, Values, most_of, name_of, number_of, number_rule, racl, values_at}
 use Rattle.racl_options.specs.inner.Naming.{values_in}
 use Rattle.racl_options.proofs.NameLemmas.{one_origin}
 use Rattle.racl_options.proofs.NumberLemmas.{number_held, option_by_rule}
@@ -81,7 +80,7 @@ module _ (c : Command) (is : app_of c ≡ racl) where
       absurd (omega arith)
 
   -- the matches hold a number for the option at a place
-  held_at : (m : ArgMatches) → IsParsedFrom c m → (k : ℕ) (d : Arg) (o : OptionName) → k < 17 → slice_index_or racl.top.rules k (rule_of d) ≡ option_rule o
+  held_at : (m : ArgMatches) → IsParsedFrom c m → (k : ℕ) (d : Arg) (o : OptionName) → k < 17 → slice_index_or racl.top.rules k (rule_of d) ≡ number_rule o
       → HoldsNumber (most_of o) (one_text (found_of m) (name_of o))
   held_at m p k d o lt here =
       let plain = plain_fields c (ap (λ (a : App). a.top.is_plain) is) in
@@ -133,10 +132,10 @@ one_number o m n text a b =
 
 one_setting : (values : Values) (a b : OptionFacts) → SetOptions values a → SetOptions values b → a ≡ b
 one_setting values a b p q =
-    let workers = one_number Workers a.workers b.workers _ p.numbers.workers q.numbers.workers in
-    let established = one_number Established a.established b.established _ p.numbers.established q.numbers.established in
-    let transient = one_number Transient a.transient b.transient _ p.numbers.transient q.numbers.transient in
-    let udp = one_number Udp a.udp b.udp _ p.numbers.udp q.numbers.udp in
+    let workers = one_number Workers a.workers b.workers _ p.workers q.workers in
+    let established = one_number Established a.established b.established _ p.established q.established in
+    let transient = one_number Transient a.transient b.transient _ p.transient q.transient in
+    let udp = one_number Udp a.udp b.udp _ p.udp q.udp in
     let sizes : Some a.tables ≡ Some b.tables = sym p.tables ∙ q.tables in
     let tables : a.tables ≡ b.tables = cc in
     let both : Some a.shown ≡ Some b.shown = sym p.shown ∙ q.shown in
@@ -148,13 +147,14 @@ one_setting values a b p q =
     λ i. record { workers = workers i; established = established i; transient = transient i; udp = udp i; tables = tables i; shown = shown i; lines = lines i; hits = hits i; sessions = sessions i; live = live i }
 
 -- what a parse holds says one thing
-pub one_saying : (values : Values) (a b : AskedFacts) → Say values a → Say values b → a ≡ b
+pub one_saying : (values : Values) (a b : AskedFacts) → AskBy values a → AskBy values b → a ≡ b
 one_saying values a b p q =
     let options = one_setting values a.options b.options p.options q.options in
-    let origin = one_origin (named_in values) a.origin b.origin p.names q.names in
-    let saved = sym p.saved ∙ q.saved in
-    λ i. record { options = options i; origin = origin i; saved = saved i }
+    let origin = one_origin _ _ _ a.origin b.origin p.names q.names in
+    let drops = sym p.drops ∙ q.drops in
+    let passes = sym p.passes ∙ q.passes in
+    λ i. record { options = options i; origin = origin i; drops = drops i; passes = passes i }
 
 -- words ask for one run
 pub one_run : (words : List Text) (a b : AskedFacts) → AskForRun words a → AskForRun words b → a ≡ b
-one_run words a b p q = one_saying (values_at words) a b p.asks.say q.asks.say
+one_run words a b p q = one_saying (values_at words) a b p.asks q.asks

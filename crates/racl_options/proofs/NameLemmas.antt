@@ -1,8 +1,8 @@
 -- Names are of one input, and what names captures of interfaces begins with a digit.
-use Rattle.std.proofs.Common.{◌≡◌, ◌∙◌, ◌++◌, ◌==◌, ◌≢◌, ◌<◌, ◌+◌, ap, ap₂, arith, append-nil, length-append, refl, zero, suc, subst, sym, take, true, false, true≢false, ℕ, Bool, cond, not, ◌+◌, List, [], ◌∷◌, length, map, Option, Some, None, get_or}
+use Rattle.std.proofs.Common.{◌≡◌, ◌∙◌, ◌++◌, ◌==◌, ◌≢◌, ◌<◌, ◌≤◌, ◌+◌, ap, ap₂, arith, append-nil, length-append, refl, zero, suc, subst, sym, take, true, false, true≢false, ℕ, Bool, cond, not, ◌+◌, List, [], ◌∷◌, length, map, Option, Some, None, get_or}
 use Rattle.std.specs.Prelude.{count_by}
 use Rattle.std.specs.Char.{digit_value}
-use Rattle.std.specs.List.{after_first, before_first, position_or_len}
+use Rattle.std.specs.List.{AllZip, after_first, before_first, position_or_len}
 use Rattle.std.specs.Str.Parse.{AllDigits, IsNumeral, digits_value}
 use Rattle.std.proofs.lemmas.Bool.{eqb-true, ne_eqb}
 use Rattle.std.proofs.lemmas.List.{take_all}
@@ -15,9 +15,17 @@ use Rattle.clap.proofs.CutLemmas.{Lacks, after_first-at, before_first-at}
 use Rattle.policy_words.specs.inner.Reading.Numerals.{octet_in}
 use Rattle.policy_words.proofs.NumeralLaws.{octet_in-complete, octet_in-sound}
 use Rattle.racl_options.specs.declared.settings.CaptureFile.{CaptureFile}
-use Rattle.racl_options.specs.Options.{Use, named_by}
-use Rattle.racl_options.specs.Origins.{AreApart, AreNamed, CaptureFacts, IsNamed, Name, NamedFacts, OriginFacts, capture_facts, is_standard, FromStandard, FromFiles, FromInterfaces}
+use Rattle.racl_options.specs.Options.{Use, values_of}
+use Rattle.racl_options.specs.Origins.{CaptureFacts, IsNamed, Name, OriginFacts, capture_facts, is_standard, FromStandard, FromFiles, FromInterfaces}
 use Rattle.racl_options.proofs.NameWalks.{ArePlain, IsPlainValue}
+
+-- the values name these captures, in their order
+abbrev pub AreNamed : List Text → List CaptureFacts → Type 0
+AreNamed values captures = AllZip IsNamed values captures
+
+-- one of the files at most is standard input
+abbrev pub AreApart : List Text → Type 0
+AreApart names = count_by is_standard names ≤ 1
 
 -- digits have no equals sign (61)
 digits_lack : (word : Text) → AllDigits 10 word → Lacks 61 word
@@ -50,19 +58,19 @@ one_list (value ∷ values) (a ∷ others) (b ∷ bs) p q =
     let rest = one_list values others bs p.1 q.1 in
     λ i. first i ∷ rest i
 
-pub one_origin : (named : NamedFacts) (a b : OriginFacts) → Name named a → Name named b → a ≡ b
-one_origin named FromStandard FromStandard p q = refl
-one_origin named FromStandard (FromFiles policy capture) p q = absurd (cc)
-one_origin named FromStandard (FromInterfaces policy captures) p q = absurd (cc)
-one_origin named (FromFiles policy capture) FromStandard p q = absurd (cc)
-one_origin named (FromFiles policy capture) (FromFiles policy' capture') p q =
+pub one_origin : (policy capture : Option Text) (values : Option (List Text)) (a b : OriginFacts) → Name policy capture values a → Name policy capture values b → a ≡ b
+one_origin one other values FromStandard FromStandard p q = refl
+one_origin one other values FromStandard (FromFiles policy capture) p q = absurd (cc)
+one_origin one other values FromStandard (FromInterfaces policy captures) p q = absurd (cc)
+one_origin one other values (FromFiles policy capture) FromStandard p q = absurd (cc)
+one_origin one other values (FromFiles policy capture) (FromFiles policy' capture') p q =
     let same : Some policy ≡ Some policy' = sym p.0 ∙ q.0 in
     let also : Some capture ≡ Some capture' = sym p.1 ∙ q.1 in
     cc
-one_origin named (FromFiles policy capture) (FromInterfaces policy' captures) p q = absurd (cc)
-one_origin named (FromInterfaces policy captures) FromStandard p q = absurd (cc)
-one_origin named (FromInterfaces policy captures) (FromFiles policy' capture) p q = absurd (cc)
-one_origin named (FromInterfaces policy captures) (FromInterfaces policy' captures') p q =
+one_origin one other values (FromFiles policy capture) (FromInterfaces policy' captures) p q = absurd (cc)
+one_origin one other values (FromInterfaces policy captures) FromStandard p q = absurd (cc)
+one_origin one other values (FromInterfaces policy captures) (FromFiles policy' capture) p q = absurd (cc)
+one_origin one other values (FromInterfaces policy captures) (FromInterfaces policy' captures') p q =
     let same : Some policy ≡ Some policy' = sym p.0 ∙ q.0 in
     let values : Some p.2.0 ≡ Some q.2.0 = sym p.2.1 ∙ q.2.1 in
     let all : captures ≡ captures' = one_list p.2.0 captures captures' p.2.2 (subst (λ vs. AreNamed vs captures') (cc) q.2.2) in
@@ -82,11 +90,11 @@ plain_list [] captures are = tt
 plain_list (u ∷ us) [] are = absurd are
 plain_list (u ∷ us) (capture ∷ captures) are = (plain_value u.value capture are.0, plain_list us captures are.1)
 
-pub plain_uses : (us : List Use) (names : List Text) (origin : OriginFacts) → Name (named_by us names) origin → ArePlain us
-plain_uses [] names origin says = tt
-plain_uses (u ∷ us) names FromStandard says = let none = says.2 in absurd (cc)
-plain_uses (u ∷ us) names (FromFiles policy capture) says = let none = says.2 in absurd (cc)
-plain_uses (u ∷ us) names (FromInterfaces policy captures) says =
+pub plain_uses : (us : List Use) (policy capture : Option Text) (origin : OriginFacts) → Name policy capture (values_of us) origin → ArePlain us
+plain_uses [] policy capture origin says = tt
+plain_uses (u ∷ us) policy capture FromStandard says = let none = says.2 in absurd (cc)
+plain_uses (u ∷ us) policy capture (FromFiles one other) says = let none = says.2 in absurd (cc)
+plain_uses (u ∷ us) policy capture (FromInterfaces one captures) says =
     let same : Some (map (λ v. v.value) (u ∷ us)) ≡ Some says.2.0 = says.2.1 in
     let values : says.2.0 ≡ map (λ v. v.value) (u ∷ us) = cc in
     plain_list (u ∷ us) captures (subst (λ vs. AreNamed vs captures) values says.2.2)
@@ -172,7 +180,7 @@ too_many_streams policy captures streams others counted is more apart =
 
 -- beside `--interface` a policy and the captures are named, and one of their files at most is standard input
 pub apart_by_name : (policy : Option Text) (capture : Option Text) (values : List Text) (captures : List CaptureFacts) (origin : OriginFacts)
-    → Name (record { policy = policy; capture = capture; captures = Some values }) origin → AreNamed values captures
+    → Name policy capture (Some values) origin → AreNamed values captures
     → (name : Text) × (policy ≡ Some name) × AreApart (name ∷ map (λ c. c.name) captures)
 apart_by_name policy capture values captures FromStandard says are = let none = says.2 in absurd (cc)
 apart_by_name policy capture values captures (FromFiles p c) says are = let none = says.2 in absurd (cc)

@@ -8,9 +8,17 @@ use Rattle.clap.specs.Walk.{Held, Walk, at_row, has_row, is_pending, idle, more_
 use Rattle.clap.specs.Words.{Row, Text}
 use Rattle.clap.specs.declared.parser.matches.ValueSource.TheVariants.{CommandLine}
 use Rattle.clap.proofs.OnLiterals.{clap_on_literals}
-use Rattle.racl_options.specs.CommandLine.{capture_id, interface_id, policy_id}
-use Rattle.racl_options.specs.Options.{AreNames, IsName, Use, use_by, words_of_use}
+use Rattle.racl_options.specs.Options.{AreNames, IsName, Use, words_with}
+use Rattle.racl_options.specs.inner.Commands.{capture_id, interface_id, policy_id}
 use Rattle.racl_options.proofs.SettingWalks.{GoesOn, Holds, at_row_missing, between, capture_filled, interface_filled, policy_filled, set_once, top}
+
+-- ---- words
+
+abbrev pub use_by : Text → Bool → List Text
+use_by value in_one = words_with interface_id value in_one
+
+abbrev pub words_of_use : Use → List Text
+words_of_use u = use_by u.value u.in_one
 
 -- ---- rows
 

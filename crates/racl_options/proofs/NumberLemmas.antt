@@ -25,7 +25,7 @@ use Rattle.clap.specs.declared.parser.matches.MatchedArg.{MatchedArg}
 use Rattle.clap.proofs.CallerLemmas.{default_present, entry_by_id, same_rules_by_id}
 use Rattle.clap.proofs.SimpleLemmas.{is_false, is_nil}
 use Rattle.clap.proofs.WalkLemmas.{both}
-use Rattle.racl_options.specs.CommandLine.{HoldsNumber, OptionName, most_of, name_of, option_rule}
+use Rattle.racl_options.specs.CommandLine.{HoldsNumber, OptionName, most_of, name_of, number_rule}
 
 -- a text that a parser takes is taken by one with a higher most
 pub held_below : (most higher : ℕ) (text : Option Text) → most ≤ higher → HoldsNumber most text → HoldsNumber higher text
@@ -58,7 +58,7 @@ pub record IsOption (o : OptionName) (a : Arg) : Type 0 where
   pub delimiter : is_some a.val_delim ≡ false
   pub wants : WantsDefault a
 
-pub option_by_rule : (o : OptionName) (a : Arg) → rule_of a ≡ option_rule o → IsOption o a
+pub option_by_rule : (o : OptionName) (a : Arg) → rule_of a ≡ number_rule o → IsOption o a
 option_by_rule o a e =
     let range : least_values a ≡ 1 = ap (λ (r : Rule). (unwrap_or_range r.range).start_inclusive) e in
     let one : length (items_of a.default_vals) ≡ 1 = sym (length-map (items_of a.default_vals) (λ s. s.now)) ∙ ap (λ (r : Rule). length r.defaults) e in

@@ -15,8 +15,8 @@ use Rattle.clap.specs.declared.error.kind.ErrorKind.{ErrorKind}
 use Rattle.clap.specs.declared.parser.matches.ValueSource.TheVariants.{DefaultValue}
 use Rattle.clap.proofs.OnLiterals.{clap_on_literals}
 use Rattle.racl_options.specs.CommandLine.{OptionName, Workers, Established, Transient, Udp, default_of, name_of, racl}
-use Rattle.racl_options.specs.Selections.{FlagName, Summary, Hits, Sessions, Explain, JsonLines, Live, drops_id, flag_id, only_id, passes_id}
-use Rattle.racl_options.specs.Sizes.{tables_id}
+use Rattle.racl_options.specs.Selections.{FlagName, Summary, Hits, Sessions, Explain, JsonLines, Live, flag_id}
+use Rattle.racl_options.specs.inner.Commands.{drops_id, only_id, passes_id, tables_id}
 use Rattle.racl_options.proofs.NameWalks.{has_row_behind}
 use Rattle.racl_options.proofs.SettingWalks.{at_row_missing, between, capture_filled, default_row, filled_rule, flag_filled, interface_filled, policy_filled, top, value_filled}
 

@@ -1,12 +1,13 @@
 -- Words that set options, and name captures of interfaces and files, as a user writes them, ask for what they say.
-use Rattle.std.proofs.Common.{◌≡◌, ◌∙◌, ◌++◌, ◌==◌, ◌+◌, ◌||◌, ◌≤◌, ◌<◌, ◌^◌, ap, ap₂, arith, cond, refl, rules as common_rules, subst, sym, ℕ, Bool, true, false, List, [], ◌∷◌, map, append-nil, append_assoc, Option, Some, None, codes}
-use Rattle.std.specs.List.{flat_map, fold}
+use Rattle.std.proofs.Common.{◌≡◌, ◌∙◌, ◌++◌, ◌==◌, ◌+◌, ◌||◌, ◌≤◌, ◌<◌, ◌^◌, ap, ap₂, arith, cond, refl, rules as common_rules, subst, suc, sym, ℕ, Bool, true, false, List, [], ◌∷◌, map, append-nil, append_assoc, Option, Some, None, codes}
+use Rattle.std.specs.List.{All, flat_map, fold}
 use Rattle.std.specs.Option.{option_or}
-use Rattle.std.specs.Prelude.{option_and_then, option_map, pos, slice_get}
+use Rattle.std.specs.Prelude.{count_by, option_and_then, option_map, pos, slice_get}
 use Rattle.std.specs.Str.{bytes_eq}
 use Rattle.std.specs.Str.Parse.{IsNumeral, without_leading_plus}
 use Rattle.std.proofs.lemmas.Bool.{eqb-true, ne_eqb}
 use Rattle.std.proofs.lemmas.Int.{ints}
+use Rattle.std.proofs.lemmas.List.Sums.{sum_by-cons}
 use Rattle.std.proofs.lemmas.Slice.Eq.{bytes_eq-Decides}
 use Rattle.std.proofs.lemmas.Str.Parse.{digit_from_value}
 use Rattle.clap.specs.Faults.{walk_fault}
@@ -14,16 +15,39 @@ use Rattle.clap.specs.Walk.{Held, has_row, nothing_held, row_text, settled, walk
 use Rattle.clap.specs.Words.{IsSignedIn, Row, Text, matches_of, without_minus}
 use Rattle.clap.specs.declared.builder.value_parser.ValueParser.TheVariants.{Signed}
 use Rattle.clap.proofs.ValueTestLemmas.{Accepts-accepts}
-use Rattle.racl_options.specs.Asking.{AskForRun, saved_in}
-use Rattle.racl_options.specs.CommandLine.{IsInRange, OptionName, Workers, Established, Transient, Udp, Spells, capture_id, default_of, has_flag, interface_id, most_of, most_seconds, name_of, number_of, policy_id, racl, values_at}
-use Rattle.racl_options.specs.Selections.{FlagName, Summary, Hits, Sessions, Explain, JsonLines, Live, drops_id, flag_id, is_given, lines_by, only_id, passes_id, shown_by}
-use Rattle.racl_options.specs.Sizes.{size_by, tables_id}
-use Rattle.racl_options.specs.Options.{AreInRange, AreNames, AreSettings, Setting, Use, asked_as, named_by, sets, times_set, value_at, words_as, words_of, words_of_use}
-use Rattle.racl_options.specs.Origins.{Name, OriginFacts, named_in}
+use Rattle.racl_options.specs.Asking.{AskForRun}
+use Rattle.racl_options.specs.CommandLine.{IsInRange, OptionName, Workers, Established, Transient, Udp, Spells, default_of, has_flag, most_of, name_of, number_of, racl, values_at}
+use Rattle.racl_options.specs.Selections.{FlagName, Summary, Hits, Sessions, Explain, JsonLines, Live, flag_id, is_given, lines_by, shown_by}
+use Rattle.racl_options.specs.Sizes.{size_by}
+use Rattle.racl_options.specs.Options.{AreNames, AreSettings, Setting, Use, asked_as, sets, value_at, values_of, words_as}
+use Rattle.racl_options.specs.Origins.{Name, OriginFacts}
+use Rattle.racl_options.specs.inner.Commands.{capture_id, drops_id, interface_id, only_id, passes_id, policy_id, tables_id}
 use Rattle.racl_options.proofs.NameLemmas.{plain_uses}
-use Rattle.racl_options.proofs.NameWalks.{Ends, has_row_behind, names_end, rows_of_names, rows_of_uses, uses_go_on}
-use Rattle.racl_options.proofs.SettingWalks.{AreNew, GoesOn, Holds, IsFit, between, default_row, row_of, settings_go_on, top}
+use Rattle.racl_options.proofs.NameWalks.{Ends, has_row_behind, names_end, rows_of_names, rows_of_uses, uses_go_on, words_of_use}
+use Rattle.racl_options.proofs.SettingWalks.{AreNew, GoesOn, Holds, IsFit, between, default_row, row_of, settings_go_on, top, words_of}
 use Rattle.racl_options.proofs.SettingDefaults.{IsOther, all_filled, end_fault, ends_well, fault_is, find_both, find_row, flag_filled_in, flag_row, flag_rows, option_filled, or_nothing, other_left, udp_filled}
+
+-- ---- settings one by one
+
+-- how often they set an option
+abbrev times_set : OptionName → List Setting → ℕ
+times_set option [] = 0
+times_set option (s ∷ rest) = cond (sets option s) 1 0 + times_set option rest
+
+times_counted : (option : OptionName) (ss : List Setting) → count_by (sets option) ss ≡ times_set option ss
+times_counted option [] = refl
+times_counted option (s ∷ rest) = sum_by-cons (λ (t : Setting). cond (sets option t) 1 0) s rest
+    ∙ ap (λ n. cond (sets option s) 1 0 + n) (times_counted option rest)
+
+abbrev AreInRange : List Setting → Type 0
+AreInRange [] = Unit {0}
+AreInRange (s ∷ rest) = IsInRange s.option s.value × AreInRange rest
+
+in_range : (ss : List Setting) → All (λ s. IsInRange s.option s.value) ss → AreInRange ss
+in_range [] all = tt
+in_range (s ∷ rest) all = (all 0 s (omega arith), in_range rest (λ k d inside. all (suc k) d (omega (arith, inside))))
+
+-- ---- values
 
 -- a number's text doesn't begin with a minus
 plain_value : (d : ℕ) (ds : Text) → IsNumeral 10 (without_leading_plus (d ∷ ds)) → (d == 45) ≡ false
@@ -75,7 +99,7 @@ text_is o (s ∷ rest) range = go (sets o s) (text_is o rest range.1)
 
 -- options of one name have one range
 most_by : Text → ℕ
-most_by name = cond (bytes_eq name (codes "workers")) 16 most_seconds
+most_by name = cond (bytes_eq name (codes "workers")) 16 4294967295
 
 most_is : (o : OptionName) → most_of o ≡ most_by (name_of o)
 unfolding most_by
@@ -256,7 +280,7 @@ other_found : (id : Text) (ss : List Setting) (uses : List Use) (names : List Te
 other_found id ss uses names other = find_both id (map row_of ss) (other_rows uses names)
     ∙ ap (λ found. option_or found (find_row id (other_rows uses names))) (none_found id ss other)
 
-policy_is : (uses : List Use) (names : List Text) → option_and_then (λ r. slice_get r.values 0) (find_row policy_id (other_rows uses names)) ≡ (named_by uses names).policy
+policy_is : (uses : List Use) (names : List Text) → option_and_then (λ r. slice_get r.values 0) (find_row policy_id (other_rows uses names)) ≡ slice_get names 0
 policy_is [] [] = refl
 policy_is [] (p ∷ []) = refl
 policy_is [] (p ∷ c ∷ names) = refl
@@ -264,7 +288,7 @@ policy_is (u ∷ us) [] = refl
 policy_is (u ∷ us) (p ∷ []) = refl
 policy_is (u ∷ us) (p ∷ c ∷ names) = refl
 
-capture_is : (uses : List Use) (names : List Text) → option_and_then (λ r. slice_get r.values 0) (find_row capture_id (other_rows uses names)) ≡ (named_by uses names).capture
+capture_is : (uses : List Use) (names : List Text) → option_and_then (λ r. slice_get r.values 0) (find_row capture_id (other_rows uses names)) ≡ slice_get names 1
 capture_is [] [] = refl
 capture_is [] (p ∷ []) = refl
 capture_is [] (p ∷ c ∷ names) = refl
@@ -272,7 +296,7 @@ capture_is (u ∷ us) [] = refl
 capture_is (u ∷ us) (p ∷ []) = refl
 capture_is (u ∷ us) (p ∷ c ∷ names) = refl
 
-captures_are : (uses : List Use) (names : List Text) → option_map (λ r. r.values) (find_row interface_id (other_rows uses names)) ≡ (named_by uses names).captures
+captures_are : (uses : List Use) (names : List Text) → option_map (λ r. r.values) (find_row interface_id (other_rows uses names)) ≡ values_of uses
 captures_are [] [] = refl
 captures_are [] (p ∷ []) = refl
 captures_are [] (p ∷ c ∷ names) = refl
@@ -283,25 +307,27 @@ captures_are (u ∷ us) (p ∷ c ∷ names) = refl
 -- ---- all words
 
 -- words that set options and name files as a user writes them ask for what they say
-words_ask : (program : Text) (ss : List Setting) (uses : List Use) (names : List Text) (origin : OriginFacts) → AreSettings ss → AreNames names → Name (named_by uses names) origin
+words_ask : (program : Text) (ss : List Setting) (uses : List Use) (names : List Text) (origin : OriginFacts) → AreSettings ss → AreNames names → Name (slice_get names 0) (slice_get names 1) (values_of uses) origin
     → AskForRun (program ∷ words_as ss uses names) (asked_as ss origin)
 unfolding walk_fault
 words_ask program ss uses names origin are named says = record {
   faultless = fault_is program words ∙ ap₂ end_fault faultless_walk walked_is ∙ ends_well ends.last ends.runs ends.settles;
   asks = record {
-    say = record {
-      options = record {
-        numbers = record { workers = spelt Workers; established = spelt Established; transient = spelt Transient; udp = spelt Udp };
-        tables = ap size_by (no_value tables_id no_size refl (refl, refl, refl));
-        shown = ap₂ shown_by (no_flag_given Summary) (no_value only_id no_only refl (refl, refl, refl));
-        lines = ap₂ lines_by (no_flag_given JsonLines) (no_flag_given Explain);
-        hits = no_flag_given Hits;
-        sessions = no_flag_given Sessions;
-        live = no_flag_given Live;
-      };
-      names = subst (λ named. Name named origin) (sym named_is) says;
-      saved = saved_is;
+    options = record {
+      workers = spelt Workers;
+      established = spelt Established;
+      transient = spelt Transient;
+      udp = spelt Udp;
+      tables = ap size_by (no_value tables_id no_size refl (refl, refl, refl));
+      shown = ap₂ shown_by (no_flag_given Summary) (no_value only_id no_only refl (refl, refl, refl));
+      lines = ap₂ lines_by (no_flag_given JsonLines) (no_flag_given Explain);
+      hits = no_flag_given Hits;
+      sessions = no_flag_given Sessions;
+      live = no_flag_given Live;
     };
+    names = rw (policy_named, capture_named, captures_named) says;
+    drops = no_value drops_id no_drops refl (refl, refl, refl);
+    passes = no_value passes_id no_passes refl (refl, refl, refl);
     fit = refl;
   };
 }
@@ -309,11 +335,14 @@ words_ask program ss uses names origin are named says = record {
     words : List Text
     words = words_as ss uses names
 
+    within : AreInRange ss
+    within = in_range ss are.in_range
+
     run : (e : Held) × Holds (map row_of ss) e × GoesOn nothing_held (flat_map words_of ss) e
-    run = settings_go_on ss [] nothing_held (refl, refl, refl) (new_settings ss [] (λ o. let once = are.once o in omega arith) are.in_range)
+    run = settings_go_on ss [] nothing_held (refl, refl, refl) (new_settings ss [] (λ o. let once = are.once o in let counted = times_counted o ss in omega arith) within)
 
     used : (e : Held) × Holds (map row_of ss ++ rows_of_uses uses) e × GoesOn run.0 (flat_map words_of_use uses) e
-    used = uses_go_on uses (map row_of ss) run.0 (no_other_row interface_id ss no_interface) run.1 (plain_uses uses names origin says)
+    used = uses_go_on uses (map row_of ss) run.0 (no_other_row interface_id ss no_interface) run.1 (plain_uses uses _ _ origin says)
 
     apart : (has_row policy_id (map row_of ss ++ rows_of_uses uses) ≡ false) × (has_row capture_id (map row_of ss ++ rows_of_uses uses) ≡ false)
     apart = no_name_in_uses uses (map row_of ss) (no_other_row policy_id ss no_policy) (no_other_row capture_id ss no_capture)
@@ -341,11 +370,11 @@ words_ask program ss uses names origin are named says = record {
     text : (o : OptionName) → (values_at (program ∷ words)).number (name_of o) ≡ Some (value_at o ss)
     text o = ap (λ rows. option_and_then row_text (find_row (name_of o) rows)) filled_rows
         ∙ ap (option_and_then row_text) (option_filled o given
-        ∙ ap (λ found. option_or found (Some (default_row o))) (option_found o (map row_of ss) uses names)) ∙ text_is o ss are.in_range
+        ∙ ap (λ found. option_or found (Some (default_row o))) (option_found o (map row_of ss) uses names)) ∙ text_is o ss within
 
     spelt : (o : OptionName) → Spells o ((values_at (program ∷ words)).number (name_of o)) (number_of (value_at o ss))
     spelt o =
-        let range = value_in_range o ss are.in_range in
+        let range = value_in_range o ss within in
         (value_at o ss, text o, range, refl)
 
     other_row : (id : Text) → IsOther id → find_row id flag_rows ≡ None → find_row id (matches_of racl (program ∷ words)) ≡ find_row id (other_rows uses names)
@@ -361,20 +390,16 @@ words_ask program ss uses names origin are named says = record {
     no_flag_given : (f : FlagName) → has_flag (values_at (program ∷ words)) f ≡ false
     no_flag_given f = ap is_given (first_in (flag_id f) (Some (flag_row f)) (ap (find_row (flag_id f)) filled_rows ∙ flag_filled_in f given (no_flag f) (no_flag_row f)))
 
-    saved_is : saved_in (values_at (program ∷ words)) ≡ record { drops = None; passes = None }
-    saved_is =
-        let drops = no_value drops_id no_drops refl (refl, refl, refl) in
-        let passes = no_value passes_id no_passes refl (refl, refl, refl) in
-        λ i. record { drops = drops i; passes = passes i }
+    policy_named : (values_at (program ∷ words)).first policy_id ≡ slice_get names 0
+    policy_named = first_in policy_id _ (other_row policy_id no_policy refl) ∙ policy_is uses names
 
-    named_is : named_in (values_at (program ∷ words)) ≡ named_by uses names
-    named_is =
-        let policy = first_in policy_id _ (other_row policy_id no_policy refl) ∙ policy_is uses names in
-        let capture = first_in capture_id _ (other_row capture_id no_capture refl) ∙ capture_is uses names in
-        let captures = ap (option_map (λ (r : Row). r.values)) (other_row interface_id no_interface refl) ∙ captures_are uses names in
-        λ i. record { policy = policy i; capture = capture i; captures = captures i }
+    capture_named : (values_at (program ∷ words)).first capture_id ≡ slice_get names 1
+    capture_named = first_in capture_id _ (other_row capture_id no_capture refl) ∙ capture_is uses names
+
+    captures_named : (values_at (program ∷ words)).all interface_id ≡ values_of uses
+    captures_named = ap (option_map (λ (r : Row). r.values)) (other_row interface_id no_interface refl) ∙ captures_are uses names
 
 pub written_asks : (words : List Text) (program : Text) (ss : List Setting) (uses : List Use) (names : List Text) (origin : OriginFacts) → AreSettings ss → AreNames names
-    → Name (named_by uses names) origin → words ≡ program ∷ words_as ss uses names → AskForRun words (asked_as ss origin)
+    → Name (slice_get names 0) (slice_get names 1) (values_of uses) origin → words ≡ program ∷ words_as ss uses names → AskForRun words (asked_as ss origin)
 written_asks words program ss uses names origin are named says is =
     subst (λ ws. AskForRun ws (asked_as ss origin)) (sym is) (words_ask program ss uses names origin are named says)

@@ -13,21 +13,22 @@ use Rattle.clap.specs.declared.builder.value_parser.Reading.TheVariants.{Without
 use Rattle.clap.specs.declared.builder.value_parser.ValueParser.TheVariants.{Signed}
 use Rattle.clap.specs.declared.parser.matches.ValueSource.TheVariants.{CommandLine, DefaultValue}
 use Rattle.clap.proofs.OnLiterals.{clap_on_literals}
-use Rattle.racl_options.specs.CommandLine.{OptionName, Workers, Established, Transient, Udp, capture_id, default_of, file_rule, flag_rule, interface_rule, most_of, name_of, option_rule, policy_id, racl, value_rule}
-use Rattle.racl_options.specs.Options.{Setting, words_by, words_of}
-use Rattle.racl_options.specs.Selections.{FlagName, flag_id}
+use Rattle.racl_options.specs.CommandLine.{OptionName, Workers, Established, Transient, Udp, default_of, file_rule, flag_rule, most_of, name_of, number_rule, racl}
+use Rattle.racl_options.specs.Options.{Setting, words_with}
+use Rattle.racl_options.specs.Selections.{FlagName}
+use Rattle.racl_options.specs.inner.Commands.{capture_id, interface_rule, policy_id, value_rule}
 
 abbrev pub top : Shape
 top = (built racl).top
 
 abbrev pub filled_rule : OptionName → Rule
-filled_rule o = filled (option_rule o)
+filled_rule o = filled (number_rule o)
 
 abbrev pub value_filled : Text → Rule
 value_filled id = filled (value_rule id)
 
 abbrev pub flag_filled : FlagName → Rule
-flag_filled flag = filled (flag_rule (flag_id flag))
+flag_filled flag = filled (flag_rule flag)
 
 abbrev pub interface_filled : Rule
 interface_filled = filled interface_rule
@@ -37,6 +38,14 @@ policy_filled = with_index 1 (filled (file_rule policy_id))
 
 abbrev pub capture_filled : Rule
 capture_filled = with_index 2 (filled (file_rule capture_id))
+
+-- ---- words
+
+abbrev pub words_by : OptionName → Text → Bool → List Text
+words_by o value in_one = words_with (name_of o) value in_one
+
+abbrev pub words_of : Setting → List Text
+words_of s = words_by s.option s.value s.in_one
 
 -- ---- rows
 

@@ -1,42 +1,29 @@
 -- What the words ask for in all, and what of it doesn't go together (this project's profile).
-use Rattle.std.specs.Prelude.{◌≡◌, ◌&&◌, ◌||◌, ◌==◌, Bool, true, false, not, is_some, List, [], Option, None, Some, option_map}
+use Rattle.std.specs.Prelude.{◌≡◌, ◌&&◌, ◌||◌, ◌==◌, Bool, true, false, not, is_some, List, [], Option, None, Some, option_map, codes}
 use Rattle.std.specs.Str.{bytes_eq}
 use Rattle.clap.specs.Words.{Text, fault_of}
 use Rattle.racl_io.specs.declared.partial_report.Shown.{Shown}
 use Rattle.racl_io.specs.declared.partial_report.Shown.TheVariants.{Every, Passing, Dropped, Nothing}
 use Rattle.racl_options.specs.CommandLine.{OptionFacts, SetOptions, Values, option_facts, racl, values_at}
-use Rattle.racl_options.specs.Origins.{Name, OriginFacts, FromStandard, FromFiles, FromInterfaces, named_in, origin_facts}
-use Rattle.racl_options.specs.Selections.{drops_id, passes_id}
+use Rattle.racl_options.specs.Origins.{Name, OriginFacts, FromStandard, FromFiles, FromInterfaces, origin_facts}
 use Rattle.racl_options.specs.declared.settings.Asked.{Asked}
 use Rattle.racl_options.specs.declared.settings.Lines.{Lines}
 use Rattle.racl_options.specs.declared.settings.Lines.TheVariants.{Plain, Explained, Json}
-use Rattle.racl_options.specs.declared.settings.Saved.{Saved}
 
--- the names of the files that get the packets that were dropped, and those that passed
-pub record SavedFacts : Type 0 where
-  pub drops : Option Text
-  pub passes : Option Text
-
-abbrev pub saved_facts : Saved → SavedFacts
-saved_facts s = record { drops = option_map (λ t. t.now) s.drops; passes = option_map (λ t. t.now) s.passes }
-
-abbrev pub saved_in : Values → SavedFacts
-saved_in values = record { drops = values.first drops_id; passes = values.first passes_id }
-
--- all that is asked for, as a value
+-- all that is asked for, as a value: with the names of the files that get the packets that were dropped, and those that passed
 pub record AskedFacts : Type 0 where
   pub options : OptionFacts
   pub origin : OriginFacts
-  pub saved : SavedFacts
+  pub drops : Option Text
+  pub passes : Option Text
 
 abbrev pub asked_facts : Asked → AskedFacts
-asked_facts a = record { options = option_facts a.options; origin = origin_facts a.origin; saved = saved_facts a.saved }
-
--- what a parse holds says this
-pub record Say (values : Values) (asked : AskedFacts) : Type 0 where
-  pub options : SetOptions values asked.options
-  pub names : Name (named_in values) asked.origin
-  pub saved : saved_in values ≡ asked.saved
+asked_facts a = record {
+  options = option_facts a.options;
+  origin = origin_facts a.origin;
+  drops = option_map (λ t. t.now) a.saved.drops;
+  passes = option_map (λ t. t.now) a.saved.passes;
+}
 
 -- ---- what goes together
 
@@ -45,8 +32,8 @@ are_files FromStandard = false
 are_files (FromFiles policy capture) = true
 are_files (FromInterfaces policy captures) = false
 
-abbrev pub is_saved : SavedFacts → Bool
-is_saved saved = is_some saved.drops || is_some saved.passes
+abbrev pub is_saved : AskedFacts → Bool
+is_saved asked = is_some asked.drops || is_some asked.passes
 
 -- whether one file is to get both
 abbrev pub is_shared : Option Text → Option Text → Bool
@@ -71,17 +58,20 @@ is_simple_run options = (options.workers == 1) && (is_every options.shown && (is
 
 -- verdicts can be written as packets come: of the capture in a file, and nothing is told beside them
 abbrev pub can_be_live : AskedFacts → Bool
-can_be_live asked = are_files asked.origin && (not (is_saved asked.saved) && is_simple_run asked.options)
+can_be_live asked = are_files asked.origin && (not (is_saved asked) && is_simple_run asked.options)
 
 -- Packets are saved of the capture in a file, and in two files. `--live` is asked for only where verdicts can be written as
 -- packets come.
 abbrev pub fit_together : AskedFacts → Bool
-fit_together asked = (not (is_saved asked.saved) || are_files asked.origin)
-    && (not (is_shared asked.saved.drops asked.saved.passes) && (not asked.options.live || can_be_live asked))
+fit_together asked = (not (is_saved asked) || are_files asked.origin)
+    && (not (is_shared asked.drops asked.passes) && (not asked.options.live || can_be_live asked))
 
 -- what a parse holds asks for this
 pub record AskBy (values : Values) (asked : AskedFacts) : Type 0 where
-  pub say : Say values asked
+  pub options : SetOptions values asked.options
+  pub names : Name (values.first (codes "POLICY")) (values.first (codes "CAPTURE")) (values.all (codes "interface")) asked.origin
+  pub drops : values.first (codes "drops") ≡ asked.drops
+  pub passes : values.first (codes "passes") ≡ asked.passes
   pub fit : fit_together asked ≡ true
 
 -- ---- words

@@ -5,11 +5,10 @@ use Rattle.clap.specs.Words.{App, HasKind, Rule, Text, fault_of, first_of, match
 use Rattle.clap.specs.Words.{new_rule, with_rule}
 use Rattle.clap.specs.declared.builder.action.ArgAction.TheVariants.{Set}
 use Rattle.clap.specs.declared.error.Error.{Error}
-use Rattle.racl_options.specs.CommandLine.{policy_id}
 
 -- the policy's file, which has to be named
 abbrev pub policy_rule : Rule
-policy_rule = record (new_rule policy_id) { action = Some Set; required = true }
+policy_rule = record (new_rule (codes "POLICY")) { action = Some Set; required = true }
 
 abbrev pub unnamed_check : App
 unnamed_check = new_app (codes "racl check")
@@ -26,7 +25,7 @@ IsCheck words = slice_get words 1 ≡ Some (codes "check")
 abbrev pub AskForCheck : List Text → Option Text → Type 0
 AskForCheck words None = IsCheck words → ⊥
 AskForCheck words (Some name) = IsCheck words × (fault_of racl_check (drop 1 words) ≡ [])
-    × (first_of policy_id (matches_of racl_check (drop 1 words)) ≡ Some name)
+    × (first_of (codes "POLICY") (matches_of racl_check (drop 1 words)) ≡ Some name)
 
 -- they ask for a check, and the error has a kind of the fault of the words after the program's, or memory ran out
 abbrev pub RefusesCheck : List Text → Error → Type 0

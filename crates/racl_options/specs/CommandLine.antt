@@ -1,9 +1,11 @@
 -- The command line: the command's options and arguments, and what the words say of the options.
 use Rattle.std.specs.Prelude.{◌≡◌, ◌≤◌, ◌⊎◌, ℕ, Bool, true, List, [], ◌∷◌, Option, Some, codes, pos}
+use Rattle.std.specs.List.{fold}
 use Rattle.std.specs.Str.Parse.{IsNumeral, digits_value, without_leading_plus}
 use Rattle.clap.specs.Simple.{on_top}
 use Rattle.clap.specs.Words.{App, IsSignedIn, Rule, Text, all_of, first_of, matches_of, new_app}
 use Rattle.clap.specs.Words.{new_rule, one_of, with_rule, without_minus}
+use Rattle.clap.specs.declared.builder.action.ArgAction.{ArgAction}
 use Rattle.clap.specs.declared.builder.action.ArgAction.TheVariants.{Append, Set, SetTrue}
 use Rattle.clap.specs.declared.builder.value_parser.ValueParser.TheVariants.{Signed}
 use Rattle.clap.specs.declared.error.kind.ErrorKind.{ErrorKind}
@@ -12,8 +14,8 @@ use Rattle.racl_io.specs.declared.partial_report.Shown.{Shown}
 use Rattle.racl_options.specs.declared.settings.Options.{Options}
 use Rattle.racl_options.specs.declared.settings.TableSize.{TableSize}
 use Rattle.racl_options.specs.declared.settings.Lines.{Lines}
-use Rattle.racl_options.specs.Selections.{FlagName, Summary, Hits, Sessions, Explain, JsonLines, Live, drops_id, flag_id, is_given, lines_by, only_id, passes_id, shown_by}
-use Rattle.racl_options.specs.Sizes.{size_by, tables_id}
+use Rattle.racl_options.specs.Selections.{FlagName, Summary, Hits, Sessions, Explain, JsonLines, Live, flag_id, is_given, lines_by, shown_by}
+use Rattle.racl_options.specs.Sizes.{size_by}
 
 -- ---- the command
 
@@ -35,86 +37,36 @@ default_of Established = codes "86400"
 default_of Transient = codes "120"
 default_of Udp = codes "600"
 
-abbrev pub most_seconds : ℕ
-most_seconds = 4294967295
-
 abbrev pub most_of : OptionName → ℕ
 most_of Workers = 16
-most_of Established = most_seconds
-most_of Transient = most_seconds
-most_of Udp = most_seconds
+most_of _ = 4294967295
 
--- the option `--NAME`, with one value: a number from 1 to `most`
-abbrev pub number_option : Text → Text → ℕ → Rule
-number_option name default most = record (new_rule name) {
-  long = Some name;
-  action = Some Set;
-  value_names = 1;
-  parser = Some (Signed (pos 1) (pos most));
-  defaults = default ∷ [];
+-- the option `--ID`, with so many values
+abbrev pub long_rule : Text → ArgAction → ℕ → Rule
+long_rule id action values = record (new_rule id) { long = Some id; action = Some action; value_names = values }
+
+-- one whose value is a number in its range
+abbrev pub number_rule : OptionName → Rule
+number_rule option = record (long_rule (name_of option) Set 1) {
+  parser = Some (Signed (pos 1) (pos (most_of option)));
+  defaults = default_of option ∷ [];
 }
 
-abbrev pub option_rule : OptionName → Rule
-option_rule option = number_option (name_of option) (default_of option) (most_of option)
-
-abbrev pub interface_id : Text
-interface_id = codes "interface"
-
--- the option `--interface`, with one value at each use
-abbrev pub interface_rule : Rule
-interface_rule = record (new_rule interface_id) {
-  long = Some interface_id;
-  action = Some Append;
-  value_names = 1;
-}
-
--- another option, with one value
-abbrev pub value_rule : Text → Rule
-value_rule id = record (new_rule id) { long = Some id; action = Some Set; value_names = 1 }
-
--- a flag, which has no value of its own
-abbrev pub flag_rule : Text → Rule
-flag_rule id = record (new_rule id) { long = Some id; action = Some SetTrue }
-
-abbrev pub policy_id : Text
-policy_id = codes "POLICY"
-
-abbrev pub capture_id : Text
-capture_id = codes "CAPTURE"
+abbrev pub flag_rule : FlagName → Rule
+flag_rule flag = long_rule (flag_id flag) SetTrue 0
 
 -- a word that names a file
 abbrev pub file_rule : Text → Rule
 file_rule id = record (new_rule id) { action = Some Set }
 
--- the command before its options; as it has a version, a parse also reads `--version`
-abbrev pub without_options : App
-without_options = on_top (λ s. record s { has_version = true }) (new_app (codes "racl"))
-
--- the command with its options of a number
-abbrev pub with_options : App
-with_options = with_rule (with_rule (with_rule (with_rule without_options (option_rule Workers))
-    (option_rule Established)) (option_rule Transient)) (option_rule Udp)
-
--- and with the other options that have a value: the size of the tables, the captures of interfaces, and which packets are
--- shown and saved
-abbrev pub with_selections : App
-with_selections = with_rule (with_rule (with_rule with_options (value_rule tables_id)) interface_rule) (value_rule only_id)
-
-abbrev pub with_values : App
-with_values = with_rule (with_rule with_selections (value_rule drops_id)) (value_rule passes_id)
-
--- and with the flags
-abbrev pub with_reports : App
-with_reports = with_rule (with_rule (with_rule with_values (flag_rule (flag_id Summary))) (flag_rule (flag_id Hits)))
-    (flag_rule (flag_id Sessions))
-
-abbrev pub with_flags : App
-with_flags = with_rule (with_rule (with_rule with_reports (flag_rule (flag_id Explain))) (flag_rule (flag_id JsonLines)))
-    (flag_rule (flag_id Live))
-
--- and with the files
+-- the command; as it has a version, a parse also reads `--version`
 abbrev pub racl : App
-racl = with_rule (with_rule with_flags (file_rule policy_id)) (file_rule capture_id)
+racl = fold with_rule (on_top (λ s. record s { has_version = true }) (new_app (codes "racl")))
+    (number_rule Workers ∷ number_rule Established ∷ number_rule Transient ∷ number_rule Udp
+    ∷ long_rule (codes "tables") Set 1 ∷ long_rule (codes "interface") Append 1 ∷ long_rule (codes "only") Set 1
+    ∷ long_rule (codes "drops") Set 1 ∷ long_rule (codes "passes") Set 1
+    ∷ flag_rule Summary ∷ flag_rule Hits ∷ flag_rule Sessions ∷ flag_rule Explain ∷ flag_rule JsonLines ∷ flag_rule Live
+    ∷ file_rule (codes "POLICY") ∷ file_rule (codes "CAPTURE") ∷ [])
 
 -- ---- what the words ask for
 
@@ -157,13 +109,6 @@ IsInRange option text = IsNumeral 10 (without_leading_plus text) × (1 ≤ numbe
 abbrev pub Spells : OptionName → Option Text → ℕ → Type 0
 Spells option text n = (t : Text) × (text ≡ Some t) × IsInRange option t × (n ≡ number_of t)
 
--- each option is the number that the text of its name spells
-pub record SpellsOptions (text : Text → Option Text) (facts : OptionFacts) : Type 0 where
-  pub workers : Spells Workers (text (name_of Workers)) facts.workers
-  pub established : Spells Established (text (name_of Established)) facts.established
-  pub transient : Spells Transient (text (name_of Transient)) facts.transient
-  pub udp : Spells Udp (text (name_of Udp)) facts.udp
-
 -- what a parse holds of an id: the text of a number, the first value, and all values
 pub record Values : Type 0 where
   pub number : Text → Option Text
@@ -184,9 +129,12 @@ has_flag values flag = is_given (values.first (flag_id flag))
 
 -- the options are the numbers that are spelt, and the size, the packets, the lines and the flags that are asked for
 pub record SetOptions (values : Values) (facts : OptionFacts) : Type 0 where
-  pub numbers : SpellsOptions values.number facts
-  pub tables : size_by (values.first tables_id) ≡ Some facts.tables
-  pub shown : shown_by (has_flag values Summary) (values.first only_id) ≡ Some facts.shown
+  pub workers : Spells Workers (values.number (name_of Workers)) facts.workers
+  pub established : Spells Established (values.number (name_of Established)) facts.established
+  pub transient : Spells Transient (values.number (name_of Transient)) facts.transient
+  pub udp : Spells Udp (values.number (name_of Udp)) facts.udp
+  pub tables : size_by (values.first (codes "tables")) ≡ Some facts.tables
+  pub shown : shown_by (has_flag values Summary) (values.first (codes "only")) ≡ Some facts.shown
   pub lines : lines_by (has_flag values JsonLines) (has_flag values Explain) ≡ facts.lines
   pub hits : has_flag values Hits ≡ facts.hits
   pub sessions : has_flag values Sessions ≡ facts.sessions

@@ -8,24 +8,11 @@ use Rattle.racl_io.specs.declared.partial_report.Shown.TheVariants.{Every, Passi
 use Rattle.racl_options.specs.declared.settings.Lines.{Lines}
 use Rattle.racl_options.specs.declared.settings.Lines.TheVariants.{Plain, Explained, Json}
 
--- ---- options with a value
-
-abbrev pub only_id : Text
-only_id = codes "only"
-
-abbrev pub drops_id : Text
-drops_id = codes "drops"
-
-abbrev pub passes_id : Text
-passes_id = codes "passes"
-
 -- what the value of `--only` asks for; without one it is every packet
 abbrev pub shown_only : Option Text → Option Shown
 shown_only None = Some Every
 shown_only (Some value) = if bytes_eq value (codes "pass") then Some Passing
     else if bytes_eq value (codes "drop") then Some Dropped else None
-
--- ---- flags
 
 pub data FlagName : Type 0 where
   Summary : FlagName

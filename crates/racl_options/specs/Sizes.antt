@@ -5,9 +5,6 @@ use Rattle.clap.specs.Words.{Text}
 use Rattle.racl_options.specs.declared.settings.TableSize.{TableSize}
 use Rattle.racl_options.specs.declared.settings.TableSize.TheVariants.{Standard, Large}
 
-abbrev pub tables_id : Text
-tables_id = codes "tables"
-
 -- what the value of `--tables` asks for; without one they are standard
 abbrev pub size_by : Option Text → Option TableSize
 size_by None = Some Standard

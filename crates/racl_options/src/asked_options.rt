@@ -1,14 +1,14 @@
 //! What the words ask for.
-ghost use Rattle.std.specs.Prelude.{◌≡◌, MatchResult, is_none, option_map};
-ghost use Rattle.std.specs.Borrow.{Bor};
-ghost use Rattle.clap.specs.Words.{Text, found_of, one_text};
+ghost use Rattle.std.specs.Prelude.{◌≡◌, ◌||◌, MatchResult, is_none, is_some};
+ghost use Rattle.clap.specs.Words.{found_of, one_text};
 ghost use Rattle.racl_options.specs.Asking as told;
-ghost use Rattle.racl_options.specs.Asking.{AskBy, asked_facts, fit_together, saved_facts};
+ghost use Rattle.racl_options.specs.Asking.{AskBy, asked_facts, fit_together};
 ghost use Rattle.racl_options.specs.CommandLine as line;
-ghost use Rattle.racl_options.specs.CommandLine.{HoldsNumber, HoldsNumbers, OptionName, Spells, SpellsOptions, has_flag, option_facts};
+ghost use Rattle.racl_options.specs.Checks.{text_behind};
+ghost use Rattle.racl_options.specs.CommandLine.{HoldsNumber, HoldsNumbers, OptionName, Spells, has_flag, option_facts};
 ghost use Rattle.racl_options.specs.Origins.{origin_facts};
 ghost use Rattle.racl_options.specs.Selections.{Explain, Hits, JsonLines, Live, Sessions, lines_by};
-ghost use Rattle.racl_options.specs.inner.Naming.{IsMistaken, values_in};
+ghost use Rattle.racl_options.specs.inner.Naming.{IsRefused, SpellOptions, values_in};
 
 use crate::named_files::{Refusal, origin_named};
 use crate::selection::{is_given, lines_named, saved_named, shown_named};
@@ -32,7 +32,7 @@ const NOT_LIVE: &str = "--live needs POLICY CAPTURE, and goes with --tables and 
 /// What the matches ask for.
 pub fn asked_by<'a>(alloc: Global, matches: &ArgMatches<'a>) -> Result<Asked<'a>, Refusal>
     requires { HoldsNumbers (one_text (found_of matches.now)) }
-    ensures { let values = values_in (found_of matches.now) in MatchResult result (λ asked. AskBy values (asked_facts asked)) (IsMistaken values) }
+    ensures { let values = values_in (found_of matches.now) in MatchResult result (λ asked. AskBy values (asked_facts asked)) (IsRefused (AskBy values)) }
 {
     let Some(tables) = size_named(matches) else {
         return Err(Refusal::Mistake(NO_SIZE));
@@ -74,14 +74,14 @@ fn is_simple_run(options: &Options) -> bool
 
 // Whether packets are to be saved.
 fn is_saved(saved: &Saved<'_>) -> bool
-    ensures { result ≡ told.is_saved (saved_facts saved.now) }
+    ensures { result ≡ (is_some (text_behind saved.now.drops) || is_some (text_behind saved.now.passes)) }
 {
     saved.drops.is_some() || saved.passes.is_some()
 }
 
 // Whether one file is to get both.
 fn is_shared(drops: Option<&str>, passes: Option<&str>) -> bool
-    ensures { result ≡ told.is_shared (option_map (λ (t : Bor Text). t.now) drops.entry) (option_map (λ (t : Bor Text). t.now) passes.entry) }
+    ensures { result ≡ told.is_shared (text_behind drops.entry) (text_behind passes.entry) }
 {
     match (drops, passes) {
         (Some(drops), Some(passes)) => drops == passes,
@@ -115,7 +115,7 @@ fn misfit(asked: &Asked<'_>) -> Option<&'static str>
 // The options, of which this size and these packets are known.
 fn read_options(matches: &ArgMatches<'_>, tables: TableSize, shown: Shown) -> Options
     requires { HoldsNumbers (one_text (found_of matches.now)) }
-    ensures spelt { SpellsOptions (one_text (found_of matches.now)) (option_facts result) }
+    ensures spelt { SpellOptions (values_in (found_of matches.now)) (option_facts result) }
     ensures tables { result.tables ≡ tables }
     ensures shown { result.shown ≡ shown }
     ensures lines { let values = values_in (found_of matches.now) in lines_by (has_flag values JsonLines) (has_flag values Explain) ≡ result.lines }
@@ -144,7 +144,7 @@ fn read_options(matches: &ArgMatches<'_>, tables: TableSize, shown: Shown) -> Op
 }
 
 fn number_at(matches: &ArgMatches<'_>, name: &str) -> u32
-    requires { HoldsNumber line.most_seconds (one_text (found_of matches.now) name.now) }
+    requires { HoldsNumber 4294967295 (one_text (found_of matches.now) name.now) }
     ensures { (option : OptionName)
         → HoldsNumber (line.most_of option) (one_text (found_of matches.now) name.now)
         → Spells option (one_text (found_of matches.now) name.now) result }

@@ -1,12 +1,15 @@
 //! The command line: the words with which the program is called, read by `clap`.
-ghost use Rattle.std.specs.Prelude.{◌≡◌, ◌≢◌, ◌⊎◌, List, ◌∷◌, IfErr, IfOk, MatchResult, false};
+ghost use Rattle.std.specs.Prelude.{◌≡◌, ◌≢◌, ◌⊎◌, List, ◌∷◌, IfErr, IfOk, MatchResult, false, slice_get};
 ghost use Rattle.clap.specs.Walk.{Text, texts};
 ghost use Rattle.clap.specs.Words.{HasKind, app_of, fault_of, kind_of, rule_of};
+ghost use Rattle.clap.specs.declared.builder.action.ArgAction.TheVariants.{Set, SetTrue};
 ghost use Rattle.racl_options.specs.Asking.{AskForNothing, AskForRun, AskedFacts, asked_facts};
 ghost use Rattle.racl_options.specs.CommandLine as line;
-ghost use Rattle.racl_options.specs.CommandLine.{IsRequest, racl, with_flags, with_options, with_reports, with_selections, with_values, without_options};
-ghost use Rattle.racl_options.specs.Options.{AreNames, AreSettings, Setting, Use, asked_as, named_by, words_as};
+ghost use Rattle.racl_options.specs.CommandLine.{IsRequest, long_rule, racl};
+ghost use Rattle.racl_options.specs.Options.{AreNames, AreSettings, Setting, Use, asked_as, values_of, words_as};
 ghost use Rattle.racl_options.specs.Origins.{Name, OriginFacts};
+ghost use Rattle.racl_options.specs.inner.Commands;
+ghost use Rattle.racl_options.specs.inner.Commands.{range_rule, with_flags, with_options, with_reports, with_selections, with_values, without_options};
 
 use crate::asked_options::asked_by;
 use crate::named_files::Refusal;
@@ -25,7 +28,7 @@ pub fn options<'a>(alloc: Global, words: &'a [&'a str]) -> Result<Asked<'a>, Err
     ensures accepts { (asked : AskedFacts) → AskForRun (texts words.entry.now) asked
         → MatchResult result (λ a. asked_facts a ≡ asked) (λ e. kind_of e ≡ ErrorKind.OutOfMemory) }
     ensures written { (program : Text) (settings : List Setting) (uses : List Use) (names : List Text) (origin : OriginFacts)
-        → AreSettings settings → AreNames names → Name (named_by uses names) origin
+        → AreSettings settings → AreNames names → Name (slice_get names 0) (slice_get names 1) (values_of uses) origin
         → texts words.entry.now ≡ program ∷ words_as settings uses names
         → MatchResult result (λ a. asked_facts a ≡ asked_as settings origin) (λ e. kind_of e ≡ ErrorKind.OutOfMemory) }
 
@@ -225,8 +228,7 @@ fn described_command<'a>(alloc: Global) -> Command<'a>
 }
 
 fn timeout_option<'a>(alloc: Global, name: &'a str, default: &'a str, help: &'a str) -> Arg<'a>
-    ensures rule { rule_of result
-        ≡ line.number_option name.entry.now default.entry.now line.most_seconds }
+    ensures rule { rule_of result ≡ range_rule name.entry.now default.entry.now 4294967295 }
     ensures local { result.global ≡ false }
 {
     number_option(alloc, name, default, u32::MAX, "SECONDS", help)
@@ -240,7 +242,7 @@ fn number_option<'a>(
     unit: &'a str,
     help: &'a str,
 ) -> Arg<'a>
-    ensures rule { rule_of result ≡ line.number_option name.entry.now default.entry.now most }
+    ensures rule { rule_of result ≡ range_rule name.entry.now default.entry.now most }
     ensures local { result.global ≡ false }
 {
     Arg::new(alloc, name)
@@ -253,7 +255,7 @@ fn number_option<'a>(
 }
 
 fn value_option<'a>(alloc: Global, name: &'a str, value: &'a str, help: &'a str) -> Arg<'a>
-    ensures rule { rule_of result ≡ line.value_rule name.entry.now }
+    ensures rule { rule_of result ≡ long_rule name.entry.now Set 1 }
     ensures local { result.global ≡ false }
 {
     Arg::new(alloc, name)
@@ -264,7 +266,7 @@ fn value_option<'a>(alloc: Global, name: &'a str, value: &'a str, help: &'a str)
 }
 
 fn interface_option<'a>(alloc: Global) -> Arg<'a>
-    ensures rule { rule_of result ≡ line.interface_rule }
+    ensures rule { rule_of result ≡ Commands.interface_rule }
     ensures local { result.global ≡ false }
 {
     Arg::new(alloc, "interface")
@@ -275,7 +277,7 @@ fn interface_option<'a>(alloc: Global) -> Arg<'a>
 }
 
 fn flag<'a>(alloc: Global, name: &'a str, help: &'a str) -> Arg<'a>
-    ensures rule { rule_of result ≡ line.flag_rule name.entry.now }
+    ensures rule { rule_of result ≡ long_rule name.entry.now SetTrue 0 }
     ensures local { result.global ≡ false }
 {
     Arg::new(alloc, name)

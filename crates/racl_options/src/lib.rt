@@ -10,7 +10,7 @@ mod settings;
 mod table_size;
 
 pub use check_command::check_name;
+pub use command_line::{options, words_status};
 pub use settings::{
     Asked, CaptureFile, Files, Interfaces, Lines, Options, Origin, Saved, TableSize,
 };
-pub use command_line::{options, words_status};

@@ -1,10 +1,12 @@
 //! The files that the words name.
 ghost use Rattle.std.specs.Prelude.{◌≡◌, IfNone, IfSome, MatchResult, None, Some, map, count_by};
+ghost use Rattle.std.specs.List.{AllZip};
 ghost use Rattle.clap.specs.Walk.{texts};
 ghost use Rattle.clap.specs.Words.{found_of};
-ghost use Rattle.racl_options.specs.Origins.{AreNamed, CaptureFacts, IsNamed, Name};
-ghost use Rattle.racl_options.specs.Origins.{capture_facts, is_standard, named_in, origin_facts};
-ghost use Rattle.racl_options.specs.inner.Naming.{AreRefused, IsRefused, named_as, values_in};
+ghost use Rattle.racl_options.specs.Checks.{text_behind};
+ghost use Rattle.racl_options.specs.Origins.{CaptureFacts, IsNamed, Name};
+ghost use Rattle.racl_options.specs.Origins.{capture_facts, is_standard, origin_facts};
+ghost use Rattle.racl_options.specs.inner.Naming.{IsRefused, Names, values_in};
 
 use crate::settings::{CaptureFile, Files, Interfaces, Origin};
 use acl_policy::octet_of;
@@ -50,7 +52,7 @@ fn capture_named(value: &str) -> Option<CaptureFile<'_>>
 
 // The captures that the values of `--interface` name.
 fn captures_named<'a>(alloc: Global, values: &[&'a str]) -> Result<Vec<CaptureFile<'a>>, Refusal>
-    ensures { MatchResult result (λ captures. AreNamed (texts values.now) (map capture_facts captures.items)) (AreRefused (texts values.now)) }
+    ensures { let AreNamed = AllZip IsNamed (texts values.now) in MatchResult result (λ captures. AreNamed (map capture_facts captures.items)) (IsRefused AreNamed) }
 {
     let mut captures = Vec::new(alloc);
     let mut rest = values;
@@ -80,8 +82,8 @@ fn interfaces_named<'a>(
     capture: Option<&'a str>,
     values: &[&'a str],
 ) -> Result<Interfaces<'a>, Refusal>
-    ensures { MatchResult result (λ i. Name (named_as policy.entry capture.entry (Some (texts values.now))) (origin_facts (Origin.Interfaces i)))
-        (IsRefused (named_as policy.entry capture.entry (Some (texts values.now)))) }
+    ensures { let Told = Name (text_behind policy.entry) (text_behind capture.entry) (Some (texts values.now)) in
+        MatchResult result (λ i. Told (origin_facts (Origin.Interfaces i))) (IsRefused Told) }
 {
     let Some(policy) = policy else {
         return Err(Refusal::Mistake(NO_POLICY));
@@ -101,7 +103,7 @@ fn interfaces_named<'a>(
 
 // The input that the words name where they have no `--interface`.
 fn files_named<'a>(policy: Option<&'a str>, capture: Option<&'a str>) -> Result<Origin<'a>, Refusal>
-    ensures { MatchResult result (λ origin. Name (named_as policy.entry capture.entry None) (origin_facts origin)) (IsRefused (named_as policy.entry capture.entry None)) }
+    ensures { let Told = Name (text_behind policy.entry) (text_behind capture.entry) None in MatchResult result (λ origin. Told (origin_facts origin)) (IsRefused Told) }
 {
     match (policy, capture) {
         (None, None) => Ok(Origin::Standard),
@@ -117,7 +119,7 @@ fn files_named<'a>(policy: Option<&'a str>, capture: Option<&'a str>) -> Result<
 
 /// Where the input comes from that the matches name.
 pub fn origin_named<'a>(alloc: Global, matches: &ArgMatches<'a>) -> Result<Origin<'a>, Refusal>
-    ensures { let named = named_in (values_in (found_of matches.now)) in MatchResult result (λ origin. Name named (origin_facts origin)) (IsRefused named) }
+    ensures { let Told = Names (values_in (found_of matches.now)) in MatchResult result (λ origin. Told (origin_facts origin)) (IsRefused Told) }
 {
     let policy = matches.get_str("POLICY");
     let capture = matches.get_str("CAPTURE");

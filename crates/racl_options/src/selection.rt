@@ -2,10 +2,11 @@
 ghost use Rattle.std.specs.Prelude.{◌≡◌, option_map};
 ghost use Rattle.std.specs.Borrow.{Bor};
 ghost use Rattle.clap.specs.Words.{Text, first_value, found_of};
-ghost use Rattle.racl_options.specs.Asking.{saved_facts, saved_in};
+ghost use Rattle.racl_options.specs.Checks.{text_behind};
 ghost use Rattle.racl_options.specs.CommandLine.{has_flag};
 ghost use Rattle.racl_options.specs.Selections;
-ghost use Rattle.racl_options.specs.Selections.{JsonLines, Explain, Summary, lines_by, only_id, shown_by};
+ghost use Rattle.racl_options.specs.Selections.{JsonLines, Explain, Summary, lines_by, shown_by};
+ghost use Rattle.racl_options.specs.inner.Commands.{drops_id, only_id, passes_id};
 ghost use Rattle.racl_options.specs.inner.Naming.{values_in};
 
 use crate::settings::{Lines, Saved};
@@ -61,7 +62,8 @@ pub fn lines_named(matches: &ArgMatches<'_>) -> Lines
 
 /// The files that are to get packets.
 pub fn saved_named<'a>(matches: &ArgMatches<'a>) -> Saved<'a>
-    ensures { saved_facts result ≡ saved_in (values_in (found_of matches.now)) }
+    ensures drops { text_behind result.drops ≡ first_value (found_of matches.now) drops_id }
+    ensures passes { text_behind result.passes ≡ first_value (found_of matches.now) passes_id }
 {
     Saved {
         drops: matches.get_str("drops"),

@@ -3,7 +3,8 @@ ghost use Rattle.std.specs.Prelude.{◌≡◌, option_map};
 ghost use Rattle.std.specs.Borrow.{Bor};
 ghost use Rattle.clap.specs.Words.{Text, first_value, found_of};
 ghost use Rattle.racl_options.specs.Sizes;
-ghost use Rattle.racl_options.specs.Sizes.{size_by, tables_id};
+ghost use Rattle.racl_options.specs.Sizes.{size_by};
+ghost use Rattle.racl_options.specs.inner.Commands.{tables_id};
 
 use crate::settings::TableSize;
 use clap::ArgMatches;

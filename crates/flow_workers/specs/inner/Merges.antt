@@ -9,9 +9,9 @@ use Rattle.packet_view.specs.Frames as frames
 use Rattle.flow_filter.specs.Readings.{IsSeen}
 use Rattle.flow_filter.specs.declared.verdict.Verdict.{Verdict}
 use Rattle.flow_dealing.specs.Dealings.{flow_of_frame, worker_of}
-use Rattle.flow_dealing.specs.Traces.{ArePlaced, AreTraces, AreFrames, Item, numbers_from, numbers_of, verdict_in}
+use Rattle.flow_dealing.specs.Traces.{ArePlaced, AreTraces, AreFrames, Item, numbers_from}
 use Rattle.flow_workers.specs.declared.verdict_merge.VerdictMerge.{VerdictMerge}
-use Rattle.flow_workers.specs.inner.Work.{AreSaid, RunFacts}
+use Rattle.flow_workers.specs.inner.Work.{AreSaid, RunFacts, numbers_of, verdict_in}
 
 -- these are the workers of the run's packets from this number on
 pub record AreJudges (run : RunFacts) (first : ℕ) (workers : List ℕ) : Type 0 where

@@ -9,9 +9,10 @@ use Rattle.bihash_rule.specs.declared.view.Record.{Record}
 use Rattle.bihash_rule.specs.declared.view.View.{View}
 use Rattle.session_state.specs.declared.timeouts.Timeouts.{Timeouts}
 use Rattle.flow_filter.specs.declared.verdict.Verdict.{Verdict}
+use Rattle.flow_filter.specs.Judged.{verdict_on}
 use Rattle.flow_dealing.specs.Views.{Views}
 use Rattle.flow_dealing.specs.Dealings.{Deal}
-use Rattle.flow_dealing.specs.Traces.{AreFrames, IsItem, IsItemOf, IsTrace, Item, calls_in, numbers_from, numbers_of, verdict_in}
+use Rattle.flow_dealing.specs.Traces.{AreFrames, IsItem, IsItemOf, IsTrace, Item, calls_in, judged_of, numbers_from}
 use Rattle.flow_workers.specs.inner.Wanted.{KeepWanted}
 
 -- what the verdicts of a run rest on
@@ -20,6 +21,12 @@ pub record RunFacts : Type 0 where
   pub times : Timeouts
   pub policy : PolicyFacts
   pub packets : List PacketFacts
+
+abbrev pub verdict_in : Timeouts → Item → Verdict
+verdict_in times i = verdict_on times (judged_of i)
+
+abbrev pub numbers_of : List Item → List ℕ
+numbers_of is = map (λ i. i.packet) is
 
 -- the caller's one record has these calls more, and its buckets began as before
 pub record RecordContinues (v w : View) (more : List Call) : Type 0 where

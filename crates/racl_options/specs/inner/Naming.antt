@@ -1,20 +1,12 @@
 -- What the code knows of what is named and asked for.
-use Rattle.std.specs.Prelude.{List, Option, option_map}
-use Rattle.std.specs.Borrow.{Bor}
-use Rattle.clap.specs.Words.{Text, first_value, matched_of, one_text, raw_values}
+use Rattle.std.specs.Prelude.{option_map}
+use Rattle.clap.specs.Words.{first_value, matched_of, one_text, raw_values}
 use Rattle.clap.specs.declared.parser.matches.Found.{Found}
-use Rattle.racl_options.specs.Asking.{AskBy, AskedFacts}
-use Rattle.racl_options.specs.CommandLine.{Values}
-use Rattle.racl_options.specs.Origins.{CaptureFacts, Name, NamedFacts, OriginFacts, AreNamed}
+use Rattle.racl_options.specs.CommandLine.{Workers, Established, Transient, Udp, OptionFacts, Spells, Values, name_of}
+use Rattle.racl_options.specs.Origins.{Name, OriginFacts}
 use Rattle.racl_options.specs.declared.named_files.Refusal.{Refusal}
 use Rattle.racl_options.specs.declared.named_files.Refusal.TheVariants.{Memory, Mistake}
-
-abbrev pub named_as : Option (Bor Text) → Option (Bor Text) → Option (List Text) → NamedFacts
-named_as policy capture captures = record {
-  policy = option_map (λ p. p.now) policy;
-  capture = option_map (λ c. c.now) capture;
-  captures = captures;
-}
+use Rattle.racl_options.specs.inner.Commands.{capture_id, interface_id, policy_id}
 
 -- what was found in the words
 abbrev pub values_in : Found → Values
@@ -24,17 +16,18 @@ values_in found = record {
   all = λ id. option_map raw_values (matched_of found id);
 }
 
--- memory ran out, or no input is named
-abbrev pub IsRefused : NamedFacts → Refusal → Type 0
-IsRefused named Memory = Unit {0}
-IsRefused named (Mistake text) = (origin : OriginFacts) → Name named origin → ⊥
+-- they name this input
+abbrev pub Names : Values → OriginFacts → Type 0
+Names values origin = Name (values.first policy_id) (values.first capture_id) (values.all interface_id) origin
 
--- memory ran out, or nothing is asked for
-abbrev pub IsMistaken : Values → Refusal → Type 0
-IsMistaken values Memory = Unit {0}
-IsMistaken values (Mistake text) = (asked : AskedFacts) → AskBy values asked → ⊥
+-- each option of a number is what they spell
+pub record SpellOptions (values : Values) (facts : OptionFacts) : Type 0 where
+  pub workers : Spells Workers (values.number (name_of Workers)) facts.workers
+  pub established : Spells Established (values.number (name_of Established)) facts.established
+  pub transient : Spells Transient (values.number (name_of Transient)) facts.transient
+  pub udp : Spells Udp (values.number (name_of Udp)) facts.udp
 
--- memory ran out, or the values don't name captures
-abbrev pub AreRefused : List Text → Refusal → Type 0
-AreRefused values Memory = Unit {0}
-AreRefused values (Mistake text) = (captures : List CaptureFacts) → AreNamed values captures → ⊥
+-- memory ran out, or nothing is as it is asked for
+abbrev pub IsRefused : {A : Type 0} → (A → Type 0) → Refusal → Type 0
+IsRefused IsAsked Memory = Unit {0}
+IsRefused {A} IsAsked (Mistake text) = (a : A) → IsAsked a → ⊥

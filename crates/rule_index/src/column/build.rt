@@ -9,8 +9,8 @@ ghost use Rattle.rule_index.specs.Indexes.{Sieves};
 ghost use Rattle.rule_index.specs.inner.Sieves.{Sifts};
 
 use super::Column;
-use super::interval_starts::{place, starts_of};
 use super::interval_rows::fill;
+use super::interval_starts::{place, starts_of};
 use crate::bit_rows::words_for;
 use crate::dimension::Dimension;
 use crate::ranges::ranges_of;

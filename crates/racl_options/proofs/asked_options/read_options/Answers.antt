@@ -1,10 +1,10 @@
 use Rattle.std.proofs.Common.{arith}
-use Rattle.racl_options.specs.CommandLine.{Workers, Established, Transient, Udp, most_of, most_seconds}
+use Rattle.racl_options.specs.CommandLine.{Workers, Established, Transient, Udp, most_of}
 use Rattle.racl_options.proofs.NumberLemmas.{held_below}
 use Rattle.racl_options.proofs.asked_options.read_options.Goals as goal
 
 pub number_at-workers-requires : goal.number_at-workers-requires
-number_at-workers-requires c = held_below (most_of Workers) most_seconds _ (omega arith) c.requires.workers
+number_at-workers-requires c = held_below (most_of Workers) 4294967295 _ (omega arith) c.requires.workers
 
 pub invariant_of-result : goal.invariant_of-result
 invariant_of-result c =

@@ -3,7 +3,7 @@ use Rattle.std.specs.Prelude.{Err, Ok}
 use Rattle.clap.specs.declared.parser.matches.ArgMatches.{ArgMatches}
 use Rattle.racl_options.specs.Asking.{AskBy, asked_facts}
 use Rattle.racl_options.specs.Options.{asked_as}
-use Rattle.racl_options.specs.inner.Naming.{IsMistaken}
+use Rattle.racl_options.specs.inner.Naming.{IsRefused}
 use Rattle.racl_options.proofs.CommandLemmas.{fails_by_fault, numbers_held, one_run, only_memory, same_values}
 use Rattle.racl_options.proofs.SettingLemmas.{written_asks}
 use Rattle.racl_options.proofs.command_line.options.Goals as goal
@@ -34,13 +34,13 @@ returns-clause-refuses c = inr (
   c.in_ok-error-in-Err-Mistake.ensures.kind,
   record {
     faultless = fails_by_fault c.in_ok-command.command _ (Ok c.in-Ok.matches) c.in_ok-command.ensures c.in-Ok.ensures.kinds;
-    nothing = λ asked asks. subst (IsMistaken _) c.in-Err-Mistake.field-0-is c.in-Err-Mistake.ensures asked (subst (λ values. AskBy values asked)
+    nothing = λ asked asks. subst (IsRefused _) c.in-Err-Mistake.field-0-is c.in-Err-Mistake.ensures asked (subst (λ values. AskBy values asked)
         (sym (same_values c.in_ok-command.command _ c.in-Ok.matches c.in_ok-command.ensures c.in-Ok.ensures.ok.2)) asks);
   },
 )
 
 pub returns-clause-accepts : goal.returns-clause-accepts
-returns-clause-accepts c asked asks = absurd (subst (IsMistaken _) c.in-Err-Mistake.field-0-is c.in-Err-Mistake.ensures asked (subst (λ values. AskBy values asked)
+returns-clause-accepts c asked asks = absurd (subst (IsRefused _) c.in-Err-Mistake.field-0-is c.in-Err-Mistake.ensures asked (subst (λ values. AskBy values asked)
     (sym (same_values c.in_ok-command.command _ c.in-Ok.matches c.in_ok-command.ensures c.in-Ok.ensures.ok.2)) asks.asks))
 
 pub returns-clause-written : goal.returns-clause-written

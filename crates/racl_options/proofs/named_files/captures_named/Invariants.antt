@@ -1,6 +1,7 @@
 use Rattle.std.proofs.Common.{◌++◌, List, length, map}
 use Rattle.clap.specs.Walk.{texts}
-use Rattle.racl_options.specs.Origins.{AreNamed, CaptureFacts, capture_facts}
+use Rattle.racl_options.specs.Origins.{CaptureFacts, capture_facts}
+use Rattle.racl_options.proofs.NameLemmas.{AreNamed}
 use Rattle.racl_options.proofs.named_files.captures_named.Given as goal
 
 -- what names the captures that are left, and those so far before them, is all values

@@ -2,8 +2,8 @@ use Rattle.std.proofs.Common.{◌≡◌, ◌∙◌, ◌∷◌, Some, ap, map, ru
 use Rattle.std.specs.Prelude.{count_by, option_map}
 use Rattle.clap.specs.Walk.{Text}
 use Rattle.racl_options.specs.declared.settings.CaptureFile.{CaptureFile}
-use Rattle.racl_options.specs.Origins.{AreApart, capture_facts, is_standard}
-use Rattle.racl_options.proofs.NameLemmas.{apart_by_name, too_many_streams}
+use Rattle.racl_options.specs.Origins.{capture_facts, is_standard}
+use Rattle.racl_options.proofs.NameLemmas.{AreApart, apart_by_name, too_many_streams}
 use Rattle.racl_options.proofs.named_files.interfaces_named.Goals as goal
 
 pub returns-then-streams-from : goal.returns-then-streams-from
