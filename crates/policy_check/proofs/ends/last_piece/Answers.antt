@@ -1,4 +1,4 @@
-use Rattle.std.proofs.Common.{◌≡◌, ◌+◌, ◌++◌, ◌∷◌, ◌∙◌, List, ℕ, ap, arith, length, length-append, sym}
+use Rattle.std.proofs.Common.{◌++◌, ◌∷◌, ◌∙◌, List, ℕ, ap, arith, length, length-append, sym}
 use Rattle.std.proofs.lemmas.List.{append_assoc}
 use Rattle.policy_check.proofs.ends.last_piece.Goals as goal
 
