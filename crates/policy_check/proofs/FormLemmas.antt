@@ -43,6 +43,12 @@ pub traffic_reason : (family : Family) (words rest : List (List ℕ)) (protocol 
 traffic_reason family words rest protocol word proto NoProtocol split is (used, more, name, most, at, has, why) = absurd why
 traffic_reason family words rest protocol word proto reason split is why = (protocol, proto, rest, split, is, why)
 
+pub traffic_wrong : {T E : Type 0} (told : E → Reason) (word : E → List ℕ) (family : Family) (words rest : List (List ℕ)) (protocol : List ℕ) (proto : ℕ)
+    → words ≡ protocol ∷ rest → IsProtocol family protocol proto → (result : Result T E)
+    → IfErr result (λ f. IsPartReason (parts_of family proto) rest (told f) (word f)) → IfErr result (λ f. IsTrafficReason family words (told f) (word f))
+traffic_wrong told word family words rest protocol proto split is (Ok r) wrong = tt
+traffic_wrong told word family words rest protocol proto split is (Err f) wrong = traffic_reason family words rest protocol (word f) proto (told f) split is wrong
+
 -- what is wrong behind some parts is wrong with all of them
 pub part_behind : (parts : Parts) (words used more : List (List ℕ)) (reason : Reason) (word : List ℕ) → words ≡ used ++ more
     → IsPartReason parts (used ++ more) reason word → IsPartReason parts words reason word

@@ -1,7 +1,8 @@
 -- Why the words of a line are of no form, in this project's policy grammar.
-use Rattle.std.specs.Prelude.{◌≡◌, ◌≢◌, ◌<◌, ◌⊎◌, ℕ, List, [], ◌∷◌, ◌++◌, length, codes, Option, Some, None}
+use Rattle.std.specs.Prelude.{◌≡◌, ◌≢◌, ◌<◌, ◌⊎◌, ℕ, ◌/◌, ◌%◌, List, [], ◌∷◌, ◌++◌, length, codes, Option, Some, None}
 use Rattle.packet_view.specs.declared.tuple.Direction.{Direction}
 use Rattle.packet_view.specs.declared.tuple.Family.{Family}
+use Rattle.packet_view.specs.declared.tuple.Family.TheVariants.{V4, V6}
 use Rattle.packet_view.specs.declared.tuple.Mac.{Mac}
 use Rattle.acl_policy.specs.declared.rule.Action.{Action}
 use Rattle.acl_policy.specs.Lines.{IsInterface, action_word, direction_word, family_word}
@@ -10,7 +11,7 @@ use Rattle.policy_words.specs.Prefixes.{IsAddress, IsMac, IsPrefix}
 use Rattle.policy_words.specs.Traffic.{IsFlags, IsProtocol, IsRange, OfIcmp, OfNone, OfTcp, OfUdp, Parts, parts_of}
 use Rattle.policy_words.specs.Widths.{width}
 use Rattle.policy_check.specs.declared.reason.Reason.{Reason}
-use Rattle.policy_check.specs.declared.reason.Reason.TheVariants.{ByteOrderMark, Extra, LongPrefix, Missing, NoAction, NoBreakSpace, NoFamily, NoFlags, NoForm, NoIcmpPart, NoInterface, NoMac, NoParts, NoPrefix, NoProtocol, NoRange, NoStart, NoTcpPart, NoUdpPart, OtherFamily, TooLarge, UpsideDown}
+use Rattle.policy_check.specs.declared.reason.Reason.TheVariants.{ByteOrderMark, DottedEnd, Extra, LongPrefix, Missing, NoAction, NoBreakSpace, NoFamily, NoFlags, NoForm, NoIcmpPart, NoInterface, NoMac, NoParts, NoPrefix, NoProtocol, NoRange, NoStart, NoTcpPart, NoUdpPart, OtherFamily, TooLarge, UpsideDown}
 
 -- Nothing is of this kind, or this is.
 abbrev pub Reads : {A : Type 0} → Option A → (A → Type 0) → Type 0
@@ -50,11 +51,18 @@ IsLong family word =
     (address bits : List ℕ) × (number length : ℕ) × (word ≡ address ++ 47 ∷ bits) × IsAddress family address number
     × IsNumber bits length × (width family < length)
 
+-- Behind a colon an IPv4 address ends the word, or stands before a length (RFC 4291, section 2.2, point 3); its halves.
+abbrev pub HasDottedEnd : List ℕ → ℕ → ℕ → Type 0
+HasDottedEnd word high low =
+    (front dotted rest : List ℕ) × (address : ℕ) × (word ≡ front ++ 58 ∷ (dotted ++ rest)) × IsAddress V4 dotted address
+    × ((rest ≡ []) ⊎ ((bits : List ℕ) × (rest ≡ 47 ∷ bits))) × (high ≡ address / 65536) × (low ≡ address % 65536)
+
 -- Why a word is no prefix of the family.
 abbrev pub IsPrefixReason : Family → List ℕ → Reason → Type 0
 IsPrefixReason family word NoPrefix = (prefix : ℕ × ℕ) → IsPrefix family word prefix → ⊥
 IsPrefixReason family word OtherFamily =
     ((prefix : ℕ × ℕ) → IsPrefix family word prefix → ⊥) × ((other : Family) × (prefix : ℕ × ℕ) × IsPrefix other word prefix)
+IsPrefixReason family word (DottedEnd high low) = (family ≡ V6) × HasDottedEnd word high low
 IsPrefixReason family word (LongPrefix most) = (most ≡ width family) × IsLong family word
 IsPrefixReason family word reason = ⊥
 

@@ -1,8 +1,8 @@
 //! The prefixes of a rule.
-ghost use Rattle.std.specs.Prelude.{◌≡◌, ◌∷◌, ℕ, List, IfErr, IfOk, IsTrue, MatchOption};
+ghost use Rattle.std.specs.Prelude.{◌≡◌, ◌⊎◌, ◌++◌, [], ◌∷◌, ℕ, List, IfErr, IfOk, IfSome, IsTrue, MatchOption};
 ghost use Rattle.policy_words.specs.Prefixes.{IsPrefix};
 ghost use Rattle.policy_words.specs.Words.{words_of};
-ghost use Rattle.policy_check.specs.Reasons.{IsEndReason, IsLong, IsPrefixReason};
+ghost use Rattle.policy_check.specs.Reasons.{HasDottedEnd, IsEndReason, IsLong, IsPrefixReason};
 
 use crate::finding::{Finding, missing, of};
 use crate::readers::{address, cut, next, number, prefix};
@@ -22,6 +22,36 @@ fn is_long(family: Family, word: &[u8]) -> bool
     }
 }
 
+// What stands behind the last colon of a word.
+fn last_piece(word: &[u8]) -> Option<&[u8]>
+    ensures { IfSome result (λ piece. (front : List ℕ) × (word.now ≡ front ++ 58 ∷ piece.now)) }
+{
+    let (_, mut piece) = cut(word, b':')?;
+    'colons: while let Some((_, behind)) = cut(piece, b':') {
+        piece = behind;
+    }
+    Some(piece)
+}
+
+// An address or a prefix up to its length.
+fn before_length(word: &[u8]) -> &[u8]
+    ensures { (rest : List ℕ) × (word.now ≡ result.now ++ rest) × ((rest ≡ []) ⊎ ((bits : List ℕ) × (rest ≡ 47 ∷ bits))) }
+{
+    match cut(word, b'/') {
+        Some((address, _)) => address,
+        None => word,
+    }
+}
+
+// The two groups that stand for the IPv4 address that a word ends in.
+fn dotted_end(word: &[u8]) -> Option<(u16, u16)>
+    ensures { IfSome result (λ groups. HasDottedEnd word.now groups.0 groups.1) }
+{
+    let piece = last_piece(word)?;
+    let number = address(Family::V4, before_length(piece))?;
+    Some(((number / 65536) as u16, (number % 65536) as u16))
+}
+
 fn other_family(family: Family) -> Family {
     match family {
         Family::V4 => Family::V6,
@@ -39,9 +69,12 @@ fn prefix_reason(family: Family, word: &[u8]) -> Option<Reason>
     if is_long(family, word) {
         return Some(Reason::LongPrefix(width_of(family)));
     }
-    match prefix(other_family(family), word) {
-        Some(_) => Some(Reason::OtherFamily),
-        None => Some(Reason::NoPrefix),
+    if let Some(_) = prefix(other_family(family), word) {
+        return Some(Reason::OtherFamily);
+    }
+    match (family, dotted_end(word)) {
+        (Family::V6, Some((high, low))) => Some(Reason::DottedEnd(high, low)),
+        _ => Some(Reason::NoPrefix),
     }
 }
 

@@ -1,5 +1,5 @@
 //! Captures whose first frames have nothing to do with the address of a `mac` line.
-ghost use Rattle.std.specs.Prelude.{◌≡◌, IfSome, IsTrue, false, take};
+ghost use Rattle.std.specs.Prelude.{◌≡◌, ℕ, IfSome, IsTrue, None, false, take};
 ghost use Rattle.packet_view.specs.CheckedCaptures.{remaining};
 ghost use Rattle.acl_policy.specs.Policies.{section_facts};
 ghost use Rattle.policy_check.specs.Foreign.{AreForeign, IsForOne, IsForeignOf, IsOf};
@@ -14,19 +14,22 @@ use thiserror::Error;
 pub struct ForeignMac(pub u8);
 
 fn begins_with(bytes: &[u8], own: Mac) -> bool
-    ensures { result ≡ false → take 6 bytes.now ≡ own.0 → ⊥ }
+    ensures yes { IsTrue result → take 6 bytes.now ≡ own.0 }
+    ensures no { result ≡ false → take 6 bytes.now ≡ own.0 → ⊥ }
 {
     bytes.len() >= 6 && bytes[..6] == own.0[..]
 }
 
 fn is_of(frame: &[u8], own: Mac) -> bool
-    ensures { result ≡ false → IsOf own.0 frame.now → ⊥ }
+    ensures yes { IsTrue result → IsOf own.0 frame.now }
+    ensures no { result ≡ false → IsOf own.0 frame.now → ⊥ }
 {
     begins_with(frame, own) || begins_with(&frame[frame.len().min(6)..], own)
 }
 
 fn is_for_one(frame: &[u8]) -> bool
-    ensures { IsTrue result → IsForOne frame.now }
+    ensures yes { IsTrue result → IsForOne frame.now }
+    ensures no { result ≡ false → IsForOne frame.now → ⊥ }
 {
     match frame {
         [byte, ..] => byte % 2 == 0,
@@ -36,7 +39,8 @@ fn is_for_one(frame: &[u8]) -> bool
 
 // Whether some of these packets is for one station, and none has to do with this address.
 fn are_foreign(own: Mac, packets: Packets<'_>) -> bool
-    ensures { IsTrue result → AreForeign own.0 (remaining packets.entry) }
+    ensures yes { IsTrue result → AreForeign own.0 (remaining packets.entry) }
+    ensures no { result ≡ false → AreForeign own.0 (remaining packets.entry) → ⊥ }
 {
     let mut left = packets;
     let mut some = false;
@@ -50,9 +54,10 @@ fn are_foreign(own: Mac, packets: Packets<'_>) -> bool
 }
 
 /// That the frames that stand whole in these first bytes of the capture of a section's interface have nothing to do with the
-/// address of its `mac` line, though one at least is for one station. Where None is answered nothing is said.
+/// address of its `mac` line, though one at least is for one station; None where that isn't so.
 pub fn foreign_mac(section: &Section, front: &[u8]) -> Option<ForeignMac>
-    ensures { IfSome result (λ told. IsForeignOf (section_facts section.now) front.now told.0) }
+    ensures holds { IfSome result (λ told. IsForeignOf (section_facts section.now) front.now told.0) }
+    ensures none { result ≡ None → (number : ℕ) → IsForeignOf (section_facts section.now) front.now number → ⊥ }
 {
     let Some(own) = section.own else {
         return None;

@@ -1,5 +1,6 @@
 //! The words of a line, and what a word says.
-ghost use Rattle.std.specs.Prelude.{◌≡◌, ◌++◌, ◌∷◌, [], IfSome, IsTrue, MatchOption};
+ghost use Rattle.std.specs.Prelude.{◌≡◌, ◌<◌, ◌++◌, ◌∷◌, [], IfSome, IsTrue, MatchOption};
+ghost use Rattle.packet_view.specs.Addresses.{address_limit};
 ghost use Rattle.acl_policy.specs.Lines.{IsInterface, action_word, direction_word, family_word};
 ghost use Rattle.policy_words.specs.Numerals.{IsNumber};
 ghost use Rattle.policy_words.specs.Prefixes.{IsAddress, IsMac, IsPrefix};
@@ -56,7 +57,8 @@ pub fn prefix(family: Family, word: &[u8]) -> Option<(u128, u8)>
 }
 
 pub fn address(family: Family, word: &[u8]) -> Option<u128>
-    ensures { Reads result (IsAddress family word.now) }
+    ensures value { Reads result (IsAddress family word.now) }
+    ensures fits { IfSome result (λ address. address < address_limit family) }
 {
     acl_policy::address_of(family, word)
 }

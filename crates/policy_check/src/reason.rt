@@ -23,6 +23,9 @@ pub enum Reason {
     /// It is a prefix of the other family.
     #[error("is of the other family")]
     OtherFamily,
+    /// It is an address of IPv6, or a prefix of one, that ends in an IPv4 address, which has these groups.
+    #[error("ends in an IPv4 address, which is written as two groups: {0:x}:{1:x}")]
+    DottedEnd(u16, u16),
     /// The length of its prefix is more than so many bits.
     #[error("has a prefix of more than {0} bits")]
     LongPrefix(u8),

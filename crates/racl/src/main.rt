@@ -4,6 +4,7 @@
 
 ghost use Rattle.std.specs.Prelude.{◌<◌, ◌-◌, ◌^◌};
 
+mod faulty;
 mod input_files;
 mod named_reader;
 mod policy_remarks;
@@ -11,6 +12,7 @@ mod progress;
 mod save_file;
 mod saved_packets;
 
+use crate::faulty::faulty;
 use crate::input_files::{interface_at, name_at, opened_or_told, opened_parts, policy_name};
 use crate::named_reader::{Reader, bytes_of, held};
 use crate::policy_remarks::{Seen, say_foreign, say_unlooked};
@@ -261,29 +263,38 @@ fn say_more(
             seen_in(alloc, origin, reader).as_slice(),
         );
     }
+    if let Err(fault) = outcome {
+        say_remark(rt, alloc, origin, reader, *fault)?;
+    }
     if let Some(hint) = hint(outcome, policy.get_ref().as_slice()) {
         rt.eprintln(&hint)?;
     }
-    say_remark(rt, origin, reader, outcome)
+    Ok(())
 }
 
-// Says which capture file isn't read for what it is, where the run ended with a fault of its header.
+// Says which capture has the fault that a run ended with, where there are several, and what it is where it isn't read for that.
 fn say_remark(
     rt: &HostRuntime,
+    alloc: Global,
     origin: &Origin<'_>,
     reader: &Joined<Reader>,
-    outcome: &Result<Totals, Fault>,
+    fault: Fault,
 ) -> io::Result<()> {
-    // Of more captures two are of one interface, which is told before.
-    for place in 0..256 {
-        let (Some(name), Some(front)) = (name_at(origin, place), reader.front(place)) else {
-            return Ok(());
-        };
-        if let Some(other) = remark(outcome, front) {
-            return rt.eprintln(&Remark { name, other });
-        }
+    let Some(place) = faulty(rt, alloc, origin, reader, fault) else {
+        return Ok(());
+    };
+    let (Some(name), Some(interface)) = (name_at(origin, place), interface_at(origin, place)) else {
+        return Ok(());
+    };
+    if let Some(front) = reader.front(place)
+        && let Some(other) = remark(&Err(fault), front)
+    {
+        return rt.eprintln(&Remark { name, other });
     }
-    Ok(())
+    if name_at(origin, 1).is_none() {
+        return Ok(());
+    }
+    rt.eprintln(format_args!("racl: that is {name}, the capture of interface {interface}"))
 }
 
 // Says what is to be said, and answers the status.

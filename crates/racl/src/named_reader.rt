@@ -4,7 +4,10 @@ use racl_cli::{Device, Fault, MOST_BYTES, read_until};
 use std::alloc::Global;
 use std::fs::File;
 use std::io;
-use std::io::{Cursor, ErrorKind, Read, Stdin};
+use std::io::{Cursor, Read, Stdin};
+
+/// The number of the system's reason for what a folder refuses (Linux: EISDIR).
+const IS_A_DIRECTORY: i32 = 21;
 
 /// Standard input, a file, or what one of these had.
 #[derive(Drop)]
@@ -32,7 +35,7 @@ pub fn opened(rt: &HostRuntime, name: &str) -> io::Result<Reader> {
     }
     let file = File::open(rt, name)?;
     if file.metadata()?.is_dir() {
-        return Err(io::Error::from(ErrorKind::IsADirectory));
+        return Err(io::Error::from_raw_os_error(IS_A_DIRECTORY));
     }
     Ok(Reader::File(file))
 }

@@ -23,7 +23,7 @@ pub enum Other {
     #[error("compressed; the file that is read is made by: zstdcat IN > OUT")]
     Zstd,
     /// Its records' headers are longer.
-    #[error("modified pcap; capture one interface by its name: tcpdump -i NAME -w OUT")]
+    #[error("modified pcap; a capture that is read is made by: editcap -F pcap IN OUT")]
     Modified,
     /// Link types 113 and 276, as of several interfaces at once.
     #[error("of Linux cooked frames; capture one interface by its name: tcpdump -i NAME -w OUT")]

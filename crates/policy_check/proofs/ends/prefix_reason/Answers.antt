@@ -2,6 +2,3 @@ use Rattle.policy_check.proofs.ends.prefix_reason.Goals as goal
 
 pub returns-in-Some : goal.returns-in-Some
 returns-in-Some c = (c.in-None.ensures, (c.other_family.result, c.in-Some.field-0, c.in-Some.ensures))
-
-pub returns-in-None-prefix : goal.returns-in-None-prefix
-returns-in-None-prefix c = c.in-None.ensures

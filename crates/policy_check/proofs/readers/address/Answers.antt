@@ -4,7 +4,7 @@ use Rattle.policy_words.specs.inner.Reading.Prefixes.{address_in}
 use Rattle.policy_check.proofs.ReaderLemmas.{read_as}
 use Rattle.policy_check.proofs.readers.address.Goals as goal
 
-pub returns : goal.returns
-returns c =
+pub returns-clause-value : goal.returns-clause-value
+returns-clause-value c =
     let w = c.args.word.now in
     read_as (address_in c.args.family w) c.address_of.result (IsAddress c.args.family w) c.address_of.ensures.value (λ n found. address_in-sound c.args.family w n found) (λ n is. address_in-complete c.args.family w n is)

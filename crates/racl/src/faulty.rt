@@ -1,0 +1,48 @@
+//! Which of several captures has the fault that a run ended with.
+
+use crate::input_files::name_at;
+use crate::named_reader::{Reader, bytes_of, opened};
+use packet_view::check_capture;
+use racl_cli::{Fault, Joined, Origin};
+use std::alloc::Global;
+use std::fs::metadata;
+
+fn has_fault(bytes: &[u8], fault: Fault) -> bool {
+    match check_capture(bytes, 0) {
+        Ok(_) => false,
+        Err(found) => Fault::from(found) == fault,
+    }
+}
+
+// The bytes of a file once more. None where that isn't to be had, as of a pipe.
+fn read_again(rt: &HostRuntime, alloc: Global, name: &str) -> Option<Vec<u8>> {
+    if name == "-" || !metadata(rt, name).ok()?.is_file() {
+        return None;
+    }
+    bytes_of(alloc, opened(rt, name).ok()?).ok()
+}
+
+/// The place of the first capture that has this fault, from 0; None where no capture is known to be that one. Faults of a
+/// header are found in the first bytes that were read; for a record that is too long the files are read again. No clause says
+/// which it is, as of `opened`.
+pub fn faulty(
+    rt: &HostRuntime,
+    alloc: Global,
+    origin: &Origin<'_>,
+    reader: &Joined<Reader>,
+    fault: Fault,
+) -> Option<usize> {
+    // Of more captures two are of one interface, which is told before.
+    for place in 0..256 {
+        let name = name_at(origin, place)?;
+        if has_fault(reader.front(place)?, fault) {
+            return Some(place);
+        }
+        if let Fault::LongRecord(_) = fault
+            && has_fault(read_again(rt, alloc, name)?.as_slice(), fault)
+        {
+            return Some(place);
+        }
+    }
+    None
+}
