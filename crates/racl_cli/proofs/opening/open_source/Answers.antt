@@ -1,6 +1,5 @@
 use Rattle.std.proofs.Common.{◌≡◌, ◌+◌, Err, arith, inl, length, refl, subst}
 use Rattle.std.proofs.lemmas.Result.{IfErr-weaker}
-use Rattle.racl_io.specs.Inputs.{most_bytes}
 use Rattle.racl_io.proofs.TransferLemmas.{gave_fewer, within_of_err}
 use Rattle.racl_cli.specs.Reads.{IsUnread}
 use Rattle.racl_cli.proofs.ReadLemmas.{answers_whole, front_read, front_rest, unread_before, within_more, within_opened}
