@@ -30,7 +30,7 @@ use Rattle.racl_io.specs.declared.report.Captured.{Captured}
 use Rattle.racl_io.specs.declared.report.Totals.{Totals}
 use Rattle.racl_io.specs.Faults.{IsFaultOfBytes, IsFaultOfContent, IsSystemFault, capture_fault, policy_fault}
 use Rattle.racl_io.specs.Inputs.{IsContent, IsInput, InputFacts, most_bytes}
-use Rattle.racl_cli.specs.Crews.{AreAfter, AreSaidBy, Orders, orders_for, size_of, views_with}
+use Rattle.racl_cli.specs.Crews.{AreAfter, AreIdleOf, AreSaidBy, Orders, orders_for, size_of, views_with}
 use Rattle.capture_stream.specs.Streams.{AreAllRead, records_in}
 use Rattle.capture_stream.specs.declared.stream.Opening.{Opening}
 use Rattle.flow_dealing.specs.WorkerRecords.{HavePages}
@@ -39,7 +39,7 @@ use Rattle.racl_cli.specs.declared.sized.SizedTables.{SizedTables}
 use Rattle.racl_cli.specs.declared.sized.SizedWorkers.{SizedWorkers}
 use Rattle.racl_cli.specs.Reads.{AnswersInput, AreKnown, HasJudged, HasKept, IsReached, IsSaid, IsUnnumbered}
 use Rattle.racl_cli.specs.inner.Stored.{HasStored}
-use Rattle.racl_cli.specs.inner.Streams.{HasEnded, HasSaidAll}
+use Rattle.racl_cli.specs.inner.Streams.{HasEnded}
 use Rattle.racl_cli.specs.inner.Views.{HasReport, MayTell, needs_bytes}
 use Rattle.racl_cli.specs.Runs.{AreStoredOf, ByOneThread, ByWorkers, HasOutcome, HasReported, HasRun, IsRead, JudgedFacts, Outcome, bucket_deal, layout_for, told_of}
 use Rattle.racl_cli.proofs.CaptureLaws.{alone_plain, fault_of_known, fault_plain, one_truncated, plain_alone, plain_fault}
@@ -92,26 +92,6 @@ reached_by options set ready tables workers orders packets ended judged timed so
       told = refl;
     })
 
--- what is answered of all records where workers who had these orders said it
-pub judged_by_orders : (options : Options) (set : Filter) (ready : InterfaceFilters) (tables : SizedTables) (workers : ℕ) (orders : Orders)
-    (opening : Opening) (before after : Option (List ℕ)) (ended : Ended) (judged : JudgedFacts)
-    → set.times ≡ options.times → 1 ≤ workers → workers ≤ options.workers → orders ≡ orders_for tables ready workers → size_of tables ≡ options.tables
-    → ready.times ≡ set.times → ready.policy.now ≡ set.policy → HasSaidAll orders opening before after ended → HasStored options tables ended judged
-    → HasJudged options (policy_facts set.policy) opening before after judged
-judged_by_orders options set ready tables workers orders opening before after ended judged timed some few given sized times policy s has =
-    let packets = packets_at 0 s.packets in
-    record {
-      read = s.read;
-      whole = s.whole;
-      packets = s.packets;
-      rest = s.rest;
-      records = s.records;
-      truncated = s.truncated;
-      end = s.end;
-      reached = subst (λ cs. IsReached options (policy_facts set.policy) packets cs judged) s.told
-          (reached_by options set ready tables workers orders packets ended judged timed some few given sized times policy s.said has);
-    }
-
 -- each packet has a verdict
 pub judged_count : (d : Deal) (times : Timeouts) (policy : PolicyFacts) (packets : List PacketFacts) (verdicts : List Verdict)
     → AreJudged d times policy packets verdicts → length verdicts ≡ length packets
@@ -119,19 +99,33 @@ judged_count d times policy packets verdicts is =
     ap length is.said ∙ length-map is.judged (verdict_on times) ∙ sym (length-map is.judged (λ j. j.reading))
     ∙ sym (zip_count (IsReading policy) packets (readings_of is.judged) is.read)
 
--- what is answered of all records where workers who judged them ended
-pub said_at_end : {T : Type 0} (orders : Orders) (after_all : SizedWorkers T) (opening : Opening) (before after : Option (List ℕ)) (read : List ℕ)
-    (packets : List RecordFacts) (rest : List ℕ) (truncated : Bool) (result : Result Ended Fault)
-    → AreAllRead before after opening read → AreRecords opening.order (records_in opening read) packets rest → IsEnd opening.order rest (end_of truncated)
-    → AreAfter orders (packets_at 0 packets) after_all → IfOk result (HasEnded after_all truncated) → IfOk result (HasSaidAll orders opening before after)
-said_at_end orders after_all opening before after read packets rest truncated (Ok ended) whole records end judged is =
-    let verdicts = ended.verdicts.items in
-    let said : AreSaidBy orders (packets_at 0 packets) verdicts ended.callers =
-    subst (λ o. AreSaidBy o (packets_at 0 packets) verdicts ended.callers) judged.given (is.said (packets_at 0 packets) judged.rest) in
-    let counted : length verdicts ≡ length (packets_at 0 packets) =
-    judged_count orders.deal orders.times orders.policy (packets_at 0 packets) verdicts said.said.0 in
-    let told : ended.captures.items ≡ told_of None (packets_at 0 packets) truncated ∷ [] =
-    is.told ∙ ap (λ n. record { named = None; packets = n; truncated = truncated } ∷ []) counted in
+-- what workers said who ended, and what is told of the capture whose packets they judged
+pub said_at_end : {T : Type 0} (orders : Orders) (workers : SizedWorkers T) (packets : List PacketFacts) (truncated : Bool) (ended : Ended)
+    → AreAfter orders packets workers → HasEnded workers truncated ended
+    → AreSaidBy orders packets ended.verdicts.items ended.callers × (ended.captures.items ≡ told_of None packets truncated ∷ [])
+said_at_end orders workers packets truncated ended judged is =
+    let said : AreSaidBy orders packets ended.verdicts.items ended.callers =
+    subst (λ o. AreSaidBy o packets ended.verdicts.items ended.callers) judged.given (is.said packets judged.rest) in
+    let counted = judged_count orders.deal orders.times orders.policy packets ended.verdicts.items said.said.0 in
+    (said, is.told ∙ ap (λ n. record { named = None; packets = n; truncated = truncated } ∷ []) counted)
+
+-- callers of these tables hold nothing
+pub idle_at_end : (tables : SizedTables) (ready : InterfaceFilters) (workers : ℕ) (orders : Orders) (packets : List PacketFacts) (ended : Ended)
+    → orders ≡ orders_for tables ready workers → AreSaidBy orders packets ended.verdicts.items ended.callers → AreIdleOf tables ended.callers
+idle_at_end tables ready workers orders packets ended given said = subst (λ (o : Orders). AreIdleOf o.tables ended.callers) given said.idle
+
+-- what is answered of all records where workers who had these orders judged them, and ended
+pub judged_by_orders : {T : Type 0} (options : Options) (set : Filter) (ready : InterfaceFilters) (tables : SizedTables) (workers : ℕ) (orders : Orders)
+    (opening : Opening) (before after : Option (List ℕ)) (read : List ℕ) (packets : List RecordFacts) (rest : List ℕ) (truncated : Bool)
+    (judges : SizedWorkers T) (ended : Ended) (judged : JudgedFacts)
+    → set.times ≡ options.times → 1 ≤ workers → workers ≤ options.workers → orders ≡ orders_for tables ready workers → size_of tables ≡ options.tables
+    → ready.times ≡ set.times → ready.policy.now ≡ set.policy → AreAllRead before after opening read
+    → AreRecords opening.order (records_in opening read) packets rest → IsEnd opening.order rest (end_of truncated)
+    → AreAfter orders (packets_at 0 packets) judges → HasEnded judges truncated ended → HasStored options tables ended judged
+    → HasJudged options (policy_facts set.policy) opening before after judged
+judged_by_orders options set ready tables workers orders opening before after read packets rest truncated judges ended judged timed some few given sized
+    times policy whole records end at is has =
+    let said = said_at_end orders judges (packets_at 0 packets) truncated ended at is in
     record {
       read = read;
       whole = whole;
@@ -140,10 +134,9 @@ said_at_end orders after_all opening before after read packets rest truncated (O
       records = records;
       truncated = truncated;
       end = end;
-      said = said;
-      told = told;
+      reached = subst (λ cs. IsReached options (policy_facts set.policy) (packets_at 0 packets) cs judged) said.1
+          (reached_by options set ready tables workers orders (packets_at 0 packets) ended judged timed some few given sized times policy said.0 has);
     }
-said_at_end orders after_all opening before after read packets rest truncated (Err fault) whole records end judged is = tt
 
 -- ---- an input without a right policy
 

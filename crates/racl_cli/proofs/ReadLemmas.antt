@@ -1,7 +1,7 @@
 -- An input that is read.
 use Rattle.std.specs.Io.KnownBytes.{Consumes, IsAtEnd}
-use Rattle.std.proofs.KnownBytes.{Consumes-all}
-use Rattle.std.proofs.Common.{◌≡◌, ◌∙◌, ◌+◌, ◌-◌, ◌<◌, ◌≤◌, ◌⊎◌, ℕ, Bool, true, false, List, [], ◌++◌, Option, Some, None, IfOk, IfSome, Result, Ok, Err, length, append-nil, append_assoc, arith, refl, sym, ap, subst, inl, inr}
+use Rattle.std.proofs.KnownBytes.{Consumes-all, Consumes-trans}
+use Rattle.std.proofs.Common.{◌≡◌, ◌∙◌, ◌+◌, ◌-◌, ◌<◌, ◌≤◌, ◌⊎◌, ℕ, Bool, true, false, List, [], ◌++◌, Option, Some, None, IfOk, IfSome, Result, Ok, Err, IfErr, length, append_assoc, arith, refl, sym, ap, subst, inl, inr}
 use Rattle.std.proofs.lemmas.List.{length-append}
 use Rattle.session_state.specs.declared.timeouts.Timeouts.{Timeouts}
 use Rattle.racl_options.specs.declared.settings.Options.{Options}
@@ -12,7 +12,7 @@ use Rattle.racl_io.specs.Faults.{IsInputFault, IsSystemFault}
 use Rattle.racl_io.specs.Transfers.{GaveAtMost, HasRead, HasReadWithin, failures_after_reads}
 use Rattle.racl_io.proofs.TransferLemmas.{gave_more}
 use Rattle.racl_io.specs.Inputs.{most_bytes}
-use Rattle.racl_cli.specs.Reads.{AnswersInput, AnswersRead, AreKnown, HasKept, IsUnread}
+use Rattle.racl_cli.specs.Reads.{AnswersInput, AnswersRead, AreKnown, HasKept, HasRest, IsUnread}
 use Rattle.racl_cli.specs.Runs.{HasOutcome, JudgedFacts, Outcome}
 use Rattle.racl_cli.proofs.RunLemmas.{IsWhole, device_or, excluded_by_input, fault_of_input, no_device, steady}
 
@@ -37,7 +37,7 @@ many_before count (Some known) None read consumed many = absurd consumed
 many_before count (Some known) (Some left) read consumed many =
     let whole = ap length consumed in let sizes = length-append read left in omega arith
 
-unread_before : (count : ℕ) (before after : Option (List ℕ)) (read : List ℕ) (fault : Fault) → Consumes before after read → IsUnread (count + length read) after fault
+pub unread_before : (count : ℕ) (before after : Option (List ℕ)) (read : List ℕ) (fault : Fault) → Consumes before after read → IsUnread (count + length read) after fault
     → IsUnread count before fault
 unread_before count before after read fault consumed (inl memory) = inl memory
 unread_before count before after read fault consumed (inr (inl failed)) = inr (inl failed)
@@ -49,7 +49,7 @@ known_before (Some all) None read more consumed known = absurd consumed
 known_before (Some all) (Some left) read more consumed known = ap (λ bytes. read ++ bytes) known ∙ sym consumed
 
 -- what is answered after more was read behind a front is answered of the front and all that the source had
-answers_more : (options : Options) (before after : Option (List ℕ)) (front read : List ℕ) (result : Result JudgedFacts Fault) → Consumes before after read
+pub answers_more : (options : Options) (before after : Option (List ℕ)) (front read : List ℕ) (result : Result JudgedFacts Fault) → Consumes before after read
     → AnswersRead options (front ++ read) after result → AnswersRead options front before result
 answers_more options before after front read result consumed (inl (fault, same, unread)) =
     inl (
@@ -67,44 +67,46 @@ answers_more options before after front read result consumed (inr whole) =
       answers = subst (λ (b : List ℕ). AnswersInput options b result) one whole.answers;
     })
 
-pub answers_on : (options : Options) (before after : Option (List ℕ)) (old front all : List ℕ) (least : ℕ) (at_end : Bool) (result : Result JudgedFacts Fault)
-    → old ≡ front → HasRead before after old all least at_end → AnswersRead options all after result → AnswersRead options front before result
-answers_on options before after old front all least at_end result same has answers =
-    answers_more options before after front has.read result has.consumed
-    (subst (λ (b : List ℕ). AnswersRead options b after result) (has.appended ∙ ap (λ (b : List ℕ). b ++ has.read) same) answers)
+-- what is answered of bytes is answered of a source that had them
+pub answers_whole : (options : Options) (before after : Option (List ℕ)) (bytes : List ℕ) (result : Result JudgedFacts Fault) → Consumes before after bytes
+    → IsAtEnd after → length bytes ≤ most_bytes → AnswersInput options bytes result → AnswersRead options [] before result
+answers_whole options before after bytes result consumed ended few answers =
+    inr (record { read = bytes; known = all_known before after bytes consumed ended; few = few; answers = answers })
 
--- what was read is all of an input
-at_end_known : (before : Option (List ℕ)) → IsAtEnd before → AreKnown before []
-at_end_known None ended = tt
-at_end_known (Some known) ended = sym ended
+-- the front of an input isn't too much
+pub front_read : (before after : Option (List ℕ)) (old all : List ℕ) (least : ℕ) (at_end : Bool) → old ≡ [] → least ≤ most_bytes
+    → HasRead before after old all least at_end → Consumes before after all × (length all ≤ most_bytes)
+front_read before after old all least true empty fits has =
+    let same = has.appended ∙ ap (λ (b : List ℕ). b ++ has.read) empty in let short = (has.ended refl).1 in
+    (subst (Consumes before after) (sym same) has.consumed, omega arith)
+front_read before after old all least false empty fits has =
+    let same = has.appended ∙ ap (λ (b : List ℕ). b ++ has.read) empty in let enough = has.enough refl in let none = ap length empty in
+    (subst (Consumes before after) (sym same) has.consumed, omega arith)
 
-pub answers_ended : (options : Options) (before : Option (List ℕ)) (bytes : List ℕ) (result : Result JudgedFacts Fault) → IsAtEnd before → length bytes ≤ most_bytes
-    → AnswersInput options bytes result → AnswersRead options bytes before result
-answers_ended options before bytes result ended few answers = inr (record {
-  read = [];
-  known = at_end_known before ended;
-  few = subst (λ (b : List ℕ). length b ≤ most_bytes) (sym (append-nil bytes)) few;
-  answers = subst (λ (b : List ℕ). AnswersInput options b result) (sym (append-nil bytes)) answers;
-})
+-- and with what was left it is all
+pub front_rest : (before now after : Option (List ℕ)) (front all : List ℕ) → Consumes before now front → HasRest now after front all → Consumes before after all
+front_rest before now after front all consumed rest =
+    subst (Consumes before after) (sym rest.appended) (Consumes-trans before now after front rest.read consumed rest.consumed)
 
--- what the source gave after more was read behind a front
-gave_behind : (before now after : Option (List ℕ)) (front all : List ℕ) (least : ℕ) (at_end : Bool) → least ≤ most_bytes + 1
-    → HasRead before now front all least at_end → GaveAtMost now after (most_bytes + 1 - length all) → GaveAtMost before after (most_bytes + 1 - length front)
-gave_behind before now after front all least true fits has (more, consumed, few) =
-    let same = ap length has.appended in let sizes = length-append front has.read in let short = (has.ended refl).1 in
-    gave_more before now after has.read more _ (omega arith) has.consumed consumed
-gave_behind before now after front all least false fits has (more, consumed, few) =
-    let same = ap length has.appended in let sizes = length-append front has.read in let enough = has.enough refl in
-    gave_more before now after has.read more _ (omega arith) has.consumed consumed
+-- no read failed after which an input was opened
+pub within_opened : {R X Y : Type 0} (left : R → Option (List ℕ)) (failures : R → ℕ) (most : ℕ) (before after : R) (value : X) (options : Options)
+    (bytes : List ℕ) (result : Result Y Fault) → IfErr result (λ fault. AnswersInput options bytes (Err fault))
+    → HasReadWithin {X = X} left failures most before after (Ok value) → HasReadWithin left failures most before after result
+within_opened {Y = Y} left failures most before after value options bytes (Ok y) answers within = record { gave = within.gave; failed = within.failed }
+within_opened {Y = Y} left failures most before after value options bytes (Err fault) answers within =
+    record { gave = within.gave; failed = within.failed ∙ sym (steady Y (failures before) fault (no_device options bytes fault answers).0) }
 
-pub within_on : {R X : Type 0} (left : R → Option (List ℕ)) (failures : R → ℕ) (before now after : R) (old front all : List ℕ) (least : ℕ) (at_end : Bool)
-    (result : Result X Fault) → old ≡ front → least ≤ most_bytes + 1 → HasRead (left before) (left now) old all least at_end → failures now ≡ failures before
-    → HasReadWithin left failures (most_bytes + 1 - length all) now after result → HasReadWithin left failures (most_bytes + 1 - length front) before after result
-within_on left failures before now after old front all least at_end result same fits has sound within = record {
-  gave = gave_behind (left before) (left now) (left after) front all least at_end fits
-      (subst (λ (b : List ℕ). HasRead (left before) (left now) b all least at_end) same has) within.gave;
-  failed = subst (λ n. failures after ≡ failures_after_reads n result) sound within.failed;
-}
+-- what the source gave after a front was read
+pub within_more : {R X : Type 0} (left : R → Option (List ℕ)) (failures : R → ℕ) (before now after : R) (front : List ℕ) (result : Result X Fault)
+    → Consumes (left before) (left now) front → length front ≤ most_bytes → failures now ≡ failures before
+    → HasReadWithin left failures (most_bytes + 1 - length front) now after result → HasReadWithin left failures (most_bytes + 1) before after result
+within_more left failures before now after front result consumed few sound within =
+    let gave = within.gave in
+    let fits = gave.2 in
+    record {
+      gave = gave_more (left before) (left now) (left after) front gave.0 _ (omega arith) consumed gave.1;
+      failed = subst (λ n. failures after ≡ failures_after_reads n result) sound within.failed;
+    }
 
 -- a source at its end gives nothing
 pub gave_none : (before after : Option (List ℕ)) (most other : ℕ) → IsAtEnd before → GaveAtMost before after most → GaveAtMost before after other
@@ -219,10 +221,9 @@ pub sound_again : (before after : ℕ) (result : Result JudgedFacts Fault) → a
     → after ≡ failures_after_reads before result
 sound_again before after (Ok outcome) same never = same
 sound_again before after (Err fault) same never =
-    same ∙ sym (steady before fault (λ is. absurd (let f : 0 ≡ 0 + 1 = subst (λ e. 0 ≡ failures_after_reads {X = JudgedFacts} 0 (Err e)) is never in omega arith)))
+    same ∙ sym (steady JudgedFacts before fault (λ is. absurd (let f : 0 ≡ 0 + 1 = subst (λ e. 0 ≡ failures_after_reads {X = JudgedFacts} 0 (Err e)) is never in omega arith)))
 
 -- all that the source had is kept
-pub known_kept : (before after : Option (List ℕ)) (old kept : List ℕ) (least : ℕ) (at_end : Bool) → old ≡ [] → at_end ≡ true
-    → HasRead before after old kept least at_end → AreKnown before kept
-known_kept before after old kept least at_end empty ended has =
-    known_as before kept has.read (all_known before after has.read has.consumed (has.ended ended).0) (has.appended ∙ ap (λ (b : List ℕ). b ++ has.read) empty)
+pub known_kept : (before after : Option (List ℕ)) (old kept : List ℕ) → old ≡ [] → HasRest before after old kept → AreKnown before kept
+known_kept before after old kept empty rest =
+    known_as before kept rest.read (all_known before after rest.read rest.consumed rest.ended) (rest.appended ∙ ap (λ (b : List ℕ). b ++ rest.read) empty)

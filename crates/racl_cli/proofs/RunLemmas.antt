@@ -1,5 +1,5 @@
 -- What an input says, and its faults, are those of its parts.
-use Rattle.std.proofs.Common.{◌≡◌, ◌≢◌, ◌≤◌, ◌∙◌, ◌⊎◌, ℕ, Bool, List, [], ◌∷◌, Option, Some, None, IfErr, IfSome, Result, Ok, Err, length, arith, refl, sym, ap, subst, inl, inr}
+use Rattle.std.proofs.Common.{◌≡◌, ◌≢◌, ◌≤◌, ◌∙◌, ◌⊎◌, ℕ, Bool, List, [], ◌∷◌, Option, Some, None, IfSome, Result, Ok, Err, length, arith, refl, sym, ap, subst, inl, inr}
 use Rattle.packet_view.specs.Captures.{IsCaptureAt, PacketFacts, end_of}
 use Rattle.acl_policy.specs.Policies.{IsPolicyFault, IsPolicyText, PolicyFacts}
 use Rattle.acl_policy.specs.declared.policy.PolicyFault.{PolicyFault}
@@ -162,36 +162,26 @@ no_device options bytes fault answers = (
   (λ same. subst IsOfInput same (bytes_of_input bytes fault (answers.fault (λ memory. let f : ⊥ = cc in f)))),
 )
 
-pub steady : (n : ℕ) (fault : Fault) → (fault ≡ Read → ⊥) → failures_after_reads {X = JudgedFacts} n (Err fault) ≡ n
-steady n Read other = absurd (other refl)
-steady n Memory other = refl
-steady n Write other = refl
-steady n TooLarge other = refl
-steady n NoCapture other = refl
-steady n NotUtf8 other = refl
-steady n (BadLine number) other = refl
-steady n (TooMany number) other = refl
-steady n (Twice number) other = refl
-steady n Hex other = refl
-steady n Short other = refl
-steady n Magic other = refl
-steady n Version other = refl
-steady n LinkType other = refl
-steady n (LongRecord number) other = refl
+pub steady : (X : Type 0) (n : ℕ) (fault : Fault) → (fault ≡ Read → ⊥) → failures_after_reads {X = X} n (Err fault) ≡ n
+steady X n Read other = absurd (other refl)
+steady X n Memory other = refl
+steady X n Write other = refl
+steady X n TooLarge other = refl
+steady X n NoCapture other = refl
+steady X n NotUtf8 other = refl
+steady X n (BadLine number) other = refl
+steady X n (TooMany number) other = refl
+steady X n (Twice number) other = refl
+steady X n Hex other = refl
+steady X n Short other = refl
+steady X n Magic other = refl
+steady X n Version other = refl
+steady X n LinkType other = refl
+steady X n (LongRecord number) other = refl
 
 -- a source from which nothing is read answers what the bytes do
 pub within_unread : {R : Type 0} (left : R → Option (List ℕ)) (failures : R → ℕ) (most : ℕ) (source : R) (options : Options) (bytes : List ℕ)
     (result : Result JudgedFacts Fault) → AnswersInput options bytes result → HasReadWithin left failures most source source result
 within_unread left failures most source options bytes (Ok outcome) answers = record { gave = gave_none (left source) most; failed = refl }
 within_unread left failures most source options bytes (Err fault) answers =
-    record { gave = gave_none (left source) most; failed = sym (steady (failures source) fault (no_device options bytes fault answers).0) }
-
--- what was read, where nothing more was and memory alone can be wanting
-pub within_memory : {R X Y : Type 0} (left : R → Option (List ℕ)) (failures : R → ℕ) (most : ℕ) (before after : R) (value : X)
-    (result : Result Y Fault) → IfErr result (λ fault. fault ≡ Memory) → HasReadWithin {X = X} left failures most before after (Ok value)
-    → HasReadWithin left failures most before after result
-within_memory {X = X} {Y = Y} left failures most before after value (Ok y) memory within = record { gave = within.gave; failed = within.failed }
-within_memory {X = X} {Y = Y} left failures most before after value (Err fault) memory within = record {
-  gave = within.gave;
-  failed = subst (λ (e : Fault). failures after ≡ failures_after_reads {X = Y} (failures before) (Err e)) (sym memory) within.failed;
-}
+    record { gave = gave_none (left source) most; failed = sym (steady JudgedFacts (failures source) fault (no_device options bytes fault answers).0) }

@@ -146,9 +146,9 @@ all_behind bytes from = ap (λ n. take n (drop from bytes)) (sym (length-drop fr
 
 -- amid the captures that a walk began with
 pub record IsAmid {T : Type 0} (begun walk : Walk T) : Type 0 where
-  pub by : orders_of walk.workers ≡ orders_of begun.workers
+  pub by : orders_of walk.crew.workers ≡ orders_of begun.crew.workers
   pub packets : List PacketFacts
-  pub rest : AreResting packets walk.workers
+  pub rest : AreResting packets walk.crew.workers
   pub taken : (more : List PacketFacts) (others : List Captured) → AreTakenFrom walk.seen.items (numbered_facts walk.next) more others
       → AreTakenFrom [] (numbered_facts begun.next) (packets ++ more) (walk.captures.items ++ others)
   pub fault : (fault : Fault) → IsFaultFrom walk.seen.items (numbered_facts walk.next) fault → IsFaultFrom [] (numbered_facts begun.next) fault

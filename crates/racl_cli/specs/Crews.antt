@@ -97,17 +97,6 @@ pub record AreAfter {T : Type 0} (orders : Orders) (packets : List PacketFacts) 
   pub given : orders_of workers ≡ orders
   pub rest : AreResting packets workers
 
--- whatever packets they judged so far, these may follow
-pub record MayFollow {T : Type 0} (workers : SizedWorkers T) (more : Packets) : Type 0 where
-  pub packets : List PacketFacts
-  pub rest : AreResting packets workers
-  pub fits : length packets + length (remaining more) < 2 ^ 64
-
--- they judged these packets too
-pub record HaveFollowedOn {T : Type 0} (old : SizedWorkers T) (more : Packets) (new : SizedWorkers T) : Type 0 where
-  pub orders : orders_of new ≡ orders_of old
-  pub rest : (packets : List PacketFacts) → AreResting packets old → AreResting (packets ++ remaining more) new
-
 -- they judged some packets
 abbrev pub HaveJudgedSome : {T : Type 0} → SizedWorkers T → Type 0
 HaveJudgedSome workers = (packets : List PacketFacts) × AreResting packets workers

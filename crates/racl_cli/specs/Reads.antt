@@ -1,7 +1,7 @@
 -- What is answered of an input that is read, and what stands before the records of its captures.
 use Rattle.std.specs.Prelude.{◌≡◌, ◌≢◌, ◌+◌, ◌<◌, ◌≤◌, ◌⊎◌, ◌++◌, ℕ, Bool, true, is_some, List, [], ◌∷◌, Option, None, Some, IfSome, IfOk, IfErr, MatchResult, Result, Ok, Err, drop, length}
 use Rattle.std.specs.Global.{Vec}
-use Rattle.std.specs.Io.KnownBytes.{IsAtEnd}
+use Rattle.std.specs.Io.KnownBytes.{Consumes, IsAtEnd}
 use Rattle.packet_view.specs.Captures.{AreRecords, HasFileHeader, IsEnd, IsHeaderFault, PacketFacts, RecordFacts, end_of, packets_at}
 use Rattle.packet_view.specs.declared.capture.CaptureFault.{CaptureFault}
 use Rattle.packet_view.specs.declared.capture.Order.{Order}
@@ -23,7 +23,7 @@ use Rattle.racl_cli.specs.declared.opening.Headed.{Headed}
 use Rattle.racl_cli.specs.declared.opening.Marked.{Marked}
 use Rattle.racl_cli.specs.declared.opening.Opened.{Opened}
 use Rattle.racl_cli.specs.declared.opening.Opened.TheVariants.{One, Several}
-use Rattle.racl_cli.specs.declared.streaming.Front.{Front}
+use Rattle.racl_cli.specs.declared.opening.Front.{Front}
 use Rattle.racl_cli.specs.Runs.{AreKept, ByOneThread, ByWorkers, IsRead, JudgedFacts, told_of}
 
 -- ---- what is answered of the bytes of an input
@@ -68,6 +68,14 @@ pub record HasKept (options : Options) (given : Option (List ℕ)) (keep : Bool)
 abbrev pub IsUnread : ℕ → Option (List ℕ) → Fault → Type 0
 IsUnread count given fault =
     (fault ≡ Memory) ⊎ (fault ≡ Read) ⊎ ((fault ≡ TooLarge) × IfSome given (λ known. most_bytes < count + length known))
+
+-- what the source had was read behind what was read before, and isn't too much with it
+pub record HasRest (before after : Option (List ℕ)) (old new : List ℕ) : Type 0 where
+  pub read : List ℕ
+  pub consumed : Consumes before after read
+  pub appended : new ≡ old ++ read
+  pub ended : IsAtEnd after
+  pub few : length new ≤ most_bytes
 
 -- the source's bytes follow what was read before, and all of them are answered so
 pub record AnswersWhole (options : Options) (front : List ℕ) (given : Option (List ℕ)) (result : Result JudgedFacts Fault) : Type 0 where
@@ -133,15 +141,22 @@ pub record HasMarked (options : Options) (bytes : List ℕ) (marked : Marked) : 
   pub within : marked.from ≤ length bytes
   pub content : drop marked.from bytes ≡ parts.content
 
+-- what stands behind them is digits
+abbrev pub are_digits : Opened → Bool
+are_digits (One headed) = is_some headed.decoded
+are_digits (Several marked) = true
+
 abbrev pub HasOpened : Options → List ℕ → Opened → Type 0
 HasOpened options bytes (One headed) = HasHeaded options bytes headed
 HasOpened options bytes (Several marked) = HasMarked options bytes marked
 
--- these bytes aren't too many, they are all where the source has no more, and digits are all there
-pub record MayGoOn (front : Front) (headed : Headed) (before : Option (List ℕ)) : Type 0 where
+-- the source gave these bytes, which have all digits, and they begin so
+pub record HasFront (options : Options) (before after : Option (List ℕ)) (front : Front) : Type 0 where
+  pub consumed : Consumes before after front.bytes.items
   pub few : length front.bytes.items ≤ most_bytes
-  pub ended : front.ended ≡ true → IsAtEnd before
-  pub whole : is_some headed.decoded ≡ true → front.ended ≡ true
+  pub ended : front.ended ≡ true → IsAtEnd after
+  pub whole : are_digits front.opened ≡ true → front.ended ≡ true
+  pub opened : HasOpened options front.bytes.items front.opened
 
 -- ---- the records
 

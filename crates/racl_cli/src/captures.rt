@@ -6,11 +6,13 @@ ghost use Rattle.racl_io.specs.Inputs.{most_bytes};
 ghost use Rattle.racl_cli.specs.Reads.{AnswersInput, HasMarked};
 ghost use Rattle.racl_cli.specs.inner.Captures.{CanTake, HasTaken, HasTakenAll, IsFaultAt, IsFaultOfWalk, MayTake};
 
+use crate::crew::Crew;
 use crate::opening::Marked;
 use crate::outcome::{Ended, Judged};
 use crate::sized::{SizedWorkers, create_sized};
 use crate::stored::with_stored;
 use crate::streaming::plan_for;
+use capture_stream::Judges;
 use packet_view::{CheckedCapture, Packets, check_capture};
 use racl_io::{Captured, Digits, Fault, Numbered, cut_digits, decode_digits};
 use racl_options::Options;
@@ -24,7 +26,7 @@ const RECORD_DIGITS: usize = 60;
 /// Captures of which some were judged.
 #[derive(Drop)]
 pub struct Walk<'t, 'f, 'b, T: Wait> {
-    pub workers: SizedWorkers<'t, 'f, T>,
+    pub crew: Crew<'t, 'f, T>,
     /// What is told of those that were.
     pub captures: Vec<Captured>,
     /// The numbers of their interfaces, the last one first.
@@ -37,18 +39,15 @@ impl<'t, 'f, 'b, T: Wait> Walk<'t, 'f, 'b, T> {
     ghost use Rattle.std.specs.Prelude.{◌≡◌, [], Some};
 
     /// No capture was judged, and this is the first.
-    fn at(
-        alloc: Global,
-        workers: SizedWorkers<'t, 'f, T>,
-        first: Numbered<'b>,
-    ) -> Walk<'t, 'f, 'b, T>
-        ensures workers { result.workers ≡ workers.entry }
+    fn at(crew: Crew<'t, 'f, T>, first: Numbered<'b>) -> Walk<'t, 'f, 'b, T>
+        ensures crew { result.crew ≡ crew.entry }
         ensures captures { result.captures.items ≡ [] }
         ensures seen { result.seen.items ≡ [] }
         ensures next { result.next ≡ Some first.entry }
     {
+        let alloc = crew.alloc;
         Walk {
-            workers,
+            crew,
             captures: Vec::new(alloc),
             seen: Vec::new(alloc),
             next: Some(first),
@@ -65,7 +64,6 @@ fn is_seen(seen: &[u8], number: u8) -> bool
 
 // Judges the next capture.
 fn judge_next<'t, 'f, 'b, T: Threads + Wait + Sync>(
-    alloc: Global,
     walk: Walk<'t, 'f, 'b, T>,
     capture: Numbered<'b>,
 ) -> Result<Walk<'t, 'f, 'b, T>, Fault>
@@ -74,7 +72,7 @@ fn judge_next<'t, 'f, 'b, T: Threads + Wait + Sync>(
     ensures fault { IfErr result (λ fault. (fault ≡ Memory) ⊎ IsFaultAt walk.entry.seen.items capture.entry fault) }
 {
     let Walk {
-        workers,
+        crew,
         mut captures,
         mut seen,
         ..
@@ -84,7 +82,7 @@ fn judge_next<'t, 'f, 'b, T: Threads + Wait + Sync>(
         return Err(Fault::Twice(number));
     }
     let Digits { digits, next } = cut_digits(capture.content);
-    let bytes = decode_digits(alloc, digits)?;
+    let bytes = decode_digits(crew.alloc, digits)?;
     let CheckedCapture { records, truncated } = check_capture(&bytes, number)?;
     captures.push(Captured {
         named: Some(number),
@@ -92,9 +90,9 @@ fn judge_next<'t, 'f, 'b, T: Threads + Wait + Sync>(
         truncated,
     })?;
     seen.insert(0, number)?;
-    match workers.judge(alloc, Packets::Records(records)) {
-        Ok(workers) => Ok(Walk {
-            workers,
+    match crew.judge(Packets::Records(records)) {
+        Ok(crew) => Ok(Walk {
+            crew,
             captures,
             seen,
             next,
@@ -105,7 +103,6 @@ fn judge_next<'t, 'f, 'b, T: Threads + Wait + Sync>(
 
 // Judges all captures.
 fn judge_each<'t, 'f, 'b, T: Threads + Wait + Sync>(
-    alloc: Global,
     begun: Walk<'t, 'f, 'b, T>,
 ) -> Result<Ended, Fault>
     requires { MayTake begun }
@@ -114,13 +111,10 @@ fn judge_each<'t, 'f, 'b, T: Threads + Wait + Sync>(
 {
     let mut walk = begun;
     'captures: while let Some(capture) = walk.next {
-        walk = judge_next(alloc, walk, capture)?;
+        walk = judge_next(walk, capture)?;
     }
-    let Walk {
-        workers,
-        captures,
-        ..
-    } = walk;
+    let Walk { crew, captures, .. } = walk;
+    let Crew { alloc, workers } = crew;
     let Ok((verdicts, callers)) = workers.end(alloc) else {
         return Err(Fault::Memory);
     };
@@ -162,7 +156,7 @@ pub fn judge_captures<T: Threads + Wait + Sync>(
         interface: number,
         content,
     };
-    match judge_each(alloc, Walk::at(alloc, workers, first)) {
+    match judge_each(Walk::at(Crew { alloc, workers }, first)) {
         Ok(ended) => with_stored(rt, alloc, options, tables, ended),
         Err(fault) => Err(fault),
     }

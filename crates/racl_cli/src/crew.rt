@@ -23,9 +23,21 @@ impl<'t, 'f, T: Threads + Wait + Sync> Judges for Crew<'t, 'f, T> {
 
     fn judge(self, packets: Packets<'_>) -> Result<Crew<'t, 'f, T>, AllocError> {
         let Crew { alloc, workers } = self;
-        match workers.judge(alloc, packets) {
-            Ok(workers) => Ok(Crew { alloc, workers }),
-            Err(error) => Err(error),
+        match workers {
+            SizedWorkers::Standard(workers) => match workers.judge(alloc, packets) {
+                Ok(workers) => Ok(Crew {
+                    alloc,
+                    workers: SizedWorkers::Standard(workers),
+                }),
+                Err(_) => Err(AllocError),
+            },
+            SizedWorkers::Large(workers) => match workers.judge(alloc, packets) {
+                Ok(workers) => Ok(Crew {
+                    alloc,
+                    workers: SizedWorkers::Large(workers),
+                }),
+                Err(_) => Err(AllocError),
+            },
         }
     }
 }

@@ -1,8 +1,6 @@
 //! One run of the filter, from the bytes of an input to the report.
-ghost use Rattle.std.specs.Prelude.{[], ◌≡◌, ◌≢◌, ◌+◌, ◌-◌, ◌<◌, ◌≤◌, ◌^◌, ◌⊎◌, ◌↔◌, Err, IfOk, IfErr, IfSome, MatchResult, length};
-ghost use Rattle.std.specs.Io.KnownBytes.{IsAtEnd};
+ghost use Rattle.std.specs.Prelude.{[], ◌≡◌, ◌≢◌, ◌+◌, ◌-◌, ◌<◌, ◌^◌, ◌⊎◌, ◌↔◌, true, Err, IfOk, IfErr, IfSome, MatchResult};
 ghost use Rattle.racl_io.specs.declared.fault.Fault.{Fault};
-ghost use Rattle.racl_io.specs.declared.fault.Fault.TheVariants.{Memory};
 ghost use Rattle.racl_io.specs.Faults.{IsInputFault, IsSystemFault, RefusesRead};
 ghost use Rattle.racl_io.specs.Inputs.{most_bytes};
 ghost use Rattle.racl_io.specs.Transfers.{GaveAtMost, HasReadWithin};
@@ -12,62 +10,17 @@ ghost use Rattle.racl_cli.specs.Saves.{HasRunSaving, MayFailOnce};
 
 use crate::at_hand::AtHand;
 use crate::captures::judge_captures;
-use crate::opening::{Opened, open_input};
+use crate::opening::{Front, Headed, Opened, open_source, read_rest};
 use crate::outcome::Judged;
 use crate::saving::{Saves, save_packets};
-use crate::streaming::{Front, front_bytes, judge_headed};
-use crate::viewing::{needs_bytes, write_judged};
-use racl_io::{Fault, MOST_BYTES, Sink, Source, Totals, read_until};
+use crate::streaming::{bytes_with_records, judge_records};
+use crate::viewing::{needs_bytes, write_judged, write_plain};
+use capture_stream::Opening;
+use racl_io::{Fault, Sink, Source, Totals};
 use racl_options::Options;
 use std::alloc::Global;
 use std::sync::Wait;
 use std::thread::Threads;
-
-// What the packets of an input met of which all was read.
-fn judge_ended<R: Source + Send, T: Threads + Wait + Sync>(
-    rt: &T,
-    alloc: Global,
-    options: &Options,
-    reader: &mut R,
-    bytes: Vec<u8>,
-) -> Result<Judged, Fault>
-    requires ended { IsAtEnd (R.bytes reader.old) }
-    requires few { length bytes.items ≤ most_bytes }
-    requires sound { R.failures reader.old < 2 ^ 64 - 1 }
-    ensures answers { AnswersRead options.now bytes.items (R.bytes reader.old) result }
-    ensures within { HasReadWithin R.bytes R.failures (most_bytes + 1 - length bytes.items) reader.old reader.new result }
-{
-    let opened = match open_input(alloc, options, &bytes) {
-        Ok(opened) => opened,
-        Err(fault) => return Err(fault),
-    };
-    match opened {
-        Opened::One(headed) => {
-            let front = Front { bytes, ended: true };
-            judge_headed(rt, alloc, options, reader, front, headed)
-        }
-        Opened::Several(marked) => judge_captures(rt, alloc, options, &bytes, marked),
-    }
-}
-
-// What the packets of an input met whose front was read, after the rest is read too.
-fn judge_whole<R: Source + Send, T: Threads + Wait + Sync>(
-    rt: &T,
-    alloc: Global,
-    options: &Options,
-    reader: &mut R,
-    front: Vec<u8>,
-) -> Result<Judged, Fault>
-    requires { R.failures reader.old < 2 ^ 64 - 1 }
-    ensures answers { AnswersRead options.now front.items (R.bytes reader.old) result }
-    ensures within { HasReadWithin R.bytes R.failures (most_bytes + 1 - length front.items) reader.old reader.new result }
-{
-    let mut bytes = front;
-    if !read_until(reader, &mut bytes, MOST_BYTES + 1)? {
-        return Err(Fault::TooLarge);
-    }
-    judge_ended(rt, alloc, options, reader, bytes)
-}
 
 // What the packets of an input met that is read.
 fn judge_source<R: Source + Send, T: Threads + Wait + Sync>(
@@ -80,44 +33,57 @@ fn judge_source<R: Source + Send, T: Threads + Wait + Sync>(
     ensures answers { AnswersRead options.now [] (R.bytes reader.old) result }
     ensures within { HasReadWithin R.bytes R.failures (most_bytes + 1) reader.old reader.new result }
 {
-    let mut bytes = Vec::new(alloc);
-    let ended = read_until(reader, &mut bytes, front_bytes(options))?;
-    if ended {
-        return judge_ended(rt, alloc, options, reader, bytes);
-    }
-    if let Ok(Opened::One(headed)) = open_input(alloc, options, &bytes) {
-        if headed.decoded.is_none() {
-            return judge_headed(rt, alloc, options, reader, Front { bytes, ended }, headed);
+    let Front {
+        bytes,
+        ended,
+        opened,
+    } = match open_source(alloc, options, reader) {
+        Ok(front) => front,
+        Err(fault) => return Err(fault),
+    };
+    match opened {
+        Opened::One(headed) => {
+            let Headed {
+                filter,
+                order,
+                from,
+                decoded,
+            } = headed;
+            let opening = Opening {
+                bytes: bytes_with_records(bytes, decoded),
+                from,
+                order,
+                ended,
+            };
+            judge_records(rt, alloc, options, reader, &filter, opening)
         }
+        Opened::Several(marked) => judge_captures(rt, alloc, options, &bytes, marked),
     }
-    judge_whole(rt, alloc, options, reader, bytes)
 }
 
-// What the packets of an input met that is read, and where they are to be kept, its bytes.
+// What the packets of an input met that is read, whose bytes are kept.
 fn judge_kept<R: Source + Send, T: Threads + Wait + Sync>(
     rt: &T,
     alloc: Global,
     options: &Options,
     reader: &mut R,
-    keep: bool,
     kept: &mut Vec<u8>,
 ) -> Result<Judged, Fault>
     requires sound { R.failures reader.old < 2 ^ 64 - 1 }
     requires empty { kept.old.items ≡ [] }
-    ensures kept { IfOk result (HasKept options.now (R.bytes reader.old) keep kept.new.items) }
+    ensures kept { IfOk result (HasKept options.now (R.bytes reader.old) true kept.new.items) }
     ensures answers { AnswersRead options.now [] (R.bytes reader.old) result }
     ensures within { HasReadWithin R.bytes R.failures (most_bytes + 1) reader.old reader.new result }
 {
-    if !keep {
-        return judge_source(rt, alloc, options, reader);
+    match read_rest(reader, kept) {
+        Ok(()) => {
+            let mut again = AtHand {
+                left: kept.as_slice(),
+            };
+            judge_source(rt, alloc, options, &mut again)
+        }
+        Err(fault) => Err(fault),
     }
-    if !read_until(reader, kept, MOST_BYTES + 1)? {
-        return Err(Fault::TooLarge);
-    }
-    let mut again = AtHand {
-        left: kept.as_slice(),
-    };
-    judge_source(rt, alloc, options, &mut again)
 }
 
 // Whose threads may make lines of the report beside this one.
@@ -158,9 +124,17 @@ pub fn run<R: Source + Send, W: Sink, T: Threads + Wait + Sync>(
     ensures steady { result ≢ Err Fault.Write → W.failures writer.new ≡ W.failures writer.old }
     ensures unwritten { IfErr result (λ fault. fault ≢ Fault.Write → writer.new ≡ writer.old) }
 {
+    if !needs_bytes(options) {
+        return match judge_source(rt, alloc, options, reader) {
+            Ok(judged) => write_plain(beside(rt, options), alloc, writer, options, &judged),
+            Err(fault) => Err(fault),
+        };
+    }
     let mut bytes = Vec::new(alloc);
-    let judged = judge_kept(rt, alloc, options, reader, needs_bytes(options), &mut bytes)?;
-    write_judged(beside(rt, options), alloc, writer, options, &bytes, &judged)
+    match judge_kept(rt, alloc, options, reader, &mut bytes) {
+        Ok(judged) => write_judged(beside(rt, options), alloc, writer, options, &bytes, &judged),
+        Err(fault) => Err(fault),
+    }
 }
 
 /// Reads an input, filters its captures by its policy, and writes the report, as `run` does; and then saves packets of it.
@@ -189,8 +163,16 @@ pub fn run_saving<R: Source + Send, W: Sink, S: Sink, T: Threads + Wait + Sync>(
     ensures unwritten { IfErr result (λ fault. fault ≢ Fault.Write → (writer.new ≡ writer.old) × (saves.new ≡ saves.old)) }
 {
     let mut bytes = Vec::new(alloc);
-    let judged = judge_kept(rt, alloc, options, reader, true, &mut bytes)?;
-    let totals = write_judged(beside(rt, options), alloc, writer, options, &bytes, &judged)?;
-    save_packets(&bytes, &judged.verdicts, saves)?;
-    Ok(totals)
+    let judged = match judge_kept(rt, alloc, options, reader, &mut bytes) {
+        Ok(judged) => judged,
+        Err(fault) => return Err(fault),
+    };
+    let totals = match write_judged(beside(rt, options), alloc, writer, options, &bytes, &judged) {
+        Ok(totals) => totals,
+        Err(fault) => return Err(fault),
+    };
+    match save_packets(&bytes, &judged.verdicts, saves) {
+        Ok(()) => Ok(totals),
+        Err(fault) => Err(fault),
+    }
 }

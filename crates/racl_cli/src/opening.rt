@@ -1,11 +1,14 @@
 //! What stands before the packets of an input.
-ghost use Rattle.std.specs.Prelude.{IfErr, IfOk, Err};
-ghost use Rattle.racl_cli.specs.Reads.{AnswersInput, HasOpened};
+ghost use Rattle.std.specs.Prelude.{◌≡◌, ◌+◌, ◌-◌, ◌<◌, ◌^◌, [], true, IfErr, IfOk, OnOk, Err, length};
+ghost use Rattle.racl_io.specs.Inputs.{most_bytes};
+ghost use Rattle.racl_io.specs.Transfers.{HasReadWithin};
+ghost use Rattle.racl_cli.specs.Reads.{AnswersInput, AnswersRead, HasFront, HasOpened, HasRest, IsUnread};
 
+use crate::streaming::front_bytes;
 use acl_policy::read_policy;
 use flow_workers::Filter;
 use packet_view::{Order, capture_header};
-use racl_io::{Fault, Form, decode_digits, split_input};
+use racl_io::{Fault, Form, MOST_BYTES, Source, decode_digits, read_until, split_input};
 use racl_options::Options;
 use std::alloc::Global;
 
@@ -79,5 +82,80 @@ pub fn open_input(alloc: Global, options: &Options, bytes: &[u8]) -> Result<Open
             number,
             from: bytes.len() - input.content.len(),
         })),
+    }
+}
+
+/// What was read of an input.
+#[derive(Drop)]
+pub struct Front {
+    pub bytes: Vec<u8>,
+    /// Whether it is all of the input.
+    pub ended: bool,
+    /// What stands there before the packets.
+    pub opened: Opened,
+}
+
+// An input of which all was read.
+fn open_whole(alloc: Global, options: &Options, bytes: Vec<u8>) -> Result<Front, Fault>
+    ensures bytes { IfOk result (λ front. front.bytes ≡ bytes) }
+    ensures ended { IfOk result (λ front. front.ended ≡ true) }
+    ensures opened { IfOk result (λ front. HasOpened options.now bytes.items front.opened) }
+    ensures fault { IfErr result (λ fault. AnswersInput options.now bytes.items (Err fault)) }
+{
+    match open_input(alloc, options, &bytes) {
+        Ok(opened) => Ok(Front {
+            bytes,
+            ended: true,
+            opened,
+        }),
+        Err(fault) => Err(fault),
+    }
+}
+
+/// Reads all that an input has behind these bytes.
+pub fn read_rest<R: Source>(reader: &mut R, bytes: &mut Vec<u8>) -> Result<(), Fault>
+    requires { R.failures reader.old < 2 ^ 64 - 1 }
+    ensures ok { OnOk result (HasRest (R.bytes reader.old) (R.bytes reader.new) bytes.old.items bytes.new.items) }
+    ensures fault { IfErr result (IsUnread (length bytes.old.items) (R.bytes reader.old)) }
+    ensures within { HasReadWithin R.bytes R.failures (most_bytes + 1 - length bytes.old.items) reader.old reader.new result }
+{
+    match read_until(reader, bytes, MOST_BYTES + 1) {
+        Ok(true) => Ok(()),
+        Ok(false) => Err(Fault::TooLarge),
+        Err(fault) => Err(fault),
+    }
+}
+
+/// Reads the front of an input, up to records of its only capture: or all of it where that has a fault, or captures as digits.
+pub fn open_source<R: Source>(
+    alloc: Global,
+    options: &Options,
+    reader: &mut R,
+) -> Result<Front, Fault>
+    requires { R.failures reader.old < 2 ^ 64 - 1 }
+    ensures ok { IfOk result (HasFront options.now (R.bytes reader.old) (R.bytes reader.new)) }
+    ensures fault { IfErr result (λ fault. AnswersRead options.now [] (R.bytes reader.old) (Err fault)) }
+    ensures within { HasReadWithin R.bytes R.failures (most_bytes + 1) reader.old reader.new result }
+{
+    let mut bytes = Vec::new(alloc);
+    let ended = match read_until(reader, &mut bytes, front_bytes(options)) {
+        Ok(ended) => ended,
+        Err(fault) => return Err(fault),
+    };
+    if ended {
+        return open_whole(alloc, options, bytes);
+    }
+    if let Ok(Opened::One(headed)) = open_input(alloc, options, &bytes) {
+        if headed.decoded.is_none() {
+            return Ok(Front {
+                bytes,
+                ended,
+                opened: Opened::One(headed),
+            });
+        }
+    }
+    match read_rest(reader, &mut bytes) {
+        Ok(()) => open_whole(alloc, options, bytes),
+        Err(fault) => Err(fault),
     }
 }

@@ -2,7 +2,7 @@
 ghost use Rattle.std.specs.Prelude.{[], ◌≡◌, ◌≤◌, IfOk};
 ghost use Rattle.flow_dealing.specs.declared.dealing.Dealing.TheVariants.{Bucket};
 ghost use Rattle.racl_views.specs.Stored.{stored_facts};
-ghost use Rattle.racl_cli.specs.Crews.{AreAfter, AreFirstOf, AreIdleOf, HasFollowedAlone, HaveEndedOn, HaveFollowedOn, HaveJudgedSome, MayFollow, MayFollowAlone};
+ghost use Rattle.racl_cli.specs.Crews.{AreAfter, AreFirstOf, AreIdleOf, HasFollowedAlone, HaveEndedOn, HaveJudgedSome, MayFollowAlone};
 ghost use Rattle.racl_cli.specs.Crews.{orders_for, size_of, views_with};
 ghost use Rattle.racl_cli.specs.Runs.{AreStoredOf, layout_for};
 
@@ -15,7 +15,6 @@ use racl_options::TableSize;
 use racl_views::StoredPairs;
 use std::alloc::{AllocError, Global};
 use std::sync::Wait;
-use std::thread::Threads;
 
 /// From how many packets of a window on each worker judges them in a thread of its own.
 pub const MANY_PACKETS: usize = 65_536;
@@ -212,29 +211,6 @@ impl<'t, 'f, T: Wait> SizedWorkers<'t, 'f, T> {
             },
             SizedWorkers::Large(workers) => match workers.judge_alone(alloc, packets) {
                 Ok((workers, verdicts)) => Ok((SizedWorkers::Large(workers), verdicts)),
-                Err(_) => Err(AllocError),
-            },
-        }
-    }
-}
-
-impl<'t, 'f, T: Threads + Wait + Sync> SizedWorkers<'t, 'f, T> {
-    /// The workers after they judged these packets too, which follow those so far. An error says that memory was refused.
-    pub fn judge(
-        self,
-        alloc: Global,
-        packets: Packets<'_>,
-    ) -> Result<SizedWorkers<'t, 'f, T>, AllocError>
-        requires { MayFollow self packets }
-        ensures { IfOk result (HaveFollowedOn self.entry packets.entry) }
-    {
-        match self {
-            SizedWorkers::Standard(workers) => match workers.judge(alloc, packets) {
-                Ok(workers) => Ok(SizedWorkers::Standard(workers)),
-                Err(_) => Err(AllocError),
-            },
-            SizedWorkers::Large(workers) => match workers.judge(alloc, packets) {
-                Ok(workers) => Ok(SizedWorkers::Large(workers)),
                 Err(_) => Err(AllocError),
             },
         }

@@ -5,12 +5,11 @@ ghost use Rattle.capture_stream.specs.Streams.{IsSize, IsStreamFault};
 ghost use Rattle.racl_io.specs.declared.fault.Fault.TheVariants.{Memory};
 ghost use Rattle.racl_io.specs.Inputs.{most_bytes};
 ghost use Rattle.racl_io.specs.Transfers.{HasReadWithin};
-ghost use Rattle.racl_cli.specs.Crews.{HaveJudgedSome, orders_of};
-ghost use Rattle.racl_cli.specs.inner.Streams.{HasEnded, HasSaidAll, MayRead};
-ghost use Rattle.racl_cli.specs.Reads.{AnswersRead, HasHeaded, HasJudged, MayGoOn, MayJudge, having_records};
+ghost use Rattle.racl_cli.specs.Crews.{HaveJudgedSome};
+ghost use Rattle.racl_cli.specs.inner.Streams.{HasEnded};
+ghost use Rattle.racl_cli.specs.Reads.{HasJudged, MayJudge, having_records};
 
 use crate::crew::Crew;
-use crate::opening::Headed;
 use crate::outcome::{Ended, Judged};
 use crate::sized::{MANY_PACKETS, SizedWorkers, create_sized};
 use crate::stored::with_stored;
@@ -74,12 +73,13 @@ pub fn plan_for(options: &Options, ended: bool, count: usize) -> (usize, usize)
 }
 
 // The verdicts of workers who judged all packets of a capture, what the report tells of it, and their callers.
-fn end_capture<T: Wait>(crew: Crew<'_, '_, T>, truncated: bool) -> Result<Ended, Fault>
-    requires { HaveJudgedSome crew.workers }
-    ensures ok { IfOk result (HasEnded crew.entry.workers truncated) }
+fn end_capture<T: Wait>(streamed: Streamed<Crew<'_, '_, T>>) -> Result<Ended, Fault>
+    requires { HaveJudgedSome streamed.judges.workers }
+    ensures ok { IfOk result (HasEnded streamed.entry.judges.workers streamed.entry.truncated) }
     ensures fault { IfErr result (λ fault. fault ≡ Memory) }
 {
-    let Crew { alloc, workers } = crew;
+    let Streamed { judges, truncated } = streamed;
+    let Crew { alloc, workers } = judges;
     let Ok((verdicts, callers)) = workers.end(alloc) else {
         return Err(Fault::Memory);
     };
@@ -96,30 +96,9 @@ fn end_capture<T: Wait>(crew: Crew<'_, '_, T>, truncated: bool) -> Result<Ended,
     })
 }
 
-// What workers leave who judge the packets of all records while these are read: in windows for several workers where
-// there is a runtime beside which the next one is read.
-fn stream_records<R: Source + Send, T: Threads + Wait + Sync>(
-    beside: Option<&T>,
-    crew: Crew<'_, '_, T>,
-    reader: &mut R,
-    opening: Opening,
-) -> Result<Ended, Fault>
-    requires may { MayRead crew.workers opening (R.bytes reader.old) }
-    requires sound { R.failures reader.old < 2 ^ 64 - 1 }
-    ensures ok { IfOk result (HasSaidAll (orders_of crew.entry.workers) opening (R.bytes reader.old) (R.bytes reader.new)) }
-    ensures fault { IfErr result (IsStreamFault opening (R.bytes reader.old) (R.bytes reader.new)) }
-    ensures within { HasReadWithin R.bytes R.failures (most_bytes + 1 - length opening.bytes.items) reader.old reader.new result }
-{
-    let alloc = crew.alloc;
-    let size = window_size(beside.is_some());
-    match judge_stream(beside, alloc, reader, crew, opening, size) {
-        Ok(Streamed { judges, truncated }) => end_capture(judges, truncated),
-        Err(fault) => Err(fault),
-    }
-}
-
-// The verdicts on the packets of all records, and the sessions behind them.
-fn judge_records<'t, R: Source + Send, T: Threads + Wait + Sync>(
+/// The verdicts on the packets of all records, which are judged while they are read, and the sessions behind them: in windows
+/// for several workers, beside which the next one is read, where enough packets stand in the opening.
+pub fn judge_records<'t, R: Source + Send, T: Threads + Wait + Sync>(
     rt: &'t T,
     alloc: Global,
     options: &Options,
@@ -150,57 +129,29 @@ fn judge_records<'t, R: Source + Send, T: Threads + Wait + Sync>(
         return Err(Fault::Memory);
     };
     let beside = if are_several { Some(rt) } else { None };
-    match stream_records(beside, Crew { alloc, workers }, reader, opening) {
-        Ok(ended) => with_stored(rt, alloc, options, tables, ended),
+    let crew = Crew { alloc, workers };
+    match judge_stream(
+        beside,
+        alloc,
+        reader,
+        crew,
+        opening,
+        window_size(are_several),
+    ) {
+        Ok(streamed) => match end_capture(streamed) {
+            Ok(ended) => with_stored(rt, alloc, options, tables, ended),
+            Err(fault) => Err(fault),
+        },
         Err(fault) => Err(fault),
     }
 }
 
-/// What was read of an input.
-#[derive(Drop)]
-pub struct Front {
-    pub bytes: Vec<u8>,
-    /// Whether it is all of the input.
-    pub ended: bool,
-}
-
-// The bytes that have the records: those of the input, or the capture that its digits stand for.
-fn bytes_with_records(input: Vec<u8>, decoded: Option<Vec<u8>>) -> Vec<u8>
+/// The bytes that have the records: those of the input, or the capture that its digits stand for.
+pub fn bytes_with_records(input: Vec<u8>, decoded: Option<Vec<u8>>) -> Vec<u8>
     ensures { result.items ≡ having_records input.items decoded }
 {
     match decoded {
         Some(capture) => capture,
         None => input,
     }
-}
-
-/// What the packets of an input met whose front was read, up to records.
-pub fn judge_headed<R: Source + Send, T: Threads + Wait + Sync>(
-    rt: &T,
-    alloc: Global,
-    options: &Options,
-    reader: &mut R,
-    front: Front,
-    headed: Headed,
-) -> Result<Judged, Fault>
-    requires headed { HasHeaded options.now front.bytes.items headed }
-    requires goes_on { MayGoOn front headed (R.bytes reader.old) }
-    requires sound { R.failures reader.old < 2 ^ 64 - 1 }
-    ensures answers { AnswersRead options.now front.bytes.items (R.bytes reader.old) result }
-    ensures within { HasReadWithin R.bytes R.failures (most_bytes + 1 - length front.bytes.items) reader.old reader.new result }
-{
-    let Headed {
-        filter,
-        order,
-        from,
-        decoded,
-    } = headed;
-    let Front { bytes, ended } = front;
-    let opening = Opening {
-        bytes: bytes_with_records(bytes, decoded),
-        from,
-        order,
-        ended,
-    };
-    judge_records(rt, alloc, options, reader, &filter, opening)
 }

@@ -223,8 +223,8 @@ fn sessions_of(
     }
 }
 
-// Writes plain lines, and the sessions behind them.
-fn write_plain<W: Sink, T: Threads>(
+/// Writes plain lines, and the sessions behind them.
+pub fn write_plain<W: Sink, T: Threads>(
     beside: Option<&T>,
     alloc: Global,
     writer: &mut W,

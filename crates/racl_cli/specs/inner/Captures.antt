@@ -38,7 +38,7 @@ left_at (Some next) = length next.content + 1
 -- workers at rest may judge this capture's packets
 pub record CanTake {T : Type 0} (walk : Walk T) (capture : mark.Numbered) : Type 0 where
   pub packets : List PacketFacts
-  pub rest : AreResting packets walk.workers
+  pub rest : AreResting packets walk.crew.workers
   pub few : length packets + length capture.content.now ≤ most_bytes
 
 -- this capture was taken, and its packets were judged
@@ -50,13 +50,13 @@ pub record HasTaken {T : Type 0} (old : Walk T) (capture : mark.Numbered) (new :
   pub taken : IsTaken old.seen.items (record { interface = capture.interface; digits = digits }) packets captured
   pub captures : new.captures.items ≡ old.captures.items ++ captured ∷ []
   pub seen : new.seen.items ≡ capture.interface ∷ old.seen.items
-  pub by : orders_of new.workers ≡ orders_of old.workers
-  pub rest : (before : List PacketFacts) → AreResting before old.workers → AreResting (before ++ packets) new.workers
+  pub by : orders_of new.crew.workers ≡ orders_of old.crew.workers
+  pub rest : (before : List PacketFacts) → AreResting before old.crew.workers → AreResting (before ++ packets) new.crew.workers
   pub few : length packets + left_at (numbered_facts new.next) ≤ length capture.content.now
 
 -- no capture was taken, and what follows isn't too much
 pub record MayTake {T : Type 0} (begun : Walk T) : Type 0 where
-  pub rest : AreResting [] begun.workers
+  pub rest : AreResting [] begun.crew.workers
   pub captures : begun.captures.items ≡ []
   pub seen : begun.seen.items ≡ []
   pub few : left_at (numbered_facts begun.next) ≤ most_bytes + 1
@@ -65,7 +65,7 @@ pub record MayTake {T : Type 0} (begun : Walk T) : Type 0 where
 pub record HasTakenAll {T : Type 0} (begun : Walk T) (ended : Ended) : Type 0 where
   pub packets : List PacketFacts
   pub taken : AreTakenFrom [] (numbered_facts begun.next) packets ended.captures.items
-  pub said : AreSaidBy (orders_of begun.workers) packets ended.verdicts.items ended.callers
+  pub said : AreSaidBy (orders_of begun.crew.workers) packets ended.verdicts.items ended.callers
 
 abbrev pub IsFaultOfWalk : {T : Type 0} → Walk T → Fault → Type 0
 IsFaultOfWalk begun fault = IsFaultFrom [] (numbered_facts begun.next) fault

@@ -3,7 +3,8 @@ use Rattle.std.proofs.lemmas.Result.{IfErr-weaker, IfOk-weaker}
 use Rattle.acl_policy.specs.Policies.{policy_facts}
 use Rattle.racl_io.specs.Inputs.{NumberedFacts, numbered_facts}
 use Rattle.racl_io.specs.declared.report.Captured.{Captured}
-use Rattle.racl_cli.specs.Crews.{orders_of}
+use Rattle.racl_cli.specs.Crews.{Orders, orders_of}
+use Rattle.racl_cli.specs.declared.crew.Crew.{Crew}
 use Rattle.racl_cli.specs.Reads.{IsReached}
 use Rattle.racl_cli.specs.Runs.{Outcome}
 use Rattle.racl_cli.specs.inner.Captures.{AreTakenFrom, IsFaultFrom}
@@ -13,6 +14,9 @@ use Rattle.racl_cli.proofs.captures.judge_captures.Goals as goal
 
 abbrev first_at : ℕ → List ℕ → Option NumberedFacts
 first_at number content = Some (record { interface = number; content = content })
+
+abbrev orders_with : {T : Type 0} → Crew T → Orders
+orders_with crew = orders_of crew.workers
 
 pub returns-in-Ok-judge_each : goal.returns-in-Ok-judge_each
 returns-in-Ok-judge_each g c =
@@ -32,7 +36,7 @@ returns-in-Ok-judge_each g c =
       subst (λ (cs : List Captured). AreTakenFrom [] (first_at number (drop c.args.marked.from c.args.bytes.now)) has.packets cs) same taken,
       subst (λ (cs : List Captured). IsReached options (policy_facts filter.policy) has.packets cs judged) same
           (reached_by options filter c.in_ok-ready.ready _ c.plan_for-expected.result.1 _ has.packets ended judged c.requires.marked.times
-          c.plan_for-expected.ensures.some c.plan_for-expected.ensures.few (ap orders_of c.at.ensures.workers ∙ c.in-Ok-new.ensures.given) c.in-Ok.ensures.size
+          c.plan_for-expected.ensures.some c.plan_for-expected.ensures.few (ap orders_with c.at.ensures.crew ∙ c.in-Ok-new.ensures.given) c.in-Ok.ensures.size
           c.in_ok-ready.ensures.times c.in_ok-ready.ensures.policy has.said stored),
     )) c.with_stored.ensures.ok)
     (IfErr-weaker c.with_stored.result _ _ (λ fault is. inl is) c.with_stored.ensures.fault)

@@ -1,5 +1,5 @@
 -- The next capture: a second one of its interface, one that has a fault, or one whose packets are judged.
-use Rattle.std.proofs.Common.{◌≡◌, ◌∙◌, ◌==◌, ◌++◌, ℕ, true, false, List, [], ◌∷◌, Some, ap, arith, refl, sym, subst, inl, inr}
+use Rattle.std.proofs.Common.{◌≡◌, ◌∙◌, ◌==◌, ◌++◌, ℕ, true, false, List, [], ◌∷◌, Some, ap, arith, refl, rules, sym, subst, inl, inr}
 use Rattle.std.specs.List.{list_any}
 use Rattle.std.proofs.lemmas.Result.{err_from_is_err_and}
 use Rattle.packet_view.specs.Captures.{packets_at}
@@ -46,8 +46,8 @@ returns-in_err-records-clause-fault g c =
     c.cut_digits.ensures.cut (not_among number seen none) (capture_fault cause)
     (inr (c.deref-2.result.now, rw c.deref-2.ensures.value c.in_ok-bytes.ensures.ok, (cause, c.in_err-records.ensures.fault, refl)))))
 
-pub judge-requires-after_bounds : goal.judge-requires-after_bounds
-judge-requires-after_bounds g c κs within =
+pub judge-requires : goal.judge-requires
+judge-requires g c =
     let number = c.args.capture.interface in
     let records = c.in_ok-records.field-0.records in
     let few =
@@ -55,7 +55,12 @@ judge-requires-after_bounds g c κs within =
     (packets_of records) c.in_ok-records.field-0.truncated c.cut_digits.ensures.cut (rw c.deref-2.ensures.value c.in_ok-bytes.ensures.ok)
     (records_of records, c.in_ok-records.ensures.ok, ap (λ n. packets_at n (records_of records)) c.in_ok-records.ensures.at) in
     let before = c.requires.few in
-    record { packets = c.requires.packets; rest = c.requires.rest; fits = omega arith }
+    record {
+      begun = c.args.walk.crew;
+      packets = c.requires.packets;
+      stand = (search rules, record { given = refl; rest = c.requires.rest });
+      fits = omega arith;
+    }
 
 pub returns-in-Ok-clause-ok : goal.returns-in-Ok-clause-ok
 returns-in-Ok-clause-ok g c =
@@ -78,8 +83,8 @@ returns-in-Ok-clause-ok g c =
           c.in_ok-push.ensures.items
           ∙ ap (λ n. c.args.walk.captures.items ++ record { named = Some number; packets = n; truncated = truncated } ∷ []) c.count.ensures;
       seen = c.in_ok-insert.ensures.items;
-      by = c.in-Ok.ensures.orders;
-      rest = λ before at. c.in-Ok.ensures.rest before at;
+      by = (c.in-Ok.ensures c.args.walk.crew c.requires.packets (search rules, record { given = refl; rest = c.requires.rest })).1.given;
+      rest = λ before at. (c.in-Ok.ensures c.args.walk.crew before (search rules, record { given = refl; rest = at })).1.rest;
       few = few_taken number c.args.capture.content.now digits c.deref-2.result.now (numbered_facts c.cut_digits.result.next)
           (packets_of records) truncated c.cut_digits.ensures.cut spelt
           (records_of records, c.in_ok-records.ensures.ok, ap (λ n. packets_at n (records_of records)) c.in_ok-records.ensures.at);

@@ -1,51 +1,92 @@
-use Rattle.std.proofs.Common.{◌∙◌, arith}
-use Rattle.std.proofs.lemmas.Result.{err_from_is_err_and}
+use Rattle.std.proofs.Common.{◌∙◌, [], Ok, arith, false, refl, sym, true}
 use Rattle.racl_cli.proofs.OutcomeLemmas.{has_reported, has_run, kept_told}
-use Rattle.racl_cli.proofs.ReadLemmas.{fault_of_right, fault_read, fault_refused, known_read, unwritten}
+use Rattle.racl_cli.proofs.ReadLemmas.{fault_of_right, fault_read, fault_refused, kept_none, known_read, unwritten}
 use Rattle.racl_cli.proofs.RunLemmas.{excluded_by_input}
+use Rattle.racl_cli.proofs.ViewLemmas.{told_plain}
 use Rattle.racl_cli.proofs.end_to_end.run.Goals as goal
 
-pub returns-in_err-judged-clause-fault : goal.returns-in_err-judged-clause-fault
-returns-in_err-judged-clause-fault g c =
-    let p = err_from_is_err_and c.from_residual.result c.from_residual.ensures.1 in
-    rw (p.1, p.2) (fault_read c.args.options.now _ c.in_err-judged.field-0.0 c.in_err-judged.ensures.answers)
+-- ---- nothing is kept
 
-pub returns-in_err-judged-clause-refuses : goal.returns-in_err-judged-clause-refuses
-returns-in_err-judged-clause-refuses g c =
-    let p = err_from_is_err_and c.from_residual.result c.from_residual.ensures.1 in
-    rw (p.1, p.2) (fault_refused c.args.options.now _ c.in_err-judged.field-0.0 c.in_err-judged.ensures.answers)
+pub returns-in-Ok-clause-ok : goal.returns-in-Ok-clause-ok
+returns-in-Ok-clause-ok g c =
+    let options = c.args.options.now in
+    let old = g.W.Sink.bytes c.args.writer.now in
+    let new = g.W.Sink.bytes c.write_plain.new.writer in
+    has_run old new options _ false [] c.in-Ok.judged c.write_plain.result (kept_none options _ false [] (Ok c.in-Ok.judged) refl c.in-Ok.ensures.answers)
+    (λ asked. c.if-not-needs_bytes.ensures ∙ asked)
+    (λ input policy packets may read. told_plain options input policy packets c.in-Ok.judged old new c.write_plain.result (sym c.if-not-needs_bytes.ensures) read
+    c.write_plain.ensures.told)
 
-pub returns-in_err-judged-clause-accepts : goal.returns-in_err-judged-clause-accepts
-returns-in_err-judged-clause-accepts g c =
-    let p = err_from_is_err_and c.from_residual.result c.from_residual.ensures.1 in
-    rw (p.1, p.2) (fault_of_right c.args.options.now _ c.in_err-judged.field-0.0 c.in_err-judged.ensures.answers)
+pub returns-in-Ok-clause-accepts : goal.returns-in-Ok-clause-accepts
+returns-in-Ok-clause-accepts g c =
+    let options = c.args.options.now in
+    let old = g.W.Sink.bytes c.args.writer.now in
+    let new = g.W.Sink.bytes c.write_plain.new.writer in
+    let judged = c.in-Ok.judged in
+    let k = kept_none options (g.R.Source.bytes c.args.reader.now) false [] (Ok judged) refl c.in-Ok.ensures.answers in
+    known_read _ _ _ k.bytes _ (record { whole = k.known; few = k.few }) (λ one_thread has.
+    has_reported old new options _ false [] judged c.write_plain.result k (λ asked. c.if-not-needs_bytes.ensures ∙ asked)
+    (λ input policy packets may read. told_plain options input policy packets judged old new c.write_plain.result (sym c.if-not-needs_bytes.ensures) read
+    c.write_plain.ensures.told)
+    one_thread has c.write_plain.ensures.ends.fault)
 
-pub returns-clause-ok : goal.returns-clause-ok
-returns-clause-ok g c =
-    has_run (g.W.Sink.bytes c.args.writer.now) (g.W.Sink.bytes c.write_judged.new.writer) c.args.options.now _ c.needs_bytes.result c.judge_kept.new.kept.items c.in_ok-judged.judged c.write_judged.result
-    c.in_ok-judged.ensures.kept (λ asked. c.needs_bytes.ensures ∙ asked)
-    (kept_told (g.W.Sink.bytes c.args.writer.now) (g.W.Sink.bytes c.write_judged.new.writer) c.args.options.now c.deref.result.now c.judge_kept.new.kept.items c.in_ok-judged.judged c.write_judged.result
+pub returns-in-Ok-clause-refuses : goal.returns-in-Ok-clause-refuses
+returns-in-Ok-clause-refuses g c =
+    let k = kept_none c.args.options.now (g.R.Source.bytes c.args.reader.now) false [] (Ok c.in-Ok.judged) refl c.in-Ok.ensures.answers in
+    excluded_by_input _ _ _ (record { whole = k.known; few = k.few }) (λ fault of. absurd (k.answers.refuses fault of))
+
+pub returns-in-Err-clause-accepts : goal.returns-in-Err-clause-accepts
+returns-in-Err-clause-accepts g c = fault_of_right c.args.options.now _ c.in-Err.fault c.in-Err.ensures.answers
+
+pub returns-in-Err-clause-fault : goal.returns-in-Err-clause-fault
+returns-in-Err-clause-fault g c = fault_read c.args.options.now _ c.in-Err.fault c.in-Err.ensures.answers
+
+pub returns-in-Err-clause-refuses : goal.returns-in-Err-clause-refuses
+returns-in-Err-clause-refuses g c = fault_refused c.args.options.now _ c.in-Err.fault c.in-Err.ensures.answers
+
+pub returns-in-Err-clause-write : goal.returns-in-Err-clause-write
+returns-in-Err-clause-write g c = (
+  (λ same. absurd (unwritten c.args.options.now _ c.in-Err.fault c.in-Err.ensures.answers (let e = same in cc))),
+  (λ failed. absurd (omega (arith, failed))),
+)
+
+-- ---- all is kept
+
+pub returns-in-Ok-judge_kept-clause-ok : goal.returns-in-Ok-judge_kept-clause-ok
+returns-in-Ok-judge_kept-clause-ok g c =
+    let old = g.W.Sink.bytes c.args.writer.now in
+    let new = g.W.Sink.bytes c.write_judged.new.writer in
+    has_run old new c.args.options.now _ true c.judge_kept.new.kept.items c.in-Ok-judge_kept.judged c.write_judged.result c.in-Ok-judge_kept.ensures.kept (λ asked. refl)
+    (kept_told old new c.args.options.now c.deref.result.now c.judge_kept.new.kept.items c.in-Ok-judge_kept.judged c.write_judged.result
     c.deref.ensures.value c.write_judged.ensures.told)
 
-pub returns-clause-accepts : goal.returns-clause-accepts
-returns-clause-accepts g c =
-    let k = c.in_ok-judged.ensures.kept in
+pub returns-in-Ok-judge_kept-clause-accepts : goal.returns-in-Ok-judge_kept-clause-accepts
+returns-in-Ok-judge_kept-clause-accepts g c =
+    let old = g.W.Sink.bytes c.args.writer.now in
+    let new = g.W.Sink.bytes c.write_judged.new.writer in
+    let k = c.in-Ok-judge_kept.ensures.kept in
     known_read _ _ _ k.bytes _ (record { whole = k.known; few = k.few }) (λ one_thread has.
-    has_reported (g.W.Sink.bytes c.args.writer.now) (g.W.Sink.bytes c.write_judged.new.writer) c.args.options.now _ c.needs_bytes.result c.judge_kept.new.kept.items c.in_ok-judged.judged c.write_judged.result
-    k (λ asked. c.needs_bytes.ensures ∙ asked)
-    (kept_told (g.W.Sink.bytes c.args.writer.now) (g.W.Sink.bytes c.write_judged.new.writer) c.args.options.now c.deref.result.now c.judge_kept.new.kept.items c.in_ok-judged.judged c.write_judged.result
+    has_reported old new c.args.options.now _ true c.judge_kept.new.kept.items c.in-Ok-judge_kept.judged c.write_judged.result k (λ asked. refl)
+    (kept_told old new c.args.options.now c.deref.result.now c.judge_kept.new.kept.items c.in-Ok-judge_kept.judged c.write_judged.result
     c.deref.ensures.value c.write_judged.ensures.told)
     one_thread has c.write_judged.ensures.ends.fault)
 
-pub returns-clause-refuses : goal.returns-clause-refuses
-returns-clause-refuses g c =
-    let k = c.in_ok-judged.ensures.kept in
+pub returns-in-Ok-judge_kept-clause-refuses : goal.returns-in-Ok-judge_kept-clause-refuses
+returns-in-Ok-judge_kept-clause-refuses g c =
+    let k = c.in-Ok-judge_kept.ensures.kept in
     excluded_by_input _ _ _ (record { whole = k.known; few = k.few }) (λ fault of. absurd (k.answers.refuses fault of))
 
-pub returns-in_err-judged-clause-write : goal.returns-in_err-judged-clause-write
-returns-in_err-judged-clause-write g c =
-    let p = err_from_is_err_and c.from_residual.result c.from_residual.ensures.1 in
-    rw (p.1, p.2) (
-      (λ same. absurd (unwritten c.args.options.now _ c.in_err-judged.field-0.0 c.in_err-judged.ensures.answers (let e = same in cc))),
-      (λ failed. absurd (omega (arith, failed))),
-    )
+pub returns-clause-accepts : goal.returns-clause-accepts
+returns-clause-accepts g c = fault_of_right c.args.options.now _ c.in-Err-judge_kept.fault c.in-Err-judge_kept.ensures.answers
+
+pub returns-clause-fault : goal.returns-clause-fault
+returns-clause-fault g c = fault_read c.args.options.now _ c.in-Err-judge_kept.fault c.in-Err-judge_kept.ensures.answers
+
+pub returns-clause-refuses : goal.returns-clause-refuses
+returns-clause-refuses g c = fault_refused c.args.options.now _ c.in-Err-judge_kept.fault c.in-Err-judge_kept.ensures.answers
+
+pub returns-clause-write : goal.returns-clause-write
+returns-clause-write g c = (
+  (λ same. absurd (unwritten c.args.options.now _ c.in-Err-judge_kept.fault c.in-Err-judge_kept.ensures.answers (let e = same in cc))),
+  (λ failed. absurd (omega (arith, failed))),
+)
