@@ -1,5 +1,5 @@
 -- What an input says, and its faults, are those of its parts.
-use Rattle.std.proofs.Common.{◌≡◌, ◌≢◌, ◌≤◌, ◌∙◌, ◌⊎◌, ℕ, Bool, List, [], ◌∷◌, Option, Some, None, IfErr, IfSome, Result, Ok, Err, length, arith, refl, sym, ap, subst, inl, inr}
+use Rattle.std.proofs.Common.{◌≡◌, ◌≢◌, ◌≤◌, ◌∙◌, ◌⊎◌, ℕ, Bool, List, [], ◌∷◌, Option, Some, None, IfSome, Result, Ok, Err, length, arith, refl, sym, ap, subst, inl, inr}
 use Rattle.packet_view.specs.Captures.{IsCaptureAt, PacketFacts, end_of}
 use Rattle.acl_policy.specs.Policies.{IsPolicyFault, IsPolicyText, PolicyFacts}
 use Rattle.acl_policy.specs.declared.policy.PolicyFault.{PolicyFault}
@@ -185,13 +185,3 @@ pub within_unread : {R : Type 0} (left : R → Option (List ℕ)) (failures : R 
 within_unread left failures most source options bytes (Ok outcome) answers = record { gave = gave_none (left source) most; failed = refl }
 within_unread left failures most source options bytes (Err fault) answers =
     record { gave = gave_none (left source) most; failed = sym (steady JudgedFacts (failures source) fault (no_device options bytes fault answers).0) }
-
--- what was read, where nothing more was and memory alone can be wanting
-pub within_memory : {R X Y : Type 0} (left : R → Option (List ℕ)) (failures : R → ℕ) (most : ℕ) (before after : R) (value : X)
-    (result : Result Y Fault) → IfErr result (λ fault. fault ≡ Memory) → HasReadWithin {X = X} left failures most before after (Ok value)
-    → HasReadWithin left failures most before after result
-within_memory {X = X} {Y = Y} left failures most before after value (Ok y) memory within = record { gave = within.gave; failed = within.failed }
-within_memory {X = X} {Y = Y} left failures most before after value (Err fault) memory within = record {
-  gave = within.gave;
-  failed = subst (λ (e : Fault). failures after ≡ failures_after_reads {X = Y} (failures before) (Err e)) (sym memory) within.failed;
-}

@@ -12,10 +12,9 @@ returns-in-Ok-clause-ok g c =
     let options = c.args.options.now in
     let old = g.W.Sink.bytes c.args.writer.now in
     let new = g.W.Sink.bytes c.write_plain.new.writer in
-    let judged = c.in-Ok.judged in
-    has_run old new options _ false [] judged c.write_plain.result (kept_none options _ false [] (Ok judged) refl c.in-Ok.ensures.answers)
+    has_run old new options _ false [] c.in-Ok.judged c.write_plain.result (kept_none options _ false [] (Ok c.in-Ok.judged) refl c.in-Ok.ensures.answers)
     (λ asked. c.if-not-needs_bytes.ensures ∙ asked)
-    (λ input policy packets may read. told_plain options input policy packets judged old new c.write_plain.result (sym c.if-not-needs_bytes.ensures) read
+    (λ input policy packets may read. told_plain options input policy packets c.in-Ok.judged old new c.write_plain.result (sym c.if-not-needs_bytes.ensures) read
     c.write_plain.ensures.told)
 
 pub returns-in-Ok-clause-accepts : goal.returns-in-Ok-clause-accepts
