@@ -7,6 +7,7 @@ ghost use Rattle.std.specs.Prelude.{◌<◌, ◌-◌, ◌^◌};
 mod faulty;
 mod input_files;
 mod named_reader;
+mod output;
 mod policy_remarks;
 mod progress;
 mod save_file;
@@ -15,6 +16,7 @@ mod saved_packets;
 use crate::faulty::faulty;
 use crate::input_files::{interface_at, name_at, opened_or_told, opened_parts, policy_name};
 use crate::named_reader::{Reader, bytes_of, held};
+use crate::output::Output;
 use crate::policy_remarks::{Seen, say_foreign, say_unlooked};
 use crate::progress::{Progress, Watched};
 use crate::saved_packets::{saves_to, say_unsaved};
@@ -130,13 +132,25 @@ fn status_of_run<T: Threads + Wait + Sync>(
         source: Joined::new(policy, parts.captures),
         progress: Progress::new(rt),
     };
-    let Some(outcome) = outcome_of(rt, threads, alloc, asked, &mut reader)? else {
+    let Some(Ran { outcome, is_closed }) = outcome_of(rt, threads, alloc, asked, &mut reader)?
+    else {
         return Ok(4);
     };
     reader.progress.end();
-    let status = say_ending(rt, &ending(&outcome))?;
+    let mut end = ending(&outcome);
+    if is_closed && !matches!(&asked.origin, Origin::Standard) {
+        // Who asked for a report of files took as much of it as was wanted.
+        end.message = None;
+    }
+    let status = say_ending(rt, &end)?;
     say_more(rt, alloc, &asked.origin, &reader.source, &outcome)?;
     Ok(status)
+}
+
+// How a run ended, and whether the reader of what it wrote was gone.
+struct Ran {
+    outcome: Result<Totals, Fault>,
+    is_closed: bool,
 }
 
 // Runs, and saves packets where that is asked for. Where these can't be saved that is told, and None is answered.
@@ -146,13 +160,17 @@ fn outcome_of<T: Threads + Wait + Sync, R: Source + Send>(
     alloc: Global,
     asked: &Asked<'_>,
     reader: &mut R,
-) -> io::Result<Option<Result<Totals, Fault>>>
+) -> io::Result<Option<Ran>>
     requires { R.failures reader.old < 2 ^ 64 - 1 }
 {
-    let mut writer = Device::new(rt.stdout());
+    let mut writer = Device::new(Output::new(rt.stdout()));
     let saved = &asked.saved;
     if saved.drops.is_none() && saved.passes.is_none() {
-        return Ok(Some(run(threads, alloc, &asked.options, reader, &mut writer)));
+        let outcome = run(threads, alloc, &asked.options, reader, &mut writer);
+        return Ok(Some(Ran {
+            outcome,
+            is_closed: writer.inner.is_closed,
+        }));
     }
     let mut saves = saves_to(rt, saved);
     let outcome = run_saving(
@@ -166,7 +184,10 @@ fn outcome_of<T: Threads + Wait + Sync, R: Source + Send>(
     if say_unsaved(rt, saves)? {
         return Ok(None);
     }
-    Ok(Some(outcome))
+    Ok(Some(Ran {
+        outcome,
+        is_closed: writer.inner.is_closed,
+    }))
 }
 
 // Runs on the capture of a file while it comes.
