@@ -24,7 +24,7 @@ use Rattle.racl_options.specs.declared.settings.Lines.{Lines}
 use Rattle.racl_options.specs.declared.settings.Lines.TheVariants.{Plain, Explained, Json}
 use Rattle.racl_options.specs.declared.settings.Options.{Options}
 use Rattle.racl_views.specs.Hits.{AreHits}
-use Rattle.racl_views.specs.Views.{RunFacts}
+use Rattle.racl_views.specs.RunEntries.{RunFacts}
 use Rattle.racl_cli.specs.Reads.{IsUnnumbered}
 use Rattle.racl_cli.specs.Runs.{AreLines, AreTaken, HasPackets, IsRead, IsTaken, JudgedFacts, sessions_behind, told_facts, view_behind}
 use Rattle.racl_cli.specs.declared.viewing.Again.{Again}

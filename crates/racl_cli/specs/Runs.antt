@@ -28,10 +28,12 @@ use Rattle.racl_io.specs.ShownReports.{report_shown}
 use Rattle.racl_io.specs.declared.partial_report.Shown.{Shown}
 use Rattle.racl_options.specs.declared.settings.Lines.{Lines}
 use Rattle.racl_options.specs.declared.settings.Lines.TheVariants.{Plain, Explained, Json}
+use Rattle.racl_views.specs.ExplainedLines.{IsExplained}
 use Rattle.racl_views.specs.Hits.{AreHits}
+use Rattle.racl_views.specs.PacketObjects.{IsToldInObjects}
+use Rattle.racl_views.specs.RunEntries.{RunFacts}
 use Rattle.racl_views.specs.SessionLines.{sessions_told}
 use Rattle.racl_views.specs.Stored.{StoredFacts}
-use Rattle.racl_views.specs.Views.{IsTold, RunFacts}
 use Rattle.racl_views.specs.declared.view.View.{View}
 use Rattle.racl_views.specs.declared.view.View.TheVariants as view
 
@@ -160,8 +162,8 @@ pub record HasOutcome (size : TableSize) (times : Timeouts) (bytes : List ℕ) (
 -- the lines of packets and the totals, in the form that is asked for
 abbrev pub AreLines : Lines → RunFacts → List ℕ → Type 0
 AreLines Plain run lines = lines ≡ report_shown run.shown run.verdicts run.captures
-AreLines Explained run lines = IsTold view.Explained run lines
-AreLines Json run lines = IsTold view.Json run lines
+AreLines Explained run lines = IsExplained run lines
+AreLines Json run lines = IsToldInObjects run lines
 
 -- a run as its lines tell it
 abbrev pub told_facts : PolicyFacts → List ℕ → List PacketFacts → Outcome → Shown → RunFacts

@@ -9,7 +9,7 @@ ghost use Rattle.racl_io.specs.Reports;
 ghost use Rattle.racl_views.specs.CapturePackets.{HavePackets};
 ghost use Rattle.racl_views.specs.Hits.{AreHits};
 ghost use Rattle.racl_views.specs.Stored.{stored_facts};
-ghost use Rattle.racl_views.specs.Views.{run_facts};
+ghost use Rattle.racl_views.specs.RunEntries.{run_facts};
 ghost use Rattle.racl_cli.specs.Runs;
 ghost use Rattle.racl_cli.specs.Runs.{HasPackets, IsRead, sessions_behind, told_facts};
 ghost use Rattle.racl_cli.specs.inner.Captures.{AreTakenFrom, facts_of};
@@ -26,7 +26,8 @@ use racl_io::{
 };
 use racl_options::{Lines, Options};
 use racl_views::{
-    CaptureBytes, Run, StoredPairs, View, hits_text, packets_in, sessions_text, write_view,
+    CaptureBytes, Run, StoredPairs, View, hits_text, packets_in, sessions_text, write_explained,
+    write_objects,
 };
 use std::alloc::{AllocError, Global};
 use std::thread::Threads;
@@ -148,8 +149,8 @@ fn write_lines<W: Sink, T: Threads>(
 {
     match lines {
         Lines::Plain => write_shown(beside, alloc, writer, run.shown, run.verdicts, run.captures),
-        Lines::Explained => write_view(alloc, writer, View::Explained, run),
-        Lines::Json => write_view(alloc, writer, View::Json, run),
+        Lines::Explained => write_explained(alloc, writer, run),
+        Lines::Json => write_objects(alloc, writer, run),
     }
 }
 

@@ -9,11 +9,9 @@ use Rattle.acl_policy.specs.Policies.{PolicyFacts}
 use Rattle.flow_filter.specs.Readings.{IsSeen}
 use Rattle.flow_filter.specs.declared.verdict.Verdict.{Verdict}
 use Rattle.racl_views.specs.declared.rule.RuleLine.{RuleLine}
-use Rattle.racl_views.specs.declared.view.View.{View}
 use Rattle.racl_views.specs.Entries.{AreEntries, EntryFacts}
 use Rattle.racl_views.specs.RuleLines.{AreRules}
-use Rattle.racl_views.specs.RuleTexts.{rule_texts}
-use Rattle.racl_views.specs.Views.{Format, IsTold, RunFacts, lines_told, report_told}
+use Rattle.racl_views.specs.RunEntries.{HasEntries, RunFacts, told_from}
 use Rattle.racl_views.specs.inner.EntryLists.{entries_on, entry_on, view_at}
 use Rattle.racl_views.proofs.CountLemmas.{drop_one}
 
@@ -70,23 +68,15 @@ told_more front written piece now line more all told pushed =
     ap (λ (t : List ℕ). t ++ more) (append_assoc front written now ∙ ap (λ (t : List ℕ). front ++ t) (sym pushed) ∙ sym (append_assoc front piece line))
     ∙ append_assoc (front ++ piece) line more ∙ told
 
--- what is told, by what was looked up of the rules
-pub told_by : (view : View) (run : RunFacts) (rules : List RuleLine) (texts : List (List ℕ)) → AreRules run.text rules → texts ≡ rule_texts run.text
-    → IsTold view run (report_told (record { view = view; shown = run.shown; texts = texts }) (entries_on run.policy rules run.packets run.verdicts) run.verdicts run.captures)
-told_by view run rules texts are same = record {
-  rules = rules;
-  lines = are;
-  entries = entries_on run.policy rules run.packets run.verdicts;
-  are = all_entries run.policy rules run.packets run.verdicts;
-  all = ap (λ (ts : List (List ℕ)). report_told (record { view = view; shown = run.shown; texts = ts })
-      (entries_on run.policy rules run.packets run.verdicts) run.verdicts run.captures) same;
-}
+-- a run's entries, by what was looked up of the rules
+pub entries_by_rules : (run : RunFacts) (rules : List RuleLine) → AreRules run.text rules → HasEntries run (entries_on run.policy rules run.packets run.verdicts)
+entries_by_rules run rules are = record { rules = rules; lines = are; are = all_entries run.policy rules run.packets run.verdicts }
 
 -- after the last line
-pub told_all : (format : Format) (named : Option ℕ) (n : ℕ) (entries : List EntryFacts) (so_far all : List ℕ) → entries ≡ []
-    → so_far ++ lines_told format named n entries ≡ all → so_far ≡ all
-told_all format named n entries so_far all none told =
-    sym (append-nil so_far) ∙ ap (λ (es : List EntryFacts). so_far ++ lines_told format named n es) (sym none) ∙ told
+pub told_all : (tell : ℕ → EntryFacts → List ℕ) (n : ℕ) (entries : List EntryFacts) (so_far all : List ℕ) → entries ≡ []
+    → so_far ++ told_from tell n entries ≡ all → so_far ≡ all
+told_all tell n entries so_far all none told =
+    sym (append-nil so_far) ∙ ap (λ (es : List EntryFacts). so_far ++ told_from tell n es) (sym none) ∙ told
 
 -- the packets that are left, after one more was taken
 pub left_more : (all old new : List PacketFacts) (packet : PacketFacts) (k : ℕ) → old ≡ drop k all → old ≡ packet ∷ new → new ≡ drop (k + 1) all

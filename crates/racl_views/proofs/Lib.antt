@@ -5,7 +5,10 @@ pub mod ChosenLaws
 pub mod ChosenLemmas
 pub mod CountLemmas
 pub mod EntryLemmas
+pub mod FieldLemmas
 pub mod FlowKeyLemmas
 pub mod LineLemmas
+pub mod ObjectDepths
+pub mod ObjectLemmas
 pub mod RuleTextLemmas
 pub mod TextLemmas

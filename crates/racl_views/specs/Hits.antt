@@ -1,6 +1,8 @@
 -- How many packets each rule of a policy decided, how many none did, and how many sessions were entered, matched and expired (this
 -- project's profile).
-use Rattle.std.specs.Prelude.{◌≡◌, ℕ, ◌+◌, ◌-◌, Bool, true, false, not, List, [], ◌∷◌, ◌++◌, Option, codes, count_by, max}
+use Rattle.std.specs.Prelude.{◌≡◌, ℕ, ◌+◌, ◌-◌, Bool, true, false, not, List, [], ◌∷◌, ◌++◌, Option, codes, count_by, map, max}
+use Rattle.std.specs.List.{flat_map}
+use Rattle.json.specs.Json.{Json}
 use Rattle.packet_view.specs.Captures.{PacketFacts}
 use Rattle.packet_view.specs.declared.tuple.Direction.{Direction}
 use Rattle.packet_view.specs.declared.tuple.Direction.TheVariants.{Inbound, Outbound}
@@ -8,75 +10,52 @@ use Rattle.session_state.specs.Sessions.{is_expired_at}
 use Rattle.session_state.specs.declared.timeouts.Timeouts.{Timeouts}
 use Rattle.flow_filter.specs.declared.verdict.Verdict.{Verdict}
 use Rattle.flow_filter.specs.declared.verdict.Verdict.TheVariants as verdict
-use Rattle.racl_views.specs.declared.other.Other.{Other}
-use Rattle.racl_views.specs.declared.other.Other.TheVariants as other
+use Rattle.racl_views.specs.declared.hit.Hit.{Hit}
+use Rattle.racl_views.specs.declared.hit.Hit.TheVariants as hit
+use Rattle.racl_views.specs.declared.reason.Reason.{Reason}
+use Rattle.racl_views.specs.declared.reason.Reason.TheVariants as reason
 use Rattle.racl_views.specs.declared.rule.RuleLine.{RuleLine}
 use Rattle.racl_views.specs.declared.rule.RuleName.{RuleName}
 use Rattle.racl_views.specs.declared.session_counts.SessionCounts.{SessionCounts}
 use Rattle.racl_views.specs.declared.view.View.{View}
+use Rattle.racl_views.specs.declared.view.View.TheVariants as form
 use Rattle.racl_views.specs.Deciding.{AreDecided, hits_on}
-use Rattle.racl_views.specs.Forms.{by_view, line_end}
+use Rattle.racl_views.specs.Objects.{number, object_line, object_of, string}
+use Rattle.racl_views.specs.PacketObjects.{way_field}
 use Rattle.racl_views.specs.PacketWords.{numbered}
 use Rattle.racl_views.specs.RuleLines.{AreRules}
 use Rattle.racl_views.specs.Stored.{StoredFacts}
-use Rattle.racl_views.specs.Views.{RunFacts}
-
--- ---- rules
-
-abbrev pub way_word : View → Direction → List ℕ
-way_word view Inbound = by_view view (codes " in rule ") (codes ",\"direction\":\"in\",\"rule\":")
-way_word view Outbound = by_view view (codes " out rule ") (codes ",\"direction\":\"out\",\"rule\":")
-
--- what is told of a rule that decided so many packets
-abbrev pub rule_told : View → RuleLine → ℕ → List ℕ
-rule_told view at count = numbered (by_view view (codes "interface ") (codes "{\"interface\":")) at.rule.interface
-    ++ (numbered (way_word view at.rule.direction) at.rule.number
-    ++ (numbered (by_view view (codes " line ") (codes ",\"line\":")) at.line
-    ++ (numbered (by_view view (codes " packets ") (codes ",\"packets\":")) count ++ line_end view)))
-
--- of rules, where packets were decided by these
-abbrev pub rules_told : View → List (Option RuleName) → List RuleLine → List ℕ
-rules_told view deciding [] = []
-rules_told view deciding (at ∷ more) = rule_told view at (hits_on at.rule deciding) ++ rules_told view deciding more
+use Rattle.racl_views.specs.RunEntries.{RunFacts}
 
 -- ---- verdicts that are no rule's
 
--- whether the verdict is this one
-abbrev pub is_other : Other → Verdict → Bool
-is_other other.Session verdict.Session = true
-is_other other.ByDefault verdict.ByDefault = true
-is_other other.Full verdict.Full = true
-is_other other.Worn verdict.Worn = true
-is_other other.NoPages verdict.NoPages = true
-is_other other.NotIp verdict.NotIp = true
-is_other other.Malformed verdict.Malformed = true
-is_other other.Short verdict.Short = true
-is_other _ _ = false
+-- whether a packet with this verdict has it for this reason
+abbrev pub has_reason : Reason → Verdict → Bool
+has_reason reason.Session verdict.Session = true
+has_reason reason.ByDefault verdict.ByDefault = true
+has_reason reason.Full verdict.Full = true
+has_reason reason.Worn verdict.Worn = true
+has_reason reason.NoPages verdict.NoPages = true
+has_reason reason.NotIp verdict.NotIp = true
+has_reason reason.Malformed verdict.Malformed = true
+has_reason reason.Short verdict.Short = true
+has_reason _ _ = false
 
-abbrev pub word_of : Other → List ℕ
-word_of other.Session = codes "session"
-word_of other.ByDefault = codes "default"
-word_of other.Full = codes "full"
-word_of other.Worn = codes "worn"
-word_of other.NoPages = codes "no-pages"
-word_of other.NotIp = codes "not-ip"
-word_of other.Malformed = codes "malformed"
-word_of other.Short = codes "short"
-
--- what is told of a verdict that so many packets have
-abbrev pub other_told : View → Other → ℕ → List ℕ
-other_told view other count = by_view view [] (codes "{\"reason\":\"")
-    ++ (word_of other ++ (numbered (by_view view (codes " packets ") (codes "\",\"packets\":")) count ++ line_end view))
-
-abbrev pub others_told : View → List Verdict → List Other → List ℕ
-others_told view verdicts [] = []
-others_told view verdicts (other ∷ more) = other_told view other (count_by (is_other other) verdicts) ++ others_told view verdicts more
+abbrev pub word_of : Reason → List ℕ
+word_of reason.Session = codes "session"
+word_of reason.ByDefault = codes "default"
+word_of reason.Full = codes "full"
+word_of reason.Worn = codes "worn"
+word_of reason.NoPages = codes "no-pages"
+word_of reason.NotIp = codes "not-ip"
+word_of reason.Malformed = codes "malformed"
+word_of reason.Short = codes "short"
 
 -- all of them, in their order
-abbrev pub all_others : List Other
-all_others = other.Session ∷ other.ByDefault ∷ other.Full ∷ other.Worn ∷ other.NoPages ∷ other.NotIp ∷ other.Malformed ∷ other.Short ∷ []
+abbrev pub all_reasons : List Reason
+all_reasons = reason.Session ∷ reason.ByDefault ∷ reason.Full ∷ reason.Worn ∷ reason.NoPages ∷ reason.NotIp ∷ reason.Malformed ∷ reason.Short ∷ []
 
--- ---- sessions
+-- ---- counts
 
 -- whether the verdict is of a packet that entered a session
 abbrev pub is_entry : Verdict → Bool
@@ -100,18 +79,49 @@ live_stored times moment stored = live_among times moment stored.four + live_amo
 abbrev pub session_counts : Timeouts → RunFacts → StoredFacts → SessionCounts
 session_counts times run stored = record {
   entered = count_by is_entry run.verdicts;
-  matched = count_by (is_other other.Session) run.verdicts;
+  matched = count_by (has_reason reason.Session) run.verdicts;
   expired = count_by is_entry run.verdicts - live_stored times (latest_second run.packets) stored;
 }
 
--- what is told of so many sessions
-abbrev pub count_told : View → List ℕ → List ℕ → ℕ → List ℕ
-count_told view text object count = numbered (by_view view text object) count ++ line_end view
+-- ---- hits
 
-abbrev pub counts_told : View → SessionCounts → List ℕ
-counts_told view counts = count_told view (codes "sessions entered ") (codes "{\"sessions_entered\":") counts.entered
-    ++ (count_told view (codes "sessions matched ") (codes "{\"sessions_matched\":") counts.matched
-    ++ count_told view (codes "sessions expired ") (codes "{\"sessions_expired\":") counts.expired)
+-- how many packets each of these rules decided, where packets were decided by those
+abbrev pub rule_hits : List (Option RuleName) → List RuleLine → List Hit
+rule_hits deciding rules = map (λ at. hit.Rule at (hits_on at.rule deciding)) rules
+
+-- how many have a verdict for each reason
+abbrev pub reason_hits : List Verdict → List Hit
+reason_hits verdicts = map (λ why. hit.Unruled why (count_by (has_reason why) verdicts)) all_reasons
+
+abbrev pub session_hits : SessionCounts → List Hit
+session_hits counts = hit.Entered counts.entered ∷ hit.Matched counts.matched ∷ hit.Expired counts.expired ∷ []
+
+-- ---- in either form
+
+abbrev pub way_word : Direction → List ℕ
+way_word Inbound = codes " in rule "
+way_word Outbound = codes " out rule "
+
+abbrev pub hit_line : Hit → List ℕ
+hit_line (hit.Rule at count) = numbered (codes "interface ") at.rule.interface
+    ++ (numbered (way_word at.rule.direction) at.rule.number
+    ++ (numbered (codes " line ") at.line ++ (numbered (codes " packets ") count ++ codes "\n")))
+hit_line (hit.Unruled why count) = word_of why ++ (numbered (codes " packets ") count ++ codes "\n")
+hit_line (hit.Entered count) = numbered (codes "sessions entered ") count ++ codes "\n"
+hit_line (hit.Matched count) = numbered (codes "sessions matched ") count ++ codes "\n"
+hit_line (hit.Expired count) = numbered (codes "sessions expired ") count ++ codes "\n"
+
+abbrev pub hit_object : Hit → Json
+hit_object (hit.Rule at count) = object_of (number (codes "interface") at.rule.interface ∷ way_field at.rule.direction
+    ∷ number (codes "rule") at.rule.number ∷ number (codes "line") at.line ∷ number (codes "packets") count ∷ [])
+hit_object (hit.Unruled why count) = object_of (string (codes "reason") (word_of why) ∷ number (codes "packets") count ∷ [])
+hit_object (hit.Entered count) = object_of (number (codes "sessions_entered") count ∷ [])
+hit_object (hit.Matched count) = object_of (number (codes "sessions_matched") count ∷ [])
+hit_object (hit.Expired count) = object_of (number (codes "sessions_expired") count ∷ [])
+
+abbrev pub hit_told : View → Hit → List ℕ
+hit_told form.Explained it = hit_line it
+hit_told form.Json it = object_line (hit_object it)
 
 -- ---- all of it
 
@@ -122,8 +132,8 @@ pub record IsHits (view : View) (times : Timeouts) (run : RunFacts) (stored : St
   pub lines : AreRules run.text rules
   pub deciding : List (Option RuleName)
   pub decided : AreDecided run.policy run.packets run.verdicts deciding
-  pub all : told ≡ rules_told view deciding rules
-      ++ (others_told view run.verdicts all_others ++ counts_told view (session_counts times run stored))
+  pub all : told ≡ flat_map (hit_told view)
+      (rule_hits deciding rules ++ (reason_hits run.verdicts ++ session_hits (session_counts times run stored)))
 
 -- the same, where it is asked for
 abbrev pub AreHits : Bool → View → Timeouts → RunFacts → StoredFacts → List ℕ → Type 0

@@ -3,14 +3,13 @@ pub mod ChosenRecords
 pub mod Deciding
 pub mod Entries
 pub mod ExplainedLines
-pub mod Forms
 pub mod Hits
-pub mod JsonLines
-pub mod PacketLines
+pub mod Objects
+pub mod PacketObjects
 pub mod PacketWords
 pub mod RuleLines
 pub mod RuleTexts
+pub mod RunEntries
 pub mod SessionLines
 pub mod Stored
-pub mod Views
 pub mod inner

@@ -1,17 +1,12 @@
 -- The text of a rule, as its line has it (this project's profile).
-use Rattle.std.specs.Prelude.{ℕ, List, [], ◌∷◌, drop, take, map, not, position, Option, None, Some, if◌then◌else◌}
+use Rattle.std.specs.Prelude.{ℕ, List, [], ◌∷◌, drop, take, map, not, option_map, position, unwrap_or, if◌then◌else◌}
 use Rattle.std.specs.Str.Lines as split
 use Rattle.policy_words.specs.Words.{is_blank, without_comment}
 use Rattle.racl_views.specs.declared.shown_text.RuleText.{RuleText}
 
--- a text from the place on, or nothing where there is none
-abbrev pub from_place : Option ℕ → List ℕ → List ℕ
-from_place None text = []
-from_place (Some place) text = drop place text
-
 -- a text from its first word on
 abbrev pub from_word : List ℕ → List ℕ
-from_word text = from_place (position (λ b. not (is_blank b)) text) text
+from_word text = unwrap_or (option_map (λ place. drop place text) (position (λ b. not (is_blank b)) text)) []
 
 -- a byte before others: a blank before none is left out
 abbrev pub before : ℕ → List ℕ → List ℕ
@@ -23,13 +18,9 @@ abbrev pub without_end : List ℕ → List ℕ
 without_end [] = []
 without_end (byte ∷ bytes) = before byte (without_end bytes)
 
--- how many bytes of a rule are shown at most
-abbrev pub most_shown : ℕ
-most_shown = 200
-
--- what is shown of a line: all up to its comment but the blanks at both ends, up to so many bytes
+-- what is shown of a line: all up to its comment but the blanks at both ends, up to 200 bytes
 abbrev pub rule_text : List ℕ → List ℕ
-rule_text line = take most_shown (without_end (from_word (without_comment line)))
+rule_text line = take 200 (without_end (from_word (without_comment line)))
 
 -- of each line of a policy
 abbrev pub rule_texts : List ℕ → List (List ℕ)

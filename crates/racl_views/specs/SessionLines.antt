@@ -1,7 +1,8 @@
 -- What is told of the sessions that stand in the tables: the ends of each flow as its key has them, and what its word keeps (this
 -- project's profile).
-use Rattle.std.specs.Prelude.{◌≡◌, ℕ, Bool, ◌==◌, ◌||◌, ◌/◌, ◌%◌, ◌*◌, ◌+◌, ◌^◌, List, [], ◌++◌, Option, None, Some, codes, get_or, if◌then◌else◌}
+use Rattle.std.specs.Prelude.{◌≡◌, ℕ, Bool, ◌==◌, ◌||◌, ◌/◌, ◌%◌, ◌*◌, ◌+◌, ◌^◌, List, [], ◌∷◌, ◌++◌, Option, None, Some, codes, get_or, if◌then◌else◌}
 use Rattle.std.specs.List.{flat_map}
+use Rattle.json.specs.Json.{Json, array, item, no_items}
 use Rattle.packet_view.specs.Tuples.{TupleFacts}
 use Rattle.packet_view.specs.declared.tuple.Family.{Family}
 use Rattle.packet_view.specs.declared.tuple.Family.TheVariants.{V4, V6}
@@ -14,9 +15,9 @@ use Rattle.session_state.specs.declared.timeouts.Timeouts.{Timeouts}
 use Rattle.racl_views.specs.declared.flow_end.FlowEnd.{FlowEnd}
 use Rattle.racl_views.specs.declared.stored_flow.StoredFlow.{StoredFlow}
 use Rattle.racl_views.specs.declared.view.View.{View}
-use Rattle.racl_views.specs.Forms.{by_view, line_end, quote_end}
-use Rattle.racl_views.specs.PacketLines.{flags_told, protocol_told}
-use Rattle.racl_views.specs.PacketWords.{address_text, numbered}
+use Rattle.racl_views.specs.declared.view.View.TheVariants as form
+use Rattle.racl_views.specs.Objects.{Field, number, object_line, object_of, string}
+use Rattle.racl_views.specs.PacketWords.{address_text, flags_text, numbered, protocol_text}
 use Rattle.racl_views.specs.Stored.{StoredFacts}
 
 -- ---- keys
@@ -67,8 +68,6 @@ pub record SaysPacket (packet : TupleFacts) (flow : FlowFacts) : Type 0 where
   pub proto : flow.proto ≡ packet.proto
   pub ends : StandAs packet packet.fields flow.first flow.second
 
--- ---- lines
-
 -- TCP, and TCP or UDP
 abbrev pub is_tcp : ℕ → Bool
 is_tcp proto = proto == 6
@@ -76,32 +75,58 @@ is_tcp proto = proto == 6
 abbrev pub has_ports : ℕ → Bool
 has_ports proto = (proto == 6) || (proto == 17)
 
-abbrev pub port_told : View → ℕ → ℕ → List ℕ
-port_told view proto port = if has_ports proto then numbered (by_view view (codes " port ") (codes ",\"port\":")) port else []
+-- ---- lines
+
+abbrev pub port_told : ℕ → ℕ → List ℕ
+port_told proto port = if has_ports proto then numbered (codes " port ") port else []
 
 -- the flags that are kept of the end
-abbrev pub end_flags : View → ℕ → ℕ → List ℕ
-end_flags view proto flags = if is_tcp proto then flags_told view flags else []
+abbrev pub end_flags : ℕ → ℕ → List ℕ
+end_flags proto flags = if is_tcp proto then flags_text flags else []
 
--- an end behind a word
-abbrev pub end_told : View → FlowFacts → End → ℕ → List ℕ
-end_told view flow end flags = address_text flow.family end.address
-    ++ (quote_end view ++ (port_told view flow.proto end.port ++ end_flags view flow.proto flags))
+abbrev pub end_told : FlowFacts → End → ℕ → List ℕ
+end_told flow end flags = address_text flow.family end.address ++ (port_told flow.proto end.port ++ end_flags flow.proto flags)
 
-abbrev pub flow_told : View → FlowFacts → List ℕ
-flow_told view flow = numbered (by_view view (codes "session interface ") (codes "{\"interface\":")) flow.interface
-    ++ protocol_told view flow.family flow.proto
+abbrev pub flow_told : FlowFacts → List ℕ
+flow_told flow = numbered (codes "session interface ") flow.interface ++ (codes " " ++ protocol_text flow.family flow.proto)
 
 -- the latest second of its packets, and the last second in which the session is live
-abbrev pub seconds_told : View → Timeouts → SessionFacts → List ℕ
-seconds_told view times session = numbered (by_view view (codes " last ") (codes "}],\"last\":")) session.last
-    ++ (numbered (by_view view (codes " until ") (codes ",\"until\":")) (live_until session times) ++ line_end view)
+abbrev pub seconds_told : Timeouts → SessionFacts → List ℕ
+seconds_told times session =
+    numbered (codes " last ") session.last ++ (numbered (codes " until ") (live_until session times) ++ codes "\n")
+
+abbrev pub session_line : Timeouts → FlowFacts → SessionFacts → List ℕ
+session_line times flow session = flow_told flow
+    ++ (codes " " ++ (end_told flow flow.first session.first_flags
+    ++ (codes " and " ++ (end_told flow flow.second session.second_flags ++ seconds_told times session))))
+
+-- ---- objects
+
+-- the port of an end, and the flags that are kept of it
+abbrev pub end_fields : ℕ → End → ℕ → List Field
+end_fields proto end flags = (if has_ports proto then number (codes "port") end.port ∷ [] else [])
+    ++ (if is_tcp proto then number (codes "flags") flags ∷ [] else [])
+
+abbrev pub end_object : FlowFacts → End → ℕ → Json
+end_object flow end flags =
+    object_of (string (codes "address") (address_text flow.family end.address) ∷ end_fields flow.proto end flags)
+
+abbrev pub ends_field : FlowFacts → SessionFacts → Field
+ends_field flow session = (
+  codes "ends",
+  array (item (end_object flow flow.first session.first_flags) (item (end_object flow flow.second session.second_flags) no_items)),
+)
+
+abbrev pub session_object : Timeouts → FlowFacts → SessionFacts → Json
+session_object times flow session =
+    object_of (number (codes "interface") flow.interface ∷ number (codes "protocol") flow.proto ∷ ends_field flow session
+    ∷ number (codes "last") session.last ∷ number (codes "until") (live_until session times) ∷ [])
+
+-- ---- sessions in either form
 
 abbrev pub session_told : View → Timeouts → FlowFacts → SessionFacts → List ℕ
-session_told view times flow session = flow_told view flow
-    ++ (by_view view (codes " ") (codes ",\"ends\":[{\"address\":\"") ++ (end_told view flow flow.first session.first_flags
-    ++ (by_view view (codes " and ") (codes "},{\"address\":\"") ++ (end_told view flow flow.second session.second_flags
-    ++ seconds_told view times session))))
+session_told form.Explained times flow session = session_line times flow session
+session_told form.Json times flow session = object_line (session_object times flow session)
 
 -- of a stored pair: nothing where its word is no session's, which no packet stores
 abbrev pub pair_told : View → Timeouts → FlowFacts → Option SessionFacts → List ℕ

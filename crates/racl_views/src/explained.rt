@@ -10,7 +10,6 @@ use crate::packet_text::{push_carried, push_seen};
 use crate::pieces::push_numbered;
 use crate::rule_text::text_at;
 use crate::shown_text::RuleText;
-use crate::view::View;
 use flow_filter::Verdict;
 use racl_io::{Numeral, Piece, push_name};
 
@@ -65,13 +64,13 @@ fn push_decided<'a>(piece: &mut Piece, texts: &'a [RuleText<'a>], line: u64)
 
 /// The line of the packet with this number.
 pub fn push_explained<'a>(piece: &mut Piece, texts: &'a [RuleText<'a>], place: Place, entry: &Entry)
-    requires { length piece.old + 870 ≤ 262144 }
+    requires { length piece.old + 742 ≤ 262144 }
     ensures text { piece.new ≡ piece.old ++ explained_line (map shown_of texts.now) place.named place.number (entry_facts entry.now) }
-    ensures short { length piece.new ≤ length piece.old + 870 }
+    ensures short { length piece.new ≤ length piece.old + 742 }
 {
     push_head(piece, place.named, place.number, entry.verdict);
-    push_seen(piece, View::Explained, entry);
-    push_carried(piece, View::Explained, &entry.frame);
+    push_seen(piece, entry);
+    push_carried(piece, &entry.frame);
     push_decided(piece, texts, entry.line);
     piece.push(b"\n");
 }

@@ -3,7 +3,7 @@ ghost use Rattle.std.specs.Prelude.{◌≡◌, ◌-◌, ◌<◌, ◌≤◌, [], 
 ghost use Rattle.std.specs.Str.{IsUtf8};
 ghost use Rattle.policy_words.specs.Words;
 ghost use Rattle.racl_views.specs.RuleTexts;
-ghost use Rattle.racl_views.specs.RuleTexts.{from_word, most_shown, rule_texts, shown_of, without_end};
+ghost use Rattle.racl_views.specs.RuleTexts.{from_word, rule_texts, shown_of, without_end};
 
 use crate::shown_text::RuleText;
 use acl_policy::before_comment;
@@ -51,7 +51,7 @@ fn before_blanks(text: &[u8]) -> &[u8]
 
 // As many bytes of a text as are shown at most.
 fn front(text: &[u8]) -> &[u8]
-    ensures text { result.now ≡ take most_shown text.now }
+    ensures text { result.now ≡ take 200 text.now }
     ensures short { length result.now ≤ 200 }
 {
     if text.len() < MOST_SHOWN {

@@ -5,9 +5,9 @@ ghost use Rattle.session_state.specs.Sessions.{is_expired_at};
 ghost use Rattle.racl_views.specs.Hits;
 ghost use Rattle.racl_views.specs.Hits.{live_among, session_counts};
 ghost use Rattle.racl_views.specs.Stored.{stored_facts};
-ghost use Rattle.racl_views.specs.Views.{run_facts};
+ghost use Rattle.racl_views.specs.RunEntries.{run_facts};
 
-use crate::other::Other;
+use crate::reason::Reason;
 use crate::run::Run;
 use crate::session_counts::SessionCounts;
 use crate::stored::StoredPairs;
@@ -15,29 +15,29 @@ use flow_filter::Verdict;
 use packet_view::Packets;
 use session_state::{Session, Timeouts};
 
-fn is_other(other: Other, verdict: Verdict) -> bool
-    ensures { result ≡ Hits.is_other other verdict }
+fn has_reason(reason: Reason, verdict: Verdict) -> bool
+    ensures { result ≡ Hits.has_reason reason verdict }
 {
-    match (other, verdict) {
-        (Other::Session, Verdict::Session)
-        | (Other::ByDefault, Verdict::ByDefault)
-        | (Other::Full, Verdict::Full)
-        | (Other::Worn, Verdict::Worn)
-        | (Other::NoPages, Verdict::NoPages)
-        | (Other::NotIp, Verdict::NotIp)
-        | (Other::Malformed, Verdict::Malformed)
-        | (Other::Short, Verdict::Short) => true,
+    match (reason, verdict) {
+        (Reason::Session, Verdict::Session)
+        | (Reason::ByDefault, Verdict::ByDefault)
+        | (Reason::Full, Verdict::Full)
+        | (Reason::Worn, Verdict::Worn)
+        | (Reason::NoPages, Verdict::NoPages)
+        | (Reason::NotIp, Verdict::NotIp)
+        | (Reason::Malformed, Verdict::Malformed)
+        | (Reason::Short, Verdict::Short) => true,
         _ => false,
     }
 }
 
 /// How many packets have this verdict.
-pub fn count_other(other: Other, verdicts: &[Verdict]) -> u64
-    ensures { result ≡ count_by (Hits.is_other other) verdicts.now }
+pub fn count_reason(reason: Reason, verdicts: &[Verdict]) -> u64
+    ensures { result ≡ count_by (Hits.has_reason reason) verdicts.now }
 {
     let mut count = 0;
     'verdicts: for verdict in verdicts {
-        if is_other(other, *verdict) {
+        if has_reason(reason, *verdict) {
             count += 1;
         }
     }
@@ -105,7 +105,7 @@ pub fn count_sessions(times: Timeouts, run: Run<'_>, stored: &StoredPairs) -> Se
     let six = count_live(&times, latest, &stored.six);
     SessionCounts {
         entered,
-        matched: count_other(Other::Session, run.verdicts),
+        matched: count_reason(Reason::Session, run.verdicts),
         expired: entered.saturating_sub(four).saturating_sub(six),
     }
 }

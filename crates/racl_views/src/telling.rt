@@ -1,14 +1,12 @@
 //! How packets are told.
 
 use crate::rule_table::RuleTable;
-use crate::view::View;
 use acl_policy::Policy;
 use racl_io::Shown;
 
-/// How packets are told: in which form, which of them, and under which policy, whose rules stand in the table.
+/// How packets are told: which of them, and under which policy, whose rules stand in the table.
 #[derive(Clone, Copy)]
 pub struct Telling<'a, 'b> {
-    pub view: View,
     pub shown: Shown,
     pub policy: &'a Policy,
     pub table: &'b RuleTable<'a>,

@@ -14,7 +14,7 @@ use Rattle.racl_options.specs.Asking.{is_plain}
 use Rattle.racl_options.specs.declared.settings.Lines.{Lines}
 use Rattle.racl_options.specs.declared.settings.Options.{Options}
 use Rattle.racl_views.specs.CapturePackets.{HavePackets}
-use Rattle.racl_views.specs.Views.{RunFacts}
+use Rattle.racl_views.specs.RunEntries.{RunFacts}
 use Rattle.racl_views.specs.declared.capture_bytes.CaptureBytes.{CaptureBytes}
 use Rattle.racl_cli.specs.Runs.{AreLines, IsReport, JudgedFacts, sessions_behind}
 use Rattle.racl_cli.specs.declared.viewing.Again.{Again}

@@ -3,7 +3,7 @@ use acl_policy::read_policy;
 use flow_filter::Verdict;
 use packet_view::{Packet, Packets};
 use racl_io::{Captured, Device, Shown};
-use racl_views::{Run, View, write_view};
+use racl_views::{Run, View, write_explained, write_objects};
 use std::alloc::Global;
 use std::test::Fail;
 
@@ -145,7 +145,10 @@ fn told(
         shown: Shown::Every,
     };
     let mut report = Device::new(Vec::new(alloc));
-    write_view(alloc, &mut report, view, run)?;
+    match view {
+        View::Explained => write_explained(alloc, &mut report, run)?,
+        View::Json => write_objects(alloc, &mut report, run)?,
+    };
     Ok(report.inner)
 }
 

@@ -6,16 +6,37 @@ use Rattle.acl_policy.specs.Policies.{IsPolicyText, PolicyFacts, policy_facts}
 use Rattle.flow_filter.specs.declared.verdict.Verdict.{Verdict}
 use Rattle.racl_io.specs.declared.fault.Fault.{Fault}
 use Rattle.racl_io.specs.declared.fault.Fault.TheVariants.{Write}
+use Rattle.racl_io.specs.declared.report.Captured.{Captured}
+use Rattle.racl_io.specs.Reports.{truncation_line}
 use Rattle.racl_views.specs.declared.rule_table.RuleTable.{RuleTable}
 use Rattle.racl_views.specs.declared.telling.Telling.{Telling}
 use Rattle.racl_views.specs.Entries.{EntryFacts}
+use Rattle.racl_views.specs.ExplainedLines.{shown_line}
+use Rattle.racl_views.specs.Objects.{object_lines}
+use Rattle.racl_views.specs.PacketObjects.{packet_objects, truncation_objects}
 use Rattle.racl_views.specs.RuleLines.{AreRules}
 use Rattle.racl_views.specs.RuleTexts.{rule_texts, shown_of}
-use Rattle.racl_views.specs.Views.{Format}
 use Rattle.racl_views.specs.inner.EntryLists.{entries_on, entry_on}
 
-abbrev pub format_of : Telling → Format
-format_of t = record { view = t.view; shown = t.shown; texts = map shown_of t.table.now.texts.items }
+-- what is shown of each line of the policy
+abbrev pub texts_by : Telling → List (List ℕ)
+texts_by t = map shown_of t.table.now.texts.items
+
+-- the explained line of a packet, where it is shown
+abbrev pub line_by : Telling → Option ℕ → ℕ → EntryFacts → List ℕ
+line_by t named = shown_line t.shown (texts_by t) named
+
+-- the line of a truncation, where there is one
+abbrev pub truncation_told : Captured → List ℕ
+truncation_told captured = truncation_line captured.named captured.truncated captured.packets
+
+-- the line of its object, where it is shown
+abbrev pub object_by : Telling → ℕ → EntryFacts → List ℕ
+object_by t n entry = object_lines (packet_objects t.shown n entry)
+
+-- that of a truncation
+abbrev pub truncation_lines : Captured → List ℕ
+truncation_lines captured = object_lines (truncation_objects captured)
 
 -- the entries of packets with these verdicts
 abbrev pub entries_by : Telling → List PacketFacts → List Verdict → List EntryFacts

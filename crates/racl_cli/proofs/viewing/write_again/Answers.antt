@@ -4,7 +4,7 @@ use Rattle.packet_view.specs.Captures.{packet_facts}
 use Rattle.racl_views.specs.CapturePackets.{HavePackets}
 use Rattle.racl_views.specs.Hits.{AreHits}
 use Rattle.racl_views.specs.Stored.{StoredFacts}
-use Rattle.racl_views.specs.Views.{run_facts}
+use Rattle.racl_views.specs.RunEntries.{run_facts}
 use Rattle.racl_views.specs.declared.capture_bytes.CaptureBytes.{CaptureBytes}
 use Rattle.racl_cli.specs.Runs.{JudgedFacts, sessions_behind, view_behind}
 use Rattle.racl_cli.proofs.ViewLemmas.{told_again}
