@@ -8,8 +8,8 @@ use Rattle.packet_view.proofs.RecordLemmas.{HasNoRecord, IsStop, part_only, reco
 use Rattle.packet_view.specs.Captures.{AreRecords, Cut, Nothing, PacketFacts, RecordFacts, TooLong}
 use Rattle.packet_view.specs.Fronts.{Stops}
 use Rattle.packet_view.specs.declared.capture.Order.{Order}
-use Rattle.packet_view.specs.declared.front.Stop.{Stop}
-use Rattle.packet_view.specs.declared.front.Stop.TheVariants as stop
+use Rattle.packet_view.specs.declared.records_at_front.Stop.{Stop}
+use Rattle.packet_view.specs.declared.records_at_front.Stop.TheVariants as stop
 use Rattle.policy_check.specs.Foreign.{IsOf}
 use Rattle.policy_check.proofs.WalkLemmas.{one_further}
 

@@ -13,7 +13,7 @@ use Rattle.flow_filter.specs.declared.verdict.Verdict.TheVariants as verdict
 use Rattle.racl_io.specs.declared.report.Captured.{Captured}
 use Rattle.racl_io.specs.declared.report.Totals.{Totals}
 use Rattle.session_state.specs.Sessions.{SessionFacts}
-use Rattle.session_state.specs.declared.end.End.{End}
+use Rattle.session_state.specs.declared.flow_end.End.{End}
 use Rattle.session_state.specs.declared.timeouts.Timeouts.{Timeouts}
 use Rattle.racl_views.specs.Entries.{EntryFacts}
 use Rattle.racl_views.specs.Hits.{hit_object}

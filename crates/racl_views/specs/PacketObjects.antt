@@ -12,7 +12,7 @@ use Rattle.flow_filter.specs.declared.verdict.Verdict.{Verdict}
 use Rattle.flow_filter.specs.declared.verdict.Verdict.TheVariants as verdict
 use Rattle.racl_io.specs.declared.report.Captured.{Captured}
 use Rattle.racl_io.specs.declared.report.Totals.{Totals}
-use Rattle.racl_io.specs.declared.shown.Shown.{Shown}
+use Rattle.racl_io.specs.declared.partial_report.Shown.{Shown}
 use Rattle.racl_io.specs.Reports.{totals_of}
 use Rattle.racl_io.specs.ShownReports.{is_shown}
 use Rattle.racl_views.specs.Entries.{EntryFacts}

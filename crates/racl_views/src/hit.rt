@@ -4,7 +4,7 @@ use crate::reason::Reason;
 use crate::rule::RuleLine;
 
 /// How many packets or sessions there are of a kind.
-#[derive(Clone, Copy, Debug, PartialEq, Eq)]
+#[derive(Clone, Copy)]
 pub enum Hit {
     /// Packets that a rule decided.
     Rule(RuleLine, u64),
