@@ -5,8 +5,6 @@ use Rattle.racl_cli.proofs.RunLemmas.{excluded_by_input}
 use Rattle.racl_cli.proofs.ViewLemmas.{told_plain}
 use Rattle.racl_cli.proofs.end_to_end.run.Goals as goal
 
--- ---- nothing is kept
-
 pub returns-in-Ok-clause-ok : goal.returns-in-Ok-clause-ok
 returns-in-Ok-clause-ok g c =
     let options = c.args.options.now in
@@ -22,11 +20,10 @@ returns-in-Ok-clause-accepts g c =
     let options = c.args.options.now in
     let old = g.W.Sink.bytes c.args.writer.now in
     let new = g.W.Sink.bytes c.write_plain.new.writer in
-    let judged = c.in-Ok.judged in
-    let k = kept_none options (g.R.Source.bytes c.args.reader.now) false [] (Ok judged) refl c.in-Ok.ensures.answers in
+    let k = kept_none options (g.R.Source.bytes c.args.reader.now) false [] (Ok c.in-Ok.judged) refl c.in-Ok.ensures.answers in
     known_read _ _ _ k.bytes _ (record { whole = k.known; few = k.few }) (λ one_thread has.
-    has_reported old new options _ false [] judged c.write_plain.result k (λ asked. c.if-not-needs_bytes.ensures ∙ asked)
-    (λ input policy packets may read. told_plain options input policy packets judged old new c.write_plain.result (sym c.if-not-needs_bytes.ensures) read
+    has_reported old new options _ false [] c.in-Ok.judged c.write_plain.result k (λ asked. c.if-not-needs_bytes.ensures ∙ asked)
+    (λ input policy packets may read. told_plain options input policy packets c.in-Ok.judged old new c.write_plain.result (sym c.if-not-needs_bytes.ensures) read
     c.write_plain.ensures.told)
     one_thread has c.write_plain.ensures.ends.fault)
 
@@ -49,8 +46,6 @@ returns-in-Err-clause-write g c = (
   (λ same. absurd (unwritten c.args.options.now _ c.in-Err.fault c.in-Err.ensures.answers (let e = same in cc))),
   (λ failed. absurd (omega (arith, failed))),
 )
-
--- ---- all is kept
 
 pub returns-in-Ok-judge_kept-clause-ok : goal.returns-in-Ok-judge_kept-clause-ok
 returns-in-Ok-judge_kept-clause-ok g c =
