@@ -1,5 +1,5 @@
 -- What one worker did: an item for each packet that was dealt to it.
-use Rattle.std.specs.Prelude.{◌≡◌, ℕ, ◌+◌, ◌==◌, if◌then◌else◌, List, [], ◌∷◌, length, map, Option, Some, None, option_map, All, slice_get}
+use Rattle.std.specs.Prelude.{◌≡◌, ℕ, ◌+◌, ◌==◌, if◌then◌else◌, List, [], ◌∷◌, length, map, Option, Some, option_map, All, slice_get}
 use Rattle.std.specs.List.{AllZip}
 use lib.ListN.{get_elem?}
 use mathlib.Core.Option.{some}

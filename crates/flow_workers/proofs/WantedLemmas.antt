@@ -323,8 +323,7 @@ keep_wanted g back there v w e key same answered lawful short had =
         let last = ap last_call answered.records
         ∙ pushed_last entry (with_locks answered.locks v.records)
         (subst (λ rs. 1 ≤ length rs) answered.records lawful.acts) in
-        let stamp : entry.stamp ≡ length (known_at w.known b) = (o.bears entry last).0 in
-        (
+        let stamp : entry.stamp ≡ length (known_at w.known b) = (o.bears entry last).0 in (
           omega arith,
           subst (λ n. WantsBlock z (after (opening_at w.known b) (known_at w.known b) n) e.key log2) (sym stamp)
               (wants_planned g back there (map_now w b) key e.key log2 o.linear same long o.planned),

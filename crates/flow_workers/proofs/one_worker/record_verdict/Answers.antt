@@ -15,8 +15,8 @@ overflow_add-number g c =
     let fits = c.requires.fits in
     omega arith
 
-pub judge_as-requires-clause-ruling : goal.judge_as-requires-clause-ruling
-judge_as-requires-clause-ruling g c =
+pub judge_as-verdict-requires-clause-ruling : goal.judge_as-verdict-requires-clause-ruling
+judge_as-verdict-requires-clause-ruling g c =
     is_ruling (section_in c.args.filter.now) (frame_facts c.args.packet.now.frame.now)
 
 pub returns : goal.returns
