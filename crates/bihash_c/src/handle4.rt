@@ -3,7 +3,7 @@ ghost use Rattle.std.specs.Prelude.{◌≡◌, None, Option, Some};
 ghost use Rattle.bihash_c.specs.declared.handle4_place.Place4.{Place4};
 ghost use Rattle.bihash_c.specs.Handles4.{HasPlace, content_in, handle_owns};
 
-use crate::box_parts::Parts;
+use crate::box_raw_parts::Parts;
 use crate::handle4_place::Place4;
 use std::alloc::Global;
 use std::marker::Model;

@@ -1,5 +1,5 @@
 //! What is behind a handle.
-use crate::member::Member;
+use crate::caller_with_table::Member;
 use bihash_words::Shape;
 
 /// What is behind a handle.

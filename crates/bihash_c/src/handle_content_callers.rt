@@ -5,8 +5,8 @@ ghost use Rattle.bihash_table.specs.Calls.{TellsLone};
 ghost use Rattle.bihash_c.specs.Contents.{AreOfOneTable, Calls, HasCaller, IsFirst, JoinTold, MeetTold, SplitTold, StampTold};
 
 use crate::answer::{DONE, Stamp, split_refusal, stamp_answer};
+use crate::caller_with_table::Member;
 use crate::handle_content::Content;
-use crate::member::Member;
 use bihash_words::Shape;
 use std::alloc::Global;
 use std::mem;

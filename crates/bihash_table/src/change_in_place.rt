@@ -17,7 +17,7 @@ use crate::bucket_lock::lock_if_unchanged;
 use crate::change_of_block::remove_last;
 use crate::contended::Contended;
 use crate::hashed_key::SeenBucket;
-use crate::open_reads::has_other_pair;
+use crate::open_bucket_search::has_other_pair;
 use bihash_steps::{CallerSeat, Event, Row};
 use bihash_words::{BucketWord, Change, Reply, Shape};
 

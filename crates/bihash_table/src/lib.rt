@@ -1,9 +1,7 @@
 //! A session table that many callers share: each answer is a place in one legal history of its bucket.
 #![tactic(auto)]
 
-mod block_copies;
 mod block_places;
-mod block_writes;
 mod bucket_lock;
 mod change_in_place;
 mod change_of_block;
@@ -13,8 +11,9 @@ mod contended;
 mod entered_value;
 mod hashed_key;
 mod never_expired;
-mod open_reads;
+mod open_bucket_search;
 mod page_allocation;
+mod read_block;
 mod recycling;
 mod renew;
 mod renew_fault;
@@ -23,6 +22,7 @@ mod shared_table;
 mod try_update;
 mod waiting_update;
 mod worn_bucket;
+mod write_block;
 
 pub use bihash_steps::{Caller, CallerSeat, CreateFault, SplitFault};
 pub use close_fault::CloseFault;

@@ -5,7 +5,7 @@ ghost use Rattle.bihash_table.specs.Calls.{TellsSearch, TellsSearchTry};
 use crate::bucket_lock::load_unlocked;
 use crate::contended::Contended;
 use crate::hashed_key::HashedKey;
-use crate::open_reads::{find_pair, value_found};
+use crate::open_bucket_search::{find_pair, value_found};
 use crate::shared_table::Sessions;
 use bihash_steps::{Caller, Event};
 use bihash_words::{Change, Reply, Shape};

@@ -16,7 +16,7 @@ use crate::contended::Contended;
 use crate::entered_value::Entrant;
 use crate::hashed_key::{HashedKey, SeenBucket};
 use crate::never_expired::Never;
-use crate::open_reads::{find_free, find_pair, value_found};
+use crate::open_bucket_search::{find_free, find_pair, value_found};
 use crate::shared_table::Sessions;
 use crate::worn_bucket::is_worn;
 use bihash_steps::{Caller, CallerSeat, Row};

@@ -5,9 +5,9 @@ use Rattle.packet_view.specs.Captures.{AreRecords, IsEnd, IsTooLong, PacketFacts
 use Rattle.racl_io.specs.declared.fault.Fault.{Fault}
 use Rattle.racl_io.specs.declared.fault.Fault.TheVariants.{LongRecord, Memory, Read, TooLarge}
 use Rattle.racl_io.specs.Inputs.{most_bytes}
-use Rattle.capture_stream.specs.declared.stream.Opening.{Opening}
-use Rattle.capture_stream.specs.declared.stream.Streamed.{Streamed}
-use Rattle.capture_stream.specs.declared.window.WindowSize.{WindowSize}
+use Rattle.capture_stream.specs.declared.judge_stream.Opening.{Opening}
+use Rattle.capture_stream.specs.declared.judge_stream.Streamed.{Streamed}
+use Rattle.capture_stream.specs.declared.judge_window.WindowSize.{WindowSize}
 
 -- the bytes from the first record on, where these were read after the opening
 abbrev pub records_in : Opening → List ℕ → List ℕ

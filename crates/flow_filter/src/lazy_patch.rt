@@ -10,10 +10,10 @@ ghost use Rattle.flow_filter.specs.Filters.{section_in};
 ghost use Rattle.flow_filter.specs.PacketFlows.{IsRulingOn};
 ghost use Rattle.flow_filter.specs.Rulesets.{rules_in};
 
-use crate::decider::Decider;
 use crate::filter::InterfaceFilter;
 use crate::packet_flow::{PacketFlow, tuple_copy};
 use crate::ruleset::Ruleset;
+use crate::session_or_rules::Decider;
 use crate::session_update::patch_of;
 use crate::verdict::Verdict;
 use crate::verdict_by_rules::{found_in, verdict_without_session};

@@ -2,15 +2,15 @@
 //! verdict.
 #![tactic(auto)]
 
-mod decider;
 mod filter;
 mod interface_filters;
 mod lazy_patch;
 mod packet_flow;
-mod ready_filter;
 mod rule_indexes;
 mod rule_search;
 mod ruleset;
+mod section_filter;
+mod session_or_rules;
 mod session_update;
 mod verdict;
 mod verdict_by_rules;

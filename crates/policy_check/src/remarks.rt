@@ -8,7 +8,7 @@ ghost use Rattle.policy_check.specs.declared.remark.Remark.TheVariants.{NoMac};
 ghost use Rattle.policy_check.specs.inner.Added.{Adds};
 
 use crate::remark::Remark;
-use crate::shadow::takes_all;
+use crate::shadowing_rules::takes_all;
 use acl_policy::{Policy, Rule, Section, width_of};
 use packet_view::{Direction, Family};
 use std::alloc::{AllocError, Global};

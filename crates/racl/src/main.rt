@@ -4,22 +4,21 @@
 
 ghost use Rattle.std.specs.Prelude.{◌<◌, ◌-◌, ◌^◌};
 
-mod faulty;
+mod faulty_capture;
 mod input_files;
 mod named_reader;
 mod output;
 mod policy_remarks;
 mod progress;
 mod save_file;
-mod saved_packets;
 
-use crate::faulty::faulty;
+use crate::faulty_capture::faulty;
 use crate::input_files::{interface_at, name_at, opened_or_told, opened_parts, policy_name};
 use crate::named_reader::{Reader, bytes_of, held};
 use crate::output::Output;
 use crate::policy_remarks::{Seen, say_foreign, say_unlooked};
 use crate::progress::{Progress, Watched};
-use crate::saved_packets::{saves_to, say_unsaved};
+use crate::save_file::{saves_to, say_unsaved};
 use clap::Error;
 use policy_check::check_source;
 use racl_cli::{

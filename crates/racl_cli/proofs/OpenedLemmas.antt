@@ -23,10 +23,10 @@ use Rattle.racl_io.specs.Faults.{capture_fault}
 use Rattle.racl_io.specs.Inputs.{InputFacts, IsContent, IsInput, IsMarked, digits_of, is_blank, most_bytes}
 use Rattle.racl_io.specs.Transfers.{GaveAtMost, HasReadWithin}
 use Rattle.capture_stream.specs.Streams.{HasLongRecord, IsStreamFault, records_in}
-use Rattle.capture_stream.specs.declared.stream.Opening.{Opening}
+use Rattle.capture_stream.specs.declared.judge_stream.Opening.{Opening}
 use Rattle.racl_cli.specs.Reads.{AnswersInput, AnswersRead, HasHeaded, HasJudged, HasRecordsAt, IsHeaded, IsSaid, IsUnnumbered, having_records}
 use Rattle.racl_cli.specs.Runs.{JudgedFacts}
-use Rattle.racl_cli.specs.declared.opening.Headed.{Headed}
+use Rattle.racl_cli.specs.declared.input_front.Headed.{Headed}
 use Rattle.racl_cli.proofs.OutcomeLemmas.{capture_answers, hex_answers, memory_answers, verdicts_answer}
 use Rattle.racl_cli.proofs.ReadLemmas.{all_known, gave_none, too_many_known}
 

@@ -10,14 +10,14 @@ use Rattle.racl_io.specs.declared.report.Captured.{Captured}
 use Rattle.racl_io.specs.Inputs.{InputFacts, IsInput}
 use Rattle.racl_io.specs.Sinks.{HasPut}
 use Rattle.racl_views.specs.ChosenRecords.{HasRecords, IsChosen}
-use Rattle.racl_views.specs.declared.chosen.Chosen.{Chosen}
+use Rattle.racl_views.specs.declared.chosen_packets.Chosen.{Chosen}
 use Rattle.racl_views.proofs.ChosenLaws.{capture_has_records}
 use Rattle.racl_io.specs.declared.report.Totals.{Totals}
 use Rattle.racl_options.specs.declared.settings.Options.{Options}
-use Rattle.racl_views.specs.declared.chosen.Chosen.TheVariants.{Dropped, Passing}
+use Rattle.racl_views.specs.declared.chosen_packets.Chosen.TheVariants.{Dropped, Passing}
 use Rattle.racl_cli.specs.Runs.{HasPackets, HasRun, IsRead, Outcome}
 use Rattle.racl_cli.specs.Saves.{AreSaved, HasRunSaving, HasSaved}
-use Rattle.racl_cli.specs.declared.saving.Saves.{Saves}
+use Rattle.racl_cli.specs.declared.save_packets.Saves.{Saves}
 use Rattle.racl_cli.proofs.RunLemmas.{alone_in_capture, read_in}
 
 -- what a capture in an input gives, where it stands there as bytes

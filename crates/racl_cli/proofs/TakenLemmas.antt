@@ -19,8 +19,8 @@ use Rattle.racl_io.specs.Faults.{IsFaultOfBytes, IsFaultOfContent, IsFaultOfOne,
 use Rattle.racl_io.specs.Inputs.{AreCaptures, DigitsFacts, IsContent, AreCutDigits, IsMarked, NumberedFacts, most_bytes, numbered_facts}
 use Rattle.racl_io.specs.Reports.{packets_in}
 use Rattle.racl_io.proofs.PartingLemmas.{some_captures}
-use Rattle.racl_cli.specs.declared.captures.Walk.{Walk}
-use Rattle.racl_cli.specs.declared.opening.Marked.{Marked}
+use Rattle.racl_cli.specs.declared.numbered_captures.Walk.{Walk}
+use Rattle.racl_cli.specs.declared.input_front.Marked.{Marked}
 use Rattle.racl_cli.specs.Crews.{AreResting, orders_of}
 use Rattle.racl_cli.specs.Reads.{AnswersInput, HasMarked, IsReached}
 use Rattle.racl_cli.specs.Runs.{HasPackets, IsTaken, JudgedFacts, told_of}

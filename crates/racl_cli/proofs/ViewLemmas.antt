@@ -27,7 +27,7 @@ use Rattle.racl_views.specs.Hits.{AreHits}
 use Rattle.racl_views.specs.RunEntries.{RunFacts}
 use Rattle.racl_cli.specs.Reads.{IsUnnumbered}
 use Rattle.racl_cli.specs.Runs.{AreLines, AreTaken, HasPackets, IsRead, IsTaken, JudgedFacts, sessions_behind, told_facts, view_behind}
-use Rattle.racl_cli.specs.declared.viewing.Again.{Again}
+use Rattle.racl_cli.specs.declared.report_views.Again.{Again}
 use Rattle.racl_cli.specs.inner.Captures.{AreTakenFrom}
 use Rattle.racl_cli.specs.inner.Views.{AreAmid, EndsOnce, HasLines, HasPlain, HasReport, IsAgain, needs_bytes}
 use Rattle.racl_cli.proofs.CaptureLaws.{one_content}

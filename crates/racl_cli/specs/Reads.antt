@@ -18,12 +18,12 @@ use Rattle.racl_io.specs.declared.report.Captured.{Captured}
 use Rattle.racl_io.specs.Faults.{IsFaultOfBytes, Refuses}
 use Rattle.racl_io.specs.Inputs.{IsContent, IsInput, InputFacts, most_bytes}
 use Rattle.capture_stream.specs.Streams.{AreAllRead, records_in}
-use Rattle.capture_stream.specs.declared.stream.Opening.{Opening}
-use Rattle.racl_cli.specs.declared.opening.Headed.{Headed}
-use Rattle.racl_cli.specs.declared.opening.Marked.{Marked}
-use Rattle.racl_cli.specs.declared.opening.Opened.{Opened}
-use Rattle.racl_cli.specs.declared.opening.Opened.TheVariants.{One, Several}
-use Rattle.racl_cli.specs.declared.opening.Front.{Front}
+use Rattle.capture_stream.specs.declared.judge_stream.Opening.{Opening}
+use Rattle.racl_cli.specs.declared.input_front.Headed.{Headed}
+use Rattle.racl_cli.specs.declared.input_front.Marked.{Marked}
+use Rattle.racl_cli.specs.declared.input_front.Opened.{Opened}
+use Rattle.racl_cli.specs.declared.input_front.Opened.TheVariants.{One, Several}
+use Rattle.racl_cli.specs.declared.input_front.Front.{Front}
 use Rattle.racl_cli.specs.Runs.{AreKept, ByOneThread, ByWorkers, IsRead, JudgedFacts, told_of}
 
 -- ---- what is answered of the bytes of an input

@@ -9,10 +9,10 @@ use Rattle.racl_io.specs.declared.report.Totals.{Totals}
 use Rattle.racl_io.specs.Inputs.{InputFacts, IsInput}
 use Rattle.racl_options.specs.declared.settings.Options.{Options}
 use Rattle.racl_views.specs.ChosenRecords.{IsChosen}
-use Rattle.racl_views.specs.declared.chosen.Chosen.{Chosen}
-use Rattle.racl_views.specs.declared.chosen.Chosen.TheVariants.{Passing, Dropped}
+use Rattle.racl_views.specs.declared.chosen_packets.Chosen.{Chosen}
+use Rattle.racl_views.specs.declared.chosen_packets.Chosen.TheVariants.{Passing, Dropped}
 use Rattle.racl_cli.specs.Runs.{HasRun}
-use Rattle.racl_cli.specs.declared.saving.Saves.{Saves}
+use Rattle.racl_cli.specs.declared.save_packets.Saves.{Saves}
 
 -- the chosen packets of a capture that stands in the input as bytes, as a capture; of others nothing
 abbrev pub AreSaved : Form → Chosen → List ℕ → List Verdict → List ℕ → Type 0

@@ -2,26 +2,24 @@
 //! capture in, a verdict on each packet out. The program around it is the crate `racl`.
 #![tactic(auto)]
 
-mod at_hand;
-mod captures;
-mod crew;
+mod bytes_at_hand;
 mod end_to_end;
-mod exits;
-mod laws;
-mod live;
+mod exit_messages;
+mod input_front;
+mod judge_records;
+mod judged_input;
 mod message;
-mod opening;
-mod outcome;
-mod saving;
-mod sized;
-mod stored;
-mod streaming;
-mod viewing;
+mod numbered_captures;
+mod report_views;
+mod run_laws;
+mod run_live;
+mod save_packets;
+mod sized_tables;
+mod stored_sessions;
+mod workers_as_judges;
 
 pub use end_to_end::{run, run_saving};
-pub use exits::{ending, failure_ending, hint, remark, status, words_ending};
-pub use laws::{each_input_has_one_outcome, told_sessions_are_those_of_one_thread};
-pub use live::run_live;
+pub use exit_messages::{ending, failure_ending, hint, remark, status, words_ending};
 pub use message::{Ending, Hint, Message, Remark, Unopened};
 pub use racl_io::{
     Device, DeviceFault, Fault, Form, FrontKept, Joined, MOST_BYTES, Marked, Other, Sink, Source,
@@ -30,4 +28,6 @@ pub use racl_io::{
 pub use racl_options::{
     Asked, Files, Lines, Options, Origin, Saved, TableSize, options, words_status,
 };
-pub use saving::Saves;
+pub use run_laws::{each_input_has_one_outcome, told_sessions_are_those_of_one_thread};
+pub use run_live::run_live;
+pub use save_packets::Saves;

@@ -8,7 +8,7 @@ use Rattle.packet_view.specs.declared.capture.Order.{Order}
 use Rattle.packet_view.specs.declared.records_at_front.Stop.TheVariants as stop
 use Rattle.flow_filter.specs.declared.verdict.Verdict.{Verdict}
 use Rattle.racl_views.specs.ChosenRecords.{AreRecordsOf, HasRecords, IsChosen, IsRecordOf, chosen_among, is_chosen, kept_before}
-use Rattle.racl_views.specs.declared.chosen.Chosen.{Chosen}
+use Rattle.racl_views.specs.declared.chosen_packets.Chosen.{Chosen}
 
 -- a right capture has its records
 pub capture_has_records : (bytes : List ℕ) (records : List RecordFacts) (end : End) → IsCapture bytes records end → HasRecords bytes records

@@ -6,7 +6,7 @@ use Rattle.packet_view.specs.Captures.{PacketFacts}
 use Rattle.acl_policy.specs.Policies.{PolicyFacts}
 use Rattle.flow_filter.specs.declared.verdict.Verdict.{Verdict}
 use Rattle.racl_views.specs.Deciding.{AreDecided, IsDecided, decided_by, hits_on}
-use Rattle.racl_views.specs.declared.rule.RuleName.{RuleName}
+use Rattle.racl_views.specs.declared.rule_name.RuleName.{RuleName}
 use Rattle.racl_views.specs.inner.Counts.{Count}
 
 -- what is left begins with the next one

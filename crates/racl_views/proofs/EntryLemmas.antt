@@ -8,7 +8,7 @@ use Rattle.packet_view.proofs.FrameLemmas.{view_only, view_shown}
 use Rattle.acl_policy.specs.Policies.{PolicyFacts}
 use Rattle.flow_filter.specs.Readings.{IsSeen}
 use Rattle.flow_filter.specs.declared.verdict.Verdict.{Verdict}
-use Rattle.racl_views.specs.declared.rule.RuleLine.{RuleLine}
+use Rattle.racl_views.specs.declared.rule_name.RuleLine.{RuleLine}
 use Rattle.racl_views.specs.Entries.{AreEntries, EntryFacts}
 use Rattle.racl_views.specs.RuleLines.{AreRules}
 use Rattle.racl_views.specs.RunEntries.{HasEntries, RunFacts, told_from}

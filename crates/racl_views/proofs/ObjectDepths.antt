@@ -22,7 +22,7 @@ use Rattle.racl_views.specs.PacketObjects.{carried_fields, dest_fields, frame_wa
 use Rattle.racl_views.specs.SessionLines.{FlowFacts, end_fields, ends_field, has_ports, is_tcp, session_object}
 use Rattle.racl_views.specs.declared.hit.Hit.{Hit}
 use Rattle.racl_views.specs.declared.hit.Hit.TheVariants as hit
-use Rattle.racl_views.specs.declared.rule.RuleLine.{RuleLine}
+use Rattle.racl_views.specs.declared.rule_name.RuleLine.{RuleLine}
 
 -- the values of fields nest no deeper
 record NestUpTo (n : ℕ) (fields : List Field) : Type 0 where

@@ -7,8 +7,8 @@ use Rattle.packet_view.specs.declared.capture.Order.{Order}
 use Rattle.packet_view.specs.declared.records_at_front.Stop.{Stop}
 use Rattle.flow_filter.specs.Verdicts.{passes}
 use Rattle.flow_filter.specs.declared.verdict.Verdict.{Verdict}
-use Rattle.racl_views.specs.declared.chosen.Chosen.{Chosen}
-use Rattle.racl_views.specs.declared.chosen.Chosen.TheVariants.{Passing, Dropped}
+use Rattle.racl_views.specs.declared.chosen_packets.Chosen.{Chosen}
+use Rattle.racl_views.specs.declared.chosen_packets.Chosen.TheVariants.{Passing, Dropped}
 
 -- whether a packet with this verdict is chosen
 abbrev pub is_chosen : Chosen → Verdict → Bool

@@ -5,9 +5,9 @@ use Rattle.packet_view.specs.Frames.{FrameFacts, frame_facts}
 use Rattle.acl_policy.specs.Policies.{PolicyFacts}
 use Rattle.flow_filter.specs.Readings.{IsSeen}
 use Rattle.flow_filter.specs.declared.verdict.Verdict.{Verdict}
-use Rattle.racl_views.specs.declared.entry.Entry.{Entry}
-use Rattle.racl_views.specs.declared.rule.RuleLine.{RuleLine}
-use Rattle.racl_views.specs.declared.rule.RuleName.{RuleName}
+use Rattle.racl_views.specs.declared.packet_entry.Entry.{Entry}
+use Rattle.racl_views.specs.declared.rule_name.RuleLine.{RuleLine}
+use Rattle.racl_views.specs.declared.rule_name.RuleName.{RuleName}
 use Rattle.racl_views.specs.Deciding.{rule_on, same_rule}
 
 -- The verdict, where and when the packet was seen, what its frame is there, and the line of the rule that decided it: 0 where

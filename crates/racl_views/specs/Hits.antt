@@ -12,10 +12,10 @@ use Rattle.flow_filter.specs.declared.verdict.Verdict.{Verdict}
 use Rattle.flow_filter.specs.declared.verdict.Verdict.TheVariants as verdict
 use Rattle.racl_views.specs.declared.hit.Hit.{Hit}
 use Rattle.racl_views.specs.declared.hit.Hit.TheVariants as hit
-use Rattle.racl_views.specs.declared.reason.Reason.{Reason}
-use Rattle.racl_views.specs.declared.reason.Reason.TheVariants as reason
-use Rattle.racl_views.specs.declared.rule.RuleLine.{RuleLine}
-use Rattle.racl_views.specs.declared.rule.RuleName.{RuleName}
+use Rattle.racl_views.specs.declared.reason_without_rule.Reason.{Reason}
+use Rattle.racl_views.specs.declared.reason_without_rule.Reason.TheVariants as reason
+use Rattle.racl_views.specs.declared.rule_name.RuleLine.{RuleLine}
+use Rattle.racl_views.specs.declared.rule_name.RuleName.{RuleName}
 use Rattle.racl_views.specs.declared.session_counts.SessionCounts.{SessionCounts}
 use Rattle.racl_views.specs.declared.view.View.{View}
 use Rattle.racl_views.specs.declared.view.View.TheVariants as form

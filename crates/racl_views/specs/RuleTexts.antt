@@ -2,7 +2,7 @@
 use Rattle.std.specs.Prelude.{ℕ, List, [], ◌∷◌, drop, take, map, not, option_map, position, unwrap_or, if◌then◌else◌}
 use Rattle.std.specs.Str.Lines as split
 use Rattle.policy_words.specs.Words.{is_blank, without_comment}
-use Rattle.racl_views.specs.declared.shown_text.RuleText.{RuleText}
+use Rattle.racl_views.specs.declared.shown_rule_text.RuleText.{RuleText}
 
 -- a text from its first word on
 abbrev pub from_word : List ℕ → List ℕ

@@ -6,7 +6,7 @@ use Rattle.acl_policy.specs.Policies.{PolicyFacts, policy_facts}
 use Rattle.flow_filter.specs.declared.verdict.Verdict.{Verdict}
 use Rattle.racl_io.specs.declared.report.Captured.{Captured}
 use Rattle.racl_io.specs.declared.partial_report.Shown.{Shown}
-use Rattle.racl_views.specs.declared.rule.RuleLine.{RuleLine}
+use Rattle.racl_views.specs.declared.rule_name.RuleLine.{RuleLine}
 use Rattle.racl_views.specs.declared.run.Run.{Run}
 use Rattle.racl_views.specs.Entries.{AreEntries, EntryFacts}
 use Rattle.racl_views.specs.RuleLines.{AreRules}

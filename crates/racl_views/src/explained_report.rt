@@ -10,12 +10,12 @@ ghost use Rattle.racl_views.specs.ExplainedLines.{IsExplained, explained_line};
 ghost use Rattle.racl_views.specs.RunEntries.{captures_told, run_facts, told_from};
 ghost use Rattle.racl_views.specs.inner.Tellings.{HasPushed, entries_by, entry_by, line_by, texts_by, truncation_told};
 
-use crate::entry::{Entry, Place};
-use crate::explained::push_explained;
-use crate::passed::passed;
+use crate::explained_line::push_explained;
+use crate::packet_entry::{Entry, Place};
+use crate::passed_count::passed;
 use crate::rule_places::{entry_of, rule_table};
 use crate::run::Run;
-use crate::telling::Telling;
+use crate::told_packets::Telling;
 use flow_filter::Verdict;
 use packet_view::{Packet, Packets};
 use racl_io::{

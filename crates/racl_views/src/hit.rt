@@ -1,7 +1,7 @@
 //! Counts of packets and sessions, each of which is told in one line.
 
-use crate::reason::Reason;
-use crate::rule::RuleLine;
+use crate::reason_without_rule::Reason;
+use crate::rule_name::RuleLine;
 
 /// How many packets or sessions there are of a kind.
 #[derive(Clone, Copy)]

@@ -11,10 +11,10 @@ ghost use Rattle.racl_views.specs.RunEntries.{captures_told, run_facts, told_fro
 ghost use Rattle.racl_views.specs.inner.Tellings.{entries_by, entry_by, object_by, truncation_lines};
 
 use crate::packet_object::{push_packet, push_totals, push_truncation};
-use crate::passed::passed;
+use crate::passed_count::passed;
 use crate::rule_places::{entry_of, rule_table};
 use crate::run::Run;
-use crate::telling::Telling;
+use crate::told_packets::Telling;
 use flow_filter::Verdict;
 use packet_view::{Packet, Packets};
 use racl_io::{Captured, Fault, Sink, Totals, has_line, totals_on, write_all};

@@ -8,8 +8,8 @@ ghost use Rattle.racl_views.specs.PacketObjects;
 ghost use Rattle.racl_views.specs.PacketObjects.{carried_fields, dest_fields, frame_way, line_field, packet_object, rule_fields, source_fields, totals_object, truncation_object, tuple_fields, verdict_fields, way_field};
 ghost use Rattle.racl_views.specs.inner.Fields.{HasAdded};
 
-use crate::entry::Entry;
-use crate::fields::{add_address, add_number, add_string, add_true, begin, end};
+use crate::object_fields::{add_address, add_number, add_string, add_true, begin, end};
+use crate::packet_entry::Entry;
 use flow_filter::Verdict;
 use json::Writer;
 use packet_view::{Direction, Fields, Frame, Tuple};

@@ -8,8 +8,8 @@ ghost use Rattle.racl_views.specs.ExplainedLines.{carried_told, from_told, seen_
 ghost use Rattle.racl_views.specs.PacketWords.{address_text, flags_text, protocol_text};
 
 use crate::address::{digit, push_address};
-use crate::entry::Entry;
-use crate::pieces::push_numbered;
+use crate::line_text::push_numbered;
+use crate::packet_entry::Entry;
 use acl_policy::icmp_number;
 use packet_view::{Direction, Family, Fields, Frame, Tuple};
 use racl_io::Piece;

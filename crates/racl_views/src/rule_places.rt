@@ -2,16 +2,16 @@
 ghost use Rattle.std.specs.Prelude.{◌≡◌, ◌<◌, ◌==◌, ◌^◌, ◌∷◌, ℕ, List, IfOk, IfSome, OnOk, get_or, if◌then◌else◌};
 ghost use Rattle.packet_view.specs.Captures.{packet_facts};
 ghost use Rattle.acl_policy.specs.Policies.{policy_facts};
-ghost use Rattle.racl_views.specs.declared.rule.RuleLine as code;
+ghost use Rattle.racl_views.specs.declared.rule_name.RuleLine as code;
 ghost use Rattle.racl_views.specs.Entries.{entry_facts, line_deciding};
 ghost use Rattle.racl_views.specs.inner.EntryLists.{AreAtPlaces, entry_on};
 ghost use Rattle.racl_views.specs.inner.Tellings.{IsTableOf};
 
-use crate::counts::{number_at, place, reach};
-use crate::deciding::{rule_on, seen};
-use crate::entry::Entry;
-use crate::numbering::rule_lines;
-use crate::rule::{RuleLine, RuleName};
+use crate::deciding_rule::{rule_on, seen};
+use crate::packet_entry::Entry;
+use crate::rule_counts::{number_at, place, reach};
+use crate::rule_lines::rule_lines;
+use crate::rule_name::{RuleLine, RuleName};
 use crate::rule_table::RuleTable;
 use crate::rule_text::texts_of;
 use acl_policy::Policy;

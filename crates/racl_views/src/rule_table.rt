@@ -1,8 +1,8 @@
 //! What is looked up of a policy's rules.
 ghost use Rattle.racl_views.specs.inner.EntryLists.{AreAtPlaces};
 
-use crate::rule::RuleLine;
-use crate::shown_text::RuleText;
+use crate::rule_name::RuleLine;
+use crate::shown_rule_text::RuleText;
 
 /// The rules of a policy's text, the line of each at its place, and what is shown of each line.
 #[derive(Drop)]

@@ -5,7 +5,7 @@ ghost use Rattle.policy_words.specs.Words;
 ghost use Rattle.racl_views.specs.RuleTexts;
 ghost use Rattle.racl_views.specs.RuleTexts.{from_word, rule_texts, shown_of, without_end};
 
-use crate::shown_text::RuleText;
+use crate::shown_rule_text::RuleText;
 use acl_policy::before_comment;
 use std::alloc::{AllocError, Global};
 

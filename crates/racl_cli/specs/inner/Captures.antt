@@ -6,8 +6,8 @@ use Rattle.racl_io.specs.declared.input.Numbered as mark
 use Rattle.racl_io.specs.declared.report.Captured.{Captured}
 use Rattle.racl_io.specs.Faults.{IsFaultOfCaptures}
 use Rattle.racl_io.specs.Inputs.{AreCaptures, DigitsFacts, AreCutDigits, NumberedFacts, most_bytes, numbered_facts}
-use Rattle.racl_cli.specs.declared.captures.Walk.{Walk}
-use Rattle.racl_cli.specs.declared.outcome.Ended.{Ended}
+use Rattle.racl_cli.specs.declared.numbered_captures.Walk.{Walk}
+use Rattle.racl_cli.specs.declared.judged_input.Ended.{Ended}
 use Rattle.racl_cli.specs.Crews.{AreResting, AreSaidBy, orders_of}
 use Rattle.racl_cli.specs.Runs.{AreTaken, IsTaken}
 

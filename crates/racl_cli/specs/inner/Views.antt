@@ -17,7 +17,7 @@ use Rattle.racl_views.specs.CapturePackets.{HavePackets}
 use Rattle.racl_views.specs.RunEntries.{RunFacts}
 use Rattle.racl_views.specs.declared.capture_bytes.CaptureBytes.{CaptureBytes}
 use Rattle.racl_cli.specs.Runs.{AreLines, IsReport, JudgedFacts, sessions_behind}
-use Rattle.racl_cli.specs.declared.viewing.Again.{Again}
+use Rattle.racl_cli.specs.declared.report_views.Again.{Again}
 use Rattle.racl_cli.specs.inner.Captures.{AreTakenFrom}
 
 -- whether what is told of an input needs its bytes

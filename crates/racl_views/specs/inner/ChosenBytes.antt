@@ -5,7 +5,7 @@ use Rattle.packet_view.specs.declared.capture.Order.{Order}
 use Rattle.packet_view.specs.inner.RecordSteps.{part_of}
 use Rattle.flow_filter.specs.declared.verdict.Verdict.{Verdict}
 use Rattle.racl_views.specs.ChosenRecords.{is_chosen}
-use Rattle.racl_views.specs.declared.chosen.Chosen.{Chosen}
+use Rattle.racl_views.specs.declared.chosen_packets.Chosen.{Chosen}
 use Rattle.racl_views.specs.inner.Batches.{bytes_where}
 
 -- no whole record is at the front

@@ -5,8 +5,8 @@ use Rattle.packet_view.specs.Frames.{FrameFacts}
 use Rattle.packet_view.specs.inner.FrameSteps.{view_of}
 use Rattle.acl_policy.specs.Policies.{PolicyFacts, section_of}
 use Rattle.flow_filter.specs.declared.verdict.Verdict.{Verdict}
-use Rattle.racl_views.specs.declared.rule.RuleLine.{RuleLine}
-use Rattle.racl_views.specs.declared.rule.RuleName.{RuleName}
+use Rattle.racl_views.specs.declared.rule_name.RuleLine.{RuleLine}
+use Rattle.racl_views.specs.declared.rule_name.RuleName.{RuleName}
 use Rattle.racl_views.specs.Deciding.{rule_on}
 use Rattle.racl_views.specs.Entries.{EntryFacts, line_among, line_deciding}
 use Rattle.racl_views.specs.inner.Places.{place_of}

@@ -9,7 +9,7 @@ use Rattle.racl_io.specs.declared.fault.Fault.TheVariants.{Write}
 use Rattle.racl_io.specs.declared.report.Captured.{Captured}
 use Rattle.racl_io.specs.Reports.{truncation_line}
 use Rattle.racl_views.specs.declared.rule_table.RuleTable.{RuleTable}
-use Rattle.racl_views.specs.declared.telling.Telling.{Telling}
+use Rattle.racl_views.specs.declared.told_packets.Telling.{Telling}
 use Rattle.racl_views.specs.Entries.{EntryFacts}
 use Rattle.racl_views.specs.ExplainedLines.{shown_line}
 use Rattle.racl_views.specs.Objects.{object_lines}

@@ -1,0 +1,197 @@
+//! A capture from what was read of it to its end.
+ghost use Rattle.std.specs.Prelude.{◌≡◌, ◌+◌, ◌-◌, ◌<◌, ◌^◌, MatchResult, length};
+ghost use Rattle.racl_io.specs.Inputs.{most_bytes};
+ghost use Rattle.racl_io.specs.Transfers.{HasReadWithin};
+ghost use Rattle.capture_stream.specs.Streams.{HasStreamed, IsSize, IsStreamFault, MayStream};
+ghost use Rattle.capture_stream.specs.inner.Walks.{HasAdvanced, HasEnded, IsLastFault, IsWindowFault, MayAdvance};
+
+use crate::judge_window::{Found, NextWindow, WindowSize, find_records, judge_and_read};
+use crate::packet_judges::Judges;
+use packet_view::{Order, Packets, Records, Stop};
+use racl_io::{Fault, MOST_BYTES, Source, drain};
+use std::alloc::Global;
+use std::thread::Threads;
+
+/// What was read of an input so far.
+#[derive(Drop)]
+pub struct Opening {
+    pub bytes: Vec<u8>,
+    /// Where the capture's records begin.
+    pub from: usize,
+    /// The order of their numbers.
+    pub order: Order,
+    /// Whether the source has no more.
+    pub ended: bool,
+}
+
+/// What came of a capture.
+#[derive(Drop)]
+pub struct Streamed<J> {
+    /// Those who judged all packets.
+    pub judges: J,
+    /// Whether the capture ends within a record.
+    pub truncated: bool,
+}
+
+/// A capture of which some windows were judged.
+#[derive(Drop)]
+struct Walk<J> {
+    judges: J,
+    order: Order,
+    /// The bytes that were read and not judged, from place `from` on.
+    window: Vec<u8>,
+    from: usize,
+    /// The records among them.
+    found: Found,
+    /// Room for the next window.
+    spare: Vec<u8>,
+    /// How many packets were judged.
+    packets: usize,
+    /// How many bytes of the input were read.
+    read: usize,
+    /// Whether the input ends with this window.
+    ended: bool,
+}
+
+// A window is judged, and the next one is read.
+fn next_window<J: Judges + Drop, T: Threads, R: Source + Send>(
+    beside: Option<&T>,
+    reader: &mut R,
+    size: WindowSize,
+    walk: Walk<J>,
+) -> Result<Walk<J>, Fault>
+    requires may { MayAdvance J.became walk }
+    requires size { IsSize size }
+    requires sound { R.failures reader.old < 2 ^ 64 - 1 }
+    ensures walk { let old = R.bytes reader.old in let new = R.bytes reader.new in MatchResult result (HasAdvanced J.became walk old new) (IsWindowFault walk old new) }
+    ensures within { HasReadWithin R.bytes R.failures (most_bytes + 1 - walk.read) reader.old reader.new result }
+{
+    let Walk {
+        judges,
+        order,
+        window,
+        from,
+        found,
+        mut spare,
+        packets,
+        read,
+        ..
+    } = walk;
+    let Found {
+        count,
+        behind,
+        stop,
+    } = found;
+    if matches!(stop, Stop::TooLong) {
+        match drain(reader, read) {
+            Ok(()) => return Err(Fault::LongRecord((packets + count) as u64 + 1)),
+            Err(fault) => return Err(fault),
+        }
+    }
+    spare.clear();
+    let Ok(()) = spare.extend_from_slice(&window[window.len() - behind..]) else {
+        return Err(Fault::Memory);
+    };
+    let records = Records {
+        bytes: &window[from..],
+        order,
+        interface: 0,
+        count,
+    };
+    let more = size.beside(read).min(MOST_BYTES + 1 - read);
+    let least = behind + more;
+    let (judged, next) = judge_and_read(beside, judges, records, reader, &mut spare, least);
+    let NextWindow { found, ended } = match next {
+        Ok(next) => next,
+        Err(fault) => return Err(fault),
+    };
+    let Ok(judges) = judged else {
+        return Err(Fault::Memory);
+    };
+    let read = read + (spare.len() - behind);
+    if read > MOST_BYTES {
+        return Err(Fault::TooLarge);
+    }
+    Ok(Walk {
+        judges,
+        order,
+        window: spare,
+        from: 0,
+        found,
+        spare: window,
+        packets: packets + count,
+        read,
+        ended,
+    })
+}
+
+// The last window is judged.
+fn last_window<J: Judges + Drop>(walk: Walk<J>) -> Result<Streamed<J>, Fault>
+    requires may { MayAdvance J.became walk }
+    ensures { MatchResult result (HasEnded J.became walk) (IsLastFault walk) }
+{
+    let Walk {
+        judges,
+        order,
+        window,
+        from,
+        found,
+        packets,
+        ..
+    } = walk;
+    let truncated = match found.stop {
+        Stop::End => false,
+        Stop::Truncated => true,
+        Stop::TooLong => return Err(Fault::LongRecord((packets + found.count) as u64 + 1)),
+    };
+    let records = Records {
+        bytes: &window[from..],
+        order,
+        interface: 0,
+        count: found.count,
+    };
+    let judges = judges.judge(Packets::Records(records))?;
+    Ok(Streamed { judges, truncated })
+}
+
+/// Those who judge packets judge all of a capture, a window of this size at a time, to the end of the source, or until an
+/// input would be too long. Nothing is read where the opening is all. Where there is a runtime for threads, each next window is read beside. A fault of the capture
+/// is answered when all was read.
+pub fn judge_stream<J: Judges + Drop, T: Threads, R: Source + Send>(
+    beside: Option<&T>,
+    alloc: Global,
+    reader: &mut R,
+    judges: J,
+    opening: Opening,
+    size: WindowSize,
+) -> Result<Streamed<J>, Fault>
+    requires may { MayStream J.became judges opening (R.bytes reader.old) }
+    requires size { IsSize size }
+    requires sound { R.failures reader.old < 2 ^ 64 - 1 }
+    ensures streamed { let old = R.bytes reader.old in let new = R.bytes reader.new in MatchResult result (HasStreamed J.became judges opening old new) (IsStreamFault opening old new) }
+    ensures within { HasReadWithin R.bytes R.failures (most_bytes + 1 - length opening.bytes.items) reader.old reader.new result }
+{
+    let Opening {
+        bytes,
+        from,
+        order,
+        ended,
+    } = opening;
+    let read = bytes.len();
+    let found = find_records(&bytes[from..], order);
+    let mut walk = Walk {
+        judges,
+        order,
+        window: bytes,
+        from,
+        found,
+        spare: Vec::new(alloc),
+        packets: 0,
+        read,
+        ended,
+    };
+    'windows: while !walk.ended {
+        walk = next_window(beside, reader, size, walk)?;
+    }
+    last_window(walk)
+}

@@ -1,0 +1,113 @@
+//! The check of a policy's text.
+ghost use Rattle.std.specs.Prelude.{◌≡◌, ◌≢◌, false, ◌+◌, ◌==◌, ◌∷◌, [], IfOk, filter, length, map};
+ghost use Rattle.std.specs.Str.Lines.{lines};
+ghost use Rattle.acl_policy.specs.Policies.{SayPolicy, policy_facts};
+ghost use Rattle.acl_policy.specs.declared.policy.PolicyFault.TheVariants.{Memory};
+ghost use Rattle.acl_policy.specs.inner.Reading.Lines.{line_in};
+ghost use Rattle.acl_policy.specs.inner.Reading.Policies.{draft_facts, policy_so_far};
+ghost use Rattle.policy_check.specs.Complaints.{AreComplaints, IsChecked, complaint_facts};
+ghost use Rattle.policy_check.specs.declared.reason.Reason.TheVariants.{NotUtf8};
+ghost use Rattle.policy_check.specs.inner.Explained.{Explains};
+
+use crate::complaint::{Checked, Complaint};
+use crate::finding::{Finding, of};
+use crate::line_finding::{first_word, form_finding};
+use crate::reason::Reason;
+use acl_policy::{Draft, Line, Policy, PolicyFault, add_line, empty_draft, line_of};
+use std::alloc::{AllocError, Global};
+
+// Why a line that is at fault is so.
+fn explained(line: &[u8]) -> Finding<'_>
+    ensures { Explains line.now (line_in line.now) result.reason result.word.now }
+{
+    match line_of(line) {
+        Some(Line::Begins(_)) => of(Reason::SecondSection, first_word(line)),
+        Some(Line::Own(_)) => of(Reason::SecondMac, first_word(line)),
+        Some(Line::Ruled(_, _)) => of(Reason::Surplus, first_word(line)),
+        Some(Line::Blank) | None => form_finding(line),
+    }
+}
+
+fn is_memory(fault: PolicyFault) -> bool
+    ensures { result ≡ false → fault ≢ Memory }
+{
+    matches!(fault, PolicyFault::Memory)
+}
+
+// The policy that a draft comes to.
+fn finished(draft: Draft) -> Result<Policy, AllocError>
+    ensures { IfOk result (λ policy. policy_facts policy ≡ policy_so_far (draft_facts draft)) }
+{
+    let Draft {
+        done: mut sections,
+        current,
+    } = draft;
+    sections.push(current)?;
+    Ok(Policy { sections })
+}
+
+fn check_lines(alloc: Global, text: &str) -> Result<Checked<'_>, AllocError>
+    ensures { IfOk result (λ c. AreComplaints (lines text.now) (map complaint_facts c.complaints.items) (policy_facts c.policy)) }
+{
+    let mut complaints = Vec::new(alloc);
+    let mut draft = empty_draft(alloc);
+    let mut number = 0;
+    for line in text.lines() {
+        number += 1;
+        let line = line.as_bytes();
+        match add_line(alloc, &mut draft, line, number) {
+            Ok(()) => {}
+            Err(fault) if is_memory(fault) => return Err(AllocError),
+            Err(_) => {
+                let found = explained(line);
+                complaints.push(Complaint {
+                    line: number,
+                    reason: found.reason,
+                    word: found.word,
+                })?;
+            }
+        }
+    }
+    let policy = finished(draft)?;
+    Ok(Checked { complaints, policy })
+}
+
+// The number of the line that follows so many bytes.
+fn line_after(bytes: &[u8]) -> u64
+    ensures { result ≡ length (filter (λ b. b == 10) bytes.now) + 1 }
+{
+    let mut count = 0;
+    for i in 0..bytes.len() {
+        if bytes[i] == b'\n' {
+            count += 1;
+        }
+    }
+    count + 1
+}
+
+// A text that isn't UTF-8 in the line with this number.
+fn broken<'a>(alloc: Global, line: u64) -> Result<Checked<'a>, AllocError>
+    ensures complaint { IfOk result (λ c. map complaint_facts c.complaints.items
+        ≡ record { line = line; reason = NotUtf8; word = [] } ∷ []) }
+    ensures policy { IfOk result (λ c. SayPolicy [] (policy_facts c.policy)) }
+{
+    let mut complaints = Vec::new(alloc);
+    complaints.push(Complaint {
+        line,
+        reason: Reason::NotUtf8,
+        word: b"",
+    })?;
+    let policy = finished(empty_draft(alloc))?;
+    Ok(Checked { complaints, policy })
+}
+
+/// Checks a policy's text. An `Err` says that memory ran out.
+pub fn check_policy(alloc: Global, text: &[u8]) -> Result<Checked<'_>, AllocError>
+    ensures { IfOk result (λ c. IsChecked text.now (map complaint_facts c.complaints.items) (policy_facts c.policy)) }
+{
+    let error = match str::from_utf8(text) {
+        Ok(text) => return check_lines(alloc, text),
+        Err(error) => error,
+    };
+    broken(alloc, line_after(&text[..error.valid_up_to()]))
+}

@@ -1,0 +1,97 @@
+//! What is wrong with a line of no form.
+ghost use Rattle.std.specs.Prelude.{◌≡◌, ◌∷◌, IfErr, IfSome};
+ghost use Rattle.packet_view.specs.declared.tuple.Mac.{Mac};
+ghost use Rattle.acl_policy.specs.Lines.{IsInterface};
+ghost use Rattle.policy_words.specs.Prefixes.{IsMac};
+ghost use Rattle.policy_words.specs.Words.{words_of};
+ghost use Rattle.policy_check.specs.Complaints.{line_words};
+ghost use Rattle.policy_check.specs.Reasons.{IsFirst, IsFormReason, IsPairReason, IsRuleReason, IsWordsReason};
+ghost use Rattle.policy_check.specs.declared.reason.Reason.TheVariants.{NoInterface, NoMac};
+
+use crate::finding::{Finding, missing, of};
+use crate::reason::Reason;
+use crate::rule_head::head;
+use crate::rule_prefixes::ends;
+use crate::rule_protocol::traffic;
+use crate::unseen_characters::unseen;
+use crate::word_readers::{interface, is_word, mac, next};
+use acl_policy::before_comment;
+
+// What is wrong with the words after `mac`.
+fn own_line(text: &[u8]) -> Result<(), Finding<'_>>
+    ensures { IfErr result (λ found. IsPairReason NoMac IsMac (words_of text.now) found.reason found.word.now) }
+{
+    let Some((word, rest)) = next(text) else {
+        return Err(missing());
+    };
+    if mac(word).is_none() {
+        return Err(of(Reason::NoMac, word));
+    }
+    match next(rest) {
+        Some((extra, _)) => Err(of(Reason::Extra, extra)),
+        None => Ok(()),
+    }
+}
+
+// What is wrong with the words after `interface`.
+fn heading(text: &[u8]) -> Result<(), Finding<'_>>
+    ensures { IfErr result (λ found. IsPairReason NoInterface IsInterface (words_of text.now) found.reason found.word.now) }
+{
+    let Some((word, rest)) = next(text) else {
+        return Err(missing());
+    };
+    if interface(word).is_none() {
+        return Err(of(Reason::NoInterface, word));
+    }
+    match next(rest) {
+        Some((extra, _)) => Err(of(Reason::Extra, extra)),
+        None => Ok(()),
+    }
+}
+
+fn rule_line(text: &[u8]) -> Result<(), Finding<'_>>
+    ensures { IfErr result (λ found. IsRuleReason (words_of text.now) found.reason found.word.now) }
+{
+    let (family, text) = head(text)?;
+    let text = ends(family, text)?;
+    traffic(family, text)
+}
+
+fn words_of_line(text: &[u8]) -> Result<(), Finding<'_>>
+    ensures { IfErr result (λ found. IsWordsReason (words_of text.now) found.reason found.word.now) }
+{
+    let Some((word, rest)) = next(text) else {
+        return Ok(());
+    };
+    if is_word(word, b"mac") {
+        own_line(rest)
+    } else if is_word(word, b"interface") {
+        heading(rest)
+    } else {
+        rule_line(text)
+    }
+}
+
+/// The first word of a line, and nothing where it has none.
+pub fn first_word(line: &[u8]) -> &[u8]
+    ensures { IsFirst (line_words line.now) result.now }
+{
+    match next(before_comment(line)) {
+        Some((word, _)) => word,
+        None => b"",
+    }
+}
+
+/// What is wrong with a line of no form.
+pub fn form_finding(line: &[u8]) -> Finding<'_>
+    ensures { IsFormReason (line_words line.now) result.reason result.word.now }
+{
+    let text = before_comment(line);
+    if let Some(found) = unseen(text) {
+        return found;
+    }
+    match words_of_line(text) {
+        Err(found) => found,
+        Ok(()) => of(Reason::NoForm, first_word(line)),
+    }
+}

@@ -1,0 +1,161 @@
+//! What stands before the packets of an input.
+ghost use Rattle.std.specs.Prelude.{◌≡◌, ◌+◌, ◌-◌, ◌<◌, ◌^◌, [], true, IfErr, IfOk, OnOk, Err, length};
+ghost use Rattle.racl_io.specs.Inputs.{most_bytes};
+ghost use Rattle.racl_io.specs.Transfers.{HasReadWithin};
+ghost use Rattle.racl_cli.specs.Reads.{AnswersInput, AnswersRead, HasFront, HasOpened, HasRest, IsUnread};
+
+use crate::judge_records::front_bytes;
+use acl_policy::read_policy;
+use flow_workers::Filter;
+use packet_view::{Order, capture_header};
+use racl_io::{Fault, Form, MOST_BYTES, Source, decode_digits, read_until, split_input};
+use racl_options::Options;
+use std::alloc::Global;
+
+/// What stands before the records of an input's only capture.
+#[derive(Drop)]
+pub struct Headed {
+    pub filter: Filter,
+    /// The order of the capture's numbers.
+    pub order: Order,
+    /// Where the records begin: in the input, or in the capture that its digits stand for.
+    pub from: usize,
+    /// The capture, where the input has it as digits.
+    pub decoded: Option<Vec<u8>>,
+}
+
+/// What stands before the captures of an input that have numbers.
+#[derive(Drop)]
+pub struct Marked {
+    pub filter: Filter,
+    /// The number of the first capture's interface.
+    pub number: u8,
+    /// Where what follows its marker line begins in the input.
+    pub from: usize,
+}
+
+/// What stands before the packets of an input.
+#[derive(Drop)]
+pub enum Opened {
+    /// One capture, which has no number.
+    One(Headed),
+    /// Captures with numbers, one or several.
+    Several(Marked),
+}
+
+/// What stands before the packets of the input that these bytes are, or that they are the front of; or the fault that they
+/// have before them.
+pub fn open_input(alloc: Global, options: &Options, bytes: &[u8]) -> Result<Opened, Fault>
+    ensures ok { IfOk result (HasOpened options.now bytes.now) }
+    ensures fault { IfErr result (λ fault. AnswersInput options.now bytes.now (Err fault)) }
+{
+    let Some(input) = split_input(bytes) else {
+        return Err(Fault::NoCapture);
+    };
+    let policy = read_policy(alloc, input.policy)?;
+    let filter = Filter {
+        policy,
+        times: options.times,
+    };
+    match input.form {
+        Form::Binary => {
+            let order = capture_header(input.content)?;
+            Ok(Opened::One(Headed {
+                filter,
+                order,
+                from: bytes.len() - input.content.len() + 24,
+                decoded: None,
+            }))
+        }
+        Form::Hexadecimal => {
+            let capture = decode_digits(alloc, input.content)?;
+            let order = capture_header(&capture)?;
+            Ok(Opened::One(Headed {
+                filter,
+                order,
+                from: 24,
+                decoded: Some(capture),
+            }))
+        }
+        Form::Numbered(number) => Ok(Opened::Several(Marked {
+            filter,
+            number,
+            from: bytes.len() - input.content.len(),
+        })),
+    }
+}
+
+/// What was read of an input.
+#[derive(Drop)]
+pub struct Front {
+    pub bytes: Vec<u8>,
+    /// Whether it is all of the input.
+    pub ended: bool,
+    /// What stands there before the packets.
+    pub opened: Opened,
+}
+
+// An input of which all was read.
+fn open_whole(alloc: Global, options: &Options, bytes: Vec<u8>) -> Result<Front, Fault>
+    ensures bytes { IfOk result (λ front. front.bytes ≡ bytes) }
+    ensures ended { IfOk result (λ front. front.ended ≡ true) }
+    ensures opened { IfOk result (λ front. HasOpened options.now bytes.items front.opened) }
+    ensures fault { IfErr result (λ fault. AnswersInput options.now bytes.items (Err fault)) }
+{
+    match open_input(alloc, options, &bytes) {
+        Ok(opened) => Ok(Front {
+            bytes,
+            ended: true,
+            opened,
+        }),
+        Err(fault) => Err(fault),
+    }
+}
+
+/// Reads all that an input has behind these bytes.
+pub fn read_rest<R: Source>(reader: &mut R, bytes: &mut Vec<u8>) -> Result<(), Fault>
+    requires { R.failures reader.old < 2 ^ 64 - 1 }
+    ensures ok { OnOk result (HasRest (R.bytes reader.old) (R.bytes reader.new) bytes.old.items bytes.new.items) }
+    ensures fault { IfErr result (IsUnread (length bytes.old.items) (R.bytes reader.old)) }
+    ensures within { HasReadWithin R.bytes R.failures (most_bytes + 1 - length bytes.old.items) reader.old reader.new result }
+{
+    match read_until(reader, bytes, MOST_BYTES + 1) {
+        Ok(true) => Ok(()),
+        Ok(false) => Err(Fault::TooLarge),
+        Err(fault) => Err(fault),
+    }
+}
+
+/// Reads the front of an input, up to records of its only capture: or all of it where that has a fault, or captures as digits.
+pub fn open_source<R: Source>(
+    alloc: Global,
+    options: &Options,
+    reader: &mut R,
+) -> Result<Front, Fault>
+    requires { R.failures reader.old < 2 ^ 64 - 1 }
+    ensures ok { IfOk result (HasFront options.now (R.bytes reader.old) (R.bytes reader.new)) }
+    ensures fault { IfErr result (λ fault. AnswersRead options.now [] (R.bytes reader.old) (Err fault)) }
+    ensures within { HasReadWithin R.bytes R.failures (most_bytes + 1) reader.old reader.new result }
+{
+    let mut bytes = Vec::new(alloc);
+    let ended = match read_until(reader, &mut bytes, front_bytes(options)) {
+        Ok(ended) => ended,
+        Err(fault) => return Err(fault),
+    };
+    if ended {
+        return open_whole(alloc, options, bytes);
+    }
+    if let Ok(Opened::One(headed)) = open_input(alloc, options, &bytes) {
+        if headed.decoded.is_none() {
+            return Ok(Front {
+                bytes,
+                ended,
+                opened: Opened::One(headed),
+            });
+        }
+    }
+    match read_rest(reader, &mut bytes) {
+        Ok(()) => open_whole(alloc, options, bytes),
+        Err(fault) => Err(fault),
+    }
+}

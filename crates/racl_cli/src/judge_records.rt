@@ -1,0 +1,157 @@
+//! The records of a capture, which are judged while they are read.
+ghost use Rattle.std.specs.Prelude.{◌≡◌, ◌+◌, ◌-◌, ◌<◌, ◌≤◌, ◌^◌, IfErr, IfOk, length};
+ghost use Rattle.acl_policy.specs.Policies.{policy_facts};
+ghost use Rattle.capture_stream.specs.Streams.{IsSize, IsStreamFault};
+ghost use Rattle.racl_io.specs.declared.fault.Fault.TheVariants.{Memory};
+ghost use Rattle.racl_io.specs.Inputs.{most_bytes};
+ghost use Rattle.racl_io.specs.Transfers.{HasReadWithin};
+ghost use Rattle.racl_cli.specs.Crews.{HaveJudgedSome};
+ghost use Rattle.racl_cli.specs.inner.Streams.{HasEnded};
+ghost use Rattle.racl_cli.specs.Reads.{HasJudged, MayJudge, having_records};
+
+use crate::judged_input::{Ended, Judged};
+use crate::sized_tables::{MANY_PACKETS, SizedWorkers, create_sized};
+use crate::stored_sessions::with_stored;
+use crate::workers_as_judges::Crew;
+use capture_stream::{Opening, Streamed, WindowSize, judge_stream};
+use flow_workers::Filter;
+use packet_view::front_records;
+use racl_io::{Captured, Fault, Source};
+use racl_options::Options;
+use std::alloc::Global;
+use std::sync::Wait;
+use std::thread::Threads;
+
+/// How many bytes are read at once for one worker: so few that they are still in the processor's cache when they are judged.
+const ONE_WINDOW: usize = 262_144;
+
+/// How many bytes are read at once for several workers: so many that their packets may pay for a thread each.
+const SEVERAL_WINDOW: usize = 4_194_304;
+
+/// How many bytes of an input are read before any is judged, at least.
+pub fn front_bytes(options: &Options) -> usize
+    ensures { result ≤ 4194304 }
+{
+    if options.workers > 1 {
+        SEVERAL_WINDOW
+    } else {
+        ONE_WINDOW
+    }
+}
+
+// How many bytes the windows after that get, which several workers judge or one.
+fn window_size(are_several: bool) -> WindowSize
+    ensures { IsSize result }
+{
+    let bytes = if are_several {
+        SEVERAL_WINDOW
+    } else {
+        ONE_WINDOW
+    };
+    WindowSize {
+        least: bytes,
+        most: bytes,
+    }
+}
+
+/// How many times as many packets as stand in its front an input is expected to have that goes on after it.
+const TIMES_FRONT: usize = 16;
+
+/// How many packets are expected, and how many workers judge them, where so many stand in the front of an input, or in all
+/// of it. Few packets are one worker's.
+pub fn plan_for(options: &Options, ended: bool, count: usize) -> (usize, usize)
+    ensures some { 1 ≤ result.1 }
+    ensures few { result.1 ≤ options.now.workers }
+{
+    if !ended {
+        (count.saturating_mul(TIMES_FRONT), options.workers)
+    } else if count < MANY_PACKETS {
+        (count, 1)
+    } else {
+        (count, options.workers)
+    }
+}
+
+// The verdicts of workers who judged all packets of a capture, what the report tells of it, and their callers.
+fn end_capture<T: Wait>(streamed: Streamed<Crew<'_, '_, T>>) -> Result<Ended, Fault>
+    requires { HaveJudgedSome streamed.judges.workers }
+    ensures ok { IfOk result (HasEnded streamed.entry.judges.workers streamed.entry.truncated) }
+    ensures fault { IfErr result (λ fault. fault ≡ Memory) }
+{
+    let Streamed { judges, truncated } = streamed;
+    let Crew { alloc, workers } = judges;
+    let Ok((verdicts, callers)) = workers.end(alloc) else {
+        return Err(Fault::Memory);
+    };
+    let mut captures = Vec::new(alloc);
+    captures.push(Captured {
+        named: None,
+        packets: verdicts.len(),
+        truncated,
+    })?;
+    Ok(Ended {
+        verdicts,
+        captures,
+        callers,
+    })
+}
+
+/// The verdicts on the packets of all records, which are judged while they are read, and the sessions behind them: in windows
+/// for several workers, beside which the next one is read, where enough packets stand in the opening.
+pub fn judge_records<'t, R: Source + Send, T: Threads + Wait + Sync>(
+    rt: &'t T,
+    alloc: Global,
+    options: &Options,
+    reader: &mut R,
+    filter: &'t Filter,
+    opening: Opening,
+) -> Result<Judged, Fault>
+    requires may { MayJudge options.now filter.now opening (R.bytes reader.old) }
+    requires sound { R.failures reader.old < 2 ^ 64 - 1 }
+    ensures ok { IfOk result (HasJudged options.now (policy_facts filter.now.policy) opening (R.bytes reader.old) (R.bytes reader.new)) }
+    ensures fault { IfErr result (IsStreamFault opening (R.bytes reader.old) (R.bytes reader.new)) }
+    ensures within { HasReadWithin R.bytes R.failures (most_bytes + 1 - length opening.bytes.items) reader.old reader.new result }
+{
+    let Ok((tables, callers)) = create_sized(alloc, options.tables) else {
+        return Err(Fault::Memory);
+    };
+    let front = front_records(&opening.bytes[opening.from..], opening.order, 0);
+    let count = front.records.count;
+    let (expected, workers) = plan_for(options, opening.ended, count);
+    let are_several = workers > 1 && count >= MANY_PACKETS;
+    let Ok(prepared) = filter.prepare(alloc, expected) else {
+        return Err(Fault::Memory);
+    };
+    let Ok(ready) = filter.ready_with(alloc, &prepared) else {
+        return Err(Fault::Memory);
+    };
+    let Ok(workers) = SizedWorkers::new(rt, alloc, &ready, &tables, callers, workers) else {
+        return Err(Fault::Memory);
+    };
+    let beside = if are_several { Some(rt) } else { None };
+    let crew = Crew { alloc, workers };
+    match judge_stream(
+        beside,
+        alloc,
+        reader,
+        crew,
+        opening,
+        window_size(are_several),
+    ) {
+        Ok(streamed) => match end_capture(streamed) {
+            Ok(ended) => with_stored(rt, alloc, options, tables, ended),
+            Err(fault) => Err(fault),
+        },
+        Err(fault) => Err(fault),
+    }
+}
+
+/// The bytes that have the records: those of the input, or the capture that its digits stand for.
+pub fn bytes_with_records(input: Vec<u8>, decoded: Option<Vec<u8>>) -> Vec<u8>
+    ensures { result.items ≡ having_records input.items decoded }
+{
+    match decoded {
+        Some(capture) => capture,
+        None => input,
+    }
+}

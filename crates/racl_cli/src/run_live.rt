@@ -1,0 +1,110 @@
+//! One run over a capture that is told while it comes.
+ghost use Rattle.std.specs.Prelude.{◌≡◌, ◌-◌, ◌<◌, ◌^◌, MatchResult};
+ghost use Rattle.acl_policy.specs.Policies.{policy_facts};
+ghost use Rattle.capture_stream.specs.Lives.{HasToldAll, IsLiveFault, with_read, with_write};
+ghost use Rattle.racl_cli.specs.LiveRuns.{ByOneWorker, HasRunLive, IsLiveRunFault};
+ghost use Rattle.racl_cli.specs.inner.Heads.{HasReadHeader, IsHeadless};
+
+use crate::sized_tables::{SizedWorkers, create_sized};
+use crate::workers_as_judges::Lone;
+use acl_policy::read_policy;
+use capture_stream::tell_live;
+use flow_workers::Filter;
+use packet_view::{Order, capture_header};
+use racl_io::{Fault, Sink, Source, Totals, read_until};
+use racl_options::Options;
+use std::alloc::Global;
+use std::sync::Wait;
+
+/// For how many packets rules are prepared.
+const EXPECTED: usize = 16_777_216;
+
+/// How many bytes the header of a capture has.
+const HEADER_BYTES: usize = 24;
+
+/// What stands before the records of a capture.
+#[derive(Drop)]
+pub struct LiveHead {
+    pub filter: Filter,
+    /// The order of the capture's numbers.
+    pub order: Order,
+}
+
+// The header of the capture is read.
+fn read_header<R: Source>(alloc: Global, reader: &mut R) -> Result<Order, Fault>
+    requires { R.failures reader.old < 2 ^ 64 - 1 }
+    ensures header { MatchResult result (HasReadHeader (R.bytes reader.old) (R.bytes reader.new)) (IsHeadless (R.bytes reader.old) (R.bytes reader.new)) }
+    ensures read { MatchResult result (λ _. R.failures reader.new ≡ R.failures reader.old) (λ fault. R.failures reader.new ≡ with_read (R.failures reader.old) fault) }
+{
+    let mut header = Vec::new(alloc);
+    match read_until(reader, &mut header, HEADER_BYTES) {
+        Ok(_) => Ok(capture_header(&header)?),
+        Err(fault) => Err(fault),
+    }
+}
+
+// The packets of the capture behind its header are told by one worker.
+fn tell_capture<R: Source, W: Sink, T: Wait>(
+    rt: &T,
+    alloc: Global,
+    options: &Options,
+    head: &LiveHead,
+    reader: &mut R,
+    writer: &mut W,
+) -> Result<Totals, Fault>
+    requires times { head.now.filter.times ≡ options.now.times }
+    requires reader { R.failures reader.old < 2 ^ 64 - 1 }
+    requires writer { W.failures writer.old < 2 ^ 64 - 1 }
+    ensures told { MatchResult result (HasToldAll (ByOneWorker options.now) (policy_facts head.now.filter.policy) head.now.order (R.bytes reader.old) (R.bytes reader.new) (W.bytes writer.old) (W.bytes writer.new)) (IsLiveFault (ByOneWorker options.now) (policy_facts head.now.filter.policy) head.now.order (R.bytes reader.old) (R.bytes reader.new) (W.bytes writer.old) (W.bytes writer.new)) }
+    ensures read { MatchResult result (λ _. R.failures reader.new ≡ R.failures reader.old) (λ fault. R.failures reader.new ≡ with_read (R.failures reader.old) fault) }
+    ensures write { MatchResult result (λ _. W.failures writer.new ≡ W.failures writer.old) (λ fault. W.failures writer.new ≡ with_write (W.failures writer.old) fault) }
+{
+    let Ok((tables, callers)) = create_sized(alloc, options.tables) else {
+        return Err(Fault::Memory);
+    };
+    let Ok(prepared) = head.filter.prepare(alloc, EXPECTED) else {
+        return Err(Fault::Memory);
+    };
+    let Ok(ready) = head.filter.ready_with(alloc, &prepared) else {
+        return Err(Fault::Memory);
+    };
+    let Ok(workers) = SizedWorkers::new(rt, alloc, &ready, &tables, callers, 1) else {
+        return Err(Fault::Memory);
+    };
+    tell_live(alloc, reader, writer, Lone { alloc, workers }, head.order)
+}
+
+/// Filters a capture by this policy while it comes, and writes the report: after each read the lines of all packets whose
+/// records were read whole, and at its end what stands behind them. One worker judges, and keeps no verdict, so that a
+/// capture may be of any length. A fault leaves what was written.
+pub fn run_live<R: Source, W: Sink, T: Wait>(
+    rt: &T,
+    alloc: Global,
+    options: &Options,
+    policy: &[u8],
+    reader: &mut R,
+    writer: &mut W,
+) -> Result<Totals, Fault>
+    requires reader { R.failures reader.old < 2 ^ 64 - 1 }
+    requires writer { W.failures writer.old < 2 ^ 64 - 1 }
+    ensures told { MatchResult result (HasRunLive options.now policy.now (R.bytes reader.old) (W.bytes writer.old) (W.bytes writer.new)) (IsLiveRunFault options.now policy.now (R.bytes reader.old) (R.bytes reader.new) (W.bytes writer.old) (W.bytes writer.new)) }
+
+    // A device's fault is answered where it failed, and it failed once.
+    ensures read { MatchResult result (λ _. R.failures reader.new ≡ R.failures reader.old) (λ fault. R.failures reader.new ≡ with_read (R.failures reader.old) fault) }
+    ensures write { MatchResult result (λ _. W.failures writer.new ≡ W.failures writer.old) (λ fault. W.failures writer.new ≡ with_write (W.failures writer.old) fault) }
+{
+    let policy = match read_policy(alloc, policy) {
+        Ok(policy) => policy,
+        Err(cause) => return Err(Fault::from(cause)),
+    };
+    let order = match read_header(alloc, reader) {
+        Ok(order) => order,
+        Err(fault) => return Err(fault),
+    };
+    let filter = Filter {
+        policy,
+        times: options.times,
+    };
+    let head = LiveHead { filter, order };
+    tell_capture(rt, alloc, options, &head, reader, writer)
+}

@@ -1,0 +1,12 @@
+use Rattle.std.proofs.Common.{◌∙◌, ◌++◌, ℕ, List, ◌∷◌, [], ap, ap₂, append_assoc, codes, sym}
+use Rattle.json.specs.Print.{print}
+use Rattle.json.specs.Token.{Token, end_object}
+use Rattle.racl_views.proofs.FieldLemmas.{object_tokens}
+use Rattle.racl_views.proofs.object_fields.end.Goals as goal
+
+pub returns : goal.returns
+returns c = λ fields same.
+    let tokens = c.in_ok-end_object.ensures.ok ∙ ap (λ (ts : List Token). ts ++ end_object ∷ []) same ∙ sym (object_tokens fields) in
+    c.in_ok-push.ensures.items
+    ∙ ap (λ (t : List ℕ). t ++ codes "\n") (c.into_inner-text.ensures.items ∙ ap₂ (λ (b : List ℕ) (ts : List Token). b ++ print ts) c.in_ok-end_object.ensures.room.0 tokens)
+    ∙ append_assoc c.args.object.before _ (codes "\n")

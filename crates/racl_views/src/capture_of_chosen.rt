@@ -1,0 +1,100 @@
+//! The packets of a capture that are chosen by their verdicts, as a capture.
+ghost use Rattle.std.specs.Prelude.{◌≡◌, ◌-◌, ◌<◌, ◌≤◌, ◌^◌, ◌++◌, ℕ, List, [], IfErr, IfNone, IfSome, drop, length, take};
+ghost use Rattle.packet_view.specs.Captures.{End, IsCapture, IsCaptureAt, IsHeaderFault, IsPiece, Record, RecordFacts, Whole, packets_at};
+ghost use Rattle.packet_view.specs.declared.capture.CaptureFault.{CaptureFault};
+ghost use Rattle.flow_filter.specs.declared.verdict.Verdict.{Verdict};
+ghost use Rattle.racl_io.specs.declared.fault.Fault.TheVariants.{Write};
+ghost use Rattle.racl_io.specs.Sinks.{HasPut};
+ghost use Rattle.racl_views.specs.ChosenRecords.{HasRecords, IsChosen, IsRecordOf, chosen_among};
+ghost use Rattle.racl_views.specs.declared.chosen_packets.Chosen.{Chosen};
+ghost use Rattle.racl_views.specs.inner.Batches.{HasPassed};
+ghost use Rattle.racl_views.specs.inner.ChosenBytes.{HasNoRecord, chosen_in};
+
+use crate::chosen_packets::Chosen;
+use crate::write_batch::{Batch, put_where};
+use flow_filter::Verdict;
+use packet_view::{Order, Piece, capture_header, next_record};
+use racl_io::{Fault, Sink, write_all};
+
+// The bytes of the record at the front, and those behind it; None where no whole one is there.
+fn first_record(bytes: &[u8], order: Order) -> Option<(&[u8], &[u8])>
+    ensures some { IfSome result (λ parts. (facts : RecordFacts) × IsRecordOf order parts.0.now facts × (bytes.now ≡ parts.0.now ++ parts.1.now)) }
+    ensures none { IfNone result (HasNoRecord order bytes.now) }
+{
+    match next_record(bytes, order) {
+        Piece::Whole { frame, .. } => Some(bytes.split_at(16 + frame.len())),
+        Piece::End | Piece::Truncated | Piece::TooLong => None,
+    }
+}
+
+// Puts the chosen ones among the whole records at the front of these bytes behind the bytes that wait.
+fn put_chosen<W: Sink>(
+    writer: &mut W,
+    batch: &mut Batch,
+    records: &[u8],
+    order: Order,
+    chosen: Chosen,
+    verdicts: &[Verdict],
+) -> Result<(), Fault>
+    requires sound { W.failures writer.old < 2 ^ 64 - 1 }
+    ensures { HasPassed W.bytes W.failures writer.old writer.new batch.old batch.new (chosen_in chosen order verdicts.now records.now) result }
+{
+    let mut left = records;
+    'verdicts: for verdict in verdicts {
+        let Some((record, rest)) = first_record(left, order) else {
+            return Ok(());
+        };
+        put_where(writer, batch, chosen.takes(*verdict), record)?;
+        left = rest;
+    }
+    Ok(())
+}
+
+// Writes the header in these bytes and the chosen ones among the records behind it.
+fn write_records<W: Sink>(
+    writer: &mut W,
+    capture: &[u8],
+    order: Order,
+    chosen: Chosen,
+    verdicts: &[Verdict],
+) -> Result<(), Fault>
+    requires sound { W.failures writer.old < 2 ^ 64 - 1 }
+    requires header { 24 ≤ length capture.now }
+    ensures { HasPut W.bytes W.failures writer.old writer.new (take 24 capture.now ++ chosen_in chosen order verdicts.now (drop 24 capture.now)) result }
+{
+    let (header, records) = capture.split_at(24);
+    let mut batch = Batch::new();
+    put_where(writer, &mut batch, true, header)?;
+    put_chosen(writer, &mut batch, records, order, chosen, verdicts)?;
+    write_all(writer, batch.as_slice())
+}
+
+/// Writes a capture of those packets that are chosen by their verdicts: the header as it is, and each record of a chosen
+/// packet as it is. What stands behind the whole records is left out, and of what has no capture's header nothing is
+/// written. The verdicts are those of the whole records, in their order.
+pub fn write_chosen<W: Sink>(
+    writer: &mut W,
+    capture: &[u8],
+    chosen: Chosen,
+    verdicts: &[Verdict],
+) -> Result<(), Fault>
+    requires sound { W.failures writer.old < 2 ^ 64 - 1 }
+    ensures capture { (records : List RecordFacts) → HasRecords capture.now records
+        → (written : List ℕ) × IsChosen chosen verdicts.now capture.now records written × HasPut W.bytes W.failures writer.old writer.new written result }
+    ensures other { (fault : CaptureFault) → IsHeaderFault capture.now fault → HasPut W.bytes W.failures writer.old writer.new [] result }
+    ensures fault { IfErr result (λ fault. fault ≡ Write) }
+{
+    match capture_header(capture) {
+        Ok(order) => write_records(writer, capture, order, chosen, verdicts),
+        Err(_) => Ok(()),
+    }
+}
+
+/// What is written of a capture is one: of the chosen packets in their order, and whole.
+pub fn chosen_packets_are_a_capture()
+    ensures records { (capture : List ℕ) (records : List RecordFacts) (end : End) → IsCapture capture records end → HasRecords capture records }
+    ensures capture { (chosen : Chosen) (verdicts : List Verdict) (capture : List ℕ) (records : List RecordFacts) (written : List ℕ)
+        → IsChosen chosen verdicts capture records written → IsCapture written (chosen_among chosen verdicts records) Whole }
+    ensures packets { (chosen : Chosen) (verdicts : List Verdict) (capture : List ℕ) (records : List RecordFacts) (written : List ℕ) (number : ℕ)
+        → IsChosen chosen verdicts capture records written → IsCaptureAt number written (chosen_among chosen verdicts (packets_at number records)) Whole }
+{}

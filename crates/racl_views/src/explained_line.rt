@@ -1,0 +1,76 @@
+//! Lines of the report that say of their packets what these are, and which rule decided.
+ghost use Rattle.std.specs.Prelude.{◌≡◌, ◌+◌, ◌-◌, ◌<◌, ◌≤◌, ◌++◌, [], codes, get_or, length, map};
+ghost use Rattle.racl_io.specs.Reports.{text_of};
+ghost use Rattle.racl_views.specs.Entries.{entry_facts};
+ghost use Rattle.racl_views.specs.ExplainedLines.{decided_text, explained_line, head_of};
+ghost use Rattle.racl_views.specs.RuleTexts.{shown_of};
+
+use crate::line_text::push_numbered;
+use crate::packet_entry::{Entry, Place};
+use crate::packet_text::{push_carried, push_seen};
+use crate::rule_text::text_at;
+use crate::shown_rule_text::RuleText;
+use flow_filter::Verdict;
+use racl_io::{Numeral, Piece, push_name};
+
+fn push_verdict(piece: &mut Piece, verdict: Verdict)
+    requires { length piece.old + 42 ≤ 262144 }
+    ensures text { piece.new ≡ piece.old ++ text_of verdict }
+    ensures short { length piece.new ≤ length piece.old + 42 }
+{
+    match verdict {
+        Verdict::Session => piece.push(b"pass session"),
+        Verdict::Reflect(number) => {
+            push_numbered(piece, b"pass rule ", u64::from(number));
+            piece.push(b" reflect");
+        }
+        Verdict::Permit(number) => push_numbered(piece, b"pass rule ", u64::from(number)),
+        Verdict::Deny(number) => push_numbered(piece, b"drop rule ", u64::from(number)),
+        Verdict::ByDefault => piece.push(b"drop default"),
+        Verdict::Worn => piece.push(b"drop worn"),
+        Verdict::Full => piece.push(b"drop full"),
+        Verdict::NoPages => piece.push(b"drop no-pages"),
+        Verdict::NotIp => piece.push(b"pass not-ip"),
+        Verdict::Malformed => piece.push(b"drop malformed"),
+        Verdict::Short => piece.push(b"drop short"),
+    }
+}
+
+// The report's line of the packet, up to its line feed.
+fn push_head(piece: &mut Piece, named: Option<u8>, number: u64, verdict: Verdict)
+    requires { length piece.old + 95 ≤ 262144 }
+    ensures text { piece.new ≡ piece.old ++ head_of named number verdict }
+    ensures short { length piece.new ≤ length piece.old + 95 }
+{
+    Numeral::of(number).push(piece);
+    piece.push(b" ");
+    push_name(piece, named);
+    push_verdict(piece, verdict);
+}
+
+// The line of the deciding rule and its text.
+fn push_decided<'a>(piece: &mut Piece, texts: &'a [RuleText<'a>], line: u64)
+    requires { length piece.old + 233 ≤ 262144 }
+    ensures text { piece.new ≡ piece.old ++ decided_text (map shown_of texts.now) line }
+    ensures short { length piece.new ≤ length piece.old + 233 }
+{
+    if line == 0 {
+        return;
+    }
+    push_numbered(piece, b" | line ", line);
+    piece.push(b" ");
+    piece.push(text_at(texts, line));
+}
+
+/// The line of the packet with this number.
+pub fn push_explained<'a>(piece: &mut Piece, texts: &'a [RuleText<'a>], place: Place, entry: &Entry)
+    requires { length piece.old + 742 ≤ 262144 }
+    ensures text { piece.new ≡ piece.old ++ explained_line (map shown_of texts.now) place.named place.number (entry_facts entry.now) }
+    ensures short { length piece.new ≤ length piece.old + 742 }
+{
+    push_head(piece, place.named, place.number, entry.verdict);
+    push_seen(piece, entry);
+    push_carried(piece, &entry.frame);
+    push_decided(piece, texts, entry.line);
+    piece.push(b"\n");
+}

@@ -1,0 +1,128 @@
+//! The rules of a policy's text, with their numbers and lines.
+ghost use Rattle.std.specs.Prelude.{◌≡◌, ◌+◌, ◌<◌, ◌++◌, [], ◌∷◌, List, IfOk, OnOk, length, map};
+ghost use Rattle.std.specs.Str.Lines.{lines};
+ghost use Rattle.acl_policy.specs.Lines.{LineFacts};
+ghost use Rattle.acl_policy.specs.Policies.{IsPolicyText, PolicyFacts};
+ghost use Rattle.acl_policy.specs.inner.Reading.Lines.{line_facts};
+ghost use Rattle.racl_views.specs.RuleLines.{AreRules, rule_here, rules_from};
+ghost use Rattle.racl_views.specs.inner.Spots.{IsBehind, IsShort, listed, said};
+
+use crate::place_in_policy::Spot;
+use crate::rule_name::{RuleLine, RuleName};
+use acl_policy::{Line, line_of};
+use packet_view::Direction;
+use std::alloc::{AllocError, Global};
+
+// A rule of the section that goes on at the spot, in the line with this number.
+fn numbered(spot: &Spot, direction: Direction, others: u64, line: u64) -> RuleLine
+    requires { others < line }
+    ensures { result ≡ record { rule = record { interface = spot.now.interface; direction = direction; number = others + 1 }; line = line } }
+{
+    RuleLine {
+        rule: RuleName {
+            interface: spot.interface,
+            direction,
+            number: others + 1,
+        },
+        line,
+    }
+}
+
+// The rule in the line behind the spot, which has this number and says this.
+fn rule_at(spot: &Spot, line: u64, said: Line) -> Option<RuleLine>
+    requires { IsShort spot.now line }
+    ensures { (before : List LineFacts) → IsBehind before spot.now → line ≡ length before + 1
+        → listed result ≡ rule_here before (line_facts said) }
+{
+    match said {
+        Line::Ruled(Direction::Inbound, _) => {
+            Some(numbered(spot, Direction::Inbound, spot.inbound, line))
+        }
+        Line::Ruled(Direction::Outbound, _) => {
+            Some(numbered(spot, Direction::Outbound, spot.outbound, line))
+        }
+        Line::Blank | Line::Begins(_) | Line::Own(_) => None,
+    }
+}
+
+// The spot behind that line.
+fn behind(spot: &Spot, line: u64, said: Line) -> Spot
+    requires { IsShort spot.now line }
+    ensures { (before : List LineFacts) → IsBehind before spot.now → IsBehind (line_facts said ∷ before) result }
+{
+    let Spot {
+        interface,
+        inbound,
+        outbound,
+    } = *spot;
+    match said {
+        Line::Begins(interface) => Spot {
+            interface,
+            inbound: 0,
+            outbound: 0,
+        },
+        Line::Ruled(Direction::Inbound, _) => Spot {
+            interface,
+            inbound: inbound + 1,
+            outbound,
+        },
+        Line::Ruled(Direction::Outbound, _) => Spot {
+            interface,
+            inbound,
+            outbound: outbound + 1,
+        },
+        Line::Blank | Line::Own(_) => *spot,
+    }
+}
+
+// What a line says, where it says something.
+#[tactic(auto, unfolding(crate::specs::inner::Spots::said))]
+fn reading(line: &[u8]) -> Line
+    ensures { line_facts result ≡ said line.now }
+{
+    match line_of(line) {
+        Some(said) => said,
+        None => Line::Blank,
+    }
+}
+
+// Passes the line behind the spot, which has this number and says this.
+fn pass(rules: &mut Vec<RuleLine>, spot: &mut Spot, line: u64, said: Line) -> Result<(), AllocError>
+    requires { IsShort spot.old line }
+    ensures rule { OnOk result ((before : List LineFacts) → IsBehind before spot.old → line ≡ length before + 1
+        → rules.new.items ≡ rules.old.items ++ rule_here before (line_facts said)) }
+    ensures behind { OnOk result ((before : List LineFacts) → IsBehind before spot.old → IsBehind (line_facts said ∷ before) spot.new) }
+{
+    if let Some(rule) = rule_at(spot, line, said) {
+        rules.push(rule)?;
+    }
+    *spot = behind(spot, line, said);
+    Ok(())
+}
+
+fn rules_in(alloc: Global, text: &str) -> Result<Vec<RuleLine>, AllocError>
+    ensures { IfOk result (λ rules. rules.items ≡ rules_from [] (map said (lines text.now))) }
+{
+    let mut rules = Vec::new(alloc);
+    let mut spot = Spot {
+        interface: 0,
+        inbound: 0,
+        outbound: 0,
+    };
+    let mut number = 0;
+    for line in text.lines() {
+        number += 1;
+        pass(&mut rules, &mut spot, number, reading(line.as_bytes()))?;
+    }
+    Ok(rules)
+}
+
+/// The rules of a policy's text in the order of their lines. An `Err` says that memory ran out.
+pub fn rule_lines(alloc: Global, text: &[u8]) -> Result<Vec<RuleLine>, AllocError>
+    ensures { IfOk result (λ rules. (policy : PolicyFacts) → IsPolicyText text.now policy → AreRules text.now rules.items) }
+{
+    match str::from_utf8(text) {
+        Ok(text) => rules_in(alloc, text),
+        Err(_) => Ok(Vec::new(alloc)),
+    }
+}
