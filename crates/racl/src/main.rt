@@ -189,6 +189,24 @@ fn outcome_of<T: Threads + Wait + Sync, R: Source + Send>(
     }))
 }
 
+// The text of a policy's file. Where it can't be had that is told, and the status is answered.
+fn policy_text(rt: &HostRuntime, alloc: Global, name: &str) -> io::Result<Result<Vec<u8>, u8>> {
+    let policy = match opened_or_told(rt, name) {
+        Ok(Some(policy)) => policy,
+        Ok(None) => return Ok(Err(4)),
+        Err(error) => return Err(error),
+    };
+    let fault = match bytes_of(alloc, policy) {
+        Ok(text) if text.len() <= MOST_BYTES => return Ok(Ok(text)),
+        Ok(_) => Fault::TooLarge,
+        Err(fault) => fault,
+    };
+    match say_ending(rt, &ending(&Err(fault))) {
+        Ok(status) => Ok(Err(status)),
+        Err(error) => Err(error),
+    }
+}
+
 // Runs on the capture of a file while it comes.
 fn status_of_live<T: Wait>(
     rt: &HostRuntime,
@@ -197,36 +215,41 @@ fn status_of_live<T: Wait>(
     options: &Options,
     files: &Files<'_>,
 ) -> io::Result<u8> {
-    let Some(policy) = opened_or_told(rt, files.policy)? else {
-        return Ok(4);
+    let text = match policy_text(rt, alloc, files.policy) {
+        Ok(Ok(text)) => text,
+        Ok(Err(status)) => return Ok(status),
+        Err(error) => return Err(error),
     };
-    let Some(capture) = opened_or_told(rt, files.capture)? else {
-        return Ok(4);
+    let capture = match opened_or_told(rt, files.capture) {
+        Ok(Some(capture)) => capture,
+        Ok(None) => return Ok(4),
+        Err(error) => return Err(error),
     };
-    let text = match bytes_of(alloc, policy) {
-        Ok(text) => text,
-        Err(fault) => return say_ending(rt, &ending(&Err(fault))),
-    };
-    if text.len() > MOST_BYTES {
-        return say_ending(rt, &ending(&Err(Fault::TooLarge)));
-    }
-    say_unlooked(rt, alloc, files.policy, text.as_slice());
+    let text = text.as_slice();
+    say_unlooked(rt, alloc, files.policy, text);
     let mut reader = Device::new(FrontKept::new(capture));
     let mut writer = Device::new(rt.stdout());
-    let outcome = run_live(
-        threads,
-        alloc,
-        options,
-        text.as_slice(),
-        &mut reader,
-        &mut writer,
-    );
-    let status = say_ending(rt, &ending(&outcome))?;
-    if let Some(hint) = hint(&outcome, text.as_slice()) {
+    let outcome = run_live(threads, alloc, options, text, &mut reader, &mut writer);
+    say_behind_live(rt, alloc, files, text, reader.inner.front(), &outcome)
+}
+
+// Says how such a run ended, and what is likely to be wrong with its files; and answers the status.
+fn say_behind_live(
+    rt: &HostRuntime,
+    alloc: Global,
+    files: &Files<'_>,
+    text: &[u8],
+    front: &[u8],
+    outcome: &Result<Totals, Fault>,
+) -> io::Result<u8> {
+    let status = match say_ending(rt, &ending(outcome)) {
+        Ok(status) => status,
+        Err(error) => return Err(error),
+    };
+    if let Some(hint) = hint(outcome, text) {
         rt.eprintln(&hint)?;
     }
-    let front = reader.inner.front();
-    if let Some(other) = remark(&outcome, front) {
+    if let Some(other) = remark(outcome, front) {
         let name = files.capture;
         rt.eprintln(&Remark { name, other })?;
     }
@@ -234,7 +257,7 @@ fn status_of_live<T: Wait>(
         interface: 0,
         front,
     };
-    say_foreign(rt, alloc, files.policy, text.as_slice(), &[seen]);
+    say_foreign(rt, alloc, files.policy, text, &[seen]);
     Ok(status)
 }
 

@@ -1,6 +1,5 @@
 //! Files that chosen packets are saved in.
-ghost use Rattle.std.specs.Prelude.{◌≤◌, IfOk, length};
-ghost use Rattle.racl_cli.specs.Saves.{MayFail, MayFailOnce};
+ghost use Rattle.std.specs.Prelude.{◌-◌, ◌<◌, ◌≤◌, ◌^◌, IfOk, IfSome, length};
 
 use racl_cli::{Device, Saved, Saves, Unopened};
 use std::fs::File;
@@ -64,7 +63,7 @@ impl Write for SaveFile<'_> {
 
 // The file of this name, where there is one.
 fn file_to<'a>(rt: &'a HostRuntime, name: Option<&'a str>) -> Option<Device<SaveFile<'a>>>
-    ensures { MayFail (λ d. d.failures) result }
+    ensures { IfSome result (λ file. file.failures < 2 ^ 64 - 1) }
 {
     match name {
         Some(name) => Some(Device::new(saved_to(rt, name))),
@@ -74,7 +73,8 @@ fn file_to<'a>(rt: &'a HostRuntime, name: Option<&'a str>) -> Option<Device<Save
 
 /// The files of these names, which are created where there is something to write.
 pub fn saves_to<'a>(rt: &'a HostRuntime, saved: &Saved<'a>) -> Saves<Device<SaveFile<'a>>>
-    ensures { MayFailOnce (λ d. d.failures) result }
+    ensures drops { IfSome result.drops (λ file. file.failures < 2 ^ 64 - 1) }
+    ensures passes { IfSome result.passes (λ file. file.failures < 2 ^ 64 - 1) }
 {
     Saves {
         drops: file_to(rt, saved.drops),

@@ -41,7 +41,7 @@ use Rattle.racl_cli.specs.Reads.{AnswersInput, AreKnown, HasJudged, HasKept, IsR
 use Rattle.racl_cli.specs.inner.Stored.{HasStored}
 use Rattle.racl_cli.specs.inner.Streams.{HasEnded}
 use Rattle.racl_cli.specs.inner.Views.{HasReport, MayTell, needs_bytes}
-use Rattle.racl_cli.specs.Runs.{AreStoredOf, ByOneThread, ByWorkers, HasOutcome, HasReported, HasRun, IsRead, JudgedFacts, Outcome, bucket_deal, layout_for, told_of}
+use Rattle.racl_cli.specs.Runs.{AreStoredOf, ByOneThread, ByWorkers, HasOutcome, HasRun, IsRead, JudgedFacts, Outcome, bucket_deal, layout_for, told_of}
 use Rattle.racl_cli.proofs.CaptureLaws.{alone_plain, fault_of_known, fault_plain, one_truncated, plain_alone, plain_fault}
 use Rattle.racl_cli.proofs.RunLemmas.{alone_in_capture, fault_of_known_parts, fault_of_right_policy, fault_of_wrong_policy, fault_without_parts, read_in}
 
@@ -307,8 +307,12 @@ module _ (old new : Option (List ℕ)) (options : Options) (given : Option (List
       go (Ok totals) is = is.0
       go (Err fault) is = tt
 
+  -- what was reported is the outcome of the one-thread filter, or one of workers that says no-pages
+  abbrev Reported : Outcome → Totals → Type 0
+  Reported one_thread totals = (run : HasRun options (Some k.bytes) old new totals) × (HavePages run.outcome.verdicts → one_thread ≡ run.outcome)
+
   pub has_reported : (one_thread : Outcome) → HasOutcome options.tables options.times k.bytes one_thread → IfErr result (λ e. (e ≡ Memory) ⊎ (e ≡ Write))
-      → MatchResult result (HasReported options k.bytes one_thread old new) IsSystemFault
+      → MatchResult result (Reported one_thread) IsSystemFault
   has_reported one_thread has fails = go result (run_on has.policy has.packets read reached (Some k.bytes) refl) fails
     where
       met : IsReached options has.policy has.packets one_thread.captures judged
@@ -326,10 +330,7 @@ module _ (old new : Option (List ℕ)) (options : Options) (given : Option (List
           ap₂ outcome_of verdicts (sym met.told)
 
       go : (r : Result Totals Fault) → IfOk r (RunsOn (Some k.bytes)) → IfErr r (λ e. (e ≡ Memory) ⊎ (e ≡ Write))
-          → MatchResult r (HasReported options k.bytes one_thread old new) IsSystemFault
-      go (Ok totals) is fault = record {
-        run = is.0;
-        same = λ paged. same (subst (λ (o : Outcome). HavePages o.verdicts) is.1 paged) ∙ sym is.1;
-      }
+          → MatchResult r (Reported one_thread) IsSystemFault
+      go (Ok totals) is fault = (is.0, λ paged. same (subst (λ (o : Outcome). HavePages o.verdicts) is.1 paged) ∙ sym is.1)
       go (Err e) is (inl memory) = subst IsSystemFault (sym memory) tt
       go (Err e) is (inr write) = subst IsSystemFault (sym write) tt

@@ -39,7 +39,7 @@ saved_as bytes failures old new parts chosen verdicts (Ok x) plain gives = λ in
     let has = subst (λ f. HasPackets f parts.content packets captures) plain here.content in
     let at = alone_in_capture Binary parts.content parts.content packets captures tt refl has in
     let written = gives at.records.0 (capture_has_records parts.content at.records.0 (end_of at.truncated) at.records.1) in
-    (written.0, subst (λ f. AreSaved f chosen parts.content verdicts written.0) (sym plain) (at.records.0, end_of at.truncated, at.records.1, written.1), written.2.0)
+    (written.0, subst (λ f. AreSaved f chosen parts.content verdicts written.0) (sym plain) (record { records = at.records.0; end = end_of at.truncated; are = at.records.1; is = written.1 }), written.2.0)
 saved_as bytes failures old new parts chosen verdicts (Err fault) plain gives = tt
 
 -- what is saved of the parts of an input, whichever input it is

@@ -24,7 +24,7 @@ use Rattle.racl_cli.specs.declared.input_front.Marked.{Marked}
 use Rattle.racl_cli.specs.declared.input_front.Opened.{Opened}
 use Rattle.racl_cli.specs.declared.input_front.Opened.TheVariants.{One, Several}
 use Rattle.racl_cli.specs.declared.input_front.Front.{Front}
-use Rattle.racl_cli.specs.Runs.{AreKept, ByOneThread, ByWorkers, IsRead, JudgedFacts, told_of}
+use Rattle.racl_cli.specs.Runs.{AreStoredOf, ByOneThread, ByWorkers, IsRead, JudgedFacts, keeps_stored, layout_for, told_of}
 
 -- ---- what is answered of the bytes of an input
 
@@ -32,7 +32,7 @@ use Rattle.racl_cli.specs.Runs.{AreKept, ByOneThread, ByWorkers, IsRead, JudgedF
 -- stood in the tables then
 pub record IsReached (options : Options) (policy : PolicyFacts) (packets : List PacketFacts) (captures : List Captured) (judged : JudgedFacts) : Type 0 where
   pub by_workers : ByWorkers options policy packets judged.outcome.verdicts
-  pub kept : AreKept options by_workers.judged.views judged.stored
+  pub kept : keeps_stored options ≡ true → AreStoredOf (layout_for options.tables) by_workers.judged.views judged.stored
   pub by_one_thread : HavePages judged.outcome.verdicts → ByOneThread options.tables options.times policy packets judged.outcome.verdicts
   pub told : judged.outcome.captures ≡ captures
 

@@ -86,25 +86,18 @@ pub record IsRead (bytes : List ℕ) (policy : PolicyFacts) (packets : List Pack
 
 -- ---- verdicts
 
--- The program's tables: 4096 buckets and 16384 pages for IPv4, 1024 buckets and 4096 pages for IPv6. A bucket holds
--- at most 256 pairs and changes at most 8589934591 times.
-abbrev pub standard_layout : Layout
-standard_layout = record {
+-- The tables that the words ask for. Standard ones have 4096 buckets and 16384 pages for IPv4, 1024 buckets and 4096 pages for
+-- IPv6; large ones 65536 buckets and 262144 pages for each family. A bucket holds at most 256 pairs and changes at most
+-- 8589934591 times.
+abbrev pub layout_for : TableSize → Layout
+layout_for Standard = record {
   four = record { key_words = 2; log2_buckets = 12; pages = 16384; max_log2 = 6; limit = 8589934591; callers = 65535; hash = hash_of };
   six = record { key_words = 5; log2_buckets = 10; pages = 4096; max_log2 = 6; limit = 8589934591; callers = 65535; hash = hash_of };
 }
-
--- Larger ones: 65536 buckets and 262144 pages for each family.
-abbrev pub large_layout : Layout
-large_layout = record {
+layout_for Large = record {
   four = record { key_words = 2; log2_buckets = 16; pages = 262144; max_log2 = 6; limit = 8589934591; callers = 65535; hash = hash_of };
   six = record { key_words = 5; log2_buckets = 16; pages = 262144; max_log2 = 6; limit = 8589934591; callers = 65535; hash = hash_of };
 }
-
--- the tables that the words ask for
-abbrev pub layout_for : TableSize → Layout
-layout_for Standard = standard_layout
-layout_for Large = large_layout
 
 -- packets are dealt by bucket to so many workers
 abbrev pub bucket_deal : TableSize → ℕ → Deal
@@ -133,10 +126,6 @@ keeps_stored options = options.hits || options.sessions
 pub record AreStoredOf (layout : Layout) (views : Views) (stored : StoredFacts) : Type 0 where
   pub four : AreStored layout.four views.four.known stored.four
   pub six : AreStored layout.six views.six.known stored.six
-
--- they are, where what is told needs them
-abbrev pub AreKept : Options → Views → StoredFacts → Type 0
-AreKept options views stored = keeps_stored options ≡ true → AreStoredOf (layout_for options.tables) views stored
 
 -- ---- outcomes
 
@@ -202,19 +191,15 @@ pub record HasRun (options : Options) (given old new : Option (List ℕ)) (total
   pub read : IsRead bytes policy packets outcome.captures
   pub by_workers : ByWorkers options policy packets outcome.verdicts
   pub stored : StoredFacts
-  pub kept : AreKept options by_workers.judged.views stored
+  pub kept : keeps_stored options ≡ true → AreStoredOf (layout_for options.tables) by_workers.judged.views stored
   pub by_one_thread : HavePages outcome.verdicts → ByOneThread options.tables options.times policy packets outcome.verdicts
   pub report : List ℕ
   pub told : IsReport options bytes policy packets (record { outcome = outcome; stored = stored }) report
   pub text : Appends old new report
   pub counted : totals ≡ totals_of outcome.verdicts outcome.captures
 
--- what was reported on the bytes is the outcome of the one-thread filter, or one of workers that says no-pages
-pub record HasReported (options : Options) (bytes : List ℕ) (one_thread : Outcome) (old new : Option (List ℕ)) (totals : Totals) : Type 0 where
-  pub run : HasRun options (Some bytes) old new totals
-  pub same : HavePages run.outcome.verdicts → one_thread ≡ run.outcome
-
--- bytes that are an input get the report on them, or memory ran out or a device failed
+-- Bytes that are an input get the report on them: the outcome of the one-thread filter, or one of workers that says no-pages.
+-- Or memory ran out or a device failed.
 abbrev pub AnswersRight : Options → List ℕ → Option (List ℕ) → Option (List ℕ) → Result Totals Fault → Type 0
 AnswersRight options bytes old new result = (outcome : Outcome) → HasOutcome options.tables options.times bytes outcome
-    → MatchResult result (HasReported options bytes outcome old new) IsSystemFault
+    → MatchResult result (λ totals. (run : HasRun options (Some bytes) old new totals) × (HavePages run.outcome.verdicts → outcome ≡ run.outcome)) IsSystemFault

@@ -1,14 +1,13 @@
 -- What files get of the packets of an input (this project's profile).
-use Rattle.std.specs.Prelude.{◌≡◌, ◌<◌, ◌-◌, ◌^◌, ℕ, List, [], Option, None, Some, ⊤}
+use Rattle.std.specs.Prelude.{◌≡◌, ℕ, List, [], Option, None, Some, ⊤}
 use Rattle.std.specs.Io.KnownBytes.{Appends}
-use Rattle.packet_view.specs.Captures.{End, IsCapture, RecordFacts}
 use Rattle.flow_filter.specs.declared.verdict.Verdict.{Verdict}
 use Rattle.racl_io.specs.declared.input.Form.{Form}
 use Rattle.racl_io.specs.declared.input.Form.TheVariants.{Binary, Hexadecimal, Numbered}
 use Rattle.racl_io.specs.declared.report.Totals.{Totals}
 use Rattle.racl_io.specs.Inputs.{InputFacts, IsInput}
 use Rattle.racl_options.specs.declared.settings.Options.{Options}
-use Rattle.racl_views.specs.ChosenRecords.{IsChosen}
+use Rattle.racl_views.specs.ChosenRecords.{IsSaved}
 use Rattle.racl_views.specs.declared.chosen_packets.Chosen.{Chosen}
 use Rattle.racl_views.specs.declared.chosen_packets.Chosen.TheVariants.{Passing, Dropped}
 use Rattle.racl_cli.specs.Runs.{HasRun}
@@ -16,8 +15,7 @@ use Rattle.racl_cli.specs.declared.save_packets.Saves.{Saves}
 
 -- the chosen packets of a capture that stands in the input as bytes, as a capture; of others nothing
 abbrev pub AreSaved : Form → Chosen → List ℕ → List Verdict → List ℕ → Type 0
-AreSaved Binary chosen capture verdicts saved =
-    (records : List RecordFacts) × (end : End) × IsCapture capture records end × IsChosen chosen verdicts capture records saved
+AreSaved Binary chosen capture verdicts saved = IsSaved chosen verdicts capture saved
 AreSaved Hexadecimal chosen capture verdicts saved = saved ≡ []
 AreSaved (Numbered number) chosen capture verdicts saved = saved ≡ []
 
@@ -35,11 +33,3 @@ pub record HasRunSaving {S : Type 0} (sink : S → Option (List ℕ)) (options :
   pub parted : IsInput run.bytes parts
   pub drops : HasSaved sink parts Dropped run.outcome.verdicts before.drops after.drops
   pub passes : HasSaved sink parts Passing run.outcome.verdicts before.passes after.passes
-
--- a file has failed fewer times than can be counted, where there is one
-abbrev pub MayFail : {S : Type 0} → (S → ℕ) → Option S → Type 0
-MayFail failures None = ⊤
-MayFail failures (Some sink) = failures sink < 2 ^ 64 - 1
-
-abbrev pub MayFailOnce : {S : Type 0} → (S → ℕ) → Saves S → Type 0
-MayFailOnce failures saves = MayFail failures saves.drops × MayFail failures saves.passes

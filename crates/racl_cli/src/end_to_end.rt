@@ -6,7 +6,7 @@ ghost use Rattle.racl_io.specs.Inputs.{most_bytes};
 ghost use Rattle.racl_io.specs.Transfers.{GaveAtMost, HasReadWithin};
 ghost use Rattle.racl_cli.specs.Reads.{AnswersRead, HasKept};
 ghost use Rattle.racl_cli.specs.Runs.{AnswersRight, HasRun};
-ghost use Rattle.racl_cli.specs.Saves.{HasRunSaving, MayFailOnce};
+ghost use Rattle.racl_cli.specs.Saves.{HasRunSaving};
 
 use crate::bytes_at_hand::AtHand;
 use crate::input_front::{Front, Headed, Opened, open_source, read_rest};
@@ -150,7 +150,8 @@ pub fn run_saving<R: Source + Send, W: Sink, S: Sink, T: Threads + Wait + Sync>(
 ) -> Result<Totals, Fault>
     requires reader { R.failures reader.old < 2 ^ 64 - 1 }
     requires writer { W.failures writer.old < 2 ^ 64 - 1 }
-    requires saves { MayFailOnce S.failures saves.old }
+    requires drops { IfSome saves.old.drops (λ file. S.failures file < 2 ^ 64 - 1) }
+    requires passes { IfSome saves.old.passes (λ file. S.failures file < 2 ^ 64 - 1) }
     ensures ok { IfOk result (HasRunSaving S.bytes options.now (R.bytes reader.old) (W.bytes writer.old) (W.bytes writer.new) saves.old saves.new) }
     ensures accepts { IfSome (R.bytes reader.old) (λ bytes. AnswersRight options.now bytes (W.bytes writer.old) (W.bytes writer.new) result) }
     ensures fault { IfErr result (λ fault. IsSystemFault fault ⊎ IfSome (R.bytes reader.old) (λ bytes. IsInputFault bytes fault)) }

@@ -1,5 +1,5 @@
 //! Packets of an input that are saved.
-ghost use Rattle.std.specs.Prelude.{◌≡◌, ℕ, List, IfErr, OnOk, Option};
+ghost use Rattle.std.specs.Prelude.{◌≡◌, ◌-◌, ◌<◌, ◌^◌, ℕ, List, IfErr, IfSome, OnOk};
 ghost use Rattle.acl_policy.specs.Policies.{PolicyFacts};
 ghost use Rattle.packet_view.specs.Captures.{PacketFacts};
 ghost use Rattle.racl_io.specs.declared.fault.Fault.TheVariants.{Write};
@@ -7,7 +7,7 @@ ghost use Rattle.racl_io.specs.declared.report.Captured.{Captured};
 ghost use Rattle.racl_io.specs.Inputs.{InputFacts, IsInput, input_facts};
 ghost use Rattle.racl_views.specs.declared.chosen_packets.Chosen.TheVariants.{Dropped, Passing};
 ghost use Rattle.racl_cli.specs.Runs.{IsRead};
-ghost use Rattle.racl_cli.specs.Saves.{HasSaved, MayFail, MayFailOnce};
+ghost use Rattle.racl_cli.specs.Saves.{HasSaved};
 
 use flow_workers::Verdict;
 use racl_io::{Fault, Form, Input, Sink, split_input};
@@ -27,7 +27,7 @@ fn save_chosen<S: Sink>(
     verdicts: &[Verdict],
     file: &mut Option<S>,
 ) -> Result<(), Fault>
-    requires { MayFail S.failures file.old }
+    requires { IfSome file.old (λ file. S.failures file < 2 ^ 64 - 1) }
     ensures ok { OnOk result ((bytes : List ℕ) (policy : PolicyFacts) (packets : List PacketFacts) (captures : List Captured)
         → IsInput bytes (input_facts input.entry) → IsRead bytes policy packets captures
         → HasSaved S.bytes (input_facts input.entry) chosen verdicts.now file.old file.new) }
@@ -48,7 +48,8 @@ pub fn save_packets<S: Sink>(
     verdicts: &[Verdict],
     saves: &mut Saves<S>,
 ) -> Result<(), Fault>
-    requires { MayFailOnce S.failures saves.old }
+    requires drops { IfSome saves.old.drops (λ file. S.failures file < 2 ^ 64 - 1) }
+    requires passes { IfSome saves.old.passes (λ file. S.failures file < 2 ^ 64 - 1) }
     ensures ok { OnOk result ((policy : PolicyFacts) (packets : List PacketFacts) (captures : List Captured) → IsRead bytes.now policy packets captures
         → (parts : InputFacts) × IsInput bytes.now parts × HasSaved S.bytes parts Dropped verdicts.now saves.old.drops saves.new.drops
         × HasSaved S.bytes parts Passing verdicts.now saves.old.passes saves.new.passes) }

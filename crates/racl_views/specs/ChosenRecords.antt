@@ -1,7 +1,7 @@
 -- A capture of those packets of a capture that are chosen by their verdicts (this project's profile).
 use Rattle.std.specs.Prelude.{◌≡◌, ℕ, Bool, true, false, not, List, [], ◌∷◌, ◌++◌, drop, take, ⊤}
 use Rattle.std.specs.List.{concat}
-use Rattle.packet_view.specs.Captures.{AreRecords, HasFileHeader, IsRecord, RecordFacts}
+use Rattle.packet_view.specs.Captures.{AreRecords, End, HasFileHeader, IsCapture, IsRecord, RecordFacts}
 use Rattle.packet_view.specs.Fronts.{Stops}
 use Rattle.packet_view.specs.declared.capture.Order.{Order}
 use Rattle.packet_view.specs.declared.records_at_front.Stop.{Stop}
@@ -55,3 +55,10 @@ pub record IsChosen (chosen : Chosen) (verdicts : List Verdict) (capture : List 
   pub rest : List ℕ
   pub spelt : capture ≡ take 24 capture ++ (concat pieces ++ rest)
   pub all : written ≡ take 24 capture ++ concat (chosen_among chosen verdicts pieces)
+
+-- What is written of a capture's chosen packets.
+pub record IsSaved (chosen : Chosen) (verdicts : List Verdict) (capture written : List ℕ) : Type 0 where
+  pub records : List RecordFacts
+  pub end : End
+  pub are : IsCapture capture records end
+  pub is : IsChosen chosen verdicts capture records written
