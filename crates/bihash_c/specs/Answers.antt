@@ -9,8 +9,8 @@ use Rattle.bihash_table.specs.declared.close_fault.CloseFault as Close
 use Rattle.bihash_table.specs.declared.close_fault.CloseFault.TheVariants as CloseFaults
 use Rattle.bihash_table.specs.declared.renew_fault.RenewFault as Renew
 use Rattle.bihash_table.specs.declared.renew_fault.RenewFault.TheVariants as RenewFaults
-use Rattle.bihash_c.specs.declared.answer.Answer.{Answer}
-use Rattle.bihash_c.specs.declared.answer.Stamp.{Stamp}
+use Rattle.bihash_c.specs.declared.answer_numbers.Answer.{Answer}
+use Rattle.bihash_c.specs.declared.answer_numbers.Stamp.{Stamp}
 
 -- an answer that carries no value
 abbrev pub bare : ℕ → Answer

@@ -15,8 +15,8 @@ use Rattle.bihash_table.specs.declared.contended.Contended.{Contended}
 use Rattle.bihash_table.specs.declared.renew_fault.RenewFault.{RenewFault}
 use Rattle.bihash_c.specs.Answers.{answer_of, close_number, renew_number, search_answer_of, split_number, stamp_told}
 use Rattle.bihash_c.specs.Members.{IsCloseTold, IsClosed, IsRenewTold, IsRenewedFrom, IsSplit}
-use Rattle.bihash_c.specs.declared.answer.Answer.{Answer}
-use Rattle.bihash_c.specs.declared.answer.Stamp.{Stamp}
+use Rattle.bihash_c.specs.declared.answer_numbers.Answer.{Answer}
+use Rattle.bihash_c.specs.declared.answer_numbers.Stamp.{Stamp}
 use Rattle.bihash_c.specs.declared.handle_content.Content.{Content}
 use Rattle.bihash_c.specs.declared.handle_content.Content.TheVariants.{Empty, Caller, Pairs}
 

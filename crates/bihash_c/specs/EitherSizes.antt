@@ -6,7 +6,7 @@ use Rattle.bihash_steps.specs.Seats.{CallerState}
 use Rattle.bihash_steps.specs.declared.split_fault.SplitFault.{SplitFault}
 use Rattle.bihash_c.specs.Answers.{split_number}
 use Rattle.bihash_c.specs.Contents as one
-use Rattle.bihash_c.specs.declared.answer.Stamp.{Stamp}
+use Rattle.bihash_c.specs.declared.answer_numbers.Stamp.{Stamp}
 use Rattle.bihash_c.specs.declared.handle_content.Content.{Content}
 use Rattle.bihash_c.specs.declared.handle_content.Content.TheVariants.{Empty}
 use Rattle.bihash_c.specs.declared.either_size.EitherSize.{EitherSize}

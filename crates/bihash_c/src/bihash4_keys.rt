@@ -7,7 +7,7 @@ ghost use Rattle.bihash_c.specs.EitherSizes.{Calls, HasCaller};
 ghost use Rattle.bihash_c.specs.Expiries.{is_below};
 ghost use Rattle.bihash_c.specs.Handles4.{content_in};
 
-use crate::answer::Answer;
+use crate::answer_numbers::Answer;
 use crate::handle4::Handle4;
 use crate::mask_expiry::MaskExpiry;
 use bihash_words::{Add, AddIfAbsent, Delete, Patch, Shape, ShapeV4, Touch};

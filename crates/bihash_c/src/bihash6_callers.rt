@@ -6,7 +6,7 @@ ghost use Rattle.bihash_c.specs.Contents.{IsFirst};
 ghost use Rattle.bihash_c.specs.EitherSizes.{AreOfOneTable, Calls, CreateTold, HasCaller, JoinTold, MeetTold, OfLarge, OfSmall, SplitTold, StampTold, nothing};
 ghost use Rattle.bihash_c.specs.Handles6.{HasPlace, content_in};
 
-use crate::answer::{DONE, MEMORY, Stamp};
+use crate::answer_numbers::{DONE, MEMORY, Stamp};
 use crate::either_size::EitherSize;
 use crate::handle_content::Content;
 use crate::handle6::Handle6;

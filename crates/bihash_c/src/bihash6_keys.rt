@@ -7,7 +7,7 @@ ghost use Rattle.bihash_c.specs.EitherSizes.{Calls, HasCaller};
 ghost use Rattle.bihash_c.specs.Expiries.{is_below};
 ghost use Rattle.bihash_c.specs.Handles6.{content_in};
 
-use crate::answer::Answer;
+use crate::answer_numbers::Answer;
 use crate::handle6::Handle6;
 use crate::mask_expiry::MaskExpiry;
 use bihash_words::{Add, AddIfAbsent, Delete, Patch, Shape, ShapeV6, Touch};

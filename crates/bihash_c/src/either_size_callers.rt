@@ -3,7 +3,7 @@ ghost use Rattle.bihash_words.specs.Sizes.{sizes_of};
 ghost use Rattle.bihash_table.specs.Calls.{TellsLone};
 ghost use Rattle.bihash_c.specs.EitherSizes.{AreOfOneTable, Calls, HasCaller, JoinTold, MeetTold, SplitTold, StampTold};
 
-use crate::answer::{DONE, Stamp};
+use crate::answer_numbers::{DONE, Stamp};
 use crate::either_size::EitherSize;
 use crate::handle_content::Content;
 use bihash_words::Shape;

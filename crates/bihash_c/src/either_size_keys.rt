@@ -2,7 +2,7 @@
 ghost use Rattle.bihash_c.specs.Contents.{RecycleTold, SearchTold, UpdateTold};
 ghost use Rattle.bihash_c.specs.EitherSizes.{Calls, HasCaller};
 
-use crate::answer::Answer;
+use crate::answer_numbers::Answer;
 use crate::either_size::EitherSize;
 use bihash_words::{Expiry, Patch, Shape};
 

@@ -4,7 +4,7 @@ ghost use Rattle.bihash_words.specs.Sizes.{sizes_of, IsSound};
 ghost use Rattle.bihash_table.specs.Calls.{TellsLone};
 ghost use Rattle.bihash_c.specs.Contents.{AreOfOneTable, Calls, HasCaller, IsFirst, JoinTold, MeetTold, SplitTold, StampTold};
 
-use crate::answer::{DONE, Stamp, split_refusal, stamp_answer};
+use crate::answer_numbers::{DONE, Stamp, split_refusal, stamp_answer};
 use crate::caller_with_table::Member;
 use crate::handle_content::Content;
 use bihash_words::Shape;

@@ -2,7 +2,7 @@
 ghost use Rattle.bihash_words.specs.Sizes.{sizes_of};
 ghost use Rattle.bihash_c.specs.Contents.{CloseTold, CountTold, HasCaller, HasPairs, PairTold, RenewTold};
 
-use crate::answer::{DONE, close_refusal, renew_refusal};
+use crate::answer_numbers::{DONE, close_refusal, renew_refusal};
 use crate::handle_content::Content;
 use bihash_words::Shape;
 use std::alloc::Global;

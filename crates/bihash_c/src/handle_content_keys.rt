@@ -1,7 +1,7 @@
 //! The calls on keys of what is behind a handle, answered as C is told.
 ghost use Rattle.bihash_c.specs.Contents.{Calls, HasCaller, RecycleTold, SearchTold, UpdateTold};
 
-use crate::answer::{Answer, reply_answer, search_answer};
+use crate::answer_numbers::{Answer, reply_answer, search_answer};
 use crate::handle_content::Content;
 use bihash_words::{Expiry, Patch, Shape};
 

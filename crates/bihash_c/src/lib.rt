@@ -1,7 +1,7 @@
 //! The session tables for programs in C: a handle is a caller together with the table that it belongs to.
 #![tactic(auto)]
 
-mod answer;
+mod answer_numbers;
 mod bihash4_callers;
 mod bihash4_closing;
 mod bihash4_keys;
@@ -31,7 +31,7 @@ mod pair4;
 mod pair6;
 mod table_share;
 
-pub use answer::{
+pub use answer_numbers::{
     ABSENT, ADDED, Answer, CONTENDED, DONE, FOUND, FULL, MEMORY, NO_PAGES, NUMBERS, REPLACED,
     STRANGERS, Stamp, WORN, WORN_FOUND,
 };

@@ -12,7 +12,7 @@ ghost use Rattle.bihash_table.specs.inner.Seen.{MayReply, WantsChange};
 ghost use Rattle.bihash_table.specs.inner.Stores.{FindsWord, HasStored, HoldsWord};
 ghost use Rattle.bihash_table.specs.Tries.{Finished, Tried};
 
-use crate::block_places::FREE;
+use crate::block_place_count::FREE;
 use crate::bucket_lock::lock_if_unchanged;
 use crate::change_of_block::remove_last;
 use crate::contended::Contended;

@@ -9,15 +9,15 @@ ghost use Rattle.bihash_table.specs.inner.Locked.{IsPairBeside, UnderLock};
 ghost use Rattle.bihash_table.specs.inner.Seen.{TriedToEnter, WantsRoom};
 ghost use Rattle.bihash_table.specs.Tries.{Finished};
 
-use crate::block_places::{place_count, places_of};
+use crate::block_place_count::{place_count, places_of};
 use crate::bucket_lock::lock_if_unchanged;
 use crate::contended::Contended;
 use crate::entered_value::Entrant;
 use crate::hashed_key::SeenBucket;
 use crate::page_allocation::{give_back, take_block};
-use crate::read_block::read_block;
+use crate::read_places::read_block;
 use crate::recycling::recycle_or_refuse;
-use crate::write_block::write_block;
+use crate::write_places::write_block;
 use bihash_plan::{Plan, larger, lay};
 use bihash_rule::Extent;
 use bihash_steps::{Caller, CallerSeat, Event, Row};

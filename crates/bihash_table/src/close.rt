@@ -13,7 +13,7 @@ ghost use Rattle.bihash_table.specs.inner.OpenReads.{StandsAt};
 ghost use Rattle.bihash_table.specs.inner.PairLists.{AddsBlock, IsIdleAndLone, ListsBuckets};
 ghost use Rattle.bihash_table.specs.inner.RowWords.{HasBlockIn, HasNoted, OfBlockIn};
 
-use crate::block_places::{FREE, place_count};
+use crate::block_place_count::{FREE, place_count};
 use crate::close_fault::CloseFault;
 use crate::renew::read_words;
 use crate::shared_table::Sessions;

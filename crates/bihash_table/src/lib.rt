@@ -1,8 +1,9 @@
 //! A session table that many callers share: each answer is a place in one legal history of its bucket.
 #![tactic(auto)]
 
-mod block_places;
+mod block_place_count;
 mod bucket_lock;
+mod callers_split_and_joined;
 mod change_in_place;
 mod change_of_block;
 mod close;
@@ -13,7 +14,7 @@ mod hashed_key;
 mod never_expired;
 mod open_bucket_search;
 mod page_allocation;
-mod read_block;
+mod read_places;
 mod recycling;
 mod renew;
 mod renew_fault;
@@ -22,10 +23,11 @@ mod shared_table;
 mod try_update;
 mod waiting_update;
 mod worn_bucket;
-mod write_block;
+mod write_places;
 
 pub use bihash_steps::{Caller, CallerSeat, CreateFault, SplitFault};
+pub use callers_split_and_joined::stamp;
 pub use close_fault::CloseFault;
 pub use contended::Contended;
 pub use renew_fault::RenewFault;
-pub use shared_table::{Sessions, create, stamp};
+pub use shared_table::{Sessions, create};

@@ -6,7 +6,7 @@ ghost use Rattle.bihash_rule.specs.Words.{place_words};
 ghost use Rattle.bihash_table.specs.inner.Scans.{NamesBlock, AreOpenPages};
 ghost use Rattle.bihash_table.specs.inner.OpenReads.{HasRead, MayRead, LastWordTells, AreMarks, first_set, later_set, set_count, TellsValue, IsPairAmong, IsPairIn, IsFirstFreeIn, OtherPairTells, value_of};
 
-use crate::block_places::{FREE, PAGE_PLACES, place_count};
+use crate::block_place_count::{FREE, PAGE_PLACES, place_count};
 use crate::hashed_key::HashedKey;
 use bihash_plan::page_count;
 use bihash_steps::{CallerSeat, Row};

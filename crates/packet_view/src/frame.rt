@@ -1,15 +1,14 @@
 //! Frames, and what they turn out to be.
-ghost use Rattle.std.specs.Prelude.{◌≡◌, ◌≤◌, ◌<◌, ℕ, IfSome, length, slice_index};
-ghost use Rattle.packet_view.specs.Bytes.{number_from};
+ghost use Rattle.std.specs.Prelude.{◌≡◌, ◌≤◌, IfSome, length};
 ghost use Rattle.packet_view.specs.Frames.{IsFrame, FrameFacts, frame_facts};
 ghost use Rattle.packet_view.specs.Interfaces.{Interface};
-ghost use Rattle.packet_view.specs.inner.FrameSteps.{direction_of, packets, view_of, view_of_packet};
+ghost use Rattle.packet_view.specs.inner.FrameSteps.{packets, view_of, view_of_packet};
 
+use crate::frame_direction::direction;
 use crate::ip_packet::{IpPacket, Upper};
 use crate::plain_packet::plain;
 use crate::tuple::{Direction, Fields, Mac, Tuple};
 use crate::{ethernet, ipv4, ipv6, transport};
-use byteorder::{BigEndian, ByteOrder};
 
 /// What a frame turns out to be.
 #[derive(Clone, Copy, Debug, PartialEq, Eq)]
@@ -22,33 +21,6 @@ pub enum Frame {
     Short,
     /// A packet, by its way at the interface.
     Ip(Direction, Tuple),
-}
-
-/// The number of an address of six bytes.
-#[inline]
-fn address_number(bytes: &[u8]) -> u64
-    requires { 6 ≤ length bytes.now }
-    ensures number { result ≡ number_from 0 6 bytes.now }
-    ensures bytes { (i : ℕ) → i < 6 → slice_index bytes.now i < 256 }
-{
-    (u64::from(BigEndian::read_u32(bytes)) << 16) + u64::from(BigEndian::read_u16(&bytes[4..]))
-}
-
-/// The way of a frame with at least twelve bytes.
-#[inline]
-fn direction(frame: &[u8], own: Option<Mac>) -> Direction
-    requires { 12 ≤ length frame.now }
-    ensures { result ≡ direction_of frame.now own }
-{
-    let Some(mac) = own else {
-        return Direction::Inbound;
-    };
-    // Unlike `==` of slices this costs no call, and it compares all bytes at once.
-    if address_number(&frame[6..12]) == address_number(&mac.0) {
-        Direction::Outbound
-    } else {
-        Direction::Inbound
-    }
 }
 
 /// What a frame that goes this way at the interface with this number is by its packet, None where that is malformed.

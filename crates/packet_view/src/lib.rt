@@ -6,6 +6,7 @@ mod capture_laws;
 mod capture_records;
 mod ethernet;
 mod frame;
+mod frame_direction;
 mod frame_laws;
 mod ip_packet;
 mod ipv4;

@@ -6,7 +6,7 @@ ghost use Rattle.policy_words.specs.inner.Reading.Numerals.{octet_in, piece_in};
 ghost use Rattle.policy_words.specs.inner.Reading.Prefixes.{address_in, cut_double_in, four_parts_in, groups_address_in, groups_in, is_double};
 
 use crate::line_words::cut_at;
-use crate::number_words::{group_of, octet_of};
+use crate::number_parsing::{group_of, octet_of};
 use packet_view::Family;
 
 #[tactic(auto, unfolding(crate::specs::inner::Reading::Numerals::piece_in))]

@@ -4,7 +4,7 @@ ghost use Rattle.policy_words.specs.inner.Reading.Numerals.{pair_in, piece_in};
 ghost use Rattle.policy_words.specs.inner.Reading.Prefixes.{mac_in};
 
 use crate::line_words::cut_at;
-use crate::number_words::pair_of;
+use crate::number_parsing::pair_of;
 use packet_view::Mac;
 
 #[tactic(auto, unfolding(crate::specs::inner::Reading::Numerals::piece_in))]

@@ -5,7 +5,7 @@ ghost use Rattle.policy_words.specs.Traffic.{every};
 ghost use Rattle.policy_words.specs.Words.{words_of};
 
 use crate::line_words::{cut_at, next_word};
-use crate::number_words::{number_of, pair_of};
+use crate::number_parsing::{number_of, pair_of};
 
 /// Every port, type or code.
 pub const EVERY: (u16, u16) = (0, u16::MAX);

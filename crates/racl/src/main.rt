@@ -11,20 +11,21 @@ mod output;
 mod policy_remarks;
 mod progress;
 mod save_file;
+mod say_behind_run;
+mod say_ending;
 
-use crate::faulty_capture::faulty;
-use crate::input_files::{interface_at, name_at, opened_or_told, opened_parts, policy_name};
-use crate::named_reader::{Reader, bytes_of, held};
+use crate::input_files::{opened_or_told, opened_parts};
+use crate::named_reader::{bytes_of, held};
 use crate::output::Output;
-use crate::policy_remarks::{Seen, say_foreign, say_unlooked};
+use crate::policy_remarks::say_unlooked;
 use crate::progress::{Progress, Watched};
 use crate::save_file::{saves_to, say_unsaved};
-use clap::Error;
+use crate::say_behind_run::{say_behind_live, say_more};
+use crate::say_ending::{refused, say_ending};
 use policy_check::check_source;
 use racl_cli::{
-    Asked, Device, Ending, Fault, Files, FrontKept, Hint, Joined, MOST_BYTES, Options, Origin,
-    Remark, Source, Totals, ending, failure_ending, hint, options, remark, run, run_live,
-    run_saving, words_ending,
+    Asked, Device, Fault, Files, FrontKept, Hint, Joined, MOST_BYTES, Options, Origin, Source,
+    Totals, ending, failure_ending, options, run, run_live, run_saving,
 };
 use racl_options::check_name;
 use std::alloc::Global;
@@ -80,15 +81,6 @@ fn status_of_options<'a, T: Threads + Wait + Sync>(
         },
         Err(error) => refused(rt, &error),
     }
-}
-
-// Tells that words are refused, and answers the status.
-fn refused(rt: &HostRuntime, error: &Error) -> io::Result<u8> {
-    let end = words_ending(error);
-    if end.message.is_none() {
-        error.print(rt)?;
-    }
-    say_ending(rt, &end)
 }
 
 // Checks the policy of a file.
@@ -233,120 +225,9 @@ fn status_of_live<T: Wait>(
     say_behind_live(rt, alloc, files, text, reader.inner.front(), &outcome)
 }
 
-// Says how such a run ended, and what is likely to be wrong with its files; and answers the status.
-fn say_behind_live(
-    rt: &HostRuntime,
-    alloc: Global,
-    files: &Files<'_>,
-    text: &[u8],
-    front: &[u8],
-    outcome: &Result<Totals, Fault>,
-) -> io::Result<u8> {
-    let status = match say_ending(rt, &ending(outcome)) {
-        Ok(status) => status,
-        Err(error) => return Err(error),
-    };
-    if let Some(hint) = hint(outcome, text) {
-        rt.eprintln(&hint)?;
-    }
-    if let Some(other) = remark(outcome, front) {
-        let name = files.capture;
-        rt.eprintln(&Remark { name, other })?;
-    }
-    let seen = Seen {
-        interface: 0,
-        front,
-    };
-    say_foreign(rt, alloc, files.policy, text, &[seen]);
-    Ok(status)
-}
-
 // Says that a terminal is read, where that is so. Where standard error fails, nothing is said.
 fn say_where_terminal(rt: &HostRuntime) {
     if rt.stdin().is_terminal() {
         let _ = rt.eprintln(&Hint::Terminal);
-    }
-}
-
-// The first bytes of the captures that were read, as far as there is memory for their list.
-fn seen_in<'a>(alloc: Global, origin: &Origin<'_>, reader: &'a Joined<Reader>) -> Vec<Seen<'a>> {
-    let mut seen = Vec::new(alloc);
-    for place in 0..256 {
-        let (Some(interface), Some(front)) = (interface_at(origin, place), reader.front(place))
-        else {
-            return seen;
-        };
-        if seen.push(Seen { interface, front }).is_err() {
-            return seen;
-        }
-    }
-    seen
-}
-
-// Says behind a run on files what is likely to be wrong with them.
-fn say_more(
-    rt: &HostRuntime,
-    alloc: Global,
-    origin: &Origin<'_>,
-    reader: &Joined<Reader>,
-    outcome: &Result<Totals, Fault>,
-) -> io::Result<()> {
-    let Reader::Held(policy) = reader.policy() else {
-        return Ok(());
-    };
-    if outcome.is_ok() {
-        let name = policy_name(origin);
-        let text = policy.get_ref().as_slice();
-        say_unlooked(rt, alloc, name, text);
-        say_foreign(
-            rt,
-            alloc,
-            name,
-            text,
-            seen_in(alloc, origin, reader).as_slice(),
-        );
-    }
-    if let Err(fault) = outcome {
-        say_remark(rt, alloc, origin, reader, *fault)?;
-    }
-    if let Some(hint) = hint(outcome, policy.get_ref().as_slice()) {
-        rt.eprintln(&hint)?;
-    }
-    Ok(())
-}
-
-// Says which capture has the fault that a run ended with, where there are several, and what it is where it isn't read for that.
-fn say_remark(
-    rt: &HostRuntime,
-    alloc: Global,
-    origin: &Origin<'_>,
-    reader: &Joined<Reader>,
-    fault: Fault,
-) -> io::Result<()> {
-    let Some(place) = faulty(rt, alloc, origin, reader, fault) else {
-        return Ok(());
-    };
-    let (Some(name), Some(interface)) = (name_at(origin, place), interface_at(origin, place)) else {
-        return Ok(());
-    };
-    if let Some(front) = reader.front(place)
-        && let Some(other) = remark(&Err(fault), front)
-    {
-        return rt.eprintln(&Remark { name, other });
-    }
-    if name_at(origin, 1).is_none() {
-        return Ok(());
-    }
-    rt.eprintln(format_args!("racl: that is {name}, the capture of interface {interface}"))
-}
-
-// Says what is to be said, and answers the status.
-fn say_ending(rt: &HostRuntime, end: &Ending) -> io::Result<u8> {
-    match &end.message {
-        None => Ok(end.status),
-        Some(message) => match rt.eprintln(message) {
-            Ok(()) => Ok(end.status),
-            Err(error) => Err(error),
-        },
     }
 }

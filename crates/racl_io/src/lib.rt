@@ -11,7 +11,7 @@ mod first_bytes;
 mod input;
 mod interface_name;
 mod joined_source;
-mod number_text;
+mod number_printing;
 mod parallel_lines;
 mod partial_report;
 mod readers_in_turn;
@@ -26,7 +26,7 @@ pub use file_kind::{Other, is_capture, other_file};
 pub use first_bytes::FrontKept;
 pub use input::{Digits, Form, Input, Numbered, cut_digits, split_input};
 pub use joined_source::{Joined, Marked, marked};
-pub use number_text::Numeral;
+pub use number_printing::Numeral;
 pub use partial_report::{Shown, has_line, write_shown};
 pub use reading_and_writing::{MOST_BYTES, drain, read_until, write_all};
 pub use report::{

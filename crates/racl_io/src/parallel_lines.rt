@@ -5,7 +5,7 @@ ghost use Rattle.racl_io.specs.inner.Lines.{HasMade, HasRoom, HasWritten, MayMak
 use crate::device::Sink;
 use crate::fault::Fault;
 use crate::interface_name::Name;
-use crate::number_text::Counter;
+use crate::number_printing::Counter;
 use crate::reading_and_writing::write_all;
 use crate::report::{LINES, Place, push_lines, write_lines};
 use crate::report_piece::Piece;

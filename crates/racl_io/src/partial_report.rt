@@ -9,7 +9,7 @@ ghost use Rattle.racl_io.specs.inner.Lines.{HasTold};
 use crate::device::Sink;
 use crate::fault::Fault;
 use crate::interface_name::Name;
-use crate::number_text::Counter;
+use crate::number_printing::Counter;
 use crate::reading_and_writing::write_all;
 use crate::report::{
     Captured, LINES, Place, Totals, push_named_line, totals_on, write_report, write_totals,

@@ -10,7 +10,7 @@ ghost use Rattle.racl_io.specs.declared.fault.Fault.TheVariants.{Memory, Write};
 use crate::device::Sink;
 use crate::fault::Fault;
 use crate::interface_name::Name;
-use crate::number_text::{Counter, Numeral};
+use crate::number_printing::{Counter, Numeral};
 use crate::parallel_lines::{Lines, write_beside};
 use crate::reading_and_writing::write_all;
 use crate::report_piece::Piece;
