@@ -148,15 +148,5 @@ module _ {K : Type 0} (words_of : K → List ℕ) (is_expired : ℕ → Bool) (p
 
   -- ---- All places
 
-  pub least_of_all : (i : ℕ) → IsLeastTo words_of is_expired places (length places) i → IsLeastExpired words_of is_expired places i
-  least_of_all i h = record {
-    key = h.key;
-    value = h.value;
-    pair = h.pair;
-    word = h.word;
-    expired = h.expired;
-    least = λ other v j p. h.least other v j (pair_inside p) p;
-  }
-
   pub none_of_all : IsLeastAmong words_of is_expired places (length places) None → NoneIsExpired is_expired places
   none_of_all h = λ key value i p. h.none key value i (pair_inside p) p

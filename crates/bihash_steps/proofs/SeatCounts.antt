@@ -119,19 +119,6 @@ entered_state z after c t t' i i' m m' state row seat before told =
       lawful = told.lawful;
     }
 
--- and where it was answered without a lock, or not
-pub validated_state : (z : Sizes) (word : ℕ) (c : Call) (t t' : TableId) (i i' : ℕ) (m m' : ViewOfSeat) (found : ℕ) (state : CallerState) (here : Bool)
-    → t' ≡ t → i' ≡ i → caller_state t i m.0 ≡ state → (here ≡ true → found ≡ word) → (here ≡ false → found ≢ word) → (found ≡ word → here ≡ true)
-    → TellsValid z word c m found m' → IsValidated z state (caller_state t' i' m'.0) c here
-validated_state z word c t t' i i' m m' found state here row seat before met lost back told =
-    subst (λ (s : CallerState). IsValidated z s (caller_state t' i' m'.0) c here) before record {
-      same = λ k. caller_state (row k) (seat k) m'.0;
-      valid = λ h. told.valid (met h);
-      not = λ h k. caller_state (row k) (seat k) (told.not (lost h) k);
-      lone = λ alone. back (told.lone alone);
-      lawful = told.lawful;
-    }
-
 -- what a load of a bucket's word tells
 pub found_bucket : (z : Sizes) (b found word : ℕ) (t t' : TableId) (i i' : ℕ) (m m' : ViewOfSeat) (state : CallerState) → t' ≡ t → i' ≡ i
     → word ≡ found → caller_state t i m.0 ≡ state → TellsBucket z b m found m' → FindsBucket z state (caller_state t' i' m'.0) b word

@@ -62,7 +62,3 @@ enters_as z a b after c same h = same ∙ ap (with_view a) (view_entered h)
 pub entered_as : {z : Sizes} {a b : CallerState} {after : View} {c : Call} → HasEntered z a after c b
     → b ≡ with_view a (record after { log = b.view.log })
 entered_as {z} {a} {b} {after} {c} h = enters_as z a b after c h.same h.entered
-
-pub valid_as : {z : Sizes} {a b : CallerState} {c : Call} {here : Bool} → IsValidated z a b c here → here ≡ true
-    → b ≡ with_view a (record (view_after_validate a.view c) { log = b.view.log })
-valid_as {z} {a} {b} {c} h won = enters_as z a b (view_after_validate a.view c) c h.same (h.valid won)

@@ -21,9 +21,3 @@ some_ruling section p = some_ruling_of (rules_of p.direction section) (tuple_fac
 pub update_is : (times : Timeouts) (p : PacketFlow) (ruling : Ruling)
     → update_of times (reading_of p ruling) ≡ Some (update_by times p ruling)
 update_is times p ruling = ap (option_map (update_in times p.moment (tuple_facts p.tuple.now) ruling)) p.of_tuple
-
--- the verdict on it, by its event
-pub verdict_is : (times : Timeouts) (p : PacketFlow) (ruling : Ruling) (e : Event)
-    → verdict_on times (record { reading = reading_of p ruling; event = Some e })
-    ≡ verdict_of (update_by times p ruling).patch ruling e.found e.reply
-verdict_is times p ruling e = ap (λ u. verdict_by_event ruling u (Some e)) (update_is times p ruling)

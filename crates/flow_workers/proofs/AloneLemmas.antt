@@ -64,10 +64,6 @@ only_there : {X : Type 0} (x y : X) (k : ℕ) (P : ℕ → X → Type 0) → P 0
 only_there x y zero P is at = subst (P 0) (some-injective x y at) is
 only_there x y (suc k) P is at = absurd (some-ne-none y (sym at))
 
-only_or : {X : Type 0} (x : X) (P : X → Type 0) → P x → (i : ℕ) (d : X) → i < 1 → P (get_or (x ∷ []) i d)
-only_or x P is zero d inside = is
-only_or x P is (suc i) d inside = absurd (omega arith)
-
 module _ {A B R G K L : Type 0} (ga : Ghosts A K) (gb : Ghosts B L) (setup : Setup A B R G K L)
     (packets : List PacketFacts) (before : List Verdict) (old new : Share A B K L ga gb) (said : List Verdict)
     (rest : IsAtRestAfter ga gb before setup packets 0 old) (gone : HasLetGo ga gb setup.tables.now old new said) where

@@ -6,8 +6,3 @@ use Rattle.bihash_rule.specs.declared.view.View.{View}
 use Rattle.bihash_table.specs.Renewing.{IsRenewRefused}
 use Rattle.bihash_table.specs.declared.renew_fault.RenewFault.{RenewFault}
 use Rattle.bihash_table.specs.declared.renew_fault.RenewFault.TheVariants.{Strangers, Memory}
-
-pub still_free : (z : Sizes) (v w : View) (fault : RenewFault) → v.holds ≡ nothing_held → IsRenewRefused z v fault w
-    → w.holds ≡ nothing_held
-still_free z v w Strangers free refused = ap (λ (u : View). u.holds) refused.3 ∙ free
-still_free z v w Memory free refused = ap (λ (u : View). u.holds) refused.3 ∙ free

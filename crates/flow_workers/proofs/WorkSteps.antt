@@ -314,10 +314,6 @@ one_more run w first at v u verdicts =
 
 -- ---- A worker that is alone
 
-pub alone_worker : (d : Deal) (number : ℕ) (flow : Option Flow) (w : ℕ) → d.workers ≡ 1 → w < d.workers
-    → w ≡ worker_of d number flow
-alone_worker d number flow w alone few = let other = worker_few d number flow (omega arith) in omega arith
-
 -- ---- Packets that are taken one by one
 
 -- the packet that is taken next is at the number of those that were taken

@@ -32,12 +32,6 @@ pub flags_reason : (used words rest : List (List ℕ)) (value : List ℕ) → wo
     → IsPartReason OfTcp (used ++ words) NoFlags value
 flags_reason used words rest value split none = (used, rest, ap (λ (ws : List (List ℕ)). used ++ ws) split, refl, none)
 
--- a name with nothing behind it
-pub missing_value : (parts : Parts) (used words more : List (List ℕ)) (name word : List ℕ) → words ≡ name ∷ more → more ≡ []
-    → IsPartReason parts (used ++ words) Missing word
-missing_value parts used words more name word split none =
-    (used, name, ap (λ (ws : List (List ℕ)). used ++ ws) (split ∙ ap (λ (ws : List (List ℕ)). name ∷ ws) none))
-
 pub traffic_reason : (family : Family) (words rest : List (List ℕ)) (protocol word : List ℕ) (proto : ℕ) (reason : Reason) → words ≡ protocol ∷ rest
     → IsProtocol family protocol proto → IsPartReason (parts_of family proto) rest reason word → IsTrafficReason family words reason word
 traffic_reason family words rest protocol word proto NoProtocol split is (used, more, name, most, at, has, why) = absurd why

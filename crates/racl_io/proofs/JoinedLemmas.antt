@@ -42,11 +42,6 @@ left-consumed None form None b bs none consumed = tt
 left-consumed None form (Some xs) None bs none consumed = absurd consumed
 left-consumed None form (Some xs) (Some ys) bs none consumed = ap (content_in form) consumed ∙ content-append form bs ys
 
-pub left-kept : (low : Option ℕ) (form : Form) (a b : Option (List ℕ)) → Keeps a b → Keeps (left low form a) (left low form b)
-left-kept low form None b kept = tt
-left-kept low form (Some xs) None kept = absurd kept
-left-kept low form (Some xs) (Some ys) kept = ap (λ bytes. kept_digit low ++ content_in form bytes) kept
-
 pub left-ended : (low : Option ℕ) (form : Form) (a : Option (List ℕ)) → low ≡ None → IsAtEnd a → IsAtEnd (left low form a)
 left-ended (Some digit) form a none ended = cc
 left-ended None form None none ended = tt

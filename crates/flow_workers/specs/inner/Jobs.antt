@@ -116,11 +116,6 @@ abbrev pub HasDoneAfter : {A B R G K L : Type 0} (ga : Ghosts A K) (gb : Ghosts 
 HasDoneAfter ga gb said setup all worker at v share = IsWorkUntil (run_facts ga gb setup all) worker at v
     (views_of ga gb share.callers) (said ++ share.said.items)
 
--- the same where its share has all that it said
-abbrev pub HasDone : {A B R G K L : Type 0} (ga : Ghosts A K) (gb : Ghosts B L) → Setup A B R G K L
-    → List PacketFacts → ℕ → ℕ → Views → Share A B K L ga gb → Type 0
-HasDone ga gb setup all worker at v share = HasDoneAfter ga gb [] setup all worker at v share
-
 -- The worker, which had looked at the packets before this place of the batch, has looked at those before that place too,
 -- and judged its own of them, whatever packets the batch's stand among, and whatever it said before.
 pub record HasWorkedOn {A B R G K L : Type 0} (ga : Ghosts A K) (gb : Ghosts B L) (batch : Batch A B R G K L)
