@@ -1,4 +1,4 @@
-//! Members that are made, split, joined and told of one another.
+//! Members that are made, split, joined, told of one another, asked whether they are alone, and for their stamp.
 ghost use Rattle.std.specs.Prelude.{◌≡◌, IfOk, IfErr, IfSome};
 ghost use Rattle.bihash_words.specs.Sizes.{sizes_of, IsSound};
 ghost use Rattle.bihash_steps.specs.CallerCalls.{AreInformed, IsJoined};

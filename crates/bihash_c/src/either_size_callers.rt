@@ -1,4 +1,5 @@
-//! What is behind a handle, whichever size its table has: split, joined and told of another one.
+//! What is behind a handle, whichever size its table has: split, joined, told of another one, asked whether it is alone,
+//! and for its stamp.
 ghost use Rattle.bihash_words.specs.Sizes.{sizes_of};
 ghost use Rattle.bihash_table.specs.Calls.{TellsLone};
 ghost use Rattle.bihash_c.specs.EitherSizes.{AreOfOneTable, Calls, HasCaller, JoinTold, MeetTold, SplitTold, StampTold};

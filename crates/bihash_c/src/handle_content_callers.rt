@@ -1,4 +1,5 @@
-//! What is behind a handle: made, split, joined and told of another one.
+//! What is behind a handle: made, split, joined, told of another one, asked whether it is alone, and for
+//! its stamp.
 ghost use Rattle.std.specs.Prelude.{IfSome};
 ghost use Rattle.bihash_words.specs.Sizes.{sizes_of, IsSound};
 ghost use Rattle.bihash_table.specs.Calls.{TellsLone};

@@ -1,4 +1,5 @@
 //! Why a caller could not be split.
+
 /// Why a caller could not be split.
 #[derive(Clone, Copy, Debug, PartialEq, Eq)]
 pub enum SplitFault {

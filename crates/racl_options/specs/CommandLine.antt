@@ -45,12 +45,15 @@ most_of _ = 4294967295
 abbrev pub long_rule : Text → ArgAction → ℕ → Rule
 long_rule id action values = record (new_rule id) { long = Some id; action = Some action; value_names = values }
 
--- one whose value is a number in its range
-abbrev pub number_rule : OptionName → Rule
-number_rule option = record (long_rule (name_of option) Set 1) {
-  parser = Some (Signed (pos 1) (pos (most_of option)));
-  defaults = default_of option ∷ [];
+-- one whose value is a number from 1 to `most`
+abbrev pub range_rule : Text → Text → ℕ → Rule
+range_rule id default most = record (long_rule id Set 1) {
+  parser = Some (Signed (pos 1) (pos most));
+  defaults = default ∷ [];
 }
+
+abbrev pub number_rule : OptionName → Rule
+number_rule option = range_rule (name_of option) (default_of option) (most_of option)
 
 abbrev pub flag_rule : FlagName → Rule
 flag_rule flag = long_rule (flag_id flag) SetTrue 0

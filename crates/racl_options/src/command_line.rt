@@ -5,11 +5,11 @@ ghost use Rattle.clap.specs.Words.{HasKind, app_of, fault_of, kind_of, rule_of};
 ghost use Rattle.clap.specs.declared.builder.action.ArgAction.TheVariants.{Set, SetTrue};
 ghost use Rattle.racl_options.specs.Asking.{AskForNothing, AskForRun, AskedFacts, asked_facts};
 ghost use Rattle.racl_options.specs.CommandLine as line;
-ghost use Rattle.racl_options.specs.CommandLine.{IsRequest, long_rule, racl};
+ghost use Rattle.racl_options.specs.CommandLine.{Established, IsRequest, long_rule, most_of, racl, range_rule};
 ghost use Rattle.racl_options.specs.Options.{AreNames, AreSettings, Setting, Use, asked_as, values_of, words_as};
 ghost use Rattle.racl_options.specs.Origins.{Name, OriginFacts};
 ghost use Rattle.racl_options.specs.inner.Commands;
-ghost use Rattle.racl_options.specs.inner.Commands.{range_rule, with_flags, with_options, with_reports, with_selections, with_values, without_options};
+ghost use Rattle.racl_options.specs.inner.Commands.{with_flags, with_options, with_reports, with_selections, with_values, without_options};
 
 use crate::asked_options::asked_by;
 use crate::named_files::Refusal;
@@ -228,7 +228,7 @@ fn described_command<'a>(alloc: Global) -> Command<'a>
 }
 
 fn timeout_option<'a>(alloc: Global, name: &'a str, default: &'a str, help: &'a str) -> Arg<'a>
-    ensures rule { rule_of result ≡ range_rule name.entry.now default.entry.now 4294967295 }
+    ensures rule { rule_of result ≡ range_rule name.entry.now default.entry.now (most_of Established) }
     ensures local { result.global ≡ false }
 {
     number_option(alloc, name, default, u32::MAX, "SECONDS", help)

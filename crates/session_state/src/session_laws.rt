@@ -1,4 +1,4 @@
-//! What follows from the definitions, for every session and decision. The functions do nothing: their contracts are the laws.
+//! What follows from the definitions, for every flow, session and decision. The functions do nothing: their contracts are the laws.
 ghost use Rattle.std.specs.Prelude.{◌≡◌, ◌≢◌, ◌≤◌, ◌+◌, ◌↔◌, ℕ, Option, Some, not, true, false};
 ghost use Rattle.bihash_words.specs.declared.patch.Change.{Change};
 ghost use Rattle.bihash_words.specs.declared.patch.Change.TheVariants.{Set};

@@ -1,9 +1,8 @@
 -- The command while it is made, and what its words are called.
-use Rattle.std.specs.Prelude.{ℕ, true, [], ◌∷◌, Some, codes, pos}
+use Rattle.std.specs.Prelude.{true, codes}
 use Rattle.clap.specs.Simple.{on_top}
 use Rattle.clap.specs.Words.{App, Rule, Text, new_app, with_rule}
 use Rattle.clap.specs.declared.builder.action.ArgAction.TheVariants.{Append, Set}
-use Rattle.clap.specs.declared.builder.value_parser.ValueParser.TheVariants.{Signed}
 use Rattle.racl_options.specs.CommandLine.{Workers, Established, Transient, Udp, flag_rule, long_rule, number_rule}
 use Rattle.racl_options.specs.Selections.{Summary, Hits, Sessions, Explain, JsonLines, Live}
 
@@ -31,13 +30,6 @@ abbrev pub capture_id : Text
 capture_id = codes "CAPTURE"
 
 -- ---- rules
-
--- an option with one value: a number from 1 to `most`
-abbrev pub range_rule : Text → Text → ℕ → Rule
-range_rule id default most = record (long_rule id Set 1) {
-  parser = Some (Signed (pos 1) (pos most));
-  defaults = default ∷ [];
-}
 
 abbrev pub value_rule : Text → Rule
 value_rule id = long_rule id Set 1
