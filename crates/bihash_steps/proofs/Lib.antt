@@ -23,6 +23,7 @@ pub mod Put
 pub mod RenewedRows
 pub mod RenewedWords
 pub mod SeatCounts
+pub mod ToldCalls
 pub mod WholeHistories
 pub mod bucket_steps
 pub mod caller_steps

@@ -1,5 +1,5 @@
 -- The rule holds of a row that is made of the words that a lone caller loaded.
-use Rattle.std.proofs.Common.{◌≡◌, ℕ, zero, suc, ◌+◌, ◌-◌, ◌*◌, ◌^◌, ◌<◌, ◌≤◌, Bool, false, List, [], ◌∷◌, length, get_or, refl, sym, ap, ◌∙◌, subst, arith, le_refl, inl, inr, length-append, Option, Some, None}
+use Rattle.std.proofs.Common.{◌≡◌, ℕ, zero, suc, ◌+◌, ◌-◌, ◌*◌, ◌^◌, ◌<◌, ◌≤◌, Bool, false, List, [], ◌∷◌, ◌++◌, length, get_or, refl, sym, ap, ◌∙◌, subst, arith, le_refl, inl, inr, length-append, Option, Some, None}
 use Rattle.std.proofs.lemmas.List.{get_or_append_left, get_or_at}
 use Rattle.std.proofs.lemmas.Cmp.{nat_list_cmp_total}
 use mathlib.Core.Logic.{dite}
@@ -23,7 +23,7 @@ use Rattle.bihash_rule.specs.PageStores.{StoreState, IsStore, all_used, all_writ
 use Rattle.bihash_rule.specs.Views.{nothing_held, opening_view}
 use Rattle.bihash_rule.specs.WordRule.{IsView, WordRule}
 use Rattle.bihash_steps.specs.BucketSteps.{IsFound, map_now}
-use Rattle.bihash_steps.specs.Renewals.{AreRowWords, AreRenewed, HaveFields, IsRenewed, each_below, openings_after}
+use Rattle.bihash_steps.specs.Renewals.{AreRowWords, AreRenewed, HaveFields, IsRenewed}
 use Rattle.bihash_rule.specs.declared.view.Openings.{Openings}
 use Rattle.bihash_rule.specs.declared.view.Holdings.{Holdings}
 use Rattle.bihash_rule.specs.declared.view.View.{View}
@@ -39,6 +39,15 @@ use Rattle.bihash_steps.proofs.caller_steps.LoadCount.{known_sum}
 use Rattle.bihash_steps.proofs.pool_steps.PoolLock.{alone_open}
 
 -- ---- Lists of pairs for each bucket
+
+-- f 0, f 1 and so on, below n
+abbrev each_below : {A : Type 0} → (ℕ → A) → ℕ → List A
+each_below f zero = []
+each_below f (suc n) = each_below f n ++ f n ∷ []
+
+-- the pairs that the known writes left in each bucket, and a used mark
+abbrev pub openings_after : Sizes → View → ℕ → Openings
+openings_after z v used = record { pairs = each_below (λ b. entries (map_now v b)) (buckets z); used = used }
 
 below_long : {A : Type 0} (f : ℕ → A) (n : ℕ) → length (each_below f n) ≡ n
 below_long f zero = refl

@@ -1,19 +1,16 @@
 -- What the steps on a bucket leave of their caller: s is the caller before the step, t after it.
 use Rattle.std.specs.Prelude.{◌≡◌, ◌⊎◌, ℕ, true, false, Bool, List, Option, Some, None}
-use Rattle.bihash_words.specs.Expiries.{expired_words, no_recycling}
+use Rattle.bihash_words.specs.Expiries.{no_recycling}
 use Rattle.bihash_words.specs.Maps
 use Rattle.bihash_words.specs.Sizes.{Sizes}
 use Rattle.bihash_words.specs.Words.{Bucket, FitsWord, packed}
 use Rattle.bihash_words.specs.declared.patch.Change.{Change}
 use Rattle.bihash_words.specs.declared.patch.Reply.{Reply}
-use Rattle.bihash_words.specs.declared.shape.Shape.{Ghosts}
 use Rattle.bihash_rule.specs.Callers.{IsLawfulCaller, known_at}
 use Rattle.bihash_rule.specs.Buckets.{open_word}
-use Rattle.bihash_steps.specs.BucketSteps.{Enters, RestsOn, SeesLocked, SeesOpen, TakesLock, call_of, without_notes, view_after_validate}
+use Rattle.bihash_steps.specs.BucketSteps.{Enters, RestsOn, SeesLocked, SeesOpen, TakesLock, without_notes, view_after_validate}
 use Rattle.bihash_steps.specs.Seats.{CallerState, IsSameSeat, with_view}
 use Rattle.bihash_rule.specs.Views.{nothing_held}
-use Rattle.bihash_steps.specs.declared.event.Event.{Event}
-use Rattle.bihash_steps.specs.declared.recycling_write.Recycled.{Recycled}
 use Rattle.bihash_rule.specs.declared.view.Call.{Call}
 use Rattle.bihash_rule.specs.declared.view.LockedBucket.{LockedBucket}
 use Rattle.bihash_rule.specs.declared.view.OpenBucket.{OpenBucket}
@@ -28,31 +25,6 @@ event key found change reply = record {
   reply = reply;
   recycling = no_recycling;
 }
-
--- the same of a call that asked an expiry, and the key that it removed for its own
-abbrev pub recycled_event : Maps.Event → (ℕ → Bool) → Option (List ℕ) → Maps.Event
-recycled_event e is_expired removed = record e {
-  recycling = record { expired = expired_words is_expired; removed = removed };
-}
-
--- the event, with the words of its key
-abbrev pub in_words : {A K : Type 0} (g : Ghosts A K) → Event A K → Maps.Event
-in_words g e = event (g.words_of e.key.now) e.found e.change e.reply
-
--- the entry of a call on bucket b that is no write, and that of a write
-abbrev pub answer_at : {A K : Type 0} (g : Ghosts A K) → View → ℕ → Event A K → Call
-answer_at g v b e = call_of v b 0 (in_words g e)
-
-abbrev pub write_at : {A K : Type 0} (g : Ghosts A K) → View → ℕ → Event A K → Call
-write_at g v b e = call_of v b 1 (in_words g e)
-
--- the entry of a refusal for want of room that asked an expiry, and that of a write that removed an expired pair
-abbrev pub refusal_at : {A K : Type 0} (g : Ghosts A K) → View → ℕ → Event A K → (ℕ → Bool) → Call
-refusal_at g v b e is_expired = call_of v b 0 (recycled_event (in_words g e) is_expired None)
-
-abbrev pub recycled_at : {A K E : Type 0} (g : Ghosts A K) → View → ℕ → Recycled A E K → (ℕ → Bool) → Call
-recycled_at g v b r is_expired =
-    call_of v b 1 (recycled_event (in_words g r.event) is_expired (Some (g.words_of r.removed.now)))
 
 -- A bucket's word was loaded. A lone caller that holds no lock finds it unlocked, and knew the history before.
 pub record FindsBucket (z : Sizes) (s t : CallerState) (b word : ℕ) : Type 0 where

@@ -275,11 +275,6 @@ pub record MayWrite (z : Sizes) (v : View) (b word : ℕ) (c : Call) : Type 0 wh
 abbrev pub next_map : View → ℕ → Call → Pairs
 next_map v b c = written (map_now v b) c.key c.change c.recycling
 
--- it may be made with the block as it is now
-pub record MayPublish (z : Sizes) (v : View) (b word : ℕ) (c : Call) : Type 0 where
-  pub write : MayWrite z v b word c
-  pub pairs : IsBlockOf z write.lock.extent write.lock.now (next_map v b c)
-
 -- the same block with this linear mark
 abbrev pub marked : Extent → Bool → Extent
 marked e linear = record { page = e.page; size = record { log2 = e.size.log2; linear = linear } }

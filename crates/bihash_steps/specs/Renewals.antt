@@ -1,8 +1,7 @@
 -- What a lone caller's loads of a row's words tell, and what a row begins with that is made of these words.
-use Rattle.std.specs.Prelude.{◌≡◌, ℕ, ◌+◌, ◌<◌, ◌≤◌, List, [], ◌∷◌, ◌++◌, length, slice_index, true, false, zero, suc}
+use Rattle.std.specs.Prelude.{◌≡◌, ℕ, ◌+◌, ◌<◌, ◌≤◌, List, [], ◌∷◌, ◌++◌, length, slice_index, true, false}
 use lib.ListN.{get_elem?}
 use mathlib.Core.Option.{some}
-use Rattle.std.specs.FinMap.{entries}
 use Rattle.atomic_table.specs.Table.{State}
 use Rattle.bihash_words.specs.Sizes.{Sizes}
 use Rattle.bihash_words.specs.Words.{Bucket, FitsWord, packed}
@@ -14,7 +13,6 @@ use Rattle.bihash_rule.specs.WordRule.{WordRule}
 use Rattle.bihash_steps.specs.Steps.{ViewOfSeat}
 use Rattle.bihash_steps.specs.BucketSteps.{map_now}
 use Rattle.bihash_steps.specs.Seats.{CallerState, with_view}
-use Rattle.bihash_rule.specs.declared.view.Openings.{Openings}
 use Rattle.bihash_rule.specs.declared.view.View.{View}
 
 -- ---- A lone caller's load of a word
@@ -53,15 +51,6 @@ pub record LoadsRowWord (z : Sizes) (s t : CallerState) (word : ℕ) : Type 0 wh
   pub row : length t.view.notes.row ≡ all_words z → AreRowWords z t.view t.view.notes.row
 
 -- ---- A row that begins with what another one came to
-
--- f 0, f 1 and so on, below n
-abbrev pub each_below : {A : Type 0} → (ℕ → A) → ℕ → List A
-each_below f zero = []
-each_below f (suc n) = each_below f n ++ f n ∷ []
-
--- the pairs that the known writes left in each bucket, and a used mark
-abbrev pub openings_after : Sizes → View → ℕ → Openings
-openings_after z v used = record { pairs = each_below (λ b. entries (map_now v b)) (buckets z); used = used }
 
 -- the words of the buckets have fields
 abbrev pub HaveFields : Sizes → List ℕ → Type 0

@@ -4,7 +4,6 @@
 mod create_fault;
 mod event;
 mod new_row;
-mod recycling_write;
 mod renewed_row;
 mod row;
 mod row_beginning;
@@ -18,9 +17,9 @@ mod working_copy;
 pub use create_fault::CreateFault;
 pub use event::Event;
 pub use new_row::open_row;
-pub use recycling_write::Recycled;
 pub use renewed_row::reopen_row;
 pub use row::{Caller, CallerSeat, Row};
 pub use split_fault::SplitFault;
+pub use steps_on_buckets::Calling;
 pub use steps_on_page_store::PoolWord;
 pub use working_copy::Scratch;

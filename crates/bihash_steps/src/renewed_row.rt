@@ -4,7 +4,7 @@ ghost use Rattle.bihash_words.specs.Sizes.{sizes_of};
 ghost use Rattle.bihash_rule.specs.Words.{all_words, used_mark_of};
 ghost use Rattle.bihash_rule.specs.Callers.{IsLawfulCaller};
 ghost use Rattle.bihash_rule.specs.Views.{nothing_held};
-ghost use Rattle.bihash_steps.specs.Renewals.{AreRenewed, AreRowWords, HaveFields, IsNextWord, IsRenewed, LoadsRowWord, openings_after};
+ghost use Rattle.bihash_steps.specs.Renewals.{AreRenewed, AreRowWords, HaveFields, IsNextWord, IsRenewed, LoadsRowWord};
 
 use crate::create_fault::CreateFault;
 use crate::row::{Caller, CallerSeat, Row};
@@ -39,15 +39,8 @@ impl<S: Shape> Row<S> {
     }
 }
 
-// With what a row begins that is made of these words.
-fn with_all<S: Shape>(caller: &CallerSeat<S>, words: &[u64]) -> Mark<Openings>
-    ensures { result.view ≡ openings_after (sizes_of S.Shape) caller.now.view (used_mark_of words.now) }
-{
-    with_all_as::<Brand, S>(caller, words)
-}
-
-// The same, as `E` names it.
-fn with_all_as<E: Beginning, S: Shape>(caller: &CallerSeat<S>, _words: &[u64]) -> Mark<Openings>
+// With what a row begins, as `E` names it: the caller's proof picks it by these words.
+fn with_all<E: Beginning, S: Shape>(caller: &CallerSeat<S>, _words: &[u64]) -> Mark<Openings>
     ensures { result.view ≡ E.openings }
 {
     mark::<E>(&caller.seat)
@@ -92,7 +85,7 @@ pub fn reopen_row<S: Shape>(
     row.is_sound();
     let scratch = Scratch::reserve(alloc)?;
     let renewed = renewed_words(alloc, row, words)?;
-    let began = Some(with_all(&caller.seat, words));
+    let began = Some(with_all::<Brand, S>(&caller.seat, words));
     let (table, seat) = Table::of_words(alloc, renewed.as_slice(), &began)?;
     let row = Row { table };
     let seat = CallerSeat {

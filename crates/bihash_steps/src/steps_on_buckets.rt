@@ -1,24 +1,22 @@
 //! Steps on a bucket: its word, its lock, and the words of its block under the lock.
 ghost use Rattle.std.specs.Prelude.{◌≡◌, [], ◌∷◌, Some, slice_index};
 ghost use Rattle.bihash_words.specs.Sizes.{sizes_of};
-ghost use Rattle.bihash_steps.specs.BucketCalls.{FindsBucket, IsValidated, MayLock, TriesLock, answer_at, recycled_at, refusal_at, write_at, HasEntered};
-ghost use Rattle.bihash_steps.specs.BucketSteps.{IsLockedWord, with_lock, stored_in, HoldsClean, without_lock, MayAnswer, view_after_answer, MayMark, MayPublish, view_after_write, IsOpenWord, with_reading, MayValidate};
+ghost use Rattle.bihash_steps.specs.BucketCalls.{FindsBucket, IsValidated, MayLock, TriesLock, HasEntered};
+ghost use Rattle.bihash_steps.specs.BucketSteps.{IsLockedWord, with_lock, stored_in, HoldsClean, without_lock, MayAnswer, view_after_answer, MayMark, view_after_write, IsOpenWord, with_reading, MayValidate};
 ghost use Rattle.bihash_steps.specs.StoreSteps.{MayReplace, view_after_replace};
 ghost use Rattle.bihash_rule.specs.declared.view.LockedBucket.{LockedBucket};
 ghost use Rattle.bihash_steps.specs.Seats.{Becomes, IsAt, with_view};
 
-use crate::event::Event;
-use crate::recycling_write::Recycled;
 use crate::row::{CallerSeat, Row};
 use bihash_rule::Extent;
-use bihash_words::{BlockSize, BucketWord, Expiry, Shape};
-use std::marker::Brand;
+use bihash_words::{BlockSize, BucketWord, Shape};
 
 mod kinds;
 
+pub use kinds::Calling;
 use kinds::{
-    Answers, Calling, LockedStores, LockedWords, Locks, OpenWords, Publishes, Releases, Replaces,
-    Sees, Validates,
+    Answers, LockedStores, LockedWords, Locks, OpenWords, Publishes, Releases, Replaces, Sees,
+    Validates,
 };
 
 impl<S: Shape> Row<S> {
@@ -78,32 +76,15 @@ impl<S: Shape> Row<S> {
         shared.load::<OpenWords<S>>(&mut caller.seat, self.page_at(page, k))
     }
 
-    /// Loads the word of a bucket again, and says whether it is the word that was noted. There the call,
-    /// which is no write, is answered. A lone caller finds the word.
-    pub fn validate(
-        &self,
-        caller: &mut CallerSeat<S>,
-        bucket: usize,
-        word: BucketWord,
-        event: &Event<'_, S>,
-    ) -> bool
-        requires at { IsAt (sizes_of S.Shape) self.now caller.old bucket }
-        requires may { MayValidate (sizes_of S.Shape) caller.old.view bucket word
-            (answer_at ⟦<S as Shape>⟧ caller.old.view bucket event.now) }
-        ensures { IsValidated (sizes_of S.Shape) caller.old caller.new
-            (answer_at ⟦<S as Shape>⟧ caller.old.view bucket event.now) result }
-    {
-        self.validate_as::<Brand, Event<'_, S>, ()>(caller, bucket, word, event, &())
-    }
-
-    // The same for the call that `E` names: it is that of what is told.
-    fn validate_as<E: Calling, T, X>(
+    /// Loads the word of a bucket again, and says whether it is the word that was noted. There the call that `E`
+    /// names, which is no write, is answered: the caller's proof picks it by what is told. A lone caller finds
+    /// the word.
+    pub fn validate<E: Calling, T>(
         &self,
         caller: &mut CallerSeat<S>,
         bucket: usize,
         word: BucketWord,
         _told: &T,
-        _expiry: &X,
     ) -> bool
         requires at { IsAt (sizes_of S.Shape) self.now caller.old bucket }
         requires may { MayValidate (sizes_of S.Shape) caller.old.view bucket word E.call }
@@ -119,24 +100,6 @@ impl<S: Shape> Row<S> {
         true
     }
 
-    /// The same for a new key that finds no room, where the call asked an expiry and removes no pair.
-    pub fn validate_full<X: Expiry>(
-        &self,
-        caller: &mut CallerSeat<S>,
-        bucket: usize,
-        word: BucketWord,
-        event: &Event<'_, S>,
-        expiry: &X,
-    ) -> bool
-        requires at { IsAt (sizes_of S.Shape) self.now caller.old bucket }
-        requires may { MayValidate (sizes_of S.Shape) caller.old.view bucket word
-            (refusal_at ⟦<S as Shape>⟧ caller.old.view bucket event.now (X.is_expired expiry.now)) }
-        ensures { IsValidated (sizes_of S.Shape) caller.old caller.new
-            (refusal_at ⟦<S as Shape>⟧ caller.old.view bucket event.now (X.is_expired expiry.now)) result }
-    {
-        self.validate_as::<Brand, Event<'_, S>, X>(caller, bucket, word, event, expiry)
-    }
-
     /// Opens the lock of a bucket in whose block nothing was stored, without an answer.
     pub fn release(&self, caller: &mut CallerSeat<S>, bucket: usize, word: BucketWord)
         requires at { IsAt (sizes_of S.Shape) self.now caller.old bucket }
@@ -147,32 +110,14 @@ impl<S: Shape> Row<S> {
         shared.store::<Releases<S>>(&mut caller.seat, self.bucket_at(bucket), word.to_word());
     }
 
-    /// Opens the lock of a bucket in whose block nothing was stored: it is the answer of a call that is no
-    /// write.
-    pub fn cancel(
+    /// Opens the lock of a bucket in whose block nothing was stored: it is the answer of the call that `E`
+    /// names, which is no write. The caller's proof picks it by what is told.
+    pub fn cancel<E: Calling, T>(
         &self,
         caller: &mut CallerSeat<S>,
         bucket: usize,
         word: BucketWord,
-        event: &Event<'_, S>,
-    )
-        requires at { IsAt (sizes_of S.Shape) self.now caller.old bucket }
-        requires may { MayAnswer (sizes_of S.Shape) caller.old.view bucket word
-            (answer_at ⟦<S as Shape>⟧ caller.old.view bucket event.now) }
-        ensures { HasEntered (sizes_of S.Shape) caller.old
-            (view_after_answer caller.old.view (answer_at ⟦<S as Shape>⟧ caller.old.view bucket event.now))
-            (answer_at ⟦<S as Shape>⟧ caller.old.view bucket event.now) caller.new }
-    {
-        self.cancel_as::<Brand>(caller, bucket, word, event);
-    }
-
-    // The same for the call that `E` names: it is that of the event.
-    fn cancel_as<E: Calling>(
-        &self,
-        caller: &mut CallerSeat<S>,
-        bucket: usize,
-        word: BucketWord,
-        _event: &Event<'_, S>,
+        _told: &T,
     )
         requires at { IsAt (sizes_of S.Shape) self.now caller.old bucket }
         requires may { MayAnswer (sizes_of S.Shape) caller.old.view bucket word E.call }
@@ -183,53 +128,9 @@ impl<S: Shape> Row<S> {
         caller.stamp = Some((bucket as u64, word.version()));
     }
 
-    /// Stores the next word of a bucket over its block as it is now: it is the write of a call.
-    pub fn publish(
-        &self,
-        caller: &mut CallerSeat<S>,
-        bucket: usize,
-        word: BucketWord,
-        event: &Event<'_, S>,
-    )
-        requires at { IsAt (sizes_of S.Shape) self.now caller.old bucket }
-        requires may { MayPublish (sizes_of S.Shape) caller.old.view bucket word
-            (write_at ⟦<S as Shape>⟧ caller.old.view bucket event.now) }
-        ensures { HasEntered (sizes_of S.Shape) caller.old
-            (view_after_write caller.old.view (write_at ⟦<S as Shape>⟧ caller.old.view bucket event.now))
-            (write_at ⟦<S as Shape>⟧ caller.old.view bucket event.now) caller.new }
-    {
-        self.publish_as::<Brand, Event<'_, S>>(caller, bucket, word, word.linear(), event);
-    }
-
-    /// Stores the next word of a bucket over its block as it is now: it is the write of a call that removed an
-    /// expired pair for its own.
-    pub fn publish_recycled<X: Expiry>(
-        &self,
-        caller: &mut CallerSeat<S>,
-        bucket: usize,
-        word: BucketWord,
-        recycled: &Recycled<'_, S, X>,
-    )
-        requires at { IsAt (sizes_of S.Shape) self.now caller.old bucket }
-        requires may { MayMark (sizes_of S.Shape) caller.old.view bucket word recycled.now.linear
-            (recycled_at ⟦<S as Shape>⟧ caller.old.view bucket recycled.now (X.is_expired recycled.now.expiry.now)) }
-        ensures { HasEntered (sizes_of S.Shape) caller.old
-            (view_after_write caller.old.view
-            (recycled_at ⟦<S as Shape>⟧ caller.old.view bucket recycled.now (X.is_expired recycled.now.expiry.now)))
-            (recycled_at ⟦<S as Shape>⟧ caller.old.view bucket recycled.now (X.is_expired recycled.now.expiry.now)) caller.new }
-    {
-        self.publish_as::<Brand, Recycled<'_, S, X>>(
-            caller,
-            bucket,
-            word,
-            recycled.linear,
-            recycled,
-        );
-    }
-
-    // Stores the next word over the same block, with this linear mark, for the call that `E` names: it is that of what
-    // is told.
-    fn publish_as<E: Calling, T>(
+    /// Stores the next word of a bucket over its block as it is now, which has this linear mark from then on: it
+    /// is the write of the call that `E` names. The caller's proof picks it by what is told.
+    pub fn publish<E: Calling, T>(
         &self,
         caller: &mut CallerSeat<S>,
         bucket: usize,
@@ -253,33 +154,15 @@ impl<S: Shape> Row<S> {
     }
 
     /// Stores the next word of a bucket, with the block that the caller holds or, where it holds none,
-    /// without a block: it is the write of a call. The caller holds the block that the bucket had.
-    pub fn publish_block(
+    /// without a block: it is the write of the call that `E` names. The caller's proof picks it by what is told.
+    /// The caller holds the block that the bucket had.
+    pub fn publish_block<E: Calling, T>(
         &self,
         caller: &mut CallerSeat<S>,
         bucket: usize,
         word: BucketWord,
         extent: Extent,
-        event: &Event<'_, S>,
-    )
-        requires at { IsAt (sizes_of S.Shape) self.now caller.old bucket }
-        requires may { MayReplace (sizes_of S.Shape) caller.old.view bucket word extent
-            (write_at ⟦<S as Shape>⟧ caller.old.view bucket event.now) }
-        ensures { HasEntered (sizes_of S.Shape) caller.old
-            (view_after_replace caller.old.view (write_at ⟦<S as Shape>⟧ caller.old.view bucket event.now))
-            (write_at ⟦<S as Shape>⟧ caller.old.view bucket event.now) caller.new }
-    {
-        self.publish_block_as::<Brand>(caller, bucket, word, extent, event);
-    }
-
-    // The same for the call that `E` names: it is that of the event.
-    fn publish_block_as<E: Calling>(
-        &self,
-        caller: &mut CallerSeat<S>,
-        bucket: usize,
-        word: BucketWord,
-        extent: Extent,
-        _event: &Event<'_, S>,
+        _told: &T,
     )
         requires at { IsAt (sizes_of S.Shape) self.now caller.old bucket }
         requires may { MayReplace (sizes_of S.Shape) caller.old.view bucket word extent E.call }

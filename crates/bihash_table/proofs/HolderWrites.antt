@@ -1,17 +1,19 @@
 -- What the holder of a lock may answer, and what it may write over the block as it stored it.
-use Rattle.std.proofs.Common.{◌≡◌, ◌∙◌, ◌<◌, ◌+◌, ◌++◌, ℕ, true, false, List, [], ◌∷◌, length, Option, Some, None, ap, arith, refl, sym, subst}
+use Rattle.std.proofs.Common.{◌≡◌, ◌∙◌, ◌<◌, ◌+◌, ◌++◌, ℕ, Bool, true, false, List, [], ◌∷◌, length, Option, Some, None, ap, arith, refl, sym, subst}
 use Rattle.std.specs.FinMap.{get}
 use Rattle.bihash_words.specs.Maps.{IsEvent, changed}
 use Rattle.bihash_words.specs.Patches.{IsStorable}
 use Rattle.bihash_words.specs.Sizes.{Sizes}
+use Rattle.bihash_words.specs.Words.{Bucket, FitsWord, packed}
 use Rattle.bihash_words.specs.declared.patch.Change.{Change}
 use Rattle.bihash_words.specs.declared.patch.Reply.{Reply}
 use Rattle.bihash_words.specs.declared.patch.Reply.TheVariants.{Changed, NoPages}
 use Rattle.bihash_rule.specs.Histories.{bounds_of, bucket_of, is_changed, write_of}
 use Rattle.bihash_rule.specs.Callers.{known_at}
 use Rattle.bihash_rule.specs.Blocks.{IsBlockOf}
+use Rattle.bihash_rule.specs.Buckets.{word_of}
 use Rattle.bihash_steps.specs.BucketCalls.{event}
-use Rattle.bihash_steps.specs.BucketSteps.{Enters, MayAnswer, MayPublish, acting, call_of, map_now, with_lock, view_after_write}
+use Rattle.bihash_steps.specs.BucketSteps.{Enters, MayAnswer, MayMark, acting, call_of, map_now, marked, with_lock, view_after_write}
 use Rattle.bihash_rule.specs.declared.view.Call.{Call}
 use Rattle.bihash_rule.specs.declared.view.Holdings.{Holdings}
 use Rattle.bihash_rule.specs.declared.view.LockedBucket.{LockedBucket}
@@ -20,6 +22,10 @@ use Rattle.bihash_table.specs.Promise.{IsAnswered, IsEntered}
 use Rattle.bihash_table.specs.inner.Locked.{HasLock}
 use Rattle.bihash_table.proofs.LockReleases.{written_from_lock}
 use Rattle.bihash_table.proofs.SameCallers.{view_entered, write_entered}
+
+-- a word with this linear mark
+abbrev pub HasMark : ℕ → Bool → Type 0
+HasMark word linear = (x : Bucket) → FitsWord x → word ≡ packed x → linear ≡ x.linear
 
 module _ (z : Sizes) (v : View) (b word : ℕ) (l : LockedBucket) (has : HasLock z v b word l) (key : List ℕ)
     (long : length key ≡ z.key_words) (home : bucket_of z key ≡ b) (found : Option ℕ) (change : Change) where
@@ -53,10 +59,10 @@ module _ (z : Sizes) (v : View) (b word : ℕ) (l : LockedBucket) (has : HasLock
         → IsEvent (bounds_of z) (map_now v b) (length (known_at v.known b))
         (event key (get (map_now v b) key) change (Changed (get (map_now v b) key)))
         (changed (map_now v b) key change)
-        → IsBlockOf z l.extent now (changed (map_now v b) key change)
-        → MayPublish z w b word (call_of w b 1 (event key found change (Changed found)))
-    may_publish there unworn storable step pairs =
-        subst (λ (u : View). MayPublish z u b word (call_of u b 1 (event key found change (Changed found)))) (sym is) (record {
+        → IsBlockOf z l.extent now (changed (map_now v b) key change) → (linear : Bool) → HasMark word linear
+        → MayMark z w b word linear (call_of w b 1 (event key found change (Changed found)))
+    may_publish there unworn storable step pairs linear mark =
+        subst (λ (u : View). MayMark z u b word linear (call_of u b 1 (event key found change (Changed found)))) (sym is) (record {
           write = record {
             lock = record l { now = now; stored = true };
             held = refl;
@@ -76,7 +82,8 @@ module _ (z : Sizes) (v : View) (b word : ℕ) (l : LockedBucket) (has : HasLock
               changes = record { found = step.found; removed = step.removed; answers = step.answers };
             };
           };
-          pairs = pairs;
+          pairs = subst (λ (m : Bool). IsBlockOf z (marked l.extent m) now (changed (map_now v b) key change))
+              (sym (mark (word_of l.extent false l.version) has.fits has.stood)) pairs;
         })
 
     -- it was answered

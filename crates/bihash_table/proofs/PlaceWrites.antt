@@ -1,5 +1,5 @@
 -- The writes for which a locked block has room: what was stored may be published, and is the answer then.
-use Rattle.std.proofs.Common.{◌≡◌, ◌≢◌, ◌+◌, ◌*◌, ◌<◌, ℕ, true, List, length, set, Some, None, ap, arith, refl, sym}
+use Rattle.std.proofs.Common.{◌≡◌, ◌≢◌, ◌+◌, ◌*◌, ◌<◌, ℕ, Bool, true, List, length, set, Some, None, ap, arith, refl, sym}
 use Rattle.std.specs.FinMap.{get}
 use Rattle.bihash_words.specs.Sizes.{Sizes}
 use Rattle.bihash_words.specs.declared.patch.Change.TheVariants.{Set, Remove}
@@ -9,7 +9,7 @@ use Rattle.bihash_rule.specs.Histories.{bounds_of, bucket_of}
 use Rattle.bihash_rule.specs.Callers.{known_at}
 use Rattle.bihash_rule.specs.Blocks.{HasPair, HoldsPair, free}
 use Rattle.bihash_steps.specs.BucketCalls.{event}
-use Rattle.bihash_steps.specs.BucketSteps.{Enters, MayPublish, call_of, map_now, with_lock, stored_in, view_after_write}
+use Rattle.bihash_steps.specs.BucketSteps.{Enters, MayMark, call_of, map_now, with_lock, stored_in, view_after_write}
 use Rattle.bihash_steps.specs.Seats.{CallerState, with_view}
 use Rattle.bihash_rule.specs.declared.view.LockedBucket.{LockedBucket}
 use Rattle.bihash_rule.specs.declared.view.View.{View}
@@ -20,7 +20,7 @@ use Rattle.bihash_table.specs.inner.Stores.{HasStored}
 use Rattle.bihash_table.proofs.Blocks.{filled_block, freed_block, overwritten_block}
 use Rattle.bihash_table.proofs.Count.{few_pairs}
 use Rattle.bihash_table.proofs.Decisions.{enter_step, remove_step, set_step}
-use Rattle.bihash_table.proofs.HolderWrites.{may_publish, published}
+use Rattle.bihash_table.proofs.HolderWrites.{HasMark, may_publish, published}
 use Rattle.bihash_table.proofs.StoredWords.{key_stored, stored_before, stored_here, stored_is, stored_none, stored_placed, value_stored, view_stored}
 
 -- the word after the key of place i gets this value
@@ -48,7 +48,8 @@ module _ (z : Sizes) (v : View) (b word : ℕ) (l : LockedBucket) (has : HasLock
     filled_is : w' ≡ with_lock v (Some (record l { now = with_value z h.now i value; stored = true }))
     filled_is = stored_is z v b word l has w i vacant.inside key z.key_words h w' z.key_words value is
 
-    pub may_fill : MayPublish z w' b word (call_of w' b 1 (event key None (Set value) (Changed None)))
+    pub may_fill : (linear : Bool) → HasMark word linear
+        → MayMark z w' b word linear (call_of w' b 1 (event key None (Set value) (Changed None)))
     may_fill = may_publish z v b word l has key long home None (Set value) w' _ filled_is (sym new) unworn storable
         (enter_step (bounds_of z) (map_now v b) (length (known_at v.known b)) key value (sym new) unworn
         (few_pairs z l.extent l.now (map_now v b) i has.pairs vacant.inside vacant.free))
@@ -75,7 +76,8 @@ module _ (z : Sizes) (v : View) (b word : ℕ) (l : LockedBucket) (has : HasLock
       overwritten_is = stored_is z v b word l has v i pair.pair.0 key z.key_words
           (stored_before z v b word l has i key pair.stands) w' z.key_words value is
 
-      pub may_overwrite : MayPublish z w' b word (call_of w' b 1 (event key (Some old) (Set value) (Changed (Some old))))
+      pub may_overwrite : (linear : Bool) → HasMark word linear
+          → MayMark z w' b word linear (call_of w' b 1 (event key (Some old) (Set value) (Changed (Some old))))
       may_overwrite = let h = stored_before z v b word l has i key pair.stands in
           may_publish z v b word l has key long home (Some old) (Set value) w' _ overwritten_is there unworn storable
           (set_step (bounds_of z) (map_now v b) (length (known_at v.known b)) key old value there other unworn)
@@ -96,7 +98,8 @@ module _ (z : Sizes) (v : View) (b word : ℕ) (l : LockedBucket) (has : HasLock
       freed_is : w' ≡ with_lock v (Some (record l { now = with_value z l.now i free; stored = true }))
       freed_is = stored_is z v b word l has v i pair.pair.0 key 0 (stored_none z v b word l has i key) w' z.key_words free is
 
-      pub may_remove : MayPublish z w' b word (call_of w' b 1 (event key (Some old) Remove (Changed (Some old))))
+      pub may_remove : (linear : Bool) → HasMark word linear
+          → MayMark z w' b word linear (call_of w' b 1 (event key (Some old) Remove (Changed (Some old))))
       may_remove = let h = stored_none z v b word l has i key in
           may_publish z v b word l has key long home (Some old) Remove w' _ freed_is there unworn tt
           (remove_step (bounds_of z) (map_now v b) (length (known_at v.known b)) key old there unworn)

@@ -20,6 +20,7 @@ use crate::hashed_key::SeenBucket;
 use crate::open_bucket_search::has_other_pair;
 use bihash_steps::{CallerSeat, Event, Row};
 use bihash_words::{BucketWord, Change, Reply, Shape};
+use std::marker::Brand;
 
 /// Gives a reply that is no write, where the bucket still has the word that was seen.
 pub(crate) fn answer<S: Shape>(
@@ -39,7 +40,7 @@ pub(crate) fn answer<S: Shape>(
         change,
         reply,
     };
-    if !row.validate(seat, seen.hashed.bucket, seen.word, &event) {
+    if !row.validate::<Brand, Event<'_, S>>(seat, seen.hashed.bucket, seen.word, &event) {
         return Err(Contended);
     }
     Ok(reply)
@@ -64,7 +65,13 @@ pub(crate) fn overwrite<S: Shape>(
         change: Change::Set(value),
         reply: Reply::Changed(Some(pair.1)),
     };
-    row.publish(seat, seen.hashed.bucket, seen.word, &event);
+    row.publish::<Brand, Event<'_, S>>(
+        seat,
+        seen.hashed.bucket,
+        seen.word,
+        seen.word.linear(),
+        &event,
+    );
     Reply::Changed(Some(pair.1))
 }
 
@@ -87,7 +94,13 @@ pub(crate) fn fill<S: Shape>(
         change: Change::Set(value),
         reply: Reply::Changed(None),
     };
-    row.publish(seat, seen.hashed.bucket, seen.word, &event);
+    row.publish::<Brand, Event<'_, S>>(
+        seat,
+        seen.hashed.bucket,
+        seen.word,
+        seen.word.linear(),
+        &event,
+    );
     Reply::Changed(None)
 }
 
@@ -129,7 +142,13 @@ fn vacate<S: Shape>(
         change: Change::Remove,
         reply: Reply::Changed(Some(pair.1)),
     };
-    row.publish(seat, seen.hashed.bucket, seen.word, &event);
+    row.publish::<Brand, Event<'_, S>>(
+        seat,
+        seen.hashed.bucket,
+        seen.word,
+        seen.word.linear(),
+        &event,
+    );
     Reply::Changed(Some(pair.1))
 }
 

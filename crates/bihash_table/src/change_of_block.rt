@@ -22,6 +22,7 @@ use bihash_plan::{Plan, larger, lay};
 use bihash_rule::Extent;
 use bihash_steps::{Caller, CallerSeat, Event, Row};
 use bihash_words::{BlockSize, BucketWord, Change, Expiry, Reply, Shape};
+use std::marker::Brand;
 
 /// Enters a new pair that finds no place in the block that was seen: the block grows, or an expired pair makes
 /// room, or the call is refused.
@@ -99,7 +100,7 @@ fn enter<S: Shape>(
                 change: Change::Set(value),
                 reply: Reply::Changed(None),
             };
-            row.publish_block(seat, bucket, word, extent, &event);
+            row.publish_block::<Brand, Event<'_, S>>(seat, bucket, word, extent, &event);
             leave_store(row, seat, word);
             Ok(Reply::Changed(None))
         }
@@ -115,7 +116,7 @@ fn enter<S: Shape>(
                 change: Change::Set(value),
                 reply,
             };
-            row.cancel(seat, bucket, word, &event);
+            row.cancel::<Brand, Event<'_, S>>(seat, bucket, word, &event);
             Ok(reply)
         }
     }
@@ -172,7 +173,7 @@ pub(crate) fn remove_last<S: Shape>(
         change: Change::Remove,
         reply: Reply::Changed(Some(pair.1)),
     };
-    row.publish_block(seat, seen.hashed.bucket, seen.word, none, &event);
+    row.publish_block::<Brand, Event<'_, S>>(seat, seen.hashed.bucket, seen.word, none, &event);
     leave_store(row, seat, seen.word);
     Ok(Reply::Changed(Some(pair.1)))
 }

@@ -12,8 +12,9 @@ use crate::contended::Contended;
 use crate::entered_value::Entrant;
 use crate::hashed_key::SeenBucket;
 use bihash_plan::recycle;
-use bihash_steps::{CallerSeat, Event, Recycled, Row};
+use bihash_steps::{CallerSeat, Event, Row};
 use bihash_words::{Change, Expiry, Reply, Shape};
+use std::marker::Brand;
 
 /// A place of the block, the key of the pair that is there, and whether any place may hold any key once it is gone.
 #[derive(Drop)]
@@ -67,7 +68,8 @@ fn refuse<S: Shape, E: Expiry>(
         change: Change::Set(entrant.value),
         reply: Reply::Full,
     };
-    if !row.validate_full(seat, seen.hashed.bucket, seen.word, &event, entrant.expiry) {
+    let refusal = (event, entrant.expiry);
+    if !row.validate::<Brand, (Event<'_, S>, &E)>(seat, seen.hashed.bucket, seen.word, &refusal) {
         return Err(Contended);
     }
     Ok(Reply::Full)
@@ -94,12 +96,13 @@ fn replace<S: Shape, E: Expiry>(
         change: Change::Set(entrant.value),
         reply: Reply::Changed(None),
     };
-    let recycled = Recycled {
-        event,
-        removed: going.key,
-        expiry: entrant.expiry,
-        linear: going.linear,
-    };
-    row.publish_recycled(seat, seen.hashed.bucket, seen.word, &recycled);
+    let recycled = (event, going.key, entrant.expiry);
+    row.publish::<Brand, (Event<'_, S>, &S::Key, &E)>(
+        seat,
+        seen.hashed.bucket,
+        seen.word,
+        going.linear,
+        &recycled,
+    );
     Reply::Changed(None)
 }

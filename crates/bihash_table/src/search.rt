@@ -10,6 +10,7 @@ use crate::shared_table::Sessions;
 use bihash_steps::{Caller, Event};
 use bihash_words::{Change, Reply, Shape};
 use crossbeam_utils::Backoff;
+use std::marker::Brand;
 use std::sync::Wait;
 
 impl<S: Shape> Sessions<S> {
@@ -33,7 +34,10 @@ impl<S: Shape> Sessions<S> {
             change: Change::Keep,
             reply: Reply::Kept(found),
         };
-        if self.row.validate(seat, hashed.bucket, word, &event) {
+        if self
+            .row
+            .validate::<Brand, Event<'_, S>>(seat, hashed.bucket, word, &event)
+        {
             return Ok(found);
         }
         Err(Contended)

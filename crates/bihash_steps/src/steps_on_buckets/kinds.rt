@@ -69,8 +69,8 @@ impl<S: Shape> Play<(), View> for Releases<S> {
     ghost then = { λ _ me _ next. TellsEvent (sizes_of S.Shape) without_lock me next };
 }
 
-/// The call that a step answers.
-pub(crate) trait Calling {
+/// The call that a step answers. It is no value: a proof alone picks it, where `Brand` is passed.
+pub trait Calling {
     ghost call: { Call };
 }
 

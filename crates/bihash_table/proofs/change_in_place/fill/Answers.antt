@@ -47,6 +47,7 @@ publish-requires-clause-may g c =
     h.storable c.store_key.new.seat.view k c.store_word.new.seat.view
     (value_is_stored z c.store_key.new.seat c.store_word.new.seat (record h.lock { now = k.now; stored = k.stored })
     c.args.place c.args.value c.WORDS.result c.WORDS.ensures step)
+    c.linear.result c.linear.ensures
 
 pub returns : goal.returns
 returns g c =

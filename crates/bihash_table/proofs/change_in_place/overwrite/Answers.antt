@@ -34,6 +34,7 @@ publish-requires-clause-may g c =
     (g.S.Shape.words_of hashed.key.now) hashed.counted (sym hashed.home) h.unworn
     c.args.pair.0 c.args.pair.1 h.told c.args.value c.requires.other h.storable c.store_word.new.seat.view
     (value_is_stored z c.args.seat.now c.store_word.new.seat h.lock c.args.pair.0 c.args.value c.WORDS.result c.WORDS.ensures step)
+    c.linear.result c.linear.ensures
 
 pub returns : goal.returns
 returns g c =

@@ -34,6 +34,7 @@ publish-requires-clause-may g c =
     (g.S.Shape.words_of hashed.key.now) hashed.counted (sym hashed.home) h.unworn
     c.args.pair.0 c.args.pair.1 h.told.0 h.told.1.0 h.told.1.1 h.told.1.2 c.store_word.new.seat.view
     (value_is_stored z c.args.seat.now c.store_word.new.seat h.lock c.args.pair.0 _ c.WORDS.result c.WORDS.ensures step)
+    c.linear.result c.linear.ensures
 
 pub returns : goal.returns
 returns g c =

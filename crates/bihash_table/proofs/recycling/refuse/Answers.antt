@@ -8,11 +8,11 @@ use Rattle.bihash_table.proofs.SeenBuckets.{seen_answer}
 use Rattle.bihash_table.proofs.Tries.{over, over_full, tried_invalid}
 use Rattle.bihash_table.proofs.recycling.refuse.Goals as goal
 
-pub validate_full-requires-clause-at : goal.validate_full-requires-clause-at
-validate_full-requires-clause-at g c = record { own = c.requires.own; inside = c.requires.seen.seen.inside }
+pub validate-requires-clause-at : goal.validate-requires-clause-at
+validate-requires-clause-at g c = record { own = c.requires.own; inside = c.requires.seen.seen.inside }
 
-pub validate_full-requires-clause-may : goal.validate_full-requires-clause-may
-validate_full-requires-clause-may g c =
+pub validate-requires-clause-may : goal.validate-requires-clause-may
+validate-requires-clause-may g c =
     let hashed = c.args.seen.now.hashed in
     let h = c.requires.seen in
     seen_answer (sizes_of g.S.Shape) c.args.seat.now.view hashed.bucket c.args.seen.now.word h
@@ -21,12 +21,12 @@ validate_full-requires-clause-may g c =
     (record { long = hashed.counted; home = sym hashed.home }) refl (λ log2 left e. let c : ⊥ = cc in c)
     (λ told. told (map_now c.args.seat.now.view hashed.bucket) h.seen.pairs)
 
-pub returns-then-not-validate_full : goal.returns-then-not-validate_full
-returns-then-not-validate_full g c = over g.S.Shape _ _ _ _ _ _ (Err _)
-    (tried_invalid g.S.Shape _ _ _ _ _ _ (sym c.args.seen.now.hashed.home) _ c.requires.seen c.validate_full.ensures.lawful _
-    (c.validate_full.ensures.not c.if-not-validate_full.true)
-    (λ lone. true≢false (sym (c.validate_full.ensures.lone lone) ∙ c.if-not-validate_full.true)))
+pub returns-then-not-validate : goal.returns-then-not-validate
+returns-then-not-validate g c = over g.S.Shape _ _ _ _ _ _ (Err _)
+    (tried_invalid g.S.Shape _ _ _ _ _ _ (sym c.args.seen.now.hashed.home) _ c.requires.seen c.validate.ensures.lawful _
+    (c.validate.ensures.not c.if-not-validate.true)
+    (λ lone. true≢false (sym (c.validate.ensures.lone lone) ∙ c.if-not-validate.true)))
 
 pub returns : goal.returns
 returns g c = over_full g.S.Shape _ _ _ _ c.args.entrant.now.value _ (sym c.args.seen.now.hashed.home) _ c.requires.seen
-    c.validate_full.ensures.lawful c.validate_full.ensures.same (c.validate_full.ensures.valid c.if-not-validate_full.false)
+    c.validate.ensures.lawful c.validate.ensures.same (c.validate.ensures.valid c.if-not-validate.false)

@@ -22,8 +22,8 @@ store_word-requires g c = let h = c.requires in record {
   inside = let same = c.WORDS.ensures in omega arith;
 }
 
-pub publish_recycled-requires-clause-at : goal.publish_recycled-requires-clause-at
-publish_recycled-requires-clause-at g c =
+pub publish-requires-clause-at : goal.publish-requires-clause-at
+publish-requires-clause-at g c =
     let z = sizes_of g.S.Shape in let v = c.args.seat.now.view in let hashed = c.args.seen.now.hashed in
     let h = c.requires in
     let k = c.store_key.ensures.stored h.lock h.has in
@@ -31,8 +31,8 @@ publish_recycled-requires-clause-at g c =
     c.store_key.new.seat c.store_word.new.seat refl _ _ c.store_word.ensures in
     record { own = own_through c.store_key.new.seat _ _ step (own_through c.args.seat.now _ _ c.store_key.ensures.same h.own); inside = h.has.inside }
 
-pub publish_recycled-requires-clause-may : goal.publish_recycled-requires-clause-may
-publish_recycled-requires-clause-may g c =
+pub publish-requires-clause-may : goal.publish-requires-clause-may
+publish-requires-clause-may g c =
     let z = sizes_of g.S.Shape in let v = c.args.seat.now.view in let hashed = c.args.seen.now.hashed in
     let h = c.requires in
     let k = c.store_key.ensures.stored h.lock h.has in
@@ -51,13 +51,13 @@ returns g c =
     let k = c.store_key.ensures.stored h.lock h.has in
     let step = store_told z v hashed.bucket c.args.seen.now.word h.lock h.has c.store_key.new.seat.view c.args.going.now.place h.told.2.pair.pair.0 _ _ k
     c.store_key.new.seat c.store_word.new.seat refl _ _ c.store_word.ensures in
-    let done = entered_as c.publish_recycled.ensures in
-    finished_recycled g.S.Shape c.args.seat.now c.publish_recycled.new.caller hashed.key.now c.args.entrant.now.value
+    let done = entered_as c.publish.ensures in
+    finished_recycled g.S.Shape c.args.seat.now c.publish.new.caller hashed.key.now c.args.entrant.now.value
     (g.E.Expiry.is_expired c.args.entrant.now.expiry.now) (g.S.Shape.words_of c.args.going.now.key.now)
     h.told.2.value h.told.2.expired
-    (same_through c.args.seat.now c.store_word.new.seat c.publish_recycled.new.caller _
+    (same_through c.args.seat.now c.store_word.new.seat c.publish.new.caller _
     (same_through c.args.seat.now c.store_key.new.seat c.store_word.new.seat _ c.store_key.ensures.same step) done)
-    c.publish_recycled.ensures.lawful
+    c.publish.ensures.lawful
     (locks_pushed _ _ _ (ap (λ (c : CallerState). c.view.records) done)
     ∙ (ap (λ (c : CallerState). locks_of c.view.records) step ∙ ap (λ (v : View). locks_of v.records) k.is))
     (recycled z v hashed.bucket c.args.seen.now.word h.lock h.has (g.S.Shape.words_of hashed.key.now) hashed.counted (sym hashed.home) h.unworn
@@ -65,4 +65,4 @@ returns g c =
     c.args.going.now.place c.args.entrant.now.value h.told h.storable c.store_key.new.seat.view k c.store_word.new.seat.view
     (value_is_stored z c.store_key.new.seat c.store_word.new.seat (record h.lock { now = k.now; stored = k.stored })
     c.args.going.now.place c.args.entrant.now.value c.WORDS.result c.WORDS.ensures step)
-    c.publish_recycled.new.caller.view c.publish_recycled.ensures.entered)
+    c.publish.new.caller.view c.publish.ensures.entered)

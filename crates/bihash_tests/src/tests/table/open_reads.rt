@@ -8,6 +8,7 @@ use bihash_steps::Event;
 use bihash_table::{Caller, Sessions};
 use bihash_words::Reply::{Changed, Kept};
 use bihash_words::{Change, Reply};
+use std::marker::Brand;
 use std::test::Fail;
 
 // Whether the page of key 0 in bucket 0 goes to key 1 in bucket 1.
@@ -67,7 +68,7 @@ fn refuses_moved_page(
         change: Change::Keep,
         reply: Reply::Kept(Some(value)),
     };
-    Some(!row.validate(seat, 0, word, &event) && seat.stamp().is_none())
+    Some(!row.validate::<Brand, Event<'_, Eight>>(seat, 0, word, &event) && seat.stamp().is_none())
 }
 
 // Bucket 0 has page 1. The second caller reads the key there, the first one removes the pair and adds one to

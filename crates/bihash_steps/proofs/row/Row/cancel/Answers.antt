@@ -4,7 +4,7 @@ use Rattle.bihash_steps.specs.BucketSteps.{MayAnswer, view_after_answer}
 use Rattle.bihash_steps.proofs.Addresses.{answers_at}
 use Rattle.bihash_steps.proofs.bucket_steps.NextWords.{counted_answer}
 use Rattle.bihash_steps.proofs.SeatCounts.{entered_state, of_seat}
-use Rattle.bihash_steps.proofs.row.Row.cancel_as.Goals as goal
+use Rattle.bihash_steps.proofs.row.Row.cancel.Goals as goal
 
 pub store-requires : goal.store-requires
 store-requires g c = (

@@ -4,7 +4,7 @@ use Rattle.bihash_steps.specs.BucketSteps.{MayValidate}
 use Rattle.bihash_steps.proofs.Addresses.{validates_at}
 use Rattle.bihash_steps.proofs.bucket_steps.NextWords.{counted_valid}
 use Rattle.bihash_steps.proofs.SeatCounts.{can_act, of_seat}
-use Rattle.bihash_steps.proofs.row.Row.validate_as.Goals as goal
+use Rattle.bihash_steps.proofs.row.Row.validate.Goals as goal
 
 pub load-here-requires : goal.load-here-requires
 load-here-requires g c = (

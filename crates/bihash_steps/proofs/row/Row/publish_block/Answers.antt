@@ -6,7 +6,7 @@ use Rattle.bihash_steps.specs.StoreSteps.{MayReplace, view_after_replace}
 use Rattle.bihash_steps.proofs.Addresses.{replaces_at}
 use Rattle.bihash_steps.proofs.bucket_steps.NextWords.{version_rises, counted_write}
 use Rattle.bihash_steps.proofs.SeatCounts.{entered_state, can_act, of_seat}
-use Rattle.bihash_steps.proofs.row.Row.publish_block_as.Goals as goal
+use Rattle.bihash_steps.proofs.row.Row.publish_block.Goals as goal
 
 pub next-next-requires-clause-page : goal.next-next-requires-clause-page
 next-next-requires-clause-page g c =

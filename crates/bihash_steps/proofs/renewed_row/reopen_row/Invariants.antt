@@ -1,0 +1,8 @@
+-- The new row begins with what these words have.
+use Rattle.bihash_words.specs.Sizes.{sizes_of}
+use Rattle.bihash_rule.specs.Words.{used_mark_of}
+use Rattle.bihash_steps.proofs.RenewedRows.{openings_after}
+use Rattle.bihash_steps.proofs.renewed_row.reopen_row.Given as goal
+
+abbrev pub ghosts-with_all : goal.ghosts-with_all
+ghosts-with_all g a = record { openings = openings_after (sizes_of g.S.Shape) a.caller.now.view (used_mark_of a._words.now) }
