@@ -16,9 +16,9 @@ use bihash_words::{BucketWord, Shape};
 use std::alloc::{AllocError, Global};
 use std::marker::{Brand, PhantomData};
 
-mod kinds;
+mod lone_loads;
 
-use kinds::LoneLoads;
+use lone_loads::LoneLoads;
 
 impl<S: Shape> Row<S> {
     /// Word `at` of the row, which a lone caller loads after the words before it. It notes them until its next

@@ -11,10 +11,10 @@ use crate::row::{CallerSeat, Row};
 use bihash_rule::Extent;
 use bihash_words::{BlockSize, BucketWord, Shape};
 
-mod kinds;
+mod bucket_step_kinds;
 
-pub use kinds::Calling;
-use kinds::{
+pub use bucket_step_kinds::Calling;
+use bucket_step_kinds::{
     Answers, LockedStores, LockedWords, Locks, OpenWords, Publishes, Releases, Replaces, Sees,
     Validates,
 };

@@ -13,9 +13,9 @@ use bihash_words::Shape;
 use std::alloc::Global;
 use std::marker::{Brand, PhantomData};
 
-mod kinds;
+mod caller_step_kinds;
 
-use kinds::{Counts, Cut, Joins, Keeping, Meets, Numbers};
+use caller_step_kinds::{Counts, Cut, Joins, Keeping, Meets, Numbers};
 
 // Where the caller count stands.
 const COUNT: usize = 0;

@@ -12,10 +12,10 @@ use crate::row::{CallerSeat, Row};
 use crate::row_layout::{ALLOCATION_LOCK, USED_MARK};
 use bihash_words::Shape;
 
-mod kinds;
+mod page_store_step_kinds;
 mod word;
 
-use kinds::{
+use page_store_step_kinds::{
     HeldStores, Lists, PoolLocks, PoolOpens, PoolWords, Returns, TakesReturned, TakesUnused,
 };
 pub use word::PoolWord;
