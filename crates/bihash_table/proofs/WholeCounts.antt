@@ -1,7 +1,7 @@
 -- What a caller that counts the callers before a table ends knows of it, whether the table ends or not.
 use Rattle.std.proofs.Common.{◌≡◌, ◌≢◌, ◌∙◌, ◌<◌, ℕ, true, length, arith, eq-eqb, sym, ap, subst}
 use Rattle.bihash_words.specs.Sizes.{Sizes}
-use Rattle.bihash_steps.specs.CallerCalls.{HasCounted}
+use Rattle.bihash_steps.specs.CallerCalls.{HasCounted, IsIdle}
 use Rattle.bihash_rule.specs.Callers.{HasNumbers}
 use Rattle.bihash_steps.specs.Seats.{CallerState, with_view}
 use Rattle.bihash_steps.specs.Steps.{HaveBearers, IsToldWhole, view_after_count}
@@ -9,6 +9,7 @@ use Rattle.bihash_rule.specs.declared.view.Notes.{Notes}
 use Rattle.bihash_rule.specs.declared.view.View.{View}
 use Rattle.bihash_steps.proofs.Numbers.{few_numbers}
 use Rattle.bihash_table.specs.Closing.{LeavesStrangers, StaysWhole, WasWhole}
+use Rattle.bihash_table.specs.inner.PairLists.{IsIdleAndLone}
 use Rattle.bihash_table.specs.inner.RowWords.{HasNoted}
 
 -- what a caller is told that has all numbers does not rest on its notes
@@ -33,8 +34,18 @@ module _ (z : Sizes) (s t : CallerState) (count numbers : ℕ) (h : HasCounted z
     all : count ≡ length s.view.records
     all = same ∙ own
 
-    pub lone_then : t.view.lone ≡ true
+    lone_then : t.view.lone ≡ true
     lone_then = ap (λ (u : View). u.lone) is ∙ eq-eqb count (length s.view.records) all
+
+    -- it is idle then, as it was
+    pub idle_then : {row : _} → IsIdle row s → IsIdleAndLone z row t
+    idle_then idle = record {
+      own = ap (λ (c : CallerState). c.row) h.view ∙ idle.own;
+      free = ap (λ (u : View). u.holds) is ∙ idle.free;
+      lone = lone_then;
+      lawful = h.lawful;
+      bare = ap (λ (u : View). u.notes) is;
+    }
 
     pub was_whole : WasWhole z s.view
     was_whole = record {

@@ -1,11 +1,11 @@
-use Rattle.std.proofs.Common.{◌≡◌, refl, ap, subst, rules}
+use Rattle.std.proofs.Common.{◌≡◌, refl, ap, subst}
 use Rattle.bihash_words.specs.Sizes.{sizes_of}
 use Rattle.bihash_rule.specs.Words.{buckets}
 use Rattle.bihash_steps.specs.Seats.{CallerState}
 use Rattle.bihash_rule.specs.declared.view.Known.{Known}
 use Rattle.bihash_table.specs.inner.PairLists.{ListsBuckets}
 use Rattle.bihash_table.proofs.PairListLemmas.{sorted_pairs}
-use Rattle.bihash_table.proofs.WholeCounts.{stays_whole, strangers_left, was_whole}
+use Rattle.bihash_table.proofs.WholeCounts.{idle_then, stays_whole, strangers_left, was_whole}
 use Rattle.bihash_table.proofs.shared_table.Sessions.close.Goals as goal
 
 pub returns-then-load_count-numbers-clause-refused : goal.returns-then-load_count-numbers-clause-refused
@@ -14,13 +14,8 @@ returns-then-load_count-numbers-clause-refused g c =
     c.if-load_count-numbers.true in (refl, left.0, left.1)
 
 pub read_all-requires : goal.read_all-requires
-read_all-requires g c = record {
-  own = search rules;
-  free = search rules;
-  lone = search rules;
-  lawful = search rules;
-  bare = ap (λ (s : CallerState). s.view.notes) c.load_count.ensures.view;
-}
+read_all-requires g c =
+    idle_then (sizes_of g.S.Shape) c.args.caller.seat _ _ _ c.load_count.ensures c.numbers.ensures.count c.if-load_count-numbers.false c.requires
 
 pub returns-in-Ok-clause-whole : goal.returns-in-Ok-clause-whole
 returns-in-Ok-clause-whole g c =
