@@ -161,8 +161,8 @@ told_facts policy text packets outcome shown =
 
 -- the form of what is told behind lines of this form
 abbrev pub view_behind : Lines → View
-view_behind Plain = view.Explained
-view_behind Explained = view.Explained
+view_behind Plain = view.Text
+view_behind Explained = view.Text
 view_behind Json = view.Json
 
 -- the sessions, where they are asked for

@@ -181,7 +181,7 @@ fn view_behind(lines: Lines) -> View
     ensures { result ≡ Runs.view_behind lines }
 {
     match lines {
-        Lines::Plain | Lines::Explained => View::Explained,
+        Lines::Plain | Lines::Explained => View::Text,
         Lines::Json => View::Json,
     }
 }

@@ -1,5 +1,5 @@
 -- Entries of packets that are told one after the other.
-use Rattle.std.proofs.Common.{◌≡◌, ◌∙◌, ◌++◌, ◌+◌, ◌<◌, ◌≤◌, ℕ, zero, suc, List, [], ◌∷◌, Option, append-nil, append_assoc, ap, arith, drop, get_or, length, length-drop, refl, sym, take}
+use Rattle.std.proofs.Common.{◌≡◌, ◌∙◌, ◌++◌, ◌+◌, ◌<◌, ◌≤◌, ℕ, zero, suc, List, [], ◌∷◌, append-nil, append_assoc, ap, arith, drop, get_or, length, length-drop, refl, sym, take}
 use Rattle.std.proofs.Math.ListN.{drop_of_length-le}
 use Rattle.std.proofs.lemmas.List.{drop-drop}
 use Rattle.packet_view.specs.Captures.{PacketFacts}

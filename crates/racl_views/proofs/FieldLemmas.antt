@@ -1,10 +1,10 @@
 -- Fields of objects that are written one after the other.
-use Rattle.std.proofs.Common.{◌≡◌, ◌∙◌, ◌++◌, ℕ, List, [], ◌∷◌, Result, Ok, Err, IfOk, ap, append_assoc, refl, sym}
+use Rattle.std.proofs.Common.{◌≡◌, ◌∙◌, ◌++◌, ℕ, List, [], ◌∷◌, Result, IfOk, ap, append_assoc, refl, sym}
 use Rattle.json.specs.Token.{Token, begin_object, end_object}
 use Rattle.json.specs.Tree.{json_tokens, members_tokens}
 use Rattle.json.specs.Written.{Written}
 use Rattle.racl_views.specs.Objects.{Field, members_of, object_line, object_of}
-use Rattle.racl_views.specs.inner.Fields.{HasAdded, HasWritten, field_tokens, fields_tokens}
+use Rattle.racl_views.specs.inner.Fields.{HasAdded, field_tokens, fields_tokens}
 
 pub fields_tokens-append : (a b : List Field) → fields_tokens (a ++ b) ≡ fields_tokens a ++ fields_tokens b
 fields_tokens-append [] b = refl
@@ -21,12 +21,6 @@ pub object_tokens : (fields : List Field) → json_tokens (object_of fields) ≡
 object_tokens fields = ap (λ (ts : List Token). begin_object ∷ ts) (members_tokens-fields fields)
 
 -- one after the other
-pub written_both : (old mid new : Written) (a b : List Token) → HasWritten old mid a → HasWritten mid new b → HasWritten old new (a ++ b)
-written_both old mid new a b first second = record {
-  before = second.before ∙ first.before;
-  tokens_are = second.tokens_are ∙ ap (λ (ts : List Token). ts ++ b) first.tokens_are ∙ append_assoc old.tokens a b;
-}
-
 pub added_both : (old mid new : Written) (a b : List Field) → HasAdded old mid a → HasAdded mid new b → HasAdded old new (a ++ b)
 added_both old mid new a b first second = record {
   before = second.before ∙ first.before;
@@ -36,10 +30,8 @@ added_both old mid new a b first second = record {
 
 -- an object is done
 pub line_done : {V E : Type 0} (items : V → List ℕ) (text : List ℕ) (old new : Written) (fields : List Field) (result : Result V E)
-    → (old.before ≡ text) × (old.tokens ≡ begin_object ∷ []) → HasAdded old new fields
-    → ((others : List Field) → new.tokens ≡ begin_object ∷ fields_tokens others → IfOk result (λ v. items v ≡ new.before ++ object_line (object_of others)))
+    → (old.before ≡ []) × (old.tokens ≡ begin_object ∷ []) → HasAdded old new fields
+    → ((others : List Field) → new.before ≡ [] → new.tokens ≡ begin_object ∷ fields_tokens others → IfOk result (λ v. items v ≡ text ++ object_line (object_of others)))
     → IfOk result (λ v. items v ≡ text ++ object_line (object_of fields))
-line_done items text old new fields (Ok v) begins added ends =
-    ends fields (added.tokens_are ∙ ap (λ (ts : List Token). ts ++ fields_tokens fields) begins.1)
-    ∙ ap (λ (t : List ℕ). t ++ object_line (object_of fields)) (added.before ∙ begins.0)
-line_done items text old new fields (Err e) begins added ends = tt
+line_done items text old new fields result begins added ends =
+    ends fields (added.before ∙ begins.0) (added.tokens_are ∙ ap (λ (ts : List Token). ts ++ fields_tokens fields) begins.1)

@@ -7,6 +7,7 @@ pub mod CountLemmas
 pub mod EntryLemmas
 pub mod FieldLemmas
 pub mod FlowKeyLemmas
+pub mod LineFeeds
 pub mod LineLemmas
 pub mod ObjectDepths
 pub mod ObjectLemmas

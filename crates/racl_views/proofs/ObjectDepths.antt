@@ -1,8 +1,7 @@
 -- How deep objects nest, and that they are read back.
-use Rattle.std.proofs.Common.{◌≡◌, ◌++◌, ◌+◌, ◌≤◌, ◌==◌, ℕ, suc, List, [], ◌∷◌, Bool, true, false, arith, cond, max, refl}
-use Rattle.json.proofs.Printed.Trees.{document-print}
-use Rattle.json.specs.Json.{Json}
-use Rattle.json.specs.Tree.{HasNumbers, depth, members_depth}
+use Rattle.std.proofs.Common.{◌≡◌, ◌++◌, ◌≤◌, ◌==◌, ℕ, List, [], ◌∷◌, Bool, true, false, arith, cond, refl}
+use Rattle.json.proofs.Printed.Trees.{ArePrintable-json_tokens, document-print}
+use Rattle.json.specs.Tree.{HasNumbers, depth, json_tokens, members_depth}
 use Rattle.packet_view.specs.Frames.{FrameFacts, Ip, Malformed, NotIp, Short}
 use Rattle.packet_view.specs.declared.tuple.Direction.{Direction}
 use Rattle.packet_view.specs.declared.tuple.Direction.TheVariants.{Inbound, Outbound}
@@ -23,6 +22,7 @@ use Rattle.racl_views.specs.SessionLines.{FlowFacts, end_fields, ends_field, has
 use Rattle.racl_views.specs.declared.hit.Hit.{Hit}
 use Rattle.racl_views.specs.declared.hit.Hit.TheVariants as hit
 use Rattle.racl_views.specs.declared.rule_name.RuleLine.{RuleLine}
+use Rattle.racl_views.proofs.LineFeeds.{printed_line}
 
 -- the values of fields nest no deeper
 record NestUpTo (n : ℕ) (fields : List Field) : Type 0 where
@@ -36,7 +36,10 @@ both n (field ∷ a) b first second =
     record { few = omega arith }
 
 read_back : (n : ℕ) (fields : List Field) → NestUpTo n fields → n ≤ 100 → HasNumbers (object_of fields) → ReadsBack (object_of fields)
-read_back n fields nest small numbers = let few = nest.few in document-print (object_of fields) numbers (omega arith)
+read_back n fields nest small numbers =
+    let few = nest.few in
+    let value = object_of fields in
+    (printed_line false (json_tokens value) (ArePrintable-json_tokens value numbers), document-print value numbers (omega arith))
 
 flat_read_back : (fields : List Field) → NestUpTo 0 fields → HasNumbers (object_of fields) → ReadsBack (object_of fields)
 flat_read_back fields nest = read_back 0 fields nest (omega arith)

@@ -120,7 +120,7 @@ hit_object (hit.Matched count) = object_of (number (codes "sessions_matched") co
 hit_object (hit.Expired count) = object_of (number (codes "sessions_expired") count ∷ [])
 
 abbrev pub hit_told : View → Hit → List ℕ
-hit_told form.Explained it = hit_line it
+hit_told form.Text it = hit_line it
 hit_told form.Json it = object_line (hit_object it)
 
 -- ---- all of it

@@ -1,6 +1,6 @@
 -- Objects of JSON, one a line (RFC 8259).
-use Rattle.std.specs.Prelude.{◌≡◌, ℕ, List, [], ◌∷◌, ◌++◌, Some, codes, decimal}
-use Rattle.std.specs.List.{flat_map}
+use Rattle.std.specs.Prelude.{◌≡◌, ◌≢◌, ℕ, List, [], ◌∷◌, ◌++◌, Some, codes, decimal}
+use Rattle.std.specs.List.{AllByRecursion, flat_map}
 use Rattle.json.specs.Json as json
 use Rattle.json.specs.Json.{Json, Members, document, member, no_members}
 use Rattle.json.specs.Print.{print}
@@ -32,6 +32,10 @@ object_line value = print (json_tokens value) ++ codes "\n"
 abbrev pub object_lines : List Json → List ℕ
 object_lines values = flat_map object_line values
 
--- it is read back from its line
+-- no line feed is in it
+abbrev pub IsOneLine : List ℕ → Type 0
+IsOneLine text = AllByRecursion (λ byte. byte ≢ 10) text
+
+-- what is printed of it is one line, and read back
 abbrev pub ReadsBack : Json → Type 0
-ReadsBack value = document (print (json_tokens value)) ≡ Some value
+ReadsBack value = IsOneLine (print (json_tokens value)) × (document (print (json_tokens value)) ≡ Some value)

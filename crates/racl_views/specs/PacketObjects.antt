@@ -56,6 +56,7 @@ rule_fields verdict.Short = []
 abbrev pub verdict_fields : Verdict → List Field
 verdict_fields verdict = string (codes "verdict") (effect_word verdict) ∷ string (codes "reason") (reason_word verdict) ∷ rule_fields verdict
 
+-- the deciding rule's line, which is 0 where none did
 abbrev pub line_field : ℕ → List Field
 line_field line = if line == 0 then [] else number (codes "line") line ∷ []
 

@@ -125,7 +125,7 @@ session_object times flow session =
 -- ---- sessions in either form
 
 abbrev pub session_told : View → Timeouts → FlowFacts → SessionFacts → List ℕ
-session_told form.Explained times flow session = session_line times flow session
+session_told form.Text times flow session = session_line times flow session
 session_told form.Json times flow session = object_line (session_object times flow session)
 
 -- of a stored pair: nothing where its word is no session's, which no packet stores

@@ -5,17 +5,16 @@ ghost use Rattle.packet_view.specs.CheckedCaptures.{remaining};
 ghost use Rattle.acl_policy.specs.Policies.{IsPolicyText, policy_facts};
 ghost use Rattle.racl_io.specs.Reports.{packets_in, totals_line, totals_of};
 ghost use Rattle.racl_io.specs.Sinks.{HasPut, Writes};
-ghost use Rattle.racl_views.specs.Entries.{entry_facts};
-ghost use Rattle.racl_views.specs.ExplainedLines.{IsExplained, explained_line};
+ghost use Rattle.racl_views.specs.ExplainedLines.{IsExplained};
 ghost use Rattle.racl_views.specs.RunEntries.{captures_told, run_facts, told_from};
-ghost use Rattle.racl_views.specs.inner.Tellings.{HasPushed, entries_by, entry_by, line_by, texts_by, truncation_told};
+ghost use Rattle.racl_views.specs.inner.Tellings.{HasPushed, entries_by, entry_by, line_by, truncation_told};
 
 use crate::explained_line::push_explained;
-use crate::packet_entry::{Entry, Place};
+use crate::packet_entry::Place;
+use crate::packet_telling::Telling;
 use crate::passed_count::passed;
 use crate::rule_places::{entry_of, rule_table};
 use crate::run::Run;
-use crate::told_packets::Telling;
 use flow_filter::Verdict;
 use packet_view::{Packet, Packets};
 use racl_io::{
@@ -25,13 +24,13 @@ use racl_io::{
 use std::alloc::Global;
 
 /// Up to how many bytes a piece has room for one more line.
-const FULL: usize = 261_244;
+const FULL: usize = 261_402;
 
 // Sees that the piece has room for a line.
 fn make_room<W: Sink>(writer: &mut W, piece: &mut Piece) -> Result<(), Fault>
     requires { W.failures writer.old < 2 ^ 64 - 1 }
     ensures pushed { HasPushed W.bytes W.failures writer.old writer.new piece.old piece.new [] result }
-    ensures room { OnOk result (length piece.new + 900 ≤ 262144) }
+    ensures room { OnOk result (length piece.new + 742 ≤ 262144) }
 {
     if piece.as_slice().len() <= FULL {
         return Ok(());
@@ -39,13 +38,6 @@ fn make_room<W: Sink>(writer: &mut W, piece: &mut Piece) -> Result<(), Fault>
     write_all(writer, piece.as_slice())?;
     piece.clear();
     Ok(())
-}
-
-fn push_line(piece: &mut Piece, telling: Telling<'_, '_>, place: Place, entry: &Entry)
-    requires { length piece.old + 900 ≤ 262144 }
-    ensures { piece.new ≡ piece.old ++ explained_line (texts_by telling.entry) place.named place.number (entry_facts entry.now) }
-{
-    push_explained(piece, &telling.table.texts, place, entry);
 }
 
 // The line of a packet, where it has one.
@@ -67,7 +59,7 @@ fn tell<W: Sink>(
     }
     make_room(writer, piece)?;
     let entry = entry_of(telling.policy, &telling.table.lines, packet, verdict);
-    push_line(piece, telling, place, &entry);
+    push_explained(piece, &telling.table.texts, place, &entry);
     Ok(())
 }
 

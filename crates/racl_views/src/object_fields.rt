@@ -1,4 +1,4 @@
-//! Objects of JSON, written field by field behind a text (RFC 8259).
+//! Objects of JSON, written field by field (RFC 8259).
 ghost use Rattle.std.specs.Prelude.{◌≡◌, ◌<◌, ◌++◌, [], ◌∷◌, true, List, IfOk, OnOk, string_bytes};
 ghost use Rattle.json.specs.Json.{boolean};
 ghost use Rattle.json.specs.Token.{begin_object};
@@ -13,23 +13,28 @@ use std::alloc::AllocError;
 use std::fmt::Write;
 use std::net::{Ipv4Addr, Ipv6Addr};
 
-/// Begins an object behind a text. An `Err` of this and of what follows says that memory ran out.
-pub fn begin(text: Vec<u8>) -> Result<Writer, AllocError>
-    ensures { IfOk result (λ object. (object.before ≡ text.items) × (object.tokens ≡ begin_object ∷ [])) }
+// Most objects have fewer bytes.
+const OBJECT_BYTES: usize = 384;
+
+/// Begins an object whose line is put behind this text. It has bytes of its own: the writer fills some ahead, in proportion to what
+/// its bytes hold already. An `Err` of this and of what follows says that memory ran out.
+pub fn begin(text: &Vec<u8>) -> Result<Writer, AllocError>
+    ensures { IfOk result (λ object. (object.before ≡ []) × (object.tokens ≡ begin_object ∷ [])) }
 {
-    let mut object = Writer::new(text);
+    let mut object = Writer::new(Vec::with_capacity(*text.allocator(), OBJECT_BYTES)?);
     object.begin_object()?;
     Ok(object)
 }
 
-/// Ends the object, and its line.
-pub fn end(object: Writer) -> Result<Vec<u8>, AllocError>
-    ensures { (fields : List Field) → object.tokens ≡ begin_object ∷ fields_tokens fields
-        → IfOk result (λ text. text.items ≡ object.before ++ object_line (object_of fields)) }
+/// Ends the object, and puts its line behind the text.
+pub fn end(object: Writer, text: Vec<u8>) -> Result<Vec<u8>, AllocError>
+    ensures { (fields : List Field) → object.before ≡ [] → object.tokens ≡ begin_object ∷ fields_tokens fields
+        → IfOk result (λ new. new.items ≡ text.items ++ object_line (object_of fields)) }
 {
     let mut object = object;
     object.end_object()?;
-    let mut text = object.into_inner();
+    let mut text = text;
+    text.extend_from_slice(&object.into_inner())?;
     text.push(b'\n')?;
     Ok(text)
 }
@@ -61,29 +66,29 @@ pub fn add_true(object: &mut Writer, key: &str) -> Result<(), AllocError>
 
 // The text of an address.
 #[tactic(auto, unfolding(std::specs::Net::Addr::IsIpv4OfBits, std::specs::Net::Addr::IsIpv6OfBits))]
-fn write_address(room: &mut String, family: Family, address: u128) -> Result<(), AllocError>
-    requires { address < address_limit family }
-    ensures { OnOk result (string_bytes room.new ≡ address_text family address) }
+fn write_address(address: &mut String, family: Family, bits: u128) -> Result<(), AllocError>
+    requires { bits < address_limit family }
+    ensures { OnOk result (string_bytes address.new ≡ address_text family bits) }
 {
-    room.clear();
+    address.clear();
     match family {
-        Family::V4 => write!(room, "{}", Ipv4Addr::from_bits(address as u32)),
-        Family::V6 => write!(room, "{}", Ipv6Addr::from_bits(address)),
+        Family::V4 => write!(address, "{}", Ipv4Addr::from_bits(bits as u32)),
+        Family::V6 => write!(address, "{}", Ipv6Addr::from_bits(bits)),
     }
 }
 
-/// An address of this family, of which the text is made in the room.
+/// The address of these bits, of which the text is made in the room.
 pub fn add_address(
     object: &mut Writer,
-    room: &mut String,
+    address: &mut String,
     key: &str,
     family: Family,
-    address: u128,
+    bits: u128,
 ) -> Result<(), AllocError>
-    requires { address < address_limit family }
-    ensures { OnOk result (HasAdded object.old object.new (string key.now (address_text family address) ∷ [])) }
+    requires { bits < address_limit family }
+    ensures { OnOk result (HasAdded object.old object.new (string key.now (address_text family bits) ∷ [])) }
 {
-    write_address(room, family, address)?;
-    add_string(object, key, room.as_str())?;
+    write_address(address, family, bits)?;
+    add_string(object, key, address.as_str())?;
     Ok(())
 }

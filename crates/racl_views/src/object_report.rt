@@ -8,13 +8,13 @@ ghost use Rattle.racl_io.specs.Sinks.{Writes};
 ghost use Rattle.racl_views.specs.Objects.{object_line};
 ghost use Rattle.racl_views.specs.PacketObjects.{IsToldInObjects, totals_object};
 ghost use Rattle.racl_views.specs.RunEntries.{captures_told, run_facts, told_from};
-ghost use Rattle.racl_views.specs.inner.Tellings.{entries_by, entry_by, object_by, truncation_lines};
+ghost use Rattle.racl_views.specs.inner.Tellings.{entries_by, entry_by, object_by, truncation_by};
 
 use crate::packet_object::{push_packet, push_totals, push_truncation};
+use crate::packet_telling::Telling;
 use crate::passed_count::passed;
 use crate::rule_places::{entry_of, rule_table};
 use crate::run::Run;
-use crate::told_packets::Telling;
 use flow_filter::Verdict;
 use packet_view::{Packet, Packets};
 use racl_io::{Captured, Fault, Sink, Totals, has_line, totals_on, write_all};
@@ -23,7 +23,7 @@ use std::alloc::{AllocError, Global};
 // The object of a packet behind a text, where it is shown.
 fn tell(
     text: Vec<u8>,
-    room: &mut String,
+    address: &mut String,
     telling: Telling<'_, '_>,
     number: u64,
     packet: Packet<'_>,
@@ -35,13 +35,13 @@ fn tell(
         return Ok(text);
     }
     let entry = entry_of(telling.policy, &telling.table.lines, packet, verdict);
-    push_packet(text, room, number, &entry)
+    push_packet(text, address, number, &entry)
 }
 
 // The objects among these packets, of which the first has this number.
 fn tell_packets(
     text: Vec<u8>,
-    room: &mut String,
+    address: &mut String,
     telling: Telling<'_, '_>,
     first: u64,
     packets: &mut Packets<'_>,
@@ -58,7 +58,7 @@ fn tell_packets(
         let Some(packet) = packets.next() else {
             return Ok(told);
         };
-        told = tell(told, room, telling, number, packet, *verdict)?;
+        told = tell(told, address, telling, number, packet, *verdict)?;
         number += 1;
     }
     Ok(told)
@@ -66,7 +66,7 @@ fn tell_packets(
 
 // That of a truncation, where there is one.
 fn tell_truncation(text: Vec<u8>, captured: &Captured) -> Result<Vec<u8>, AllocError>
-    ensures { IfOk result (λ new. new.items ≡ text.items ++ truncation_lines captured.now) }
+    ensures { IfOk result (λ new. new.items ≡ text.items ++ truncation_by captured.now) }
 {
     if captured.truncated {
         return push_truncation(text, captured);
@@ -81,10 +81,10 @@ fn tell_captures(
     run: Run<'_>,
 ) -> Result<Vec<u8>, AllocError>
     requires { packets_in run.captures.now ≡ length run.verdicts.now }
-    ensures { IfOk result (λ told. told.items ≡ captures_told (λ _. object_by telling.entry) truncation_lines 1
+    ensures { IfOk result (λ told. told.items ≡ captures_told (λ _. object_by telling.entry) truncation_by 1
         (entries_by telling.entry (remaining run.entry.packets) run.entry.verdicts.now) run.entry.captures.now) }
 {
-    let mut room = String::new(alloc);
+    let mut address = String::new(alloc);
     let mut told = Vec::new(alloc);
     let mut packets = run.packets;
     let mut others = 0;
@@ -94,7 +94,7 @@ fn tell_captures(
         let (first, behind) = rest.split_at(captured.packets);
         told = tell_packets(
             told,
-            &mut room,
+            &mut address,
             telling,
             others as u64 + 1,
             &mut packets,

@@ -135,23 +135,23 @@ fn add_dest_fields(object: &mut Writer, fields: Fields) -> Result<(), AllocError
     }
 }
 
-fn add_tuple(object: &mut Writer, room: &mut String, tuple: &Tuple) -> Result<(), AllocError>
+fn add_tuple(object: &mut Writer, address: &mut String, tuple: &Tuple) -> Result<(), AllocError>
     ensures { OnOk result (HasAdded object.old object.new (tuple_fields (tuple_facts tuple.now))) }
 {
     add_number(object, "protocol", u64::from(tuple.proto))?;
-    add_address(object, room, "source", tuple.family, tuple.source)?;
+    add_address(object, address, "source", tuple.family, tuple.source)?;
     add_source_fields(object, tuple.fields)?;
-    add_address(object, room, "destination", tuple.family, tuple.dest)?;
+    add_address(object, address, "destination", tuple.family, tuple.dest)?;
     add_dest_fields(object, tuple.fields)?;
     Ok(())
 }
 
 // What the packet carries, where that is seen.
-fn add_carried(object: &mut Writer, room: &mut String, frame: &Frame) -> Result<(), AllocError>
+fn add_carried(object: &mut Writer, address: &mut String, frame: &Frame) -> Result<(), AllocError>
     ensures { OnOk result (HasAdded object.old object.new (carried_fields (frame_facts frame.now))) }
 {
     match frame {
-        Frame::Ip(_, tuple) => add_tuple(object, room, tuple),
+        Frame::Ip(_, tuple) => add_tuple(object, address, tuple),
         Frame::NotIp | Frame::Malformed | Frame::Short => Ok(()),
     }
 }
@@ -169,21 +169,21 @@ fn add_verdict(object: &mut Writer, verdict: Verdict) -> Result<(), AllocError>
 /// The object of the packet with this number behind a text. An `Err` of this and of what follows says that memory ran out.
 pub fn push_packet(
     text: Vec<u8>,
-    room: &mut String,
+    address: &mut String,
     number: u64,
     entry: &Entry,
 ) -> Result<Vec<u8>, AllocError>
     ensures { IfOk result (λ new. new.items ≡ text.items ++ object_line (packet_object number (entry_facts entry.now))) }
 {
-    let mut object = begin(text)?;
+    let mut object = begin(&text)?;
     add_number(&mut object, "packet", number)?;
     add_verdict(&mut object, entry.verdict)?;
     add_line(&mut object, entry.line)?;
     add_number(&mut object, "interface", u64::from(entry.interface))?;
     add_frame_way(&mut object, &entry.frame)?;
     add_number(&mut object, "time", u64::from(entry.moment))?;
-    add_carried(&mut object, room, &entry.frame)?;
-    end(object)
+    add_carried(&mut object, address, &entry.frame)?;
+    end(object, text)
 }
 
 fn number_of(named: Option<u8>) -> u64
@@ -199,19 +199,19 @@ fn number_of(named: Option<u8>) -> u64
 pub fn push_truncation(text: Vec<u8>, captured: &Captured) -> Result<Vec<u8>, AllocError>
     ensures { IfOk result (λ new. new.items ≡ text.items ++ object_line (truncation_object captured.now)) }
 {
-    let mut object = begin(text)?;
+    let mut object = begin(&text)?;
     add_number(&mut object, "interface", number_of(captured.named))?;
     add_number(&mut object, "truncated_after", captured.packets as u64)?;
-    end(object)
+    end(object, text)
 }
 
 /// That of the totals.
 pub fn push_totals(text: Vec<u8>, totals: &Totals) -> Result<Vec<u8>, AllocError>
     ensures { IfOk result (λ new. new.items ≡ text.items ++ object_line (totals_object totals.now)) }
 {
-    let mut object = begin(text)?;
+    let mut object = begin(&text)?;
     add_number(&mut object, "packets", totals.packets)?;
     add_number(&mut object, "pass", totals.passed)?;
     add_number(&mut object, "drop", totals.dropped)?;
-    end(object)
+    end(object, text)
 }

@@ -21,8 +21,8 @@ pub fn explained_lines_begin_as_the_report()
         × (line_of named n entry.verdict ≡ front ++ codes "\n") × (explained_line texts named n entry ≡ front ++ rest) }
 {}
 
-/// The line of an object, without its line feed, is a document that says this object, where the texts of its numbers are numbers:
-/// those of less than 2^64 are.
+/// The line of an object, up to its line feed, has no line feed and is a document that says this object, where the texts of its
+/// numbers are numbers: those of less than 2^64 are, and no others are written.
 pub fn objects_read_back()
     ensures numbers { (n : ℕ) → n < 2 ^ 64 → IsNumber (decimal n) }
     ensures packet { (n : ℕ) (entry : EntryFacts) → HasNumbers (packet_object n entry) → ReadsBack (packet_object n entry) }

@@ -1,10 +1,10 @@
-//! The forms in which a run is told.
+//! The forms in which hits and sessions are told.
 
-/// In which form a run is told.
+/// In which form hits and sessions are told.
 #[derive(Clone, Copy)]
 pub enum View {
-    /// Lines of text; those of packets say what these are, and which rule decided.
-    Explained,
+    /// Lines of text.
+    Text,
     /// Objects of JSON, one a line.
     Json,
 }

@@ -57,7 +57,7 @@ const SHORTER_TIMES: Timeouts = Timeouts {
 const HITS: [(Timeouts, View, &str); 3] = [
     (
         TIMES,
-        View::Explained,
+        View::Text,
         "interface 0 out rule 1 line 2 packets 1\n\
         interface 0 in rule 1 line 4 packets 1\n\
         interface 0 out rule 2 line 5 packets 0\n\
@@ -79,7 +79,7 @@ const HITS: [(Timeouts, View, &str); 3] = [
     ),
     (
         SHORTER_TIMES,
-        View::Explained,
+        View::Text,
         "interface 0 out rule 1 line 2 packets 1\n\
         interface 0 in rule 1 line 4 packets 1\n\
         interface 0 out rule 2 line 5 packets 0\n\
@@ -201,7 +201,7 @@ const OBJECTS: &str =
 #[test]
 fn sessions_that_are_stored(rt: HostRuntime) -> Result<(), Fail> {
     let stored = stored_of(rt.alloc(), &FOUR, &SIX)?;
-    for (view, told) in [(View::Explained, LINES), (View::Json, OBJECTS)] {
+    for (view, told) in [(View::Text, LINES), (View::Json, OBJECTS)] {
         let text = sessions_text(rt.alloc(), view, TIMES, &stored)?;
         assert_eq!(rt; text.as_slice(), told.as_bytes());
     }

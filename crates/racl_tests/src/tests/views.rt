@@ -146,7 +146,7 @@ fn told(
     };
     let mut report = Device::new(Vec::new(alloc));
     match view {
-        View::Explained => write_explained(alloc, &mut report, run)?,
+        View::Text => write_explained(alloc, &mut report, run)?,
         View::Json => write_objects(alloc, &mut report, run)?,
     };
     Ok(report.inner)
@@ -155,7 +155,7 @@ fn told(
 #[test]
 fn packets_and_the_rules_that_decided_them(rt: HostRuntime) -> Result<(), Fail> {
     for (interface, frame, verdict, explained, object) in ROWS {
-        let text = told(rt.alloc(), View::Explained, interface, frame, verdict)?;
+        let text = told(rt.alloc(), View::Text, interface, frame, verdict)?;
         assert_eq!(rt; text.as_slice(), explained.as_bytes());
         let text = told(rt.alloc(), View::Json, interface, frame, verdict)?;
         assert_eq!(rt; text.as_slice(), object.as_bytes());

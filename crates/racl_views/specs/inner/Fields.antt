@@ -12,12 +12,7 @@ field_tokens field = key field.0 ∷ json_tokens field.1
 abbrev pub fields_tokens : List Field → List Token
 fields_tokens fields = flat_map field_tokens fields
 
--- these tokens were written behind those that were, and what stands before them all is the same
-pub record HasWritten (old new : Written) (tokens : List Token) : Type 0 where
-  pub before : new.before ≡ old.before
-  pub tokens_are : new.tokens ≡ old.tokens ++ tokens
-
--- these fields were
+-- these fields were written behind the tokens that were, and what stands before them all is the same
 pub record HasAdded (old new : Written) (fields : List Field) : Type 0 where
   pub before : new.before ≡ old.before
   pub tokens_are : new.tokens ≡ old.tokens ++ fields_tokens fields

@@ -9,7 +9,7 @@ use Rattle.racl_io.specs.declared.fault.Fault.TheVariants.{Write}
 use Rattle.racl_io.specs.declared.report.Captured.{Captured}
 use Rattle.racl_io.specs.Reports.{truncation_line}
 use Rattle.racl_views.specs.declared.rule_table.RuleTable.{RuleTable}
-use Rattle.racl_views.specs.declared.told_packets.Telling.{Telling}
+use Rattle.racl_views.specs.declared.packet_telling.Telling.{Telling}
 use Rattle.racl_views.specs.Entries.{EntryFacts}
 use Rattle.racl_views.specs.ExplainedLines.{shown_line}
 use Rattle.racl_views.specs.Objects.{object_lines}
@@ -35,8 +35,8 @@ abbrev pub object_by : Telling → ℕ → EntryFacts → List ℕ
 object_by t n entry = object_lines (packet_objects t.shown n entry)
 
 -- that of a truncation
-abbrev pub truncation_lines : Captured → List ℕ
-truncation_lines captured = object_lines (truncation_objects captured)
+abbrev pub truncation_by : Captured → List ℕ
+truncation_by captured = object_lines (truncation_objects captured)
 
 -- the entries of packets with these verdicts
 abbrev pub entries_by : Telling → List PacketFacts → List Verdict → List EntryFacts

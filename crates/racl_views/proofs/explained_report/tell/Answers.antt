@@ -1,9 +1,9 @@
 use Rattle.std.proofs.Common.{◌≡◌, ◌∙◌, ◌++◌, ℕ, Bool, true, List, [], ap, append-nil, append_assoc, cond, rules, sym}
 use Rattle.packet_view.specs.Captures.{packet_facts}
 use Rattle.racl_io.specs.ShownReports.{is_shown}
-use Rattle.racl_views.specs.Entries.{EntryFacts, entry_facts}
+use Rattle.racl_views.specs.Entries.{entry_facts}
 use Rattle.racl_views.specs.ExplainedLines.{explained_line}
-use Rattle.racl_views.specs.inner.Tellings.{entry_by, line_by, texts_by}
+use Rattle.racl_views.specs.inner.Tellings.{entry_by, texts_by}
 use Rattle.racl_views.proofs.explained_report.tell.Goals as goal
 
 pub returns : goal.returns
@@ -22,7 +22,7 @@ returns g c =
         room.0.0,
         room.0.1,
         ap (λ (t : List ℕ). before ++ t) text ∙ ap (λ (t : List ℕ). t ++ line (entry_facts c.entry_of-entry.result)) (sym (append-nil before) ∙ room.0.2)
-            ∙ append_assoc room.0.0 mid _ ∙ ap (λ (t : List ℕ). room.0.0 ++ t) (sym c.push_line.ensures),
+            ∙ append_assoc room.0.0 mid _ ∙ ap (λ (t : List ℕ). room.0.0 ++ t) (sym (rw c.deref-2.ensures.value at c.push_explained.ensures.text)),
       ),
       room.1,
       tt,

@@ -1,4 +1,4 @@
-use Rattle.std.proofs.Common.{◌++◌, ◌∙◌, List, [], ℕ, Err, ap, map, refl, rules}
+use Rattle.std.proofs.Common.{◌++◌, List, [], ℕ, Err, ap, map, refl, rules}
 use Rattle.std.specs.Str.Lines.{lines}
 use Rattle.racl_io.specs.declared.fault.Fault.TheVariants.{Memory}
 use Rattle.racl_io.specs.Reports.{totals_line, totals_of}

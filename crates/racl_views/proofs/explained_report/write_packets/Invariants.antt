@@ -2,7 +2,7 @@ use Rattle.std.proofs.Common.{◌≡◌, ◌++◌, ◌+◌, List, ℕ, drop}
 use Rattle.std.specs.Io.KnownBytes.{Appends}
 use Rattle.packet_view.specs.CheckedCaptures.{remaining}
 use Rattle.racl_views.specs.RunEntries.{told_from}
-use Rattle.racl_views.specs.inner.Tellings.{entries_by, line_by, truncation_told}
+use Rattle.racl_views.specs.inner.Tellings.{entries_by, line_by}
 use Rattle.racl_views.proofs.explained_report.write_packets.Given as goal
 
 -- the lines so far were written or are in the piece

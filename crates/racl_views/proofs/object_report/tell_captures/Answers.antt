@@ -4,7 +4,7 @@ use Rattle.acl_policy.specs.Policies.{policy_facts}
 use Rattle.racl_io.proofs.ReportLemmas.{counted_behind}
 use Rattle.racl_views.specs.RunEntries.{captures_told, told_from}
 use Rattle.racl_views.specs.inner.EntryLists.{entries_on}
-use Rattle.racl_views.specs.inner.Tellings.{entries_by, object_by, truncation_lines}
+use Rattle.racl_views.specs.inner.Tellings.{entries_by, object_by, truncation_by}
 use Rattle.racl_views.proofs.CaptureTellings.{captures_more}
 use Rattle.racl_views.proofs.EntryLemmas.{entries-drop, entries-take}
 use Rattle.racl_views.proofs.object_report.tell_captures.Goals as goal
@@ -27,12 +27,12 @@ each-preserved c =
     let others = c.in_ok-told.ensures.left ∙ ap (λ (k : ℕ). drop k packets) c.split_at.ensures.front_len in
     let dropped = entries-drop policy rules captured.packets packets rest ∙ ap₂ (entries_on policy rules) (sym others) (sym c.split_at.ensures.back) in
     let lines = told_from (object_by telling) (c.each.others + 1) (entries_by telling packets first) in
-    let all = captures_more (λ _. object_by telling) truncation_lines c.each.told.items _ (c.each.others + 1) _ (entries_by telling packets rest) (entries_by telling packets first)
+    let all = captures_more (λ _. object_by telling) truncation_by c.each.told.items _ (c.each.others + 1) _ (entries_by telling packets rest) (entries_by telling packets first)
     (entries_by telling left behind) captured c.each.left.now c.in-Some.after.now inv.told_all parted taken dropped (omega arith) in
-    let both = c.in_ok-told-2.ensures ∙ ap (λ (t : List ℕ). t ++ truncation_lines captured) c.in_ok-told.ensures.told
-    ∙ append_assoc c.each.told.items lines (truncation_lines captured) in
+    let both = c.in_ok-told-2.ensures ∙ ap (λ (t : List ℕ). t ++ truncation_by captured) c.in_ok-told.ensures.told
+    ∙ append_assoc c.each.told.items lines (truncation_by captured) in
     record {
       counted = omega (arith, inv.counted, ap length cut, length-append first behind, c.split_at.ensures.front_len);
       fits = omega (arith, counted_behind rest captured c.each.left.now c.in-Some.after.now inv.fits parted, c.split_at.ensures.back_len);
-      told_all = ap (λ (t : List ℕ). t ++ captures_told (λ _. object_by telling) truncation_lines (c.each.others + captured.packets + 1) (entries_by telling left behind) c.in-Some.after.now) both ∙ all;
+      told_all = ap (λ (t : List ℕ). t ++ captures_told (λ _. object_by telling) truncation_by (c.each.others + captured.packets + 1) (entries_by telling left behind) c.in-Some.after.now) both ∙ all;
     }

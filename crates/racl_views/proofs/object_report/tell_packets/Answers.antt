@@ -6,7 +6,7 @@ use Rattle.acl_policy.specs.Policies.{policy_facts}
 use Rattle.racl_views.specs.Entries.{EntryFacts}
 use Rattle.racl_views.specs.RunEntries.{told_from}
 use Rattle.racl_views.specs.inner.EntryLists.{entries_on}
-use Rattle.racl_views.specs.inner.Tellings.{entries_by, entry_by, object_by}
+use Rattle.racl_views.specs.inner.Tellings.{entries_by, object_by}
 use Rattle.racl_views.proofs.EntryLemmas.{entries_next, left_more, left_none, no_entries, told_all}
 use Rattle.racl_views.proofs.object_report.tell_packets.Goals as goal
 
