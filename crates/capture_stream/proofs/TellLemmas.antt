@@ -24,7 +24,7 @@ use Rattle.racl_io.specs.Sinks.{GotFront, HasPutFront}
 use Rattle.racl_io.proofs.ReportLemmas.{cut_at, lines_of_both, passed_of_both, passed_or_dropped, totals_counted}
 use Rattle.capture_stream.specs.Lives.{HasToldAll, HasToldPart, HasToldSome, IsLiveFault, most_live, told_alone, with_read, with_write}
 use Rattle.capture_stream.specs.Telling.{AreTold, CanTell, HaveTold}
-use Rattle.capture_stream.specs.declared.tell_live.Live.{Live}
+use Rattle.capture_stream.specs.declared.live_telling.Live.{Live}
 use Rattle.capture_stream.specs.declared.judge_window.Found.{Found}
 use Rattle.capture_stream.specs.inner.Found.{HaveFound, behind_of}
 use Rattle.capture_stream.specs.inner.Tellings.{HasCutWindow, HasGot, HasJudgedWindow, HasToldWindow, IsCutAt, IsLive, IsPartFault, IsTold, IsWindowFault, MayTell, end_text, totals_with}

@@ -21,9 +21,9 @@ use Rattle.racl_io.specs.Inputs.{most_bytes}
 use Rattle.capture_stream.specs.Judging.{CanFollow, HaveFollowed}
 use Rattle.capture_stream.specs.Streams.{AreAllRead, HasLongRecord, HasStreamed, IsStreamFault, MayStream, records_in}
 use Rattle.capture_stream.specs.inner.Found.{HaveFound}
-use Rattle.capture_stream.specs.declared.judge_stream.Opening.{Opening}
-use Rattle.capture_stream.specs.declared.judge_stream.Streamed.{Streamed}
-use Rattle.capture_stream.specs.declared.judge_stream.Walk.{Walk}
+use Rattle.capture_stream.specs.declared.stream_judging.Opening.{Opening}
+use Rattle.capture_stream.specs.declared.stream_judging.Streamed.{Streamed}
+use Rattle.capture_stream.specs.declared.stream_judging.Walk.{Walk}
 use Rattle.capture_stream.specs.inner.Walks.{HasAdvanced, HasEnded, HasLongAhead, IsAmid, IsDrained, IsLastFault, IsWindowFault, MayAdvance, ahead_of, records_ahead, rest_of}
 
 -- less than one record is left where none is too long

@@ -5,8 +5,8 @@ use Rattle.packet_view.specs.Captures.{AreRecords, IsEnd, IsTooLong, PacketFacts
 use Rattle.racl_io.specs.declared.fault.Fault.{Fault}
 use Rattle.racl_io.specs.declared.fault.Fault.TheVariants.{LongRecord, Memory, Read, TooLarge}
 use Rattle.racl_io.specs.Inputs.{most_bytes}
-use Rattle.capture_stream.specs.declared.judge_stream.Opening.{Opening}
-use Rattle.capture_stream.specs.declared.judge_stream.Streamed.{Streamed}
+use Rattle.capture_stream.specs.declared.stream_judging.Opening.{Opening}
+use Rattle.capture_stream.specs.declared.stream_judging.Streamed.{Streamed}
 use Rattle.capture_stream.specs.declared.judge_window.WindowSize.{WindowSize}
 
 -- the bytes from the first record on, where these were read after the opening

@@ -2,8 +2,8 @@
 ghost use Rattle.std.specs.Prelude.{◌≡◌, ◌↔◌, [], IfOk, IsTrue};
 ghost use Rattle.acl_policy.specs.Policies.{IsPolicyText, PolicyFacts};
 
-use crate::check_policy::check_policy;
 use crate::complaint::{Checked, Complaint};
+use crate::policy_checking::check_policy;
 use crate::remark::Remark;
 use crate::remarks::remarks_on;
 use acl_policy::Policy;

@@ -2,13 +2,12 @@
 #![tactic(auto)]
 
 mod check_laws;
-mod check_policy;
-mod check_source;
 mod check_text;
 mod complaint;
 mod finding;
-mod foreign_mac;
+mod foreign_captures;
 mod line_finding;
+mod policy_checking;
 mod protocol_parts;
 mod reason;
 mod remark;
@@ -17,16 +16,17 @@ mod rule_head;
 mod rule_prefixes;
 mod rule_protocol;
 mod shadowing_rules;
+mod source_checking;
 mod unseen_characters;
 mod word_readers;
 
 pub use check_laws::checks_agree_with_runs;
-pub use check_policy::check_policy;
-pub use check_source::check_source;
 pub use check_text::{Told, tell};
 pub use complaint::{Checked, Complaint};
-pub use foreign_mac::{ForeignMac, foreign_mac};
+pub use foreign_captures::{ForeignMac, foreign_mac};
+pub use policy_checking::check_policy;
 pub use reason::Reason;
 pub use remark::Remark;
 pub use remarks::{no_mac, remarks_on};
 pub use shadowing_rules::takes_all;
+pub use source_checking::check_source;

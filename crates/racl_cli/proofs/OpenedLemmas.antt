@@ -23,7 +23,7 @@ use Rattle.racl_io.specs.Faults.{capture_fault}
 use Rattle.racl_io.specs.Inputs.{InputFacts, IsContent, IsInput, IsMarked, digits_of, is_blank, most_bytes}
 use Rattle.racl_io.specs.Transfers.{GaveAtMost, HasReadWithin}
 use Rattle.capture_stream.specs.Streams.{HasLongRecord, IsStreamFault, records_in}
-use Rattle.capture_stream.specs.declared.judge_stream.Opening.{Opening}
+use Rattle.capture_stream.specs.declared.stream_judging.Opening.{Opening}
 use Rattle.racl_cli.specs.Reads.{AnswersInput, AnswersRead, HasHeaded, HasJudged, HasRecordsAt, IsHeaded, IsSaid, IsUnnumbered, having_records}
 use Rattle.racl_cli.specs.Runs.{JudgedFacts}
 use Rattle.racl_cli.specs.declared.input_front.Headed.{Headed}

@@ -32,7 +32,7 @@ use Rattle.racl_io.specs.Faults.{IsFaultOfBytes, IsFaultOfContent, IsSystemFault
 use Rattle.racl_io.specs.Inputs.{IsContent, IsInput, InputFacts, most_bytes}
 use Rattle.racl_cli.specs.Crews.{AreAfter, AreIdleOf, AreSaidBy, Orders, orders_for, size_of, views_with}
 use Rattle.capture_stream.specs.Streams.{AreAllRead, records_in}
-use Rattle.capture_stream.specs.declared.judge_stream.Opening.{Opening}
+use Rattle.capture_stream.specs.declared.stream_judging.Opening.{Opening}
 use Rattle.flow_dealing.specs.WorkerRecords.{HavePages}
 use Rattle.racl_cli.specs.declared.judged_input.Ended.{Ended}
 use Rattle.racl_cli.specs.declared.sized_tables.SizedTables.{SizedTables}

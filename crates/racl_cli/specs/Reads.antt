@@ -18,7 +18,7 @@ use Rattle.racl_io.specs.declared.report.Captured.{Captured}
 use Rattle.racl_io.specs.Faults.{IsFaultOfBytes, Refuses}
 use Rattle.racl_io.specs.Inputs.{IsContent, IsInput, InputFacts, most_bytes}
 use Rattle.capture_stream.specs.Streams.{AreAllRead, records_in}
-use Rattle.capture_stream.specs.declared.judge_stream.Opening.{Opening}
+use Rattle.capture_stream.specs.declared.stream_judging.Opening.{Opening}
 use Rattle.racl_cli.specs.declared.input_front.Headed.{Headed}
 use Rattle.racl_cli.specs.declared.input_front.Marked.{Marked}
 use Rattle.racl_cli.specs.declared.input_front.Opened.{Opened}

@@ -8,11 +8,11 @@ mod exit_messages;
 mod input_front;
 mod judge_records;
 mod judged_input;
+mod live_run;
 mod message;
 mod numbered_captures;
 mod report_views;
 mod run_laws;
-mod run_live;
 mod save_packets;
 mod sized_tables;
 mod stored_sessions;
@@ -20,6 +20,7 @@ mod workers_as_judges;
 
 pub use end_to_end::{run, run_saving};
 pub use exit_messages::{ending, failure_ending, hint, remark, status, words_ending};
+pub use live_run::run_live;
 pub use message::{Ending, Hint, Message, Remark, Unopened};
 pub use racl_io::{
     Device, DeviceFault, Fault, Form, FrontKept, Joined, MOST_BYTES, Marked, Other, Sink, Source,
@@ -29,5 +30,4 @@ pub use racl_options::{
     Asked, Files, Lines, Options, Origin, Saved, TableSize, options, words_status,
 };
 pub use run_laws::{each_input_has_one_outcome, told_sessions_are_those_of_one_thread};
-pub use run_live::run_live;
 pub use save_packets::Saves;

@@ -14,7 +14,7 @@ use Rattle.racl_io.specs.Reports.{lines_from, passed, totals_line, truncation_li
 use Rattle.racl_io.specs.Sinks.{GotFront}
 use Rattle.capture_stream.specs.Lives.{HasToldSome, most_live}
 use Rattle.capture_stream.specs.Telling.{HaveTold}
-use Rattle.capture_stream.specs.declared.tell_live.Live.{Live}
+use Rattle.capture_stream.specs.declared.live_telling.Live.{Live}
 
 -- where telling may go on from: no more packets were told than bytes were read before the window
 pub record MayTell {J : Type 0} (Became : J → List PacketFacts → List Verdict → J → Type 0) (live : Live J) : Type 0 where

@@ -9,9 +9,9 @@ use Rattle.racl_io.specs.Inputs.{most_bytes}
 use Rattle.capture_stream.specs.Judging.{HaveFollowed}
 use Rattle.capture_stream.specs.Streams.{records_in}
 use Rattle.capture_stream.specs.inner.Found.{HaveFound, behind_of}
-use Rattle.capture_stream.specs.declared.judge_stream.Opening.{Opening}
-use Rattle.capture_stream.specs.declared.judge_stream.Streamed.{Streamed}
-use Rattle.capture_stream.specs.declared.judge_stream.Walk.{Walk}
+use Rattle.capture_stream.specs.declared.stream_judging.Opening.{Opening}
+use Rattle.capture_stream.specs.declared.stream_judging.Streamed.{Streamed}
+use Rattle.capture_stream.specs.declared.stream_judging.Walk.{Walk}
 
 -- the bytes that are not judged
 abbrev pub ahead_of : {J : Type 0} → Walk J → List ℕ

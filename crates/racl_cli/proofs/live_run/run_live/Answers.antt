@@ -1,0 +1,32 @@
+use Rattle.std.proofs.Common.{inl, inr, refl}
+use Rattle.std.proofs.lemmas.Result.{MatchResult-weaker}
+use Rattle.acl_policy.specs.Policies.{policy_facts}
+use Rattle.racl_cli.proofs.LiveLemmas.{early_fault, live_run}
+use Rattle.racl_cli.proofs.live_run.run_live.Goals as goal
+
+pub returns-in-Err-read_header-clause-told : goal.returns-in-Err-read_header-clause-told
+returns-in-Err-read_header-clause-told g c =
+    inl (
+      early_fault c.args.policy.now _ _ c.in-Err-read_header.fault (policy_facts c.in-Ok.policy) c.in-Ok.ensures.ok c.in-Err-read_header.ensures.header,
+      refl,
+    )
+
+pub returns-clause-told : goal.returns-clause-told
+returns-clause-told g c =
+    let policy = policy_facts c.in-Ok.policy in
+    let header = c.in-Ok-read_header.ensures.header in
+    MatchResult-weaker c.tell_capture.result c.tell_capture.ensures.told
+    (λ totals told. live_run c.args.options.now c.args.policy.now _ _ _ _ _ policy c.in-Ok-read_header.order totals c.in-Ok.ensures.ok header told)
+    (λ found told. inr (
+      record {
+        policy = policy;
+        says = c.in-Ok.ensures.ok;
+        header = header.header;
+        order = c.in-Ok-read_header.order;
+        right = header.headed.right;
+        whole = header.whole;
+        left = g.R.Source.bytes c.read_header.new.reader;
+        consumed = header.consumed;
+      },
+      told,
+    ))
