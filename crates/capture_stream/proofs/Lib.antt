@@ -1,2 +1,3 @@
+pub mod SpeltLemmas
 pub mod TellLemmas
 pub mod WalkLemmas

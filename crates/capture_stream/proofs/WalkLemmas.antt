@@ -82,11 +82,10 @@ pub front_follow : {J : Type 0} (Became : J → List PacketFacts → J → Type 
 front_follow Became walk records may same =
     let count = packets_count walk.order walk.found.count (ahead_of walk) in
     let size = ap length same in
-    let few = front_few Became walk may in
-    let before = may.count in
-    let earlier = length-map may.packets (packet_at 0) in
+    let within = records_within walk.order (ahead_of walk) (records_ahead walk) (rest_of walk) may.found.records in
+    let room = may.room in
     let later = length-map (records_of records) (packet_at records.interface) in
-    record { begun = may.begun; packets = packets_at 0 may.packets; stand = may.stand; fits = omega arith }
+    record { begun = may.begun; packets = may.packets; stand = may.stand; fits = omega arith }
 
 pub front_long : {J : Type 0} (walk : Walk J) → HaveFound walk.order (ahead_of walk) walk.found → walk.found.stop ≡ TooLong
     → HasLongAhead walk (walk.packets + walk.found.count + 1)
@@ -100,15 +99,23 @@ front_long walk found stop =
       counted = omega arith;
     }
 
+pub front_ended : {J : Type 0} (Became : J → List PacketFacts → J → Type 0) (walk : Walk J) (streamed : Streamed J)
+    → HaveFound walk.order (ahead_of walk) walk.found → IsEnd walk.order (rest_of walk) (end_of streamed.truncated)
+    → HaveFollowed Became walk.judges (packets_at walk.interface (records_ahead walk)) streamed.judges
+    → streamed.packets ≡ walk.packets + walk.found.count → HasEnded Became walk streamed
+front_ended Became walk streamed found end judged counted =
+    let count = packets_count walk.order walk.found.count (ahead_of walk) in
+    record { more = records_ahead walk; rest = rest_of walk; records = found.records; end = end; judged = judged; count = omega arith }
+
 -- the next window is what is left of this one, and what was read behind it
 pub front_advanced : {J : Type 0} (Became : J → List PacketFacts → J → Type 0) (old : Walk J) (before after : Option (List ℕ))
     (cleared front : List ℕ) (new : Walk J) → HaveFound old.order (ahead_of old) old.found
-    → HaveFollowed Became old.judges (packets_at 0 (records_ahead old)) new.judges
+    → HaveFollowed Became old.judges (packets_at old.interface (records_ahead old)) new.judges
     → (least : ℕ) → old.found.behind < least → HasRead before after front new.window.items least new.ended → cleared ≡ [] → front ≡ cleared ++ rest_of old
     → HaveFound old.order new.window.items new.found
     → new.packets ≡ old.packets + old.found.count → new.read ≡ old.read + (length new.window.items - old.found.behind) → new.read ≤ most_bytes
-    → new.order ≡ old.order → new.from ≡ 0 → HasAdvanced Became old before after new
-front_advanced Became old before after cleared front new all judged least more has_read empty filled found packets size bound order begins =
+    → new.order ≡ old.order → new.interface ≡ old.interface → new.from ≡ 0 → HasAdvanced Became old before after new
+front_advanced Became old before after cleared front new all judged least more has_read empty filled found packets size bound order seen begins =
     let rest = rest_of old in
     let behind = rest_length old all in
     let count = packets_count old.order old.found.count (ahead_of old) in
@@ -129,6 +136,7 @@ front_advanced Became old before after cleared front new all judged least more h
       size = omega arith;
       bound = bound;
       order = order;
+      interface = seen;
       within = omega arith;
       found = subst (λ (o : Order). HaveFound o (ahead_of new) new.found) (sym order)
           (subst (λ (b : List ℕ). HaveFound old.order b new.found) (sym whole) found);
@@ -156,17 +164,19 @@ is_false true not = absurd (not refl)
 is_false false not = refl
 
 module _ {J : Type 0} (Became : J → List PacketFacts → J → Type 0) (first : J) (opening : Opening) (before : Option (List ℕ))
-    (begun : opening.from ≤ length opening.bytes.items) where
+    (may : MayStream Became first opening before) where
   pub amid_may : (now : Option (List ℕ)) (walk : Walk J) → IsAmid Became first opening before now walk → MayAdvance Became walk
   amid_may now walk amid =
       let few = records_within opening.order (records_in opening amid.gone) amid.packets (ahead_of walk) amid.records in
       let size = length-drop opening.from (opening.bytes.items ++ amid.gone) in
       let all = length-append opening.bytes.items amid.gone in
+      let mine = length-map amid.packets (packet_at opening.interface) in
+      let both = length-append may.others (packets_at opening.interface amid.packets) in
       record {
-        packets = amid.packets;
-        begun = first;
-        stand = amid.stand;
-        count = amid.count;
+        begun = may.begun;
+        packets = may.others ++ packets_at opening.interface amid.packets;
+        stand = amid.judged may.begun may.others may.stand;
+        room = let e = amid.size in let f = amid.bound in let g = may.room in omega arith;
         within = amid.within;
         found = amid.found;
         few = let e = amid.size in let f = amid.count in omega arith;
@@ -174,10 +184,15 @@ module _ {J : Type 0} (Became : J → List PacketFacts → J → Type 0) (first 
       }
 
   -- packets that follow others are those of the records that follow theirs
-  followed : (packets more : List RecordFacts) (judges : J) → Became first (packets_at 0 packets ++ packets_at 0 more) judges
-      → Became first (packets_at 0 (packets ++ more)) judges
-  followed packets more judges =
-      subst (λ (ps : List PacketFacts). Became first ps judges) (sym (map-append (packet_at 0) packets more))
+  followed : (now : Option (List ℕ)) (walk : Walk J) (amid : IsAmid Became first opening before now walk) (more : List RecordFacts) (new : J)
+      → HaveFollowed Became walk.judges (packets_at walk.interface more) new
+      → HaveFollowed Became first (packets_at opening.interface (amid.packets ++ more)) new
+  followed now walk amid more new judged begun others stand =
+      let n = opening.interface in
+      let here = subst (λ (n : ℕ). HaveFollowed Became walk.judges (packets_at n more) new) amid.interface judged in
+      let same : (others ++ packets_at n amid.packets) ++ packets_at n more ≡ others ++ packets_at n (amid.packets ++ more) =
+      append_assoc others (packets_at n amid.packets) (packets_at n more) ∙ ap (λ ps. others ++ ps) (sym (map-append (packet_at n) amid.packets more)) in
+      subst (λ (ps : List PacketFacts). Became begun ps new) same (here begun (others ++ packets_at n amid.packets) (amid.judged begun others stand))
 
   -- the records in all that was read: those before, and those of the front of what was ahead, with more read behind
   joined : (now : Option (List ℕ)) (walk : Walk J) (amid : IsAmid Became first opening before now walk) (more : List RecordFacts) (rest read : List ℕ)
@@ -188,7 +203,7 @@ module _ {J : Type 0} (Became : J → List PacketFacts → J → Type 0) (first 
       let old = records_appended order (records_in opening amid.gone) read amid.packets (ahead_of walk) amid.records in
       let here : AreRecords order (ahead_of walk) more rest = subst (λ (o : Order). AreRecords o (ahead_of walk) more rest) amid.order records in
       let new = records_appended order (ahead_of walk) read more rest here in
-      subst (λ (b : List ℕ). AreRecords order b (amid.packets ++ more) (rest ++ read)) (sym (more_in opening amid.gone read begun))
+      subst (λ (b : List ℕ). AreRecords order b (amid.packets ++ more) (rest ++ read)) (sym (more_in opening amid.gone read may.within))
       (records_joined order (records_in opening amid.gone ++ read) amid.packets more (ahead_of walk ++ read) (rest ++ read) old new)
 
   joined_last : (now : Option (List ℕ)) (walk : Walk J) (amid : IsAmid Became first opening before now walk) (more : List RecordFacts) (rest : List ℕ)
@@ -221,11 +236,12 @@ module _ {J : Type 0} (Became : J → List PacketFacts → J → Type 0) (first 
         packets = amid.packets ++ step.more;
         records = subst (AreRecords opening.order (records_in opening (amid.gone ++ step.read)) (amid.packets ++ step.more)) (sym step.ahead)
             (joined now old amid step.more step.rest step.read step.records);
-        stand = followed amid.packets step.more new.judges (step.judged first (packets_at 0 amid.packets) amid.stand);
+        judged = followed now old amid step.more new.judges step.judged;
         count = let e = amid.count in let f = step.count in omega arith;
         size = let e = amid.size in let f = step.size in omega arith;
         bound = step.bound;
         order = step.order ∙ amid.order;
+        interface = step.interface ∙ amid.interface;
         within = step.within;
         found = step.found;
         ended = step.ended;
@@ -244,7 +260,8 @@ module _ {J : Type 0} (Became : J → List PacketFacts → J → Type 0) (first 
         rest = end.rest;
         records = joined_last now walk amid end.more end.rest end.records;
         end = subst (λ (o : Order). IsEnd o end.rest (end_of streamed.truncated)) amid.order end.end;
-        judged = followed amid.packets end.more streamed.judges (end.judged first (packets_at 0 amid.packets) amid.stand);
+        judged = followed now walk amid end.more streamed.judges end.judged;
+        count = let e = amid.count in let f = end.count in omega arith;
       }
 
   pub amid_last_fault : (now : Option (List ℕ)) (walk : Walk J) (found : Fault) → IsAmid Became first opening before now walk
@@ -306,9 +323,9 @@ module _ {J : Type 0} (Became : J → List PacketFacts → J → Type 0) (first 
 
 -- a walk begins amid the capture
 pub amid_begun : {J : Type 0} (Became : J → List PacketFacts → J → Type 0) (opening : Opening) (before : Option (List ℕ)) (walk : Walk J)
-    → MayStream Became walk.judges opening before → HaveFound walk.order (ahead_of walk) walk.found → walk.order ≡ opening.order → walk.window ≡ opening.bytes → walk.from ≡ opening.from
+    → MayStream Became walk.judges opening before → HaveFound walk.order (ahead_of walk) walk.found → walk.order ≡ opening.order → walk.interface ≡ opening.interface → walk.window ≡ opening.bytes → walk.from ≡ opening.from
     → walk.packets ≡ 0 → walk.read ≡ length opening.bytes.items → walk.ended ≡ opening.ended → IsAmid Became walk.judges opening before before walk
-amid_begun Became opening before walk may found order window begins none read ended =
+amid_begun Became opening before walk may found order seen window begins none read ended =
     let bytes = opening.bytes.items in
     let same : walk.window.items ≡ bytes = ap (λ (v : Vec ℕ Global). v.items) window in
     let ahead : records_in opening [] ≡ ahead_of walk =
@@ -318,11 +335,12 @@ amid_begun Became opening before walk may found order window begins none read en
       consumed = Consumes-nil before;
       packets = [];
       records = ahead;
-      stand = may.begun;
+      judged = λ begun others stand. subst (λ (ps : List PacketFacts). Became begun ps walk.judges) (sym (append-nil others)) stand;
       count = none;
       size = read ∙ sym (add-zero (length bytes));
       bound = let few = may.few in omega arith;
       order = order;
+      interface = seen;
       within = let within = may.within in let size = ap length same in omega arith;
       found = found;
       ended = λ e. may.ended (sym ended ∙ e);

@@ -1,10 +1,11 @@
 -- A capture that is judged while it is read: what was read, which packets were judged, and which faults there are.
-use Rattle.std.specs.Prelude.{◌≡◌, ◌+◌, ◌<◌, ◌≤◌, ◌++◌, ℕ, true, false, List, [], Option, drop, length, ⊤}
+use Rattle.std.specs.Prelude.{◌≡◌, ◌+◌, ◌<◌, ◌≤◌, ◌++◌, ◌^◌, ℕ, true, false, List, [], Option, drop, length, ⊤}
 use Rattle.std.specs.Io.KnownBytes.{Consumes, IsAtEnd}
 use Rattle.packet_view.specs.Captures.{AreRecords, IsEnd, IsTooLong, PacketFacts, RecordFacts, end_of, packets_at}
 use Rattle.racl_io.specs.declared.fault.Fault.{Fault}
 use Rattle.racl_io.specs.declared.fault.Fault.TheVariants.{LongRecord, Memory, Read, TooLarge}
 use Rattle.racl_io.specs.Inputs.{most_bytes}
+use Rattle.capture_stream.specs.Judging.{HaveFollowed}
 use Rattle.capture_stream.specs.declared.stream_judging.Opening.{Opening}
 use Rattle.capture_stream.specs.declared.stream_judging.Streamed.{Streamed}
 use Rattle.capture_stream.specs.declared.judge_window.WindowSize.{WindowSize}
@@ -20,7 +21,7 @@ pub record AreAllRead (before after : Option (List ℕ)) (opening : Opening) (re
   pub few : length opening.bytes.items + length read ≤ most_bytes
   pub all : opening.ended ≡ true → read ≡ []
 
--- the source gave all its bytes, and the packets of all records were judged as those of interface 0
+-- the source gave all its bytes, and those who judge judged the packets of all records after those so far
 pub record HasStreamed {J : Type 0} (Became : J → List PacketFacts → J → Type 0) (judges : J) (opening : Opening) (before after : Option (List ℕ))
     (streamed : Streamed J) : Type 0 where
   pub read : List ℕ
@@ -29,7 +30,8 @@ pub record HasStreamed {J : Type 0} (Became : J → List PacketFacts → J → T
   pub rest : List ℕ
   pub records : AreRecords opening.order (records_in opening read) packets rest
   pub end : IsEnd opening.order rest (end_of streamed.truncated)
-  pub judged : Became judges (packets_at 0 packets) streamed.judges
+  pub judged : HaveFollowed Became judges (packets_at opening.interface packets) streamed.judges
+  pub count : streamed.packets ≡ length packets
 
 -- the source gave all its bytes, and the record of this number, counted from 1, is the first that is too long
 pub record HasLongRecord (opening : Opening) (before after : Option (List ℕ)) (number : ℕ) : Type 0 where
@@ -50,9 +52,13 @@ IsStreamFault opening before after TooLarge =
 IsStreamFault opening before after (LongRecord number) = HasLongRecord opening before after number
 IsStreamFault opening before after fault = ⊥
 
--- where a capture may be judged from: its records begin within what was read, which isn't too much, and is all where the source has no more
+-- where a capture may be judged from: as whom those who judge began, and whatever packets they judged so far, there is room for those of an input; its records
+-- begin within what was read, which isn't too much, and is all where the source has no more
 pub record MayStream {J : Type 0} (Became : J → List PacketFacts → J → Type 0) (judges : J) (opening : Opening) (before : Option (List ℕ)) : Type 0 where
-  pub begun : Became judges [] judges
+  pub begun : J
+  pub others : List PacketFacts
+  pub stand : Became begun others judges
+  pub room : length others + most_bytes < 2 ^ 64
   pub within : opening.from ≤ length opening.bytes.items
   pub few : length opening.bytes.items ≤ most_bytes
   pub ended : opening.ended ≡ true → IsAtEnd before

@@ -20,6 +20,8 @@ pub struct Opening {
     pub from: usize,
     /// The order of their numbers.
     pub order: Order,
+    /// The number of the interface where its packets were seen.
+    pub interface: u8,
     /// Whether the source has no more.
     pub ended: bool,
 }
@@ -29,6 +31,8 @@ pub struct Opening {
 pub struct Streamed<J> {
     /// Those who judged all packets.
     pub judges: J,
+    /// How many packets the capture has.
+    pub packets: usize,
     /// Whether the capture ends within a record.
     pub truncated: bool,
 }
@@ -38,6 +42,7 @@ pub struct Streamed<J> {
 struct Walk<J> {
     judges: J,
     order: Order,
+    interface: u8,
     /// The bytes that were read and not judged, from place `from` on.
     window: Vec<u8>,
     from: usize,
@@ -69,6 +74,7 @@ fn next_window<J: Judges + Drop, T: Threads, R: Source + Send>(
     let Walk {
         judges,
         order,
+        interface,
         window,
         from,
         found,
@@ -95,7 +101,7 @@ fn next_window<J: Judges + Drop, T: Threads, R: Source + Send>(
     let records = Records {
         bytes: &window[from..],
         order,
-        interface: 0,
+        interface,
         count,
     };
     let more = size.beside(read).min(MOST_BYTES + 1 - read);
@@ -115,6 +121,7 @@ fn next_window<J: Judges + Drop, T: Threads, R: Source + Send>(
     Ok(Walk {
         judges,
         order,
+        interface,
         window: spare,
         from: 0,
         found,
@@ -133,6 +140,7 @@ fn last_window<J: Judges + Drop>(walk: Walk<J>) -> Result<Streamed<J>, Fault>
     let Walk {
         judges,
         order,
+        interface,
         window,
         from,
         found,
@@ -147,16 +155,20 @@ fn last_window<J: Judges + Drop>(walk: Walk<J>) -> Result<Streamed<J>, Fault>
     let records = Records {
         bytes: &window[from..],
         order,
-        interface: 0,
+        interface,
         count: found.count,
     };
     let judges = judges.judge(Packets::Records(records))?;
-    Ok(Streamed { judges, truncated })
+    Ok(Streamed {
+        judges,
+        packets: packets + found.count,
+        truncated,
+    })
 }
 
-/// Those who judge packets judge all of a capture, a window of this size at a time, to the end of the source, or until an
-/// input would be too long. Nothing is read where the opening is all. Where there is a runtime for threads, each next window is read beside. A fault of the capture
-/// is answered when all was read.
+/// Those who judge packets judge all of a capture after those so far, a window of this size at a time, to the end of the source,
+/// or until an input would be too long. Nothing is read where the opening is all. Where there is a runtime for threads, each
+/// next window is read beside. A fault of the capture is answered when all was read.
 pub fn judge_stream<J: Judges + Drop, T: Threads, R: Source + Send>(
     beside: Option<&T>,
     alloc: Global,
@@ -175,6 +187,7 @@ pub fn judge_stream<J: Judges + Drop, T: Threads, R: Source + Send>(
         bytes,
         from,
         order,
+        interface,
         ended,
     } = opening;
     let read = bytes.len();
@@ -182,6 +195,7 @@ pub fn judge_stream<J: Judges + Drop, T: Threads, R: Source + Send>(
     let mut walk = Walk {
         judges,
         order,
+        interface,
         window: bytes,
         from,
         found,

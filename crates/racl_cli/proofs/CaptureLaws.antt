@@ -1,7 +1,6 @@
 -- What stands after a marker line is one list of packets or has one fault.
-use Rattle.std.proofs.Common.{◌≡◌, ◌∙◌, ◌⊎◌, ℕ, Bool, true, false, List, [], ◌∷◌, ◌++◌, Option, Some, None, Result, Ok, Err, refl, sym, ap, ap₂, subst, inl, inr}
+use Rattle.std.proofs.Common.{◌≡◌, ◌≢◌, ◌∙◌, ◌⊎◌, ℕ, Bool, true, false, List, [], ◌∷◌, ◌++◌, Option, Some, None, Result, Ok, Err, refl, sym, ap, ap₂, subst, inl, inr}
 use Rattle.hex.specs.Hex.{decode_of}
-use Rattle.hex.proofs.HexLemmas.{decode_of-ok}
 use Rattle.packet_view.specs.Bytes.{AreBytes}
 use Rattle.packet_view.specs.Captures.{End, IsCapture, IsCaptureAt, PacketFacts, RecordFacts, Truncated, Whole, end_of, packets_at}
 use Rattle.packet_view.proofs.CutLemmas as captures
@@ -16,7 +15,6 @@ use Rattle.racl_io.specs.Inputs.{DigitsFacts, IsContent, NumberedFacts, digits_o
 use Rattle.racl_io.proofs.FaultLemmas.{AreRight, bytes_of_digits, captures_or_fault, no_captures_fault, one_captures_fault}
 use Rattle.racl_io.proofs.InputLemmas.{one_captures}
 use Rattle.racl_io.proofs.PartingLemmas.{some_captures}
-use Rattle.racl_cli.specs.Reads.{IsUnnumbered}
 use Rattle.racl_cli.specs.Runs.{AreTaken, HasPackets, IsAlone, IsTaken, told_of}
 use Rattle.racl_cli.specs.inner.Captures.{AreTakenFrom, IsFaultFrom}
 
@@ -38,10 +36,19 @@ one_content Binary content one other p q = p ∙ sym q
 one_content Hexadecimal content one other p q = cc
 one_content (Numbered number) content one other p q = absurd p
 
-bytes_of_capture : (form : Form) (content capture : List ℕ) → AreBytes content → IsContent form content capture → AreBytes capture
-bytes_of_capture Binary content capture fit is = subst AreBytes (sym is) fit
-bytes_of_capture Hexadecimal content capture fit is = (decode_of-ok (digits_of content) capture is).3
-bytes_of_capture (Numbered number) content capture fit is = absurd is
+-- the capture that it stands for is bytes
+abbrev pub AreFit : Form → List ℕ → Type 0
+AreFit form content = (capture : List ℕ) → IsContent form content capture → AreBytes capture
+
+pub fit_bytes : (form : Form) (content : List ℕ) → AreBytes content → AreFit form content
+fit_bytes Binary content fit capture is = subst AreBytes (sym is) fit
+fit_bytes Hexadecimal content fit capture is = bytes_of_digits content capture is
+fit_bytes (Numbered number) content fit capture is = absurd is
+
+pub fit_digits : (form : Form) (content : List ℕ) → form ≢ Binary → AreFit form content
+fit_digits Binary content digits capture is = absurd (digits refl)
+fit_digits Hexadecimal content digits capture is = bytes_of_digits content capture is
+fit_digits (Numbered number) content digits capture is = absurd is
 
 -- bytes are a capture of one list of packets and one end
 pub one_capture : (number : ℕ) (capture : List ℕ) (packets others : List PacketFacts) (truncated ends : Bool) → AreBytes capture
@@ -50,11 +57,11 @@ one_capture number capture packets others truncated ends fit one other =
     let both = captures.one_reading capture one.0 other.0 (end_of truncated) (end_of ends) fit one.1 other.1 in
     (one.2 ∙ ap (packets_at number) both.0 ∙ sym other.2, one_truncated truncated ends both.1)
 
-one_alone : (form : Form) (content : List ℕ) (ps qs : List PacketFacts) (cs ds : List Captured) → AreBytes content → IsAlone form content ps cs
+one_alone : (form : Form) (content : List ℕ) (ps qs : List PacketFacts) (cs ds : List Captured) → AreFit form content → IsAlone form content ps cs
     → IsAlone form content qs ds → AreSame ps qs cs ds
 one_alone form content ps qs cs ds fit a b =
     let moved = subst (λ c. IsCaptureAt 0 c ps (end_of a.truncated)) (one_content form content a.capture b.capture a.spelt b.spelt) a.records in
-    let same = one_capture 0 b.capture ps qs a.truncated b.truncated (bytes_of_capture form content b.capture fit b.spelt) moved b.records in
+    let same = one_capture 0 b.capture ps qs a.truncated b.truncated (fit b.capture b.spelt) moved b.records in
     (same.0, a.told ∙ ap₂ (λ x t. told_of None x t ∷ []) same.0 same.1 ∙ sym b.told)
 
 pub fault_of_known : (form : Form) (content capture : List ℕ) (fault : Fault) → IsContent form content capture → IsFaultOfOne form content fault
@@ -63,20 +70,20 @@ fault_of_known form content capture fault is (inl (same, none)) = absurd (none c
 fault_of_known form content capture fault is (inr (other, spelt, of)) =
     subst (λ c. IsFaultOfCapture c fault) (one_content form content other capture spelt is) of
 
-no_fault_of_one : (form : Form) (content : List ℕ) (packets : List PacketFacts) (told : List Captured) (fault : Fault) → AreBytes content
+no_fault_of_one : (form : Form) (content : List ℕ) (packets : List PacketFacts) (told : List Captured) (fault : Fault) → AreFit form content
     → IsAlone form content packets told → IsFaultOfOne form content fault → ⊥
 no_fault_of_one form content packets told fault fit is of =
     let found = fault_of_known form content is.capture fault is.spelt of in
-    captures.no_fault_too is.capture is.records.0 (end_of is.truncated) found.0 (bytes_of_capture form content is.capture fit is.spelt)
+    captures.no_fault_too is.capture is.records.0 (end_of is.truncated) found.0 (fit is.capture is.spelt)
     is.records.1 found.1
 
-one_fault_of_one : (form : Form) (content : List ℕ) (one other : Fault) → AreBytes content → IsFaultOfOne form content one
+one_fault_of_one : (form : Form) (content : List ℕ) (one other : Fault) → AreFit form content → IsFaultOfOne form content one
     → IsFaultOfOne form content other → one ≡ other
 one_fault_of_one form content one other fit (inl (same, none)) (inl (same', none')) = same ∙ sym same'
 one_fault_of_one form content one other fit (inl (same, none)) (inr (capture, spelt, of)) = absurd (none capture spelt)
 one_fault_of_one form content one other fit (inr (capture, spelt, of)) second =
     let also = fault_of_known form content capture other spelt second in
-    of.2 ∙ ap capture_fault (one_fault capture (bytes_of_capture form content capture fit spelt) of.0 also.0 of.1 also.1) ∙ sym also.2
+    of.2 ∙ ap capture_fault (one_fault capture (fit capture spelt) of.0 also.0 of.1 also.1) ∙ sym also.2
 
 -- a capture's packets, and how it ends
 record HasRecords (number : ℕ) (capture : List ℕ) : Type 0 where
@@ -181,21 +188,21 @@ from_or_fault seen number content =
 
 -- ---- what stands after any marker line
 
-pub one_packets : (form : Form) (content : List ℕ) (ps qs : List PacketFacts) (cs ds : List Captured) → AreBytes content
+pub one_packets : (form : Form) (content : List ℕ) (ps qs : List PacketFacts) (cs ds : List Captured) → AreFit form content
     → HasPackets form content ps cs → HasPackets form content qs ds → AreSame ps qs cs ds
 one_packets Binary content ps qs cs ds fit a b = one_alone Binary content ps qs cs ds fit a b
 one_packets Hexadecimal content ps qs cs ds fit a b = one_alone Hexadecimal content ps qs cs ds fit a b
 one_packets (Numbered number) content ps qs cs ds fit a b =
     one_from [] (Some (record { interface = number; content = content })) ps qs cs ds a b
 
-pub no_fault_of_packets : (form : Form) (content : List ℕ) (packets : List PacketFacts) (told : List Captured) (fault : Fault) → AreBytes content
+pub no_fault_of_packets : (form : Form) (content : List ℕ) (packets : List PacketFacts) (told : List Captured) (fault : Fault) → AreFit form content
     → HasPackets form content packets told → IsFaultOfContent form content fault → ⊥
 no_fault_of_packets Binary content packets told fault fit has of = no_fault_of_one Binary content packets told fault fit has of
 no_fault_of_packets Hexadecimal content packets told fault fit has of = no_fault_of_one Hexadecimal content packets told fault fit has of
 no_fault_of_packets (Numbered number) content packets told fault fit has of =
     no_fault_from [] (Some (record { interface = number; content = content })) packets told fault has of
 
-pub one_fault_of_content : (form : Form) (content : List ℕ) (one other : Fault) → AreBytes content → IsFaultOfContent form content one
+pub one_fault_of_content : (form : Form) (content : List ℕ) (one other : Fault) → AreFit form content → IsFaultOfContent form content one
     → IsFaultOfContent form content other → one ≡ other
 one_fault_of_content Binary content one other fit is also = one_fault_of_one Binary content one other fit is also
 one_fault_of_content Hexadecimal content one other fit is also = one_fault_of_one Hexadecimal content one other fit is also
@@ -209,6 +216,12 @@ packets_or_fault Hexadecimal content = digits_or_fault content (decode_of (digit
 packets_or_fault (Numbered number) content = from_or_fault [] number content
 
 -- ---- after a marker line of one capture
+
+-- a marker line without a number, and so of one capture
+abbrev pub IsUnnumbered : Form → Type 0
+IsUnnumbered Binary = Unit {0}
+IsUnnumbered Hexadecimal = Unit {0}
+IsUnnumbered (Numbered number) = ⊥
 
 pub plain_alone : (form : Form) (content : List ℕ) (packets : List PacketFacts) (told : List Captured) → IsUnnumbered form
     → HasPackets form content packets told → IsAlone form content packets told

@@ -18,7 +18,7 @@ use Rattle.racl_io.specs.Inputs.{IsInput, IsMarked, InputFacts, most_bytes}
 use Rattle.racl_io.proofs.PartingLemmas.{some_input}
 use Rattle.flow_filter.proofs.OneThreadLemmas.{one_verdicts, some_verdicts}
 use Rattle.racl_cli.specs.Runs.{ByOneThread, HasOutcome, HasPackets, IsRead, Outcome, layout_for}
-use Rattle.racl_cli.proofs.CaptureLaws.{no_fault_of_packets, one_fault_of_content, one_packets, packets_or_fault}
+use Rattle.racl_cli.proofs.CaptureLaws.{fit_bytes, no_fault_of_packets, one_fault_of_content, one_packets, packets_or_fault}
 use Rattle.racl_cli.proofs.RunLemmas.{fault_of_known_parts, read_in}
 
 -- ---- bytes within bytes
@@ -50,7 +50,7 @@ one_read : (bytes : List ℕ) (policy other : PolicyFacts) (packets others : Lis
 one_read bytes policy other packets others captures rest fit a b =
     let parts = b.parts in
     let first = read_in bytes parts policy packets captures b.parted a in
-    let both = one_packets parts.form parts.content packets others captures rest (bytes_of_content bytes parts fit b.parted) first.content b.content in
+    let both = one_packets parts.form parts.content packets others captures rest (fit_bytes parts.form parts.content (bytes_of_content bytes parts fit b.parted)) first.content b.content in
     record { policies = texts.one_policy (lines parts.policy) policy other first.says.1 b.says.1; all = both.0; told = both.1 }
 
 pub one_outcome : (size : TableSize) (times : Timeouts) (bytes : List ℕ) (one other : Outcome) → AreBytes bytes → HasOutcome size times bytes one → HasOutcome size times bytes other → one ≡ other
@@ -68,7 +68,7 @@ one_fault_of_parts parts one other fit (inl (cause, is, same)) (inl (cause', is'
     same ∙ ap policy_fault (texts.one_fault parts.policy cause cause' is is') ∙ sym same'
 one_fault_of_parts parts one other fit (inl (cause, is, same)) (inr (policy, says, of)) = absurd (texts.policy_or_fault parts.policy policy cause says is)
 one_fault_of_parts parts one other fit (inr (policy, says, of)) (inl (cause, is, same)) = absurd (texts.policy_or_fault parts.policy policy cause says is)
-one_fault_of_parts parts one other fit (inr (policy, says, of)) (inr (policy', says', of')) = one_fault_of_content parts.form parts.content one other fit of of'
+one_fault_of_parts parts one other fit (inr (policy, says, of)) (inr (policy', says', of')) = one_fault_of_content parts.form parts.content one other (fit_bytes parts.form parts.content fit) of of'
 
 one_fault_of_bytes : (bytes : List ℕ) (one other : Fault) → AreBytes bytes → IsFaultOfBytes bytes one → IsFaultOfBytes bytes other → one ≡ other
 one_fault_of_bytes bytes one other fit (inl (same, none)) (inl (same', none')) = same ∙ sym same'
@@ -89,7 +89,7 @@ no_fault_of_parts : (bytes : List ℕ) (policy : PolicyFacts) (packets : List Pa
 no_fault_of_parts bytes policy packets captures fault fit read (inl (cause, is, same)) = texts.policy_or_fault read.parts.policy policy cause read.says is
 no_fault_of_parts bytes policy packets captures fault fit read (inr (other, says, of)) =
     let parts = read.parts in
-    no_fault_of_packets parts.form parts.content packets captures fault (bytes_of_content bytes parts fit read.parted) read.content of
+    no_fault_of_packets parts.form parts.content packets captures fault (fit_bytes parts.form parts.content (bytes_of_content bytes parts fit read.parted)) read.content of
 
 pub no_fault_too : (size : TableSize) (times : Timeouts) (bytes : List ℕ) (outcome : Outcome) (fault : Fault) → AreBytes bytes → HasOutcome size times bytes outcome → IsInputFault bytes fault → ⊥
 no_fault_too size times bytes outcome fault fit has (inl (same, many)) = let few = has.read.few in omega (arith, few, many)

@@ -1,4 +1,5 @@
 pub mod CaptureLaws
+pub mod DigitLemmas
 pub mod InputLaws
 pub mod LiveLemmas
 pub mod OpenedLemmas

@@ -1,7 +1,5 @@
 -- What was read of an input up to the records of its capture, and what is answered of it once these are judged.
-use Rattle.std.specs.Io.KnownBytes.{IsAtEnd}
-use Rattle.std.specs.Global.{Vec}
-use Rattle.std.proofs.Common.{◌≡◌, ◌∙◌, ◌+◌, ◌-◌, ◌≤◌, ◌⊎◌, ℕ, Bool, true, false, true≢false, List, [], ◌∷◌, ◌++◌, Option, Some, None, IfOk, IfErr, Result, Ok, Err, is_some, drop, length, append-nil, append_assoc, arith, refl, sym, ap, subst, inl, inr}
+use Rattle.std.proofs.Common.{◌≡◌, ◌∙◌, ◌+◌, ◌-◌, ◌≤◌, ℕ, Bool, true, false, List, [], ◌∷◌, ◌++◌, Option, IfOk, IfErr, Result, Ok, Err, drop, length, append-nil, append_assoc, arith, refl, sym, ap, subst, inl, inr}
 use Rattle.std.proofs.Math.Seq.{drop-append-add}
 use Rattle.std.proofs.lemmas.List.{drop-append-le, length-append}
 use Rattle.std.proofs.lemmas.List.Filters.{length-filter_both}
@@ -16,19 +14,19 @@ use Rattle.packet_view.proofs.FrontLemmas.{behind_header_appended, header_append
 use Rattle.acl_policy.specs.Policies.{PolicyFacts, policy_facts}
 use Rattle.racl_options.specs.declared.settings.Options.{Options}
 use Rattle.racl_io.specs.declared.fault.Fault.{Fault}
-use Rattle.racl_io.specs.declared.fault.Fault.TheVariants.{Hex, Memory, Read, TooLarge, LongRecord}
+use Rattle.racl_io.specs.declared.fault.Fault.TheVariants.{Memory, Read, TooLarge, LongRecord}
 use Rattle.racl_io.specs.declared.input.Form.{Form}
 use Rattle.racl_io.specs.declared.input.Form.TheVariants.{Binary, Hexadecimal, Numbered}
 use Rattle.racl_io.specs.Faults.{capture_fault}
 use Rattle.racl_io.specs.Inputs.{InputFacts, IsContent, IsInput, IsMarked, digits_of, is_blank, most_bytes}
-use Rattle.racl_io.specs.Transfers.{GaveAtMost, HasReadWithin}
 use Rattle.capture_stream.specs.Streams.{HasLongRecord, IsStreamFault, records_in}
 use Rattle.capture_stream.specs.declared.stream_judging.Opening.{Opening}
-use Rattle.racl_cli.specs.Reads.{AnswersInput, AnswersRead, HasHeaded, HasJudged, HasRecordsAt, IsHeaded, IsSaid, IsUnnumbered, having_records}
+use Rattle.racl_cli.specs.Reads.{AnswersInput, AnswersRead, HasHeaded, HasJudged, IsHeaded, IsSaid}
 use Rattle.racl_cli.specs.Runs.{JudgedFacts}
 use Rattle.racl_cli.specs.declared.input_front.Headed.{Headed}
-use Rattle.racl_cli.proofs.OutcomeLemmas.{capture_answers, hex_answers, memory_answers, verdicts_answer}
-use Rattle.racl_cli.proofs.ReadLemmas.{all_known, gave_none, too_many_known}
+use Rattle.racl_cli.proofs.OutcomeLemmas.{capture_answers, verdicts_answer}
+use Rattle.racl_cli.proofs.CaptureLaws.{IsUnnumbered}
+use Rattle.racl_cli.proofs.ReadLemmas.{all_known, too_many_known}
 
 marked_appended : (capture marked more : List ℕ) → 24 ≤ length capture → IsMarked Binary capture marked → IsMarked Binary (capture ++ more) (marked ++ more)
 marked_appended capture marked more long (inl (line, marker, same)) =
@@ -107,17 +105,6 @@ header_answers options bytes parts policy parted said plain capture spelt found 
     capture_answers options bytes parts policy parted said plain capture spelt found (λ packets end all. none all.0 all.2)
     (fault_of_header capture found is) (header_one capture found none one)
 
--- digits that stand for no capture, or memory ran out
-pub digits_answer : (options : Options) (bytes : List ℕ) (parts : InputFacts) (policy : PolicyFacts) → IsInput bytes parts → IsSaid parts.policy policy
-    → parts.form ≡ Hexadecimal → (found : Fault)
-    → (found ≡ Memory) ⊎ ((found ≡ Hex) × ((capture : List ℕ) → IsContent Hexadecimal parts.content capture → ⊥))
-    → AnswersInput options bytes (Err found)
-digits_answer options bytes parts policy parted said form found (inl memory) =
-    subst (λ (e : Fault). AnswersInput options bytes (Err e)) (sym memory) (memory_answers options bytes parts policy parted said)
-digits_answer options bytes parts policy parted said form found (inr (hex, none)) =
-    subst (λ (e : Fault). AnswersInput options bytes (Err e)) (sym hex)
-    (hex_answers options bytes parts policy parted said (subst IsUnnumbered (sym form) tt) (λ capture is. none capture (subst (λ (f : Form). IsContent f parts.content capture) form is)))
-
 -- ---- a capture with a header
 
 -- all bytes of an input with a right policy, and where the records of its capture stand
@@ -138,12 +125,9 @@ abbrev as_it_is : List ℕ → List ℕ → InputFacts
 as_it_is text capture = record { policy = text; form = Binary; content = capture }
 
 -- a capture that stands in the input as it is
-in_binary : (bytes : List ℕ) (form : Form) (text content capture : List ℕ) → form ≡ Binary → IsContent form content capture
-    → IsInput bytes (record { policy = text; form = form; content = content }) → IsInput bytes (as_it_is text capture)
-in_binary bytes form text content capture same spelt is =
-    let plain : capture ≡ content = subst (λ (f : Form). IsContent f content capture) same spelt in
-    subst (λ (c : List ℕ). IsInput bytes (as_it_is text c)) (sym plain)
-    (subst (λ (f : Form). IsInput bytes (record { policy = text; form = f; content = content })) same is)
+in_binary : (bytes : List ℕ) (form : Form) (text content : List ℕ) → form ≡ Binary → IsInput bytes (record { policy = text; form = form; content = content })
+    → IsInput bytes (as_it_is text content)
+in_binary bytes form text content same is = subst (λ (f : Form). IsInput bytes (record { policy = text; form = f; content = content })) same is
 
 -- more bytes of the input are more bytes of its capture
 records_more : (bytes read : List ℕ) (policy : PolicyFacts) (order : Order) (text capture : List ℕ) (from : ℕ) → IsInput bytes (as_it_is text capture)
@@ -160,59 +144,18 @@ records_more bytes read policy order text capture from parted said header within
   behind = drop-append-le from bytes read within ∙ ap (λ (b : List ℕ). b ++ read) behind ∙ sym (behind_header_appended capture read header.right.whole);
 }
 
--- What an opening of the input is made of: its bytes, or those that its digits stand for, which are all there.
-abbrev pub HasBytes : List ℕ → Option (Vec ℕ) → List ℕ → Bool → Type 0
-HasBytes front None bytes ended = bytes ≡ front
-HasBytes front (Some decoded) bytes ended = (bytes ≡ decoded.items) × (ended ≡ true)
-
-pub has_bytes : (front bytes : List ℕ) (decoded : Option (Vec ℕ)) (ended : Bool) → bytes ≡ having_records front decoded
-    → (is_some decoded ≡ true → ended ≡ true) → HasBytes front decoded bytes ended
-has_bytes front bytes None ended same whole = same
-has_bytes front bytes (Some decoded) ended same whole = (same, whole refl)
-
-records_at : (options : Options) (front bytes read : List ℕ) (headed : Headed) (ended : Bool) (decoded : Option (Vec ℕ)) → decoded ≡ headed.decoded
-    → HasHeaded options front headed → HasBytes front decoded bytes ended → (ended ≡ true → read ≡ [])
-    → HasRecords (front ++ read) (policy_facts headed.filter.policy) headed.order (drop headed.from (bytes ++ read))
-records_at options front bytes read headed ended None none has same all =
-    let at : HasRecordsAt front has.parts has.capture headed.from None = subst (HasRecordsAt front has.parts has.capture headed.from) (sym none) has.records in
-    let plain = in_binary front has.parts.form has.parts.policy has.parts.content has.capture at.0 has.spelt has.parted in
-    let records = records_more front read (policy_facts headed.filter.policy) headed.order has.parts.policy has.capture headed.from plain has.policy has.header at.1 at.2 in
-    subst (λ (b : List ℕ). HasRecords (front ++ read) (policy_facts headed.filter.policy) headed.order (drop headed.from (b ++ read))) (sym same) records
-records_at options front bytes read headed ended (Some decoded) some has (same, whole) all =
-    let at : HasRecordsAt front has.parts has.capture headed.from (Some decoded) = subst (HasRecordsAt front has.parts has.capture headed.from) (sym some) has.records in
-    let none = all whole in
-    let behind : drop headed.from (bytes ++ []) ≡ drop 24 has.capture =
-    ap (drop headed.from) (append-nil bytes ∙ same ∙ at.1) ∙ ap (λ n. drop n has.capture) at.0 in
-    let records : HasRecords front (policy_facts headed.filter.policy) headed.order (drop headed.from (bytes ++ [])) = record {
-      parts = has.parts;
-      parted = has.parted;
-      said = has.policy;
-      plain = has.plain;
-      capture = has.capture;
-      spelt = has.spelt;
-      header = header_of headed.order has.capture has.header;
-      behind = behind;
-    } in
-    subst (λ (r : List ℕ). HasRecords (front ++ r) (policy_facts headed.filter.policy) headed.order (drop headed.from (bytes ++ r))) (sym none)
-    (subst (λ (b : List ℕ). HasRecords b (policy_facts headed.filter.policy) headed.order (drop headed.from (bytes ++ []))) (sym (append-nil front)) records)
+headed_records : (options : Options) (front read : List ℕ) (headed : Headed) → HasHeaded options front headed
+    → HasRecords (front ++ read) (policy_facts headed.filter.policy) headed.order (drop headed.from (front ++ read))
+headed_records options front read headed has =
+    let plain = in_binary front has.parts.form has.parts.policy has.parts.content has.form has.parted in
+    records_more front read (policy_facts headed.filter.policy) headed.order has.parts.policy has.parts.content headed.from plain has.policy has.header has.within has.behind
 
 -- an opening of the input stands where its records begin
 pub record IsOpeningOf (front : List ℕ) (headed : Headed) (opening : Opening) : Type 0 where
+  pub bytes : opening.bytes.items ≡ front
   pub from : opening.from ≡ headed.from
   pub order : opening.order ≡ headed.order
   pub few : length front ≤ most_bytes
-  pub bytes : HasBytes front headed.decoded opening.bytes.items opening.ended
-
--- all bytes of the input aren't too many where those of the opening aren't
-few_in_all : (front bytes read : List ℕ) (ended : Bool) (decoded : Option (Vec ℕ)) → HasBytes front decoded bytes ended → (ended ≡ true → read ≡ [])
-    → length front ≤ most_bytes → length bytes + length read ≤ most_bytes → length (front ++ read) ≤ most_bytes
-few_in_all front bytes read ended None same all few fits = let sizes = length-append front read in let e = ap length same in omega arith
-few_in_all front bytes read ended (Some decoded) (same, whole) all few fits =
-    let sizes = length-append front read in let none = ap length (all whole) in omega arith
-
-many_in_all : (front bytes : List ℕ) (ended : Bool) (decoded : Option (Vec ℕ)) → HasBytes front decoded bytes ended → ended ≡ false → bytes ≡ front
-many_in_all front bytes ended None same more = same
-many_in_all front bytes ended (Some decoded) (same, whole) more = absurd (true≢false (sym whole ∙ more))
 
 -- ---- sizes
 
@@ -231,64 +174,24 @@ content_short Binary content capture is = let e = ap length is in omega arith
 content_short Hexadecimal content capture is = digits_short content capture is
 content_short (Numbered number) content capture is = absurd is
 
-content_inside : (bytes : List ℕ) (parts : InputFacts) → IsInput bytes parts → length parts.content ≤ length bytes
-content_inside bytes parts is =
-    let whole = ap length is.parted in
-    let sizes = length-append parts.policy is.marked in
-    elim is.content [
-      | inl (line, marker, same) ↦ let marked = ap length same in let more = length-append line (10 ∷ parts.content) in omega arith
-      | inr (word, none) ↦ let empty = ap length none in omega arith
-    ]
-
--- the records of an opening begin within its bytes, and these aren't too many
-may_at : (options : Options) (front bytes : List ℕ) (headed : Headed) (ended : Bool) (decoded : Option (Vec ℕ)) → decoded ≡ headed.decoded
-    → HasHeaded options front headed → HasBytes front decoded bytes ended → length front ≤ most_bytes
-    → (headed.from ≤ length bytes) × (length bytes ≤ most_bytes)
-may_at options front bytes headed ended None none has same few =
-    let at : HasRecordsAt front has.parts has.capture headed.from None = subst (HasRecordsAt front has.parts has.capture headed.from) (sym none) has.records in
-    let within = at.1 in let e = ap length same in (omega arith, omega arith)
-may_at options front bytes headed ended (Some decoded) some has (same, whole) few =
-    let at : HasRecordsAt front has.parts has.capture headed.from (Some decoded) = subst (HasRecordsAt front has.parts has.capture headed.from) (sym some) has.records in
-    let begins = at.0 in
-    let all = ap length (same ∙ at.1) in
-    let header = has.header.right.whole in
-    let short = content_short has.parts.form has.parts.content has.capture has.spelt in
-    let inside = content_inside front has.parts has.parted in
-    (omega arith, omega arith)
-
-pub opening_may : (options : Options) (front bytes : List ℕ) (headed : Headed) (ended : Bool) → HasHeaded options front headed
-    → HasBytes front headed.decoded bytes ended → length front ≤ most_bytes → (headed.from ≤ length bytes) × (length bytes ≤ most_bytes)
-opening_may options front bytes headed ended has of few = may_at options front bytes headed ended headed.decoded refl has of few
-
--- what is read behind the bytes of an opening is read behind the input's
-pub within_front : {R X : Type 0} (left : R → Option (List ℕ)) (failures : R → ℕ) (before after : R) (front bytes : List ℕ) (ended : Bool)
-    (decoded : Option (Vec ℕ)) (result : Result X Fault) → HasBytes front decoded bytes ended → (ended ≡ true → IsAtEnd (left before))
-    → HasReadWithin left failures (most_bytes + 1 - length bytes) before after result
-    → HasReadWithin left failures (most_bytes + 1 - length front) before after result
-within_front left failures before after front bytes ended None result same at_end within = record {
-  gave = subst (λ n. GaveAtMost (left before) (left after) (most_bytes + 1 - n)) (ap length same) within.gave;
-  failed = within.failed;
-}
-within_front left failures before after front bytes ended (Some decoded) result (same, whole) at_end within = record {
-  gave = gave_none (left before) (left after) _ _ (at_end whole) within.gave;
-  failed = within.failed;
-}
-
 -- ---- what is answered
 
 module _ (options : Options) (front : List ℕ) (headed : Headed) (opening : Opening) (is : IsOpeningOf front headed opening) (has : HasHeaded options front headed) where
-  stands : (read : List ℕ) → (opening.ended ≡ true → read ≡ [])
-      → HasRecords (front ++ read) (policy_facts headed.filter.policy) opening.order (records_in opening read)
-  stands read all =
+  stands : (read : List ℕ) → HasRecords (front ++ read) (policy_facts headed.filter.policy) opening.order (records_in opening read)
+  stands read =
       subst (λ (o : Order). HasRecords (front ++ read) (policy_facts headed.filter.policy) o (records_in opening read)) (sym is.order)
       (subst (λ n. HasRecords (front ++ read) (policy_facts headed.filter.policy) headed.order (drop n (opening.bytes.items ++ read))) (sym is.from)
-      (records_at options front opening.bytes.items read headed opening.ended headed.decoded refl has is.bytes all))
+      (subst (λ (b : List ℕ). HasRecords (front ++ read) (policy_facts headed.filter.policy) headed.order (drop headed.from (b ++ read))) (sym is.bytes)
+      (headed_records options front read headed has)))
+
+  few_in_all : (read : List ℕ) → length opening.bytes.items + length read ≤ most_bytes → length (front ++ read) ≤ most_bytes
+  few_in_all read fits = let sizes = length-append front read in let same = ap length is.bytes in omega arith
 
   judged_answers : (before after : Option (List ℕ)) (met : JudgedFacts) → HasJudged options (policy_facts headed.filter.policy) opening before after met
       → AnswersRead options front before (Ok met)
   judged_answers before after met judged =
-      let at = stands judged.read judged.whole.all in
-      let few = few_in_all front opening.bytes.items judged.read opening.ended headed.decoded is.bytes judged.whole.all is.few judged.whole.few in
+      let at = stands judged.read in
+      let few = few_in_all judged.read judged.whole.few in
       let all : AreRecords opening.order (drop 24 at.capture) judged.packets judged.rest =
       subst (λ (b : List ℕ). AreRecords opening.order b judged.packets judged.rest) at.behind judged.records in
       inr (record {
@@ -302,8 +205,8 @@ module _ (options : Options) (front : List ℕ) (headed : Headed) (opening : Ope
   long_answers : (before after : Option (List ℕ)) (number : ℕ) → HasLongRecord opening before after number
       → AnswersRead options front before (Err (LongRecord number))
   long_answers before after number long =
-      let at = stands long.read long.whole.all in
-      let few = few_in_all front opening.bytes.items long.read opening.ended headed.decoded is.bytes long.whole.all is.few long.whole.few in
+      let at = stands long.read in
+      let few = few_in_all long.read long.whole.few in
       let all : AreRecords opening.order (drop 24 at.capture) long.packets long.rest =
       subst (λ (b : List ℕ). AreRecords opening.order b long.packets long.rest) at.behind long.records in
       inr (record {
@@ -320,7 +223,7 @@ module _ (options : Options) (front : List ℕ) (headed : Headed) (opening : Ope
   fault_answers before after Memory of = inl (Memory, refl, inl refl)
   fault_answers before after Read of = inl (Read, refl, inr (inl refl))
   fault_answers before after TooLarge (more, gone, consumed, many) =
-      let same = ap length (many_in_all front opening.bytes.items opening.ended headed.decoded is.bytes more) in
+      let same = ap length is.bytes in
       inl (TooLarge, refl, inr (inr (refl, too_many_known (length front) before after gone consumed (omega arith))))
   fault_answers before after (LongRecord number) of = long_answers before after number of
   fault_answers before after fault of = absurd of

@@ -25,7 +25,7 @@ use Rattle.flow_dealing.proofs.Places.{zip_count}
 use Rattle.racl_options.specs.declared.settings.Options.{Options}
 use Rattle.racl_options.specs.declared.settings.TableSize.{TableSize}
 use Rattle.racl_io.specs.declared.fault.Fault.{Fault}
-use Rattle.racl_io.specs.declared.fault.Fault.TheVariants.{Hex, Memory, NoCapture, Write}
+use Rattle.racl_io.specs.declared.fault.Fault.TheVariants.{Memory, NoCapture, Write}
 use Rattle.racl_io.specs.declared.report.Captured.{Captured}
 use Rattle.racl_io.specs.declared.report.Totals.{Totals}
 use Rattle.racl_io.specs.Faults.{IsFaultOfBytes, IsFaultOfContent, IsSystemFault, capture_fault, policy_fault}
@@ -37,12 +37,12 @@ use Rattle.flow_dealing.specs.WorkerRecords.{HavePages}
 use Rattle.racl_cli.specs.declared.judged_input.Ended.{Ended}
 use Rattle.racl_cli.specs.declared.sized_tables.SizedTables.{SizedTables}
 use Rattle.racl_cli.specs.declared.sized_tables.SizedWorkers.{SizedWorkers}
-use Rattle.racl_cli.specs.Reads.{AnswersInput, AreKnown, HasJudged, HasKept, IsReached, IsSaid, IsUnnumbered}
+use Rattle.racl_cli.specs.Reads.{AnswersInput, AreKnown, HasJudged, HasKept, IsReached, IsSaid}
 use Rattle.racl_cli.specs.inner.Stored.{HasStored}
 use Rattle.racl_cli.specs.inner.Streams.{HasEnded}
 use Rattle.racl_cli.specs.inner.Views.{HasReport, MayTell, needs_bytes}
 use Rattle.racl_cli.specs.Runs.{AreStoredOf, ByOneThread, ByWorkers, HasOutcome, HasRun, IsRead, JudgedFacts, Outcome, bucket_deal, layout_for, told_of}
-use Rattle.racl_cli.proofs.CaptureLaws.{alone_plain, fault_of_known, fault_plain, one_truncated, plain_alone, plain_fault}
+use Rattle.racl_cli.proofs.CaptureLaws.{IsUnnumbered, alone_plain, fault_of_known, fault_plain, one_truncated, plain_fault}
 use Rattle.racl_cli.proofs.RunLemmas.{alone_in_capture, fault_of_known_parts, fault_of_right_policy, fault_of_wrong_policy, fault_without_parts, read_in}
 
 abbrev pub outcome_of : List Verdict → List Captured → Outcome
@@ -172,20 +172,6 @@ module _ (options : Options) (bytes : List ℕ) (parts : InputFacts) (policy : P
   -- memory ran out
   pub memory_answers : AnswersInput options bytes (Err Memory)
   memory_answers = record { ok = tt; accepts = λ policy packets captures read. refl; fault = λ differs. absurd (differs refl); refuses = λ fault of. inr refl }
-
-  -- its content isn't digits, two for each byte
-  pub hex_answers : IsUnnumbered parts.form → ((capture : List ℕ) → IsContent parts.form parts.content capture → ⊥) → AnswersInput options bytes (Err Hex)
-  hex_answers plain none = record {
-    ok = tt;
-    accepts = λ policy packets captures read.
-        let is = plain_alone parts.form parts.content packets captures plain (read_in bytes parts policy packets captures parted read).content in
-        absurd (none is.capture is.spelt);
-    fault = λ differs. inr (parts, parted, inr (policy, said.says, fault_plain parts.form parts.content Hex plain (inl (refl, none))));
-    refuses = λ fault of. elim (plain_fault parts.form parts.content fault plain (known_fault fault of)) [
-      | inl wrong ↦ inl (sym wrong.0)
-      | inr right ↦ absurd (none right.0 right.1)
-    ];
-  }
 
   module _ (plain : IsUnnumbered parts.form) (capture : List ℕ) (spelt : IsContent parts.form parts.content capture) where
     -- its capture is refused

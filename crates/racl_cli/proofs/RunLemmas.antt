@@ -17,9 +17,9 @@ use Rattle.racl_io.proofs.TransferLemmas.{gave_none}
 use Rattle.racl_options.specs.declared.settings.Options.{Options}
 use Rattle.packet_view.specs.declared.capture.CaptureFault.{CaptureFault}
 use Rattle.packet_view.specs.declared.capture.CaptureFault.TheVariants as capture
-use Rattle.racl_cli.specs.Reads.{AnswersInput, IsUnnumbered}
+use Rattle.racl_cli.specs.Reads.{AnswersInput}
 use Rattle.racl_cli.specs.Runs.{HasPackets, IsRead, JudgedFacts, told_of}
-use Rattle.racl_cli.proofs.CaptureLaws.{one_content, plain_alone}
+use Rattle.racl_cli.proofs.CaptureLaws.{IsUnnumbered, one_content, plain_alone}
 
 -- a policy and captures as these parts say them
 pub record IsReadIn (parts : InputFacts) (policy : PolicyFacts) (packets : List PacketFacts) (captures : List Captured) : Type 0 where

@@ -3,9 +3,7 @@ use Rattle.std.proofs.Common.{◌≡◌, ◌∙◌, ◌+◌, ◌-◌, ◌≤◌,
 use Rattle.std.specs.List.{list_any}
 use Rattle.std.proofs.lemmas.Bool.{cases_eq, eq-eqb, ne_eqb}
 use Rattle.std.proofs.lemmas.List.{length-append, length-drop, length-map, take_all}
-use Rattle.packet_view.specs.Captures.{IsCapture, IsCaptureAt, PacketFacts, end_of, packet_at, packets_at}
-use Rattle.packet_view.specs.CheckedCaptures.{packets_of, records_of}
-use Rattle.packet_view.specs.declared.capture_records.Records.{Records}
+use Rattle.packet_view.specs.Captures.{IsCaptureAt, PacketFacts, end_of, packet_at}
 use Rattle.packet_view.proofs.RecordListLemmas.{records_within}
 use Rattle.acl_policy.specs.Policies.{IsAmong, policy_facts}
 use Rattle.racl_options.specs.declared.settings.Options.{Options}
@@ -19,15 +17,20 @@ use Rattle.racl_io.specs.Faults.{IsFaultOfBytes, IsFaultOfContent, IsFaultOfOne,
 use Rattle.racl_io.specs.Inputs.{AreCaptures, DigitsFacts, IsContent, AreCutDigits, IsMarked, NumberedFacts, most_bytes, numbered_facts}
 use Rattle.racl_io.specs.Reports.{packets_in}
 use Rattle.racl_io.proofs.PartingLemmas.{some_captures}
-use Rattle.racl_cli.specs.declared.numbered_captures.Walk.{Walk}
+use Rattle.capture_stream.specs.declared.stream_judging.Streamed.{Streamed}
+use Rattle.racl_cli.specs.declared.digit_captures.Walk.{Walk}
+use Rattle.racl_cli.specs.declared.judged_input.Ended.{Ended}
+use Rattle.racl_cli.specs.declared.sized_tables.SizedWorkers.{SizedWorkers}
+use Rattle.racl_cli.specs.declared.workers_as_judges.Crew.{Crew}
+use Rattle.racl_cli.specs.inner.Streams.{HasEnded}
 use Rattle.racl_cli.specs.declared.input_front.Marked.{Marked}
 use Rattle.racl_cli.specs.Crews.{AreResting, orders_of}
 use Rattle.racl_cli.specs.Reads.{AnswersInput, HasMarked, IsReached}
-use Rattle.racl_cli.specs.Runs.{HasPackets, IsTaken, JudgedFacts, told_of}
-use Rattle.racl_cli.specs.inner.Captures.{AreTakenFrom, CanTake, HasTaken, IsFaultFrom, MayTake, facts_of, left_at}
-use Rattle.racl_cli.proofs.CaptureLaws.{no_fault_from, one_fault_from, one_from}
+use Rattle.racl_cli.specs.Runs.{HasPackets, IsTaken, JudgedFacts}
+use Rattle.racl_cli.specs.inner.Captures.{AreTakenFrom, CanTake, HasTaken, HaveJudgedDigits, HaveTakenDigits, IsFaultFrom, MayTake, facts_of, left_at}
+use Rattle.racl_cli.proofs.CaptureLaws.{AreFit, fit_digits, no_fault_of_packets, one_fault_of_content, one_packets}
 use Rattle.racl_cli.proofs.OpenedLemmas.{content_short}
-use Rattle.racl_cli.proofs.OutcomeLemmas.{memory_answers}
+use Rattle.racl_cli.proofs.OutcomeLemmas.{memory_answers, said_at_end}
 use Rattle.racl_cli.proofs.RunLemmas.{fault_of_known_parts, fault_of_right_policy, read_in}
 
 -- ---- which interfaces were seen
@@ -126,18 +129,10 @@ few_taken number content digits capture next packets truncated cut spelt (record
     let long = cut_short content digits next cut (omega (arith, header, short)) in
     omega arith
 
--- the records of a capture that was checked
-pub records_taken : (seen : List ℕ) (number : ℕ) (digits capture : List ℕ) (records : Records) (truncated : Bool) → (IsAmong number seen → ⊥)
-    → IsContent Hexadecimal digits capture → IsCapture capture (records_of records) (end_of truncated) → records.interface ≡ number
-    → IsTaken seen (digits_at number digits) (packets_of records) (told_of (Some number) (packets_of records) truncated)
-records_taken seen number digits capture records truncated first spelt is at = record {
-  first = first;
-  capture = capture;
-  spelt = spelt;
-  truncated = truncated;
-  records = (records_of records, is, ap (λ n. packets_at n (records_of records)) at);
-  told = refl;
-}
+-- digits that are cut off aren't more than all
+pub digits_within : (content digits : List ℕ) (next : Option NumberedFacts) → AreCutDigits content digits next → length digits ≤ length content
+digits_within content digits None cut = let same = ap length cut.0 in omega arith
+digits_within content digits (Some behind) cut = let whole = ap length cut.parted in let sizes = length-append digits cut.marked in omega arith
 
 pub all_behind : (bytes : List ℕ) (from : ℕ) → take (length bytes - from) (drop from bytes) ≡ drop from bytes
 all_behind bytes from = ap (λ n. take n (drop from bytes)) (sym (length-drop from bytes)) ∙ take_all (length (drop from bytes)) (drop from bytes) (omega arith)
@@ -226,39 +221,58 @@ fault_amid begun walk capture fault amid there (inl memory) = inl memory
 fault_amid begun walk capture fault amid there (inr of) =
     inr (amid.fault fault (subst (λ next. IsFaultFrom walk.seen.items (numbered_facts next) fault) (sym there) of))
 
+-- ---- the only capture behind a marker line
+
+pub only_taken : {T : Type 0} (workers : SizedWorkers T) (form : Form) (content : List ℕ) (streamed : Streamed (Crew T)) (ended : Ended) → form ≡ Hexadecimal
+    → AreResting [] workers → HaveJudgedDigits workers 0 content streamed → HasEnded streamed.judges.workers streamed.truncated ended
+    → HaveTakenDigits workers form content ended
+only_taken workers form content streamed ended same rest has end =
+    let said =
+    said_at_end (orders_of workers) streamed.judges.workers has.packets streamed.truncated ended (record { given = has.by; rest = has.rest [] rest }) end in
+    record {
+      packets = has.packets;
+      taken = subst (λ f. HasPackets f content has.packets ended.captures.items) (sym same)
+          (record { capture = has.capture; spelt = has.spelt; truncated = streamed.truncated; records = has.records; told = said.1 });
+      said = said.0;
+    }
+
 -- ---- what is answered
 
--- the first capture of an input that has several
-abbrev pub first_of : List ℕ → Marked → Option NumberedFacts
-first_of bytes marked = from_here marked.number (drop marked.from bytes)
-
 module _ (options : Options) (bytes : List ℕ) (marked : Marked) (has : HasMarked options bytes marked) where
-  has_packets : (packets : List PacketFacts) (captures : List Captured) → AreTakenFrom [] (first_of bytes marked) packets captures
+  abbrev form : Form
+  form = marked.form
+
+  fit : AreFit marked.form (drop marked.from bytes)
+  fit = fit_digits marked.form (drop marked.from bytes) has.digits
+
+  abbrev content : List ℕ
+  content = drop marked.from bytes
+
+  has_packets : (packets : List PacketFacts) (captures : List Captured) → HasPackets form content packets captures
       → HasPackets has.parts.form has.parts.content packets captures
   has_packets packets captures taken =
-      subst (λ form. HasPackets form has.parts.content packets captures) (sym has.form)
-      (subst (λ content. HasPackets (Numbered marked.number) content packets captures) has.content taken)
+      subst (λ f. HasPackets f has.parts.content packets captures) (sym has.form)
+      (subst (λ c. HasPackets form c packets captures) has.content taken)
 
   packets_there : (packets : List PacketFacts) (captures : List Captured) → HasPackets has.parts.form has.parts.content packets captures
-      → AreTakenFrom [] (first_of bytes marked) packets captures
+      → HasPackets form content packets captures
   packets_there packets captures is =
-      subst (λ content. HasPackets (Numbered marked.number) content packets captures) (sym has.content)
-      (subst (λ form. HasPackets form has.parts.content packets captures) has.form is)
+      subst (λ c. HasPackets form c packets captures) (sym has.content)
+      (subst (λ f. HasPackets f has.parts.content packets captures) has.form is)
 
-  has_fault : (fault : Fault) → IsFaultFrom [] (first_of bytes marked) fault
-      → IsFaultOfContent has.parts.form has.parts.content fault
+  has_fault : (fault : Fault) → IsFaultOfContent form content fault → IsFaultOfContent has.parts.form has.parts.content fault
   has_fault fault of =
-      subst (λ form. IsFaultOfContent form has.parts.content fault) (sym has.form)
-      (subst (λ content. IsFaultOfContent (Numbered marked.number) content fault) has.content of)
+      subst (λ f. IsFaultOfContent f has.parts.content fault) (sym has.form)
+      (subst (λ c. IsFaultOfContent form c fault) has.content of)
 
-  fault_there : (fault : Fault) → IsFaultOfBytes bytes fault → IsFaultFrom [] (first_of bytes marked) fault
+  fault_there : (fault : Fault) → IsFaultOfBytes bytes fault → IsFaultOfContent form content fault
   fault_there fault of =
-      let content = fault_of_right_policy has.parts fault has.policy.right (fault_of_known_parts bytes has.parts fault has.parted of) in
-      subst (λ c. IsFaultOfContent (Numbered marked.number) c fault) (sym has.content)
-      (subst (λ form. IsFaultOfContent form has.parts.content fault) has.form content)
+      let known = fault_of_right_policy has.parts fault has.policy.right (fault_of_known_parts bytes has.parts fault has.parted of) in
+      subst (λ c. IsFaultOfContent form c fault) (sym has.content)
+      (subst (λ f. IsFaultOfContent f has.parts.content fault) has.form known)
 
   taken_answers : (packets : List PacketFacts) (judged : JudgedFacts) → length bytes ≤ most_bytes
-      → AreTakenFrom [] (first_of bytes marked) packets judged.outcome.captures
+      → HasPackets form content packets judged.outcome.captures
       → IsReached options (policy_facts marked.filter.policy) packets judged.outcome.captures judged → AnswersInput options bytes (Ok judged)
   taken_answers packets judged few taken reached = record {
     ok = record {
@@ -270,17 +284,17 @@ module _ (options : Options) (bytes : List ℕ) (marked : Marked) (has : HasMark
     accepts = λ other others captures read.
         let is = read_in bytes has.parts other others captures has.parted read in
         let same =
-        one_from [] (first_of bytes marked) packets others judged.outcome.captures captures taken
+        one_packets form content packets others judged.outcome.captures captures fit taken
         (packets_there others captures is.content) in
         subst (λ p. IsReached options p others captures judged) (has.policy.one other is.says)
         (subst (λ ps. IsReached options (policy_facts marked.filter.policy) ps captures judged) same.0
         (record { by_workers = reached.by_workers; kept = reached.kept; by_one_thread = reached.by_one_thread; told = same.1 }));
     fault = tt;
     refuses = λ fault of.
-        no_fault_from [] (first_of bytes marked) packets judged.outcome.captures fault taken (fault_there fault of);
+        no_fault_of_packets form content packets judged.outcome.captures fault fit taken (fault_there fault of);
   }
 
-  fault_answers : (fault : Fault) → (fault ≡ Memory) ⊎ IsFaultFrom [] (first_of bytes marked) fault
+  fault_answers : (fault : Fault) → (fault ≡ Memory) ⊎ IsFaultOfContent form content fault
       → AnswersInput options bytes (Err fault)
   fault_answers fault (inl memory) =
       subst (λ (e : Fault). AnswersInput options bytes (Err e)) (sym memory)
@@ -289,16 +303,16 @@ module _ (options : Options) (bytes : List ℕ) (marked : Marked) (has : HasMark
     ok = tt;
     accepts = λ other others captures read.
         let is = read_in bytes has.parts other others captures has.parted read in
-        absurd (no_fault_from [] (first_of bytes marked) others captures fault (packets_there others captures is.content) of);
+        absurd (no_fault_of_packets form content others captures fault fit (packets_there others captures is.content) of);
     fault = λ differs. inr (has.parts, has.parted, inr (policy_facts marked.filter.policy, has.policy.says, has_fault fault of));
-    refuses = λ other is. inl (one_fault_from [] (first_of bytes marked) fault other of (fault_there other is));
+    refuses = λ other is. inl (one_fault_of_content form content fault other fit of (fault_there other is));
   }
 
   pub answered : (result : Result JudgedFacts Fault)
       → IfOk result (λ judged. (packets : List PacketFacts)
-      × AreTakenFrom [] (first_of bytes marked) packets judged.outcome.captures
+      × HasPackets form content packets judged.outcome.captures
       × IsReached options (policy_facts marked.filter.policy) packets judged.outcome.captures judged)
-      → IfErr result (λ fault. (fault ≡ Memory) ⊎ IsFaultFrom [] (first_of bytes marked) fault)
+      → IfErr result (λ fault. (fault ≡ Memory) ⊎ IsFaultOfContent form content fault)
       → length bytes ≤ most_bytes → AnswersInput options bytes result
   answered (Ok judged) ok fault few = taken_answers ok.0 judged few ok.1 ok.2
   answered (Err found) ok fault few = fault_answers found fault

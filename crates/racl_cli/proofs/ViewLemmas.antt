@@ -25,7 +25,7 @@ use Rattle.racl_options.specs.declared.settings.Lines.TheVariants.{Plain, Explai
 use Rattle.racl_options.specs.declared.settings.Options.{Options}
 use Rattle.racl_views.specs.Hits.{AreHits}
 use Rattle.racl_views.specs.RunEntries.{RunFacts}
-use Rattle.racl_cli.specs.Reads.{IsUnnumbered}
+use Rattle.racl_cli.proofs.CaptureLaws.{IsUnnumbered}
 use Rattle.racl_cli.specs.Runs.{AreLines, AreTaken, HasPackets, IsRead, IsTaken, JudgedFacts, sessions_behind, told_facts, view_behind}
 use Rattle.racl_cli.specs.declared.report_views.Again.{Again}
 use Rattle.racl_cli.specs.inner.Captures.{AreTakenFrom}

@@ -1,6 +1,5 @@
 -- What is answered of an input that is read, and what stands before the records of its captures.
-use Rattle.std.specs.Prelude.{◌≡◌, ◌≢◌, ◌+◌, ◌<◌, ◌≤◌, ◌⊎◌, ◌++◌, ℕ, Bool, true, is_some, List, [], ◌∷◌, Option, None, Some, IfSome, IfOk, IfErr, MatchResult, Result, Ok, Err, drop, length}
-use Rattle.std.specs.Global.{Vec}
+use Rattle.std.specs.Prelude.{◌≡◌, ◌≢◌, ◌+◌, ◌<◌, ◌≤◌, ◌⊎◌, ◌++◌, ℕ, Bool, true, List, [], ◌∷◌, Option, None, IfSome, IfOk, IfErr, MatchResult, Result, Ok, Err, drop, length}
 use Rattle.std.specs.Io.KnownBytes.{Consumes, IsAtEnd}
 use Rattle.packet_view.specs.Captures.{AreRecords, HasFileHeader, IsEnd, IsHeaderFault, PacketFacts, RecordFacts, end_of, packets_at}
 use Rattle.packet_view.specs.declared.capture.CaptureFault.{CaptureFault}
@@ -12,17 +11,16 @@ use Rattle.flow_dealing.specs.WorkerRecords.{HavePages}
 use Rattle.racl_options.specs.declared.settings.Options.{Options}
 use Rattle.racl_io.specs.declared.fault.Fault.{Fault}
 use Rattle.racl_io.specs.declared.fault.Fault.TheVariants.{Memory, Read, TooLarge}
-use Rattle.racl_io.specs.declared.input.Form.{Form}
-use Rattle.racl_io.specs.declared.input.Form.TheVariants.{Binary, Hexadecimal, Numbered}
+use Rattle.racl_io.specs.declared.input.Form.TheVariants.{Binary}
 use Rattle.racl_io.specs.declared.report.Captured.{Captured}
 use Rattle.racl_io.specs.Faults.{IsFaultOfBytes, Refuses}
-use Rattle.racl_io.specs.Inputs.{IsContent, IsInput, InputFacts, most_bytes}
+use Rattle.racl_io.specs.Inputs.{IsInput, InputFacts, most_bytes}
 use Rattle.capture_stream.specs.Streams.{AreAllRead, records_in}
 use Rattle.capture_stream.specs.declared.stream_judging.Opening.{Opening}
 use Rattle.racl_cli.specs.declared.input_front.Headed.{Headed}
 use Rattle.racl_cli.specs.declared.input_front.Marked.{Marked}
 use Rattle.racl_cli.specs.declared.input_front.Opened.{Opened}
-use Rattle.racl_cli.specs.declared.input_front.Opened.TheVariants.{One, Several}
+use Rattle.racl_cli.specs.declared.input_front.Opened.TheVariants.{Bytes, Digits}
 use Rattle.racl_cli.specs.declared.input_front.Front.{Front}
 use Rattle.racl_cli.specs.Runs.{AreStoredOf, ByOneThread, ByWorkers, IsRead, JudgedFacts, keeps_stored, layout_for, told_of}
 
@@ -103,69 +101,49 @@ pub record IsHeaded (order : Order) (capture : List ℕ) : Type 0 where
   pub one : (other : Order) → HasFileHeader other capture → other ≡ order
   pub none : (cause : CaptureFault) → IsHeaderFault capture cause → ⊥
 
--- The records of the capture begin in the input, which has the capture as it is; or in the capture that its digits stand for.
-abbrev pub HasRecordsAt : List ℕ → InputFacts → List ℕ → ℕ → Option (Vec ℕ) → Type 0
-HasRecordsAt bytes parts capture from None = (parts.form ≡ Binary) × (from ≤ length bytes) × (drop from bytes ≡ drop 24 capture)
-HasRecordsAt bytes parts capture from (Some decoded) = (from ≡ 24) × (decoded.items ≡ capture)
-
--- the bytes that have the records
-abbrev pub having_records : List ℕ → Option (Vec ℕ) → List ℕ
-having_records input None = input
-having_records input (Some decoded) = decoded.items
-
--- a marker line without a number, and so of one capture
-abbrev pub IsUnnumbered : Form → Type 0
-IsUnnumbered Binary = Unit {0}
-IsUnnumbered Hexadecimal = Unit {0}
-IsUnnumbered (Numbered number) = ⊥
-
--- the bytes begin with a right policy, a marker line, and the header of the only capture
+-- the bytes begin with a right policy, a marker line, and the header of a capture as it is, and its records begin at their place
 pub record HasHeaded (options : Options) (bytes : List ℕ) (headed : Headed) : Type 0 where
   pub parts : InputFacts
   pub parted : IsInput bytes parts
   pub policy : IsSaid parts.policy (policy_facts headed.filter.policy)
   pub times : headed.filter.times ≡ options.times
-  pub plain : IsUnnumbered parts.form
-  pub capture : List ℕ
-  pub spelt : IsContent parts.form parts.content capture
-  pub header : IsHeaded headed.order capture
-  pub records : HasRecordsAt bytes parts capture headed.from headed.decoded
+  pub form : parts.form ≡ Binary
+  pub header : IsHeaded headed.order parts.content
+  pub within : headed.from ≤ length bytes
+  pub behind : drop headed.from bytes ≡ drop 24 parts.content
 
--- the bytes begin with a right policy and a marker line with a number, and what follows begins at its place
+-- the bytes begin with a right policy and a marker line of digits, and what follows begins at its place
 pub record HasMarked (options : Options) (bytes : List ℕ) (marked : Marked) : Type 0 where
   pub parts : InputFacts
   pub parted : IsInput bytes parts
   pub policy : IsSaid parts.policy (policy_facts marked.filter.policy)
   pub times : marked.filter.times ≡ options.times
-  pub form : parts.form ≡ Numbered marked.number
+  pub form : parts.form ≡ marked.form
+  pub digits : marked.form ≢ Binary
   pub within : marked.from ≤ length bytes
   pub content : drop marked.from bytes ≡ parts.content
 
--- what stands behind them is digits
-abbrev pub are_digits : Opened → Bool
-are_digits (One headed) = is_some headed.decoded
-are_digits (Several marked) = true
-
 abbrev pub HasOpened : Options → List ℕ → Opened → Type 0
-HasOpened options bytes (One headed) = HasHeaded options bytes headed
-HasOpened options bytes (Several marked) = HasMarked options bytes marked
+HasOpened options bytes (Bytes headed) = HasHeaded options bytes headed
+HasOpened options bytes (Digits marked) = HasMarked options bytes marked
 
 -- the source gave these bytes, which have all digits, and they begin so
 pub record HasFront (options : Options) (before after : Option (List ℕ)) (front : Front) : Type 0 where
   pub consumed : Consumes before after front.bytes.items
   pub few : length front.bytes.items ≤ most_bytes
   pub ended : front.ended ≡ true → IsAtEnd after
-  pub whole : are_digits front.opened ≡ true → front.ended ≡ true
+  pub whole : (marked : Marked) → front.opened ≡ Digits marked → front.ended ≡ true
   pub opened : HasOpened options front.bytes.items front.opened
 
 -- ---- the records
 
--- a filter with the lifetimes that the words ask for may judge the records of an opening within the bytes of an input
+-- a filter with the lifetimes that the words ask for may judge the records of an opening within the bytes of an input, which were seen at interface 0
 pub record MayJudge (options : Options) (filter : Filter) (opening : Opening) (before : Option (List ℕ)) : Type 0 where
   pub times : filter.times ≡ options.times
   pub within : opening.from ≤ length opening.bytes.items
   pub few : length opening.bytes.items ≤ most_bytes
   pub ended : opening.ended ≡ true → IsAtEnd before
+  pub unnamed : opening.interface ≡ 0
 
 -- the source gave all its bytes, and these are the verdicts on the packets of all records
 pub record HasJudged (options : Options) (policy : PolicyFacts) (opening : Opening) (before after : Option (List ℕ)) (judged : JudgedFacts) : Type 0 where

@@ -9,10 +9,10 @@ ghost use Rattle.racl_cli.specs.Runs.{AnswersRight, HasRun};
 ghost use Rattle.racl_cli.specs.Saves.{HasRunSaving};
 
 use crate::bytes_at_hand::AtHand;
+use crate::digit_captures::judge_captures;
 use crate::input_front::{Front, Headed, Opened, open_source, read_rest};
-use crate::judge_records::{bytes_with_records, judge_records};
+use crate::judge_records::judge_records;
 use crate::judged_input::Judged;
-use crate::numbered_captures::judge_captures;
 use crate::report_views::{needs_bytes, write_judged, write_plain};
 use crate::save_packets::{Saves, save_packets};
 use capture_stream::Opening;
@@ -42,22 +42,22 @@ fn judge_source<R: Source + Send, T: Threads + Wait + Sync>(
         Err(fault) => return Err(fault),
     };
     match opened {
-        Opened::One(headed) => {
+        Opened::Bytes(headed) => {
             let Headed {
                 filter,
                 order,
                 from,
-                decoded,
             } = headed;
             let opening = Opening {
-                bytes: bytes_with_records(bytes, decoded),
+                bytes,
                 from,
                 order,
+                interface: 0,
                 ended,
             };
             judge_records(rt, alloc, options, reader, &filter, opening)
         }
-        Opened::Several(marked) => judge_captures(rt, alloc, options, &bytes, marked),
+        Opened::Digits(marked) => judge_captures(rt, alloc, options, &bytes, marked),
     }
 }
 

@@ -8,28 +8,26 @@ use crate::judge_records::front_bytes;
 use acl_policy::read_policy;
 use flow_workers::Filter;
 use packet_view::{Order, capture_header};
-use racl_io::{Fault, Form, MOST_BYTES, Source, decode_digits, read_until, split_input};
+use racl_io::{Fault, Form, MOST_BYTES, Source, read_until, split_input};
 use racl_options::Options;
 use std::alloc::Global;
 
-/// What stands before the records of an input's only capture.
+/// What stands before the records of a capture that an input has as it is.
 #[derive(Drop)]
 pub struct Headed {
     pub filter: Filter,
     /// The order of the capture's numbers.
     pub order: Order,
-    /// Where the records begin: in the input, or in the capture that its digits stand for.
+    /// Where the records begin in the input.
     pub from: usize,
-    /// The capture, where the input has it as digits.
-    pub decoded: Option<Vec<u8>>,
 }
 
-/// What stands before the captures of an input that have numbers.
+/// What stands before captures that an input has as digits.
 #[derive(Drop)]
 pub struct Marked {
     pub filter: Filter,
-    /// The number of the first capture's interface.
-    pub number: u8,
+    /// How the first marker line says that they are written.
+    pub form: Form,
     /// Where what follows its marker line begins in the input.
     pub from: usize,
 }
@@ -37,10 +35,10 @@ pub struct Marked {
 /// What stands before the packets of an input.
 #[derive(Drop)]
 pub enum Opened {
-    /// One capture, which has no number.
-    One(Headed),
-    /// Captures with numbers, one or several.
-    Several(Marked),
+    /// A capture as it is.
+    Bytes(Headed),
+    /// Captures as digits: one that has no number, or one or several with numbers.
+    Digits(Marked),
 }
 
 /// What stands before the packets of the input that these bytes are, or that they are the front of; or the fault that they
@@ -60,26 +58,20 @@ pub fn open_input(alloc: Global, options: &Options, bytes: &[u8]) -> Result<Open
     match input.form {
         Form::Binary => {
             let order = capture_header(input.content)?;
-            Ok(Opened::One(Headed {
+            Ok(Opened::Bytes(Headed {
                 filter,
                 order,
                 from: bytes.len() - input.content.len() + 24,
-                decoded: None,
             }))
         }
-        Form::Hexadecimal => {
-            let capture = decode_digits(alloc, input.content)?;
-            let order = capture_header(&capture)?;
-            Ok(Opened::One(Headed {
-                filter,
-                order,
-                from: 24,
-                decoded: Some(capture),
-            }))
-        }
-        Form::Numbered(number) => Ok(Opened::Several(Marked {
+        Form::Hexadecimal => Ok(Opened::Digits(Marked {
             filter,
-            number,
+            form: input.form,
+            from: bytes.len() - input.content.len(),
+        })),
+        Form::Numbered(_) => Ok(Opened::Digits(Marked {
+            filter,
+            form: input.form,
             from: bytes.len() - input.content.len(),
         })),
     }
@@ -126,7 +118,7 @@ pub fn read_rest<R: Source>(reader: &mut R, bytes: &mut Vec<u8>) -> Result<(), F
     }
 }
 
-/// Reads the front of an input, up to records of its only capture: or all of it where that has a fault, or captures as digits.
+/// Reads the front of an input, up to records of a capture as it is: or all of it where that has a fault, or captures as digits.
 pub fn open_source<R: Source>(
     alloc: Global,
     options: &Options,
@@ -145,14 +137,12 @@ pub fn open_source<R: Source>(
     if ended {
         return open_whole(alloc, options, bytes);
     }
-    if let Ok(Opened::One(headed)) = open_input(alloc, options, &bytes) {
-        if headed.decoded.is_none() {
-            return Ok(Front {
-                bytes,
-                ended,
-                opened: Opened::One(headed),
-            });
-        }
+    if let Ok(Opened::Bytes(headed)) = open_input(alloc, options, &bytes) {
+        return Ok(Front {
+            bytes,
+            ended,
+            opened: Opened::Bytes(headed),
+        });
     }
     match read_rest(reader, &mut bytes) {
         Ok(()) => open_whole(alloc, options, bytes),

@@ -7,7 +7,7 @@ ghost use Rattle.racl_io.specs.Inputs.{most_bytes};
 ghost use Rattle.racl_io.specs.Transfers.{HasReadWithin};
 ghost use Rattle.racl_cli.specs.Crews.{HaveJudgedSome};
 ghost use Rattle.racl_cli.specs.inner.Streams.{HasEnded};
-ghost use Rattle.racl_cli.specs.Reads.{HasJudged, MayJudge, having_records};
+ghost use Rattle.racl_cli.specs.Reads.{HasJudged, MayJudge};
 
 use crate::judged_input::{Ended, Judged};
 use crate::sized_tables::{MANY_PACKETS, SizedWorkers, create_sized};
@@ -39,8 +39,8 @@ pub fn front_bytes(options: &Options) -> usize
     }
 }
 
-// How many bytes the windows after that get, which several workers judge or one.
-fn window_size(are_several: bool) -> WindowSize
+/// How many bytes the windows after that get, which several workers judge or one.
+pub fn window_size(are_several: bool) -> WindowSize
     ensures { IsSize result }
 {
     let bytes = if are_several {
@@ -72,13 +72,17 @@ pub fn plan_for(options: &Options, ended: bool, count: usize) -> (usize, usize)
     }
 }
 
-// The verdicts of workers who judged all packets of a capture, what the report tells of it, and their callers.
-fn end_capture<T: Wait>(streamed: Streamed<Crew<'_, '_, T>>) -> Result<Ended, Fault>
+/// The verdicts of workers who judged all packets of the only capture, what the report tells of it, and their callers.
+pub fn end_capture<T: Wait>(streamed: Streamed<Crew<'_, '_, T>>) -> Result<Ended, Fault>
     requires { HaveJudgedSome streamed.judges.workers }
     ensures ok { IfOk result (HasEnded streamed.entry.judges.workers streamed.entry.truncated) }
     ensures fault { IfErr result (λ fault. fault ≡ Memory) }
 {
-    let Streamed { judges, truncated } = streamed;
+    let Streamed {
+        judges,
+        truncated,
+        ..
+    } = streamed;
     let Crew { alloc, workers } = judges;
     let Ok((verdicts, callers)) = workers.end(alloc) else {
         return Err(Fault::Memory);
@@ -143,15 +147,5 @@ pub fn judge_records<'t, R: Source + Send, T: Threads + Wait + Sync>(
             Err(fault) => Err(fault),
         },
         Err(fault) => Err(fault),
-    }
-}
-
-/// The bytes that have the records: those of the input, or the capture that its digits stand for.
-pub fn bytes_with_records(input: Vec<u8>, decoded: Option<Vec<u8>>) -> Vec<u8>
-    ensures { result.items ≡ having_records input.items decoded }
-{
-    match decoded {
-        Some(capture) => capture,
-        None => input,
     }
 }

@@ -3,6 +3,7 @@
 #![tactic(auto)]
 
 mod bytes_at_hand;
+mod digit_captures;
 mod end_to_end;
 mod exit_messages;
 mod input_front;
@@ -10,7 +11,6 @@ mod judge_records;
 mod judged_input;
 mod live_run;
 mod message;
-mod numbered_captures;
 mod report_views;
 mod run_laws;
 mod save_packets;

@@ -30,8 +30,8 @@ pub struct LiveHead {
     pub order: Order,
 }
 
-// The header of the capture is read.
-fn read_header<R: Source>(alloc: Global, reader: &mut R) -> Result<Order, Fault>
+/// The header of a capture is read.
+pub fn read_header<R: Source>(alloc: Global, reader: &mut R) -> Result<Order, Fault>
     requires { R.failures reader.old < 2 ^ 64 - 1 }
     ensures header { MatchResult result (HasReadHeader (R.bytes reader.old) (R.bytes reader.new)) (IsHeadless (R.bytes reader.old) (R.bytes reader.new)) }
     ensures read { MatchResult result (λ _. R.failures reader.new ≡ R.failures reader.old) (λ fault. R.failures reader.new ≡ with_read (R.failures reader.old) fault) }

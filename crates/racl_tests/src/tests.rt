@@ -11,6 +11,7 @@ mod runs;
 mod saved;
 mod views;
 mod windows;
+mod windows_of_digits;
 mod words;
 
 // A test that ends since what it begins with was refused.

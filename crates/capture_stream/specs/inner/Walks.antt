@@ -1,5 +1,5 @@
 -- A capture of which some windows were judged.
-use Rattle.std.specs.Prelude.{◌≡◌, ◌+◌, ◌<◌, ◌≤◌, ◌++◌, ℕ, true, false, List, [], Option, drop, length, ⊤}
+use Rattle.std.specs.Prelude.{◌≡◌, ◌+◌, ◌<◌, ◌≤◌, ◌++◌, ◌^◌, ℕ, true, false, List, [], Option, drop, length, ⊤}
 use Rattle.std.specs.Io.KnownBytes.{Consumes, IsAtEnd}
 use Rattle.packet_view.specs.Captures.{AreRecords, IsEnd, IsTooLong, PacketFacts, RecordFacts, end_of, packets_at}
 use Rattle.packet_view.specs.RecordLists.{records_from}
@@ -24,12 +24,13 @@ records_ahead walk = records_from walk.order walk.found.count (ahead_of walk)
 abbrev pub rest_of : {J : Type 0} → Walk J → List ℕ
 rest_of walk = behind_of (ahead_of walk) walk.found
 
--- where a walk may go on from: the records ahead are found, and no more packets were judged than bytes were read before those ahead
+-- where a walk may go on from: whatever packets those who judge judged so far, those of the records ahead may follow, which are found; and no more of the capture
+-- were judged than bytes were read before those ahead
 pub record MayAdvance {J : Type 0} (Became : J → List PacketFacts → J → Type 0) (walk : Walk J) : Type 0 where
   pub begun : J
-  pub packets : List RecordFacts
-  pub stand : Became begun (packets_at 0 packets) walk.judges
-  pub count : walk.packets ≡ length packets
+  pub packets : List PacketFacts
+  pub stand : Became begun packets walk.judges
+  pub room : length packets + length (ahead_of walk) < 2 ^ 64
   pub within : walk.from ≤ length walk.window.items
   pub found : HaveFound walk.order (ahead_of walk) walk.found
   pub few : walk.packets + length (ahead_of walk) ≤ walk.read
@@ -42,13 +43,14 @@ pub record HasAdvanced {J : Type 0} (Became : J → List PacketFacts → J → T
   pub rest : List ℕ
   pub read : List ℕ
   pub records : AreRecords old.order (ahead_of old) more rest
-  pub judged : HaveFollowed Became old.judges (packets_at 0 more) new.judges
+  pub judged : HaveFollowed Became old.judges (packets_at old.interface more) new.judges
   pub count : new.packets ≡ old.packets + length more
   pub consumed : Consumes before after read
   pub ahead : ahead_of new ≡ rest ++ read
   pub size : new.read ≡ old.read + length read
   pub bound : new.read ≤ most_bytes
   pub order : new.order ≡ old.order
+  pub interface : new.interface ≡ old.interface
   pub within : new.from ≤ length new.window.items
   pub found : HaveFound new.order (ahead_of new) new.found
   pub ended : new.ended ≡ true → IsAtEnd after
@@ -60,7 +62,8 @@ pub record HasEnded {J : Type 0} (Became : J → List PacketFacts → J → Type
   pub rest : List ℕ
   pub records : AreRecords walk.order (ahead_of walk) more rest
   pub end : IsEnd walk.order rest (end_of streamed.truncated)
-  pub judged : HaveFollowed Became walk.judges (packets_at 0 more) streamed.judges
+  pub judged : HaveFollowed Became walk.judges (packets_at walk.interface more) streamed.judges
+  pub count : streamed.packets ≡ walk.packets + length more
 
 -- ahead the record of this number, counted from the capture's first, is the first that is too long
 pub record HasLongAhead {J : Type 0} (walk : Walk J) (number : ℕ) : Type 0 where
@@ -94,17 +97,18 @@ pub record IsAllOf {J : Type 0} (walk : Walk J) (gone : List ℕ) : Type 0 where
   pub ended : walk.ended ≡ true
 
 -- all that was read after the opening is records that were judged and the bytes ahead
-pub record IsAmid {J : Type 0} (Became : J → List PacketFacts → J → Type 0) (begun : J) (opening : Opening) (before now : Option (List ℕ))
+pub record IsAmid {J : Type 0} (Became : J → List PacketFacts → J → Type 0) (judges : J) (opening : Opening) (before now : Option (List ℕ))
     (walk : Walk J) : Type 0 where
   pub gone : List ℕ
   pub consumed : Consumes before now gone
   pub packets : List RecordFacts
   pub records : AreRecords opening.order (records_in opening gone) packets (ahead_of walk)
-  pub stand : Became begun (packets_at 0 packets) walk.judges
+  pub judged : HaveFollowed Became judges (packets_at opening.interface packets) walk.judges
   pub count : walk.packets ≡ length packets
   pub size : walk.read ≡ length opening.bytes.items + length gone
   pub bound : walk.read ≤ most_bytes
   pub order : walk.order ≡ opening.order
+  pub interface : walk.interface ≡ opening.interface
   pub within : walk.from ≤ length walk.window.items
   pub found : HaveFound walk.order (ahead_of walk) walk.found
   pub ended : walk.ended ≡ true → IsAtEnd now

@@ -1,15 +1,20 @@
--- Captures with numbers that are taken one after the other.
+-- Captures as digits that are taken one after the other.
 use Rattle.std.specs.Prelude.{◌≡◌, ◌+◌, ◌≤◌, ◌++◌, ℕ, List, [], ◌∷◌, Option, None, Some, length}
-use Rattle.packet_view.specs.Captures.{PacketFacts}
+use Rattle.packet_view.specs.Captures.{IsCaptureAt, PacketFacts, end_of}
 use Rattle.racl_io.specs.declared.fault.Fault.{Fault}
 use Rattle.racl_io.specs.declared.input.Numbered as mark
 use Rattle.racl_io.specs.declared.report.Captured.{Captured}
 use Rattle.racl_io.specs.Faults.{IsFaultOfCaptures}
-use Rattle.racl_io.specs.Inputs.{AreCaptures, DigitsFacts, AreCutDigits, NumberedFacts, most_bytes, numbered_facts}
-use Rattle.racl_cli.specs.declared.numbered_captures.Walk.{Walk}
+use Rattle.racl_io.specs.declared.input.Form.{Form}
+use Rattle.racl_io.specs.declared.input.Form.TheVariants.{Hexadecimal}
+use Rattle.racl_io.specs.Inputs.{AreCaptures, DigitsFacts, AreCutDigits, IsContent, NumberedFacts, most_bytes, numbered_facts}
+use Rattle.capture_stream.specs.declared.stream_judging.Streamed.{Streamed}
+use Rattle.racl_cli.specs.declared.digit_captures.Walk.{Walk}
 use Rattle.racl_cli.specs.declared.judged_input.Ended.{Ended}
+use Rattle.racl_cli.specs.declared.sized_tables.SizedWorkers.{SizedWorkers}
+use Rattle.racl_cli.specs.declared.workers_as_judges.Crew.{Crew}
 use Rattle.racl_cli.specs.Crews.{AreResting, AreSaidBy, orders_of}
-use Rattle.racl_cli.specs.Runs.{AreTaken, IsTaken}
+use Rattle.racl_cli.specs.Runs.{AreTaken, HasPackets, IsTaken}
 
 -- a capture's number, and what follows its marker line
 abbrev pub facts_of : mark.Numbered → NumberedFacts
@@ -34,6 +39,22 @@ IsFaultAt seen capture fault = IsFaultFrom seen (Some (facts_of capture)) fault
 abbrev pub left_at : Option NumberedFacts → ℕ
 left_at None = 0
 left_at (Some next) = length next.content + 1
+
+-- workers at rest may judge the packets that these digits stand for
+pub record CanJudge {T : Type 0} (workers : SizedWorkers T) (digits : List ℕ) : Type 0 where
+  pub packets : List PacketFacts
+  pub rest : AreResting packets workers
+  pub few : length packets + length digits ≤ most_bytes
+
+-- the digits are a capture that was taken at the interface with this number, and they judged its packets behind those before
+pub record HaveJudgedDigits {T : Type 0} (old : SizedWorkers T) (interface : ℕ) (digits : List ℕ) (streamed : Streamed (Crew T)) : Type 0 where
+  pub capture : List ℕ
+  pub spelt : IsContent Hexadecimal digits capture
+  pub packets : List PacketFacts
+  pub records : IsCaptureAt interface capture packets (end_of streamed.truncated)
+  pub count : streamed.packets ≡ length packets
+  pub by : orders_of streamed.judges.workers ≡ orders_of old
+  pub rest : (before : List PacketFacts) → AreResting before old → AreResting (before ++ packets) streamed.judges.workers
 
 -- workers at rest may judge this capture's packets
 pub record CanTake {T : Type 0} (walk : Walk T) (capture : mark.Numbered) : Type 0 where
@@ -69,3 +90,9 @@ pub record HasTakenAll {T : Type 0} (begun : Walk T) (ended : Ended) : Type 0 wh
 
 abbrev pub IsFaultOfWalk : {T : Type 0} → Walk T → Fault → Type 0
 IsFaultOfWalk begun fault = IsFaultFrom [] (numbered_facts begun.next) fault
+
+-- all captures that follow a marker line of this form were taken, and these are the verdicts on their packets, and the callers
+pub record HaveTakenDigits {T : Type 0} (workers : SizedWorkers T) (form : Form) (content : List ℕ) (ended : Ended) : Type 0 where
+  pub packets : List PacketFacts
+  pub taken : HasPackets form content packets ended.captures.items
+  pub said : AreSaidBy (orders_of workers) packets ended.verdicts.items ended.callers

@@ -12,8 +12,8 @@ use std::thread::Threads;
 
 /// Counts packets.
 #[derive(Drop)]
-struct Counter {
-    count: usize,
+pub struct Counter {
+    pub count: usize,
 }
 
 impl Judges for Counter {
@@ -56,8 +56,8 @@ const GROWING: WindowSize = WindowSize {
     most: 16_777_216,
 };
 
-// Each window gets so many bytes.
-fn windows_of(bytes: usize) -> WindowSize
+/// Each window gets so many bytes.
+pub fn windows_of(bytes: usize) -> WindowSize
     ensures { IsSize result }
 {
     let bytes = bytes.max(1).min(16_777_216);
@@ -80,8 +80,8 @@ fn read_zeros<T: Threads>(rt: &T, alloc: Global, left: usize) -> (Zeros, Option<
     }
 }
 
-// A record with a frame of so many bytes, of which four follow.
-fn record(kept: [u8; 4]) -> [u8; 20] {
+/// A record with a frame of so many bytes, of which four follow.
+pub fn record(kept: [u8; 4]) -> [u8; 20] {
     let [a, b, c, d] = kept;
     [7, 0, 0, 0, 0, 0, 0, 0, a, b, c, d, 4, 0, 0, 0, 1, 2, 3, 4]
 }
@@ -102,6 +102,7 @@ fn opened(alloc: Global, front: &[u8]) -> Option<Opening>
         bytes,
         from: 24,
         order: Order::Little,
+        interface: 0,
         ended: false,
     })
 }

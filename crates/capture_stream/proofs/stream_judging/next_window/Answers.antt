@@ -45,13 +45,13 @@ returns-clause-walk g c =
     let has_read : HasRead before after spare new.items least c.in-Ok-next.next.ended = search rules in
     let found : HaveFound old.order new.items c.in-Ok-next.next.found = search rules in
     let ahead = part_from c.deref-2.result.now old.window.items old.from c.deref-2.ensures.value in
-    let judged : HaveFollowed g.J.Judges.became old.judges (packets_at 0 (records_from old.order old.found.count _)) c.in-Ok-judged.judges = search rules in
+    let judged : HaveFollowed g.J.Judges.became old.judges (packets_at old.interface (records_from old.order old.found.count _)) c.in-Ok-judged.judges = search rules in
     let len : c.len-2.result ≡ vec_len new = c.len-2.ensures in
     let full : vec_len new ≡ length new.items = new.ok.0 in
     let size : old.read + (c.len-2.result - behind) ≡ old.read + (length new.items - behind) = omega arith in
     let bound : old.read + (c.len-2.result - behind) ≤ most_bytes = omega arith in
     front_advanced _ old before after cleared spare _ may.found judged least (omega arith) has_read c.clear.ensures.items
-    (c.in-Ok-extend_from_slice.ensures.items ∙ ap (λ b. cleared ++ b) rest) found refl size bound refl refl
+    (c.in-Ok-extend_from_slice.ensures.items ∙ ap (λ b. cleared ++ b) rest) found refl size bound refl refl refl
 
 pub returns-in-Ok-clause-within : goal.returns-in-Ok-clause-within
 returns-in-Ok-clause-within g c = let within = c.in-Ok.ensures.within in record { gave = within.gave; failed = within.failed }

@@ -1,6 +1,6 @@
-use Rattle.std.proofs.Common.{◌≡◌, [], is_some, refl, subst, true}
-use Rattle.racl_cli.specs.Reads.{HasHeaded, HasOpened, are_digits}
-use Rattle.racl_cli.proofs.OpenedLemmas.{has_bytes, opening_may, stream_answers, within_front}
+use Rattle.std.proofs.Common.{[], refl, subst}
+use Rattle.racl_cli.specs.Reads.{HasHeaded, HasOpened}
+use Rattle.racl_cli.proofs.OpenedLemmas.{stream_answers}
 use Rattle.racl_cli.proofs.ReadLemmas.{answers_more, within_more}
 use Rattle.racl_cli.proofs.RunLemmas.{within_unread}
 use Rattle.racl_cli.proofs.end_to_end.judge_source.Goals as goal
@@ -9,38 +9,28 @@ pub judge_records-requires-clause-may : goal.judge_records-requires-clause-may
 judge_records-requires-clause-may g c κs lives =
     let front = c.in-Ok.front in
     let has = c.in-Ok.ensures.ok in
-    let headed = c.in-One.headed in
-    let opened : HasHeaded c.args.options.now front.bytes.items headed = subst (HasOpened c.args.options.now front.bytes.items) c.in-One.is has.opened in
-    let whole : is_some headed.decoded ≡ true → front.ended ≡ true = subst (λ o. are_digits o ≡ true → front.ended ≡ true) c.in-One.is has.whole in
-    let of = has_bytes front.bytes.items _ headed.decoded front.ended c.bytes_with_records.ensures whole in
-    let may = opening_may c.args.options.now front.bytes.items _ headed front.ended opened of has.few in
-    record { times = opened.times; within = may.0; few = may.1; ended = has.ended }
+    let opened : HasHeaded c.args.options.now front.bytes.items c.in-Bytes.headed = subst (HasOpened c.args.options.now front.bytes.items) c.in-Bytes.is has.opened in
+    record { times = opened.times; within = opened.within; few = has.few; ended = has.ended; unnamed = refl }
 
-pub returns-in-One-clause-answers : goal.returns-in-One-clause-answers
-returns-in-One-clause-answers g c =
+pub returns-in-Bytes-clause-answers : goal.returns-in-Bytes-clause-answers
+returns-in-Bytes-clause-answers g c =
     let front = c.in-Ok.front in
     let has = c.in-Ok.ensures.ok in
-    let headed = c.in-One.headed in
-    let opened : HasHeaded c.args.options.now front.bytes.items headed = subst (HasOpened c.args.options.now front.bytes.items) c.in-One.is has.opened in
-    let whole : is_some headed.decoded ≡ true → front.ended ≡ true = subst (λ o. are_digits o ≡ true → front.ended ≡ true) c.in-One.is has.whole in
-    let of = has_bytes front.bytes.items _ headed.decoded front.ended c.bytes_with_records.ensures whole in
+    let headed = c.in-Bytes.headed in
+    let opened : HasHeaded c.args.options.now front.bytes.items headed = subst (HasOpened c.args.options.now front.bytes.items) c.in-Bytes.is has.opened in
     answers_more c.args.options.now _ _ [] front.bytes.items c.judge_records.result has.consumed
     (stream_answers c.args.options.now front.bytes.items headed
-    (record { bytes = c.bytes_with_records.result; from = headed.from; order = headed.order; ended = front.ended })
-    (record { from = refl; order = refl; few = has.few; bytes = of }) opened _ _ c.judge_records.result c.judge_records.ensures.ok c.judge_records.ensures.fault)
+    (record { bytes = front.bytes; from = headed.from; order = headed.order; interface = 0; ended = front.ended })
+    (record { bytes = refl; from = refl; order = refl; few = has.few }) opened _ _ c.judge_records.result c.judge_records.ensures.ok c.judge_records.ensures.fault)
 
-pub returns-in-One-clause-within : goal.returns-in-One-clause-within
-returns-in-One-clause-within g c =
-    let front = c.in-Ok.front in
+pub returns-in-Bytes-clause-within : goal.returns-in-Bytes-clause-within
+returns-in-Bytes-clause-within g c =
     let has = c.in-Ok.ensures.ok in
-    let headed = c.in-One.headed in
-    let whole : is_some headed.decoded ≡ true → front.ended ≡ true = subst (λ o. are_digits o ≡ true → front.ended ≡ true) c.in-One.is has.whole in
-    let of = has_bytes front.bytes.items _ headed.decoded front.ended c.bytes_with_records.ensures whole in
-    within_more _ _ c.args.reader.now c.open_source.new.reader _ front.bytes.items c.judge_records.result has.consumed has.few c.in-Ok.ensures.within.failed
-    (within_front _ _ _ _ _ _ _ headed.decoded c.judge_records.result of has.ended c.judge_records.ensures.within)
+    within_more _ _ c.args.reader.now c.open_source.new.reader _ c.in-Ok.front.bytes.items c.judge_records.result has.consumed has.few
+    c.in-Ok.ensures.within.failed c.judge_records.ensures.within
 
-pub returns-in-Several-clause-within : goal.returns-in-Several-clause-within
-returns-in-Several-clause-within g c =
+pub returns-in-Digits-clause-within : goal.returns-in-Digits-clause-within
+returns-in-Digits-clause-within g c =
     let has = c.in-Ok.ensures.ok in
     within_more _ _ c.args.reader.now c.open_source.new.reader _ c.in-Ok.front.bytes.items c.judge_captures.result has.consumed has.few
     c.in-Ok.ensures.within.failed (within_unread _ _ _ c.open_source.new.reader c.args.options.now _ c.judge_captures.result c.judge_captures.ensures)

@@ -3,8 +3,8 @@ use Rattle.std.proofs.lemmas.Result.{err_from_is_err_and}
 use Rattle.racl_io.specs.declared.input.Form.{Form}
 use Rattle.racl_io.specs.declared.input.Form.TheVariants.{Binary}
 use Rattle.racl_io.specs.Inputs.{IsContent, IsInput}
-use Rattle.racl_cli.specs.Reads.{IsUnnumbered}
-use Rattle.racl_cli.proofs.OpenedLemmas.{capture_stands, content_behind, digits_answer, header_answers, records_behind_header, records_within_input}
+use Rattle.racl_cli.proofs.CaptureLaws.{IsUnnumbered}
+use Rattle.racl_cli.proofs.OpenedLemmas.{capture_stands, content_behind, header_answers, records_behind_header, records_within_input}
 use Rattle.racl_cli.proofs.OutcomeLemmas.{no_marker_answers, policy_answers}
 use Rattle.racl_cli.proofs.input_front.open_input.Goals as goal
 
@@ -27,26 +27,6 @@ returns-in_err-order-in-Binary-clause-fault c =
     c.in-Some.input.content.now (subst (λ form. IsContent form c.in-Some.input.content.now c.in-Some.input.content.now) (sym c.in-Binary.is) refl)
     _ header.fault (λ order is. let e = header.accepts order is in cc) (λ cause is. let e = header.refuses cause is in cc))
 
-pub returns-in_err-capture-in-Hexadecimal-clause-fault : goal.returns-in_err-capture-in-Hexadecimal-clause-fault
-returns-in_err-capture-in-Hexadecimal-clause-fault c =
-    let p = err_from_is_err_and c.from_residual-in_err-capture-in-Hexadecimal.result c.from_residual-in_err-capture-in-Hexadecimal.ensures.1 in
-    rw (p.1, p.2)
-    (digits_answer _ _ _ _ c.in-Some.ensures.some
-    (record { says = c.in_ok-policy.ensures.ok; one = c.in_ok-policy.ensures.accepts; right = c.in_ok-policy.ensures.refuses })
-    c.in-Hexadecimal.is _ c.in_err-capture-in-Hexadecimal.ensures.err)
-
-pub returns-in_err-order-in-Hexadecimal-clause-fault : goal.returns-in_err-order-in-Hexadecimal-clause-fault
-returns-in_err-order-in-Hexadecimal-clause-fault c =
-    let p = err_from_is_err_and c.from_residual-in_err-order-in-Hexadecimal.result c.from_residual-in_err-order-in-Hexadecimal.ensures.1 in
-    let header = c.in_err-order-in-Hexadecimal.ensures in
-    rw (p.1, p.2)
-    (header_answers _ _ _ _ c.in-Some.ensures.some
-    (record { says = c.in_ok-policy.ensures.ok; one = c.in_ok-policy.ensures.accepts; right = c.in_ok-policy.ensures.refuses })
-    (subst IsUnnumbered (sym c.in-Hexadecimal.is) tt)
-    c.deref.result.now (subst (λ form. IsContent form c.in-Some.input.content.now c.deref.result.now) (sym c.in-Hexadecimal.is)
-    (rw c.deref.ensures.value c.in_ok-capture-in-Hexadecimal.ensures.ok))
-    _ header.fault (λ order is. let e = header.accepts order is in cc) (λ cause is. let e = header.refuses cause is in cc))
-
 pub returns-in_ok-order-in-Binary-clause-ok : goal.returns-in_ok-order-in-Binary-clause-ok
 returns-in_ok-order-in-Binary-clause-ok c =
     let input = c.in-Some.input in
@@ -60,36 +40,28 @@ returns-in_ok-order-in-Binary-clause-ok c =
       parted = parted;
       policy = record { says = c.in_ok-policy.ensures.ok; one = c.in_ok-policy.ensures.accepts; right = c.in_ok-policy.ensures.refuses };
       times = refl;
-      plain = tt;
-      capture = input.content.now;
-      spelt = refl;
+      form = refl;
       header = record {
         right = header.ok;
         one = λ other right. let e = header.accepts other right in cc;
         none = λ cause is. let e = header.refuses cause is in cc;
       };
-      records = (refl, records_within_input bytes input.content.now last header.ok.whole, records_behind_header bytes input.content.now last);
+      within = records_within_input bytes input.content.now last header.ok.whole;
+      behind = records_behind_header bytes input.content.now last;
     }
 
-pub returns-in_ok-order-in-Hexadecimal-clause-ok : goal.returns-in_ok-order-in-Hexadecimal-clause-ok
-returns-in_ok-order-in-Hexadecimal-clause-ok c =
+pub returns-in-Hexadecimal-clause-ok : goal.returns-in-Hexadecimal-clause-ok
+returns-in-Hexadecimal-clause-ok c =
     let input = c.in-Some.input in
-    let header = c.in_ok-order-in-Hexadecimal.ensures in
     record {
       parts = record { policy = input.policy.now; form = input.form; content = input.content.now };
       parted = c.in-Some.ensures.some;
       policy = record { says = c.in_ok-policy.ensures.ok; one = c.in_ok-policy.ensures.accepts; right = c.in_ok-policy.ensures.refuses };
       times = refl;
-      plain = subst IsUnnumbered (sym c.in-Hexadecimal.is) tt;
-      capture = c.deref.result.now;
-      spelt = subst (λ form. IsContent form input.content.now c.deref.result.now) (sym c.in-Hexadecimal.is)
-          (rw c.deref.ensures.value c.in_ok-capture-in-Hexadecimal.ensures.ok);
-      header = record {
-        right = header.ok;
-        one = λ other right. let e = header.accepts other right in cc;
-        none = λ cause is. let e = header.refuses cause is in cc;
-      };
-      records = (refl, sym c.deref.ensures.value);
+      form = refl;
+      digits = λ binary. let e = c.in-Hexadecimal.is in cc;
+      within = omega arith;
+      content = content_behind c.args.bytes.now _ c.in-Some.ensures.some;
     }
 
 pub returns-in-Numbered-clause-ok : goal.returns-in-Numbered-clause-ok
@@ -100,7 +72,8 @@ returns-in-Numbered-clause-ok c =
       parted = c.in-Some.ensures.some;
       policy = record { says = c.in_ok-policy.ensures.ok; one = c.in_ok-policy.ensures.accepts; right = c.in_ok-policy.ensures.refuses };
       times = refl;
-      form = c.in-Numbered.is;
+      form = refl;
+      digits = λ binary. let e = c.in-Numbered.is in cc;
       within = omega arith;
       content = content_behind c.args.bytes.now _ c.in-Some.ensures.some;
     }

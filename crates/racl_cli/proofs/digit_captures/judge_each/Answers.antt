@@ -2,7 +2,7 @@ use Rattle.std.proofs.Common.{◌∙◌, subst, sym}
 use Rattle.racl_cli.specs.Crews.{AreSaidBy}
 use Rattle.racl_cli.proofs.OutcomeLemmas.{judged_count}
 use Rattle.racl_cli.proofs.TakenLemmas.{all_taken, amid_next}
-use Rattle.racl_cli.proofs.numbered_captures.judge_each.Goals as goal
+use Rattle.racl_cli.proofs.digit_captures.judge_each.Goals as goal
 
 pub captures-preserved : goal.captures-preserved
 captures-preserved g c =

@@ -1,7 +1,7 @@
 use Rattle.racl_io.specs.Inputs.{numbered_facts}
 use Rattle.racl_cli.specs.inner.Captures.{left_at}
 use Rattle.racl_cli.proofs.TakenLemmas.{IsAmid}
-use Rattle.racl_cli.proofs.numbered_captures.judge_each.Given as goal
+use Rattle.racl_cli.proofs.digit_captures.judge_each.Given as goal
 
 abbrev pub invariant-captures : goal.invariant-captures
 invariant-captures g l = IsAmid l.fn.begun l.walk

@@ -1,20 +1,23 @@
-//! The captures of several interfaces, which are judged one after the other.
-ghost use Rattle.std.specs.Prelude.{◌≡◌, ◌≤◌, ◌==◌, ◌⊎◌, IfErr, IfOk, length};
+//! Captures as digits, which are judged one after the other while they are decoded.
+ghost use Rattle.std.specs.Prelude.{◌≡◌, ◌≢◌, ◌≤◌, ◌==◌, ◌⊎◌, [], IfErr, IfOk, length};
 ghost use Rattle.std.specs.List.{list_any};
 ghost use Rattle.racl_io.specs.declared.fault.Fault.TheVariants.{Memory};
+ghost use Rattle.racl_io.specs.declared.input.Form.TheVariants.{Binary, Hexadecimal};
+ghost use Rattle.racl_io.specs.Faults.{IsFaultOfContent, IsFaultOfOne};
 ghost use Rattle.racl_io.specs.Inputs.{most_bytes};
+ghost use Rattle.racl_cli.specs.Crews.{AreResting};
 ghost use Rattle.racl_cli.specs.Reads.{AnswersInput, HasMarked};
-ghost use Rattle.racl_cli.specs.inner.Captures.{CanTake, HasTaken, HasTakenAll, IsFaultAt, IsFaultOfWalk, MayTake};
+ghost use Rattle.racl_cli.specs.inner.Captures.{CanJudge, CanTake, HasTaken, HasTakenAll, HaveJudgedDigits, HaveTakenDigits, IsFaultAt, IsFaultOfWalk, MayTake};
 
 use crate::input_front::Marked;
-use crate::judge_records::plan_for;
+use crate::judge_records::{end_capture, plan_for, window_size};
 use crate::judged_input::{Ended, Judged};
+use crate::live_run::read_header;
 use crate::sized_tables::{SizedWorkers, create_sized};
 use crate::stored_sessions::with_stored;
 use crate::workers_as_judges::Crew;
-use capture_stream::Judges;
-use packet_view::{CheckedCapture, Packets, check_capture};
-use racl_io::{Captured, Digits, Fault, Numbered, cut_digits, decode_digits};
+use capture_stream::{Opening, SpeltBytes, Streamed, are_digits, judge_stream};
+use racl_io::{Captured, Digits, Fault, Form, Numbered, cut_digits};
 use racl_options::Options;
 use std::alloc::Global;
 use std::sync::Wait;
@@ -23,9 +26,11 @@ use std::thread::Threads;
 /// How many bytes of an input a record has at least whose frame has 14: two digits for each of its own.
 const RECORD_DIGITS: usize = 60;
 
-/// Captures of which some were judged.
+/// Captures with numbers of which some were judged.
 #[derive(Drop)]
 pub struct Walk<'t, 'f, 'b, T: Wait> {
+    /// Whose threads may read a window beside the one before.
+    pub beside: Option<&'t T>,
     pub crew: Crew<'t, 'f, T>,
     /// What is told of those that were.
     pub captures: Vec<Captured>,
@@ -39,7 +44,7 @@ impl<'t, 'f, 'b, T: Wait> Walk<'t, 'f, 'b, T> {
     ghost use Rattle.std.specs.Prelude.{◌≡◌, [], Some};
 
     /// No capture was judged, and this is the first.
-    fn at(crew: Crew<'t, 'f, T>, first: Numbered<'b>) -> Walk<'t, 'f, 'b, T>
+    fn at(beside: Option<&'t T>, crew: Crew<'t, 'f, T>, first: Numbered<'b>) -> Walk<'t, 'f, 'b, T>
         ensures crew { result.crew ≡ crew.entry }
         ensures captures { result.captures.items ≡ [] }
         ensures seen { result.seen.items ≡ [] }
@@ -47,6 +52,7 @@ impl<'t, 'f, 'b, T: Wait> Walk<'t, 'f, 'b, T> {
     {
         let alloc = crew.alloc;
         Walk {
+            beside,
             crew,
             captures: Vec::new(alloc),
             seen: Vec::new(alloc),
@@ -62,6 +68,37 @@ fn is_seen(seen: &[u8], number: u8) -> bool
     seen.iter().any(|other| *other == number)
 }
 
+// Judges the packets of a capture as digits, which was taken at the interface with this number, a window at a time.
+fn judge_digits<'t, 'f, T: Threads + Wait + Sync>(
+    beside: Option<&T>,
+    crew: Crew<'t, 'f, T>,
+    interface: u8,
+    digits: &[u8],
+) -> Result<Streamed<Crew<'t, 'f, T>>, Fault>
+    requires { CanJudge crew.workers digits.now }
+    ensures ok { IfOk result (HaveJudgedDigits crew.entry.workers interface digits.now) }
+    ensures fault { IfErr result (λ fault. (fault ≡ Memory) ⊎ IsFaultOfOne Hexadecimal digits.now fault) }
+{
+    if !are_digits(digits) {
+        return Err(Fault::Hex);
+    }
+    let alloc = crew.alloc;
+    let mut source = SpeltBytes { left: digits };
+    let order = match read_header(alloc, &mut source) {
+        Ok(order) => order,
+        Err(fault) => return Err(fault),
+    };
+    let opening = Opening {
+        bytes: Vec::new(alloc),
+        from: 0,
+        order,
+        interface,
+        ended: false,
+    };
+    let size = window_size(beside.is_some());
+    judge_stream(beside, alloc, &mut source, crew, opening, size)
+}
+
 // Judges the next capture.
 fn judge_next<'t, 'f, 'b, T: Threads + Wait + Sync>(
     walk: Walk<'t, 'f, 'b, T>,
@@ -72,6 +109,7 @@ fn judge_next<'t, 'f, 'b, T: Threads + Wait + Sync>(
     ensures fault { IfErr result (λ fault. (fault ≡ Memory) ⊎ IsFaultAt walk.entry.seen.items capture.entry fault) }
 {
     let Walk {
+        beside,
         crew,
         mut captures,
         mut seen,
@@ -82,26 +120,30 @@ fn judge_next<'t, 'f, 'b, T: Threads + Wait + Sync>(
         return Err(Fault::Twice(number));
     }
     let Digits { digits, next } = cut_digits(capture.content);
-    let bytes = decode_digits(crew.alloc, digits)?;
-    let CheckedCapture { records, truncated } = check_capture(&bytes, number)?;
+    let Streamed {
+        judges,
+        packets,
+        truncated,
+    } = match judge_digits(beside, crew, number, digits) {
+        Ok(streamed) => streamed,
+        Err(fault) => return Err(fault),
+    };
     captures.push(Captured {
         named: Some(number),
-        packets: records.count(),
+        packets,
         truncated,
     })?;
     seen.insert(0, number)?;
-    match crew.judge(Packets::Records(records)) {
-        Ok(crew) => Ok(Walk {
-            crew,
-            captures,
-            seen,
-            next,
-        }),
-        Err(_) => Err(Fault::Memory),
-    }
+    Ok(Walk {
+        beside,
+        crew: judges,
+        captures,
+        seen,
+        next,
+    })
 }
 
-// Judges all captures.
+// Judges all captures with numbers.
 fn judge_each<'t, 'f, 'b, T: Threads + Wait + Sync>(
     begun: Walk<'t, 'f, 'b, T>,
 ) -> Result<Ended, Fault>
@@ -125,7 +167,32 @@ fn judge_each<'t, 'f, 'b, T: Threads + Wait + Sync>(
     })
 }
 
-/// What the packets of captures with numbers met, of an input of which all was read.
+// Judges all captures that follow a marker line of this form: the only one, or those with numbers.
+fn judge_all<'t, T: Threads + Wait + Sync>(
+    beside: Option<&'t T>,
+    crew: Crew<'t, '_, T>,
+    form: Form,
+    content: &[u8],
+) -> Result<Ended, Fault>
+    requires digits { form ≢ Binary }
+    requires rest { AreResting [] crew.workers }
+    requires few { length content.now ≤ most_bytes }
+    ensures ok { IfOk result (HaveTakenDigits crew.entry.workers form content.now) }
+    ensures fault { IfErr result (λ fault. (fault ≡ Memory) ⊎ IsFaultOfContent form content.now fault) }
+{
+    match form {
+        Form::Binary => unreachable!(),
+        Form::Hexadecimal => match judge_digits(beside, crew, 0, content) {
+            Ok(streamed) => end_capture(streamed),
+            Err(fault) => Err(fault),
+        },
+        Form::Numbered(interface) => {
+            judge_each(Walk::at(beside, crew, Numbered { interface, content }))
+        }
+    }
+}
+
+/// What the packets of captures as digits met, of an input of which all was read.
 pub fn judge_captures<T: Threads + Wait + Sync>(
     rt: &T,
     alloc: Global,
@@ -137,26 +204,19 @@ pub fn judge_captures<T: Threads + Wait + Sync>(
     requires few { length bytes.now ≤ most_bytes }
     ensures { AnswersInput options.now bytes.now result }
 {
-    let Marked {
-        filter,
-        number,
-        from,
-    } = marked;
+    let Marked { filter, form, from } = marked;
     let content = &bytes[from..];
     let Ok((tables, callers)) = create_sized(alloc, options.tables) else {
         return Err(Fault::Memory);
     };
     let (expected, workers) = plan_for(options, true, content.len() / RECORD_DIGITS);
+    let beside = if workers > 1 { Some(rt) } else { None };
     let prepared = filter.prepare(alloc, expected)?;
     let ready = filter.ready_with(alloc, &prepared)?;
     let Ok(workers) = SizedWorkers::new(rt, alloc, &ready, &tables, callers, workers) else {
         return Err(Fault::Memory);
     };
-    let first = Numbered {
-        interface: number,
-        content,
-    };
-    match judge_each(Walk::at(Crew { alloc, workers }, first)) {
+    match judge_all(beside, Crew { alloc, workers }, form, content) {
         Ok(ended) => with_stored(rt, alloc, options, tables, ended),
         Err(fault) => Err(fault),
     }

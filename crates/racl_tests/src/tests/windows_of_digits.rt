@@ -1,0 +1,115 @@
+//! Captures as digits, which are decoded while they are read.
+
+use crate::tests::windows::{Counter, record, windows_of};
+use capture_stream::{Opening, SpeltBytes, are_digits, judge_stream};
+use packet_view::Order;
+use racl_io::{Fault, read_until};
+use std::alloc::{AllocError, Global};
+use std::test::Fail;
+use std::thread::Threads;
+
+// What a capture comes to: how many packets it has by its count and by those who judge, and whether it is cut.
+type Counted = Result<(usize, usize, bool), Fault>;
+
+// What the digits of a capture come to in windows of so many bytes.
+fn count_digits<T: Threads>(
+    beside: Option<&T>,
+    alloc: Global,
+    digits: &[u8],
+    bytes: usize,
+) -> Counted {
+    let mut source = SpeltBytes { left: digits };
+    let mut header = Vec::new(alloc);
+    let ended = read_until(&mut source, &mut header, 24)?;
+    if header.len() < 24 {
+        return Err(Fault::Short);
+    }
+    let opening = Opening {
+        bytes: header,
+        from: 24,
+        order: Order::Little,
+        interface: 7,
+        ended,
+    };
+    let counter = Counter { count: 0 };
+    let size = windows_of(bytes);
+    match judge_stream(beside, alloc, &mut source, counter, opening, size) {
+        Ok(whole) => Ok((whole.packets, whole.judges.count, whole.truncated)),
+        Err(fault) => Err(fault),
+    }
+}
+
+// A blank stands behind the header's digits, and then behind those of so many bytes each.
+fn spelt(alloc: Global, capture: &[u8], bytes: usize, blank: u8) -> Result<Vec<u8>, AllocError> {
+    let mut text = Vec::new(alloc);
+    for (place, byte) in capture.iter().enumerate() {
+        if place >= 24 && (place - 24) % bytes.max(1) == 0 {
+            text.push(blank)?;
+        }
+        let mut digits = [0u8; 2];
+        for (digit, value) in digits.iter_mut().zip([*byte / 16, *byte % 16]) {
+            *digit = if value < 10 {
+                b'0' + value
+            } else {
+                b'W' + value
+            };
+        }
+        text.extend_from_slice(&digits)?;
+    }
+    Ok(text)
+}
+
+// Six whole records behind a header.
+fn six_records(alloc: Global) -> Result<Vec<u8>, AllocError> {
+    let mut bytes = vec![in alloc; 0xa9u8; 24]?;
+    for _ in 0..6 {
+        bytes.extend_from_slice(&record([4, 0, 0, 0]))?;
+    }
+    Ok(bytes)
+}
+
+#[test]
+fn a_blank_stands_at_each_edge_of_a_window(rt: HostRuntime) -> Result<(), Fail> {
+    let alloc = rt.alloc();
+    let whole = six_records(alloc)?;
+    let mut long = six_records(alloc)?;
+    long.extend_from_slice(&record([1, 0, 4, 0]))?;
+    for (size, blank) in [
+        (1, b' '),
+        (2, b'\n'),
+        (7, b'\t'),
+        (19, b'\r'),
+        (20, b'\n'),
+        (41, b' '),
+    ] {
+        for beside in [None, Some(&rt)] {
+            let digits = spelt(alloc, &whole, size, blank)?;
+            let found = count_digits(beside, alloc, &digits, size);
+            assert_eq!(rt; found, Ok((6, 6, false)), "windows of {size}");
+            let digits = spelt(alloc, &long, size, blank)?;
+            let found = count_digits(beside, alloc, &digits, size);
+            assert_eq!(rt; found, Err(Fault::LongRecord(7)), "windows of {size}");
+            let digits = spelt(alloc, &whole[..whole.len() - 1], size, blank)?;
+            let found = count_digits(beside, alloc, &digits, size);
+            assert_eq!(rt; found, Ok((5, 5, true)), "windows of {size}");
+        }
+    }
+    Ok(())
+}
+
+#[test]
+fn digits_are_two_for_each_byte_and_blanks(rt: HostRuntime) {
+    for right in [b"".as_slice(), b" \t\r\n", b"d4", b"D 4c\n3", b"\n09aFAf"] {
+        assert!(rt; are_digits(right), "{right:?}");
+    }
+    for wrong in [
+        b"d".as_slice(),
+        b"d4 c",
+        b"d4 g3",
+        b"0x00",
+        b"d4c3:",
+        b"d4\x0bc3",
+    ] {
+        assert!(rt; !are_digits(wrong), "{wrong:?}");
+    }
+}
