@@ -3,14 +3,16 @@ ghost use Rattle.std.specs.Prelude.{◌≡◌, IfOk};
 ghost use Rattle.bihash_words.specs.Sizes.{sizes_of};
 ghost use Rattle.bihash_steps.specs.CallerCalls.{AreIdle};
 ghost use Rattle.flow_workers.specs.inner.CallerSplits.{AreJoined, AreJoinedWhole, AreNew, IsJoinedOne, IsMadeWhole, IsNewCaller, MayJoin};
+ghost use Rattle.flow_workers.specs.inner.Shares.{AreFresh};
 
+use crate::session_tables::{Callers, Tables};
 use bihash_table::{Caller, Sessions, SplitFault};
 use bihash_words::Shape;
 use std::alloc::{AllocError, Global};
 use std::sync::Wait;
 
-/// The caller, and a new one. A split that is refused for another cause than memory is tried again.
-pub fn split_one<S: Shape, R: Wait>(
+// The caller, and a new one. A split that is refused for another cause than memory is tried again.
+fn split_one<S: Shape, R: Wait>(
     rt: &R,
     alloc: Global,
     table: &Sessions<S>,
@@ -27,6 +29,30 @@ pub fn split_one<S: Shape, R: Wait>(
         }
     }
     unreachable!()
+}
+
+/// The callers, and new ones.
+pub fn split_both<A: Shape, B: Shape, R: Wait>(
+    rt: &R,
+    alloc: Global,
+    tables: &Tables<A, B>,
+    callers: Callers<A, B>,
+) -> Result<(Callers<A, B>, Callers<A, B>), AllocError>
+    requires { AreFresh tables.now callers }
+    ensures { IfOk result (λ r. AreFresh tables.now r.0 × AreFresh tables.now r.1) }
+{
+    let Callers { four, six } = callers;
+    let (own_four, next_four) = split_one(rt, alloc, &tables.four, four)?;
+    let (own_six, next_six) = split_one(rt, alloc, &tables.six, six)?;
+    let own = Callers {
+        four: own_four,
+        six: own_six,
+    };
+    let next = Callers {
+        four: next_four,
+        six: next_six,
+    };
+    Ok((own, next))
 }
 
 /// Counts the callers until this one is found to have every number.

@@ -1,6 +1,6 @@
 //! A worker before its turn and after it.
 use crate::gate::Gate;
-use crate::one_worker::work;
+use crate::worker_packets::work;
 use crate::worker_share::{Job, Share};
 use bihash_words::Shape;
 use packet_dealing::Task;

@@ -2,12 +2,12 @@
 ghost use Rattle.std.specs.Prelude.{◌≡◌, [], IfOk};
 ghost use Rattle.flow_workers.specs.inner.Shares.{AreFresh, AreSplit, MaySplit};
 
-use crate::caller_split::{join_whole, split_one};
+use crate::caller_split::{join_whole, split_both};
 use crate::gate::Gate;
-use crate::one_thread::judge_together;
+use crate::judge_in_one_thread::judge_together;
+use crate::judge_in_threads::judge_in_threads;
 use crate::run_fault::RunFault;
 use crate::session_tables::{Callers, Tables};
-use crate::several_threads::judge_in_threads;
 use crate::verdict_merge::merge_verdicts;
 use crate::worker_results::results_of;
 use crate::worker_setup::Setup;
@@ -18,30 +18,6 @@ use packet_view::Packets;
 use std::alloc::{AllocError, Global};
 use std::sync::Wait;
 use std::thread::Threads;
-
-// The callers, and new ones.
-fn split_both<A: Shape, B: Shape, R: Wait>(
-    rt: &R,
-    alloc: Global,
-    tables: &Tables<A, B>,
-    callers: Callers<A, B>,
-) -> Result<(Callers<A, B>, Callers<A, B>), AllocError>
-    requires { AreFresh tables.now callers }
-    ensures { IfOk result (λ r. AreFresh tables.now r.0 × AreFresh tables.now r.1) }
-{
-    let Callers { four, six } = callers;
-    let (own_four, next_four) = split_one(rt, alloc, &tables.four, four)?;
-    let (own_six, next_six) = split_one(rt, alloc, &tables.six, six)?;
-    let own = Callers {
-        four: own_four,
-        six: own_six,
-    };
-    let next = Callers {
-        four: next_four,
-        six: next_six,
-    };
-    Ok((own, next))
-}
 
 // The share with these callers of a worker that judged nothing.
 fn unused<A: Shape, B: Shape>(alloc: Global, callers: Callers<A, B>) -> Share<A, B>

@@ -9,7 +9,7 @@ ghost use Rattle.racl_cli.specs.Runs.{AnswersRight, HasRun};
 ghost use Rattle.racl_cli.specs.Saves.{HasRunSaving};
 
 use crate::bytes_at_hand::AtHand;
-use crate::digit_captures::judge_captures;
+use crate::digit_captures_in_turn::judge_captures;
 use crate::input_front::{Front, Headed, Opened, open_source, read_rest};
 use crate::judge_records::judge_records;
 use crate::judged_input::Judged;

@@ -3,7 +3,7 @@
 #![tactic(auto)]
 
 mod bytes_at_hand;
-mod digit_captures;
+mod digit_captures_in_turn;
 mod end_to_end;
 mod exit_messages;
 mod input_front;

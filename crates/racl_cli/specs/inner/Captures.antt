@@ -9,7 +9,7 @@ use Rattle.racl_io.specs.declared.input.Form.{Form}
 use Rattle.racl_io.specs.declared.input.Form.TheVariants.{Hexadecimal}
 use Rattle.racl_io.specs.Inputs.{AreCaptures, DigitsFacts, AreCutDigits, IsContent, NumberedFacts, most_bytes, numbered_facts}
 use Rattle.capture_stream.specs.declared.stream_judging.Streamed.{Streamed}
-use Rattle.racl_cli.specs.declared.digit_captures.Walk.{Walk}
+use Rattle.racl_cli.specs.declared.digit_captures_in_turn.Walk.{Walk}
 use Rattle.racl_cli.specs.declared.judged_input.Ended.{Ended}
 use Rattle.racl_cli.specs.declared.sized_tables.SizedWorkers.{SizedWorkers}
 use Rattle.racl_cli.specs.declared.workers_as_judges.Crew.{Crew}

@@ -1,7 +1,0 @@
-use Rattle.std.proofs.Common.{◌≡◌, ◌++◌, drop}
-use Rattle.flow_workers.specs.inner.Shares.{workers_in}
-use Rattle.flow_workers.proofs.several_threads.note_workers.Given as goal
-
-abbrev pub invariant-loop-chunk : goal.invariant-loop-chunk
-invariant-loop-chunk l =
-    l.judges.items ++ workers_in (drop l.chunk-index l.dealt) ≡ l.fn.judges.items ++ workers_in l.dealt

@@ -1,0 +1,56 @@
+//! All workers, each in a thread of its own: the packets of a batch are dealt, and then judged at once.
+ghost use Rattle.std.specs.Prelude.{◌≡◌, ◌++◌, IfOk};
+ghost use Rattle.packet_dealing.specs.declared.dealt_chunk.DealtChunk.{DealtChunk};
+ghost use Rattle.flow_workers.specs.inner.Shares.{workers_in};
+ghost use Rattle.flow_workers.specs.inner.Together.{HaveJudgedBatch};
+ghost use Rattle.flow_workers.specs.inner.Turns.{MayJudgeBatch};
+
+use crate::gate::Gate;
+use crate::turns_in_threads::run_shares;
+use crate::worker_share::{Batch, Dealt, Share};
+use bihash_words::Shape;
+use packet_dealing::{DealtChunk, deal_packets};
+use std::alloc::{AllocError, Global};
+use std::sync::Wait;
+use std::thread::Threads;
+
+// The workers of the packets of these chunks come after those that are there.
+fn note_workers(judges: &mut Vec<u8>, dealt: &[DealtChunk<'_>]) -> Result<(), AllocError>
+    ensures { IfOk result (λ _. judges.new.items ≡ judges.old.items ++ workers_in dealt.now) }
+{
+    for chunk in dealt {
+        judges.extend_from_slice(chunk.workers.as_slice())?;
+    }
+    Ok(())
+}
+
+/// The shares of all workers after they judged the packets of a batch, each in a thread of its own. The workers of the
+/// packets come after those that are noted.
+pub fn judge_in_threads<
+    A: Shape + Send + Sync,
+    B: Shape + Send + Sync,
+    R: Threads + Wait + Sync,
+    G: Gate + Sync,
+>(
+    alloc: Global,
+    batch: Batch<'_, '_, '_, A, B, R, G>,
+    shares: Vec<Share<A, B>>,
+    judges: &mut Vec<u8>,
+) -> Result<Vec<Share<A, B>>, AllocError>
+where
+    A::Key: Send + Sync,
+    B::Key: Send + Sync,
+    requires { MayJudgeBatch batch shares.items }
+    ensures { IfOk result (λ v. HaveJudgedBatch batch.entry shares.items v.items judges.old.items judges.new.items) }
+{
+    let setup = &batch.setup;
+    let dealt = deal_packets::<A, B, R>(
+        setup.rt,
+        alloc,
+        setup.dealer(),
+        batch.first,
+        batch.packets,
+    )?;
+    note_workers(judges, dealt.as_slice())?;
+    run_shares(alloc, batch.again(), Dealt { chunks: &dealt }, shares)
+}
