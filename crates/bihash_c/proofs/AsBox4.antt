@@ -8,7 +8,7 @@ use Rattle.std_heap.specs.contracts.GlobalAllocator.TheImpl.{ghosts, dict}
 use Rattle.std_heap.proofs.Global.TheLaws as heap
 use Rattle.bihash_c.specs.contracts.handle4_place.Place4 as Place
 use Rattle.bihash_c.proofs.handle4_place.Place4.TheLaws as place
-use Rattle.bihash_c.specs.contracts.box_parts.Parts as Parts
+use Rattle.bihash_c.specs.contracts.box_raw_parts.Parts as Parts
 use Rattle.bihash_c.specs.contracts.handle4.Handle4 as Handle
 
 abbrev pub E : Bx

@@ -35,12 +35,12 @@ use Rattle.std.proofs.alloc.Calls.{token, Goes-blank}
 use Rattle.std_alloc.specs.Box.Ownership.{box_owns}
 use Rattle.std_alloc.proofs.BoxSteps.Form.{Bx, D, R, P, B, args, box_ty, word, box_typed}
 use Rattle.std_alloc.proofs.BoxSteps.Steps.{box_out, box_in}
-use Rattle.bihash_c.specs.contracts.box_parts.Parts as parts
+use Rattle.bihash_c.specs.contracts.box_raw_parts.Parts as parts
 use Rattle.std_alloc.specs.contracts.boxed.Box.from_raw as Fr
 use Rattle.std_alloc.proofs.boxed.Box.from_raw.Symbol as raw_sym
 use Rattle.std_alloc.proofs.boxed.Box.from_raw.Met as raw_met
-use Rattle.bihash_c.specs.contracts.box_parts.Parts.into_box as F
-use Rattle.bihash_c.specs.contracts.box_parts.Parts.into_box.Key.{name as #self}
+use Rattle.bihash_c.specs.contracts.box_raw_parts.Parts.into_box as F
+use Rattle.bihash_c.specs.contracts.box_raw_parts.Parts.into_box.Key.{name as #self}
 use Rattle.bihash_c.proofs.box_raw_parts.Parts.into_box.Statement as stated
 use Rattle.bihash_c.proofs.box_raw_parts.Parts.into_box.Code as code
 

@@ -37,12 +37,12 @@ use Rattle.std.proofs.alloc.Calls.{token, handle_tells, Goes-blank}
 use Rattle.std_alloc.specs.Box.Ownership.{box_owns}
 use Rattle.std_alloc.proofs.BoxSteps.Form.{Bx, D, τ, R, P, B, word, box_typed}
 use Rattle.std_alloc.proofs.BoxSteps.Steps.{box_out, box_in}
-use Rattle.bihash_c.specs.contracts.box_parts.Parts as parts
+use Rattle.bihash_c.specs.contracts.box_raw_parts.Parts as parts
 use Rattle.std_alloc.specs.contracts.boxed.Box.into_raw_with_allocator as Ra
 use Rattle.std_alloc.proofs.boxed.Box.into_raw_with_allocator.Symbol as raw_sym
 use Rattle.std_alloc.proofs.boxed.Box.into_raw_with_allocator.Met as raw_met
-use Rattle.bihash_c.specs.contracts.box_parts.Parts.of as F
-use Rattle.bihash_c.specs.contracts.box_parts.Parts.of.Key.{name as #self}
+use Rattle.bihash_c.specs.contracts.box_raw_parts.Parts.of as F
+use Rattle.bihash_c.specs.contracts.box_raw_parts.Parts.of.Key.{name as #self}
 use Rattle.bihash_c.proofs.box_raw_parts.Parts.of.Statement as stated
 use Rattle.bihash_c.proofs.box_raw_parts.Parts.of.Code as code
 
