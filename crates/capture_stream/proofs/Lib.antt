@@ -1,3 +1,3 @@
-pub mod SpeltLemmas
+pub mod HexDigitLemmas
 pub mod TellLemmas
 pub mod WalkLemmas

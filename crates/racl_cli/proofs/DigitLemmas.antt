@@ -18,10 +18,10 @@ use Rattle.racl_io.specs.Faults.{IsFaultOfOne}
 use Rattle.racl_io.specs.Inputs.{IsContent, digits_of, most_bytes}
 use Rattle.racl_io.specs.Transfers.{failures_after_reads}
 use Rattle.capture_stream.specs.Lives.{with_read}
-use Rattle.capture_stream.specs.SpeltBytes.{spelt}
+use Rattle.capture_stream.specs.HexDigits.{spelt}
 use Rattle.capture_stream.specs.Streams.{AreAllRead, HasLongRecord, IsStreamFault, records_in}
 use Rattle.capture_stream.specs.declared.stream_judging.Opening.{Opening}
-use Rattle.capture_stream.proofs.SpeltLemmas.{known_ok}
+use Rattle.capture_stream.proofs.HexDigitLemmas.{known_ok}
 use Rattle.racl_cli.specs.inner.Heads.{HasReadHeader, IsHeadless}
 use Rattle.racl_cli.proofs.OpenedLemmas.{content_short}
 

@@ -23,9 +23,9 @@ use Rattle.racl_cli.specs.Crews.{AreResting, AreSaid, IsRestingAlone, Orders, or
 use Rattle.racl_cli.specs.LiveRuns.{ByOneWorker, HasRunLive, IsEarlyFault}
 use Rattle.racl_cli.specs.Runs.{ByOneThread, bucket_deal}
 use Rattle.racl_cli.specs.inner.Heads.{HasReadHeader, IsHeadless}
-use Rattle.racl_cli.specs.declared.sized_tables.SizedTables.{SizedTables}
-use Rattle.racl_cli.specs.declared.sized_tables.SizedWorkers.{SizedWorkers}
-use Rattle.racl_cli.specs.declared.sized_tables.SizedWorkers.TheVariants.{Standard, Large}
+use Rattle.racl_cli.specs.declared.sized_tables_and_workers.SizedTables.{SizedTables}
+use Rattle.racl_cli.specs.declared.sized_tables_and_workers.SizedWorkers.{SizedWorkers}
+use Rattle.racl_cli.specs.declared.sized_tables_and_workers.SizedWorkers.TheVariants.{Standard, Large}
 use Rattle.racl_cli.proofs.OutcomeLemmas.{given_by_workers, judged_as}
 
 -- a worker that begins alone

@@ -35,8 +35,8 @@ use Rattle.capture_stream.specs.Streams.{AreAllRead, records_in}
 use Rattle.capture_stream.specs.declared.stream_judging.Opening.{Opening}
 use Rattle.flow_dealing.specs.WorkerRecords.{HavePages}
 use Rattle.racl_cli.specs.declared.judged_input.Ended.{Ended}
-use Rattle.racl_cli.specs.declared.sized_tables.SizedTables.{SizedTables}
-use Rattle.racl_cli.specs.declared.sized_tables.SizedWorkers.{SizedWorkers}
+use Rattle.racl_cli.specs.declared.sized_tables_and_workers.SizedTables.{SizedTables}
+use Rattle.racl_cli.specs.declared.sized_tables_and_workers.SizedWorkers.{SizedWorkers}
 use Rattle.racl_cli.specs.Reads.{AnswersInput, AreKnown, HasJudged, HasKept, IsReached, IsSaid}
 use Rattle.racl_cli.specs.inner.Stored.{HasStored}
 use Rattle.racl_cli.specs.inner.Streams.{HasEnded}

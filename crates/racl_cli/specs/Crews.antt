@@ -20,12 +20,12 @@ use Rattle.flow_workers.specs.declared.workers.Workers.{Workers}
 use Rattle.racl_options.specs.declared.settings.TableSize.{TableSize}
 use Rattle.racl_options.specs.declared.settings.TableSize.TheVariants as asked
 use Rattle.racl_cli.specs.Runs.{bucket_deal}
-use Rattle.racl_cli.specs.declared.sized_tables.SizedCallers.{SizedCallers}
-use Rattle.racl_cli.specs.declared.sized_tables.SizedCallers.TheVariants as called
-use Rattle.racl_cli.specs.declared.sized_tables.SizedTables.{SizedTables}
-use Rattle.racl_cli.specs.declared.sized_tables.SizedTables.TheVariants as laid
-use Rattle.racl_cli.specs.declared.sized_tables.SizedWorkers.{SizedWorkers}
-use Rattle.racl_cli.specs.declared.sized_tables.SizedWorkers.TheVariants.{Standard, Large}
+use Rattle.racl_cli.specs.declared.sized_tables_and_workers.SizedCallers.{SizedCallers}
+use Rattle.racl_cli.specs.declared.sized_tables_and_workers.SizedCallers.TheVariants as called
+use Rattle.racl_cli.specs.declared.sized_tables_and_workers.SizedTables.{SizedTables}
+use Rattle.racl_cli.specs.declared.sized_tables_and_workers.SizedTables.TheVariants as laid
+use Rattle.racl_cli.specs.declared.sized_tables_and_workers.SizedWorkers.{SizedWorkers}
+use Rattle.racl_cli.specs.declared.sized_tables_and_workers.SizedWorkers.TheVariants.{Standard, Large}
 
 -- ---- tables
 

@@ -13,10 +13,10 @@ use crate::input_front::Marked;
 use crate::judge_records::{end_capture, plan_for, window_size};
 use crate::judged_input::{Ended, Judged};
 use crate::live_run::read_header;
-use crate::sized_tables::{SizedWorkers, create_sized};
+use crate::sized_tables_and_workers::{SizedWorkers, create_sized};
 use crate::stored_sessions::with_stored;
 use crate::workers_as_judges::Crew;
-use capture_stream::{Opening, SpeltBytes, Streamed, are_digits, judge_stream};
+use capture_stream::{HexDigits, Opening, Streamed, are_digits, judge_stream};
 use racl_io::{Captured, Digits, Fault, Form, Numbered, cut_digits};
 use racl_options::Options;
 use std::alloc::Global;
@@ -83,7 +83,7 @@ fn judge_digits<'t, 'f, T: Threads + Wait + Sync>(
         return Err(Fault::Hex);
     }
     let alloc = crew.alloc;
-    let mut source = SpeltBytes { left: digits };
+    let mut source = HexDigits { left: digits };
     let order = match read_header(alloc, &mut source) {
         Ok(order) => order,
         Err(fault) => return Err(fault),

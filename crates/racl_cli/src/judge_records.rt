@@ -10,7 +10,7 @@ ghost use Rattle.racl_cli.specs.inner.Streams.{HasEnded};
 ghost use Rattle.racl_cli.specs.Reads.{HasJudged, MayJudge};
 
 use crate::judged_input::{Ended, Judged};
-use crate::sized_tables::{MANY_PACKETS, SizedWorkers, create_sized};
+use crate::sized_tables_and_workers::{MANY_PACKETS, SizedWorkers, create_sized};
 use crate::stored_sessions::with_stored;
 use crate::workers_as_judges::Crew;
 use capture_stream::{Opening, Streamed, WindowSize, judge_stream};

@@ -4,7 +4,7 @@ ghost use Rattle.racl_io.specs.Reports.{packets_in};
 ghost use Rattle.racl_views.specs.Stored.{stored_facts};
 ghost use Rattle.racl_cli.specs.Runs.{JudgedFacts};
 
-use crate::sized_tables::SizedCallers;
+use crate::sized_tables_and_workers::SizedCallers;
 use flow_workers::Verdict;
 use racl_io::Captured;
 use racl_views::StoredPairs;

@@ -14,7 +14,7 @@ mod message;
 mod report_views;
 mod run_laws;
 mod save_packets;
-mod sized_tables;
+mod sized_tables_and_workers;
 mod stored_sessions;
 mod workers_as_judges;
 

@@ -5,7 +5,7 @@ ghost use Rattle.capture_stream.specs.Lives.{HasToldAll, IsLiveFault, with_read,
 ghost use Rattle.racl_cli.specs.LiveRuns.{ByOneWorker, HasRunLive, IsLiveRunFault};
 ghost use Rattle.racl_cli.specs.inner.Heads.{HasReadHeader, IsHeadless};
 
-use crate::sized_tables::{SizedWorkers, create_sized};
+use crate::sized_tables_and_workers::{SizedWorkers, create_sized};
 use crate::workers_as_judges::Lone;
 use acl_policy::read_policy;
 use capture_stream::tell_live;

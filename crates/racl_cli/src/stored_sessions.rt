@@ -8,7 +8,7 @@ ghost use Rattle.racl_cli.specs.Runs.{AreStoredOf, layout_for};
 ghost use Rattle.racl_cli.specs.inner.Stored.{HasStored};
 
 use crate::judged_input::{Ended, Judged};
-use crate::sized_tables::{SizedCallers, SizedTables, close_sized};
+use crate::sized_tables_and_workers::{SizedCallers, SizedTables, close_sized};
 use racl_io::Fault;
 use racl_options::Options;
 use racl_views::StoredPairs;

@@ -1,6 +1,6 @@
 //! Workers as those who judge the packets of a capture.
 
-use crate::sized_tables::SizedWorkers;
+use crate::sized_tables_and_workers::SizedWorkers;
 use capture_stream::{Judges, Tellers};
 use flow_workers::Verdict;
 use packet_view::Packets;

@@ -11,7 +11,7 @@ use Rattle.racl_io.specs.Inputs.{AreCaptures, DigitsFacts, AreCutDigits, IsConte
 use Rattle.capture_stream.specs.declared.stream_judging.Streamed.{Streamed}
 use Rattle.racl_cli.specs.declared.digit_captures_in_turn.Walk.{Walk}
 use Rattle.racl_cli.specs.declared.judged_input.Ended.{Ended}
-use Rattle.racl_cli.specs.declared.sized_tables.SizedWorkers.{SizedWorkers}
+use Rattle.racl_cli.specs.declared.sized_tables_and_workers.SizedWorkers.{SizedWorkers}
 use Rattle.racl_cli.specs.declared.workers_as_judges.Crew.{Crew}
 use Rattle.racl_cli.specs.Crews.{AreResting, AreSaidBy, orders_of}
 use Rattle.racl_cli.specs.Runs.{AreTaken, HasPackets, IsTaken}

@@ -2,7 +2,7 @@
 use Rattle.std.specs.Prelude.{◌≡◌, true}
 use Rattle.racl_options.specs.declared.settings.Options.{Options}
 use Rattle.racl_cli.specs.declared.judged_input.Ended.{Ended}
-use Rattle.racl_cli.specs.declared.sized_tables.SizedTables.{SizedTables}
+use Rattle.racl_cli.specs.declared.sized_tables_and_workers.SizedTables.{SizedTables}
 use Rattle.racl_cli.specs.Crews.{size_of, views_with}
 use Rattle.racl_cli.specs.Runs.{AreStoredOf, JudgedFacts, Outcome, keeps_stored, layout_for}
 

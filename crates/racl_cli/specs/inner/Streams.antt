@@ -1,7 +1,7 @@
 -- The one capture of an input, whose packets workers judge while it is read.
 use Rattle.std.specs.Prelude.{◌≡◌, Bool, [], ◌∷◌, None, length}
 use Rattle.racl_cli.specs.declared.judged_input.Ended.{Ended}
-use Rattle.racl_cli.specs.declared.sized_tables.SizedWorkers.{SizedWorkers}
+use Rattle.racl_cli.specs.declared.sized_tables_and_workers.SizedWorkers.{SizedWorkers}
 use Rattle.racl_cli.specs.Crews.{HaveEndedOn}
 
 -- these are the verdicts on the packets that they judged, their callers, and what is told of the one capture of these

@@ -1,7 +1,7 @@
 //! Captures as digits, which are decoded while they are read.
 
 use crate::tests::windows::{Counter, record, windows_of};
-use capture_stream::{Opening, SpeltBytes, are_digits, judge_stream};
+use capture_stream::{Opening, HexDigits, are_digits, judge_stream};
 use packet_view::Order;
 use racl_io::{Fault, read_until};
 use std::alloc::{AllocError, Global};
@@ -18,7 +18,7 @@ fn count_digits<T: Threads>(
     digits: &[u8],
     bytes: usize,
 ) -> Counted {
-    let mut source = SpeltBytes { left: digits };
+    let mut source = HexDigits { left: digits };
     let mut header = Vec::new(alloc);
     let ended = read_until(&mut source, &mut header, 24)?;
     if header.len() < 24 {

@@ -1,7 +1,7 @@
 use Rattle.std.proofs.Common.{◌≡◌, ◌∙◌, refl, subst}
 use denote.Param.Send.{given_sync, param_sync}
 use Rattle.racl_cli.specs.Crews.{AreAfter, orders_of}
-use Rattle.racl_cli.specs.declared.sized_tables.SizedWorkers.TheVariants.{Standard, Large}
+use Rattle.racl_cli.specs.declared.sized_tables_and_workers.SizedWorkers.TheVariants.{Standard, Large}
 use Rattle.racl_cli.proofs.workers_as_judges.CrewJudges.judge.Goals as goal
 
 pub judge-requires-sync-R : goal.judge-requires-sync-R

@@ -1,4 +1,4 @@
-use Rattle.racl_cli.proofs.sized_tables.SizedWorkers.end.Goals as goal
+use Rattle.racl_cli.proofs.sized_tables_and_workers.SizedWorkers.end.Goals as goal
 
 pub returns-in-Ok : goal.returns-in-Ok
 returns-in-Ok g c =

@@ -1,6 +1,6 @@
 use Rattle.std.proofs.Common.{◌∙◌, sym}
-use Rattle.capture_stream.proofs.SpeltLemmas.{even_or_unknown, plain_or_unknown}
-use Rattle.capture_stream.proofs.spelt_bytes.are_digits.Goals as goal
+use Rattle.capture_stream.proofs.HexDigitLemmas.{even_or_unknown, plain_or_unknown}
+use Rattle.capture_stream.proofs.hex_digits.are_digits.Goals as goal
 
 pub returns-then-are_all_digits : goal.returns-then-are_all_digits
 returns-then-are_all_digits c =

@@ -1,5 +1,5 @@
 use Rattle.std.proofs.Common.{refl}
-use Rattle.racl_cli.proofs.sized_tables.SizedWorkers.judge_alone.Goals as goal
+use Rattle.racl_cli.proofs.sized_tables_and_workers.SizedWorkers.judge_alone.Goals as goal
 
 pub returns-in-Ok : goal.returns-in-Ok
 returns-in-Ok g c =

@@ -1,6 +1,6 @@
 use Rattle.std.proofs.Common.{◌≡◌, length}
 use Rattle.racl_io.specs.Inputs.{digits_of}
-use Rattle.capture_stream.proofs.spelt_bytes.next_digit.Given as goal
+use Rattle.capture_stream.proofs.hex_digits.next_digit.Given as goal
 
 -- only blanks were passed
 abbrev pub invariant-blanks : goal.invariant-blanks

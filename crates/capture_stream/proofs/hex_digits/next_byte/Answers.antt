@@ -1,5 +1,5 @@
-use Rattle.capture_stream.proofs.SpeltLemmas.{at_none, byte_first, half_byte, no_byte}
-use Rattle.capture_stream.proofs.spelt_bytes.next_byte.Goals as goal
+use Rattle.capture_stream.proofs.HexDigitLemmas.{at_none, byte_first, half_byte, no_byte}
+use Rattle.capture_stream.proofs.hex_digits.next_byte.Goals as goal
 
 pub returns-in_err-high-clause-none : goal.returns-in_err-high-clause-none
 returns-in_err-high-clause-none c = at_none c.from_residual.result (no_byte c.args.content.now c.in_err-high.ensures.none)

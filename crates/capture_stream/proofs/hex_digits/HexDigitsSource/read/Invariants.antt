@@ -1,7 +1,7 @@
 use Rattle.std.proofs.Common.{◌≡◌, ◌≤◌, ◌-◌, length, take}
 use Rattle.std.specs.Io.KnownBytes.{prepend_known}
-use Rattle.capture_stream.specs.SpeltBytes.{spelt}
-use Rattle.capture_stream.proofs.spelt_bytes.SpeltBytesSource.read.Given as goal
+use Rattle.capture_stream.specs.HexDigits.{spelt}
+use Rattle.capture_stream.proofs.hex_digits.HexDigitsSource.read.Given as goal
 
 -- what was read and what is left are what was there
 abbrev pub invariant-bytes : goal.invariant-bytes

@@ -11,7 +11,7 @@ use Rattle.hex.specs.declared.error.FromHexError.{FromHexError}
 use Rattle.hex.proofs.HexLemmas.{decode_of-digits, decode_of-even, decode_of-odd, decode_of-ok, decode_pairs-ok}
 use Rattle.hex.proofs.Pairs.{decode_pairs-ok_pair}
 use Rattle.racl_io.specs.Inputs.{digits_of, is_blank}
-use Rattle.capture_stream.specs.SpeltBytes.{spelt}
+use Rattle.capture_stream.specs.HexDigits.{spelt}
 use Rattle.capture_stream.specs.inner.Digits.{HasDigit, HasNoDigit, are_plain}
 
 -- ---- whether all are digits

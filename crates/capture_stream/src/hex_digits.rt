@@ -4,7 +4,7 @@ ghost use Rattle.std.specs.Io.KnownBytes.{IsAtEnd, prepend_known};
 ghost use Rattle.hex.specs.Hex.{hex_digit_value};
 ghost use Rattle.racl_io.specs.Inputs;
 ghost use Rattle.racl_io.specs.Inputs.{digits_of};
-ghost use Rattle.capture_stream.specs.SpeltBytes.{spelt};
+ghost use Rattle.capture_stream.specs.HexDigits.{spelt};
 ghost use Rattle.capture_stream.specs.inner.Digits.{HasDigit, HasNoDigit, are_plain};
 
 use racl_io::{DeviceFault, Source};
@@ -80,11 +80,11 @@ fn next_byte(content: &[u8]) -> Option<(u8, &[u8])>
 
 /// The bytes that hexadecimal digits stand for, as a source. Reading them never fails, and takes no memory.
 #[derive(Drop)]
-pub struct SpeltBytes<'a> {
+pub struct HexDigits<'a> {
     pub left: &'a [u8],
 }
 
-impl<'a> Source for SpeltBytes<'a> {
+impl<'a> Source for HexDigits<'a> {
     ghost bytes = { λ s. spelt s.left.now };
 
     ghost failures = { λ s. 0 };

@@ -1,6 +1,6 @@
 use Rattle.std.proofs.Common.{refl}
 use Rattle.flow_workers.proofs.StoredLemmas.{stored_pairs}
-use Rattle.racl_cli.proofs.sized_tables.close_sized.Goals as goal
+use Rattle.racl_cli.proofs.sized_tables_and_workers.close_sized.Goals as goal
 
 pub returns-in-Ok : goal.returns-in-Ok
 returns-in-Ok g c =
