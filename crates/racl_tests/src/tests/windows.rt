@@ -86,8 +86,8 @@ pub fn record(kept: [u8; 4]) -> [u8; 20] {
     [7, 0, 0, 0, 0, 0, 0, 0, a, b, c, d, 4, 0, 0, 0, 1, 2, 3, 4]
 }
 
-// A capture of which this was read. `None`: memory was refused.
-fn opened(alloc: Global, front: &[u8]) -> Option<Opening>
+/// A capture of which this was read. `None`: memory was refused.
+pub fn opened(alloc: Global, front: &[u8]) -> Option<Opening>
     requires long { 24 ≤ length front.now }
     requires few { length front.now ≤ most_bytes }
     ensures within { IfSome result (λ opening. opening.from ≤ length opening.bytes.items) }

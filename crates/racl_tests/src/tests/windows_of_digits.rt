@@ -1,9 +1,8 @@
 //! Captures as digits, which are decoded while they are read.
 
-use crate::tests::windows::{Counter, record, windows_of};
-use capture_stream::{Opening, HexDigits, are_digits, judge_stream};
-use packet_view::Order;
-use racl_io::{Fault, read_until};
+use crate::tests::windows::{Counter, opened, record, windows_of};
+use capture_stream::{HexDigits, are_digits, judge_stream};
+use racl_io::{Fault, Source};
 use std::alloc::{AllocError, Global};
 use std::test::Fail;
 use std::thread::Threads;
@@ -19,17 +18,12 @@ fn count_digits<T: Threads>(
     bytes: usize,
 ) -> Counted {
     let mut source = HexDigits { left: digits };
-    let mut header = Vec::new(alloc);
-    let ended = read_until(&mut source, &mut header, 24)?;
-    if header.len() < 24 {
+    let mut header = [0u8; 24];
+    let Ok(24) = source.read(&mut header) else {
         return Err(Fault::Short);
-    }
-    let opening = Opening {
-        bytes: header,
-        from: 24,
-        order: Order::Little,
-        interface: 7,
-        ended,
+    };
+    let Some(opening) = opened(alloc, &header) else {
+        return Err(Fault::Memory);
     };
     let counter = Counter { count: 0 };
     let size = windows_of(bytes);
@@ -74,6 +68,8 @@ fn a_blank_stands_at_each_edge_of_a_window(rt: HostRuntime) -> Result<(), Fail> 
     let whole = six_records(alloc)?;
     let mut long = six_records(alloc)?;
     long.extend_from_slice(&record([1, 0, 4, 0]))?;
+    let mut cut = six_records(alloc)?;
+    let _last = cut.pop();
     for (size, blank) in [
         (1, b' '),
         (2, b'\n'),
@@ -89,7 +85,7 @@ fn a_blank_stands_at_each_edge_of_a_window(rt: HostRuntime) -> Result<(), Fail> 
             let digits = spelt(alloc, &long, size, blank)?;
             let found = count_digits(beside, alloc, &digits, size);
             assert_eq!(rt; found, Err(Fault::LongRecord(7)), "windows of {size}");
-            let digits = spelt(alloc, &whole[..whole.len() - 1], size, blank)?;
+            let digits = spelt(alloc, &cut, size, blank)?;
             let found = count_digits(beside, alloc, &digits, size);
             assert_eq!(rt; found, Ok((5, 5, true)), "windows of {size}");
         }
