@@ -1,5 +1,5 @@
 //! The program: a policy and a capture from standard input or files, a verdict on each packet to
-//! standard output. What it says and how it ends is decided in `racl_cli`; here are the devices alone.
+//! standard output. What it says and how it ends is decided in `racl_report`; here are the devices alone.
 #![tactic(auto)]
 
 ghost use Rattle.std.specs.Prelude.{◌<◌, ◌-◌, ◌^◌};

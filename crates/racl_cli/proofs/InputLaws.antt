@@ -17,9 +17,12 @@ use Rattle.racl_io.specs.Faults.{IsFaultOfBytes, IsFaultOfParts, IsInputFault, p
 use Rattle.racl_io.specs.Inputs.{IsInput, IsMarked, InputFacts, most_bytes}
 use Rattle.racl_io.proofs.PartingLemmas.{some_input}
 use Rattle.flow_filter.proofs.OneThreadLemmas.{one_verdicts, some_verdicts}
-use Rattle.racl_cli.specs.Runs.{ByOneThread, HasOutcome, HasPackets, IsRead, Outcome, layout_for}
-use Rattle.racl_cli.proofs.CaptureLaws.{fit_bytes, no_fault_of_packets, one_fault_of_content, one_packets, packets_or_fault}
-use Rattle.racl_cli.proofs.RunLemmas.{fault_of_known_parts, read_in}
+use Rattle.racl_cli.specs.Runs.{ByOneThread, HasOutcome, layout_for}
+use Rattle.racl_report.specs.ReadInputs.{HasPackets, IsRead}
+use Rattle.racl_report.specs.RunReports.{Outcome}
+use Rattle.racl_report.proofs.CaptureLaws.{fit_bytes, no_fault_of_packets, one_fault_of_content, one_packets, packets_or_fault}
+use Rattle.racl_cli.proofs.RunLemmas.{fault_of_known_parts}
+use Rattle.racl_report.proofs.ReadInputLemmas.{read_in}
 
 -- ---- bytes within bytes
 

@@ -1,4 +1,3 @@
-pub mod CaptureLaws
 pub mod DigitLemmas
 pub mod InputLaws
 pub mod LiveLemmas
@@ -6,7 +5,6 @@ pub mod OpenedLemmas
 pub mod OutcomeLemmas
 pub mod ReadLemmas
 pub mod RunLemmas
-pub mod SaveLemmas
+pub mod SavingLemmas
 pub mod StoredLaws
 pub mod TakenLemmas
-pub mod ViewLemmas

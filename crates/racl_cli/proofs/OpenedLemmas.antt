@@ -22,10 +22,10 @@ use Rattle.racl_io.specs.Inputs.{InputFacts, IsContent, IsInput, IsMarked, digit
 use Rattle.capture_stream.specs.Streams.{HasLongRecord, IsStreamFault, records_in}
 use Rattle.capture_stream.specs.declared.stream_judging.Opening.{Opening}
 use Rattle.racl_cli.specs.Reads.{AnswersInput, AnswersRead, HasHeaded, HasJudged, IsHeaded, IsSaid}
-use Rattle.racl_cli.specs.Runs.{JudgedFacts}
+use Rattle.racl_report.specs.RunReports.{JudgedFacts}
 use Rattle.racl_cli.specs.declared.input_front.Headed.{Headed}
 use Rattle.racl_cli.proofs.OutcomeLemmas.{capture_answers, verdicts_answer}
-use Rattle.racl_cli.proofs.CaptureLaws.{IsUnnumbered}
+use Rattle.racl_report.proofs.CaptureLaws.{IsUnnumbered}
 use Rattle.racl_cli.proofs.ReadLemmas.{all_known, too_many_known}
 
 marked_appended : (capture marked more : List ℕ) → 24 ≤ length capture → IsMarked Binary capture marked → IsMarked Binary (capture ++ more) (marked ++ more)

@@ -26,7 +26,6 @@ use Rattle.racl_options.specs.declared.settings.Options.{Options}
 use Rattle.racl_options.specs.declared.settings.TableSize.{TableSize}
 use Rattle.racl_io.specs.declared.fault.Fault.{Fault}
 use Rattle.racl_io.specs.declared.fault.Fault.TheVariants.{Memory, NoCapture, Write}
-use Rattle.racl_io.specs.declared.report.Captured.{Captured}
 use Rattle.racl_io.specs.declared.report.Totals.{Totals}
 use Rattle.racl_io.specs.Faults.{IsFaultOfBytes, IsFaultOfContent, IsSystemFault, capture_fault, policy_fault}
 use Rattle.racl_io.specs.Inputs.{IsContent, IsInput, InputFacts, most_bytes}
@@ -40,13 +39,14 @@ use Rattle.racl_cli.specs.declared.sized_tables_and_workers.SizedWorkers.{SizedW
 use Rattle.racl_cli.specs.Reads.{AnswersInput, AreKnown, HasJudged, HasKept, IsReached, IsSaid}
 use Rattle.racl_cli.specs.inner.Stored.{HasStored}
 use Rattle.racl_cli.specs.inner.Streams.{HasEnded}
-use Rattle.racl_cli.specs.inner.Views.{HasReport, MayTell, needs_bytes}
-use Rattle.racl_cli.specs.Runs.{AreStoredOf, ByOneThread, ByWorkers, HasOutcome, HasRun, IsRead, JudgedFacts, Outcome, bucket_deal, layout_for, told_of}
-use Rattle.racl_cli.proofs.CaptureLaws.{IsUnnumbered, alone_plain, fault_of_known, fault_plain, one_truncated, plain_fault}
-use Rattle.racl_cli.proofs.RunLemmas.{alone_in_capture, fault_of_known_parts, fault_of_right_policy, fault_of_wrong_policy, fault_without_parts, read_in}
-
-abbrev pub outcome_of : List Verdict → List Captured → Outcome
-outcome_of verdicts captures = record { verdicts = verdicts; captures = captures }
+use Rattle.racl_report.specs.WrittenReports.{HasReport, MayTell, needs_bytes}
+use Rattle.racl_cli.specs.Runs.{AreStoredOf, ByOneThread, ByWorkers, HasOutcome, HasRun, bucket_deal, layout_for}
+use Rattle.racl_report.specs.ReadInputs.{IsRead, told_of}
+use Rattle.racl_report.specs.RunReports.{JudgedFacts, Outcome}
+use Rattle.racl_report.proofs.CaptureLaws.{IsUnnumbered, alone_plain, fault_of_known, fault_plain, one_truncated, plain_fault}
+use Rattle.racl_report.proofs.ReadInputLemmas.{alone_in_capture, read_in}
+use Rattle.racl_report.proofs.ViewLemmas.{outcome_of}
+use Rattle.racl_cli.proofs.RunLemmas.{fault_of_known_parts, fault_of_right_policy, fault_of_wrong_policy, fault_without_parts}
 
 -- what the workers say of their verdicts, where sessions live as long as the words ask for
 pub given_by_workers : (options : Options) (times : Timeouts) (policy : PolicyFacts) (packets : List PacketFacts) (verdicts : List Verdict) (views : Views) (workers : ℕ)

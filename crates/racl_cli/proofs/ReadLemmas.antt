@@ -13,7 +13,8 @@ use Rattle.racl_io.specs.Transfers.{GaveAtMost, HasRead, HasReadWithin, failures
 use Rattle.racl_io.proofs.TransferLemmas.{gave_more}
 use Rattle.racl_io.specs.Inputs.{most_bytes}
 use Rattle.racl_cli.specs.Reads.{AnswersInput, AnswersRead, AreKnown, HasKept, HasRest, IsUnread}
-use Rattle.racl_cli.specs.Runs.{HasOutcome, JudgedFacts, Outcome}
+use Rattle.racl_cli.specs.Runs.{HasOutcome}
+use Rattle.racl_report.specs.RunReports.{JudgedFacts, Outcome}
 use Rattle.racl_cli.proofs.RunLemmas.{IsWhole, device_or, excluded_by_input, fault_of_input, no_device, steady}
 
 -- ---- bytes that a source had

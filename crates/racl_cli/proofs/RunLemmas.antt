@@ -1,16 +1,14 @@
--- What an input says, and its faults, are those of its parts.
-use Rattle.std.proofs.Common.{◌≡◌, ◌≢◌, ◌≤◌, ◌∙◌, ◌⊎◌, ℕ, Bool, List, [], ◌∷◌, Option, Some, None, IfSome, Result, Ok, Err, length, arith, refl, sym, ap, subst, inl, inr}
-use Rattle.packet_view.specs.Captures.{IsCaptureAt, PacketFacts, end_of}
+-- The faults of an input are those of its parts.
+use Rattle.std.proofs.Common.{◌≡◌, ◌≢◌, ◌≤◌, ◌∙◌, ◌⊎◌, ℕ, List, [], ◌∷◌, Option, Some, None, IfSome, Result, Ok, Err, length, arith, refl, sym, ap, subst, inl, inr}
 use Rattle.acl_policy.specs.Policies.{IsPolicyFault, IsPolicyText, PolicyFacts}
 use Rattle.acl_policy.specs.declared.policy.PolicyFault.{PolicyFault}
 use Rattle.acl_policy.specs.declared.policy.PolicyFault.TheVariants as policy
 use Rattle.racl_io.specs.declared.fault.Fault.{Fault}
 use Rattle.racl_io.specs.declared.fault.Fault.TheVariants.{Memory, Read, TooLarge, NoCapture, NotUtf8, BadLine, TooMany, Twice, Hex, Short, Magic, Version, LinkType, LongRecord, Write}
 use Rattle.racl_io.specs.declared.input.Form.{Form}
-use Rattle.racl_io.specs.declared.report.Captured.{Captured}
 use Rattle.racl_io.specs.Faults.{IsSystemFault, IsFaultOfBytes, IsFaultOfCaptures, IsFaultOfContent, IsFaultOfOne, IsFaultOfParts, IsInputFault, capture_fault, policy_fault}
 use Rattle.racl_io.specs.declared.input.Form.TheVariants.{Binary, Hexadecimal, Numbered}
-use Rattle.racl_io.specs.Inputs.{DigitsFacts, IsContent, IsInput, InputFacts, most_bytes}
+use Rattle.racl_io.specs.Inputs.{DigitsFacts, IsInput, InputFacts, most_bytes}
 use Rattle.racl_io.specs.Transfers.{HasReadWithin, failures_after_reads}
 use Rattle.racl_io.proofs.InputLemmas.{one_input}
 use Rattle.racl_io.proofs.TransferLemmas.{gave_none}
@@ -18,37 +16,7 @@ use Rattle.racl_options.specs.declared.settings.Options.{Options}
 use Rattle.packet_view.specs.declared.capture.CaptureFault.{CaptureFault}
 use Rattle.packet_view.specs.declared.capture.CaptureFault.TheVariants as capture
 use Rattle.racl_cli.specs.Reads.{AnswersInput}
-use Rattle.racl_cli.specs.Runs.{HasPackets, IsRead, JudgedFacts, told_of}
-use Rattle.racl_cli.proofs.CaptureLaws.{IsUnnumbered, one_content, plain_alone}
-
--- a policy and captures as these parts say them
-pub record IsReadIn (parts : InputFacts) (policy : PolicyFacts) (packets : List PacketFacts) (captures : List Captured) : Type 0 where
-  pub says : IsPolicyText parts.policy policy
-  pub content : HasPackets parts.form parts.content packets captures
-
--- where the parts are known, the input says what they say
-pub read_in : (bytes : List ℕ) (parts : InputFacts) (policy : PolicyFacts) (packets : List PacketFacts) (captures : List Captured) → IsInput bytes parts
-    → IsRead bytes policy packets captures → IsReadIn parts policy packets captures
-read_in bytes parts policy packets captures is read =
-    subst (λ p. IsReadIn p policy packets captures) (one_input bytes read.parts parts read.parted is)
-    (record { says = read.says; content = read.content })
-
--- packets of a capture, and what is told of it
-pub record IsAloneIn (capture : List ℕ) (packets : List PacketFacts) (captures : List Captured) : Type 0 where
-  pub truncated : Bool
-  pub records : IsCaptureAt 0 capture packets (end_of truncated)
-  pub told : captures ≡ told_of None packets truncated ∷ []
-
--- where the only capture is known too, the packets are its
-pub alone_in_capture : (form : Form) (content capture : List ℕ) (packets : List PacketFacts) (captures : List Captured) → IsUnnumbered form
-    → IsContent form content capture → HasPackets form content packets captures → IsAloneIn capture packets captures
-alone_in_capture form content capture packets captures plain spelt has =
-    let alone = plain_alone form content packets captures plain has in
-    record {
-      truncated = alone.truncated;
-      records = subst (λ c. IsCaptureAt 0 c packets (end_of alone.truncated)) (one_content form content alone.capture capture alone.spelt spelt) alone.records;
-      told = alone.told;
-    }
+use Rattle.racl_report.specs.RunReports.{JudgedFacts}
 
 -- where the parts are known, the input has no fault but theirs
 pub fault_of_known_parts : (bytes : List ℕ) (parts : InputFacts) (fault : Fault) → IsInput bytes parts → IsFaultOfBytes bytes fault → IsFaultOfParts parts fault

@@ -26,12 +26,15 @@ use Rattle.racl_cli.specs.inner.Streams.{HasEnded}
 use Rattle.racl_cli.specs.declared.input_front.Marked.{Marked}
 use Rattle.racl_cli.specs.Crews.{AreResting, orders_of}
 use Rattle.racl_cli.specs.Reads.{AnswersInput, HasMarked, IsReached}
-use Rattle.racl_cli.specs.Runs.{HasPackets, IsTaken, JudgedFacts}
-use Rattle.racl_cli.specs.inner.Captures.{AreTakenFrom, CanTake, HasTaken, HaveJudgedDigits, HaveTakenDigits, IsFaultFrom, MayTake, facts_of, left_at}
-use Rattle.racl_cli.proofs.CaptureLaws.{AreFit, fit_digits, no_fault_of_packets, one_fault_of_content, one_packets}
+use Rattle.racl_report.specs.ReadInputs.{HasPackets, IsTaken}
+use Rattle.racl_report.specs.RunReports.{JudgedFacts}
+use Rattle.racl_report.specs.inner.NumberedCaptures.{AreTakenFrom, IsFaultFrom, left_at}
+use Rattle.racl_cli.specs.inner.Captures.{HasTaken, HaveJudgedDigits, HaveTakenDigits, MayTake}
+use Rattle.racl_report.proofs.CaptureLaws.{AreFit, fit_digits, no_fault_of_packets, one_fault_of_content, one_packets}
 use Rattle.racl_cli.proofs.OpenedLemmas.{content_short}
 use Rattle.racl_cli.proofs.OutcomeLemmas.{memory_answers, said_at_end}
-use Rattle.racl_cli.proofs.RunLemmas.{fault_of_known_parts, fault_of_right_policy, read_in}
+use Rattle.racl_cli.proofs.RunLemmas.{fault_of_known_parts, fault_of_right_policy}
+use Rattle.racl_report.proofs.ReadInputLemmas.{read_in}
 
 -- ---- which interfaces were seen
 
@@ -163,11 +166,6 @@ amid_begun begun may = record {
   few = let few = may.few in omega arith;
 }
 
-pub can_take : {T : Type 0} (begun walk : Walk T) (capture : mark.Numbered) → IsAmid begun walk → walk.next ≡ Some capture → CanTake walk capture
-can_take begun walk capture amid there =
-    let left = ap (λ next. left_at (numbered_facts next)) there in
-    record { packets = amid.packets; rest = amid.rest; few = let few = amid.few in omega arith }
-
 counted_append : (captures : List Captured) (captured : Captured) → packets_in (captures ++ captured ∷ []) ≡ packets_in captures + captured.packets
 counted_append [] captured = omega arith
 counted_append (first ∷ captures) captured = let more = counted_append captures captured in omega arith
@@ -213,13 +211,6 @@ all_taken begun walk amid none =
     let all = amid.taken [] [] (subst (λ next. AreTakenFrom walk.seen.items (numbered_facts next) [] []) (sym none) (refl, refl)) in
     subst (λ told. AreTakenFrom [] (numbered_facts begun.next) amid.packets told) (append-nil walk.captures.items)
     (subst (λ ps. AreTakenFrom [] (numbered_facts begun.next) ps (walk.captures.items ++ [])) (append-nil amid.packets) all)
-
--- a fault of the captures that are left is one of all
-pub fault_amid : {T : Type 0} (begun walk : Walk T) (capture : mark.Numbered) (fault : Fault) → IsAmid begun walk → walk.next ≡ Some capture
-    → (fault ≡ Memory) ⊎ IsFaultFrom walk.seen.items (Some (facts_of capture)) fault → (fault ≡ Memory) ⊎ IsFaultFrom [] (numbered_facts begun.next) fault
-fault_amid begun walk capture fault amid there (inl memory) = inl memory
-fault_amid begun walk capture fault amid there (inr of) =
-    inr (amid.fault fault (subst (λ next. IsFaultFrom walk.seen.items (numbered_facts next) fault) (sym there) of))
 
 -- ---- the only capture behind a marker line
 

@@ -16,7 +16,8 @@ use Rattle.racl_io.specs.Faults.{capture_fault, policy_fault}
 use Rattle.racl_io.specs.Reports.{report_of, totals_of}
 use Rattle.racl_io.specs.Transfers.{GaveAtMost}
 use Rattle.capture_stream.specs.Lives.{IsLiveFault}
-use Rattle.racl_cli.specs.Runs.{ByOneThread, ByWorkers, bucket_deal, told_of}
+use Rattle.racl_cli.specs.Runs.{ByOneThread, ByWorkers, bucket_deal}
+use Rattle.racl_report.specs.ReadInputs.{told_of}
 
 -- one worker gave these verdicts, and they are the one-thread filter's where none says no-pages
 pub record ByOneWorker (options : Options) (policy : PolicyFacts) (packets : List PacketFacts) (verdicts : List Verdict) : Type 0 where

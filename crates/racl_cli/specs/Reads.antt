@@ -22,7 +22,9 @@ use Rattle.racl_cli.specs.declared.input_front.Marked.{Marked}
 use Rattle.racl_cli.specs.declared.input_front.Opened.{Opened}
 use Rattle.racl_cli.specs.declared.input_front.Opened.TheVariants.{Bytes, Digits}
 use Rattle.racl_cli.specs.declared.input_front.Front.{Front}
-use Rattle.racl_cli.specs.Runs.{AreStoredOf, ByOneThread, ByWorkers, IsRead, JudgedFacts, keeps_stored, layout_for, told_of}
+use Rattle.racl_cli.specs.Runs.{AreStoredOf, ByOneThread, ByWorkers, keeps_stored, layout_for}
+use Rattle.racl_report.specs.ReadInputs.{IsRead, told_of}
+use Rattle.racl_report.specs.RunReports.{JudgedFacts}
 
 -- ---- what is answered of the bytes of an input
 

@@ -1,9 +1,9 @@
 -- What a run has filtered, from the bytes of its input.
-use Rattle.std.specs.Prelude.{◌≡◌, ◌≤◌, ◌++◌, ◌||◌, ℕ, Bool, true, List, [], ◌∷◌, length, Option, None, Some, IfSome, All, MatchResult, Result, if◌then◌else◌}
+use Rattle.std.specs.Prelude.{◌≡◌, ◌≤◌, ◌||◌, ℕ, Bool, true, List, Option, Some, IfSome, All, MatchResult, Result}
 use Rattle.std.specs.Io.KnownBytes.{Appends}
-use Rattle.packet_view.specs.Captures.{IsCaptureAt, PacketFacts, end_of}
+use Rattle.packet_view.specs.Captures.{PacketFacts}
 use Rattle.packet_view.specs.declared.tuple.Family.{Family}
-use Rattle.acl_policy.specs.Policies.{IsAmong, IsPolicyText, PolicyFacts}
+use Rattle.acl_policy.specs.Policies.{PolicyFacts}
 use Rattle.bihash_words.specs.Hash.{hash_of}
 use Rattle.session_state.specs.declared.timeouts.Timeouts.{Timeouts}
 use Rattle.flow_filter.specs.declared.verdict.Verdict.{Verdict}
@@ -18,71 +18,11 @@ use Rattle.racl_options.specs.declared.settings.TableSize.{TableSize}
 use Rattle.racl_options.specs.declared.settings.TableSize.TheVariants.{Standard, Large}
 use Rattle.racl_io.specs.declared.fault.Fault.{Fault}
 use Rattle.racl_io.specs.Faults.{IsSystemFault}
-use Rattle.racl_io.specs.declared.input.Form.{Form}
-use Rattle.racl_io.specs.declared.input.Form.TheVariants.{Binary, Hexadecimal, Numbered}
-use Rattle.racl_io.specs.declared.report.Captured.{Captured}
 use Rattle.racl_io.specs.declared.report.Totals.{Totals}
-use Rattle.racl_io.specs.Inputs.{AreCaptures, DigitsFacts, IsContent, IsInput, InputFacts, most_bytes}
 use Rattle.racl_io.specs.Reports.{totals_of}
-use Rattle.racl_io.specs.ShownReports.{report_shown}
-use Rattle.racl_io.specs.declared.partial_report.Shown.{Shown}
-use Rattle.racl_options.specs.declared.settings.Lines.{Lines}
-use Rattle.racl_options.specs.declared.settings.Lines.TheVariants.{Plain, Explained, Json}
-use Rattle.racl_views.specs.ExplainedLines.{IsExplained}
-use Rattle.racl_views.specs.Hits.{AreHits}
-use Rattle.racl_views.specs.PacketObjects.{IsToldInObjects}
-use Rattle.racl_views.specs.RunEntries.{RunFacts}
-use Rattle.racl_views.specs.SessionLines.{sessions_told}
 use Rattle.racl_views.specs.Stored.{StoredFacts}
-use Rattle.racl_views.specs.declared.view.View.{View}
-use Rattle.racl_views.specs.declared.view.View.TheVariants as view
-
--- ---- inputs
-
--- what is told of a capture of these packets, whose interface the report names or doesn't
-abbrev pub told_of : Option ℕ → List PacketFacts → Bool → Captured
-told_of named packets truncated = record { named = named; packets = length packets; truncated = truncated }
-
--- The content is one capture of these packets, which were seen at interface 0, and the report doesn't name it.
-pub record IsAlone (form : Form) (content : List ℕ) (packets : List PacketFacts) (captures : List Captured) : Type 0 where
-  pub capture : List ℕ
-  pub spelt : IsContent form content capture
-  pub truncated : Bool
-  pub records : IsCaptureAt 0 capture packets (end_of truncated)
-  pub told : captures ≡ told_of None packets truncated ∷ []
-
--- The digits are a capture of these packets, which were seen at its interface. No capture before was of it.
-pub record IsTaken (seen : List ℕ) (digits : DigitsFacts) (packets : List PacketFacts) (captured : Captured) : Type 0 where
-  pub first : IsAmong digits.interface seen → ⊥
-  pub capture : List ℕ
-  pub spelt : IsContent Hexadecimal digits.digits capture
-  pub truncated : Bool
-  pub records : IsCaptureAt digits.interface capture packets (end_of truncated)
-  pub told : captured ≡ told_of (Some digits.interface) packets truncated
-
--- The digits are captures, one after the other, and these are all their packets.
-abbrev pub AreTaken : List ℕ → List DigitsFacts → List PacketFacts → List Captured → Type 0
-AreTaken seen [] packets captures = (packets ≡ []) × (captures ≡ [])
-AreTaken seen (digits ∷ others) packets captures =
-    (mine rest : List PacketFacts) × (captured : Captured) × (told : List Captured) × (packets ≡ mine ++ rest)
-    × (captures ≡ captured ∷ told) × IsTaken seen digits mine captured
-    × AreTaken (digits.interface ∷ seen) others rest told
-
--- what stands after the marker line: one capture, or those of interfaces with numbers
-abbrev pub HasPackets : Form → List ℕ → List PacketFacts → List Captured → Type 0
-HasPackets Binary content packets captures = IsAlone Binary content packets captures
-HasPackets Hexadecimal content packets captures = IsAlone Hexadecimal content packets captures
-HasPackets (Numbered number) content packets captures =
-    (all : List DigitsFacts) × AreCaptures number content all × AreTaken [] all packets captures
-
--- The bytes are an input, and no more than one may have: this policy, a marker line, and captures of these packets, one after
--- the other.
-pub record IsRead (bytes : List ℕ) (policy : PolicyFacts) (packets : List PacketFacts) (captures : List Captured) : Type 0 where
-  pub few : length bytes ≤ most_bytes
-  pub parts : InputFacts
-  pub parted : IsInput bytes parts
-  pub says : IsPolicyText parts.policy policy
-  pub content : HasPackets parts.form parts.content packets captures
+use Rattle.racl_report.specs.ReadInputs.{IsRead}
+use Rattle.racl_report.specs.RunReports.{IsReport, Outcome}
 
 -- ---- verdicts
 
@@ -129,16 +69,6 @@ pub record AreStoredOf (layout : Layout) (views : Views) (stored : StoredFacts) 
 
 -- ---- outcomes
 
--- what the packets met, and what is told of their captures
-pub record Outcome : Type 0 where
-  pub verdicts : List Verdict
-  pub captures : List Captured
-
--- what came of the packets of an input, and which sessions stand in the tables at the end
-pub record JudgedFacts : Type 0 where
-  pub outcome : Outcome
-  pub stored : StoredFacts
-
 -- the bytes are an input on which the one-thread filter comes to this outcome over tables of this size
 pub record HasOutcome (size : TableSize) (times : Timeouts) (bytes : List ℕ) (outcome : Outcome) : Type 0 where
   pub policy : PolicyFacts
@@ -146,38 +76,7 @@ pub record HasOutcome (size : TableSize) (times : Timeouts) (bytes : List ℕ) (
   pub read : IsRead bytes policy packets outcome.captures
   pub verdicts : ByOneThread size times policy packets outcome.verdicts
 
--- ---- reports
-
--- the lines of packets and the totals, in the form that is asked for
-abbrev pub AreLines : Lines → RunFacts → List ℕ → Type 0
-AreLines Plain run lines = lines ≡ report_shown run.shown run.verdicts run.captures
-AreLines Explained run lines = IsExplained run lines
-AreLines Json run lines = IsToldInObjects run lines
-
--- a run as its lines tell it
-abbrev pub told_facts : PolicyFacts → List ℕ → List PacketFacts → Outcome → Shown → RunFacts
-told_facts policy text packets outcome shown =
-    record { policy = policy; text = text; packets = packets; verdicts = outcome.verdicts; captures = outcome.captures; shown = shown }
-
--- the form of what is told behind lines of this form
-abbrev pub view_behind : Lines → View
-view_behind Plain = view.Text
-view_behind Explained = view.Text
-view_behind Json = view.Json
-
--- the sessions, where they are asked for
-abbrev pub sessions_behind : Options → StoredFacts → List ℕ
-sessions_behind options stored = if options.sessions then sessions_told (view_behind options.lines) options.times stored else []
-
--- what is told of a run on an input: its lines, and behind them the hits and the sessions, where these are asked for
-pub record IsReport (options : Options) (bytes : List ℕ) (policy : PolicyFacts) (packets : List PacketFacts) (judged : JudgedFacts) (report : List ℕ) : Type 0 where
-  pub parts : InputFacts
-  pub parted : IsInput bytes parts
-  pub lines : List ℕ
-  pub are : AreLines options.lines (told_facts policy parts.policy packets judged.outcome options.shown) lines
-  pub hits : List ℕ
-  pub told : AreHits options.hits (view_behind options.lines) options.times (told_facts policy parts.policy packets judged.outcome options.shown) judged.stored hits
-  pub all : report ≡ lines ++ (hits ++ sessions_behind options judged.stored)
+-- ---- runs
 
 -- An input was read, workers gave these verdicts on its packets, and after what was written before stands the report on it.
 -- The verdicts are those of the one-thread filter where none of them says no-pages. The sessions that are told stood in the

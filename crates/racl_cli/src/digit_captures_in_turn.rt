@@ -10,8 +10,8 @@ ghost use Rattle.racl_cli.specs.Reads.{AnswersInput, HasMarked};
 ghost use Rattle.racl_cli.specs.inner.Captures.{CanJudge, CanTake, HasTaken, HasTakenAll, HaveJudgedDigits, HaveTakenDigits, IsFaultAt, IsFaultOfWalk, MayTake};
 
 use crate::input_front::Marked;
-use crate::judge_records::{end_capture, plan_for, window_size};
-use crate::judged_input::{Ended, Judged};
+use crate::judge_records::{end_capture, plan_for, threads_beside, window_size};
+use crate::judged_input::Ended;
 use crate::live_run::read_header;
 use crate::sized_tables_and_workers::{SizedWorkers, create_sized};
 use crate::stored_sessions::with_stored;
@@ -19,6 +19,7 @@ use crate::workers_as_judges::Crew;
 use capture_stream::{HexDigits, Opening, Streamed, are_digits, judge_stream};
 use racl_io::{Captured, Digits, Fault, Form, Numbered, cut_digits};
 use racl_options::Options;
+use racl_report::Judged;
 use std::alloc::Global;
 use std::sync::Wait;
 use std::thread::Threads;
@@ -210,7 +211,7 @@ pub fn judge_captures<T: Threads + Wait + Sync>(
         return Err(Fault::Memory);
     };
     let (expected, workers) = plan_for(options, true, content.len() / RECORD_DIGITS);
-    let beside = if workers > 1 { Some(rt) } else { None };
+    let beside = threads_beside(rt, workers > 1);
     let prepared = filter.prepare(alloc, expected)?;
     let ready = filter.ready_with(alloc, &prepared)?;
     let Ok(workers) = SizedWorkers::new(rt, alloc, &ready, &tables, callers, workers) else {

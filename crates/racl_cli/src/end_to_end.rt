@@ -6,18 +6,16 @@ ghost use Rattle.racl_io.specs.Inputs.{most_bytes};
 ghost use Rattle.racl_io.specs.Transfers.{GaveAtMost, HasReadWithin};
 ghost use Rattle.racl_cli.specs.Reads.{AnswersRead, HasKept};
 ghost use Rattle.racl_cli.specs.Runs.{AnswersRight, HasRun};
-ghost use Rattle.racl_cli.specs.Saves.{HasRunSaving};
+ghost use Rattle.racl_cli.specs.SavingRuns.{HasRunSaving};
 
 use crate::bytes_at_hand::AtHand;
 use crate::digit_captures_in_turn::judge_captures;
 use crate::input_front::{Front, Headed, Opened, open_source, read_rest};
-use crate::judge_records::judge_records;
-use crate::judged_input::Judged;
-use crate::report_views::{needs_bytes, write_judged, write_plain};
-use crate::save_packets::{Saves, save_packets};
+use crate::judge_records::{judge_records, threads_beside};
 use capture_stream::Opening;
 use racl_io::{Fault, Sink, Source, Totals};
 use racl_options::Options;
+use racl_report::{Judged, Saves, needs_bytes, save_packets, write_judged, write_plain};
 use std::alloc::Global;
 use std::sync::Wait;
 use std::thread::Threads;
@@ -88,7 +86,7 @@ fn judge_kept<R: Source + Send, T: Threads + Wait + Sync>(
 
 // Whose threads may make lines of the report beside this one.
 fn beside<'a, T>(rt: &'a T, options: &Options) -> Option<&'a T> {
-    if options.workers > 1 { Some(rt) } else { None }
+    threads_beside(rt, options.workers > 1)
 }
 
 /// Reads an input, filters its captures by its policy, and writes the report.

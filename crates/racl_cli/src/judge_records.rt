@@ -9,7 +9,7 @@ ghost use Rattle.racl_cli.specs.Crews.{HaveJudgedSome};
 ghost use Rattle.racl_cli.specs.inner.Streams.{HasEnded};
 ghost use Rattle.racl_cli.specs.Reads.{HasJudged, MayJudge};
 
-use crate::judged_input::{Ended, Judged};
+use crate::judged_input::Ended;
 use crate::sized_tables_and_workers::{MANY_PACKETS, SizedWorkers, create_sized};
 use crate::stored_sessions::with_stored;
 use crate::workers_as_judges::Crew;
@@ -18,6 +18,7 @@ use flow_workers::Filter;
 use packet_view::front_records;
 use racl_io::{Captured, Fault, Source};
 use racl_options::Options;
+use racl_report::Judged;
 use std::alloc::Global;
 use std::sync::Wait;
 use std::thread::Threads;
@@ -52,6 +53,11 @@ pub fn window_size(are_several: bool) -> WindowSize
         least: bytes,
         most: bytes,
     }
+}
+
+/// Whose threads may work beside this one: nobody's where one worker does all.
+pub fn threads_beside<T>(rt: &T, are_several: bool) -> Option<&T> {
+    if are_several { Some(rt) } else { None }
 }
 
 /// How many times as many packets as stand in its front an input is expected to have that goes on after it.
@@ -132,7 +138,7 @@ pub fn judge_records<'t, R: Source + Send, T: Threads + Wait + Sync>(
     let Ok(workers) = SizedWorkers::new(rt, alloc, &ready, &tables, callers, workers) else {
         return Err(Fault::Memory);
     };
-    let beside = if are_several { Some(rt) } else { None };
+    let beside = threads_beside(rt, are_several);
     let crew = Crew { alloc, workers };
     match judge_stream(
         beside,

@@ -5,23 +5,17 @@
 mod bytes_at_hand;
 mod digit_captures_in_turn;
 mod end_to_end;
-mod exit_messages;
 mod input_front;
 mod judge_records;
 mod judged_input;
 mod live_run;
-mod message;
-mod report_views;
 mod run_laws;
-mod save_packets;
 mod sized_tables_and_workers;
 mod stored_sessions;
 mod workers_as_judges;
 
 pub use end_to_end::{run, run_saving};
-pub use exit_messages::{ending, failure_ending, hint, remark, status, words_ending};
 pub use live_run::run_live;
-pub use message::{Ending, Hint, Message, Remark, Unopened};
 pub use racl_io::{
     Device, DeviceFault, Fault, Form, FrontKept, Joined, MOST_BYTES, Marked, Other, Sink, Source,
     Totals, marked, read_until,
@@ -29,5 +23,8 @@ pub use racl_io::{
 pub use racl_options::{
     Asked, Files, Lines, Options, Origin, Saved, TableSize, options, words_status,
 };
+pub use racl_report::{
+    Ending, Hint, Message, Remark, Saves, Unopened, ending, failure_ending, hint, remark, status,
+    words_ending,
+};
 pub use run_laws::{each_input_has_one_outcome, told_sessions_are_those_of_one_thread};
-pub use save_packets::Saves;

@@ -8,7 +8,8 @@ ghost use Rattle.racl_options.specs.declared.settings.TableSize.{TableSize};
 ghost use Rattle.racl_io.specs.declared.fault.Fault.{Fault};
 ghost use Rattle.racl_io.specs.declared.report.Totals.{Totals};
 ghost use Rattle.racl_io.specs.Faults.{IsInputFault};
-ghost use Rattle.racl_cli.specs.Runs.{HasOutcome, HasRun, Outcome, keeps_stored, layout_for};
+ghost use Rattle.racl_cli.specs.Runs.{HasOutcome, HasRun, keeps_stored, layout_for};
+ghost use Rattle.racl_report.specs.RunReports.{Outcome};
 ghost use Rattle.racl_cli.specs.StoredRuns.{AreLeftByOneThread};
 
 /// All bytes are an input of one outcome of the one-thread filter or have one fault, and never both.

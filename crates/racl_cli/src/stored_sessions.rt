@@ -7,10 +7,11 @@ ghost use Rattle.racl_cli.specs.Runs;
 ghost use Rattle.racl_cli.specs.Runs.{AreStoredOf, layout_for};
 ghost use Rattle.racl_cli.specs.inner.Stored.{HasStored};
 
-use crate::judged_input::{Ended, Judged};
+use crate::judged_input::Ended;
 use crate::sized_tables_and_workers::{SizedCallers, SizedTables, close_sized};
 use racl_io::Fault;
 use racl_options::Options;
+use racl_report::Judged;
 use racl_views::StoredPairs;
 use std::alloc::{AllocError, Global};
 use std::sync::Wait;

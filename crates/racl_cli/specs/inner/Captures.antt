@@ -1,44 +1,24 @@
 -- Captures as digits that are taken one after the other.
-use Rattle.std.specs.Prelude.{◌≡◌, ◌+◌, ◌≤◌, ◌++◌, ℕ, List, [], ◌∷◌, Option, None, Some, length}
+use Rattle.std.specs.Prelude.{◌≡◌, ◌+◌, ◌≤◌, ◌++◌, ℕ, List, [], ◌∷◌, Some, length}
 use Rattle.packet_view.specs.Captures.{IsCaptureAt, PacketFacts, end_of}
 use Rattle.racl_io.specs.declared.fault.Fault.{Fault}
 use Rattle.racl_io.specs.declared.input.Numbered as mark
 use Rattle.racl_io.specs.declared.report.Captured.{Captured}
-use Rattle.racl_io.specs.Faults.{IsFaultOfCaptures}
 use Rattle.racl_io.specs.declared.input.Form.{Form}
 use Rattle.racl_io.specs.declared.input.Form.TheVariants.{Hexadecimal}
-use Rattle.racl_io.specs.Inputs.{AreCaptures, DigitsFacts, AreCutDigits, IsContent, NumberedFacts, most_bytes, numbered_facts}
+use Rattle.racl_io.specs.Inputs.{AreCutDigits, IsContent, most_bytes, numbered_facts}
 use Rattle.capture_stream.specs.declared.stream_judging.Streamed.{Streamed}
 use Rattle.racl_cli.specs.declared.digit_captures_in_turn.Walk.{Walk}
 use Rattle.racl_cli.specs.declared.judged_input.Ended.{Ended}
 use Rattle.racl_cli.specs.declared.sized_tables_and_workers.SizedWorkers.{SizedWorkers}
 use Rattle.racl_cli.specs.declared.workers_as_judges.Crew.{Crew}
 use Rattle.racl_cli.specs.Crews.{AreResting, AreSaidBy, orders_of}
-use Rattle.racl_cli.specs.Runs.{AreTaken, HasPackets, IsTaken}
+use Rattle.racl_report.specs.ReadInputs.{HasPackets, IsTaken}
+use Rattle.racl_report.specs.inner.NumberedCaptures.{AreTakenFrom, IsFaultFrom, facts_of, left_at}
 
--- a capture's number, and what follows its marker line
-abbrev pub facts_of : mark.Numbered → NumberedFacts
-facts_of capture = record { interface = capture.interface; content = capture.content.now }
-
--- what stands from the next capture on, after captures of the interfaces that were seen
-abbrev pub AreTakenFrom : List ℕ → Option NumberedFacts → List PacketFacts → List Captured → Type 0
-AreTakenFrom seen None packets captures = (packets ≡ []) × (captures ≡ [])
-AreTakenFrom seen (Some next) packets captures =
-    (all : List DigitsFacts) × AreCaptures next.interface next.content all × AreTaken seen all packets captures
-
--- and the fault that it has
-abbrev pub IsFaultFrom : List ℕ → Option NumberedFacts → Fault → Type 0
-IsFaultFrom seen None fault = ⊥
-IsFaultFrom seen (Some next) fault =
-    (all : List DigitsFacts) × AreCaptures next.interface next.content all × IsFaultOfCaptures seen all fault
-
+-- the fault that captures have, of which this is the next one
 abbrev pub IsFaultAt : List ℕ → mark.Numbered → Fault → Type 0
 IsFaultAt seen capture fault = IsFaultFrom seen (Some (facts_of capture)) fault
-
--- how many bytes stand there at most, where the marker line counts as one
-abbrev pub left_at : Option NumberedFacts → ℕ
-left_at None = 0
-left_at (Some next) = length next.content + 1
 
 -- workers at rest may judge the packets that these digits stand for
 pub record CanJudge {T : Type 0} (workers : SizedWorkers T) (digits : List ℕ) : Type 0 where

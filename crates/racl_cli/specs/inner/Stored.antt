@@ -4,7 +4,8 @@ use Rattle.racl_options.specs.declared.settings.Options.{Options}
 use Rattle.racl_cli.specs.declared.judged_input.Ended.{Ended}
 use Rattle.racl_cli.specs.declared.sized_tables_and_workers.SizedTables.{SizedTables}
 use Rattle.racl_cli.specs.Crews.{size_of, views_with}
-use Rattle.racl_cli.specs.Runs.{AreStoredOf, JudgedFacts, Outcome, keeps_stored, layout_for}
+use Rattle.racl_cli.specs.Runs.{AreStoredOf, keeps_stored, layout_for}
+use Rattle.racl_report.specs.RunReports.{JudgedFacts, Outcome}
 
 abbrev pub outcome_at : Ended → Outcome
 outcome_at ended = record { verdicts = ended.verdicts.items; captures = ended.captures.items }

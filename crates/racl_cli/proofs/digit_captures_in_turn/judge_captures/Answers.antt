@@ -4,7 +4,8 @@ use Rattle.acl_policy.specs.Policies.{policy_facts}
 use Rattle.racl_io.specs.Faults.{IsFaultOfContent}
 use Rattle.racl_io.specs.declared.report.Captured.{Captured}
 use Rattle.racl_cli.specs.Reads.{IsReached}
-use Rattle.racl_cli.specs.Runs.{HasPackets, Outcome}
+use Rattle.racl_report.specs.ReadInputs.{HasPackets}
+use Rattle.racl_report.specs.RunReports.{Outcome}
 use Rattle.racl_cli.proofs.OutcomeLemmas.{reached_by}
 use Rattle.racl_cli.proofs.TakenLemmas.{all_behind, answered}
 use Rattle.racl_cli.proofs.digit_captures_in_turn.judge_captures.Goals as goal

@@ -1,5 +1,5 @@
 use Rattle.racl_io.specs.Inputs.{numbered_facts}
-use Rattle.racl_cli.specs.inner.Captures.{left_at}
+use Rattle.racl_report.specs.inner.NumberedCaptures.{left_at}
 use Rattle.racl_cli.proofs.TakenLemmas.{IsAmid}
 use Rattle.racl_cli.proofs.digit_captures_in_turn.judge_each.Given as goal
 

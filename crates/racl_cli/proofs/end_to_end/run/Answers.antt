@@ -2,7 +2,7 @@ use Rattle.std.proofs.Common.{◌∙◌, [], Ok, arith, false, refl, sym, true}
 use Rattle.racl_cli.proofs.OutcomeLemmas.{has_reported, has_run, kept_told}
 use Rattle.racl_cli.proofs.ReadLemmas.{fault_of_right, fault_read, fault_refused, kept_none, known_read, unwritten}
 use Rattle.racl_cli.proofs.RunLemmas.{excluded_by_input}
-use Rattle.racl_cli.proofs.ViewLemmas.{told_plain}
+use Rattle.racl_report.proofs.ViewLemmas.{told_plain}
 use Rattle.racl_cli.proofs.end_to_end.run.Goals as goal
 
 pub returns-in-Ok-clause-ok : goal.returns-in-Ok-clause-ok

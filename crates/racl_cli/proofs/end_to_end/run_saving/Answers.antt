@@ -1,8 +1,8 @@
 use Rattle.std.proofs.Common.{◌∙◌, Ok, ap, inl, inr, refl, subst, sym, true}
 use Rattle.racl_io.specs.Faults.{IsSystemFault}
-use Rattle.racl_cli.specs.Runs.{JudgedFacts}
+use Rattle.racl_report.specs.RunReports.{JudgedFacts}
 use Rattle.racl_cli.proofs.OutcomeLemmas.{has_reported, kept_told, ran}
-use Rattle.racl_cli.proofs.SaveLemmas.{has_saved}
+use Rattle.racl_cli.proofs.SavingLemmas.{has_saved}
 use Rattle.racl_cli.proofs.ReadLemmas.{fault_of_right, fault_read, fault_refused, known_read}
 use Rattle.racl_cli.proofs.RunLemmas.{excluded_by_input}
 use Rattle.racl_cli.proofs.end_to_end.run_saving.Goals as goal

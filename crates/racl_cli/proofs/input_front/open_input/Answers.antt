@@ -3,7 +3,7 @@ use Rattle.std.proofs.lemmas.Result.{err_from_is_err_and}
 use Rattle.racl_io.specs.declared.input.Form.{Form}
 use Rattle.racl_io.specs.declared.input.Form.TheVariants.{Binary}
 use Rattle.racl_io.specs.Inputs.{IsContent, IsInput}
-use Rattle.racl_cli.proofs.CaptureLaws.{IsUnnumbered}
+use Rattle.racl_report.proofs.CaptureLaws.{IsUnnumbered}
 use Rattle.racl_cli.proofs.OpenedLemmas.{capture_stands, content_behind, header_answers, records_behind_header, records_within_input}
 use Rattle.racl_cli.proofs.OutcomeLemmas.{no_marker_answers, policy_answers}
 use Rattle.racl_cli.proofs.input_front.open_input.Goals as goal

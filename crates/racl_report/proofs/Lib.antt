@@ -1,0 +1,4 @@
+pub mod CaptureLaws
+pub mod ReadInputLemmas
+pub mod SaveLemmas
+pub mod ViewLemmas

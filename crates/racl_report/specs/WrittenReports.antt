@@ -1,0 +1,40 @@
+-- What is written of an input whose packets were judged.
+use Rattle.std.specs.Prelude.{◌≡◌, ◌≢◌, ◌+◌, ◌++◌, ◌||◌, ◌⊎◌, ◌↔◌, ℕ, Bool, true, not, List, Option, Result, Err, IfErr}
+use Rattle.std.specs.Io.KnownBytes.{Appends}
+use Rattle.packet_view.specs.Captures.{PacketFacts}
+use Rattle.acl_policy.specs.Policies.{PolicyFacts}
+use Rattle.racl_io.specs.declared.fault.Fault.{Fault}
+use Rattle.racl_io.specs.declared.fault.Fault.TheVariants.{Memory, Write}
+use Rattle.racl_io.specs.declared.report.Totals.{Totals}
+use Rattle.racl_io.specs.Reports.{totals_of}
+use Rattle.racl_io.specs.ShownReports.{report_shown}
+use Rattle.racl_options.specs.Asking.{is_plain}
+use Rattle.racl_options.specs.declared.settings.Options.{Options}
+use Rattle.racl_report.specs.RunReports.{IsReport, JudgedFacts, sessions_behind}
+
+-- whether what is told of an input needs its bytes
+abbrev pub needs_bytes : Options → Bool
+needs_bytes options = options.hits || not (is_plain options.lines)
+
+-- these bytes are those of the input, where they are needed
+abbrev pub MayTell : Options → List ℕ → List ℕ → Type 0
+MayTell options bytes input = needs_bytes options ≡ true → bytes ≡ input
+
+-- memory ran out before anything was written, or a write failed, once
+pub record EndsOnce {W X : Type 0} (failures : W → ℕ) (old new : W) (result : Result X Fault) : Type 0 where
+  pub fault : IfErr result (λ e. (e ≡ Memory) ⊎ (e ≡ Write))
+  pub write : (result ≡ Err Write) ↔ (failures new ≡ failures old + 1)
+  pub steady : result ≢ Err Write → failures new ≡ failures old
+  pub unwritten : IfErr result (λ e. e ≢ Write → new ≡ old)
+
+-- plain lines stand behind what was written before, and the sessions behind them
+pub record HasPlain (options : Options) (judged : JudgedFacts) (old new : Option (List ℕ)) (totals : Totals) : Type 0 where
+  pub text : Appends old new (report_shown options.shown judged.outcome.verdicts judged.outcome.captures ++ sessions_behind options judged.stored)
+  pub counted : totals ≡ totals_of judged.outcome.verdicts judged.outcome.captures
+
+-- the report on an input stands behind what was written before
+pub record HasReport (options : Options) (input : List ℕ) (policy : PolicyFacts) (packets : List PacketFacts) (judged : JudgedFacts) (old new : Option (List ℕ)) (totals : Totals) : Type 0 where
+  pub report : List ℕ
+  pub is : IsReport options input policy packets judged report
+  pub text : Appends old new report
+  pub counted : totals ≡ totals_of judged.outcome.verdicts judged.outcome.captures

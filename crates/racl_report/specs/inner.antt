@@ -1,0 +1,2 @@
+pub mod InputsAgain
+pub mod NumberedCaptures
