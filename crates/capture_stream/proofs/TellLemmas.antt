@@ -22,7 +22,7 @@ use Rattle.racl_io.specs.declared.report.Totals.{Totals}
 use Rattle.racl_io.specs.Reports.{is_truncated, lines_from, passed, report_of, totals_line, totals_of, truncation_line}
 use Rattle.racl_io.specs.Sinks.{GotFront, HasPutFront}
 use Rattle.racl_io.proofs.ReportLemmas.{cut_at, lines_of_both, passed_of_both, passed_or_dropped, totals_counted}
-use Rattle.capture_stream.specs.Lives.{HasToldAll, HasToldPart, HasToldSome, IsLiveFault, most_live, told_alone, with_read, with_write}
+use Rattle.capture_stream.specs.Lives.{HasToldAll, HasToldPart, HasToldSome, IsLiveFault, most_live, told_alone}
 use Rattle.capture_stream.specs.Telling.{AreTold, CanTell, HaveTold}
 use Rattle.capture_stream.specs.declared.live_telling.Live.{Live}
 use Rattle.capture_stream.specs.declared.judge_window.Found.{Found}
@@ -407,20 +407,6 @@ module _ {J : Type 0} (Became : J → List PacketFacts → List Verdict → J �
   pub live_large : (now after : Option (List ℕ)) (live : Live J) → IsLive Became Judged begun order before now old after live → most_live ≤ live.read
       → IsLiveFault Judged begun order before now old after fault.TooLarge
   live_large now after live is many = (live.window.items, is.told, let size = is.size in omega arith)
-
--- ---- Failures
-
-pub window_reads : {J : Type 0} (Became : J → List PacketFacts → List Verdict → J → Type 0) (Judged : J → List PacketFacts → List Verdict → Type 0)
-    (live : Live J) (before after : Option (List ℕ)) (found : Fault) (n : ℕ) → IsWindowFault Became Judged live before after found
-    → n ≡ with_read n found
-window_reads Became Judged live before after fault.Memory n is = refl
-window_reads Became Judged live before after fault.Write n is = refl
-window_reads Became Judged live before after found n is = absurd is
-
-pub part_writes : (before after : Option (List ℕ)) (found : Fault) (n : ℕ) → IsPartFault before after found → n ≡ with_write n found
-part_writes before after fault.Memory n is = refl
-part_writes before after fault.Read n is = refl
-part_writes before after found n is = absurd is
 
 -- ---- The same by what else is known of verdicts
 

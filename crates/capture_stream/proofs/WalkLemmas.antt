@@ -1,13 +1,12 @@
 -- A walk over a capture: it stays amid the capture, and its end and its faults are those of the capture.
-use Rattle.std.proofs.Common.{◌≡◌, ◌≢◌, ◌∙◌, ◌≤◌, ◌<◌, ◌+◌, ◌-◌, ℕ, Bool, List, [], ◌++◌, Option, Vec, Global, add-zero, ap, append-nil, append_assoc, arith, drop, inl, inr, length, refl, subst, sym, take, true, false, true≢false}
+use Rattle.std.proofs.Common.{◌≡◌, ◌∙◌, ◌≤◌, ◌<◌, ◌+◌, ◌-◌, ℕ, Bool, List, [], ◌++◌, Option, add-zero, ap, append-nil, append_assoc, arith, drop, length, refl, subst, sym, take, true, false, true≢false}
 use Rattle.std.proofs.lemmas.List.{drop-append-le, drop-drop, length-append, length-drop, length-map, map-append, take_all}
 use Rattle.std.proofs.KnownBytes.{Consumes-nil, Consumes-trans}
 use Rattle.packet_view.specs.Captures.{AreRecords, IsEnd, IsTooLong, PacketFacts, RecordFacts, end_of, kept_length, kept_limit, packet_at, packets_at}
 use Rattle.packet_view.specs.Fronts.{Stops}
 use Rattle.packet_view.specs.CheckedCaptures.{records_of}
 use Rattle.packet_view.specs.declared.capture.Order.{Order}
-use Rattle.packet_view.specs.declared.records_at_front.Stop.{Stop}
-use Rattle.packet_view.specs.declared.records_at_front.Stop.TheVariants.{End, TooLong, Truncated}
+use Rattle.packet_view.specs.declared.records_at_front.Stop.TheVariants.{TooLong}
 use Rattle.packet_view.specs.declared.packets.Packets.TheVariants as kind
 use Rattle.packet_view.specs.declared.capture_records.Records.{Records}
 use Rattle.packet_view.proofs.FrontLemmas.{records_appended, records_joined}
@@ -15,6 +14,7 @@ use Rattle.packet_view.proofs.RecordLemmas.{number_from-append}
 use Rattle.packet_view.proofs.RecordListLemmas.{packets_count, records_within}
 use Rattle.racl_io.specs.declared.fault.Fault.{Fault}
 use Rattle.racl_io.specs.declared.fault.Fault.TheVariants as fault
+use Rattle.racl_io.specs.Buffers.{held_by}
 use Rattle.racl_io.specs.Transfers.{GaveAtMost, HasRead}
 use Rattle.racl_io.proofs.TransferLemmas.{gave_more}
 use Rattle.racl_io.specs.Inputs.{most_bytes}
@@ -26,13 +26,6 @@ use Rattle.capture_stream.specs.declared.stream_judging.Streamed.{Streamed}
 use Rattle.capture_stream.specs.declared.stream_judging.Walk.{Walk}
 use Rattle.capture_stream.specs.inner.Walks.{HasAdvanced, HasEnded, HasLongAhead, IsAmid, IsDrained, IsLastFault, IsWindowFault, MayAdvance, ahead_of, records_ahead, rest_of}
 
--- less than one record is left where none is too long
-pub rest_short : (order : Order) (rest : List ℕ) (stop : Stop) → Stops order rest stop → stop ≢ TooLong → length rest < 262160
-rest_short order rest End none other = let e : length rest ≡ 0 = ap length none in omega arith
-rest_short order rest Truncated (inl h) other = omega arith
-rest_short order rest Truncated (inr h) other = omega arith
-rest_short order rest TooLong long other = absurd (other refl)
-
 -- the bytes of a list from a place on, as a part of it
 pub part_from : (bytes items : List ℕ) (from : ℕ) → bytes ≡ items → take (length bytes - from) (drop from bytes) ≡ drop from items
 part_from bytes items from same =
@@ -40,11 +33,11 @@ part_from bytes items from same =
     take_all (length bytes - from) (drop from bytes) (omega arith) ∙ ap (drop from) same
 
 -- the bytes behind the records, as a part of the window
-pub behind_taken : {J : Type 0} (walk : Walk J) (bytes : List ℕ) (place : ℕ) → bytes ≡ walk.window.items → walk.from ≤ length walk.window.items
+pub behind_taken : {J : Type 0} (walk : Walk J) (bytes : List ℕ) (place : ℕ) → bytes ≡ held_by walk.window → walk.from ≤ length (held_by walk.window)
     → HaveFound walk.order (ahead_of walk) walk.found → place ≡ length bytes - walk.found.behind
     → take (length bytes - place) (drop place bytes) ≡ rest_of walk
 behind_taken walk bytes place same within found is =
-    let items = walk.window.items in
+    let items = held_by walk.window in
     let long = ap length same in
     let ahead = length-drop walk.from items in
     let size = found.size in
@@ -58,14 +51,10 @@ rest_length walk found =
     let tail = length-drop (length (ahead_of walk) - walk.found.behind) (ahead_of walk) in
     omega arith
 
--- a buffer that got them has so many
-pub has_rest : {J : Type 0} (walk : Walk J) (cleared spare : List ℕ) → HaveFound walk.order (ahead_of walk) walk.found
-    → spare ≡ cleared ++ rest_of walk → walk.found.behind ≤ length spare
-has_rest walk cleared spare found same =
-    let size = rest_length walk found in
-    let long = ap length same in
-    let parts = length-append cleared (rest_of walk) in
-    omega arith
+-- a buffer that holds them has so many
+pub has_rest : {J : Type 0} (walk : Walk J) (spare : List ℕ) → HaveFound walk.order (ahead_of walk) walk.found → spare ≡ rest_of walk
+    → length spare ≡ walk.found.behind
+has_rest walk spare found same = let size = rest_length walk found in let long = ap length same in omega arith
 
 -- so many packets are at most as many as bytes were read
 pub front_few : {J : Type 0} (Became : J → List PacketFacts → J → Type 0) (walk : Walk J) → MayAdvance Became walk
@@ -109,21 +98,20 @@ front_ended Became walk streamed found end judged counted =
 
 -- the next window is what is left of this one, and what was read behind it
 pub front_advanced : {J : Type 0} (Became : J → List PacketFacts → J → Type 0) (old : Walk J) (before after : Option (List ℕ))
-    (cleared front : List ℕ) (new : Walk J) → HaveFound old.order (ahead_of old) old.found
+    (front : List ℕ) (new : Walk J) → HaveFound old.order (ahead_of old) old.found
     → HaveFollowed Became old.judges (packets_at old.interface (records_ahead old)) new.judges
-    → (least : ℕ) → old.found.behind < least → HasRead before after front new.window.items least new.ended → cleared ≡ [] → front ≡ cleared ++ rest_of old
-    → HaveFound old.order new.window.items new.found
-    → new.packets ≡ old.packets + old.found.count → new.read ≡ old.read + (length new.window.items - old.found.behind) → new.read ≤ most_bytes
+    → (least : ℕ) → old.found.behind < least → HasRead before after front (held_by new.window) least new.ended → front ≡ rest_of old
+    → HaveFound old.order (held_by new.window) new.found
+    → new.packets ≡ old.packets + old.found.count → new.read ≡ old.read + (length (held_by new.window) - old.found.behind) → new.read ≤ most_bytes
     → new.order ≡ old.order → new.interface ≡ old.interface → new.from ≡ 0 → HasAdvanced Became old before after new
-front_advanced Became old before after cleared front new all judged least more has_read empty filled found packets size bound order seen begins =
+front_advanced Became old before after front new all judged least more has_read same found packets size bound order seen begins =
     let rest = rest_of old in
     let behind = rest_length old all in
     let count = packets_count old.order old.found.count (ahead_of old) in
-    let same : front ≡ rest = filled ∙ ap (λ (b : List ℕ). b ++ rest) empty in
-    let appended : new.window.items ≡ rest ++ has_read.read = has_read.appended ∙ ap (λ (b : List ℕ). b ++ has_read.read) same in
-    let longer : length new.window.items ≡ length rest + length has_read.read = ap length appended ∙ length-append rest has_read.read in
+    let appended : held_by new.window ≡ rest ++ has_read.read = has_read.appended ∙ ap (λ (b : List ℕ). b ++ has_read.read) same in
+    let longer : length (held_by new.window) ≡ length rest + length has_read.read = ap length appended ∙ length-append rest has_read.read in
     let fronts : length front ≡ length rest = ap length same in
-    let whole : ahead_of new ≡ new.window.items = ap (λ n. drop n new.window.items) begins in
+    let whole : ahead_of new ≡ held_by new.window = ap (λ n. drop n (held_by new.window)) begins in
     record {
       more = records_ahead old;
       rest = rest;
@@ -323,11 +311,10 @@ module _ {J : Type 0} (Became : J → List PacketFacts → J → Type 0) (first 
 
 -- a walk begins amid the capture
 pub amid_begun : {J : Type 0} (Became : J → List PacketFacts → J → Type 0) (opening : Opening) (before : Option (List ℕ)) (walk : Walk J)
-    → MayStream Became walk.judges opening before → HaveFound walk.order (ahead_of walk) walk.found → walk.order ≡ opening.order → walk.interface ≡ opening.interface → walk.window ≡ opening.bytes → walk.from ≡ opening.from
+    → MayStream Became walk.judges opening before → HaveFound walk.order (ahead_of walk) walk.found → walk.order ≡ opening.order → walk.interface ≡ opening.interface → held_by walk.window ≡ opening.bytes.items → walk.from ≡ opening.from
     → walk.packets ≡ 0 → walk.read ≡ length opening.bytes.items → walk.ended ≡ opening.ended → IsAmid Became walk.judges opening before before walk
-amid_begun Became opening before walk may found order seen window begins none read ended =
+amid_begun Became opening before walk may found order seen same begins none read ended =
     let bytes = opening.bytes.items in
-    let same : walk.window.items ≡ bytes = ap (λ (v : Vec ℕ Global). v.items) window in
     let ahead : records_in opening [] ≡ ahead_of walk =
     ap (drop opening.from) (append-nil bytes) ∙ ap (λ n. drop n bytes) (sym begins) ∙ ap (drop walk.from) (sym same) in
     record {

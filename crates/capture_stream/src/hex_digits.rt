@@ -2,19 +2,11 @@
 ghost use Rattle.std.specs.Prelude.{◌≡◌, ◌∷◌, ◌<◌, ◌≤◌, [], IfNone, IfSome, is_some, length};
 ghost use Rattle.std.specs.Io.KnownBytes.{IsAtEnd, prepend_known};
 ghost use Rattle.hex.specs.Hex.{hex_digit_value};
-ghost use Rattle.racl_io.specs.Inputs;
 ghost use Rattle.racl_io.specs.Inputs.{digits_of};
 ghost use Rattle.capture_stream.specs.HexDigits.{spelt};
 ghost use Rattle.capture_stream.specs.inner.Digits.{HasDigit, HasNoDigit, are_plain};
 
-use racl_io::{DeviceFault, Source};
-
-// What isn't looked at among digits.
-fn is_blank(b: u8) -> bool
-    ensures { result ≡ Inputs.is_blank b }
-{
-    matches!(b, b' ' | b'\t' | b'\n' | b'\r')
-}
+use racl_io::{DeviceFault, Source, is_blank};
 
 // The value of a digit, in either case.
 fn digit_value(b: u8) -> Option<u8>

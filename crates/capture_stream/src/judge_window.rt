@@ -2,13 +2,14 @@
 ghost use Rattle.std.specs.Prelude.{◌≤◌, IfOk};
 ghost use Rattle.packet_view.specs.CheckedCaptures.{packets_of};
 ghost use Rattle.packet_view.specs.declared.packets.Packets.TheVariants as kind;
+ghost use Rattle.racl_io.specs.Buffers.{held_by};
 ghost use Rattle.capture_stream.specs.Judging.{CanFollow, HaveFollowed};
 ghost use Rattle.capture_stream.specs.inner.Found.{HaveFound};
 ghost use Rattle.capture_stream.specs.inner.Windows.{CanJudge, HasReadMore, HaveJudged, MayRead};
 
 use crate::packet_judges::Judges;
 use packet_view::{Front, Order, Packets, Records, Stop, front_records};
-use racl_io::{Fault, Source, read_until};
+use racl_io::{Fault, ReadBuffer, Source};
 use std::alloc::AllocError;
 use std::mem;
 use std::thread::{Threads, join_mut};
@@ -32,7 +33,8 @@ fn judge_window<J: Judges + Drop>(judging: &mut WindowJudges<J>, records: Record
     *judging = WindowJudges::Over(judges.judge(Packets::Records(records)));
 }
 
-/// How many bytes a window gets beside those that the one before left, at least and at most, while the input has more.
+/// How many bytes a window has, at least and at most, while the input has more. One that begins with more than half as many
+/// gets as many again.
 #[derive(Clone, Copy)]
 pub struct WindowSize {
     pub least: usize,
@@ -43,14 +45,14 @@ impl WindowSize {
     ghost use Rattle.std.specs.Prelude.{◌≤◌};
     ghost use Rattle.capture_stream.specs.Streams.{IsSize};
 
-    /// How many bytes the next window gets where so many were read before: as many again within these bounds, so that
-    /// judging begins early, and larger windows follow that pay for more threads.
-    pub fn beside(&self, read: usize) -> usize
+    /// How many bytes the next window gets behind those that the one before left, where so many were read: it has as many as
+    /// were read, within these bounds, so that judging begins early, and larger windows follow that pay for more threads.
+    pub fn beside(&self, read: usize, left: usize) -> usize
         requires { IsSize self.now }
-        ensures some { 1 ≤ result }
-        ensures few { result ≤ 16777216 }
+        ensures { 1 ≤ result }
     {
-        read.max(self.least).min(self.most)
+        let all = read.max(self.least).min(self.most);
+        all.saturating_sub(left).max(left)
     }
 }
 
@@ -93,16 +95,16 @@ pub fn find_records(bytes: &[u8], order: Order) -> Found
 // Bytes are read behind those that stand in `next` until there are so many, and the records in all of them are found.
 fn read_and_find<R: Source>(
     reader: &mut R,
-    next: &mut Vec<u8>,
+    next: &mut ReadBuffer,
     least: usize,
     order: Order,
 ) -> Result<NextWindow, Fault>
     requires { MayRead (R.failures reader.old) least }
-    ensures { HasReadMore R.bytes R.failures reader.old reader.new next.old.items next.new.items least order result }
+    ensures { HasReadMore R.bytes R.failures reader.old reader.new (held_by next.old) (held_by next.new) least order result }
 {
-    let ended = read_until(reader, next, least)?;
+    let ended = next.read_until(reader, least)?;
     Ok(NextWindow {
-        found: find_records(next, order),
+        found: find_records(next.bytes(), order),
         ended,
     })
 }
@@ -114,13 +116,13 @@ pub fn judge_and_read<J: Judges + Drop, T: Threads, R: Source + Send>(
     judges: J,
     records: Records<'_>,
     reader: &mut R,
-    next: &mut Vec<u8>,
+    next: &mut ReadBuffer,
     least: usize,
 ) -> (Result<J, AllocError>, Result<NextWindow, Fault>)
     requires can { CanFollow J.became judges (kind.Records records) }
     requires may { MayRead (R.failures reader.old) least }
     ensures judged { IfOk result.0 (HaveFollowed J.became judges (packets_of records.entry)) }
-    ensures read { HasReadMore R.bytes R.failures reader.old reader.new next.old.items next.new.items least records.entry.order result.1 }
+    ensures read { HasReadMore R.bytes R.failures reader.old reader.new (held_by next.old) (held_by next.new) least records.entry.order result.1 }
 {
     let order = records.order;
     let Some(rt) = beside else {
@@ -132,7 +134,7 @@ pub fn judge_and_read<J: Judges + Drop, T: Threads, R: Source + Send>(
         rt,
         &mut ||
             requires { MayRead (R.failures reader.now) least }
-            ensures { HasReadMore R.bytes R.failures reader.entry.now reader.exit.now next.entry.now.items next.exit.now.items least order result }
+            ensures { HasReadMore R.bytes R.failures reader.entry.now reader.exit.now (held_by next.entry.now) (held_by next.exit.now) least order result }
         { read_and_find(reader, next, least, order) },
         &mut ||
             requires { CanJudge J.became judging (kind.Records records) }

@@ -8,7 +8,7 @@ ghost use Rattle.capture_stream.specs.inner.Walks.{HasAdvanced, HasEnded, IsLast
 use crate::judge_window::{Found, NextWindow, WindowSize, find_records, judge_and_read};
 use crate::packet_judges::Judges;
 use packet_view::{Order, Packets, Records, Stop};
-use racl_io::{Fault, MOST_BYTES, Source, drain};
+use racl_io::{Fault, MOST_BYTES, ReadBuffer, Source, drain};
 use std::alloc::Global;
 use std::thread::Threads;
 
@@ -44,12 +44,12 @@ struct Walk<J> {
     order: Order,
     interface: u8,
     /// The bytes that were read and not judged, from place `from` on.
-    window: Vec<u8>,
+    window: ReadBuffer,
     from: usize,
     /// The records among them.
     found: Found,
     /// Room for the next window.
-    spare: Vec<u8>,
+    spare: ReadBuffer,
     /// How many packets were judged.
     packets: usize,
     /// How many bytes of the input were read.
@@ -94,17 +94,17 @@ fn next_window<J: Judges + Drop, T: Threads, R: Source + Send>(
             Err(fault) => return Err(fault),
         }
     }
-    spare.clear();
-    let Ok(()) = spare.extend_from_slice(&window[window.len() - behind..]) else {
+    let bytes = window.bytes();
+    let Ok(()) = spare.hold(&bytes[bytes.len() - behind..]) else {
         return Err(Fault::Memory);
     };
     let records = Records {
-        bytes: &window[from..],
+        bytes: &bytes[from..],
         order,
         interface,
         count,
     };
-    let more = size.beside(read).min(MOST_BYTES + 1 - read);
+    let more = size.beside(read, behind).min(MOST_BYTES + 1 - read);
     let least = behind + more;
     let (judged, next) = judge_and_read(beside, judges, records, reader, &mut spare, least);
     let NextWindow { found, ended } = match next {
@@ -114,7 +114,7 @@ fn next_window<J: Judges + Drop, T: Threads, R: Source + Send>(
     let Ok(judges) = judged else {
         return Err(Fault::Memory);
     };
-    let read = read + (spare.len() - behind);
+    let read = read + (spare.bytes().len() - behind);
     if read > MOST_BYTES {
         return Err(Fault::TooLarge);
     }
@@ -153,7 +153,7 @@ fn last_window<J: Judges + Drop>(walk: Walk<J>) -> Result<Streamed<J>, Fault>
         Stop::TooLong => return Err(Fault::LongRecord((packets + found.count) as u64 + 1)),
     };
     let records = Records {
-        bytes: &window[from..],
+        bytes: &window.bytes()[from..],
         order,
         interface,
         count: found.count,
@@ -196,10 +196,10 @@ pub fn judge_stream<J: Judges + Drop, T: Threads, R: Source + Send>(
         judges,
         order,
         interface,
-        window: bytes,
+        window: ReadBuffer::new(bytes),
         from,
         found,
-        spare: Vec::new(alloc),
+        spare: ReadBuffer::new(Vec::new(alloc)),
         packets: 0,
         read,
         ended,

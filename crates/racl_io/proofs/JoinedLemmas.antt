@@ -1,7 +1,7 @@
 -- Bytes that a reader gave, as they stand in a form; and readers in turn.
 use Rattle.std.proofs.Common.{◌≡◌, ◌∙◌, ◌++◌, ℕ, List, [], ◌∷◌, Option, None, Some, ◌<◌, ◌≤◌, ap, arith, refl, subst, sym, length}
 use Rattle.std.specs.Prelude.{◌*◌, ◌/◌, ◌%◌, ◌≢◌, option_map, slice_index, slice_set, take}
-use Rattle.std.specs.Io.KnownBytes.{Consumes, IsAtEnd, Keeps}
+use Rattle.std.specs.Io.KnownBytes.{Consumes, IsAtEnd}
 use Rattle.std.proofs.lemmas.List.{take_at}
 use Rattle.hex.specs.Hex.{encode_lower, encode_with}
 use Rattle.hex.proofs.HexLemmas.{length-encode_with}

@@ -1,3 +1,4 @@
+pub mod BufferLemmas
 pub mod FaultLemmas
 pub mod FrontLemmas
 pub mod InputLemmas

@@ -1,3 +1,4 @@
+pub mod Buffers
 pub mod Devices
 pub mod Faults
 pub mod Fronts

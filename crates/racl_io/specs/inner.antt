@@ -1,2 +1,3 @@
+pub mod Gains
 pub mod Lines
 pub mod Names

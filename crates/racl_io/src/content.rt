@@ -9,7 +9,8 @@ use crate::fault::Fault;
 use hex::FromHexError;
 use std::alloc::{AllocError, Global};
 
-fn is_blank(b: u8) -> bool
+/// Whether this isn't looked at among digits.
+pub fn is_blank(b: u8) -> bool
     ensures { result ≡ Inputs.is_blank b }
 {
     matches!(b, b' ' | b'\t' | b'\n' | b'\r')

@@ -5,6 +5,7 @@ use Rattle.packet_view.specs.Captures.{AreRecords, IsEnd, IsTooLong, PacketFacts
 use Rattle.packet_view.specs.RecordLists.{records_from}
 use Rattle.racl_io.specs.declared.fault.Fault.{Fault}
 use Rattle.racl_io.specs.declared.fault.Fault.TheVariants.{LongRecord, Memory, Read, TooLarge}
+use Rattle.racl_io.specs.Buffers.{held_by}
 use Rattle.racl_io.specs.Inputs.{most_bytes}
 use Rattle.capture_stream.specs.Judging.{HaveFollowed}
 use Rattle.capture_stream.specs.Streams.{records_in}
@@ -15,7 +16,7 @@ use Rattle.capture_stream.specs.declared.stream_judging.Walk.{Walk}
 
 -- the bytes that are not judged
 abbrev pub ahead_of : {J : Type 0} → Walk J → List ℕ
-ahead_of walk = drop walk.from walk.window.items
+ahead_of walk = drop walk.from (held_by walk.window)
 
 -- the whole records there, and the bytes behind them
 abbrev pub records_ahead : {J : Type 0} → Walk J → List RecordFacts
@@ -31,7 +32,7 @@ pub record MayAdvance {J : Type 0} (Became : J → List PacketFacts → J → Ty
   pub packets : List PacketFacts
   pub stand : Became begun packets walk.judges
   pub room : length packets + length (ahead_of walk) < 2 ^ 64
-  pub within : walk.from ≤ length walk.window.items
+  pub within : walk.from ≤ length (held_by walk.window)
   pub found : HaveFound walk.order (ahead_of walk) walk.found
   pub few : walk.packets + length (ahead_of walk) ≤ walk.read
   pub bound : walk.read ≤ most_bytes
@@ -51,7 +52,7 @@ pub record HasAdvanced {J : Type 0} (Became : J → List PacketFacts → J → T
   pub bound : new.read ≤ most_bytes
   pub order : new.order ≡ old.order
   pub interface : new.interface ≡ old.interface
-  pub within : new.from ≤ length new.window.items
+  pub within : new.from ≤ length (held_by new.window)
   pub found : HaveFound new.order (ahead_of new) new.found
   pub ended : new.ended ≡ true → IsAtEnd after
   pub goes_on : new.ended ≡ false → old.read < new.read
@@ -109,7 +110,7 @@ pub record IsAmid {J : Type 0} (Became : J → List PacketFacts → J → Type 0
   pub bound : walk.read ≤ most_bytes
   pub order : walk.order ≡ opening.order
   pub interface : walk.interface ≡ opening.interface
-  pub within : walk.from ≤ length walk.window.items
+  pub within : walk.from ≤ length (held_by walk.window)
   pub found : HaveFound walk.order (ahead_of walk) walk.found
   pub ended : walk.ended ≡ true → IsAtEnd now
   pub all : opening.ended ≡ true → IsAllOf walk gone

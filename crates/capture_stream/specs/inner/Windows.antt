@@ -1,5 +1,5 @@
 -- Those who judge packets in one thread, and what another one reads: before and after.
-use Rattle.std.specs.Prelude.{◌≡◌, ◌-◌, ◌<◌, ◌≤◌, ◌^◌, ◌⊎◌, ℕ, IfErr, IfOk, List, Option, Result, length}
+use Rattle.std.specs.Prelude.{◌≡◌, ◌+◌, ◌-◌, ◌<◌, ◌≤◌, ◌^◌, ◌⊎◌, ℕ, IfErr, IfOk, List, Option, Result, length}
 use Rattle.packet_view.specs.Captures.{PacketFacts}
 use Rattle.packet_view.specs.declared.capture.Order.{Order}
 use Rattle.packet_view.specs.declared.packets.Packets.{Packets}
@@ -26,7 +26,7 @@ HaveJudged Became old more new = ⊥
 
 -- so many bytes may be read
 abbrev pub MayRead : ℕ → ℕ → Type 0
-MayRead failures least = (failures < 2 ^ 64 - 1) × (least ≤ most_bytes)
+MayRead failures least = (failures < 2 ^ 64 - 1) × (least ≤ most_bytes + 1)
 
 -- a buffer got bytes of the reader until it had so many and no more, and the records in it were found; or a read failed, or there was no memory
 abbrev pub HasReadMore : {R : Type 0} → (R → Option (List ℕ)) → (R → ℕ) → R → R → List ℕ → List ℕ → ℕ → Order → Result NextWindow Fault → Type 0

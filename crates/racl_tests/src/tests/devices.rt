@@ -2,7 +2,9 @@
 ghost use Rattle.std.specs.Prelude.{◌≤◌, None, IfOk};
 ghost use Rattle.racl_io.specs.Inputs.{most_bytes};
 
-use racl_io::{Device, DeviceFault, Fault, MOST_BYTES, Source, drain, read_until, write_all};
+use racl_io::{
+    Device, DeviceFault, Fault, MOST_BYTES, ReadBuffer, Source, drain, read_until, write_all,
+};
 use std::io;
 use std::io::{Error, ErrorKind, Read, Write};
 use std::test::Fail;
@@ -129,6 +131,25 @@ fn a_buffer_with_room_does_not_grow(rt: HostRuntime) -> Result<(), Fail> {
         Some((false, 200_000))
     );
     assert_eq!(rt; all.capacity(), 1_800_000);
+    Ok(())
+}
+
+#[test]
+fn a_buffer_is_used_again(rt: HostRuntime) -> Result<(), Fail> {
+    let bytes = vec![in rt.alloc(); 5u8; 200_000]?;
+    let mut reader = Device::new(bytes.as_slice());
+    let mut buffer = ReadBuffer::new(vec![in rt.alloc(); 4u8; 3]?);
+    assert!(rt; !buffer.read_until(&mut reader, 150_003)?);
+    assert_eq!(rt;
+        (buffer.bytes().len(), reader.inner.len()),
+        (150_003, 50_000)
+    );
+    assert_eq!(rt; &buffer.bytes()[..4], &[4, 4, 4, 5]);
+    buffer.hold(&[6; 2])?;
+    assert_eq!(rt; buffer.bytes(), &[6; 2]);
+    assert!(rt; buffer.read_until(&mut reader, 150_003)?);
+    assert_eq!(rt; buffer.bytes().len(), 50_002);
+    assert_eq!(rt; &buffer.bytes()[..3], &[6, 6, 5]);
     Ok(())
 }
 

@@ -1,4 +1,4 @@
-use Rattle.std.proofs.Common.{Err, ◌≡◌, ◌∙◌, ap, length, refl, subst}
+use Rattle.std.proofs.Common.{Err, ◌≡◌, ◌∙◌, ap, drop, length, refl, subst, sym}
 use Rattle.std.proofs.lemmas.Result.{MatchResult-weaker, err_from_is_err_and}
 use Rattle.capture_stream.specs.inner.Found.{HaveFound}
 use Rattle.racl_io.proofs.TransferLemmas.{within_of_err}
@@ -9,9 +9,9 @@ pub windows-init : goal.windows-init
 windows-init g c =
     let len : c.len-read.result ≡ length c.args.opening.bytes.items = c.len-read.ensures ∙ c.args.opening.bytes.ok.0 in
     let opening = c.args.opening in
-    let ahead = part_from c.deref.result.now opening.bytes.items opening.from c.deref.ensures.value in
+    let ahead = part_from c.deref.result.now opening.bytes.items opening.from c.deref.ensures.value ∙ ap (drop opening.from) (sym c.new.ensures) in
     let found = subst (λ b. HaveFound opening.order b c.find_records-found.result) ahead c.find_records-found.ensures in
-    record { amid = amid_begun _ opening _ _ c.requires.may found refl refl refl refl refl len refl; sound = refl }
+    record { amid = amid_begun _ opening _ _ c.requires.may found refl refl c.new.ensures refl refl len refl; sound = refl }
 
 pub next_window-requires-clause-may : goal.next_window-requires-clause-may
 next_window-requires-clause-may g c κs within = amid_may _ c.args.judges c.args.opening _ c.requires.may _ c.windows.walk c.windows.invariant.amid

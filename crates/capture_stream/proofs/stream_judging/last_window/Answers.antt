@@ -2,6 +2,7 @@ use Rattle.std.proofs.Common.{ap, arith, refl, subst, sym}
 use Rattle.packet_view.specs.Captures.{IsEnd, end_of, packets_at}
 use Rattle.packet_view.specs.Fronts.{Stops}
 use Rattle.packet_view.specs.RecordLists.{records_from}
+use Rattle.racl_io.specs.Buffers.{held_by}
 use Rattle.capture_stream.specs.Judging.{HaveFollowed}
 use Rattle.capture_stream.specs.inner.Walks.{rest_of}
 use Rattle.capture_stream.proofs.WalkLemmas.{front_ended, front_few, front_follow, front_long, part_from}
@@ -20,7 +21,7 @@ returns-in-TooLong g c = front_long c.args.walk c.requires.may.found c.in-TooLon
 pub judge-requires : goal.judge-requires
 judge-requires g c =
     let walk = c.args.walk in
-    let ahead = part_from c.deref.result.now walk.window.items walk.from c.deref.ensures.value in
+    let ahead = part_from c.bytes.result.now (held_by walk.window) walk.from c.bytes.ensures in
     front_follow _ walk _ c.requires.may (ap (records_from walk.order walk.found.count) ahead)
 
 pub overflow_add-result-2 : goal.overflow_add-result-2
@@ -30,7 +31,7 @@ pub returns : goal.returns
 returns g c =
     let walk = c.args.walk in
     let found = c.requires.may.found in
-    let ahead = part_from c.deref.result.now walk.window.items walk.from c.deref.ensures.value in
+    let ahead = part_from c.bytes.result.now (held_by walk.window) walk.from c.bytes.ensures in
     let judged =
     subst (λ b. HaveFollowed g.J.Judges.became walk.judges (packets_at walk.interface (records_from walk.order walk.found.count b)) c.in_ok-judges.judges)
     ahead c.in_ok-judges.ensures in
