@@ -1,3 +1,4 @@
+pub mod DigitTable
 pub mod HexDigitLemmas
 pub mod TellLemmas
 pub mod WalkLemmas
