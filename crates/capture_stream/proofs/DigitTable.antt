@@ -7,6 +7,7 @@ use Rattle.hex.specs.Hex.{hex_digit_value}
 abbrev pub value_of : ℕ → Option ℕ
 value_of number = cond (nat_lt number 16) (Some number) None
 
+-- both say the same
 unfoldable pub are_same : Option ℕ → Option ℕ → Bool
 are_same None None = true
 are_same (Some one) (Some other) = one == other
@@ -24,7 +25,8 @@ unfoldable pub are_values : List ℕ → ℕ → Bool
 are_values table zero = true
 are_values table (suc n) = are_same (value_of (get_or table n 0)) (hex_digit_value n) && are_values table n
 
-pub values_below : (table : List ℕ) (n : ℕ) → are_values table n ≡ true → (b : ℕ) → b < n → value_of (get_or table b 0) ≡ hex_digit_value b
+pub values_below : (table : List ℕ) (n : ℕ) → are_values table n ≡ true → (b : ℕ) → b < n
+    → value_of (get_or table b 0) ≡ hex_digit_value b
 unfolding are_values
 values_below table zero are b below = absurd (omega arith)
 values_below table (suc n) are b below =
@@ -34,6 +36,7 @@ values_below table (suc n) are b below =
       | inr other ↦ values_below table n others b (omega arith)
     ]
 
+-- by a number below 16 it tells this value, by others none
 pub value_told : (number : ℕ) (value : Option ℕ) → value_of number ≡ value → number < 16 → Some number ≡ value
 value_told number value is less = sym (ap (λ b. cond b (Some number) None) (lt-ltb number 16 less)) ∙ is
 

@@ -13,12 +13,13 @@ front_read items part rest count n within few =
     ∙ ap (λ bs. front ++ bs) (take-append-le n part rest few)
 
 -- the same in room of which the rest stays
-pub room_read : (items part rest others : List ℕ) (count n size : ℕ) → count ≤ length items → n ≤ length part → count + n ≤ size
-    → take (count + n) (take size ((take count items ++ (part ++ rest)) ++ others)) ≡ take count items ++ take n part
+pub room_read : (items part rest others : List ℕ) (count n size : ℕ) → count ≤ length items → n ≤ length part
+    → count + n ≤ size → take (count + n) (take size ((take count items ++ (part ++ rest)) ++ others)) ≡ take count items ++ take n part
 room_read items part rest others count n size within few fits =
     let front = take count items in
     let all = front ++ (part ++ rest) in
     let long = length-take-le count items within in
     let one = length-append front (part ++ rest) in
     let two = length-append part rest in
-    take-take (count + n) size (all ++ others) fits ∙ take-append-le (count + n) all others (omega arith) ∙ front_read items part rest count n within few
+    take-take (count + n) size (all ++ others) fits ∙ take-append-le (count + n) all others (omega arith)
+    ∙ front_read items part rest count n within few

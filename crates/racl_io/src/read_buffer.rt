@@ -5,8 +5,9 @@ use crate::device::Source;
 use crate::fault::Fault;
 use std::alloc::AllocError;
 
-/// How much room a buffer gets at first: what a pipe holds.
-const FIRST_BYTES: usize = 65_536;
+/// How many bytes are asked for at once, and get room at first: half of what a pipe holds, so that who writes into it goes on
+/// meanwhile.
+const PART_BYTES: usize = 32_768;
 
 /// Bytes at the front of room for more, which is kept and used again.
 #[derive(Drop)]
@@ -77,7 +78,7 @@ impl ReadBuffer {
         if self.count < self.room.len() {
             return Ok(());
         }
-        let more = self.count.max(FIRST_BYTES).min(most - self.count);
+        let more = self.count.max(PART_BYTES).min(most - self.count);
         self.grow(self.count + more)
     }
 
@@ -93,7 +94,8 @@ impl ReadBuffer {
     {
         self.make_room(most)?;
         let start = self.count;
-        let end = self.room.len().min(most);
+        let left = self.room.len().min(most) - start;
+        let end = start + left.min(PART_BYTES);
         let Ok(n) = reader.read(&mut self.room[start..end]) else {
             return Err(Fault::Read);
         };

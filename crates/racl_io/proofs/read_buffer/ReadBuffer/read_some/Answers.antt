@@ -11,17 +11,20 @@ returns-clause-gained g c =
     let part = c.read.new.buf in
     let items = c.deref_mut.result.now in
     let same = c.deref_mut.ensures.value in
-    let within : buffer.count ≤ length items = (let w = buffer.within in let l = ap length same in let size = buffer.room.ok.0 in omega arith) in
-    let size : length (take n part) ≡ n = length-take-le n part c.in-Ok.ensures.bound in
+    let within : buffer.count ≤ length items =
+    (let long = ap length same in let all = buffer.room.ok.0 in let few = buffer.within in omega arith) in
+    let bound = c.in-Ok.ensures.bound in
+    let size : length (take n part) ≡ n = length-take-le n part bound in
     let kept = c.read.auto.buf in
-    let fits : buffer.count + n ≤ buffer.room.len = (let bound = c.in-Ok.ensures.bound in let end = c.min-end.ensures in let len = c.len.ensures in omega arith) in
+    let fits : buffer.count + n ≤ buffer.room.len =
+    (let asked = c.min.ensures in let part = c.min-2.ensures in let all = c.len.ensures in omega arith) in
     let held = c.in_ok-make_room.ensures.held in
     record {
       read = take n part;
       consumed = c.in-Ok.ensures.bytes.0;
-      appended = room_read items part _ _ buffer.count n buffer.room.len within c.in-Ok.ensures.bound fits ∙ ap (λ bs. take buffer.count bs ++ take n part) same
-          ∙ ap (λ bs. bs ++ take n part) held;
+      appended = room_read items part _ _ buffer.count n buffer.room.len within bound fits
+          ∙ ap (λ bs. take buffer.count bs ++ take n part) same ∙ ap (λ bs. bs ++ take n part) held;
       size = sym size;
-      few = grind (arith, common_steps, fits, c.in-Ok.ensures.bound, size, c.requires.some);
+      few = grind (arith, common_steps, fits, bound, size, c.requires.some);
       ended = search rules;
     }
