@@ -7,7 +7,6 @@ use Rattle.packet_view.specs.Captures.{AreRecords, PacketFacts, packet_at, packe
 use Rattle.packet_view.specs.declared.capture.Order.{Order}
 use Rattle.packet_view.proofs.FrontLemmas.{behind_header_appended, header_appended}
 use Rattle.acl_policy.specs.Policies.{IsPolicyText, PolicyFacts, policy_facts}
-use Rattle.flow_filter.specs.declared.filter.Filter.{Filter}
 use Rattle.flow_filter.specs.declared.interface_filters.InterfaceFilters.{InterfaceFilters}
 use Rattle.flow_filter.specs.declared.verdict.Verdict.{Verdict}
 use Rattle.flow_dealing.specs.WorkerRecords.{AreJudged, HavePages}
@@ -34,17 +33,18 @@ begun_alone (Standard workers) one rest = alone_begun _ _ workers one rest
 begun_alone (Large workers) one rest = alone_begun _ _ workers one rest
 
 -- what one worker said
-pub by_one_worker : (options : Options) (set : Filter) (ready : InterfaceFilters) (tables : SizedTables) (orders : Orders) (packets : List PacketFacts)
-    (verdicts : List Verdict) → orders ≡ orders_for tables ready 1 → size_of tables ≡ options.tables → ready.times ≡ set.times → ready.policy.now ≡ set.policy
-    → set.times ≡ options.times → 1 ≤ options.workers → AreSaid orders packets verdicts → ByOneWorker options (policy_facts set.policy) packets verdicts
-by_one_worker options set ready tables orders packets verdicts given sized times policy same some said =
-    let judged : AreJudged (bucket_deal options.tables 1) set.times (policy_facts set.policy) packets verdicts =
-    (judged_as packets verdicts said.views orders tables options.tables ready set 1 given sized times policy (said, refl)).0 in
+pub by_one_worker : (options : Options) (ready : InterfaceFilters) (tables : SizedTables) (orders : Orders) (packets : List PacketFacts)
+    (verdicts : List Verdict) → orders ≡ orders_for tables ready 1 → size_of tables ≡ options.tables
+    → ready.times ≡ options.times → 1 ≤ options.workers → AreSaid orders packets verdicts → ByOneWorker options (policy_facts ready.policy.now) packets verdicts
+by_one_worker options ready tables orders packets verdicts given sized same some said =
+    let policy = policy_facts ready.policy.now in
+    let judged : AreJudged (bucket_deal options.tables 1) ready.times policy packets verdicts =
+    (judged_as packets verdicts said.views orders tables options.tables ready 1 given sized (said, refl)).0 in
     record {
-      judged = subst (λ t. AreJudged (bucket_deal options.tables 1) t (policy_facts set.policy) packets verdicts) same judged;
-      by_workers = (given_by_workers options set.times (policy_facts set.policy) packets verdicts judged.views 1 same (omega arith) some (judged, refl) (pages_for_few _ _ _ _ _)).0;
+      judged = subst (λ t. AreJudged (bucket_deal options.tables 1) t policy packets verdicts) same judged;
+      by_workers = (given_by_workers options ready.times policy packets verdicts judged.views 1 same (omega arith) some (judged, refl) (pages_for_few _ _ _ _ _)).0;
       by_one_thread =
-          subst (λ t. HavePages verdicts → ByOneThread options.tables t (policy_facts set.policy) packets verdicts) same
+          subst (λ t. HavePages verdicts → ByOneThread options.tables t policy packets verdicts) same
           (one_report _ _ _ _ _ judged (inl refl));
     }
 

@@ -10,7 +10,6 @@ use Rattle.acl_policy.specs.Policies.{IsPolicyFault, IsPolicyText, PolicyFacts, 
 use Rattle.acl_policy.specs.declared.policy.PolicyFault.{PolicyFault}
 use Rattle.acl_policy.specs.declared.policy.PolicyFault.TheVariants as policy
 use Rattle.session_state.specs.declared.timeouts.Timeouts.{Timeouts}
-use Rattle.flow_filter.specs.declared.filter.Filter.{Filter}
 use Rattle.flow_filter.specs.declared.interface_filters.InterfaceFilters.{InterfaceFilters}
 use Rattle.flow_filter.specs.declared.verdict.Verdict.{Verdict}
 use Rattle.flow_filter.proofs.OneThreadLemmas.{one_verdicts}
@@ -59,35 +58,33 @@ given_by_workers options times policy packets verdicts views workers same some f
     same (judged.0, judged.1, paged judged.0) in
     (record { workers = workers; some = some; few = few; judged = moved.0; paged = moved.2 }, moved.1)
 
--- what workers said who had orders of these tables, these timeouts and this policy
-pub judged_as : (packets : List PacketFacts) (verdicts : List Verdict) (views : Views) (orders : Orders) (tables : SizedTables) (asked : TableSize) (ready : InterfaceFilters) (set : Filter) (workers : ℕ)
-    → orders ≡ orders_for tables ready workers → size_of tables ≡ asked → ready.times ≡ set.times → ready.policy.now ≡ set.policy
-    → AreJudgedBy orders.deal orders.times orders.policy packets verdicts views
-    → AreJudgedBy (bucket_deal asked workers) set.times (policy_facts set.policy) packets verdicts views
-judged_as packets verdicts views orders tables asked ready set workers given sized times policy said =
-    subst (λ s. AreJudgedBy (bucket_deal s workers) set.times (policy_facts set.policy) packets verdicts views) sized
-    (subst (λ t. AreJudgedBy (bucket_deal (size_of tables) workers) t (policy_facts set.policy) packets verdicts views) times
-    (subst (λ p. AreJudgedBy (bucket_deal (size_of tables) workers) ready.times (policy_facts p) packets verdicts views) policy
-    (subst (λ (o : Orders). AreJudgedBy o.deal o.times o.policy packets verdicts views) given said)))
+-- what workers said who had orders of these tables, by rules that were ready
+pub judged_as : (packets : List PacketFacts) (verdicts : List Verdict) (views : Views) (orders : Orders) (tables : SizedTables) (asked : TableSize) (ready : InterfaceFilters) (workers : ℕ)
+    → orders ≡ orders_for tables ready workers → size_of tables ≡ asked → AreJudgedBy orders.deal orders.times orders.policy packets verdicts views
+    → AreJudgedBy (bucket_deal asked workers) ready.times (policy_facts ready.policy.now) packets verdicts views
+judged_as packets verdicts views orders tables asked ready workers given sized said =
+    subst (λ s. AreJudgedBy (bucket_deal s workers) ready.times (policy_facts ready.policy.now) packets verdicts views) sized
+    (subst (λ (o : Orders). AreJudgedBy o.deal o.times o.policy packets verdicts views) given said)
 
 -- what workers reached who had these orders, with the sessions that stood in their tables when they had ended
-pub reached_by : (options : Options) (set : Filter) (ready : InterfaceFilters) (tables : SizedTables) (workers : ℕ) (orders : Orders)
+pub reached_by : (options : Options) (ready : InterfaceFilters) (tables : SizedTables) (workers : ℕ) (orders : Orders)
     (packets : List PacketFacts) (ended : Ended) (judged : JudgedFacts)
-    → set.times ≡ options.times → 1 ≤ workers → workers ≤ options.workers → orders ≡ orders_for tables ready workers → size_of tables ≡ options.tables
-    → ready.times ≡ set.times → ready.policy.now ≡ set.policy → AreSaidBy orders packets ended.verdicts.items ended.callers → HasStored options tables ended judged
-    → IsReached options (policy_facts set.policy) packets ended.captures.items judged
-reached_by options set ready tables workers orders packets ended judged timed some few given sized times policy said has =
+    → ready.times ≡ options.times → 1 ≤ workers → workers ≤ options.workers → orders ≡ orders_for tables ready workers → size_of tables ≡ options.tables
+    → AreSaidBy orders packets ended.verdicts.items ended.callers → HasStored options tables ended judged
+    → IsReached options (policy_facts ready.policy.now) packets ended.captures.items judged
+reached_by options ready tables workers orders packets ended judged timed some few given sized said has =
     let views = views_with ended.callers in
     let verdicts = ended.verdicts.items in
-    let was = judged_as packets verdicts views orders tables options.tables ready set workers given sized times policy said.said in
-    let by = given_by_workers options set.times (policy_facts set.policy) packets verdicts views workers timed some few was (pages_for_few _ _ _ _ _) in
-    subst (λ (o : Outcome). IsReached options (policy_facts set.policy) packets ended.captures.items (record { outcome = o; stored = judged.stored })) (sym has.outcome)
+    let policy = policy_facts ready.policy.now in
+    let was = judged_as packets verdicts views orders tables options.tables ready workers given sized said.said in
+    let by = given_by_workers options ready.times policy packets verdicts views workers timed some few was (pages_for_few _ _ _ _ _) in
+    subst (λ (o : Outcome). IsReached options policy packets ended.captures.items (record { outcome = o; stored = judged.stored })) (sym has.outcome)
     (record {
       by_workers = by.0;
       kept = λ asked. subst (λ v. AreStoredOf (layout_for options.tables) v judged.stored) (sym by.1)
           (subst (λ s. AreStoredOf (layout_for s) views judged.stored) sized (has.stored asked));
       by_one_thread =
-          subst (λ t. HavePages verdicts → ByOneThread options.tables t (policy_facts set.policy) packets verdicts) timed
+          subst (λ t. HavePages verdicts → ByOneThread options.tables t policy packets verdicts) timed
           (one_report _ _ _ _ _ was.0 (inl refl));
       told = refl;
     })
@@ -115,16 +112,15 @@ pub idle_at_end : (tables : SizedTables) (ready : InterfaceFilters) (workers : �
 idle_at_end tables ready workers orders packets ended given said = subst (λ (o : Orders). AreIdleOf o.tables ended.callers) given said.idle
 
 -- what is answered of all records where workers who had these orders judged them, and ended
-pub judged_by_orders : {T : Type 0} (options : Options) (set : Filter) (ready : InterfaceFilters) (tables : SizedTables) (workers : ℕ) (orders : Orders)
+pub judged_by_orders : {T : Type 0} (options : Options) (ready : InterfaceFilters) (tables : SizedTables) (workers : ℕ) (orders : Orders)
     (opening : Opening) (before after : Option (List ℕ)) (read : List ℕ) (packets : List RecordFacts) (rest : List ℕ) (truncated : Bool)
     (judges : SizedWorkers T) (ended : Ended) (judged : JudgedFacts)
-    → set.times ≡ options.times → 1 ≤ workers → workers ≤ options.workers → orders ≡ orders_for tables ready workers → size_of tables ≡ options.tables
-    → ready.times ≡ set.times → ready.policy.now ≡ set.policy → AreAllRead before after opening read
-    → AreRecords opening.order (records_in opening read) packets rest → IsEnd opening.order rest (end_of truncated)
+    → ready.times ≡ options.times → 1 ≤ workers → workers ≤ options.workers → orders ≡ orders_for tables ready workers → size_of tables ≡ options.tables
+    → AreAllRead before after opening read → AreRecords opening.order (records_in opening read) packets rest → IsEnd opening.order rest (end_of truncated)
     → AreAfter orders (packets_at 0 packets) judges → HasEnded judges truncated ended → HasStored options tables ended judged
-    → HasJudged options (policy_facts set.policy) opening before after judged
-judged_by_orders options set ready tables workers orders opening before after read packets rest truncated judges ended judged timed some few given sized
-    times policy whole records end at is has =
+    → HasJudged options (policy_facts ready.policy.now) opening before after judged
+judged_by_orders options ready tables workers orders opening before after read packets rest truncated judges ended judged timed some few given sized
+    whole records end at is has =
     let said = said_at_end orders judges (packets_at 0 packets) truncated ended at is in
     record {
       read = read;
@@ -134,8 +130,8 @@ judged_by_orders options set ready tables workers orders opening before after re
       records = records;
       truncated = truncated;
       end = end;
-      reached = subst (λ cs. IsReached options (policy_facts set.policy) (packets_at 0 packets) cs judged) said.1
-          (reached_by options set ready tables workers orders (packets_at 0 packets) ended judged timed some few given sized times policy said.0 has);
+      reached = subst (λ cs. IsReached options (policy_facts ready.policy.now) (packets_at 0 packets) cs judged) said.1
+          (reached_by options ready tables workers orders (packets_at 0 packets) ended judged timed some few given sized said.0 has);
     }
 
 -- ---- an input without a right policy

@@ -29,6 +29,7 @@ use Rattle.racl_cli.specs.Reads.{AnswersInput, HasMarked, IsReached}
 use Rattle.racl_report.specs.ReadInputs.{HasPackets, IsTaken}
 use Rattle.racl_report.specs.RunReports.{JudgedFacts}
 use Rattle.racl_report.specs.inner.NumberedCaptures.{AreTakenFrom, IsFaultFrom, left_at}
+use Rattle.racl_cli.specs.inner.Plans.{HasReached}
 use Rattle.racl_cli.specs.inner.Captures.{HasTaken, HaveJudgedDigits, HaveTakenDigits, MayTake}
 use Rattle.racl_report.proofs.CaptureLaws.{AreFit, fit_digits, no_fault_of_packets, one_fault_of_content, one_packets}
 use Rattle.racl_cli.proofs.OpenedLemmas.{content_short}
@@ -300,10 +301,8 @@ module _ (options : Options) (bytes : List ℕ) (marked : Marked) (has : HasMark
   }
 
   pub answered : (result : Result JudgedFacts Fault)
-      → IfOk result (λ judged. (packets : List PacketFacts)
-      × HasPackets form content packets judged.outcome.captures
-      × IsReached options (policy_facts marked.filter.policy) packets judged.outcome.captures judged)
+      → IfOk result (HasReached options (policy_facts marked.filter.policy) form content)
       → IfErr result (λ fault. (fault ≡ Memory) ⊎ IsFaultOfContent form content fault)
       → length bytes ≤ most_bytes → AnswersInput options bytes result
-  answered (Ok judged) ok fault few = taken_answers ok.0 judged few ok.1 ok.2
+  answered (Ok judged) ok fault few = taken_answers ok.packets judged few ok.taken ok.reached
   answered (Err found) ok fault few = fault_answers found fault

@@ -6,7 +6,7 @@ use Rattle.packet_view.specs.declared.capture.CaptureFault.{CaptureFault}
 use Rattle.packet_view.specs.declared.capture.Order.{Order}
 use Rattle.acl_policy.specs.Policies.{IsPolicyFault, IsPolicyText, PolicyFacts, policy_facts}
 use Rattle.acl_policy.specs.declared.policy.PolicyFault.{PolicyFault}
-use Rattle.flow_filter.specs.declared.filter.Filter.{Filter}
+use Rattle.session_state.specs.declared.timeouts.Timeouts.{Timeouts}
 use Rattle.flow_dealing.specs.WorkerRecords.{HavePages}
 use Rattle.racl_options.specs.declared.settings.Options.{Options}
 use Rattle.racl_io.specs.declared.fault.Fault.{Fault}
@@ -139,9 +139,9 @@ pub record HasFront (options : Options) (before after : Option (List ℕ)) (fron
 
 -- ---- the records
 
--- a filter with the lifetimes that the words ask for may judge the records of an opening within the bytes of an input, which were seen at interface 0
-pub record MayJudge (options : Options) (filter : Filter) (opening : Opening) (before : Option (List ℕ)) : Type 0 where
-  pub times : filter.times ≡ options.times
+-- by the lifetimes that the words ask for the records of an opening within the bytes of an input may be judged, which were seen at interface 0
+pub record MayJudge (times : Timeouts) (options : Options) (opening : Opening) (before : Option (List ℕ)) : Type 0 where
+  pub same : times ≡ options.times
   pub within : opening.from ≤ length opening.bytes.items
   pub few : length opening.bytes.items ≤ most_bytes
   pub ended : opening.ended ≡ true → IsAtEnd before

@@ -1,4 +1,5 @@
 pub mod Captures
 pub mod Heads
+pub mod Plans
 pub mod Stored
 pub mod Streams

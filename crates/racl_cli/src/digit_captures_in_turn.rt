@@ -1,6 +1,7 @@
 //! Captures as digits, which are judged one after the other while they are decoded.
 ghost use Rattle.std.specs.Prelude.{◌≡◌, ◌≢◌, ◌≤◌, ◌==◌, ◌⊎◌, [], IfErr, IfOk, length};
 ghost use Rattle.std.specs.List.{list_any};
+ghost use Rattle.acl_policy.specs.Policies.{policy_facts};
 ghost use Rattle.racl_io.specs.declared.fault.Fault.TheVariants.{Memory};
 ghost use Rattle.racl_io.specs.declared.input.Form.TheVariants.{Binary, Hexadecimal};
 ghost use Rattle.racl_io.specs.Faults.{IsFaultOfContent, IsFaultOfOne};
@@ -8,9 +9,10 @@ ghost use Rattle.racl_io.specs.Inputs.{most_bytes};
 ghost use Rattle.racl_cli.specs.Crews.{AreResting};
 ghost use Rattle.racl_cli.specs.Reads.{AnswersInput, HasMarked};
 ghost use Rattle.racl_cli.specs.inner.Captures.{CanJudge, CanTake, HasTaken, HasTakenAll, HaveJudgedDigits, HaveTakenDigits, IsFaultAt, IsFaultOfWalk, MayTake};
+ghost use Rattle.racl_cli.specs.inner.Plans.{HasReached, IsPlanFor};
 
 use crate::input_front::Marked;
-use crate::judge_records::{end_capture, plan_for, threads_beside, window_size};
+use crate::judge_records::{Plan, end_capture, plan_for, threads_beside, window_size};
 use crate::judged_input::Ended;
 use crate::live_run::read_header;
 use crate::sized_tables_and_workers::{SizedWorkers, create_sized};
@@ -193,6 +195,38 @@ fn judge_all<'t, T: Threads + Wait + Sync>(
     }
 }
 
+// What the packets of all captures met that follow a marker line of this form, by this plan.
+fn judge_content<T: Threads + Wait + Sync>(
+    rt: &T,
+    alloc: Global,
+    options: &Options,
+    plan: Plan<'_, '_, T>,
+    form: Form,
+    content: &[u8],
+) -> Result<Judged, Fault>
+    requires plan { IsPlanFor options.now plan }
+    requires digits { form ≢ Binary }
+    requires few { length content.now ≤ most_bytes }
+    ensures ok { IfOk result (HasReached options.now (policy_facts plan.entry.filter.now.policy.now) form content.now) }
+    ensures fault { IfErr result (λ fault. (fault ≡ Memory) ⊎ IsFaultOfContent form content.now fault) }
+{
+    let Plan {
+        beside,
+        filter,
+        workers,
+    } = plan;
+    let Ok((tables, callers)) = create_sized(alloc, options.tables) else {
+        return Err(Fault::Memory);
+    };
+    let Ok(workers) = SizedWorkers::new(rt, alloc, filter, &tables, callers, workers) else {
+        return Err(Fault::Memory);
+    };
+    match judge_all(beside, Crew { alloc, workers }, form, content) {
+        Ok(ended) => with_stored(rt, alloc, options, tables, ended),
+        Err(fault) => Err(fault),
+    }
+}
+
 /// What the packets of captures as digits met, of an input of which all was read.
 pub fn judge_captures<T: Threads + Wait + Sync>(
     rt: &T,
@@ -207,18 +241,17 @@ pub fn judge_captures<T: Threads + Wait + Sync>(
 {
     let Marked { filter, form, from } = marked;
     let content = &bytes[from..];
-    let Ok((tables, callers)) = create_sized(alloc, options.tables) else {
-        return Err(Fault::Memory);
-    };
     let (expected, workers) = plan_for(options, true, content.len() / RECORD_DIGITS);
-    let beside = threads_beside(rt, workers > 1);
-    let prepared = filter.prepare(alloc, expected)?;
-    let ready = filter.ready_with(alloc, &prepared)?;
-    let Ok(workers) = SizedWorkers::new(rt, alloc, &ready, &tables, callers, workers) else {
+    let Ok(prepared) = filter.prepare(alloc, expected) else {
         return Err(Fault::Memory);
     };
-    match judge_all(beside, Crew { alloc, workers }, form, content) {
-        Ok(ended) => with_stored(rt, alloc, options, tables, ended),
-        Err(fault) => Err(fault),
-    }
+    let Ok(ready) = filter.ready_with(alloc, &prepared) else {
+        return Err(Fault::Memory);
+    };
+    let plan = Plan {
+        beside: threads_beside(rt, workers > 1),
+        filter: &ready,
+        workers,
+    };
+    judge_content(rt, alloc, options, plan, form, content)
 }

@@ -7,6 +7,7 @@ ghost use Rattle.racl_io.specs.Inputs.{most_bytes};
 ghost use Rattle.racl_io.specs.Transfers.{HasReadWithin};
 ghost use Rattle.racl_cli.specs.Crews.{HaveJudgedSome};
 ghost use Rattle.racl_cli.specs.inner.Streams.{HasEnded};
+ghost use Rattle.racl_cli.specs.inner.Plans.{IsPlanFor};
 ghost use Rattle.racl_cli.specs.Reads.{HasJudged, MayJudge};
 
 use crate::judged_input::Ended;
@@ -14,6 +15,7 @@ use crate::sized_tables_and_workers::{MANY_PACKETS, SizedWorkers, create_sized};
 use crate::stored_sessions::with_stored;
 use crate::workers_as_judges::Crew;
 use capture_stream::{Opening, Streamed, WindowSize, judge_stream};
+use flow_filter::InterfaceFilters;
 use flow_workers::Filter;
 use packet_view::front_records;
 use racl_io::{Captured, Fault, Source};
@@ -106,52 +108,81 @@ pub fn end_capture<T: Wait>(streamed: Streamed<Crew<'_, '_, T>>) -> Result<Ended
     })
 }
 
-/// The verdicts on the packets of all records, which are judged while they are read, and the sessions behind them: in windows
-/// for several workers, beside which the next one is read, where enough packets stand in the opening.
-pub fn judge_records<'t, R: Source + Send, T: Threads + Wait + Sync>(
-    rt: &'t T,
+/// Who judges packets: so many workers, by rules that are ready.
+pub struct Plan<'t, 'f, T> {
+    /// Whose threads may read a window beside the one before.
+    pub beside: Option<&'t T>,
+    pub filter: &'t InterfaceFilters<'f>,
+    pub workers: usize,
+}
+
+// What the packets of all records met, by this plan.
+fn judge_planned<R: Source + Send, T: Threads + Wait + Sync>(
+    rt: &T,
     alloc: Global,
     options: &Options,
     reader: &mut R,
-    filter: &'t Filter,
+    plan: Plan<'_, '_, T>,
     opening: Opening,
 ) -> Result<Judged, Fault>
-    requires may { MayJudge options.now filter.now opening (R.bytes reader.old) }
+    requires plan { IsPlanFor options.now plan }
+    requires may { MayJudge plan.filter.now.times options.now opening (R.bytes reader.old) }
     requires sound { R.failures reader.old < 2 ^ 64 - 1 }
-    ensures ok { IfOk result (HasJudged options.now (policy_facts filter.now.policy) opening (R.bytes reader.old) (R.bytes reader.new)) }
+    ensures ok { IfOk result (HasJudged options.now (policy_facts plan.entry.filter.now.policy.now) opening (R.bytes reader.old) (R.bytes reader.new)) }
     ensures fault { IfErr result (IsStreamFault opening (R.bytes reader.old) (R.bytes reader.new)) }
     ensures within { HasReadWithin R.bytes R.failures (most_bytes + 1 - length opening.bytes.items) reader.old reader.new result }
 {
+    let Plan {
+        beside,
+        filter,
+        workers,
+    } = plan;
     let Ok((tables, callers)) = create_sized(alloc, options.tables) else {
         return Err(Fault::Memory);
     };
-    let front = front_records(&opening.bytes[opening.from..], opening.order, 0);
-    let count = front.records.count;
-    let (expected, workers) = plan_for(options, opening.ended, count);
-    let are_several = workers > 1 && count >= MANY_PACKETS;
-    let Ok(prepared) = filter.prepare(alloc, expected) else {
+    let Ok(workers) = SizedWorkers::new(rt, alloc, filter, &tables, callers, workers) else {
         return Err(Fault::Memory);
     };
-    let Ok(ready) = filter.ready_with(alloc, &prepared) else {
-        return Err(Fault::Memory);
-    };
-    let Ok(workers) = SizedWorkers::new(rt, alloc, &ready, &tables, callers, workers) else {
-        return Err(Fault::Memory);
-    };
-    let beside = threads_beside(rt, are_several);
     let crew = Crew { alloc, workers };
-    match judge_stream(
-        beside,
-        alloc,
-        reader,
-        crew,
-        opening,
-        window_size(are_several),
-    ) {
+    let size = window_size(beside.is_some());
+    match judge_stream(beside, alloc, reader, crew, opening, size) {
         Ok(streamed) => match end_capture(streamed) {
             Ok(ended) => with_stored(rt, alloc, options, tables, ended),
             Err(fault) => Err(fault),
         },
         Err(fault) => Err(fault),
     }
+}
+
+/// The verdicts on the packets of all records, which are judged while they are read, and the sessions behind them: in windows
+/// for several workers, beside which the next one is read, where enough packets stand in the opening.
+pub fn judge_records<R: Source + Send, T: Threads + Wait + Sync>(
+    rt: &T,
+    alloc: Global,
+    options: &Options,
+    reader: &mut R,
+    filter: &Filter,
+    opening: Opening,
+) -> Result<Judged, Fault>
+    requires may { MayJudge filter.now.times options.now opening (R.bytes reader.old) }
+    requires sound { R.failures reader.old < 2 ^ 64 - 1 }
+    ensures ok { IfOk result (HasJudged options.now (policy_facts filter.now.policy) opening (R.bytes reader.old) (R.bytes reader.new)) }
+    ensures fault { IfErr result (IsStreamFault opening (R.bytes reader.old) (R.bytes reader.new)) }
+    ensures within { HasReadWithin R.bytes R.failures (most_bytes + 1 - length opening.bytes.items) reader.old reader.new result }
+{
+    let front = front_records(&opening.bytes[opening.from..], opening.order, 0);
+    let count = front.records.count;
+    let (expected, workers) = plan_for(options, opening.ended, count);
+    let Ok(prepared) = filter.prepare(alloc, expected) else {
+        return Err(Fault::Memory);
+    };
+    let Ok(ready) = filter.ready_with(alloc, &prepared) else {
+        return Err(Fault::Memory);
+    };
+    let plan = Plan {
+        beside: threads_beside(rt, workers > 1 && count >= MANY_PACKETS),
+        filter: &ready,
+        workers,
+    };
+    judge_planned(rt, alloc, options, reader, plan, opening)
 }

@@ -9,6 +9,7 @@ use crate::sized_tables_and_workers::{SizedWorkers, create_sized};
 use crate::workers_as_judges::Lone;
 use acl_policy::read_policy;
 use capture_stream::tell_live;
+use flow_filter::InterfaceFilters;
 use flow_workers::Filter;
 use packet_view::{Order, capture_header};
 use racl_io::{Fault, Sink, Source, Totals, read_until};
@@ -22,11 +23,10 @@ const EXPECTED: usize = 16_777_216;
 /// How many bytes the header of a capture has.
 const HEADER_BYTES: usize = 24;
 
-/// What stands before the records of a capture.
-#[derive(Drop)]
-pub struct LiveHead {
-    pub filter: Filter,
-    /// The order of the capture's numbers.
+/// What stands before the records of a capture: rules that are ready, and the order of its numbers.
+#[derive(Clone, Copy)]
+pub struct LiveHead<'t, 'f> {
+    pub filter: &'t InterfaceFilters<'f>,
     pub order: Order,
 }
 
@@ -48,27 +48,21 @@ fn tell_capture<R: Source, W: Sink, T: Wait>(
     rt: &T,
     alloc: Global,
     options: &Options,
-    head: &LiveHead,
+    head: LiveHead<'_, '_>,
     reader: &mut R,
     writer: &mut W,
 ) -> Result<Totals, Fault>
-    requires times { head.now.filter.times ≡ options.now.times }
+    requires times { head.filter.now.times ≡ options.now.times }
     requires reader { R.failures reader.old < 2 ^ 64 - 1 }
     requires writer { W.failures writer.old < 2 ^ 64 - 1 }
-    ensures told { MatchResult result (HasToldAll (ByOneWorker options.now) (policy_facts head.now.filter.policy) head.now.order (R.bytes reader.old) (R.bytes reader.new) (W.bytes writer.old) (W.bytes writer.new)) (IsLiveFault (ByOneWorker options.now) (policy_facts head.now.filter.policy) head.now.order (R.bytes reader.old) (R.bytes reader.new) (W.bytes writer.old) (W.bytes writer.new)) }
+    ensures told { MatchResult result (HasToldAll (ByOneWorker options.now) (policy_facts head.entry.filter.now.policy.now) head.entry.order (R.bytes reader.old) (R.bytes reader.new) (W.bytes writer.old) (W.bytes writer.new)) (IsLiveFault (ByOneWorker options.now) (policy_facts head.entry.filter.now.policy.now) head.entry.order (R.bytes reader.old) (R.bytes reader.new) (W.bytes writer.old) (W.bytes writer.new)) }
     ensures read { MatchResult result (λ _. R.failures reader.new ≡ R.failures reader.old) (λ fault. R.failures reader.new ≡ with_read (R.failures reader.old) fault) }
     ensures write { MatchResult result (λ _. W.failures writer.new ≡ W.failures writer.old) (λ fault. W.failures writer.new ≡ with_write (W.failures writer.old) fault) }
 {
     let Ok((tables, callers)) = create_sized(alloc, options.tables) else {
         return Err(Fault::Memory);
     };
-    let Ok(prepared) = head.filter.prepare(alloc, EXPECTED) else {
-        return Err(Fault::Memory);
-    };
-    let Ok(ready) = head.filter.ready_with(alloc, &prepared) else {
-        return Err(Fault::Memory);
-    };
-    let Ok(workers) = SizedWorkers::new(rt, alloc, &ready, &tables, callers, 1) else {
+    let Ok(workers) = SizedWorkers::new(rt, alloc, head.filter, &tables, callers, 1) else {
         return Err(Fault::Memory);
     };
     tell_live(alloc, reader, writer, Lone { alloc, workers }, head.order)
@@ -105,6 +99,15 @@ pub fn run_live<R: Source, W: Sink, T: Wait>(
         policy,
         times: options.times,
     };
-    let head = LiveHead { filter, order };
-    tell_capture(rt, alloc, options, &head, reader, writer)
+    let Ok(prepared) = filter.prepare(alloc, EXPECTED) else {
+        return Err(Fault::Memory);
+    };
+    let Ok(ready) = filter.ready_with(alloc, &prepared) else {
+        return Err(Fault::Memory);
+    };
+    let head = LiveHead {
+        filter: &ready,
+        order,
+    };
+    tell_capture(rt, alloc, options, head, reader, writer)
 }

@@ -10,7 +10,7 @@ judge_records-requires-clause-may g c κs lives =
     let front = c.in-Ok.front in
     let has = c.in-Ok.ensures.ok in
     let opened : HasHeaded c.args.options.now front.bytes.items c.in-Bytes.headed = subst (HasOpened c.args.options.now front.bytes.items) c.in-Bytes.is has.opened in
-    record { times = opened.times; within = opened.within; few = has.few; ended = has.ended; unnamed = refl }
+    record { same = opened.times; within = opened.within; few = has.few; ended = has.ended; unnamed = refl }
 
 pub returns-in-Bytes-clause-answers : goal.returns-in-Bytes-clause-answers
 returns-in-Bytes-clause-answers g c =

@@ -1,6 +1,7 @@
-use Rattle.std.proofs.Common.{inl, inr, refl}
+use Rattle.std.proofs.Common.{inl, inr, refl, subst, sym}
 use Rattle.std.proofs.lemmas.Result.{MatchResult-weaker}
-use Rattle.acl_policy.specs.Policies.{policy_facts}
+use Rattle.acl_policy.specs.Policies.{IsPolicyText, policy_facts}
+use Rattle.acl_policy.specs.declared.policy.Policy.{Policy}
 use Rattle.racl_cli.proofs.LiveLemmas.{early_fault, live_run}
 use Rattle.racl_cli.proofs.live_run.run_live.Goals as goal
 
@@ -13,14 +14,15 @@ returns-in-Err-read_header-clause-told g c =
 
 pub returns-clause-told : goal.returns-clause-told
 returns-clause-told g c =
-    let policy = policy_facts c.in-Ok.policy in
+    let policy = policy_facts c.in-Ok-ready_with.ready.policy.now in
+    let says = subst (λ (p : Policy). IsPolicyText c.args.policy.now (policy_facts p)) (sym c.in-Ok-ready_with.ensures.policy) c.in-Ok.ensures.ok in
     let header = c.in-Ok-read_header.ensures.header in
     MatchResult-weaker c.tell_capture.result c.tell_capture.ensures.told
-    (λ totals told. live_run c.args.options.now c.args.policy.now _ _ _ _ _ policy c.in-Ok-read_header.order totals c.in-Ok.ensures.ok header told)
+    (λ totals told. live_run c.args.options.now c.args.policy.now _ _ _ _ _ policy c.in-Ok-read_header.order totals says header told)
     (λ found told. inr (
       record {
         policy = policy;
-        says = c.in-Ok.ensures.ok;
+        says = says;
         header = header.header;
         order = c.in-Ok-read_header.order;
         right = header.headed.right;

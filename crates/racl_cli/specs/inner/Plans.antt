@@ -1,0 +1,22 @@
+-- Who judges the packets of an input, and what came of them.
+use Rattle.std.specs.Prelude.{◌≡◌, ◌≤◌, ℕ, List}
+use Rattle.packet_view.specs.Captures.{PacketFacts}
+use Rattle.acl_policy.specs.Policies.{PolicyFacts}
+use Rattle.racl_options.specs.declared.settings.Options.{Options}
+use Rattle.racl_io.specs.declared.input.Form.{Form}
+use Rattle.racl_cli.specs.declared.judge_records.Plan.{Plan}
+use Rattle.racl_cli.specs.Reads.{IsReached}
+use Rattle.racl_report.specs.ReadInputs.{HasPackets}
+use Rattle.racl_report.specs.RunReports.{JudgedFacts}
+
+-- one worker or more, as many as the words ask for at most, and sessions live as long as they ask for
+pub record IsPlanFor {T : Type 0} (options : Options) (plan : Plan T) : Type 0 where
+  pub times : plan.filter.now.times ≡ options.times
+  pub some : 1 ≤ plan.workers
+  pub few : plan.workers ≤ options.workers
+
+-- the content is captures, and this is what their packets met
+pub record HasReached (options : Options) (policy : PolicyFacts) (form : Form) (content : List ℕ) (judged : JudgedFacts) : Type 0 where
+  pub packets : List PacketFacts
+  pub taken : HasPackets form content packets judged.outcome.captures
+  pub reached : IsReached options policy packets judged.outcome.captures judged
