@@ -1,5 +1,5 @@
 -- One worker that keeps no verdict, from one batch to the next.
-use Rattle.std.proofs.Common.{◌≡◌, ◌∙◌, ◌+◌, ◌<◌, ℕ, zero, suc, List, [], ◌∷◌, ◌++◌, ap, append-nil, arith, get_or, length, length-append, refl, slice_set, subst, sym}
+use Rattle.std.proofs.Common.{◌≡◌, ◌∙◌, ◌+◌, ℕ, zero, suc, List, [], ◌∷◌, ◌++◌, ap, append-nil, arith, get_or, length, length-append, refl, slice_set, subst, sym}
 use Rattle.std.specs.Global.{Vec}
 use Rattle.std.specs.List.{All}
 use lib.ListN.{get_elem?}

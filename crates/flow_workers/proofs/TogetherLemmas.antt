@@ -1,10 +1,15 @@
 -- All workers at packets that are judged one after the other.
-use Rattle.std.proofs.Common.{◌≡◌, ◌∙◌, ◌+◌, ◌<◌, ℕ, zero, suc, List, [], ◌∷◌, ◌++◌, Some, ap, append_assoc, append-nil, arith, get_or, inl, inr, length, refl, set, slice_get, subst, sym}
+use Rattle.std.proofs.Common.{◌≡◌, ◌∙◌, ◌+◌, ◌<◌, ℕ, zero, suc, List, [], ◌∷◌, ◌++◌, None, Option, Some, ap, append_assoc, append-nil, arith, get_or, inl, inr, length, refl, replicate, set, slice_get, subst, sym}
 use Rattle.std.proofs.lemmas.Bool.Decides.{eqb_tells}
-use Rattle.std.proofs.lemmas.List.{get_or-set_other, get_or-set_same, length-set, length_push}
+use Rattle.std.proofs.lemmas.List.{get_or-replicate, get_or-set_other, get_or-set_same, length-replicate, length-set, length_push}
 use Rattle.packet_view.specs.Captures.{PacketFacts}
 use Rattle.packet_view.specs.CheckedCaptures.{remaining}
 use Rattle.bihash_words.specs.declared.shape.Shape.{Ghosts}
+use Rattle.session_state.specs.declared.flow.Flow.{Flow}
+use Rattle.flow_filter.specs.OneThread.{Layout, layout_of}
+use Rattle.flow_dealing.specs.Dealings.{flow_of_frame, worker_by_dealing}
+use Rattle.flow_dealing.specs.declared.dealing.Dealing.{Dealing}
+use Rattle.flow_dealing.specs.declared.dealing.Dealing.TheVariants.{Bucket, Round}
 use Rattle.packet_dealing.proofs.DealtLists.{workers_push}
 use Rattle.packet_dealing.specs.Dealt.{IsDealtTo}
 use Rattle.packet_dealing.specs.declared.packet_worker.Dealer.{Dealer}
@@ -26,6 +31,26 @@ module _ {A B R G K L : Type 0} (ga : Ghosts A K) (gb : Ghosts B L) (batch : Bat
   abbrev all_idle : List (Share A B K L ga gb) → Type 0
   all_idle shares = (i : ℕ) (d : Share A B K L ga gb) → i < length shares
       → AreIdle ga gb batch.setup.tables.now (get_or shares i d).callers
+
+  -- no packet was looked at
+  pub none_worked : (shares : List (Share A B K L ga gb)) → all_idle shares → HaveWorkedOn batch 0 0 shares shares
+  none_worked shares idle = record {
+    count = refl;
+    each = λ i d e inside. subst (HasWorkedOn ga gb batch i 0 0 (get_or shares i d)) (same_there shares i d e inside)
+        (record { idle = idle i d inside; work = λ all among v said done. done });
+  }
+
+  -- the only worker judged
+  pub only_worked : (last : ℕ) (old : List (Share A B K L ga gb)) (before share : Share A B K L ga gb) → length old ≡ 1
+      → get_or old 0 before ≡ before → HasWorkedOn ga gb batch 0 0 last before share → HaveWorkedOn batch 0 last old (set old 0 share)
+  only_worked last old before share one is worked = record {
+    count = length-set old 0 share;
+    each = λ i d e inside.
+        let first : 0 ≡ i = omega arith in
+        subst (λ w. HasWorkedOn ga gb batch w 0 last (get_or old w d) (get_or (set old 0 share) w e)) first
+        (subst (HasWorkedOn ga gb batch 0 0 last (get_or old 0 d)) (sym (get_or-set_same old 0 share e (omega arith)))
+        (subst (λ s. HasWorkedOn ga gb batch 0 0 last s share) (sym (same_there old 0 d before (omega arith) ∙ is)) worked));
+  }
 
   pub all_worked_on : (first mid last : ℕ) (old between new : List (Share A B K L ga gb))
       → HaveWorkedOn batch first mid old between → HaveWorkedOn batch mid last between new
@@ -89,3 +114,35 @@ module _ {A B K L : Type 0} (ga : Ghosts A K) (gb : Ghosts B L) (dealer : Dealer
         (subst (λ n. IsDealtTo ga gb dealer (first + n) packet worker) (sym before.many) dealt);
     many = length_push before.workers worker ∙ ap (λ n. n + 1) before.many;
   }
+
+-- ---- the only worker
+
+module _ {A B K L : Type 0} (ga : Ghosts A K) (gb : Ghosts B L) where
+  only_by_dealing : (dealing : Dealing) (l : Layout) (number : ℕ) (flow : Option Flow) → 0 ≡ worker_by_dealing dealing l 1 number flow
+  only_by_dealing Round l number flow = omega arith
+  only_by_dealing Bucket l number None = refl
+  only_by_dealing Bucket l number (Some flow) = omega arith
+
+  -- each packet is dealt to it
+  pub only_dealt : (dealer : Dealer) (number : ℕ) (packet : PacketFacts) → dealer.workers ≡ 1 → IsDealtTo ga gb dealer number packet 0
+  only_dealt dealer number packet alone = λ own seen is.
+      subst (λ n. 0 ≡ worker_by_dealing dealer.dealing (layout_of ga gb) n number (flow_of_frame seen)) (sym alone)
+      (only_by_dealing dealer.dealing (layout_of ga gb) number (flow_of_frame seen))
+
+  -- the first of so many equal workers
+  pub only_noted : (dealer : Dealer) (first : ℕ) (packets : List PacketFacts) (judges more : List ℕ) → dealer.workers ≡ 1
+      → more ≡ judges ++ replicate (length packets) 0 → HaveNotedSome ga gb dealer first packets (length packets) judges more
+  only_noted dealer first packets judges more alone is =
+      let firsts : List ℕ = replicate (length packets) 0 in
+      let many : length firsts ≡ length packets = length-replicate (length packets) 0 in
+      record {
+        workers = firsts;
+        noted = is;
+        are = record {
+          inside = omega arith;
+          each = λ k packet below there.
+              subst (IsDealtTo ga gb dealer (first + k) packet) (sym (get_or-replicate (length packets) k 0 0 (omega arith)))
+              (only_dealt dealer (first + k) packet alone);
+        };
+        many = many;
+      }

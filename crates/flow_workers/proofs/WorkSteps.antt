@@ -19,7 +19,6 @@ use Rattle.bihash_rule.specs.declared.view.View.{View}
 use Rattle.bihash_table.specs.Answers.{entry_of, with_locks}
 use Rattle.bihash_table.specs.Promise.{IsAnswered}
 use Rattle.bihash_table.specs.Tries.{TookByTries}
-use Rattle.session_state.specs.declared.flow.Flow.{Flow}
 use Rattle.session_state.specs.declared.flow.FlowKey.{FlowKey}
 use Rattle.session_state.specs.declared.flow.FlowKey.TheVariants.{Four, Six}
 use Rattle.session_state.specs.declared.timeouts.Timeouts.{Timeouts}
@@ -30,7 +29,6 @@ use Rattle.flow_filter.specs.Judged.{IsAskedBy, verdict_on}
 use Rattle.flow_filter.specs.OneThread.{Layout, family_of, home_of, same_family}
 use Rattle.flow_dealing.specs.Views.{Views}
 use Rattle.flow_dealing.specs.Dealings.{Deal, flow_of_reading, flow_of_frame, worker_of}
-use Rattle.flow_dealing.proofs.TraceMerges.{worker_few}
 use Rattle.flow_dealing.specs.Traces.{AreFrames, IsItem, IsItemOf, Item, calls_in, numbers_from}
 use Rattle.flow_dealing.specs.WorkerRecords.{add_in}
 use Rattle.flow_workers.specs.Judging.{IsFlowEntry, IsEnteredBy, IsJudged}

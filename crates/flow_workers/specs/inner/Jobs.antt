@@ -1,5 +1,5 @@
 -- What a worker is given, and what it gives back.
-use Rattle.std.specs.Prelude.{◌≡◌, ◌<◌, ◌+◌, ◌++◌, ◌^◌, ℕ, List, [], Some, drop, length, slice_get}
+use Rattle.std.specs.Prelude.{◌≡◌, ◌<◌, ◌+◌, ◌++◌, ◌^◌, ℕ, List, Some, drop, length, slice_get}
 use Rattle.packet_view.specs.Captures.{PacketFacts}
 use Rattle.packet_view.specs.CheckedCaptures.{remaining}
 use Rattle.packet_view.specs.Frames.{FrameFacts, frame_facts}

@@ -5,22 +5,17 @@ use Rattle.packet_view.specs.CheckedCaptures.{remaining}
 use Rattle.bihash_words.specs.declared.shape.Shape.{Ghosts}
 use Rattle.packet_dealing.specs.Dealt.{AreWorkers, IsDealtTo}
 use Rattle.packet_dealing.specs.declared.packet_worker.Dealer.{Dealer}
-use Rattle.flow_workers.specs.declared.worker_setup.Setup.{Setup}
 use Rattle.flow_workers.specs.declared.worker_share.Batch.{Batch}
 use Rattle.flow_workers.specs.declared.worker_share.Share.{Share}
 use Rattle.flow_workers.specs.Callers.{AreIdle, AreShapes}
 use Rattle.flow_workers.specs.inner.Jobs.{dealer_of}
 use Rattle.flow_workers.specs.inner.Turns.{HaveWorked, HaveWorkedOn}
 
--- a packet's worker can be told
-pub record MayChoose {A B R G K L : Type 0} (ga : Ghosts A K) (gb : Ghosts B L) (setup : Setup A B R G K L) : Type 0 where
-  pub shapes : AreShapes ga gb
-  pub some : 1 ≤ setup.workers
-
 -- the packet at this place of the batch may be judged by its worker, whichever it is: all hold nothing
 pub record MayJudgeNext {A B R G K L : Type 0} (ga : Ghosts A K) (gb : Ghosts B L) (batch : Batch A B R G K L) (at : ℕ)
     (packet : PacketFacts) (shares : List (Share A B K L ga gb)) : Type 0 where
-  pub choose : MayChoose ga gb batch.setup
+  pub shapes : AreShapes ga gb
+  pub some : 1 ≤ batch.setup.workers
   pub count : length shares ≡ batch.setup.workers
   pub idle : (i : ℕ) (d : Share A B K L ga gb) → i < length shares
       → AreIdle ga gb batch.setup.tables.now (slice_index_or shares i d).callers
@@ -46,6 +41,14 @@ pub record HaveNotedSome {A B K L : Type 0} (ga : Ghosts A K) (gb : Ghosts B L) 
 abbrev pub HaveNoted : {A B K L : Type 0} (ga : Ghosts A K) (gb : Ghosts B L) → Dealer → ℕ → List PacketFacts → List ℕ
     → List ℕ → Type 0
 HaveNoted ga gb dealer first packets = HaveNotedSome ga gb dealer first packets (length packets)
+
+-- the packets of the batch may be judged by the only worker, who holds nothing
+pub record MayJudgeByOne {A B R G K L : Type 0} (ga : Ghosts A K) (gb : Ghosts B L) (batch : Batch A B R G K L)
+    (share : Share A B K L ga gb) : Type 0 where
+  pub shapes : AreShapes ga gb
+  pub alone : batch.setup.workers ≡ 1
+  pub idle : AreIdle ga gb batch.setup.tables.now share.callers
+  pub fits : batch.first + length (remaining batch.packets) < 2 ^ 64
 
 -- the packets of the batch were judged, and their workers noted
 pub record HaveJudgedBatch {A B R G K L : Type 0} {ga : Ghosts A K} {gb : Ghosts B L} (batch : Batch A B R G K L)

@@ -1,12 +1,26 @@
-use Rattle.std.proofs.Common.{◌≡◌, ◌∙◌, arith, length, subst, sym}
+use Rattle.std.proofs.Common.{◌≡◌, ◌∙◌, ◌++◌, ap, arith, length, replicate, subst, sym}
+use Rattle.std.proofs.lemmas.Bool.{eqb-true}
 use Rattle.packet_view.specs.Captures.{packet_facts}
 use Rattle.packet_view.specs.CheckedCaptures.{remaining}
 use Rattle.packet_dealing.proofs.DealtLists.{left_behind, none_left, stands_at}
 use Rattle.flow_workers.specs.inner.Jobs.{dealer_of}
 use Rattle.flow_workers.specs.inner.Together.{HaveNotedSome}
-use Rattle.flow_workers.proofs.TogetherLemmas.{all_worked_on, all_worked_to, idle_after, none_noted, noted_push}
+use Rattle.flow_workers.proofs.TogetherLemmas.{all_worked_on, all_worked_to, idle_after, none_noted, none_worked, noted_push, only_noted, only_worked}
 use Rattle.flow_workers.proofs.WorkSteps.{taken_inside}
 use Rattle.flow_workers.proofs.judge_in_one_thread.judge_together.Goals as goal
+
+pub returns-then-is_alone : goal.returns-then-is_alone
+returns-then-is_alone g c =
+    let batch = c.args.batch in
+    let packets = remaining batch.packets in
+    let alone = eqb-true batch.setup.workers 1 (sym c.if-is_alone.ensures) in
+    let one : length c.args.shares.items ≡ 1 = c.requires.count ∙ alone in
+    record {
+      worked = only_worked g.A.Shape g.B.Shape batch (length packets) c.args.shares.items c.index_mut.result.now c.judge_by_one.new.share one
+          (sym c.index_mut.ensures.value) c.in_ok-judge_by_one.ensures;
+      noted = only_noted g.A.Shape g.B.Shape (dealer_of batch.setup) batch.first packets c.args.judges.now.items c.note_first.new.judges.items
+          alone (c.in_ok-note_first.ensures ∙ ap (λ n. c.args.judges.now.items ++ replicate n 0) c.count.ensures);
+    }
 
 pub packets-init : goal.packets-init
 packets-init g c =
@@ -14,7 +28,7 @@ packets-init g c =
     record {
       left = sym c.new-packets.ensures;
       inside = omega arith;
-      worked = c.in_ok-make_room.ensures;
+      worked = none_worked g.A.Shape g.B.Shape batch c.args.shares.items c.requires.idle;
       noted = rw c.in_ok-reserve.ensures.items
           (none_noted g.A.Shape g.B.Shape (dealer_of batch.setup) batch.first (remaining batch.packets) c.args.judges.now.items);
     }
@@ -23,7 +37,8 @@ pub judge_next-requires : goal.judge_next-requires
 judge_next-requires g c =
     let taken = c.packets.invariant.left ∙ c.in-Some.ensures in
     record {
-      choose = record { shapes = c.requires.shapes; some = c.requires.some };
+      shapes = c.requires.shapes;
+      some = c.requires.some;
       count = c.packets.invariant.worked.count ∙ c.requires.count;
       idle = idle_after g.A.Shape g.B.Shape c.args.batch 0 c.packets.taken _ _ c.packets.invariant.worked;
       fits = c.requires.fits;
