@@ -54,12 +54,6 @@ with_locks-length : (locks : ℕ) (records : List Record) → length (with_locks
 with_locks-length locks [] = refl
 with_locks-length locks (r ∷ rs) = refl
 
-pushed_others : (c : Call) (locks : ℕ) (records : List Record) (i : ℕ) → 1 ≤ i
-    → get_elem? (push_call c (with_locks locks records)) i ≡ get_elem? records i
-pushed_others c locks [] i some_i = refl
-pushed_others c locks (x ∷ xs) zero some_i = absurd (omega arith)
-pushed_others c locks (x ∷ xs) (suc i) some_i = refl
-
 first_there : (records : List Record) → 1 ≤ length records → (r : Record) × (get_elem? records 0 ≡ some r) × (r.number ≡ acting records)
 first_there [] some_record = absurd (omega arith)
 first_there (x ∷ xs) some_record = (x, refl, refl)
@@ -153,10 +147,6 @@ module _ (z : Sizes) (b : ℕ) (v w : View) (e : Event) (a : IsLawfulAnswer z b 
       × (q.number ≡ r.number) × (q.calls ≡ r.calls ++ entry_of z (length (known_at w.known b)) e a.answered.noted ∷ [])
   acting_more r at = as_known (λ H. (q : Record) × (get_elem? w.records 0 ≡ some q)
       × (q.number ≡ r.number) × (q.calls ≡ r.calls ++ entry_of z (length H) e a.answered.noted ∷ [])) (left_with r at)
-
-  pub others_same : (i : ℕ) → 1 ≤ i → get_elem? w.records i ≡ get_elem? v.records i
-  others_same i some_i = ap (λ (records : List Record). get_elem? records i) records_are
-      ∙ pushed_others entry a.answered.locks v.records i some_i
 
   pub others_known : (other : ℕ) → other ≢ b → known_at w.known other ≡ known_at v.known other
   others_known other differ = ap (λ (writes : List (List Write)). get_or writes other []) writes_are

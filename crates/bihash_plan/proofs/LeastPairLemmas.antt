@@ -1,5 +1,5 @@
 -- The expired pair with the least key, with one place more.
-use Rattle.std.proofs.Common.{◌≡◌, ◌≢◌, ◌∙◌, ◌<◌, ◌≤◌, ◌+◌, ◌^◌, ◌∷◌, [], ℕ, Bool, true, false, true≢false, ap, arith, sym, subst, refl, inl, inr, List, length, Option, Some, None}
+use Rattle.std.proofs.Common.{◌≡◌, ◌≢◌, ◌∙◌, ◌<◌, ◌≤◌, ◌+◌, ◌^◌, ◌∷◌, [], ℕ, Bool, true, true≢false, ap, arith, sym, subst, refl, inl, inr, List, length, Option, Some, None}
 use Rattle.std.specs.Prelude.{IfNone, IfSome, slice_get, slice_index}
 use Rattle.std.proofs.lemmas.Bool.{cases_eq}
 use Rattle.std.specs.Cmp.{alike_right, nat_cmp_is}
@@ -7,10 +7,8 @@ use Rattle.std.specs.Cmp.Lexicographic.{nat_list_cmp_total, slice_cmp}
 use Rattle.std.specs.Ordering.{nat_cmp, ordering_reverse, ordering_then}
 use Rattle.std.specs.declared.cmp.Ordering.TheVariants.{Less, Equal, Greater}
 use Rattle.bihash_plan.specs.Blocks.{HasPairAt}
-use Rattle.bihash_plan.specs.Recycles.{IsLeastExpired, NoneIsExpired}
 use Rattle.bihash_plan.specs.inner.LeastPairs.{IsBound, IsLeastAmong, IsLeastTo}
 use Rattle.bihash_plan.specs.declared.recycling_plan.Least.{Least}
-use Rattle.bihash_plan.proofs.Places.{pair_inside}
 
 -- a key below one that is not above another is not above that other
 still_least : (a b c : List ℕ) → slice_cmp nat_cmp b a ≡ Greater → slice_cmp nat_cmp b c ≢ Greater → slice_cmp nat_cmp a c ≢ Greater
@@ -37,31 +35,6 @@ module _ {K : Type 0} (words_of : K → List ℕ) (is_expired : ℕ → Bool) (p
       let both : Some (key, value) ≡ Some (other, v) = sym at ∙ b.at in
       let pair : (key, value) ≡ (other, v) = cc in
       ap (λ (p : K × ℕ). p.0) pair
-
-  -- the place is free, or its pair isn't expired
-  pub still_none : (i : ℕ) (r : Option ℕ) → ((key : K) (value : ℕ) → HasPairAt places key value i → is_expired value ≡ false)
-      → IsLeastAmong words_of is_expired places i r → IsLeastAmong words_of is_expired places (i + 1) r
-  still_none i None not h = record {
-    found = tt;
-    none = λ key value j l pair. elim (cases_eq j i) [
-      | inl here ↦ not key value (subst (HasPairAt places key value) here pair)
-      | inr differ ↦ h.none key value j (omega arith) pair
-    ];
-  }
-  still_none i (Some k) not h = record {
-    found = record {
-      key = h.found.key;
-      value = h.found.value;
-      pair = h.found.pair;
-      word = h.found.word;
-      expired = h.found.expired;
-      least = λ other v j l pair counts. elim (cases_eq j i) [
-        | inl here ↦ absurd (true≢false (sym counts ∙ not other v (subst (HasPairAt places other v) here pair)))
-        | inr differ ↦ h.found.least other v j (omega arith) pair counts
-      ];
-    };
-    none = tt;
-  }
 
   module _ (i : ℕ) (key : K) (value : ℕ) (pair : HasPairAt places key value i) (word : value < 2 ^ 64)
       (expired : is_expired value ≡ true) where
@@ -147,6 +120,3 @@ module _ {K : Type 0} (words_of : K → List ℕ) (is_expired : ℕ → Bool) (p
           (same_least i key value at k found.found (first_less (words_of found.found.key) (words_of key) first.1 some (omega arith)))
 
   -- ---- All places
-
-  pub none_of_all : IsLeastAmong words_of is_expired places (length places) None → NoneIsExpired is_expired places
-  none_of_all h = λ key value i p. h.none key value i (pair_inside p) p

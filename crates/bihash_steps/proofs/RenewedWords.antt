@@ -12,14 +12,6 @@ use Rattle.bihash_steps.proofs.CountWord.{front}
 use Rattle.bihash_steps.proofs.OwnedWords.{bucket_inside}
 
 module _ (z : Sizes) where
-  pub renewed_none : (words : List ℕ) → 0 < length words → AreRenewedBelow z 0 words (set words 0 1)
-  renewed_none words some_word = record {
-    wide = length-set words 0 1;
-    one = get_or-set_same words 0 1 0 some_word;
-    bucket = λ b x l. absurd (omega arith);
-    front = λ i l h. get_or-set_other words 0 i 1 0 (λ e. omega arith);
-    pages = λ i l. let f = front z in get_or-set_other words 0 i 1 0 (λ e. omega arith);
-  }
 
   renewed_at : (n word : ℕ) (words new : List ℕ) → n < buckets z → bucket_at z n < length new
       → ((x : Bucket) → FitsWord x → slice_index words (bucket_at z n) ≡ packed x → word ≡ packed (record x { locked = false; version = 0 }))

@@ -1,5 +1,5 @@
 -- What a step makes of a caller: its state, the count of its numbers, and the stamp of its last call.
-use Rattle.std.proofs.Common.{◌≡◌, ◌≢◌, ◌⊎◌, ℕ, Bool, true, false, ◌+◌, ◌^◌, ◌≤◌, List, [], ◌∷◌, ◌++◌, nat_eq, length, refl, sym, ap, ◌∙◌, subst, inl, inr, arith, Option, Some}
+use Rattle.std.proofs.Common.{◌≡◌, ◌⊎◌, ℕ, ◌+◌, ◌^◌, ◌≤◌, List, [], ◌∷◌, ◌++◌, nat_eq, length, refl, sym, ap, ◌∙◌, subst, inl, inr, arith, Option, Some}
 use Rattle.std.proofs.lemmas.Bool.{eq-eqb, eqb-false, eqb-true}
 use mathlib.Core.Logic.{dite}
 use native.Mathlib.Decide.{ℕ_discrete}
@@ -8,8 +8,8 @@ use Rattle.bihash_words.specs.Sizes.{Sizes}
 use Rattle.bihash_rule.specs.Words.{returned_count_at}
 use Rattle.bihash_steps.specs.Seats.{CallerState, caller_state, with_view, CanAct, stamp_in, stamp_of}
 use Rattle.bihash_steps.specs.Steps.{ViewOfSeat}
-use Rattle.bihash_steps.specs.BucketCalls.{FindsBucket, HasEntered, IsValidated, TriesLock}
-use Rattle.bihash_steps.specs.BucketSteps.{TellsEntry, TellsValid, lock_counted, push_call, SeesOpen, SeesLocked, TellsBucket, TellsLock}
+use Rattle.bihash_steps.specs.BucketCalls.{FindsBucket, HasEntered, TriesLock}
+use Rattle.bihash_steps.specs.BucketSteps.{TellsEntry, lock_counted, push_call, SeesOpen, SeesLocked, TellsBucket, TellsLock}
 use Rattle.bihash_steps.specs.StoreSteps.{MayTakeReturned, TellsTakenReturned, MayTakeUnused, TellsTakenUnused}
 use Rattle.bihash_rule.specs.declared.view.Call.{Call}
 use Rattle.bihash_rule.specs.declared.view.Record.{Record}

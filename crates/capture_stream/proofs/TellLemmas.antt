@@ -21,7 +21,7 @@ use Rattle.racl_io.specs.declared.fault.Fault.TheVariants as fault
 use Rattle.racl_io.specs.declared.report.Totals.{Totals}
 use Rattle.racl_io.specs.Reports.{is_truncated, lines_from, passed, report_of, totals_line, totals_of, truncation_line}
 use Rattle.racl_io.specs.Sinks.{GotFront, HasPutFront}
-use Rattle.racl_io.proofs.ReportLemmas.{cut_at, lines_of_both, passed_of_both, passed_or_dropped, totals_counted}
+use Rattle.racl_io.proofs.ReportLemmas.{cut_at, lines_of_both, passed_of_both, totals_counted}
 use Rattle.capture_stream.specs.Lives.{HasToldAll, HasToldPart, HasToldSome, IsLiveFault, most_live, told_alone}
 use Rattle.capture_stream.specs.Telling.{AreTold, CanTell, HaveTold}
 use Rattle.capture_stream.specs.declared.live_telling.Live.{Live}
@@ -72,26 +72,6 @@ module _ {J : Type 0} (Became : J → List PacketFacts → List Verdict → J �
     read = read;
     order = same;
   }
-
-  -- each packet has its verdict
-  pub window_count : (Judged : J → List PacketFacts → List Verdict → Type 0) (new : Live J) (verdicts : List Verdict) (stop : Stop)
-      (judged : HasJudgedWindow Became Judged live new verdicts stop) → length verdicts ≡ length judged.more
-  window_count Judged new verdicts stop judged =
-      let told = (judged.judged may.begun (packets_at 0 may.packets) may.said may.stand).count in
-      let both = length-append may.said verdicts in
-      let packets = length-append (packets_at 0 may.packets) (packets_at 0 judged.more) in
-      let earlier = length-map may.packets (packet_at 0) in
-      let later = length-map judged.more (packet_at 0) in
-      let each = may.each in
-      omega arith
-
-  -- no more packets pass than there are
-  pub passed_few : live.passed ≤ live.packets
-  passed_few = let split = passed_or_dropped may.said in let passing = may.passing in let each = may.each in let count = may.count in omega arith
-
--- no more pass of some than there are
-pub passed_within : (verdicts : List Verdict) → passed verdicts ≤ length verdicts
-passed_within verdicts = let split = passed_or_dropped verdicts in omega arith
 
 -- ---- The report
 
@@ -245,11 +225,6 @@ module _ {J : Type 0} (Became : J → List PacketFacts → List Verdict → J �
     told_few =
         let within = records_within order is.is.told.read is.is.told.packets live.window.items is.is.told.records in
         let count = is.is.count in let size = is.is.size in let below = is.below in omega arith
-
-    pub told_passing : live.passed ≤ live.packets
-    told_passing =
-        let few = passed_within is.is.told.verdicts in
-        let passing = is.is.passing in let count = is.is.count in let each = is.is.told.count in omega arith
 
     -- a record is too long
     pub told_long : (found : Fault) → (stop ≡ TooLong) × (found ≡ fault.LongRecord (live.packets + 1))

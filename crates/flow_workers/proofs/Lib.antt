@@ -5,7 +5,6 @@ pub mod DealtLemmas
 pub mod JudgedPackets
 pub mod MergeLemmas
 pub mod OwnLemmas
-pub mod RenewalLemmas
 pub mod RestLemmas
 pub mod ShortPackets
 pub mod StoredLemmas

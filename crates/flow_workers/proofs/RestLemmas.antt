@@ -165,17 +165,6 @@ module _ {A B R G K L : Type 0} (ga : Ghosts A K) (gb : Ghosts B L) (setup : Set
 module _ {A B R G K L : Type 0} (ga : Ghosts A K) (gb : Ghosts B L) (old : Workers A B R G K L ga gb)
     (packets : List PacketFacts) (rest : AreAtRest packets old) (batch : Batch A B R G K L) (same : batch.setup ≡ old.setup)
     (first : batch.first ≡ old.count) where
-  pub may_judge_batch : length packets + length (remaining batch.packets) < 2 ^ 64 → MayJudgeBatch batch old.shares.items
-  may_judge_batch fits = record {
-    shapes = rest.sound.shapes;
-    some = subst (λ (s : Setup A B R G K L). 1 ≤ s.workers) (sym same) rest.sound.some;
-    few = subst (λ (s : Setup A B R G K L). s.workers ≤ 16) (sym same) rest.sound.few;
-    count = rest.shares ∙ sym (ap (λ (s : Setup A B R G K L). s.workers) same);
-    fits = let counted = rest.count in omega arith;
-    idle = λ i d inside. subst (λ (s : Setup A B R G K L). AreIdle ga gb s.tables.now
-        (get_or old.shares.items i d).callers) (sym same)
-        (rest.each i d (subst (λ n. i < n) rest.shares inside)).idle;
-  }
 
   pub rest_more : (shares : Vec (Share A B K L ga gb)) (judges : Vec ℕ) (count : ℕ)
       → HaveJudgedBatch batch old.shares.items shares.items old.judges.items judges.items

@@ -37,14 +37,6 @@ use Rattle.flow_workers.proofs.TurnLemmas.{fresh_trace}
 use Rattle.flow_workers.proofs.WorkSteps.{whole_work}
 
 module _ {A B K L : Type 0} (ga : Ghosts A K) (gb : Ghosts B L) where
-  pub results_push : (share : Share A B K L ga gb) (old new : WorkerResults A B K L ga gb)
-      → new.four.items ≡ old.four.items ++ share.callers.four ∷ [] → new.six.items ≡ old.six.items ++ share.callers.six ∷ []
-      → new.said.items ≡ old.said.items ++ share.said ∷ [] → HasAdded share old new
-  results_push share old new four six said shares are = record {
-    four = four ∙ (ap (λ cs. cs ++ share.callers.four ∷ []) are.four ∙ sym (map-append _ shares (share ∷ [])));
-    six = six ∙ (ap (λ cs. cs ++ share.callers.six ∷ []) are.six ∙ sym (map-append _ shares (share ∷ [])));
-    said = said ∙ (ap (λ ss. ss ++ share.said ∷ []) are.said ∙ sym (map-append _ shares (share ∷ [])));
-  }
 
 -- ---- What all workers did
 

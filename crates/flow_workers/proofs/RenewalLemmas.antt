@@ -1,1 +1,0 @@
--- A caller whose table was not renewed holds what it held.
