@@ -36,8 +36,6 @@ use Rattle.flow_workers.specs.inner.Work.{AreSaid, IsWork, IsWorkUntil, RunFacts
 use Rattle.flow_workers.proofs.TurnLemmas.{fresh_trace}
 use Rattle.flow_workers.proofs.WorkSteps.{whole_work}
 
-module _ {A B K L : Type 0} (ga : Ghosts A K) (gb : Ghosts B L) where
-
 -- ---- What all workers did
 
 get_or_at : {X : Type 0} (xs : List X) (k : ℕ) (x d : X) → get_elem? xs k ≡ some x → get_or xs k d ≡ x

@@ -9,7 +9,7 @@ ghost use Rattle.racl_io.specs.Inputs.{most_bytes};
 ghost use Rattle.racl_cli.specs.Crews.{AreResting};
 ghost use Rattle.racl_cli.specs.Reads.{AnswersInput, HasMarked};
 ghost use Rattle.racl_cli.specs.inner.Captures.{CanJudge, CanTake, HasTaken, HasTakenAll, HaveJudgedDigits, HaveTakenDigits, IsFaultAt, IsFaultOfWalk, MayTake};
-ghost use Rattle.racl_cli.specs.inner.Plans.{HasReached, IsPlanFor};
+ghost use Rattle.racl_cli.specs.inner.Plans.{HasReached, MayJudgeContent};
 
 use crate::input_front::Marked;
 use crate::judge_records::{Plan, end_capture, plan_for, threads_beside, window_size};
@@ -204,9 +204,7 @@ fn judge_content<T: Threads + Wait + Sync>(
     form: Form,
     content: &[u8],
 ) -> Result<Judged, Fault>
-    requires plan { IsPlanFor options.now plan }
-    requires digits { form ≢ Binary }
-    requires few { length content.now ≤ most_bytes }
+    requires { MayJudgeContent options.now plan form content.now }
     ensures ok { IfOk result (HasReached options.now (policy_facts plan.entry.filter.now.policy.now) form content.now) }
     ensures fault { IfErr result (λ fault. (fault ≡ Memory) ⊎ IsFaultOfContent form content.now fault) }
 {

@@ -7,7 +7,7 @@ ghost use Rattle.racl_io.specs.Inputs.{most_bytes};
 ghost use Rattle.racl_io.specs.Transfers.{HasReadWithin};
 ghost use Rattle.racl_cli.specs.Crews.{HaveJudgedSome};
 ghost use Rattle.racl_cli.specs.inner.Streams.{HasEnded};
-ghost use Rattle.racl_cli.specs.inner.Plans.{IsPlanFor};
+ghost use Rattle.racl_cli.specs.inner.Plans.{MayJudgeBy};
 ghost use Rattle.racl_cli.specs.Reads.{HasJudged, MayJudge};
 
 use crate::judged_input::Ended;
@@ -125,8 +125,7 @@ fn judge_planned<R: Source + Send, T: Threads + Wait + Sync>(
     plan: Plan<'_, '_, T>,
     opening: Opening,
 ) -> Result<Judged, Fault>
-    requires plan { IsPlanFor options.now plan }
-    requires may { MayJudge plan.filter.now.times options.now opening (R.bytes reader.old) }
+    requires may { MayJudgeBy options.now plan opening (R.bytes reader.old) }
     requires sound { R.failures reader.old < 2 ^ 64 - 1 }
     ensures ok { IfOk result (HasJudged options.now (policy_facts plan.entry.filter.now.policy.now) opening (R.bytes reader.old) (R.bytes reader.new)) }
     ensures fault { IfErr result (IsStreamFault opening (R.bytes reader.old) (R.bytes reader.new)) }

@@ -8,7 +8,7 @@ use Rattle.racl_cli.proofs.judge_records.judge_planned.Goals as goal
 
 pub judge_stream-requires-clause-may : goal.judge_stream-requires-clause-may
 judge_stream-requires-clause-may g c κs lives =
-    let may = c.requires.may in
+    let may = c.requires.may.1 in
     record {
       begun = record { alloc = c.args.alloc; workers = c.in-Ok-new.workers };
       others = [];
@@ -40,9 +40,9 @@ returns-in-Ok-end_capture-clause-ok g c =
     let crew : Crew _ = record { alloc = c.args.alloc; workers = c.in-Ok-new.workers } in
     let stand = s.judged crew [] (search rules, record { given = refl; rest = c.in-Ok-new.ensures.rest }) in
     let at =
-    subst (λ n. AreAfter (orders_of c.in-Ok-new.workers) (packets_at n s.packets) c.in-Ok-judge_stream.streamed.judges.workers) c.requires.may.unnamed stand.1 in
+    subst (λ n. AreAfter (orders_of c.in-Ok-new.workers) (packets_at n s.packets) c.in-Ok-judge_stream.streamed.judges.workers) c.requires.may.1.unnamed stand.1 in
     IfOk-weaker c.with_stored.result _ _
     (λ judged has. judged_by_orders c.args.options.now c.args.plan.filter.now _ c.args.plan.workers _ c.args.opening _ _
-    s.read s.packets s.rest _ _ c.in-Ok-end_capture.ended judged c.requires.plan.times c.requires.plan.some c.requires.plan.few
+    s.read s.packets s.rest _ _ c.in-Ok-end_capture.ended judged c.requires.may.0.times c.requires.may.0.some c.requires.may.0.few
     c.in-Ok-new.ensures.given c.in-Ok.ensures.size s.whole s.records s.end at c.in-Ok-end_capture.ensures.ok has)
     c.with_stored.ensures.ok
