@@ -54,7 +54,7 @@ impl ReadBuffer {
         self.room.resize(all, 0)
     }
 
-    /// Holds these bytes alone. No byte of its room is written but theirs.
+    /// Holds these bytes alone.
     pub fn hold(&mut self, bytes: &[u8]) -> Result<(), AllocError>
         ensures held { OnOk result (held_by self.new ≡ bytes.now) }
         ensures memory { OnErr result (room_in self.old < length bytes.now) }
