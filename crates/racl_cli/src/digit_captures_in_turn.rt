@@ -1,14 +1,13 @@
 //! Captures as digits, which are judged one after the other while they are decoded.
-ghost use Rattle.std.specs.Prelude.{◌≡◌, ◌≢◌, ◌≤◌, ◌==◌, ◌⊎◌, [], IfErr, IfOk, length};
+ghost use Rattle.std.specs.Prelude.{◌≡◌, ◌≤◌, ◌==◌, ◌⊎◌, [], IfErr, IfOk, length};
 ghost use Rattle.std.specs.List.{list_any};
 ghost use Rattle.acl_policy.specs.Policies.{policy_facts};
 ghost use Rattle.racl_io.specs.declared.fault.Fault.TheVariants.{Memory};
-ghost use Rattle.racl_io.specs.declared.input.Form.TheVariants.{Binary, Hexadecimal};
+ghost use Rattle.racl_io.specs.declared.input.Form.TheVariants.{Hexadecimal};
 ghost use Rattle.racl_io.specs.Faults.{IsFaultOfContent, IsFaultOfOne};
 ghost use Rattle.racl_io.specs.Inputs.{most_bytes};
-ghost use Rattle.racl_cli.specs.Crews.{AreResting};
 ghost use Rattle.racl_cli.specs.Reads.{AnswersInput, HasMarked};
-ghost use Rattle.racl_cli.specs.inner.Captures.{CanJudge, CanTake, HasTaken, HasTakenAll, HaveJudgedDigits, HaveTakenDigits, IsFaultAt, IsFaultOfWalk, MayTake};
+ghost use Rattle.racl_cli.specs.inner.Captures.{CanJudge, CanTake, HasTaken, HasTakenAll, HaveJudgedDigits, HaveTakenDigits, IsFaultAt, IsFaultOfWalk, MayTake, MayTakeDigits};
 ghost use Rattle.racl_cli.specs.inner.Plans.{HasReached, MayJudgeContent};
 
 use crate::input_front::Marked;
@@ -177,9 +176,7 @@ fn judge_all<'t, T: Threads + Wait + Sync>(
     form: Form,
     content: &[u8],
 ) -> Result<Ended, Fault>
-    requires digits { form ≢ Binary }
-    requires rest { AreResting [] crew.workers }
-    requires few { length content.now ≤ most_bytes }
+    requires { MayTakeDigits crew.workers form content.now }
     ensures ok { IfOk result (HaveTakenDigits crew.entry.workers form content.now) }
     ensures fault { IfErr result (λ fault. (fault ≡ Memory) ⊎ IsFaultOfContent form content.now fault) }
 {

@@ -1,11 +1,11 @@
 -- Captures as digits that are taken one after the other.
-use Rattle.std.specs.Prelude.{◌≡◌, ◌+◌, ◌≤◌, ◌++◌, ℕ, List, [], ◌∷◌, Some, length}
+use Rattle.std.specs.Prelude.{◌≡◌, ◌≢◌, ◌+◌, ◌≤◌, ◌++◌, ℕ, List, [], ◌∷◌, Some, length}
 use Rattle.packet_view.specs.Captures.{IsCaptureAt, PacketFacts, end_of}
 use Rattle.racl_io.specs.declared.fault.Fault.{Fault}
 use Rattle.racl_io.specs.declared.input.Numbered as mark
 use Rattle.racl_io.specs.declared.report.Captured.{Captured}
 use Rattle.racl_io.specs.declared.input.Form.{Form}
-use Rattle.racl_io.specs.declared.input.Form.TheVariants.{Hexadecimal}
+use Rattle.racl_io.specs.declared.input.Form.TheVariants.{Binary, Hexadecimal}
 use Rattle.racl_io.specs.Inputs.{AreCutDigits, IsContent, most_bytes, numbered_facts}
 use Rattle.capture_stream.specs.declared.stream_judging.Streamed.{Streamed}
 use Rattle.racl_cli.specs.declared.digit_captures_in_turn.Walk.{Walk}
@@ -70,6 +70,12 @@ pub record HasTakenAll {T : Type 0} (begun : Walk T) (ended : Ended) : Type 0 wh
 
 abbrev pub IsFaultOfWalk : {T : Type 0} → Walk T → Fault → Type 0
 IsFaultOfWalk begun fault = IsFaultFrom [] (numbered_facts begun.next) fault
+
+-- workers that judged no packet may judge those of captures as digits, which follow a marker line of this form
+pub record MayTakeDigits {T : Type 0} (workers : SizedWorkers T) (form : Form) (content : List ℕ) : Type 0 where
+  pub rest : AreResting [] workers
+  pub digits : form ≢ Binary
+  pub few : length content ≤ most_bytes
 
 -- all captures that follow a marker line of this form were taken, and these are the verdicts on their packets, and the callers
 pub record HaveTakenDigits {T : Type 0} (workers : SizedWorkers T) (form : Form) (content : List ℕ) (ended : Ended) : Type 0 where
