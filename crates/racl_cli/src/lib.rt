@@ -16,15 +16,7 @@ mod workers_as_judges;
 
 pub use end_to_end::{run, run_saving};
 pub use live_run::run_live;
-pub use racl_io::{
-    Device, DeviceFault, Fault, Form, FrontKept, Joined, MOST_BYTES, Marked, Other, Sink, Source,
-    Totals, marked, read_until,
-};
-pub use racl_options::{
-    Asked, Files, Lines, Options, Origin, Saved, TableSize, options, words_status,
-};
-pub use racl_report::{
-    Ending, Hint, Message, Remark, Saves, Unopened, ending, failure_ending, hint, remark, status,
-    words_ending,
-};
+pub use racl_io::{Device, DeviceFault, Fault, Sink, Source, Totals};
+pub use racl_options::{Lines, Options, TableSize};
+pub use racl_report::{remark, status};
 pub use run_laws::{each_input_has_one_outcome, told_sessions_are_those_of_one_thread};

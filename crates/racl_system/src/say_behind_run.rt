@@ -1,13 +1,25 @@
 //! What is said behind a run of the files that it was on, and of how it ended.
+ghost use Rattle.std.specs.Prelude.{◌≡◌, IfOk};
+ghost use Rattle.racl_report.specs.Statuses.{status_of};
 
 use crate::faulty_capture::faulty;
 use crate::input_files::{interface_at, name_at, policy_name};
 use crate::named_reader::Reader;
 use crate::policy_remarks::{Seen, say_foreign, say_unlooked};
+use crate::progress::Watched;
 use crate::say_ending::say_ending;
-use racl_cli::{Fault, Files, Joined, Origin, Remark, Totals, ending, hint, remark};
+use racl_io::{Fault, Joined, Totals};
+use racl_options::{Files, Origin};
+use racl_report::{Remark, ending, hint, remark};
 use std::alloc::Global;
 use std::io;
+
+/// How a run ended, and whether the reader of what it wrote was gone.
+#[derive(Drop)]
+pub struct Ran {
+    pub outcome: Result<Totals, Fault>,
+    pub is_closed: bool,
+}
 
 // The first bytes of the captures that were read, as far as there is memory for their list.
 fn seen_in<'a>(alloc: Global, origin: &Origin<'_>, reader: &'a Joined<Reader>) -> Vec<Seen<'a>> {
@@ -24,7 +36,8 @@ fn seen_in<'a>(alloc: Global, origin: &Origin<'_>, reader: &'a Joined<Reader>) -
     seen
 }
 
-// Says which capture has the fault that a run ended with, where there are several, and what it is where it isn't read for that.
+// Says which capture has the fault that a run ended with, where there are several, and what it is where it isn't read
+// for that.
 fn say_remark(
     rt: &HostRuntime,
     alloc: Global,
@@ -49,8 +62,8 @@ fn say_remark(
     rt.eprintln(format_args!("racl: that is {name}, the capture of interface {interface}"))
 }
 
-/// Says behind a run on files what is likely to be wrong with them.
-pub fn say_more(
+// Says behind a run on files what is likely to be wrong with them.
+fn say_more(
     rt: &HostRuntime,
     alloc: Global,
     origin: &Origin<'_>,
@@ -81,15 +94,42 @@ pub fn say_more(
     Ok(())
 }
 
-/// Says how such a run ended, and what is likely to be wrong with its files; and answers the status.
-pub fn say_behind_live(
+/// Says how a run ended, and what is likely to be wrong with its files; and answers the status. No more is shown of how
+/// much was read.
+pub fn say_end_of_run(
+    rt: &HostRuntime,
+    alloc: Global,
+    origin: &Origin<'_>,
+    reader: &mut Watched<'_, Joined<Reader>>,
+    ran: &Ran,
+) -> io::Result<u8>
+    ensures { IfOk result (λ status. status ≡ status_of ran.now.outcome) }
+{
+    reader.progress.end();
+    let mut end = ending(&ran.outcome);
+    if ran.is_closed && !matches!(origin, Origin::Standard) {
+        // Who asked for a report of files took as much of it as was wanted.
+        end.message = None;
+    }
+    let status = match say_ending(rt, &end) {
+        Ok(status) => status,
+        Err(error) => return Err(error),
+    };
+    say_more(rt, alloc, origin, &reader.source, &ran.outcome)?;
+    Ok(status)
+}
+
+/// Says how a run over packets that come ended, and what is likely to be wrong with its files; and answers the status.
+pub fn say_end_of_live(
     rt: &HostRuntime,
     alloc: Global,
     files: &Files<'_>,
     text: &[u8],
     front: &[u8],
     outcome: &Result<Totals, Fault>,
-) -> io::Result<u8> {
+) -> io::Result<u8>
+    ensures { IfOk result (λ status. status ≡ status_of outcome.now) }
+{
     let status = match say_ending(rt, &ending(outcome)) {
         Ok(status) => status,
         Err(error) => return Err(error),

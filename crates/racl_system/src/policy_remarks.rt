@@ -18,8 +18,8 @@ fn checked(alloc: Global, text: &[u8]) -> Option<Checked<'_>> {
     }
 }
 
-/// Says of each section of the policy of this file whose `out` rules aren't looked at that this is so. Nothing is said of a
-/// text that is no policy, where memory runs out, or where standard error fails: the report stands.
+/// Says of each section of the policy of this file whose `out` rules aren't looked at that this is so. Nothing is said
+/// of a text that is no policy, where memory runs out, or where standard error fails: the report stands.
 pub fn say_unlooked(rt: &HostRuntime, alloc: Global, name: &str, text: &[u8]) {
     let Some(checked) = checked(alloc, text) else {
         return;

@@ -1,11 +1,12 @@
 //! How much of a long input was read, on a terminal.
+ghost use Rattle.std.specs.Prelude.{◌≡◌};
 
-use racl_cli::{DeviceFault, Source};
+use racl_io::{DeviceFault, Source};
 use std::io::IsTerminal;
 use std::time::{Duration, Instant};
 
-/// A line on standard error, written in place, that says how much was read. It is there where standard error is a terminal
-/// and reading takes more than two seconds. Where something goes wrong with it, nothing is said.
+/// A line on standard error, written in place, that says how much was read. It is there where standard error is a
+/// terminal and reading takes more than two seconds. Where something goes wrong with it, nothing is said.
 #[derive(Drop)]
 pub struct Progress<'a> {
     rt: &'a HostRuntime,
@@ -74,6 +75,18 @@ impl<'a> Progress<'a> {
 pub struct Watched<'a, S> {
     pub source: S,
     pub progress: Progress<'a>,
+}
+
+impl<'a, S> Watched<'a, S> {
+    /// Nothing of it was read.
+    pub fn new(rt: &'a HostRuntime, source: S) -> Watched<'a, S>
+        ensures { result.source ≡ source }
+    {
+        Watched {
+            source,
+            progress: Progress::new(rt),
+        }
+    }
 }
 
 impl<S: Source> Source for Watched<'_, S> {

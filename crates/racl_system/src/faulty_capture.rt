@@ -1,13 +1,20 @@
 //! Which of several captures has the fault that a run ended with.
+ghost use Rattle.std.specs.Prelude.{◌≡◌, ◌≢◌, ℕ, IfSome, IsTrue, false};
+ghost use Rattle.racl_io.specs.Faults.{IsFaultOfCapture};
+ghost use Rattle.racl_io.specs.Writings.{front_at};
 
 use crate::input_files::name_at;
 use crate::named_reader::{Reader, bytes_of, opened};
 use packet_view::check_capture;
-use racl_cli::{Fault, Joined, Origin};
+use racl_io::{Fault, Joined};
+use racl_options::Origin;
 use std::alloc::Global;
 use std::fs::metadata;
 
-fn has_fault(bytes: &[u8], fault: Fault) -> bool {
+fn has_fault(bytes: &[u8], fault: Fault) -> bool
+    ensures yes { IsTrue result → IsFaultOfCapture bytes.now fault }
+    ensures no { result ≡ false → IsFaultOfCapture bytes.now fault → ⊥ }
+{
     match check_capture(bytes, 0) {
         Ok(_) => false,
         Err(found) => Fault::from(found) == fault,
@@ -22,16 +29,19 @@ fn read_again(rt: &HostRuntime, alloc: Global, name: &str) -> Option<Vec<u8>> {
     bytes_of(alloc, opened(rt, name).ok()?).ok()
 }
 
-/// The place of the first capture that has this fault, from 0; None where no capture is known to be that one. Faults of a
-/// header are found in the first bytes that were read; for a record that is too long the files are read again. No clause says
-/// which it is, as of `opened`.
+/// The place of the first capture that has this fault, from 0; None where no capture is known to be that one. Faults of
+/// a header are found in the first bytes that were read; for a record that is too long the files are read again, of
+/// which no clause says what they have, as of `opened`.
 pub fn faulty(
     rt: &HostRuntime,
     alloc: Global,
     origin: &Origin<'_>,
     reader: &Joined<Reader>,
     fault: Fault,
-) -> Option<usize> {
+) -> Option<usize>
+    ensures { ((number : ℕ) → fault ≢ Fault.LongRecord number)
+        → IfSome result (λ place. IfSome (front_at reader.now place) (λ front. IsFaultOfCapture front fault)) }
+{
     // Of more captures two are of one interface, which is told before.
     for place in 0..256 {
         let name = name_at(origin, place)?;

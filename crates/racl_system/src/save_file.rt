@@ -1,13 +1,16 @@
 //! Files that chosen packets are saved in.
-ghost use Rattle.std.specs.Prelude.{◌-◌, ◌<◌, ◌≤◌, ◌^◌, IfOk, IfSome, length};
+ghost use Rattle.std.specs.Prelude.{◌≡◌, ◌-◌, ◌<◌, ◌≤◌, ◌^◌, ◌||◌, IfOk, IfSome, is_some, length};
+ghost use Rattle.racl_system.specs.SaveFiles.{has_failed};
 
-use racl_cli::{Device, Saved, Saves, Unopened};
+use racl_io::Device;
+use racl_options::Saved;
+use racl_report::{Saves, Unopened};
 use std::fs::File;
 use std::io;
 use std::io::Write;
 
-/// A file that is created at its first write, or emptied then: so nothing becomes of a file before there is something to
-/// write.
+/// A file that is created at its first write, or emptied then: so nothing becomes of a file before there is something
+/// to write.
 #[derive(Drop)]
 pub struct SaveFile<'a> {
     rt: &'a HostRuntime,
@@ -63,7 +66,8 @@ impl Write for SaveFile<'_> {
 
 // The file of this name, where there is one.
 fn file_to<'a>(rt: &'a HostRuntime, name: Option<&'a str>) -> Option<Device<SaveFile<'a>>>
-    ensures { IfSome result (λ file. file.failures < 2 ^ 64 - 1) }
+    ensures sound { IfSome result (λ file. file.failures < 2 ^ 64 - 1) }
+    ensures named { is_some result ≡ is_some name.entry }
 {
     match name {
         Some(name) => Some(Device::new(saved_to(rt, name))),
@@ -75,6 +79,8 @@ fn file_to<'a>(rt: &'a HostRuntime, name: Option<&'a str>) -> Option<Device<Save
 pub fn saves_to<'a>(rt: &'a HostRuntime, saved: &Saved<'a>) -> Saves<Device<SaveFile<'a>>>
     ensures drops { IfSome result.drops (λ file. file.failures < 2 ^ 64 - 1) }
     ensures passes { IfSome result.passes (λ file. file.failures < 2 ^ 64 - 1) }
+    ensures dropped { is_some result.drops ≡ is_some saved.now.drops }
+    ensures passed { is_some result.passes ≡ is_some saved.now.passes }
 {
     Saves {
         drops: file_to(rt, saved.drops),
@@ -83,7 +89,9 @@ pub fn saves_to<'a>(rt: &'a HostRuntime, saved: &Saved<'a>) -> Saves<Device<Save
 }
 
 // Says why a file couldn't be created or written. Whether that is so.
-fn say_failed(rt: &HostRuntime, file: Option<Device<SaveFile<'_>>>) -> io::Result<bool> {
+fn say_failed(rt: &HostRuntime, file: Option<Device<SaveFile<'_>>>) -> io::Result<bool>
+    ensures { IfOk result (λ failed. failed ≡ has_failed file.entry) }
+{
     let Some(file) = file else {
         return Ok(false);
     };
@@ -96,7 +104,9 @@ fn say_failed(rt: &HostRuntime, file: Option<Device<SaveFile<'_>>>) -> io::Resul
 }
 
 /// Says why files couldn't be created or written, where that is so. Whether it is.
-pub fn say_unsaved(rt: &HostRuntime, saves: Saves<Device<SaveFile<'_>>>) -> io::Result<bool> {
+pub fn say_unsaved(rt: &HostRuntime, saves: Saves<Device<SaveFile<'_>>>) -> io::Result<bool>
+    ensures { IfOk result (λ failed. failed ≡ (has_failed saves.entry.drops || has_failed saves.entry.passes)) }
+{
     let Saves { drops, passes } = saves;
     Ok(say_failed(rt, drops)? || say_failed(rt, passes)?)
 }

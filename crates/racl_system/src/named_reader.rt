@@ -1,6 +1,9 @@
 //! Where a named input comes from.
+ghost use Rattle.std.specs.Prelude.{◌≡◌, ◌+◌, ◌≤◌, ◌⊎◌, IfErr, IfOk, length};
+ghost use Rattle.racl_io.specs.Inputs.{most_bytes};
+ghost use Rattle.racl_io.specs.declared.fault.Fault.TheVariants.{Memory, Read};
 
-use racl_cli::{Device, Fault, MOST_BYTES, read_until};
+use racl_io::{Device, Fault, MOST_BYTES, read_until};
 use std::alloc::Global;
 use std::fs::File;
 use std::io;
@@ -40,9 +43,12 @@ pub fn opened(rt: &HostRuntime, name: &str) -> io::Result<Reader> {
     Ok(Reader::File(file))
 }
 
-/// Reads all that an input may have, and a byte more where there is one. The clauses of `read_until` say what is read and when
-/// that fails; none says what a name had, as of `opened`.
-pub fn bytes_of(alloc: Global, reader: Reader) -> Result<Vec<u8>, Fault> {
+/// Reads all that an input may have, and a byte more where there is one. No clause says what a name had, as of
+/// `opened`.
+pub fn bytes_of(alloc: Global, reader: Reader) -> Result<Vec<u8>, Fault>
+    ensures few { IfOk result (λ bytes. length bytes.items ≤ most_bytes + 1) }
+    ensures faults { IfErr result (λ fault. (fault ≡ Memory) ⊎ (fault ≡ Read)) }
+{
     let mut bytes = Vec::new(alloc);
     match read_until(&mut Device::new(reader), &mut bytes, MOST_BYTES + 1) {
         Ok(_) => Ok(bytes),
@@ -51,7 +57,9 @@ pub fn bytes_of(alloc: Global, reader: Reader) -> Result<Vec<u8>, Fault> {
 }
 
 /// Reads that, so that it can be looked at again.
-pub fn held(alloc: Global, reader: Reader) -> Result<Reader, Fault> {
+pub fn held(alloc: Global, reader: Reader) -> Result<Reader, Fault>
+    ensures { IfErr result (λ fault. (fault ≡ Memory) ⊎ (fault ≡ Read)) }
+{
     match bytes_of(alloc, reader) {
         Ok(bytes) => Ok(Reader::Held(Cursor::new(bytes))),
         Err(fault) => Err(fault),

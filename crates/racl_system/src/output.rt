@@ -1,4 +1,5 @@
 //! Standard output.
+ghost use Rattle.std.specs.Prelude.{◌≡◌, false};
 
 use std::io;
 use std::io::{ErrorKind, Stdout, Write};
@@ -11,8 +12,10 @@ pub struct Output {
 }
 
 impl Output {
-    /// No clause says what becomes of what is written, since that is the reader's.
-    pub fn new(stdout: Stdout) -> Output {
+    /// Nothing was written. No clause says what becomes of what is, since that is the reader's.
+    pub fn new(stdout: Stdout) -> Output
+        ensures { result.is_closed ≡ false }
+    {
         Output {
             stdout,
             is_closed: false,

@@ -1,0 +1,52 @@
+//! The program's words, and what they ask for.
+ghost use Rattle.std.specs.Prelude.{◌≡◌, IfOk, map, string_bytes};
+ghost use Rattle.clap.specs.Walk.{texts};
+ghost use Rattle.racl_options.specs.Asking.{AskForRun, asked_facts};
+ghost use Rattle.racl_options.specs.Checks.{IsCheck};
+
+use crate::file_checking::check_file;
+use crate::say_ending::refused;
+use racl_options::{Asked, check_name, options};
+use std::alloc::Global;
+use std::io;
+
+/// The words that the program was called with. No clause says which these are, since they are the system's.
+pub fn words_of(rt: &HostRuntime, alloc: Global) -> io::Result<Vec<String>> {
+    let words: Vec<String> = std::env::args(rt)?.collect(alloc)?;
+    Ok(words)
+}
+
+/// These words as texts.
+pub fn texts_of<'a>(alloc: Global, words: &'a [String]) -> io::Result<Vec<&'a str>>
+    ensures { IfOk result (λ found. texts found.items ≡ map string_bytes words.now) }
+{
+    let mut texts = Vec::new(alloc);
+    for word in words {
+        texts.push(word.as_str())?;
+    }
+    Ok(texts)
+}
+
+/// The run that the words ask for. Where they ask for none the status is answered: a check was made, or it was told
+/// that they are refused.
+pub fn asked_or_status<'a>(
+    rt: &HostRuntime,
+    alloc: Global,
+    words: &'a [&'a str],
+) -> io::Result<Result<Asked<'a>, u8>>
+    ensures run { IfOk result (λ found. IfOk found (λ asked. AskForRun (texts words.entry.now) (asked_facts asked))) }
+    ensures unchecked { IfOk result (λ found. IfOk found (λ _. IsCheck (texts words.entry.now) → ⊥)) }
+{
+    let status = match check_name(alloc, words) {
+        Ok(None) => match options(alloc, words) {
+            Ok(asked) => return Ok(Ok(asked)),
+            Err(error) => refused(rt, &error),
+        },
+        Ok(Some(name)) => check_file(rt, alloc, name),
+        Err(error) => refused(rt, &error),
+    };
+    match status {
+        Ok(status) => Ok(Err(status)),
+        Err(error) => Err(error),
+    }
+}

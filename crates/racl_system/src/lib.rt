@@ -1,0 +1,26 @@
+//! What the program asks of the operating system: it opens the files that the words name, reads and writes them, saves
+//! packets, shows progress, and says on standard error what there is to say.
+#![tactic(auto)]
+
+mod command_words;
+mod faulty_capture;
+mod file_checking;
+mod input_files;
+mod live_files;
+mod named_reader;
+mod output;
+mod policy_remarks;
+mod progress;
+mod save_file;
+mod say_behind_run;
+mod say_ending;
+
+pub use command_words::{asked_or_status, texts_of, words_of};
+pub use input_files::{Parts, opened_input};
+pub use live_files::{LiveFiles, opened_live};
+pub use named_reader::Reader;
+pub use output::Output;
+pub use progress::{Progress, Watched};
+pub use save_file::{SaveFile, saves_to, say_unsaved};
+pub use say_behind_run::{Ran, say_end_of_live, say_end_of_run};
+pub use say_ending::failure_status;

@@ -1,0 +1,65 @@
+//! The files of a run over a capture that comes.
+ghost use Rattle.std.specs.Prelude.{◌≡◌, ◌≤◌, ◌⊎◌, IfErr, IfOk, length};
+ghost use Rattle.racl_io.specs.Inputs.{most_bytes};
+
+use crate::input_files::opened_or_told;
+use crate::named_reader::{Reader, bytes_of};
+use crate::policy_remarks::say_unlooked;
+use crate::say_ending::say_fault;
+use racl_io::{Fault, MOST_BYTES};
+use racl_options::Files;
+use std::alloc::Global;
+use std::io;
+
+/// The text of a policy, and where a capture comes from.
+#[derive(Drop)]
+pub struct LiveFiles {
+    pub text: Vec<u8>,
+    pub capture: Reader,
+}
+
+// The text of a policy's file. Where it can't be had that is told, and the status is answered.
+fn policy_text(rt: &HostRuntime, alloc: Global, name: &str) -> io::Result<Result<Vec<u8>, u8>>
+    ensures few { IfOk result (λ found. IfOk found (λ text. length text.items ≤ most_bytes)) }
+    ensures status { IfOk result (λ found. IfErr found (λ status. (status ≡ 1) ⊎ (status ≡ 4))) }
+{
+    let policy = match opened_or_told(rt, name) {
+        Ok(Some(policy)) => policy,
+        Ok(None) => return Ok(Err(4)),
+        Err(error) => return Err(error),
+    };
+    let fault = match bytes_of(alloc, policy) {
+        Ok(text) if text.len() <= MOST_BYTES => return Ok(Ok(text)),
+        Ok(_) => Fault::TooLarge,
+        Err(fault) => fault,
+    };
+    match say_fault(rt, fault) {
+        Ok(status) => Ok(Err(status)),
+        Err(error) => Err(error),
+    }
+}
+
+/// Opens the capture of a run, and reads its policy, of which it says what is unlikely to be meant. Where one can't be
+/// had that is told, and the status is answered: 1 where the text is too large, else 4. No clause says what names open,
+/// as of `opened`.
+pub fn opened_live(
+    rt: &HostRuntime,
+    alloc: Global,
+    files: &Files<'_>,
+) -> io::Result<Result<LiveFiles, u8>>
+    ensures few { IfOk result (λ found. IfOk found (λ opened. length opened.text.items ≤ most_bytes)) }
+    ensures status { IfOk result (λ found. IfErr found (λ status. (status ≡ 1) ⊎ (status ≡ 4))) }
+{
+    let text = match policy_text(rt, alloc, files.policy) {
+        Ok(Ok(text)) => text,
+        Ok(Err(status)) => return Ok(Err(status)),
+        Err(error) => return Err(error),
+    };
+    let capture = match opened_or_told(rt, files.capture) {
+        Ok(Some(capture)) => capture,
+        Ok(None) => return Ok(Err(4)),
+        Err(error) => return Err(error),
+    };
+    say_unlooked(rt, alloc, files.policy, text.as_slice());
+    Ok(Ok(LiveFiles { text, capture }))
+}
