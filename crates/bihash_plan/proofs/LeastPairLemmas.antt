@@ -118,5 +118,4 @@ module _ {K : Type 0} (words_of : K → List ℕ) (is_expired : ℕ → Bool) (p
           let word = first.0 in
           subst (IsLeastAmong words_of is_expired places (i + 1)) there
           (same_least i key value at k found.found (first_less (words_of found.found.key) (words_of key) first.1 some (omega arith)))
-
-  -- ---- All places
+      -- ---- All places

@@ -12,7 +12,6 @@ use Rattle.bihash_steps.proofs.CountWord.{front}
 use Rattle.bihash_steps.proofs.OwnedWords.{bucket_inside}
 
 module _ (z : Sizes) where
-
   renewed_at : (n word : ℕ) (words new : List ℕ) → n < buckets z → bucket_at z n < length new
       → ((x : Bucket) → FitsWord x → slice_index words (bucket_at z n) ≡ packed x → word ≡ packed (record x { locked = false; version = 0 }))
       → AreRenewedBelow z n words new → AreRenewedBelow z (n + 1) words (set new (bucket_at z n) word)

@@ -165,7 +165,6 @@ module _ {A B R G K L : Type 0} (ga : Ghosts A K) (gb : Ghosts B L) (setup : Set
 module _ {A B R G K L : Type 0} (ga : Ghosts A K) (gb : Ghosts B L) (old : Workers A B R G K L ga gb)
     (packets : List PacketFacts) (rest : AreAtRest packets old) (batch : Batch A B R G K L) (same : batch.setup ≡ old.setup)
     (first : batch.first ≡ old.count) where
-
   pub rest_more : (shares : Vec (Share A B K L ga gb)) (judges : Vec ℕ) (count : ℕ)
       → HaveJudgedBatch batch old.shares.items shares.items old.judges.items judges.items
       → count ≡ old.count + length (remaining batch.packets)
