@@ -2,6 +2,7 @@
 
 use policy_check::{Checked, check_policy, foreign_mac, no_mac};
 use std::alloc::Global;
+use std::io::Eprint;
 
 /// The first bytes of the capture of the interface with this number.
 #[derive(Clone, Copy)]
@@ -20,7 +21,7 @@ fn checked(alloc: Global, text: &[u8]) -> Option<Checked<'_>> {
 
 /// Says of each section of the policy of this file whose `out` rules aren't looked at that this is so. Nothing is said
 /// of a text that is no policy, where memory runs out, or where standard error fails: the report stands.
-pub fn say_unlooked(rt: &HostRuntime, alloc: Global, name: &str, text: &[u8]) {
+pub fn say_unlooked(rt: &impl Eprint, alloc: Global, name: &str, text: &[u8]) {
     let Some(checked) = checked(alloc, text) else {
         return;
     };
@@ -33,7 +34,7 @@ pub fn say_unlooked(rt: &HostRuntime, alloc: Global, name: &str, text: &[u8]) {
 
 /// Says of each capture whose first frames have nothing to do with the own address of their interface that this is so.
 /// Nothing is said where `say_unlooked` could say nothing.
-pub fn say_foreign(rt: &HostRuntime, alloc: Global, name: &str, text: &[u8], seen: &[Seen<'_>]) {
+pub fn say_foreign(rt: &impl Eprint, alloc: Global, name: &str, text: &[u8], seen: &[Seen<'_>]) {
     let Some(checked) = checked(alloc, text) else {
         return;
     };

@@ -7,7 +7,7 @@ use racl_options::Saved;
 use racl_report::{Saves, Unopened};
 use std::fs::File;
 use std::io;
-use std::io::Write;
+use std::io::{Eprint, Write};
 
 /// A file that is created at its first write, or emptied then: so nothing becomes of a file before there is something
 /// to write.
@@ -89,7 +89,7 @@ pub fn saves_to<'a>(rt: &'a HostRuntime, saved: &Saved<'a>) -> Saves<Device<Save
 }
 
 // Says why a file couldn't be created or written. Whether that is so.
-fn say_failed(rt: &HostRuntime, file: Option<Device<SaveFile<'_>>>) -> io::Result<bool>
+fn say_failed(rt: &impl Eprint, file: Option<Device<SaveFile<'_>>>) -> io::Result<bool>
     ensures { IfOk result (λ failed. failed ≡ has_failed file.entry) }
 {
     let Some(file) = file else {
@@ -104,7 +104,7 @@ fn say_failed(rt: &HostRuntime, file: Option<Device<SaveFile<'_>>>) -> io::Resul
 }
 
 /// Says why files couldn't be created or written, where that is so. Whether it is.
-pub fn say_unsaved(rt: &HostRuntime, saves: Saves<Device<SaveFile<'_>>>) -> io::Result<bool>
+pub fn say_unsaved(rt: &impl Eprint, saves: Saves<Device<SaveFile<'_>>>) -> io::Result<bool>
     ensures { IfOk result (λ failed. failed ≡ (has_failed saves.entry.drops || has_failed saves.entry.passes)) }
 {
     let Saves { drops, passes } = saves;

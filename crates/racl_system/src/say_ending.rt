@@ -10,10 +10,10 @@ use clap::Error;
 use racl_io::Fault;
 use racl_report::{Ending, ending, failure_ending, words_ending};
 use std::io;
-use std::io::ErrorKind;
+use std::io::{Eprint, ErrorKind, Print};
 
 /// Says what is to be said, and answers the status.
-pub fn say_ending(rt: &HostRuntime, end: &Ending) -> io::Result<u8>
+pub fn say_ending(rt: &impl Eprint, end: &Ending) -> io::Result<u8>
     ensures { IfOk result (λ status. status ≡ end.now.status) }
 {
     match &end.message {
@@ -26,14 +26,14 @@ pub fn say_ending(rt: &HostRuntime, end: &Ending) -> io::Result<u8>
 }
 
 /// Says with which fault a run ended, and answers the status.
-pub fn say_fault(rt: &HostRuntime, fault: Fault) -> io::Result<u8>
+pub fn say_fault(rt: &impl Eprint, fault: Fault) -> io::Result<u8>
     ensures { IfOk result (λ status. status ≡ status_of_fault fault) }
 {
     say_ending(rt, &ending(&Err(fault)))
 }
 
 /// Tells that words are refused, and answers the status.
-pub fn refused(rt: &HostRuntime, error: &Error) -> io::Result<u8>
+pub fn refused(rt: &(impl Print + Eprint), error: &Error) -> io::Result<u8>
     ensures request { IfOk result (λ status. IsRequest (kind_of error.now) → status ≡ 0) }
     ensures memory { IfOk result (λ status. kind_of error.now ≡ kinds.OutOfMemory → status ≡ 4) }
     ensures mistake { IfOk result (λ status. (IsRequest (kind_of error.now) → ⊥)
@@ -47,7 +47,7 @@ pub fn refused(rt: &HostRuntime, error: &Error) -> io::Result<u8>
 }
 
 /// Says why the words can't be had, or a text can't be printed, and answers the status.
-pub fn failure_status(rt: &HostRuntime, error: &io::Error) -> u8
+pub fn failure_status(rt: &impl Eprint, error: &io::Error) -> u8
     ensures word { error_kind error.now ≡ ErrorKind.InvalidData → result ≡ 2 }
     ensures other { error_kind error.now ≢ ErrorKind.InvalidData → result ≡ 4 }
 {
