@@ -1,5 +1,5 @@
 //! The records of a capture, which are judged while they are read.
-ghost use Rattle.std.specs.Prelude.{◌≡◌, ◌+◌, ◌-◌, ◌<◌, ◌≤◌, ◌^◌, IfErr, IfOk, length};
+ghost use Rattle.std.specs.Prelude.{◌≡◌, ◌+◌, ◌-◌, ◌<◌, ◌≤◌, ◌^◌, IfErr, IfOk, is_some, length};
 ghost use Rattle.acl_policy.specs.Policies.{policy_facts};
 ghost use Rattle.capture_stream.specs.Streams.{IsSize, IsStreamFault};
 ghost use Rattle.racl_io.specs.declared.fault.Fault.TheVariants.{Memory};
@@ -58,7 +58,9 @@ pub fn window_size(are_several: bool) -> WindowSize
 }
 
 /// Whose threads may work beside this one: nobody's where one worker does all.
-pub fn threads_beside<T>(rt: &T, are_several: bool) -> Option<&T> {
+pub fn threads_beside<T>(rt: &T, are_several: bool) -> Option<&T>
+    ensures { is_some result ≡ are_several }
+{
     if are_several { Some(rt) } else { None }
 }
 

@@ -20,7 +20,8 @@ fn checked(alloc: Global, text: &[u8]) -> Option<Checked<'_>> {
 }
 
 /// Says of each section of the policy of this file whose `out` rules aren't looked at that this is so. Nothing is said
-/// of a text that is no policy, where memory runs out, or where standard error fails: the report stands.
+/// of a text that is no policy, where memory runs out, or where standard error fails: the report stands. No clause can
+/// say what standard error gets: `checks/run` looks at it.
 pub fn say_unlooked(rt: &impl Eprint, alloc: Global, name: &str, text: &[u8]) {
     let Some(checked) = checked(alloc, text) else {
         return;
@@ -33,7 +34,7 @@ pub fn say_unlooked(rt: &impl Eprint, alloc: Global, name: &str, text: &[u8]) {
 }
 
 /// Says of each capture whose first frames have nothing to do with the own address of their interface that this is so.
-/// Nothing is said where `say_unlooked` could say nothing.
+/// Nothing is said where `say_unlooked` could say nothing. No clause says it, as of `say_unlooked`.
 pub fn say_foreign(rt: &impl Eprint, alloc: Global, name: &str, text: &[u8], seen: &[Seen<'_>]) {
     let Some(checked) = checked(alloc, text) else {
         return;
