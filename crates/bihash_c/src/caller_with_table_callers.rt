@@ -93,7 +93,7 @@ impl<S: Shape> Member<S> {
         sessions.is_lone(&mut self.caller)
     }
 
-    /// The bucket and the stamp of the last answered call, `None` before the first.
+    /// The bucket and the stamp of the caller's last answered call, `None` before the first.
     pub fn stamp(&self) -> Option<(u64, u64)>
         ensures { result ≡ stamp_of self.now.view.records }
     {

@@ -12,13 +12,13 @@ use Rattle.packet_view.specs.declared.capture.Order.{Order}
 use Rattle.packet_view.specs.declared.records_at_front.Stop.{Stop}
 use Rattle.packet_view.specs.declared.records_at_front.Stop.TheVariants.{TooLong}
 use Rattle.packet_view.specs.declared.packets.Packets.TheVariants as kind
-use Rattle.packet_view.specs.declared.capture_records.Records.{Records}
+use Rattle.packet_view.specs.declared.packets_of_records.Records.{Records}
 use Rattle.packet_view.proofs.FrontLemmas.{records_appended, records_joined}
 use Rattle.packet_view.proofs.RecordListLemmas.{packets_count, records_within}
 use Rattle.flow_filter.specs.declared.verdict.Verdict.{Verdict}
 use Rattle.racl_io.specs.declared.fault.Fault.{Fault}
 use Rattle.racl_io.specs.declared.fault.Fault.TheVariants as fault
-use Rattle.racl_io.specs.declared.report.Totals.{Totals}
+use Rattle.racl_io.specs.declared.whole_report.Totals.{Totals}
 use Rattle.racl_io.specs.Reports.{is_truncated, lines_from, passed, report_of, totals_line, totals_of, truncation_line}
 use Rattle.racl_io.specs.Sinks.{GotFront, HasPutFront}
 use Rattle.racl_io.proofs.ReportLemmas.{cut_at, lines_of_both, passed_of_both, totals_counted}

@@ -8,7 +8,7 @@ use Rattle.packet_view.specs.CheckedCaptures.{records_of}
 use Rattle.packet_view.specs.declared.capture.Order.{Order}
 use Rattle.packet_view.specs.declared.records_at_front.Stop.TheVariants.{TooLong}
 use Rattle.packet_view.specs.declared.packets.Packets.TheVariants as kind
-use Rattle.packet_view.specs.declared.capture_records.Records.{Records}
+use Rattle.packet_view.specs.declared.packets_of_records.Records.{Records}
 use Rattle.packet_view.proofs.FrontLemmas.{records_appended, records_joined}
 use Rattle.packet_view.proofs.RecordLemmas.{number_from-append}
 use Rattle.packet_view.proofs.RecordListLemmas.{packets_count, records_within}

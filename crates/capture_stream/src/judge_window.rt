@@ -42,14 +42,15 @@ pub struct WindowSize {
 }
 
 impl WindowSize {
-    ghost use Rattle.std.specs.Prelude.{◌≤◌};
+    ghost use Rattle.std.specs.Prelude.{◌≤◌, ◌+◌};
     ghost use Rattle.capture_stream.specs.Streams.{IsSize};
 
     /// How many bytes the next window gets behind those that the one before left, where so many were read: it has as many as
     /// were read, within these bounds, so that judging begins early, and larger windows follow that pay for more threads.
     pub fn beside(&self, read: usize, left: usize) -> usize
         requires { IsSize self.now }
-        ensures { 1 ≤ result }
+        ensures some { 1 ≤ result }
+        ensures few { result ≤ 16777216 + left }
     {
         let all = read.max(self.least).min(self.most);
         all.saturating_sub(left).max(left)

@@ -10,6 +10,7 @@ use acl_policy::Action;
 use packet_view::Fields;
 use session_state::{PacketPatch, Timeouts};
 
+// The flags with which a packet updates its session.
 fn flags_of(fields: &Fields) -> u8
     ensures { result ≡ Updates.flags_of fields.now }
 {
@@ -19,12 +20,14 @@ fn flags_of(fields: &Fields) -> u8
     }
 }
 
+// Whether a packet updates a session of TCP.
 fn is_tcp(fields: &Fields) -> bool
     ensures { result ≡ Updates.is_tcp fields.now }
 {
     matches!(fields, Fields::Tcp { .. })
 }
 
+// Whether the rule that decides a packet lets it enter a session.
 fn reflects(ruling: Option<(usize, Action)>) -> bool
     ensures { result ≡ Updates.reflects ruling }
 {

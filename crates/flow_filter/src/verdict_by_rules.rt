@@ -11,7 +11,7 @@ use acl_policy::Action;
 use bihash_words::Reply;
 use session_state::PacketPatch;
 
-/// The number of the rule at a place.
+/// The number that a verdict names, of the rule at a place.
 fn number_of(place: usize) -> u16
     requires { place < most_rules }
     ensures { result ≡ place + 1 }

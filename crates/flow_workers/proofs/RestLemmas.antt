@@ -1,5 +1,5 @@
 -- Workers between batches of packets.
-use Rattle.std.proofs.Common.{◌≡◌, ◌⊎◌, ◌∙◌, ◌+◌, ◌-◌, ◌<◌, ◌≤◌, ◌^◌, ℕ, zero, suc, List, [], ◌∷◌, ◌++◌, ap, append_assoc, drop, length, get_or, slice_get, refl, subst, sym, arith, inl, inr}
+use Rattle.std.proofs.Common.{◌≡◌, ◌⊎◌, ◌∙◌, ◌+◌, ◌-◌, ◌<◌, ◌≤◌, ℕ, zero, suc, List, [], ◌∷◌, ◌++◌, ap, append_assoc, drop, length, get_or, slice_get, refl, subst, sym, arith, inl, inr}
 use Rattle.std.specs.Global.{Vec}
 use Rattle.std.specs.Prelude.{slice_index}
 use Rattle.std.proofs.lemmas.List.{get_or_append_left, get_or-append_right, length-append, length-drop}
@@ -26,7 +26,6 @@ use Rattle.flow_workers.specs.Progress.{AreAtRest, HaveAllSaid, HaveEnded, IsAtR
 use Rattle.flow_workers.specs.inner.Jobs.{HasDoneAfter, HasWorked, StandAmong, dealer_of, run_facts}
 use Rattle.flow_workers.specs.inner.Shares.{IsUnused, workers_in}
 use Rattle.flow_workers.specs.inner.Together.{HaveNoted, HaveJudgedBatch}
-use Rattle.flow_workers.specs.inner.Turns.{MayJudgeBatch}
 use Rattle.flow_workers.specs.inner.Work.{IsWorkUntil}
 use Rattle.flow_workers.proofs.DealtLemmas.{front_only}
 use Rattle.flow_workers.proofs.WorkSteps.{work_none}

@@ -1,7 +1,6 @@
 -- The workers' shares, taken apart.
 use Rattle.std.proofs.Common.{◌≡◌, ◌≤◌, ◌∙◌, ◌+◌, ◌<◌, ℕ, zero, suc, List, [], ◌∷◌, ◌++◌, append-nil, get_or, length, map, ap, arith, refl, sym, subst}
 use Rattle.std.specs.List.{All, AllZip}
-use Rattle.std.proofs.lemmas.List.{map-append}
 use Rattle.std.proofs.Math.Seq.{drop-length}
 use Rattle.std.proofs.lemmas.List.Elements.{All-cons, All-map, All-nil, All-weaker}
 use lib.ListN.{get_elem?}
@@ -31,7 +30,7 @@ use Rattle.flow_workers.specs.declared.worker_setup.Setup.{Setup}
 use Rattle.flow_workers.specs.Callers.{AreIdle, views_of}
 use Rattle.flow_workers.specs.Progress.{IsAtRest, IsAtRestAfter}
 use Rattle.flow_workers.specs.inner.Jobs.{run_facts}
-use Rattle.flow_workers.specs.inner.WorkerResults.{AreResults, AreResultsOf, HasAdded}
+use Rattle.flow_workers.specs.inner.WorkerResults.{AreResults, AreResultsOf}
 use Rattle.flow_workers.specs.inner.Work.{AreSaid, IsWork, IsWorkUntil, RunFacts}
 use Rattle.flow_workers.proofs.TurnLemmas.{fresh_trace}
 use Rattle.flow_workers.proofs.WorkSteps.{whole_work}

@@ -2,9 +2,10 @@
 ghost use Rattle.std.specs.Prelude.{◌≡◌, IfOk};
 ghost use Rattle.bihash_words.specs.Sizes.{sizes_of};
 ghost use Rattle.bihash_steps.specs.CallerCalls.{AreIdle};
-ghost use Rattle.flow_workers.specs.inner.CallerSplits.{AreJoined, AreJoinedWhole, AreNew, IsJoinedOne, IsMadeWhole, IsNewCaller, MayJoin};
+ghost use Rattle.flow_workers.specs.inner.CallerSplits.{AreJoined, AreJoinedWhole, AreNew, IsJoinedOne, IsNewCaller, MayJoin};
 ghost use Rattle.flow_workers.specs.inner.Shares.{AreFresh};
 
+use crate::lone_caller::wait_until_lone;
 use crate::session_tables::{Callers, Tables};
 use bihash_table::{Caller, Sessions, SplitFault};
 use bihash_words::Shape;
@@ -53,19 +54,6 @@ pub fn split_both<A: Shape, B: Shape, R: Wait>(
         six: next_six,
     };
     Ok((own, next))
-}
-
-/// Counts the callers until this one is found to have every number.
-pub fn wait_until_lone<S: Shape, R: Wait>(rt: &R, table: &Sessions<S>, caller: &mut Caller<S>)
-    requires { caller.old.seat.row ≡ table.now.row }
-    ensures { IsMadeWhole (sizes_of S.Shape) caller.old.seat caller.new.seat }
-{
-    for _ in rt.forever() {
-        if table.is_lone(caller) {
-            return;
-        }
-    }
-    unreachable!()
 }
 
 /// A worker's caller, and that of all workers after it, as one.

@@ -1,6 +1,6 @@
 //! A worker before its turn and after it.
 use crate::gate::Gate;
-use crate::worker_packets::work;
+use crate::judge_dealt_packets::work;
 use crate::worker_share::{Job, Share};
 use bihash_words::Shape;
 use packet_dealing::Task;

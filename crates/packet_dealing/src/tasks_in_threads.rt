@@ -1,12 +1,12 @@
 //! Tasks that run at once.
 ghost use Rattle.std.specs.Prelude.{◌≡◌, ◌<◌, ℕ, IfOk, length, slice_index_or, All};
+ghost use denote.Param.Send.{IsSend, IsSync};
+ghost use Rattle.packet_dealing.specs.inner.Tasks.{HaveRun};
 
 use std::alloc::AllocError;
-use std::thread;
-use std::thread::Threads;
+use std::thread::{Threads, join};
 
-/// What a thread does. It is a trait with one type for what comes and what goes, since a function that is passed
-/// to `map_vec` may name no type with ghost members, and no result that its argument doesn't name.
+/// What a thread does.
 pub trait Task {
     /// When it may run.
     ghost can_run: { Self → Type 0 };
@@ -19,22 +19,37 @@ pub trait Task {
         ensures { becomes self result };
 }
 
-fn run_one<T: Task>(task: T) -> T
-    requires { T.can_run task }
-    ensures { T.becomes task result }
-{
-    task.run()
-}
-
-/// Runs each task in a thread of its own, or in this one where no thread can be made.
+/// Runs each task in a thread of its own, or in this one where no thread can be made. This thread makes all of them, one after
+/// the other, and runs the first task itself: where threads make further ones, these may wait for a processor.
+#[cycle(tasks)]
 pub fn run_all<T: Task + Send + Drop, R: Threads + Sync>(
     rt: &R,
-    tasks: Vec<T>,
+    mut tasks: Vec<T>,
 ) -> Result<Vec<T>, AllocError>
     requires { All T.can_run tasks.items }
     ensures count { IfOk result (λ v. length v.items ≡ length tasks.items) }
     ensures each { IfOk result (λ v. (i : ℕ) (d : _) (e : _) → i < length tasks.items
         → T.becomes (slice_index_or tasks.items i e) (slice_index_or v.items i d)) }
 {
-    thread::map_vec(rt, tasks, &run_one::<T>)
+    let Some(last) = tasks.pop() else {
+        return Ok(tasks);
+    };
+    if tasks.is_empty() {
+        tasks.push(last.run())?;
+        return Ok(tasks);
+    }
+    let theirs = move || -> T
+        requires { IsSend T.row × T.can_run last }
+        ensures { T.becomes last result }
+    { last.run() };
+    let own = move || -> Result<Vec<T>, AllocError>
+        requires { IsSync R.row × IsSend T.row × All T.can_run tasks.items }
+        ensures { IfOk result (λ v. HaveRun T.becomes tasks.items v.items) }
+    { run_all(rt, tasks) };
+    let (done, before) = join(rt, theirs, own);
+    let Ok(mut all) = before else {
+        return Err(AllocError);
+    };
+    all.push(done)?;
+    Ok(all)
 }

@@ -15,7 +15,7 @@ use Rattle.packet_view.specs.declared.tuple.Mac.{Mac}
 use Rattle.packet_view.specs.Ethernet.{IsEthernet}
 use Rattle.packet_view.specs.Frames.{Carries, HasDirection, Ip, IsFrame, IsMalformed, IsTuple, Malformed, NotIp, Short, FrameFacts, dest_of, ether_type, source_of}
 use Rattle.packet_view.specs.Interfaces.{Interface}
-use Rattle.packet_view.specs.inner.FrameSteps.{IpPacketFacts, Way, direction_of, fields_of, packet_of_v4, packet_of_v6, view_of, view_of_content, view_of_packet, view_of_upper, way_of, with_fields}
+use Rattle.packet_view.specs.inner.FrameSteps.{IpPacketFacts, direction_of, fields_of, packet_of_v4, packet_of_v6, view_of, view_of_content, view_of_packet, view_of_upper, way_of, with_fields}
 use Rattle.packet_view.specs.IpPackets.{Payload, LaterFragment, Upper}
 use Rattle.packet_view.specs.Tuples.{TupleFacts}
 use Rattle.packet_view.proofs.EthernetLemmas as ethernet

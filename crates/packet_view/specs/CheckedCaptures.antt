@@ -4,7 +4,7 @@ use Rattle.packet_view.specs.Captures.{PacketFacts, RecordFacts, packet_facts, p
 use Rattle.packet_view.specs.RecordLists.{records_from}
 use Rattle.packet_view.specs.declared.packets.Packets.{Packets}
 use Rattle.packet_view.specs.declared.packets.Packets.TheVariants as kind
-use Rattle.packet_view.specs.declared.capture_records.Records.{Records}
+use Rattle.packet_view.specs.declared.packets_of_records.Records.{Records}
 
 -- the records that are left
 abbrev pub records_of : Records → List RecordFacts

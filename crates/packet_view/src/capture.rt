@@ -24,8 +24,8 @@ ghost use Rattle.packet_view.specs.declared.capture.CaptureFault.{CaptureFault};
 ghost use Rattle.packet_view.specs.declared.capture.CaptureFault.TheVariants.{Memory};
 ghost use Rattle.packet_view.specs.declared.capture.Order.{Order};
 
-use crate::capture_records::Records;
 use crate::packet::Packet;
+use crate::packets_of_records::Records;
 use crate::records_at_front::{Front, Stop, front_records};
 use byteorder::{BigEndian, ByteOrder, LittleEndian};
 use std::alloc::{AllocError, AllocFailed, Global};

@@ -3,7 +3,6 @@
 
 mod capture;
 mod capture_laws;
-mod capture_records;
 mod ethernet;
 mod frame;
 mod frame_direction;
@@ -14,6 +13,7 @@ mod ipv6;
 mod packet;
 mod packet_bursts;
 mod packets;
+mod packets_of_records;
 mod plain_packet;
 mod records_at_front;
 mod transport;
@@ -24,7 +24,6 @@ pub use capture::{
     next_record, read_capture,
 };
 pub use capture_laws::{a_cut_capture_keeps_its_front, each_capture_has_one_reading};
-pub use capture_records::Records;
 pub use frame::{Frame, plain_frame, view};
 pub use frame_laws::{
     bytes_after_the_packet_are_not_seen, each_frame_has_one_view, own_address_decides_the_way_alone,
@@ -32,6 +31,7 @@ pub use frame_laws::{
 pub use packet::Packet;
 pub use packet_bursts::PacketBursts;
 pub use packets::Packets;
+pub use packets_of_records::Records;
 pub use plain_packet::{PlainPacket, plain};
 pub use records_at_front::{Front, Stop, front_records};
 pub use tuple::{Direction, Family, Fields, Mac, Tuple};

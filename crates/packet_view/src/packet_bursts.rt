@@ -3,9 +3,9 @@ ghost use Rattle.std.specs.Prelude.{◌≡◌, ◌-◌, ◌≤◌, ◌++◌, [],
 ghost use Rattle.packet_view.specs.Captures.{Takes, packet_facts};
 ghost use Rattle.packet_view.specs.CheckedCaptures.{BurstFacts, remaining};
 
-use crate::capture_records::BURST;
 use crate::packet::Packet;
 use crate::packets::Packets;
+use crate::packets_of_records::BURST;
 use std::marker::Model;
 
 /// Packets that are taken one by one, in their order. The next ones are found before they are asked for, in a loop of

@@ -3,8 +3,8 @@ ghost use Rattle.std.specs.Prelude.{◌≡◌, ◌≤◌, ◌++◌, [], length, 
 ghost use Rattle.packet_view.specs.Captures.{Takes, packet_facts};
 ghost use Rattle.packet_view.specs.CheckedCaptures.{remaining};
 
-use crate::capture_records::{BURST, Records};
 use crate::packet::Packet;
+use crate::packets_of_records::{BURST, Records};
 
 /// Packets that are taken one by one, in their order. A copy has a front of its own.
 #[derive(Clone, Copy)]

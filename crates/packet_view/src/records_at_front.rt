@@ -7,7 +7,7 @@ ghost use Rattle.packet_view.specs.RecordLists.{front_record};
 ghost use Rattle.packet_view.specs.inner.RecordSteps.{part_of};
 
 use crate::capture::{Order, Piece, next_record, u32_in};
-use crate::capture_records::Records;
+use crate::packets_of_records::Records;
 
 /// Why no more whole records stand at the front.
 #[derive(Clone, Copy, Debug)]
@@ -36,7 +36,7 @@ fn rest_if_len(rest: &[u8], order: Order, predicted_len: usize) -> Option<&[u8]>
     requires { predicted_len ≤ 262144 }
     ensures { IfSome result (λ behind. part_of order rest.now ≡ Record (front_record order rest.now) behind.now) }
 {
-    if rest.len() < 16 || rest.len() - 16 < predicted_len {
+    if rest.len() < 16 + predicted_len {
         return None;
     }
     if u32_in(order, &rest[8..]) as usize != predicted_len {

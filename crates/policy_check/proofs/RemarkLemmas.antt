@@ -12,8 +12,8 @@ use Rattle.acl_policy.specs.Rules.{rule_facts}
 use Rattle.acl_policy.proofs.RulingLemmas.{slice_get-rule_facts}
 use Rattle.policy_check.specs.Remarks.{IsRemark, IsRuleRemark, IsSectionRemark}
 use Rattle.policy_check.specs.inner.Added.{Adds}
-use Rattle.policy_check.specs.declared.remark.Remark.{Remark}
-use Rattle.policy_check.specs.declared.remark.Remark.TheVariants.{NoMac, NoRule}
+use Rattle.policy_check.specs.declared.remark_kinds.Remark.{Remark}
+use Rattle.policy_check.specs.declared.remark_kinds.Remark.TheVariants.{NoMac, NoRule}
 
 -- what a place of a list of rules says
 pub rule_there : (rules : List Rule) (i : ℕ) (rule : Rule) → i < length rules → rule ≡ get_or rules i rule → slice_get (map rule_facts rules) i ≡ Some (rule_facts rule)

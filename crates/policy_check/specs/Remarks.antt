@@ -7,8 +7,8 @@ use Rattle.acl_policy.specs.Matching.{Matches}
 use Rattle.acl_policy.specs.Policies.{PolicyFacts, SectionFacts, rules_of}
 use Rattle.acl_policy.specs.Rules.{RuleFacts}
 use Rattle.policy_words.specs.Widths.{width}
-use Rattle.policy_check.specs.declared.remark.Remark.{Remark}
-use Rattle.policy_check.specs.declared.remark.Remark.TheVariants.{NoMac, NoRule, Shadowed, SourceBits, DestBits}
+use Rattle.policy_check.specs.declared.remark_kinds.Remark.{Remark}
+use Rattle.policy_check.specs.declared.remark_kinds.Remark.TheVariants.{NoMac, NoRule, Shadowed, SourceBits, DestBits}
 
 -- Each packet that the later rule matches is matched by the earlier one.
 abbrev pub TakesAll : RuleFacts → RuleFacts → Type 0

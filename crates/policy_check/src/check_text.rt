@@ -4,8 +4,8 @@ ghost use Rattle.acl_policy.specs.Policies.{IsPolicyText, PolicyFacts};
 
 use crate::complaint::{Checked, Complaint};
 use crate::policy_checking::check_policy;
-use crate::remark::Remark;
-use crate::remarks::remarks_on;
+use crate::remark_kinds::Remark;
+use crate::remarks_on_policy::remarks_on;
 use acl_policy::Policy;
 use std::alloc::{AllocError, Global};
 

@@ -5,7 +5,7 @@ ghost use Rattle.policy_words.specs.Words.{words_of};
 ghost use Rattle.policy_check.specs.Reasons.{IsPartReason, IsTrafficReason};
 
 use crate::finding::{Finding, of};
-use crate::protocol_parts::{after_both, after_flags};
+use crate::ports_and_flags::{after_both, after_flags};
 use crate::reason::Reason;
 use crate::word_readers::{next, protocol};
 use acl_policy::icmp_number;
@@ -15,7 +15,7 @@ const TCP: u8 = 6;
 
 const UDP: u8 = 17;
 
-// A word that is left.
+// What is the matter with a word that is left behind a rule's protocol and its parts.
 fn left(text: &[u8], reason: Reason) -> Result<(), Finding<'_>>
     ensures reason { IfErr result (λ found. found.reason ≡ reason) }
     ensures word { IfErr result (λ found. (rest : List (List ℕ)) × (words_of text.now ≡ found.word.now ∷ rest)) }
@@ -26,6 +26,7 @@ fn left(text: &[u8], reason: Reason) -> Result<(), Finding<'_>>
     }
 }
 
+// What is the matter with the parts of a rule for TCP.
 fn tcp_parts(text: &[u8]) -> Result<(), Finding<'_>>
     ensures { IfErr result (λ found. IsPartReason OfTcp (words_of text.now) found.reason found.word.now) }
 {
@@ -38,6 +39,7 @@ fn tcp_parts(text: &[u8]) -> Result<(), Finding<'_>>
     }
 }
 
+// The same for UDP.
 fn udp_parts(text: &[u8]) -> Result<(), Finding<'_>>
     ensures { IfErr result (λ found. IsPartReason OfUdp (words_of text.now) found.reason found.word.now) }
 {
@@ -47,6 +49,7 @@ fn udp_parts(text: &[u8]) -> Result<(), Finding<'_>>
     }
 }
 
+// The same for ICMP.
 fn icmp_parts(text: &[u8]) -> Result<(), Finding<'_>>
     ensures { IfErr result (λ found. IsPartReason OfIcmp (words_of text.now) found.reason found.word.now) }
 {
@@ -56,6 +59,7 @@ fn icmp_parts(text: &[u8]) -> Result<(), Finding<'_>>
     }
 }
 
+// What is the matter with the parts of a rule for this protocol.
 fn parts(family: Family, proto: u8, text: &[u8]) -> Result<(), Finding<'_>>
     ensures { IfErr result (λ found. IsPartReason (parts_of family proto) (words_of text.now) found.reason found.word.now) }
 {

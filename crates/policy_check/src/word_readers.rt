@@ -32,30 +32,35 @@ pub fn cut(word: &[u8], byte: u8) -> Option<(&[u8], &[u8])>
     acl_policy::cut_at(word, byte)
 }
 
+/// The direction that a word says.
 pub fn direction(word: &[u8]) -> Option<Direction>
     ensures { Reads result (λ d. word.now ≡ direction_word d) }
 {
     acl_policy::direction_of(word)
 }
 
+/// The action that a word says.
 pub fn action(word: &[u8]) -> Option<Action>
     ensures { Reads result (λ a. word.now ≡ action_word a) }
 {
     acl_policy::action_of(word)
 }
 
+/// The family that a word says.
 pub fn family(word: &[u8]) -> Option<Family>
     ensures { Reads result (λ f. word.now ≡ family_word f) }
 {
     acl_policy::family_of(word)
 }
 
+/// The prefix that a word says.
 pub fn prefix(family: Family, word: &[u8]) -> Option<(u128, u8)>
     ensures { Reads result (IsPrefix family word.now) }
 {
     acl_policy::prefix_of(family, word)
 }
 
+/// The address that a word says.
 pub fn address(family: Family, word: &[u8]) -> Option<u128>
     ensures value { Reads result (IsAddress family word.now) }
     ensures fits { IfSome result (λ address. address < address_limit family) }
@@ -63,36 +68,42 @@ pub fn address(family: Family, word: &[u8]) -> Option<u128>
     acl_policy::address_of(family, word)
 }
 
+/// The number that a word says.
 pub fn number(word: &[u8]) -> Option<u32>
     ensures { Reads result (IsNumber word.now) }
 {
     acl_policy::number_of(word)
 }
 
+/// The protocol that a word says.
 pub fn protocol(family: Family, word: &[u8]) -> Option<u8>
     ensures { Reads result (IsProtocol family word.now) }
 {
     acl_policy::protocol_of(family, word)
 }
 
+/// The range that a word says.
 pub fn range(word: &[u8], most: u16) -> Option<(u16, u16)>
     ensures { Reads result (IsRange most word.now) }
 {
     acl_policy::range_of(word, most)
 }
 
+/// The flags and their mask that a word says.
 pub fn flags(word: &[u8]) -> Option<(u8, u8)>
     ensures { Reads result (IsFlags word.now) }
 {
     acl_policy::flags_of_word(word)
 }
 
+/// The MAC address that a word says.
 pub fn mac(word: &[u8]) -> Option<Mac>
     ensures { Reads result (IsMac word.now) }
 {
     acl_policy::mac_of(word)
 }
 
+/// The number of an interface that a word says.
 pub fn interface(word: &[u8]) -> Option<u8>
     ensures { Reads result (IsInterface word.now) }
 {

@@ -49,7 +49,7 @@ pub fn flags_of_word(word: &[u8]) -> Option<(u8, u8)>
     Some((value, mask))
 }
 
-/// The text after a name. `None`: the first word is another, or there is none.
+/// The text after a name before a range or flags. `None`: the first word is another, or there is none.
 #[tactic(auto, unfolding(crate::specs::inner::Reading::Traffic::after_in))]
 fn after_name<'a>(text: &'a [u8], name: &[u8]) -> Option<&'a [u8]>
     ensures { option_map (λ rest. words_of rest.now) result ≡ after_in name.now (words_of text.now) }

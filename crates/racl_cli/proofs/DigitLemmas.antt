@@ -13,7 +13,7 @@ use Rattle.packet_view.proofs.CaptureLemmas.{fault_of_header}
 use Rattle.packet_view.proofs.FrontLemmas.{behind_header_appended, head_appended, header_appended}
 use Rattle.racl_io.specs.declared.fault.Fault.{Fault}
 use Rattle.racl_io.specs.declared.fault.Fault.TheVariants.{LongRecord, Memory, Read, TooLarge}
-use Rattle.racl_io.specs.declared.input.Form.TheVariants.{Hexadecimal}
+use Rattle.racl_io.specs.declared.marker_line.Form.TheVariants.{Hexadecimal}
 use Rattle.racl_io.specs.Faults.{IsFaultOfOne}
 use Rattle.racl_io.specs.Inputs.{IsContent, digits_of, most_bytes}
 use Rattle.racl_io.specs.Transfers.{failures_after_reads}

@@ -15,8 +15,8 @@ use Rattle.acl_policy.specs.Policies.{PolicyFacts, policy_facts}
 use Rattle.racl_options.specs.declared.settings.Options.{Options}
 use Rattle.racl_io.specs.declared.fault.Fault.{Fault}
 use Rattle.racl_io.specs.declared.fault.Fault.TheVariants.{Memory, Read, TooLarge, LongRecord}
-use Rattle.racl_io.specs.declared.input.Form.{Form}
-use Rattle.racl_io.specs.declared.input.Form.TheVariants.{Binary, Hexadecimal, Numbered}
+use Rattle.racl_io.specs.declared.marker_line.Form.{Form}
+use Rattle.racl_io.specs.declared.marker_line.Form.TheVariants.{Binary, Hexadecimal, Numbered}
 use Rattle.racl_io.specs.Faults.{capture_fault}
 use Rattle.racl_io.specs.Inputs.{InputFacts, IsContent, IsInput, IsMarked, digits_of, is_blank, most_bytes}
 use Rattle.capture_stream.specs.Streams.{HasLongRecord, IsStreamFault, records_in}

@@ -25,17 +25,17 @@ use Rattle.racl_options.specs.declared.settings.Options.{Options}
 use Rattle.racl_options.specs.declared.settings.TableSize.{TableSize}
 use Rattle.racl_io.specs.declared.fault.Fault.{Fault}
 use Rattle.racl_io.specs.declared.fault.Fault.TheVariants.{Memory, NoCapture, Write}
-use Rattle.racl_io.specs.declared.report.Totals.{Totals}
+use Rattle.racl_io.specs.declared.whole_report.Totals.{Totals}
 use Rattle.racl_io.specs.Faults.{IsFaultOfBytes, IsFaultOfContent, IsSystemFault, capture_fault, policy_fault}
 use Rattle.racl_io.specs.Inputs.{IsContent, IsInput, InputFacts, most_bytes}
 use Rattle.racl_cli.specs.Crews.{AreAfter, AreIdleOf, AreSaidBy, Orders, orders_for, size_of, views_with}
 use Rattle.capture_stream.specs.Streams.{AreAllRead, records_in}
 use Rattle.capture_stream.specs.declared.stream_judging.Opening.{Opening}
 use Rattle.flow_dealing.specs.WorkerRecords.{HavePages}
-use Rattle.racl_cli.specs.declared.judged_input.Ended.{Ended}
+use Rattle.racl_cli.specs.declared.ended_workers.Ended.{Ended}
 use Rattle.racl_cli.specs.declared.sized_tables_and_workers.SizedTables.{SizedTables}
 use Rattle.racl_cli.specs.declared.sized_tables_and_workers.SizedWorkers.{SizedWorkers}
-use Rattle.racl_cli.specs.Reads.{AnswersInput, AreKnown, HasJudged, HasKept, IsReached, IsSaid}
+use Rattle.racl_cli.specs.Reads.{AnswersInput, AreKnown, HasJudged, IsOutcomeOfAll, IsReached, IsSaid}
 use Rattle.racl_cli.specs.inner.Stored.{HasStored}
 use Rattle.racl_cli.specs.inner.Streams.{HasEnded}
 use Rattle.racl_report.specs.WrittenReports.{HasReport, MayTell, needs_bytes}
@@ -245,15 +245,15 @@ pub kept_told : (old new : Option (List ℕ)) (options : Options) (bytes kept : 
     → Tells old new options bytes judged result → Tells old new options kept judged result
 kept_told old new options bytes kept judged result same tells = subst (λ (b : List ℕ). Tells old new options b judged result) same tells
 
-module _ (old new : Option (List ℕ)) (options : Options) (given : Option (List ℕ)) (keep : Bool) (kept : List ℕ) (judged : JudgedFacts) (result : Result Totals Fault)
-    (k : HasKept options given keep kept judged) (needed : needs_bytes options ≡ true → keep ≡ true) (tells : Tells old new options kept judged result) where
+module _ (old new : Option (List ℕ)) (options : Options) (given : Option (List ℕ)) (kept : List ℕ) (judged : JudgedFacts) (result : Result Totals Fault)
+    (k : IsOutcomeOfAll options given judged) (same : needs_bytes options ≡ true → kept ≡ k.bytes) (tells : Tells old new options kept judged result) where
   -- a run on the input, whose outcome is this one
   abbrev pub RunsOn : Option (List ℕ) → Totals → Type 0
   RunsOn known totals = (run : HasRun options known old new totals) × (run.outcome ≡ judged.outcome) × (run.bytes ≡ k.bytes)
 
   run_on : (policy : PolicyFacts) (packets : List PacketFacts) (read : IsRead k.bytes policy packets judged.outcome.captures)
       → IsReached options policy packets judged.outcome.captures judged → (known : Option (List ℕ)) → AreKnown known k.bytes → IfOk result (RunsOn known)
-  run_on policy packets read reached known is = go result (tells k.bytes policy packets (λ asked. k.same (needed asked)) read)
+  run_on policy packets read reached known is = go result (tells k.bytes policy packets same read)
     where
       go : (r : Result Totals Fault) → IfOk r (HasReport options k.bytes policy packets judged old new) → IfOk r (RunsOn known)
       go (Ok totals) w = (
@@ -306,13 +306,13 @@ module _ (old new : Option (List ℕ)) (options : Options) (given : Option (List
       reached : IsReached options has.policy has.packets judged.outcome.captures judged
       reached = record { by_workers = met.by_workers; kept = met.kept; by_one_thread = met.by_one_thread; told = refl }
 
-      same : HavePages judged.outcome.verdicts → one_thread ≡ judged.outcome
-      same paged =
+      one : HavePages judged.outcome.verdicts → one_thread ≡ judged.outcome
+      one paged =
           let verdicts = one_verdicts (layout_for options.tables) options.times has.policy has.packets one_thread.verdicts judged.outcome.verdicts has.verdicts (met.by_one_thread paged) in
           ap₂ outcome_of verdicts (sym met.told)
 
       go : (r : Result Totals Fault) → IfOk r (RunsOn (Some k.bytes)) → IfErr r (λ e. (e ≡ Memory) ⊎ (e ≡ Write))
           → MatchResult r (Reported one_thread) IsSystemFault
-      go (Ok totals) is fault = (is.0, λ paged. same (subst (λ (o : Outcome). HavePages o.verdicts) is.1 paged) ∙ sym is.1)
+      go (Ok totals) is fault = (is.0, λ paged. one (subst (λ (o : Outcome). HavePages o.verdicts) is.1 paged) ∙ sym is.1)
       go (Err e) is (inl memory) = subst IsSystemFault (sym memory) tt
       go (Err e) is (inr write) = subst IsSystemFault (sym write) tt

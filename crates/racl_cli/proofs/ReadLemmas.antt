@@ -12,7 +12,7 @@ use Rattle.racl_io.specs.Faults.{IsInputFault, IsSystemFault}
 use Rattle.racl_io.specs.Transfers.{GaveAtMost, HasRead, HasReadWithin, failures_after_reads}
 use Rattle.racl_io.proofs.TransferLemmas.{gave_more}
 use Rattle.racl_io.specs.Inputs.{most_bytes}
-use Rattle.racl_cli.specs.Reads.{AnswersInput, AnswersRead, AreKnown, HasKept, HasRest, IsUnread}
+use Rattle.racl_cli.specs.Reads.{AnswersInput, AnswersRead, AreKnown, HasKept, HasRest, IsOutcomeOfAll, IsUnread}
 use Rattle.racl_cli.specs.Runs.{HasOutcome}
 use Rattle.racl_report.specs.RunReports.{JudgedFacts, Outcome}
 use Rattle.racl_cli.proofs.RunLemmas.{IsWhole, device_or, excluded_by_input, fault_of_input, no_device, steady}
@@ -184,27 +184,24 @@ known_as : (given : Option (List ℕ)) (bytes kept : List ℕ) → AreKnown give
 known_as None bytes kept known same = tt
 known_as (Some all) bytes kept known same = same ∙ known
 
--- where nothing is to be kept
-pub kept_none : (options : Options) (given : Option (List ℕ)) (keep : Bool) (kept : List ℕ) (result : Result JudgedFacts Fault) → keep ≡ false
-    → AnswersRead options [] given result → IfOk result (HasKept options given keep kept)
-kept_none options given keep kept (Ok outcome) off answers =
+-- where nothing is kept
+pub all_judged : (options : Options) (given : Option (List ℕ)) (result : Result JudgedFacts Fault) → AnswersRead options [] given result
+    → IfOk result (IsOutcomeOfAll options given)
+all_judged options given (Ok outcome) answers =
     let r = outcome_read options given outcome answers in
-    record { bytes = r.bytes; known = r.whole.whole; few = r.whole.few; answers = r.answers; same = λ on. absurd (let f : false ≡ true = sym off ∙ on in cc) }
-kept_none options given keep kept (Err fault) off answers = tt
+    record { bytes = r.bytes; known = r.whole.whole; few = r.whole.few; answers = r.answers }
+all_judged options given (Err fault) answers = tt
 
 -- what was kept is all
-pub kept_all : (options : Options) (given : Option (List ℕ)) (keep : Bool) (kept : List ℕ) (result : Result JudgedFacts Fault) → AreKnown given kept
-    → AnswersRead options [] (Some kept) result → IfOk result (HasKept options given keep kept)
-kept_all options given keep kept (Ok outcome) known answers =
+pub kept_all : (options : Options) (given : Option (List ℕ)) (kept : List ℕ) (result : Result JudgedFacts Fault) → AreKnown given kept
+    → AnswersRead options [] (Some kept) result → IfOk result (HasKept options given kept)
+kept_all options given kept (Ok outcome) known answers =
     let r = outcome_read options (Some kept) outcome answers in
     record {
-      bytes = r.bytes;
-      known = known_as given r.bytes kept known r.whole.whole;
-      few = r.whole.few;
-      answers = r.answers;
-      same = λ on. sym r.whole.whole;
+      all = record { bytes = r.bytes; known = known_as given r.bytes kept known r.whole.whole; few = r.whole.few; answers = r.answers };
+      same = sym r.whole.whole;
     }
-kept_all options given keep kept (Err fault) known answers = tt
+kept_all options given kept (Err fault) known answers = tt
 
 -- and is answered as the source's bytes are
 pub answers_again : (options : Options) (given : Option (List ℕ)) (kept : List ℕ) (result : Result JudgedFacts Fault) → AreKnown given kept

@@ -5,9 +5,9 @@ use Rattle.acl_policy.specs.declared.policy.PolicyFault.{PolicyFault}
 use Rattle.acl_policy.specs.declared.policy.PolicyFault.TheVariants as policy
 use Rattle.racl_io.specs.declared.fault.Fault.{Fault}
 use Rattle.racl_io.specs.declared.fault.Fault.TheVariants.{Memory, Read, TooLarge, NoCapture, NotUtf8, BadLine, TooMany, Twice, Hex, Short, Magic, Version, LinkType, LongRecord, Write}
-use Rattle.racl_io.specs.declared.input.Form.{Form}
+use Rattle.racl_io.specs.declared.marker_line.Form.{Form}
 use Rattle.racl_io.specs.Faults.{IsSystemFault, IsFaultOfBytes, IsFaultOfCaptures, IsFaultOfContent, IsFaultOfOne, IsFaultOfParts, IsInputFault, capture_fault, policy_fault}
-use Rattle.racl_io.specs.declared.input.Form.TheVariants.{Binary, Hexadecimal, Numbered}
+use Rattle.racl_io.specs.declared.marker_line.Form.TheVariants.{Binary, Hexadecimal, Numbered}
 use Rattle.racl_io.specs.Inputs.{DigitsFacts, IsInput, InputFacts, most_bytes}
 use Rattle.racl_io.specs.Transfers.{HasReadWithin, failures_after_reads}
 use Rattle.racl_io.proofs.InputLemmas.{one_input}

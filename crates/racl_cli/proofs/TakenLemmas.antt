@@ -9,17 +9,17 @@ use Rattle.acl_policy.specs.Policies.{IsAmong, policy_facts}
 use Rattle.racl_options.specs.declared.settings.Options.{Options}
 use Rattle.racl_io.specs.declared.fault.Fault.{Fault}
 use Rattle.racl_io.specs.declared.fault.Fault.TheVariants.{Memory, Twice}
-use Rattle.racl_io.specs.declared.input.Form.{Form}
-use Rattle.racl_io.specs.declared.input.Form.TheVariants.{Hexadecimal, Numbered}
-use Rattle.racl_io.specs.declared.input.Numbered as mark
-use Rattle.racl_io.specs.declared.report.Captured.{Captured}
+use Rattle.racl_io.specs.declared.marker_line.Form.{Form}
+use Rattle.racl_io.specs.declared.marker_line.Form.TheVariants.{Hexadecimal, Numbered}
+use Rattle.racl_io.specs.declared.marker_line.Numbered as mark
+use Rattle.racl_io.specs.declared.whole_report.Captured.{Captured}
 use Rattle.racl_io.specs.Faults.{IsFaultOfBytes, IsFaultOfContent, IsFaultOfOne, IsRight}
 use Rattle.racl_io.specs.Inputs.{AreCaptures, DigitsFacts, IsContent, AreCutDigits, IsMarked, NumberedFacts, most_bytes, numbered_facts}
 use Rattle.racl_io.specs.Reports.{packets_in}
 use Rattle.racl_io.proofs.PartingLemmas.{some_captures}
 use Rattle.capture_stream.specs.declared.stream_judging.Streamed.{Streamed}
 use Rattle.racl_cli.specs.declared.digit_captures_in_turn.Walk.{Walk}
-use Rattle.racl_cli.specs.declared.judged_input.Ended.{Ended}
+use Rattle.racl_cli.specs.declared.ended_workers.Ended.{Ended}
 use Rattle.racl_cli.specs.declared.sized_tables_and_workers.SizedWorkers.{SizedWorkers}
 use Rattle.racl_cli.specs.declared.workers_as_judges.Crew.{Crew}
 use Rattle.racl_cli.specs.inner.Streams.{HasEnded}

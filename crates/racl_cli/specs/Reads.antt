@@ -11,8 +11,8 @@ use Rattle.flow_dealing.specs.WorkerRecords.{HavePages}
 use Rattle.racl_options.specs.declared.settings.Options.{Options}
 use Rattle.racl_io.specs.declared.fault.Fault.{Fault}
 use Rattle.racl_io.specs.declared.fault.Fault.TheVariants.{Memory, Read, TooLarge}
-use Rattle.racl_io.specs.declared.input.Form.TheVariants.{Binary}
-use Rattle.racl_io.specs.declared.report.Captured.{Captured}
+use Rattle.racl_io.specs.declared.marker_line.Form.TheVariants.{Binary}
+use Rattle.racl_io.specs.declared.whole_report.Captured.{Captured}
 use Rattle.racl_io.specs.Faults.{IsFaultOfBytes, Refuses}
 use Rattle.racl_io.specs.Inputs.{IsInput, InputFacts, most_bytes}
 use Rattle.capture_stream.specs.Streams.{AreAllRead, records_in}
@@ -56,13 +56,17 @@ pub record AnswersInput (options : Options) (bytes : List ℕ) (result : Result 
 abbrev pub AreKnown : Option (List ℕ) → List ℕ → Type 0
 AreKnown given bytes = IfSome given (λ known. bytes ≡ known)
 
--- this is the outcome of all bytes that the source had, which are kept where that is asked for
-pub record HasKept (options : Options) (given : Option (List ℕ)) (keep : Bool) (kept : List ℕ) (judged : JudgedFacts) : Type 0 where
+-- this is the outcome of all bytes that the source had
+pub record IsOutcomeOfAll (options : Options) (given : Option (List ℕ)) (judged : JudgedFacts) : Type 0 where
   pub bytes : List ℕ
   pub known : AreKnown given bytes
   pub few : length bytes ≤ most_bytes
   pub answers : AnswersInput options bytes (Ok judged)
-  pub same : keep ≡ true → kept ≡ bytes
+
+-- and these are kept
+pub record HasKept (options : Options) (given : Option (List ℕ)) (kept : List ℕ) (judged : JudgedFacts) : Type 0 where
+  pub all : IsOutcomeOfAll options given judged
+  pub same : kept ≡ all.bytes
 
 -- memory ran out, reading failed, or there are too many bytes after so many
 abbrev pub IsUnread : ℕ → Option (List ℕ) → Fault → Type 0

@@ -3,17 +3,17 @@ ghost use Rattle.std.specs.Prelude.{◌≡◌, ◌≤◌, ◌==◌, ◌⊎◌, [
 ghost use Rattle.std.specs.List.{list_any};
 ghost use Rattle.acl_policy.specs.Policies.{policy_facts};
 ghost use Rattle.racl_io.specs.declared.fault.Fault.TheVariants.{Memory};
-ghost use Rattle.racl_io.specs.declared.input.Form.TheVariants.{Hexadecimal};
+ghost use Rattle.racl_io.specs.declared.marker_line.Form.TheVariants.{Hexadecimal};
 ghost use Rattle.racl_io.specs.Faults.{IsFaultOfContent, IsFaultOfOne};
 ghost use Rattle.racl_io.specs.Inputs.{most_bytes};
 ghost use Rattle.racl_cli.specs.Reads.{AnswersInput, HasMarked};
 ghost use Rattle.racl_cli.specs.inner.Captures.{CanJudge, CanTake, HasTaken, HasTakenAll, HaveJudgedDigits, HaveTakenDigits, IsFaultAt, IsFaultOfWalk, MayTake, MayTakeDigits};
 ghost use Rattle.racl_cli.specs.inner.Plans.{HasReached, MayJudgeContent};
 
+use crate::capture_header_reading::read_header;
+use crate::ended_workers::Ended;
 use crate::input_front::Marked;
-use crate::judge_records::{Plan, end_capture, plan_for, threads_beside, window_size};
-use crate::judged_input::Ended;
-use crate::live_run::read_header;
+use crate::judge_by_plan::{Plan, end_capture, plan_for, threads_beside, window_size};
 use crate::sized_tables_and_workers::{SizedWorkers, create_sized};
 use crate::stored_sessions::with_stored;
 use crate::workers_as_judges::Crew;

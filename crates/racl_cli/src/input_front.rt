@@ -4,7 +4,7 @@ ghost use Rattle.racl_io.specs.Inputs.{most_bytes};
 ghost use Rattle.racl_io.specs.Transfers.{HasReadWithin};
 ghost use Rattle.racl_cli.specs.Reads.{AnswersInput, AnswersRead, HasFront, HasOpened, HasRest, IsUnread};
 
-use crate::judge_records::front_bytes;
+use crate::judge_by_plan::front_bytes;
 use acl_policy::read_policy;
 use flow_workers::Filter;
 use packet_view::{Order, capture_header};

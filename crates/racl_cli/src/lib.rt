@@ -3,20 +3,22 @@
 #![tactic(auto)]
 
 mod bytes_at_hand;
+mod capture_header_reading;
 mod digit_captures_in_turn;
-mod end_to_end;
+mod ended_workers;
 mod input_front;
-mod judge_records;
-mod judged_input;
+mod judge_by_plan;
 mod live_run;
+mod open_gate;
 mod run_laws;
+mod runs_end_to_end;
 mod sized_tables_and_workers;
 mod stored_sessions;
 mod workers_as_judges;
 
-pub use end_to_end::{run, run_saving};
 pub use live_run::run_live;
 pub use racl_io::{Device, DeviceFault, Fault, Sink, Source, Totals};
 pub use racl_options::{Lines, Options, TableSize};
 pub use racl_report::{remark, status};
 pub use run_laws::{each_input_has_one_outcome, told_sessions_are_those_of_one_thread};
+pub use runs_end_to_end::{run, run_saving};

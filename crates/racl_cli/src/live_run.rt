@@ -5,14 +5,15 @@ ghost use Rattle.capture_stream.specs.Lives.{HasToldAll, IsLiveFault, with_read,
 ghost use Rattle.racl_cli.specs.LiveRuns.{ByOneWorker, HasRunLive, IsLiveRunFault};
 ghost use Rattle.racl_cli.specs.inner.Heads.{HasReadHeader, IsHeadless};
 
+use crate::capture_header_reading::read_header;
 use crate::sized_tables_and_workers::{SizedWorkers, create_sized};
 use crate::workers_as_judges::Lone;
 use acl_policy::read_policy;
 use capture_stream::tell_live;
 use flow_filter::InterfaceFilters;
 use flow_workers::Filter;
-use packet_view::{Order, capture_header};
-use racl_io::{Fault, Sink, Source, Totals, read_until};
+use packet_view::Order;
+use racl_io::{Fault, Sink, Source, Totals};
 use racl_options::Options;
 use std::alloc::Global;
 use std::sync::Wait;
@@ -20,27 +21,11 @@ use std::sync::Wait;
 /// For how many packets rules are prepared.
 const EXPECTED: usize = 16_777_216;
 
-/// How many bytes the header of a capture has.
-const HEADER_BYTES: usize = 24;
-
 /// What stands before the records of a capture: rules that are ready, and the order of its numbers.
 #[derive(Clone, Copy)]
 pub struct LiveHead<'t, 'f> {
     pub filter: &'t InterfaceFilters<'f>,
     pub order: Order,
-}
-
-/// The header of a capture is read.
-pub fn read_header<R: Source>(alloc: Global, reader: &mut R) -> Result<Order, Fault>
-    requires { R.failures reader.old < 2 ^ 64 - 1 }
-    ensures header { MatchResult result (HasReadHeader (R.bytes reader.old) (R.bytes reader.new)) (IsHeadless (R.bytes reader.old) (R.bytes reader.new)) }
-    ensures read { MatchResult result (λ _. R.failures reader.new ≡ R.failures reader.old) (λ fault. R.failures reader.new ≡ with_read (R.failures reader.old) fault) }
-{
-    let mut header = Vec::new(alloc);
-    match read_until(reader, &mut header, HEADER_BYTES) {
-        Ok(_) => Ok(capture_header(&header)?),
-        Err(fault) => Err(fault),
-    }
 }
 
 // The packets of the capture behind its header are told by one worker.

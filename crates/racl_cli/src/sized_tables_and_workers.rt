@@ -6,9 +6,10 @@ ghost use Rattle.racl_cli.specs.Crews.{AreAfter, AreFirstOf, AreIdleOf, HasFollo
 ghost use Rattle.racl_cli.specs.Crews.{orders_for, size_of, views_with};
 ghost use Rattle.racl_cli.specs.Runs.{AreStoredOf, layout_for};
 
+use crate::open_gate::OpenGate;
 use bihash_words::{Shape, ShapeV4, ShapeV6, flow_shapes_are_sound};
 use flow_filter::{InterfaceFilters, Verdict};
-use flow_workers::{Callers, Dealing, Gate, Setup, Tables, Workers, close_tables, create_tables};
+use flow_workers::{Callers, Dealing, Setup, Tables, Workers, close_tables, create_tables};
 use large_shapes::{LargeV4, LargeV6, large_shapes_are_sound};
 use packet_view::Packets;
 use racl_options::TableSize;
@@ -18,15 +19,6 @@ use std::sync::Wait;
 
 /// From how many packets of a window on each worker judges them in a thread of its own.
 pub const MANY_PACKETS: usize = 65_536;
-
-/// Nothing waits before or after a packet is judged.
-pub struct OpenGate;
-
-impl Gate for OpenGate {
-    fn before(&self, _worker: usize, _packet: usize) {}
-
-    fn after(&self, _worker: usize, _packet: usize) {}
-}
 
 // What so many workers share, who judge by this filter over these tables. Packets are dealt by bucket.
 fn setup_of<'t, 'f, A: Shape, B: Shape, T: Wait>(

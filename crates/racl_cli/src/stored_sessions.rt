@@ -7,7 +7,7 @@ ghost use Rattle.racl_cli.specs.Runs;
 ghost use Rattle.racl_cli.specs.Runs.{AreStoredOf, layout_for};
 ghost use Rattle.racl_cli.specs.inner.Stored.{HasStored};
 
-use crate::judged_input::Ended;
+use crate::ended_workers::Ended;
 use crate::sized_tables_and_workers::{SizedCallers, SizedTables, close_sized};
 use racl_io::Fault;
 use racl_options::Options;

@@ -10,7 +10,7 @@ use Rattle.packet_view.proofs.ReadingLemmas.{one_fault, some_reading}
 use Rattle.acl_policy.specs.Policies.{IsAmong}
 use Rattle.racl_io.specs.declared.fault.Fault.{Fault}
 use Rattle.racl_io.specs.declared.fault.Fault.TheVariants.{Hex, Twice}
-use Rattle.racl_io.specs.declared.input.Form.TheVariants.{Hexadecimal}
+use Rattle.racl_io.specs.declared.marker_line.Form.TheVariants.{Hexadecimal}
 use Rattle.racl_io.specs.Faults.{IsFaultOfCaptures, IsFaultOfOne, IsRight, capture_fault}
 use Rattle.racl_io.specs.Inputs.{DigitsFacts, IsContent, digits_of}
 

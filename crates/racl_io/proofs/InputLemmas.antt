@@ -2,10 +2,10 @@
 use Rattle.std.proofs.Common.{◌≡◌, ◌≢◌, codes, IfSome, IfNone, ◌∙◌, ℕ, ◌==◌, ◌<◌, ◌+◌, List, [], ◌∷◌, ◌++◌, Option, None, Some, MatchOption, drop, length, length-append, refl, sym, ap, ap₂, subst, inl, inr, append_assoc, arith, lit≤}
 use Rattle.std.proofs.lemmas.Bool.{both_ways, eq-eqb}
 use Rattle.std.specs.List.{AllByRecursion}
-use Rattle.racl_io.specs.declared.input.Form.{Form}
-use Rattle.racl_io.specs.declared.input.Form.TheVariants.{Binary, Hexadecimal, Numbered}
-use Rattle.racl_io.specs.declared.input.Marks.{Marks}
-use Rattle.racl_io.specs.declared.input.Marks.TheVariants.{Every, Numbers}
+use Rattle.racl_io.specs.declared.marker_line.Form.{Form}
+use Rattle.racl_io.specs.declared.marker_line.Form.TheVariants.{Binary, Hexadecimal, Numbered}
+use Rattle.racl_io.specs.declared.marker_line.Marks.{Marks}
+use Rattle.racl_io.specs.declared.marker_line.Marks.TheVariants.{Every, Numbers}
 use Rattle.racl_io.specs.Inputs.{AreCaptures, Counts, DigitsFacts, InputFacts, AreCutDigits, IsFirstLine, IsInput, IsMarked, IsMarker, IsParted, IsPlainLine, IsWord, HasNoFeed, NumberedFacts, joined}
 use Rattle.policy_words.specs.inner.Reading.Numerals.{octet_in}
 use Rattle.policy_words.proofs.NumeralLaws.{Lacks, octet_in-complete, octet_in-sound}

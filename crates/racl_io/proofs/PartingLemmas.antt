@@ -3,10 +3,10 @@
 use Rattle.std.proofs.Common.{◌≡◌, ◌∙◌, ◌<◌, ◌⊎◌, ℕ, zero, suc, codes, List, [], ◌∷◌, ◌++◌, Option, None, Some, drop, take, take-append-drop, length, length-append, refl, sym, ap, ap₂, subst, inl, inr, arith}
 use Rattle.std.proofs.lemmas.Bool.{cases_eq}
 use Rattle.policy_words.specs.inner.Reading.Numerals.{octet_in}
-use Rattle.racl_io.specs.declared.input.Form.{Form}
-use Rattle.racl_io.specs.declared.input.Form.TheVariants.{Binary, Hexadecimal, Numbered}
-use Rattle.racl_io.specs.declared.input.Marks.{Marks}
-use Rattle.racl_io.specs.declared.input.Marks.TheVariants.{Every, Numbers}
+use Rattle.racl_io.specs.declared.marker_line.Form.{Form}
+use Rattle.racl_io.specs.declared.marker_line.Form.TheVariants.{Binary, Hexadecimal, Numbered}
+use Rattle.racl_io.specs.declared.marker_line.Marks.{Marks}
+use Rattle.racl_io.specs.declared.marker_line.Marks.TheVariants.{Every, Numbers}
 use Rattle.racl_io.specs.Inputs.{IsInput, AreCaptures, Counts, DigitsFacts, HasNoFeed, InputFacts, IsFirstLine, IsMarked, IsMarker, IsParted, IsWord, NumberedFacts, joined}
 use Rattle.racl_io.proofs.InputLemmas.{IsFront, front_grows, front_of_all, interface_read, no_form, no_input, no_interface, no_number, same_front_of, shorter_behind}
 

@@ -3,12 +3,12 @@
 use Rattle.std.specs.Prelude.{◌≡◌, ◌≢◌, ◌⊎◌, ℕ, Bool, ◌||◌, ◌==◌, not, List, [], ◌∷◌, ◌++◌, codes, filter, Option, None, Some, MatchOption, option_map, Ok}
 use Rattle.std.specs.List.{AllByRecursion}
 use Rattle.hex.specs.Hex.{decode_of}
-use Rattle.racl_io.specs.declared.input.Form.{Form}
-use Rattle.racl_io.specs.declared.input.Form.TheVariants.{Binary, Hexadecimal, Numbered}
-use Rattle.racl_io.specs.declared.input.Input as code
-use Rattle.racl_io.specs.declared.input.Numbered as mark
-use Rattle.racl_io.specs.declared.input.Marks.{Marks}
-use Rattle.racl_io.specs.declared.input.Marks.TheVariants.{Every, Numbers}
+use Rattle.racl_io.specs.declared.marker_line.Form.{Form}
+use Rattle.racl_io.specs.declared.marker_line.Form.TheVariants.{Binary, Hexadecimal, Numbered}
+use Rattle.racl_io.specs.declared.marker_line.Input as code
+use Rattle.racl_io.specs.declared.marker_line.Numbered as mark
+use Rattle.racl_io.specs.declared.marker_line.Marks.{Marks}
+use Rattle.racl_io.specs.declared.marker_line.Marks.TheVariants.{Every, Numbers}
 use Rattle.policy_words.specs.Numerals.{IsOctet}
 
 -- the most bytes of an input

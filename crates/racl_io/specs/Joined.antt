@@ -2,8 +2,8 @@
 use Rattle.std.specs.Prelude.{ℕ, List, [], ◌∷◌, ◌++◌, codes, decimal, Option, Some, option_map}
 use Rattle.std.specs.Fmt.{option_append}
 use Rattle.hex.specs.Hex.{encode_lower}
-use Rattle.racl_io.specs.declared.input.Form.{Form}
-use Rattle.racl_io.specs.declared.input.Form.TheVariants.{Binary, Hexadecimal, Numbered}
+use Rattle.racl_io.specs.declared.marker_line.Form.{Form}
+use Rattle.racl_io.specs.declared.marker_line.Form.TheVariants.{Binary, Hexadecimal, Numbered}
 
 -- a line feed, which ends the line before, and the marker line of a capture in this form
 abbrev pub marker_line : Form → List ℕ

@@ -40,18 +40,21 @@ struct Marks {
 impl Marks {
     ghost use Rattle.std.specs.Prelude.{◌≡◌, ◌==◌, ◌&&◌, ◌||◌};
 
+    // Whether they are those of a modified pcap file.
     fn is_modified(self) -> bool
         ensures { result ≡ (self.magic == 0xa1b2cd34) }
     {
         self.magic == 0xa1b2_cd34
     }
 
+    // Whether they are those of a pcap file.
     fn is_pcap(self) -> bool
         ensures { result ≡ ((self.magic == 0xa1b2c3d4) || (self.magic == 0xa1b23c4d)) }
     {
         self.magic == 0xa1b2_c3d4 || self.magic == 0xa1b2_3c4d
     }
 
+    // Whether they are those of a pcap file of Linux cooked frames.
     fn is_cooked(self) -> bool
         ensures { result ≡ (((self.magic == 0xa1b2c3d4) || (self.magic == 0xa1b23c4d)) && ((self.link == 113) || (self.link == 276))) }
     {
@@ -59,6 +62,7 @@ impl Marks {
     }
 }
 
+// What tells the kind of a file, where the numbers of its header have the low byte first.
 fn little_marks(bytes: &[u8]) -> Marks
     requires { 24 ≤ length bytes.now }
     ensures magic { result.magic ≡ number_from Little 0 4 bytes.now }
@@ -70,6 +74,7 @@ fn little_marks(bytes: &[u8]) -> Marks
     }
 }
 
+// What tells the kind of a file, where the numbers of its header have the high byte first.
 fn big_marks(bytes: &[u8]) -> Marks
     requires { 24 ≤ length bytes.now }
     ensures magic { result.magic ≡ number_from Big 0 4 bytes.now }

@@ -5,9 +5,9 @@ ghost use Rattle.racl_io.specs.Joined as told;
 ghost use Rattle.racl_io.specs.Joined.{joined_bytes, marked_bytes};
 ghost use Rattle.racl_io.specs.Writings.{front_at, joined_left, marked_left};
 
-use crate::capture_encoding::Written;
 use crate::device::{Device, DeviceFault, Source};
-use crate::input::Form;
+use crate::marker_line::Form;
+use crate::reader_as_digits::Written;
 use crate::readers_in_turn::InTurn;
 use itoa::Buffer;
 use std::alloc::{AllocError, Global};

@@ -10,8 +10,8 @@ ghost use Rattle.racl_options.specs.Origins.{origin_facts};
 ghost use Rattle.racl_options.specs.Selections.{Explain, Hits, JsonLines, Live, Sessions, lines_by};
 ghost use Rattle.racl_options.specs.inner.Naming.{IsRefused, SpellOptions, values_in};
 
+use crate::matched_flags::{is_given, lines_named, saved_named, shown_named};
 use crate::named_files::{Refusal, origin_named};
-use crate::selection::{is_given, lines_named, saved_named, shown_named};
 use crate::settings::{Asked, Lines, Options, Origin, Saved, TableSize};
 use crate::table_size::size_named;
 use clap::ArgMatches;

@@ -59,6 +59,7 @@ fn after_help() -> &'static str {
   4  memory or device"
 }
 
+// The argument of `racl check` that names the file of a policy.
 fn policy_argument<'a>(alloc: Global) -> Arg<'a>
     ensures rule { rule_of result ≡ policy_rule }
     ensures plain { IsPlainArg result }

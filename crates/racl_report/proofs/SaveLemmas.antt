@@ -5,8 +5,8 @@ use Rattle.packet_view.specs.Captures.{PacketFacts, RecordFacts, end_of}
 use Rattle.acl_policy.specs.Policies.{PolicyFacts}
 use Rattle.flow_filter.specs.declared.verdict.Verdict.{Verdict}
 use Rattle.racl_io.specs.declared.fault.Fault.{Fault}
-use Rattle.racl_io.specs.declared.input.Form.TheVariants.{Binary}
-use Rattle.racl_io.specs.declared.report.Captured.{Captured}
+use Rattle.racl_io.specs.declared.marker_line.Form.TheVariants.{Binary}
+use Rattle.racl_io.specs.declared.whole_report.Captured.{Captured}
 use Rattle.racl_io.specs.Inputs.{InputFacts, IsInput}
 use Rattle.racl_io.specs.Sinks.{HasPut}
 use Rattle.racl_views.specs.ChosenRecords.{HasRecords, IsChosen}

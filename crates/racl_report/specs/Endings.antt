@@ -4,11 +4,11 @@ use Rattle.racl_io.specs.Others.{is_capture, other_of}
 use Rattle.racl_io.specs.declared.fault.Fault.{Fault}
 use Rattle.racl_io.specs.declared.fault.Fault.TheVariants.{Magic, LinkType, LongRecord, NotUtf8}
 use Rattle.racl_io.specs.declared.file_kind.Other.{Other}
-use Rattle.racl_report.specs.declared.message.Hint.{Hint}
-use Rattle.racl_report.specs.declared.message.Hint.TheVariants.{Swapped, TwoCaptures}
-use Rattle.racl_report.specs.declared.message.Message.{Message}
-use Rattle.racl_report.specs.declared.message.Message.TheVariants as message
-use Rattle.racl_io.specs.declared.report.Totals.{Totals}
+use Rattle.racl_report.specs.declared.message_texts.Hint.{Hint}
+use Rattle.racl_report.specs.declared.message_texts.Hint.TheVariants.{Swapped, TwoCaptures}
+use Rattle.racl_report.specs.declared.message_texts.Message.{Message}
+use Rattle.racl_report.specs.declared.message_texts.Message.TheVariants as message
+use Rattle.racl_io.specs.declared.whole_report.Totals.{Totals}
 
 -- nothing after a report, and the fault where there is none
 abbrev pub said_after : Result Totals Fault → Option Message

@@ -6,8 +6,8 @@ use Rattle.flow_filter.specs.declared.verdict.Verdict.{Verdict}
 use Rattle.racl_options.specs.declared.settings.Lines.{Lines}
 use Rattle.racl_options.specs.declared.settings.Lines.TheVariants.{Plain, Explained, Json}
 use Rattle.racl_options.specs.declared.settings.Options.{Options}
-use Rattle.racl_io.specs.declared.partial_report.Shown.{Shown}
-use Rattle.racl_io.specs.declared.report.Captured.{Captured}
+use Rattle.racl_io.specs.declared.shown_lines_report.Shown.{Shown}
+use Rattle.racl_io.specs.declared.whole_report.Captured.{Captured}
 use Rattle.racl_io.specs.Inputs.{IsInput, InputFacts}
 use Rattle.racl_io.specs.ShownReports.{report_shown}
 use Rattle.racl_views.specs.ExplainedLines.{IsExplained}
@@ -16,8 +16,8 @@ use Rattle.racl_views.specs.PacketObjects.{IsToldInObjects}
 use Rattle.racl_views.specs.RunEntries.{RunFacts}
 use Rattle.racl_views.specs.SessionLines.{sessions_told}
 use Rattle.racl_views.specs.Stored.{StoredFacts}
-use Rattle.racl_views.specs.declared.view.View.{View}
-use Rattle.racl_views.specs.declared.view.View.TheVariants as view
+use Rattle.racl_views.specs.declared.text_or_json.View.{View}
+use Rattle.racl_views.specs.declared.text_or_json.View.TheVariants as view
 
 -- ---- outcomes
 

@@ -2,8 +2,8 @@
 use Rattle.std.specs.Prelude.{◌≡◌, ℕ, List, [], Option, None, Some, ⊤}
 use Rattle.std.specs.Io.KnownBytes.{Appends}
 use Rattle.flow_filter.specs.declared.verdict.Verdict.{Verdict}
-use Rattle.racl_io.specs.declared.input.Form.{Form}
-use Rattle.racl_io.specs.declared.input.Form.TheVariants.{Binary, Hexadecimal, Numbered}
+use Rattle.racl_io.specs.declared.marker_line.Form.{Form}
+use Rattle.racl_io.specs.declared.marker_line.Form.TheVariants.{Binary, Hexadecimal, Numbered}
 use Rattle.racl_io.specs.Inputs.{InputFacts}
 use Rattle.racl_views.specs.ChosenRecords.{IsSaved}
 use Rattle.racl_views.specs.declared.chosen_packets.Chosen.{Chosen}

@@ -2,14 +2,15 @@
 //! ends.
 #![tactic(auto)]
 
-mod exit_messages;
+mod asked_report;
+mod captures_read_again;
 mod judged_packets;
-mod message;
-mod report_views;
+mod message_texts;
 mod saved_packets;
+mod status_and_message;
 
-pub use exit_messages::{ending, failure_ending, hint, remark, status, words_ending};
+pub use asked_report::{needs_bytes, write_judged, write_plain};
 pub use judged_packets::Judged;
-pub use message::{Ending, Hint, Message, Remark, Unopened};
-pub use report_views::{needs_bytes, write_judged, write_plain};
+pub use message_texts::{Ending, Hint, Message, Remark, Unopened};
 pub use saved_packets::{Saves, save_packets};
+pub use status_and_message::{ending, failure_ending, hint, remark, status, words_ending};

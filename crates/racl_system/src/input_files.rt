@@ -78,7 +78,7 @@ pub fn policy_name<'a>(origin: &Origin<'a>) -> &'a str
     }
 }
 
-/// The name of the capture at this place, from 0; None where the origin has no such file.
+/// The name of the input's capture file at this place, from 0; None where the origin has no such file.
 pub fn name_at<'a>(origin: &Origin<'a>, place: usize) -> Option<&'a str>
     ensures { text_behind result ≡ named.name_at (origin_facts origin.now) place }
 {

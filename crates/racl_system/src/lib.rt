@@ -12,8 +12,8 @@ mod output;
 mod policy_remarks;
 mod progress;
 mod save_file;
-mod say_behind_run;
 mod say_ending;
+mod say_notes_on_run;
 
 pub use command_words::{asked_or_status, texts_of, words_of};
 pub use input_files::{Parts, opened_input};
@@ -22,5 +22,5 @@ pub use named_reader::Reader;
 pub use output::Output;
 pub use progress::{Progress, Watched};
 pub use save_file::{SaveFile, saves_to, say_unsaved};
-pub use say_behind_run::{Ran, say_end_of_live, say_end_of_run};
 pub use say_ending::failure_status;
+pub use say_notes_on_run::{Ran, say_end_of_live, say_end_of_run};

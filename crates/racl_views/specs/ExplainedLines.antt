@@ -6,7 +6,7 @@ use Rattle.packet_view.specs.declared.tuple.Direction.TheVariants.{Inbound, Outb
 use Rattle.packet_view.specs.declared.tuple.Fields.{Fields}
 use Rattle.packet_view.specs.declared.tuple.Fields.TheVariants.{Absent, Icmp, Ports, Tcp}
 use Rattle.flow_filter.specs.declared.verdict.Verdict.{Verdict}
-use Rattle.racl_io.specs.declared.partial_report.Shown.{Shown}
+use Rattle.racl_io.specs.declared.shown_lines_report.Shown.{Shown}
 use Rattle.racl_io.specs.Reports.{name_of, text_of, totals_line, totals_of, truncation_line}
 use Rattle.racl_io.specs.ShownReports.{is_shown}
 use Rattle.racl_views.specs.Entries.{EntryFacts}

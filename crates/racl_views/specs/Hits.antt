@@ -17,8 +17,8 @@ use Rattle.racl_views.specs.declared.reason_without_rule.Reason.TheVariants as r
 use Rattle.racl_views.specs.declared.rule_name.RuleLine.{RuleLine}
 use Rattle.racl_views.specs.declared.rule_name.RuleName.{RuleName}
 use Rattle.racl_views.specs.declared.session_counts.SessionCounts.{SessionCounts}
-use Rattle.racl_views.specs.declared.view.View.{View}
-use Rattle.racl_views.specs.declared.view.View.TheVariants as form
+use Rattle.racl_views.specs.declared.text_or_json.View.{View}
+use Rattle.racl_views.specs.declared.text_or_json.View.TheVariants as form
 use Rattle.racl_views.specs.Deciding.{AreDecided, hits_on}
 use Rattle.racl_views.specs.Objects.{number, object_line, object_of, string}
 use Rattle.racl_views.specs.PacketObjects.{way_field}

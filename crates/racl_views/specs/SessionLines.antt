@@ -12,10 +12,10 @@ use Rattle.session_state.specs.declared.flow_end.End.{End}
 use Rattle.session_state.specs.declared.flow.FlowKey.{FlowKey}
 use Rattle.session_state.specs.declared.flow.FlowKey.TheVariants.{Four, Six}
 use Rattle.session_state.specs.declared.timeouts.Timeouts.{Timeouts}
-use Rattle.racl_views.specs.declared.flow_end.FlowEnd.{FlowEnd}
+use Rattle.racl_views.specs.declared.stored_flow_end.FlowEnd.{FlowEnd}
 use Rattle.racl_views.specs.declared.stored_flow.StoredFlow.{StoredFlow}
-use Rattle.racl_views.specs.declared.view.View.{View}
-use Rattle.racl_views.specs.declared.view.View.TheVariants as form
+use Rattle.racl_views.specs.declared.text_or_json.View.{View}
+use Rattle.racl_views.specs.declared.text_or_json.View.TheVariants as form
 use Rattle.racl_views.specs.Objects.{Field, number, object_line, object_of, string}
 use Rattle.racl_views.specs.PacketWords.{address_text, flags_text, numbered, protocol_text}
 use Rattle.racl_views.specs.Stored.{StoredFacts}

@@ -11,7 +11,7 @@ ghost use Rattle.racl_views.specs.inner.Batches.{HasPassed};
 ghost use Rattle.racl_views.specs.inner.ChosenBytes.{HasNoRecord, chosen_in};
 
 use crate::chosen_packets::Chosen;
-use crate::write_batch::{Batch, put_where};
+use crate::gathered_bytes::{Batch, put_where};
 use flow_filter::Verdict;
 use packet_view::{Order, Piece, capture_header, next_record};
 use racl_io::{Fault, Sink, write_all};

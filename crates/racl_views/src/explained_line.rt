@@ -8,7 +8,7 @@ ghost use Rattle.racl_views.specs.RuleTexts.{shown_of};
 use crate::line_text::push_numbered;
 use crate::packet_entry::{Entry, Place};
 use crate::packet_text::{push_carried, push_seen};
-use crate::rule_text::text_at;
+use crate::rule_texts_in_policy::text_at;
 use crate::shown_rule_text::RuleText;
 use flow_filter::Verdict;
 use racl_io::{Numeral, Piece, push_name};

@@ -13,8 +13,8 @@ use crate::explained_line::push_explained;
 use crate::packet_entry::Place;
 use crate::packet_telling::Telling;
 use crate::passed_count::passed;
-use crate::rule_places::{entry_of, rule_table};
-use crate::run::Run;
+use crate::rule_lines_by_place::{entry_of, rule_table};
+use crate::told_run::Run;
 use flow_filter::Verdict;
 use packet_view::{Packet, Packets};
 use racl_io::{
@@ -40,7 +40,7 @@ fn make_room<W: Sink>(writer: &mut W, piece: &mut Piece) -> Result<(), Fault>
     Ok(())
 }
 
-// The line of a packet, where it has one.
+// Puts the explained line of a packet into the piece of the report, where it has one.
 fn tell<W: Sink>(
     writer: &mut W,
     piece: &mut Piece,
@@ -63,7 +63,7 @@ fn tell<W: Sink>(
     Ok(())
 }
 
-// Writes the lines among these packets, of which the first stands at this place.
+// Writes the explained lines among these packets, of which the first stands at this place.
 fn write_packets<W: Sink>(
     writer: &mut W,
     piece: &mut Piece,

@@ -8,8 +8,8 @@ ghost use Rattle.session_state.specs.declared.flow.Flow.{Flow};
 ghost use Rattle.racl_views.specs.SessionLines as line;
 ghost use Rattle.racl_views.specs.SessionLines.{SaysPacket, flow_facts, flow_of_key};
 
-use crate::flow_end::FlowEnd;
 use crate::stored_flow::StoredFlow;
+use crate::stored_flow_end::FlowEnd;
 use packet_view::Family;
 
 // The flow between two addresses, where the last word of its key is this.
@@ -54,7 +54,7 @@ fn address_of(upper: u64, lower: u64) -> u128
     (u128::from(upper) << 64) + u128::from(lower)
 }
 
-/// The flow with this key of IPv6.
+/// The flow that has this key of IPv6, by the words of the key.
 pub fn six_flow(key: [u64; 5]) -> StoredFlow
     ensures { flow_facts result ≡ line.six_flow key }
 {

@@ -15,7 +15,7 @@ pub fn push_numbered(piece: &mut Piece, word: &[u8], number: u64)
     Numeral::of(number).push(piece);
 }
 
-/// Puts what is in the piece behind a text. An `Err` says that memory ran out.
+/// Puts the line that is in the piece behind the text of those before it. An `Err` says that memory ran out.
 pub fn pass_on(text: Vec<u8>, piece: &Piece) -> Result<Vec<u8>, AllocError>
     ensures { IfOk result (λ new. new.items ≡ text.items ++ piece.now) }
 {

@@ -7,7 +7,7 @@ ghost use Rattle.racl_views.specs.Entries.{entry_facts};
 ghost use Rattle.racl_views.specs.ExplainedLines.{carried_told, from_told, seen_told, to_told, tuple_told, way_told};
 ghost use Rattle.racl_views.specs.PacketWords.{address_text, flags_text, protocol_text};
 
-use crate::address::{digit, push_address};
+use crate::address_text::{digit, push_address};
 use crate::line_text::push_numbered;
 use crate::packet_entry::Entry;
 use acl_policy::icmp_number;

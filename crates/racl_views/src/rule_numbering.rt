@@ -7,7 +7,7 @@ ghost use Rattle.acl_policy.specs.inner.Reading.Lines.{line_facts};
 ghost use Rattle.racl_views.specs.RuleLines.{AreRules, rule_here, rules_from};
 ghost use Rattle.racl_views.specs.inner.Spots.{IsBehind, IsShort, listed, said};
 
-use crate::place_in_policy::Spot;
+use crate::numbering_spot::Spot;
 use crate::rule_name::{RuleLine, RuleName};
 use acl_policy::{Line, line_of};
 use packet_view::Direction;
@@ -75,7 +75,7 @@ fn behind(spot: &Spot, line: u64, said: Line) -> Spot
     }
 }
 
-// What a line says, where it says something.
+// What a line of the text in which rules are numbered says, where it says something.
 #[tactic(auto, unfolding(crate::specs::inner::Spots::said))]
 fn reading(line: &[u8]) -> Line
     ensures { line_facts result ≡ said line.now }

@@ -2,7 +2,7 @@
 ghost use Rattle.std.specs.Prelude.{◌<◌};
 ghost use Rattle.packet_view.specs.Addresses.{address_limit};
 
-use crate::flow_end::FlowEnd;
+use crate::stored_flow_end::FlowEnd;
 use packet_view::Family;
 
 /// A flow at the interface with this number, and its ends in the order of its key: of an echo the one that asks first.

@@ -2,14 +2,14 @@
 use Rattle.std.specs.Prelude.{◌≡◌, ◌≢◌, ◌+◌, ◌≤◌, ◌++◌, ℕ, List, [], ◌∷◌, Some, length}
 use Rattle.packet_view.specs.Captures.{IsCaptureAt, PacketFacts, end_of}
 use Rattle.racl_io.specs.declared.fault.Fault.{Fault}
-use Rattle.racl_io.specs.declared.input.Numbered as mark
-use Rattle.racl_io.specs.declared.report.Captured.{Captured}
-use Rattle.racl_io.specs.declared.input.Form.{Form}
-use Rattle.racl_io.specs.declared.input.Form.TheVariants.{Binary, Hexadecimal}
+use Rattle.racl_io.specs.declared.marker_line.Numbered as mark
+use Rattle.racl_io.specs.declared.whole_report.Captured.{Captured}
+use Rattle.racl_io.specs.declared.marker_line.Form.{Form}
+use Rattle.racl_io.specs.declared.marker_line.Form.TheVariants.{Binary, Hexadecimal}
 use Rattle.racl_io.specs.Inputs.{AreCutDigits, IsContent, most_bytes, numbered_facts}
 use Rattle.capture_stream.specs.declared.stream_judging.Streamed.{Streamed}
 use Rattle.racl_cli.specs.declared.digit_captures_in_turn.Walk.{Walk}
-use Rattle.racl_cli.specs.declared.judged_input.Ended.{Ended}
+use Rattle.racl_cli.specs.declared.ended_workers.Ended.{Ended}
 use Rattle.racl_cli.specs.declared.sized_tables_and_workers.SizedWorkers.{SizedWorkers}
 use Rattle.racl_cli.specs.declared.workers_as_judges.Crew.{Crew}
 use Rattle.racl_cli.specs.Crews.{AreResting, AreSaidBy, orders_of}

@@ -1,7 +1,7 @@
 -- What workers leave, with the sessions that stand in their tables.
 use Rattle.std.specs.Prelude.{◌≡◌, true}
 use Rattle.racl_options.specs.declared.settings.Options.{Options}
-use Rattle.racl_cli.specs.declared.judged_input.Ended.{Ended}
+use Rattle.racl_cli.specs.declared.ended_workers.Ended.{Ended}
 use Rattle.racl_cli.specs.declared.sized_tables_and_workers.SizedTables.{SizedTables}
 use Rattle.racl_cli.specs.Crews.{size_of, views_with}
 use Rattle.racl_cli.specs.Runs.{AreStoredOf, keeps_stored, layout_for}

@@ -1,6 +1,6 @@
 -- The one capture of an input, whose packets workers judge while it is read.
 use Rattle.std.specs.Prelude.{◌≡◌, Bool, [], ◌∷◌, None, length}
-use Rattle.racl_cli.specs.declared.judged_input.Ended.{Ended}
+use Rattle.racl_cli.specs.declared.ended_workers.Ended.{Ended}
 use Rattle.racl_cli.specs.declared.sized_tables_and_workers.SizedWorkers.{SizedWorkers}
 use Rattle.racl_cli.specs.Crews.{HaveEndedOn}
 

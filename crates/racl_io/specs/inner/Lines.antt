@@ -2,10 +2,10 @@
 use Rattle.std.specs.Prelude.{◌≡◌, ◌+◌, ◌*◌, ◌<◌, ◌≤◌, ◌^◌, ℕ, List, [], Option, Result, IfErr, IfOk, OnErr, OnOk, length, vec_capacity}
 use Rattle.std.specs.Io.KnownBytes.{Appends}
 use Rattle.flow_filter.specs.declared.verdict.Verdict.{Verdict}
-use Rattle.racl_io.specs.declared.parallel_lines.Lines.{Lines}
+use Rattle.racl_io.specs.declared.lines_in_threads.Lines.{Lines}
 use Rattle.racl_io.specs.declared.fault.Fault.{Fault}
 use Rattle.racl_io.specs.declared.fault.Fault.TheVariants.{Write}
-use Rattle.racl_io.specs.declared.report.Place.{Place}
+use Rattle.racl_io.specs.declared.whole_report.Place.{Place}
 use Rattle.racl_io.specs.Reports.{lines_from, passed}
 
 -- the lines of packets that stand at this place

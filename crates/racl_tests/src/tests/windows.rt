@@ -1,9 +1,9 @@
 //! Captures that are read in parts, and packets that are counted.
-ghost use Rattle.std.specs.Prelude.{◌≡◌, ◌≤◌, None, IfSome, false, length};
+ghost use Rattle.std.specs.Prelude.{◌≡◌, ◌≤◌, ◌<◌, ◌-◌, ◌^◌, None, IfSome, false, length};
 ghost use Rattle.racl_io.specs.Inputs.{most_bytes};
 ghost use Rattle.capture_stream.specs.Streams.{IsSize};
 
-use capture_stream::{Judges, Opening, WindowSize, judge_stream};
+use capture_stream::{Judges, Opening, Streamed, WindowSize, judge_stream};
 use packet_view::{Order, Packets};
 use racl_io::{Device, DeviceFault, Fault, MOST_BYTES, Source};
 use std::alloc::{AllocError, Global};
@@ -70,11 +70,7 @@ pub fn windows_of(bytes: usize) -> WindowSize
 // What a source of so many zeros has left and how often it failed, and what was answered, after 54 bytes that were read.
 fn read_zeros<T: Threads>(rt: &T, alloc: Global, left: usize) -> (Zeros, Option<Fault>) {
     let mut reader = Zeros { left, failures: 0 };
-    let counter = Counter { count: 0 };
-    let Some(opening) = opened(alloc, &[0; 54]) else {
-        return (reader, Some(Fault::Memory));
-    };
-    match judge_stream(Some(rt), alloc, &mut reader, counter, opening, GROWING) {
+    match count_behind(Some(rt), alloc, &[0; 54], &mut reader, GROWING) {
         Ok(_) => (reader, None),
         Err(fault) => (reader, Some(fault)),
     }
@@ -86,8 +82,8 @@ pub fn record(kept: [u8; 4]) -> [u8; 20] {
     [7, 0, 0, 0, 0, 0, 0, 0, a, b, c, d, 4, 0, 0, 0, 1, 2, 3, 4]
 }
 
-/// A capture of which this was read. `None`: memory was refused.
-pub fn opened(alloc: Global, front: &[u8]) -> Option<Opening>
+// A capture of which this was read. `None`: memory was refused.
+fn opened(alloc: Global, front: &[u8]) -> Option<Opening>
     requires long { 24 ≤ length front.now }
     requires few { length front.now ≤ most_bytes }
     ensures within { IfSome result (λ opening. opening.from ≤ length opening.bytes.items) }
@@ -107,6 +103,25 @@ pub fn opened(alloc: Global, front: &[u8]) -> Option<Opening>
     })
 }
 
+/// What comes of a capture of which this was read, and the other bytes come from a source.
+pub fn count_behind<T: Threads, R: Source + Send>(
+    beside: Option<&T>,
+    alloc: Global,
+    front: &[u8],
+    reader: &mut R,
+    size: WindowSize,
+) -> Result<Streamed<Counter>, Fault>
+    requires long { 24 ≤ length front.now }
+    requires few { length front.now ≤ most_bytes }
+    requires size { IsSize size }
+    requires sound { R.failures reader.old < 2 ^ 64 - 1 }
+{
+    let Some(opening) = opened(alloc, front) else {
+        return Err(Fault::Memory);
+    };
+    judge_stream(beside, alloc, reader, Counter { count: 0 }, opening, size)
+}
+
 // How many packets were judged, and whether the capture was cut. The first 54 bytes are read before all others, and then
 // windows of this size.
 fn count_in<T: Threads>(
@@ -120,12 +135,8 @@ fn count_in<T: Threads>(
     if capture.len() < 54 {
         return Err(Fault::Short);
     }
-    let Some(opening) = opened(alloc, &capture[..54]) else {
-        return Err(Fault::Memory);
-    };
     let mut reader = Device::new(&capture[54..]);
-    let counter = Counter { count: 0 };
-    match judge_stream(beside, alloc, &mut reader, counter, opening, size) {
+    match count_behind(beside, alloc, &capture[..54], &mut reader, size) {
         Ok(whole) => Ok((whole.judges.count, whole.truncated)),
         Err(fault) => Err(fault),
     }

@@ -1,7 +1,7 @@
 //! Captures as digits, which are decoded while they are read.
 
-use crate::tests::windows::{Counter, opened, record, windows_of};
-use capture_stream::{HexDigits, are_digits, judge_stream};
+use crate::tests::windows::{count_behind, record, windows_of};
+use capture_stream::{HexDigits, are_digits};
 use racl_io::{Fault, Source};
 use std::alloc::{AllocError, Global};
 use std::test::Fail;
@@ -22,12 +22,7 @@ fn count_digits<T: Threads>(
     let Ok(24) = source.read(&mut header) else {
         return Err(Fault::Short);
     };
-    let Some(opening) = opened(alloc, &header) else {
-        return Err(Fault::Memory);
-    };
-    let counter = Counter { count: 0 };
-    let size = windows_of(bytes);
-    match judge_stream(beside, alloc, &mut source, counter, opening, size) {
+    match count_behind(beside, alloc, &header, &mut source, windows_of(bytes)) {
         Ok(whole) => Ok((whole.packets, whole.judges.count, whole.truncated)),
         Err(fault) => Err(fault),
     }

@@ -48,7 +48,7 @@ impl Column {
         Column::new(alloc, &ranges)
     }
 
-    /// The row for a number.
+    /// The row of a built column for a number.
     pub fn row(&self, x: u128) -> &[u64]
         ensures { (dimension : Dimension) (rules : List RuleFacts) (tuple : TupleFacts) → Sieves dimension rules self.now → IsAt dimension tuple x
             → Sifts rules tuple result.now }

@@ -1,7 +1,7 @@
 use Rattle.std.proofs.Common.{arith, refl, sym, subst}
 use Rattle.std.proofs.lemmas.Result.{err_from_is_err_and}
-use Rattle.racl_io.specs.declared.input.Form.{Form}
-use Rattle.racl_io.specs.declared.input.Form.TheVariants.{Binary}
+use Rattle.racl_io.specs.declared.marker_line.Form.{Form}
+use Rattle.racl_io.specs.declared.marker_line.Form.TheVariants.{Binary}
 use Rattle.racl_io.specs.Inputs.{IsContent, IsInput}
 use Rattle.racl_report.proofs.CaptureLaws.{IsUnnumbered}
 use Rattle.racl_cli.proofs.OpenedLemmas.{capture_stands, content_behind, header_answers, records_behind_header, records_within_input}

@@ -1,0 +1,14 @@
+use Rattle.std.proofs.Common.{◌≡◌, ◌<◌, List, Some, ap, length, refl, subst, arith}
+use Rattle.std.specs.Prelude.{slice_get}
+use Rattle.std.proofs.lemmas.List.{length-map}
+use Rattle.acl_policy.specs.Rules.{RuleFacts, rule_facts}
+use Rattle.policy_check.proofs.RemarkLemmas.{rule_there}
+use Rattle.policy_check.proofs.remarks_on_policy.source_bits.Goals as goal
+
+pub returns-then-has_bits : goal.returns-then-has_bits
+returns-then-has_bits c =
+    let rule = c.index-rules-place.result in
+    let within : c.args.place < length c.rules.result.now = omega (arith, ap length c.rules.ensures, length-map c.rules.result.now rule_facts, c.requires) in
+    let here = rule_there c.rules.result.now c.args.place rule within c.index-rules-place.is in
+    let read = subst (λ (rules : List RuleFacts). slice_get rules c.args.place ≡ Some (rule_facts rule)) c.rules.ensures here in
+    (refl, refl, refl, (rule_facts rule, read, c.has_bits.ensures c.if-has_bits.true))

@@ -1,0 +1,31 @@
+//! What is right in a policy, but unlikely to be meant.
+use packet_view::Direction;
+use thiserror::Error;
+
+/// What is said of the section of an interface. Rules are counted from 1 in each direction, as the report does.
+#[derive(Clone, Copy, Debug, PartialEq, Eq, Error)]
+pub enum Remark {
+    /// It has no rule.
+    #[error("there is no rule, so each packet of IP is dropped")]
+    NoRule,
+    /// It has rules for outbound packets, and no own address: no packet is outbound.
+    #[error("interface {0} has no mac line, so none of its out rules is looked at")]
+    NoMac(u8),
+    /// This rule of this direction never decides: the last one named takes all its packets.
+    #[error("interface {0}: {way} rule {2} never decides, since rule {3} takes all its packets", way = way(*.1))]
+    Shadowed(u8, Direction, u64, u64),
+    /// The source of this rule has bits behind the length of its prefix.
+    #[error("interface {0}: the source of {way} rule {2} has bits behind its prefix, which aren't looked at", way = way(*.1))]
+    SourceBits(u8, Direction, u64),
+    /// So has its destination.
+    #[error("interface {0}: the destination of {way} rule {2} has bits behind its prefix, which aren't looked at", way = way(*.1))]
+    DestBits(u8, Direction, u64),
+}
+
+// The word that a remark has for the direction of its rule.
+fn way(direction: Direction) -> &'static str {
+    match direction {
+        Direction::Inbound => "in",
+        Direction::Outbound => "out",
+    }
+}

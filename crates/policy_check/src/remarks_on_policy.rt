@@ -1,0 +1,166 @@
+//! The remarks on a policy.
+ghost use Rattle.std.specs.Prelude.{◌≡◌, ◌≤◌, ◌<◌, ◌++◌, All, IfOk, IfSome, IsTrue, None, OnOk, length, map, option_to_list};
+ghost use Rattle.acl_policy.specs.Policies.{policy_facts, rules_of, section_facts};
+ghost use Rattle.acl_policy.specs.Rules.{rule_facts};
+ghost use Rattle.policy_words.specs.Widths.{width};
+ghost use Rattle.policy_check.specs.Remarks.{HasBits, HasNoRule, IsRemark, IsRuleRemark, IsSectionRemark, IsShadowed, LacksMac};
+ghost use Rattle.policy_check.specs.declared.remark_kinds.Remark.TheVariants.{NoMac};
+ghost use Rattle.policy_check.specs.inner.Added.{Adds};
+
+use crate::remark_kinds::Remark;
+use crate::shadowing_rules::takes_all;
+use acl_policy::{Policy, Rule, Section, width_of};
+use packet_view::{Direction, Family};
+use std::alloc::{AllocError, Global};
+
+fn has_bits(family: Family, prefix: (u128, u8)) -> bool
+    requires { prefix.1 ≤ width family }
+    ensures { IsTrue result → HasBits family prefix }
+{
+    let behind = u32::from(width_of(family) - prefix.1);
+    if behind >= 128 {
+        prefix.0 != 0
+    } else {
+        prefix.0 % (1 << behind) != 0
+    }
+}
+
+fn rules(section: &Section, direction: Direction) -> &[Rule]
+    ensures { map rule_facts result.now ≡ rules_of direction (section_facts section.now) }
+{
+    match direction {
+        Direction::Inbound => section.inbound.as_slice(),
+        Direction::Outbound => section.outbound.as_slice(),
+    }
+}
+
+// The first rule before this one that takes all its packets, by its place.
+fn taker(rules: &[Rule], place: usize) -> Option<usize>
+    requires { place < length rules.now }
+    ensures { IfSome result (IsShadowed (map rule_facts rules.now) place) }
+{
+    for i in 0..place {
+        if takes_all(&rules[i], &rules[place]) {
+            return Some(i);
+        }
+    }
+    None
+}
+
+fn shadow(section: &Section, direction: Direction, place: usize) -> Option<Remark>
+    requires { place < length (rules_of direction (section_facts section.now)) }
+    ensures { IfSome result (IsRuleRemark (section_facts section.now) direction place) }
+{
+    let first = taker(rules(section, direction), place)?;
+    Some(Remark::Shadowed(
+        section.interface,
+        direction,
+        place as u64 + 1,
+        first as u64 + 1,
+    ))
+}
+
+fn source_bits(section: &Section, direction: Direction, place: usize) -> Option<Remark>
+    requires { place < length (rules_of direction (section_facts section.now)) }
+    ensures { IfSome result (IsRuleRemark (section_facts section.now) direction place) }
+{
+    let rule = rules(section, direction)[place];
+    if has_bits(rule.family, rule.source) {
+        Some(Remark::SourceBits(section.interface, direction, place as u64 + 1))
+    } else {
+        None
+    }
+}
+
+fn dest_bits(section: &Section, direction: Direction, place: usize) -> Option<Remark>
+    requires { place < length (rules_of direction (section_facts section.now)) }
+    ensures { IfSome result (IsRuleRemark (section_facts section.now) direction place) }
+{
+    let rule = rules(section, direction)[place];
+    if has_bits(rule.family, rule.dest) {
+        Some(Remark::DestBits(section.interface, direction, place as u64 + 1))
+    } else {
+        None
+    }
+}
+
+fn add(all: &mut Vec<Remark>, remark: Option<Remark>) -> Result<(), AllocError>
+    ensures { OnOk result (all.new.items ≡ all.old.items ++ option_to_list remark) }
+{
+    if let Some(remark) = remark {
+        all.push(remark)?;
+    }
+    Ok(())
+}
+
+// Adds what is said of the rules of a direction.
+fn add_rules(
+    all: &mut Vec<Remark>,
+    section: &Section,
+    direction: Direction,
+) -> Result<(), AllocError>
+    ensures { OnOk result (Adds (IsSectionRemark (section_facts section.now)) all.old.items all.new.items) }
+{
+    for place in 0..rules(section, direction).len() {
+        add(all, source_bits(section, direction, place))?;
+        add(all, dest_bits(section, direction, place))?;
+        add(all, shadow(section, direction, place))?;
+    }
+    Ok(())
+}
+
+/// The remark that the section has rules for outbound packets and no own address; None where that isn't so.
+pub fn no_mac(section: &Section) -> Option<Remark>
+    ensures remark { IfSome result (λ remark. remark ≡ NoMac section.now.interface) }
+    ensures holds { IfSome result (IsSectionRemark (section_facts section.now)) }
+    ensures none { result ≡ None → LacksMac (section_facts section.now) → ⊥ }
+{
+    if section.own.is_none() && !section.outbound.is_empty() {
+        Some(Remark::NoMac(section.interface))
+    } else {
+        None
+    }
+}
+
+// Adds what is said of a section.
+fn add_section(all: &mut Vec<Remark>, section: &Section) -> Result<(), AllocError>
+    ensures { OnOk result (Adds (IsSectionRemark (section_facts section.now)) all.old.items all.new.items) }
+{
+    add(all, no_mac(section))?;
+    add_rules(all, section, Direction::Inbound)?;
+    add_rules(all, section, Direction::Outbound)?;
+    Ok(())
+}
+
+fn is_bare(section: &Section) -> bool
+    ensures { IsTrue result → HasNoRule (section_facts section.now) }
+{
+    section.inbound.is_empty() && section.outbound.is_empty()
+}
+
+fn has_no_rule(policy: &Policy) -> bool
+    ensures { IsTrue result → All HasNoRule (policy_facts policy.now).sections }
+{
+    for section in &policy.sections {
+        if !is_bare(section) {
+            return false;
+        }
+    }
+    true
+}
+
+/// What is right in a policy, but unlikely to be meant. Each remark is true; not each rule that never decides is found. An
+/// `Err` says that memory ran out.
+pub fn remarks_on(alloc: Global, policy: &Policy) -> Result<Vec<Remark>, AllocError>
+    ensures { IfOk result (λ all. All (IsRemark (policy_facts policy.now)) all.items) }
+{
+    let mut all = Vec::new(alloc);
+    if has_no_rule(policy) {
+        all.push(Remark::NoRule)?;
+        return Ok(all);
+    }
+    for section in &policy.sections {
+        add_section(&mut all, section)?;
+    }
+    Ok(all)
+}

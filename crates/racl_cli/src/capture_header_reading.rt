@@ -1,0 +1,26 @@
+//! The header of a capture, read from a source.
+ghost use Rattle.std.specs.Prelude.{◌≡◌, ◌-◌, ◌<◌, ◌^◌, MatchResult};
+ghost use Rattle.acl_policy.specs.Policies.{policy_facts};
+ghost use Rattle.capture_stream.specs.Lives.{HasToldAll, IsLiveFault, with_read, with_write};
+ghost use Rattle.racl_cli.specs.LiveRuns.{ByOneWorker, HasRunLive, IsLiveRunFault};
+ghost use Rattle.racl_cli.specs.inner.Heads.{HasReadHeader, IsHeadless};
+
+use packet_view::{Order, capture_header};
+use racl_io::{Fault, Source, read_until};
+use std::alloc::Global;
+
+/// How many bytes the header of a capture has.
+const HEADER_BYTES: usize = 24;
+
+/// The header of a capture is read.
+pub fn read_header<R: Source>(alloc: Global, reader: &mut R) -> Result<Order, Fault>
+    requires { R.failures reader.old < 2 ^ 64 - 1 }
+    ensures header { MatchResult result (HasReadHeader (R.bytes reader.old) (R.bytes reader.new)) (IsHeadless (R.bytes reader.old) (R.bytes reader.new)) }
+    ensures read { MatchResult result (λ _. R.failures reader.new ≡ R.failures reader.old) (λ fault. R.failures reader.new ≡ with_read (R.failures reader.old) fault) }
+{
+    let mut header = Vec::new(alloc);
+    match read_until(reader, &mut header, HEADER_BYTES) {
+        Ok(_) => Ok(capture_header(&header)?),
+        Err(fault) => Err(fault),
+    }
+}

@@ -1,0 +1,177 @@
+//! One run of the filter, from the bytes of an input to the report.
+ghost use Rattle.std.specs.Prelude.{[], ◌≡◌, ◌≢◌, ◌+◌, ◌-◌, ◌<◌, ◌^◌, ◌⊎◌, ◌↔◌, true, Err, IfOk, IfErr, IfSome, MatchResult};
+ghost use Rattle.racl_io.specs.declared.fault.Fault.{Fault};
+ghost use Rattle.racl_io.specs.Faults.{IsInputFault, IsSystemFault, RefusesRead};
+ghost use Rattle.racl_io.specs.Inputs.{most_bytes};
+ghost use Rattle.racl_io.specs.Transfers.{GaveAtMost, HasReadWithin};
+ghost use Rattle.racl_cli.specs.Reads.{AnswersRead, HasKept};
+ghost use Rattle.racl_cli.specs.Runs.{AnswersRight, HasRun};
+ghost use Rattle.racl_cli.specs.SavingRuns.{HasRunSaving};
+
+use crate::bytes_at_hand::AtHand;
+use crate::digit_captures_in_turn::judge_captures;
+use crate::input_front::{Front, Headed, Opened, open_source, read_rest};
+use crate::judge_by_plan::{judge_records, threads_beside};
+use capture_stream::Opening;
+use racl_io::{Fault, Sink, Source, Totals};
+use racl_options::Options;
+use racl_report::{Judged, Saves, needs_bytes, save_packets, write_judged, write_plain};
+use std::alloc::Global;
+use std::sync::Wait;
+use std::thread::Threads;
+
+// What the packets of an input met that is read.
+fn judge_source<R: Source + Send, T: Threads + Wait + Sync>(
+    rt: &T,
+    alloc: Global,
+    options: &Options,
+    reader: &mut R,
+) -> Result<Judged, Fault>
+    requires { R.failures reader.old < 2 ^ 64 - 1 }
+    ensures answers { AnswersRead options.now [] (R.bytes reader.old) result }
+    ensures within { HasReadWithin R.bytes R.failures (most_bytes + 1) reader.old reader.new result }
+{
+    let Front {
+        bytes,
+        ended,
+        opened,
+    } = match open_source(alloc, options, reader) {
+        Ok(front) => front,
+        Err(fault) => return Err(fault),
+    };
+    match opened {
+        Opened::Bytes(headed) => {
+            let Headed {
+                filter,
+                order,
+                from,
+            } = headed;
+            let opening = Opening {
+                bytes,
+                from,
+                order,
+                interface: 0,
+                ended,
+            };
+            judge_records(rt, alloc, options, reader, &filter, opening)
+        }
+        Opened::Digits(marked) => judge_captures(rt, alloc, options, &bytes, marked),
+    }
+}
+
+// What the packets of an input met that is read, whose bytes are kept.
+fn judge_kept<R: Source + Send, T: Threads + Wait + Sync>(
+    rt: &T,
+    alloc: Global,
+    options: &Options,
+    reader: &mut R,
+    kept: &mut Vec<u8>,
+) -> Result<Judged, Fault>
+    requires sound { R.failures reader.old < 2 ^ 64 - 1 }
+    requires empty { kept.old.items ≡ [] }
+    ensures kept { IfOk result (HasKept options.now (R.bytes reader.old) kept.new.items) }
+    ensures answers { AnswersRead options.now [] (R.bytes reader.old) result }
+    ensures within { HasReadWithin R.bytes R.failures (most_bytes + 1) reader.old reader.new result }
+{
+    match read_rest(reader, kept) {
+        Ok(()) => {
+            let mut again = AtHand {
+                left: kept.as_slice(),
+            };
+            judge_source(rt, alloc, options, &mut again)
+        }
+        Err(fault) => Err(fault),
+    }
+}
+
+// Whose threads may make lines of the report beside this one.
+fn beside<'a, T>(rt: &'a T, options: &Options) -> Option<&'a T> {
+    threads_beside(rt, options.workers > 1)
+}
+
+/// Reads an input, filters its captures by its policy, and writes the report.
+///
+/// Nothing is written before the whole input was judged.
+pub fn run<R: Source + Send, W: Sink, T: Threads + Wait + Sync>(
+    rt: &T,
+    alloc: Global,
+    options: &Options,
+    reader: &mut R,
+    writer: &mut W,
+) -> Result<Totals, Fault>
+    requires reader { R.failures reader.old < 2 ^ 64 - 1 }
+    requires writer { W.failures writer.old < 2 ^ 64 - 1 }
+
+    // What was written is the report on what was read.
+    ensures ok { IfOk result (HasRun options.now (R.bytes reader.old) (W.bytes writer.old) (W.bytes writer.new)) }
+
+    // An input that is right is answered by its report, or memory ran out or a device failed.
+    ensures accepts { IfSome (R.bytes reader.old) (λ bytes. AnswersRight options.now bytes (W.bytes writer.old) (W.bytes writer.new) result) }
+
+    // A fault of the input is answered where its cause stands first, and then nothing else of the input.
+    ensures fault { IfErr result (λ fault. IsSystemFault fault ⊎ IfSome (R.bytes reader.old) (λ bytes. IsInputFault bytes fault)) }
+    ensures refuses { IfSome (R.bytes reader.old) (λ bytes. (fault : Fault) → IsInputFault bytes fault → RefusesRead fault result) }
+
+    // No more is read than an input may have, and one byte.
+    ensures far { GaveAtMost (R.bytes reader.old) (R.bytes reader.new) (most_bytes + 1) }
+
+    // A device's fault is answered where it failed, and it failed once.
+    ensures read { (result ≡ Err Fault.Read) ↔ (R.failures reader.new ≡ R.failures reader.old + 1) }
+    ensures sound { result ≢ Err Fault.Read → R.failures reader.new ≡ R.failures reader.old }
+    ensures write { (result ≡ Err Fault.Write) ↔ (W.failures writer.new ≡ W.failures writer.old + 1) }
+    ensures steady { result ≢ Err Fault.Write → W.failures writer.new ≡ W.failures writer.old }
+    ensures unwritten { IfErr result (λ fault. fault ≢ Fault.Write → writer.new ≡ writer.old) }
+{
+    if !needs_bytes(options) {
+        return match judge_source(rt, alloc, options, reader) {
+            Ok(judged) => write_plain(beside(rt, options), alloc, writer, options, &judged),
+            Err(fault) => Err(fault),
+        };
+    }
+    let mut bytes = Vec::new(alloc);
+    match judge_kept(rt, alloc, options, reader, &mut bytes) {
+        Ok(judged) => write_judged(beside(rt, options), alloc, writer, options, &bytes, &judged),
+        Err(fault) => Err(fault),
+    }
+}
+
+/// Reads an input, filters its captures by its policy, and writes the report, as `run` does; and then saves packets of it.
+///
+/// Nothing is written before the whole input was judged, and nothing is saved before the report is written.
+pub fn run_saving<R: Source + Send, W: Sink, S: Sink, T: Threads + Wait + Sync>(
+    rt: &T,
+    alloc: Global,
+    options: &Options,
+    reader: &mut R,
+    writer: &mut W,
+    saves: &mut Saves<S>,
+) -> Result<Totals, Fault>
+    requires reader { R.failures reader.old < 2 ^ 64 - 1 }
+    requires writer { W.failures writer.old < 2 ^ 64 - 1 }
+    requires drops { IfSome saves.old.drops (λ file. S.failures file < 2 ^ 64 - 1) }
+    requires passes { IfSome saves.old.passes (λ file. S.failures file < 2 ^ 64 - 1) }
+    ensures ok { IfOk result (HasRunSaving S.bytes options.now (R.bytes reader.old) (W.bytes writer.old) (W.bytes writer.new) saves.old saves.new) }
+    ensures accepts { IfSome (R.bytes reader.old) (λ bytes. AnswersRight options.now bytes (W.bytes writer.old) (W.bytes writer.new) result) }
+    ensures fault { IfErr result (λ fault. IsSystemFault fault ⊎ IfSome (R.bytes reader.old) (λ bytes. IsInputFault bytes fault)) }
+    ensures refuses { IfSome (R.bytes reader.old) (λ bytes. (fault : Fault) → IsInputFault bytes fault → RefusesRead fault result) }
+    ensures far { GaveAtMost (R.bytes reader.old) (R.bytes reader.new) (most_bytes + 1) }
+    ensures read { (result ≡ Err Fault.Read) ↔ (R.failures reader.new ≡ R.failures reader.old + 1) }
+    ensures sound { result ≢ Err Fault.Read → R.failures reader.new ≡ R.failures reader.old }
+    ensures steady { result ≢ Err Fault.Write → W.failures writer.new ≡ W.failures writer.old }
+    ensures ordered { W.failures writer.new ≡ W.failures writer.old + 1 → saves.new ≡ saves.old }
+    ensures unwritten { IfErr result (λ fault. fault ≢ Fault.Write → (writer.new ≡ writer.old) × (saves.new ≡ saves.old)) }
+{
+    let mut bytes = Vec::new(alloc);
+    let judged = match judge_kept(rt, alloc, options, reader, &mut bytes) {
+        Ok(judged) => judged,
+        Err(fault) => return Err(fault),
+    };
+    let totals = match write_judged(beside(rt, options), alloc, writer, options, &bytes, &judged) {
+        Ok(totals) => totals,
+        Err(fault) => return Err(fault),
+    };
+    match save_packets(&bytes, &judged.verdicts, saves) {
+        Ok(()) => Ok(totals),
+        Err(fault) => Err(fault),
+    }
+}

@@ -1,0 +1,121 @@
+//! Lines of a report that are made while those before them are written.
+ghost use Rattle.std.specs.Prelude.{◌-◌, ◌+◌, ◌<◌, ◌≤◌, ◌^◌, All, IfOk, length};
+ghost use Rattle.racl_io.specs.inner.Lines.{HasMade, HasRoom, HasWritten, MayMake};
+
+use crate::device::Sink;
+use crate::fault::Fault;
+use crate::interface_name::Name;
+use crate::number_printing::Counter;
+use crate::packet_lines::{LINES, push_lines};
+use crate::reading_and_writing::write_all;
+use crate::report_piece::Piece;
+use crate::whole_report::{Place, write_lines};
+use flow_filter::Verdict;
+use std::alloc::{AllocError, Global};
+use std::thread::{Threads, join_mut};
+
+/// The most bytes of a line.
+const LINE_BYTES: usize = 72;
+
+/// Room for lines that are made apart.
+#[derive(Drop)]
+pub struct Lines {
+    piece: Piece,
+    text: Vec<u8>,
+    /// How many lines have room.
+    count: usize,
+}
+
+impl Lines {
+    /// Room for so many lines, which is touched only where lines come.
+    fn new(alloc: Global, count: usize) -> Result<Lines, AllocError>
+        requires { count ≤ 131072 }
+        ensures { IfOk result HasRoom }
+    {
+        Ok(Lines {
+            piece: Piece::new(alloc)?,
+            text: Vec::with_capacity(alloc, count * LINE_BYTES)?,
+            count,
+        })
+    }
+
+    /// Room for the last of so many lines. A part is written after those before it, so there is more time to make it:
+    /// each has two fifths of what the parts after it leave, and about a fifth of all lines come before the parts.
+    pub fn parts(alloc: Global, lines: usize) -> Result<[Lines; 3], AllocError>
+        requires { lines ≤ 131072 }
+        ensures { IfOk result (All HasRoom) }
+    {
+        let last = lines / 5 * 2;
+        let second = (lines - last) / 5 * 2;
+        let first = (lines - last - second) / 5 * 2;
+        Ok([
+            Lines::new(alloc, first)?,
+            Lines::new(alloc, second)?,
+            Lines::new(alloc, last)?,
+        ])
+    }
+}
+
+// Makes the lines of the packets at this place in one of the threads, and answers how many of them pass.
+fn make_lines(lines: &mut Lines, place: Place, verdicts: &[Verdict]) -> u64
+    requires { MayMake lines.old place verdicts.now }
+    ensures { HasMade lines.new place verdicts.now result }
+{
+    let Lines { piece, text, .. } = lines;
+    let mut number = Counter::at(place.others as u64);
+    let name = Name::of(place.named);
+    let mut passed = 0;
+    let mut rest = verdicts;
+    'pieces: while !rest.is_empty() {
+        let (first, behind) = rest.split_at(rest.len().min(LINES));
+        piece.clear();
+        passed += push_lines(piece, &mut number, &name, first);
+        let Ok(()) = text.extend_from_slice(piece.as_slice()) else {
+            unreachable!()
+        };
+        rest = behind;
+    }
+    passed
+}
+
+/// Writes the lines of the packets at this place, and answers how many of them pass. The last lines are made in the parts,
+/// as many as have room there: each part in a thread of its own, or in this one where none can be made, while the lines
+/// before it are made and written.
+pub fn write_beside<W: Sink, T: Threads>(
+    rt: &T,
+    writer: &mut W,
+    piece: &mut Piece,
+    parts: &mut [Lines],
+    place: Place,
+    verdicts: &[Verdict],
+) -> Result<u64, Fault>
+    requires room { All HasRoom parts.old }
+    requires sound { W.failures writer.old < 2 ^ 64 - 1 }
+    requires fits { place.others + length verdicts.now < 2 ^ 64 }
+    ensures { HasWritten W.bytes W.failures writer.old writer.new place verdicts.now result }
+{
+    let Some((lines, earlier)) = parts.split_last_mut() else {
+        return write_lines(writer, piece, place, verdicts);
+    };
+    let (front, last) = verdicts.split_at(verdicts.len().saturating_sub(lines.count));
+    let behind = Place {
+        others: place.others + front.len(),
+        ..place
+    };
+    let (more, written) = join_mut(
+        rt,
+        &mut ||
+            requires { MayMake lines.now behind last.now }
+            ensures { HasMade lines.exit.now behind last.entry.now result }
+        { make_lines(lines, behind, last) },
+        &mut ||
+            requires room { All HasRoom earlier.now }
+            requires sound { W.failures writer.now < 2 ^ 64 - 1 }
+            requires fits { place.others + length front.now < 2 ^ 64 }
+            ensures { HasWritten W.bytes W.failures writer.entry.now writer.exit.now place front.entry.now result }
+        { write_beside(rt, writer, piece, earlier, place, front) },
+    );
+    let passed = written?;
+    write_all(writer, &lines.text)?;
+    Ok(passed + more)
+}

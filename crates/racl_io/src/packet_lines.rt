@@ -1,0 +1,126 @@
+//! The lines of packets: a number, perhaps an interface, and a verdict.
+ghost use Rattle.std.specs.Prelude.{◌≡◌, ◌+◌, ◌*◌, ◌<◌, ◌≤◌, ◌^◌, ◌++◌, [], None, codes, length, decimal};
+ghost use Rattle.racl_io.specs.Reports;
+ghost use Rattle.racl_io.specs.Reports.{line_of, lines_from, name_of, text_of};
+
+use crate::interface_name::Name;
+use crate::number_printing::{Counter, Numeral};
+use crate::report_piece::Piece;
+use flow_filter::Verdict;
+
+/// How many packets have their lines in one piece. A line has at most 72 bytes.
+pub const LINES: usize = 3600;
+
+/// A rule has few digits, which are pushed one by one.
+#[tactic(auto, using(std::proofs::lemmas::Fmt::decimal_digit, std::proofs::lemmas::Fmt::decimal_step, crate::proofs::NumeralLemmas::length_digit, crate::proofs::NumeralLemmas::length_step))]
+fn push_number(piece: &mut Piece, n: u64)
+    requires { length piece.old + length (decimal n) ≤ 262144 }
+    ensures { piece.new ≡ piece.old ++ decimal n }
+{
+    if n < 10 {
+        piece.push(&[b'0' + n as u8]);
+        return;
+    }
+    push_number(piece, n / 10);
+    piece.push(&[b'0' + (n % 10) as u8]);
+}
+
+#[inline(always)]
+fn push_rule(piece: &mut Piece, effect: &[u8], n: u16, rest: &[u8])
+    requires { length piece.old + length effect.now + length rest.now + 20 ≤ 262144 }
+    ensures text { piece.new ≡ piece.old ++ (effect.now ++ (decimal n ++ rest.now)) }
+    ensures short { length piece.new ≤ length piece.old + length effect.now + length rest.now + 20 }
+{
+    piece.push(effect);
+    push_number(piece, n as u64);
+    piece.push(rest);
+}
+
+/// What follows a line's number. A constant piece costs no call, and the fewer they are the better.
+#[inline(always)]
+fn push_verdict(piece: &mut Piece, verdict: Verdict)
+    requires { length piece.old + 40 ≤ 262144 }
+    ensures text { piece.new ≡ piece.old ++ (codes " " ++ (text_of verdict ++ codes "\n")) }
+    ensures short { length piece.new ≤ length piece.old + 40 }
+{
+    match verdict {
+        Verdict::Session => piece.push(b" pass session\n"),
+        Verdict::Reflect(n) => push_rule(piece, b" pass rule ", n, b" reflect\n"),
+        Verdict::Permit(n) => push_rule(piece, b" pass rule ", n, b"\n"),
+        Verdict::Deny(n) => push_rule(piece, b" drop rule ", n, b"\n"),
+        Verdict::ByDefault => piece.push(b" drop default\n"),
+        Verdict::Worn => piece.push(b" drop worn\n"),
+        Verdict::Full => piece.push(b" drop full\n"),
+        Verdict::NoPages => piece.push(b" drop no-pages\n"),
+        Verdict::NotIp => piece.push(b" pass not-ip\n"),
+        Verdict::Malformed => piece.push(b" drop malformed\n"),
+        Verdict::Short => piece.push(b" drop short\n"),
+    }
+}
+
+fn push_line(piece: &mut Piece, number: &Counter, verdict: Verdict)
+    requires fits { number.now < 2 ^ 64 }
+    requires room { length piece.old + 72 ≤ 262144 }
+    ensures text { piece.new ≡ piece.old ++ line_of None number.now verdict }
+    ensures short { length piece.new ≤ length piece.old + 72 }
+{
+    number.push(piece);
+    push_verdict(piece, verdict);
+}
+
+pub fn push_named_line(piece: &mut Piece, number: &Counter, name: &Name, verdict: Verdict)
+    requires fits { number.now < 2 ^ 64 }
+    requires room { length piece.old + 72 ≤ 262144 }
+    ensures text { piece.new ≡ piece.old ++ line_of name.now number.now verdict }
+    ensures short { length piece.new ≤ length piece.old + 72 }
+{
+    number.push(piece);
+    name.push(piece);
+    push_verdict(piece, verdict);
+}
+
+/// The lines of the packets after the counted ones, and how many of them pass.
+pub fn push_lines(piece: &mut Piece, number: &mut Counter, name: &Name, verdicts: &[Verdict]) -> u64
+    requires empty { piece.old ≡ [] }
+    requires few { length verdicts.now ≤ 3600 }
+    requires fits { number.old + length verdicts.now < 2 ^ 64 }
+    ensures text { piece.new ≡ lines_from name.now (number.old + 1) verdicts.now }
+    ensures number { number.new ≡ number.old + length verdicts.now }
+    ensures passed { result ≡ Reports.passed verdicts.now }
+    ensures short { length piece.new ≤ length verdicts.now * 72 }
+{
+    let mut passed = 0;
+    if name.is_absent() {
+        // A loop apart: asking each line for a name costs those that have none up to a quarter more.
+        'plain: for verdict in verdicts {
+            number.count();
+            push_line(piece, number, *verdict);
+            if verdict.passes() {
+                passed += 1;
+            }
+        }
+        return passed;
+    }
+    'named: for verdict in verdicts {
+        number.count();
+        push_named_line(piece, number, name, *verdict);
+        if verdict.passes() {
+            passed += 1;
+        }
+    }
+    passed
+}
+
+/// What names the interface of a capture behind a line's number, where lines name it.
+pub fn push_name(piece: &mut Piece, named: Option<u8>)
+    requires { length piece.old + 28 ≤ 262144 }
+    ensures text { piece.new ≡ piece.old ++ name_of named }
+    ensures short { length piece.new ≤ length piece.old + 28 }
+{
+    let Some(number) = named else {
+        return;
+    };
+    piece.push(b"if ");
+    Numeral::of(number as u64).push(piece);
+    piece.push(b" ");
+}

@@ -1,0 +1,177 @@
+//! The report with the lines of some packets alone, written in pieces.
+ghost use Rattle.std.specs.Prelude.{◌≡◌, ◌+◌, ◌-◌, ◌<◌, ◌≤◌, ◌^◌, ◌++◌, [], length};
+ghost use Rattle.racl_io.specs.Reports;
+ghost use Rattle.racl_io.specs.Reports.{packets_in, totals_of};
+ghost use Rattle.racl_io.specs.ShownReports.{captures_shown, is_shown, line_shown, lines_shown, report_shown};
+ghost use Rattle.racl_io.specs.Sinks.{Writes};
+ghost use Rattle.racl_io.specs.inner.Lines.{HasTold};
+
+use crate::device::Sink;
+use crate::fault::Fault;
+use crate::interface_name::Name;
+use crate::number_printing::Counter;
+use crate::packet_lines::{LINES, push_named_line};
+use crate::reading_and_writing::write_all;
+use crate::report_piece::Piece;
+use crate::whole_report::{
+    Captured, Place, Totals, totals_on, write_report, write_totals, write_truncation,
+};
+use flow_filter::Verdict;
+use std::alloc::Global;
+use std::thread::Threads;
+
+/// Which packets have a line in the report.
+#[derive(Clone, Copy, Debug, PartialEq, Eq)]
+pub enum Shown {
+    Every,
+    /// Those that pass.
+    Passing,
+    /// Those that are dropped.
+    Dropped,
+    Nothing,
+}
+
+/// Whether a packet with this verdict has a line.
+pub fn has_line(shown: Shown, verdict: Verdict) -> bool
+    ensures { result ≡ is_shown shown verdict }
+{
+    match shown {
+        Shown::Every => true,
+        Shown::Passing => verdict.passes(),
+        Shown::Dropped => !verdict.passes(),
+        Shown::Nothing => false,
+    }
+}
+
+// The line of the packet that was counted last, where it has one.
+fn push_shown_line(piece: &mut Piece, number: &Counter, name: &Name, shown: Shown, verdict: Verdict)
+    requires fits { number.now < 2 ^ 64 }
+    requires room { length piece.old + 72 ≤ 262144 }
+    ensures text { piece.new ≡ piece.old ++ line_shown shown name.now number.now verdict }
+    ensures short { length piece.new ≤ length piece.old + 72 }
+{
+    if has_line(shown, verdict) {
+        push_named_line(piece, number, name, verdict);
+    }
+}
+
+// The lines among the packets after the counted ones, and how many of these packets pass.
+fn push_shown(
+    piece: &mut Piece,
+    number: &mut Counter,
+    name: &Name,
+    shown: Shown,
+    verdicts: &[Verdict],
+) -> u64
+    requires empty { piece.old ≡ [] }
+    requires few { length verdicts.now ≤ 3600 }
+    requires fits { number.old + length verdicts.now < 2 ^ 64 }
+    ensures text { piece.new ≡ lines_shown shown name.now (number.old + 1) verdicts.now }
+    ensures number { number.new ≡ number.old + length verdicts.now }
+    ensures passed { result ≡ Reports.passed verdicts.now }
+{
+    let mut passed = 0;
+    'each: for verdict in verdicts {
+        number.count();
+        push_shown_line(piece, number, name, shown, *verdict);
+        if verdict.passes() {
+            passed += 1;
+        }
+    }
+    passed
+}
+
+// Writes the lines among the packets at this place, and answers how many of these packets pass.
+fn write_lines_shown<W: Sink>(
+    writer: &mut W,
+    piece: &mut Piece,
+    shown: Shown,
+    place: Place,
+    verdicts: &[Verdict],
+) -> Result<u64, Fault>
+    requires sound { W.failures writer.old < 2 ^ 64 - 1 }
+    requires fits { place.others + length verdicts.now < 2 ^ 64 }
+    ensures { HasTold W.bytes W.failures writer.old writer.new (lines_shown shown place.named (place.others + 1) verdicts.now) (Reports.passed verdicts.now) result }
+{
+    let mut number = Counter::at(place.others as u64);
+    let name = Name::of(place.named);
+    let mut passed = 0;
+    let mut rest = verdicts;
+    while !rest.is_empty() {
+        let (first, others) = rest.split_at(rest.len().min(LINES));
+        piece.clear();
+        passed += push_shown(piece, &mut number, &name, shown, first);
+        write_all(writer, piece.as_slice())?;
+        rest = others;
+    }
+    Ok(passed)
+}
+
+// Writes what is told of the captures, one after the other, and answers how many packets pass.
+fn write_captures_shown<W: Sink>(
+    writer: &mut W,
+    piece: &mut Piece,
+    shown: Shown,
+    verdicts: &[Verdict],
+    captures: &[Captured],
+) -> Result<u64, Fault>
+    requires sound { W.failures writer.old < 2 ^ 64 - 1 }
+    requires counted { packets_in captures.now ≡ length verdicts.now }
+    ensures { HasTold W.bytes W.failures writer.old writer.new (captures_shown shown 1 verdicts.now captures.now) (Reports.passed verdicts.now) result }
+{
+    let mut passed = 0;
+    let mut others = 0;
+    let mut rest = verdicts;
+    let mut left = captures;
+    'each: while let Some((captured, after)) = left.split_first() {
+        let (first, behind) = rest.split_at(captured.packets);
+        let place = Place {
+            named: captured.named,
+            others,
+        };
+        passed += write_lines_shown(writer, piece, shown, place, first)?;
+        write_truncation(writer, piece, captured)?;
+        others += captured.packets;
+        rest = behind;
+        left = after;
+    }
+    Ok(passed)
+}
+
+// Writes the report, one line after the other.
+fn write_some<W: Sink>(
+    alloc: Global,
+    writer: &mut W,
+    shown: Shown,
+    verdicts: &[Verdict],
+    captures: &[Captured],
+) -> Result<Totals, Fault>
+    requires sound { W.failures writer.old < 2 ^ 64 - 1 }
+    requires counted { packets_in captures.now ≡ length verdicts.now }
+    ensures { Writes W.bytes W.failures writer.old writer.new (report_shown shown verdicts.now captures.now) (totals_of verdicts.now captures.now) result }
+{
+    let mut piece = Piece::new(alloc)?;
+    let passed = write_captures_shown(writer, &mut piece, shown, verdicts, captures)?;
+    let totals = totals_on(passed, verdicts, captures);
+    write_totals(writer, &mut piece, &totals)?;
+    Ok(totals)
+}
+
+/// Writes the report with the lines of those packets that are shown; where that is every one, as `write_report` does.
+pub fn write_shown<W: Sink, T: Threads>(
+    beside: Option<&T>,
+    alloc: Global,
+    writer: &mut W,
+    shown: Shown,
+    verdicts: &[Verdict],
+    captures: &[Captured],
+) -> Result<Totals, Fault>
+    requires sound { W.failures writer.old < 2 ^ 64 - 1 }
+    requires counted { packets_in captures.now ≡ length verdicts.now }
+    ensures { Writes W.bytes W.failures writer.old writer.new (report_shown shown verdicts.now captures.now) (totals_of verdicts.now captures.now) result }
+{
+    match shown {
+        Shown::Every => write_report(beside, alloc, writer, verdicts, captures),
+        _ => write_some(alloc, writer, shown, verdicts, captures),
+    }
+}

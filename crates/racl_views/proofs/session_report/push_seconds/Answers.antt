@@ -1,6 +1,0 @@
-use Rattle.racl_views.proofs.TextLemmas.{three}
-use Rattle.racl_views.proofs.session_report.push_seconds.Goals as goal
-
-pub returns-clause-text : goal.returns-clause-text
-returns-clause-text c = three _ _ _ _ _ _ _ (rw (c.from.ensures, c.last.ensures) at c.push_numbered.ensures.text)
-    (rw c.live_until.ensures at c.push_numbered-2.ensures.text) c.push.ensures

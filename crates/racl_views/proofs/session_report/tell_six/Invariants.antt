@@ -1,8 +1,0 @@
-use Rattle.std.proofs.Common.{◌≡◌, ◌++◌, drop}
-use Rattle.racl_views.specs.SessionLines.{six_flow, pairs_told}
-use Rattle.racl_views.proofs.session_report.tell_six.Given as goal
-
--- what was told so far, and what is left
-abbrev pub invariant-pairs : goal.invariant-pairs
-invariant-pairs l =
-    l.told.items ++ pairs_told six_flow l.view l.times (drop l.pair-index l.pairs) ≡ l.fn.text.items ++ pairs_told six_flow l.view l.times l.pairs

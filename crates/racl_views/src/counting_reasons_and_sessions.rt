@@ -1,0 +1,117 @@
+//! How many packets have a verdict that is no rule's, and how many sessions were entered and have expired.
+ghost use Rattle.std.specs.Prelude.{◌≡◌, count_by, not};
+ghost use Rattle.packet_view.specs.CheckedCaptures.{remaining};
+ghost use Rattle.session_state.specs.Sessions.{is_expired_at};
+ghost use Rattle.racl_views.specs.Hits;
+ghost use Rattle.racl_views.specs.Hits.{live_among, session_counts};
+ghost use Rattle.racl_views.specs.Stored.{stored_facts};
+ghost use Rattle.racl_views.specs.RunEntries.{run_facts};
+
+use crate::reason_without_rule::Reason;
+use crate::session_counts::SessionCounts;
+use crate::stored_pairs::StoredPairs;
+use crate::told_run::Run;
+use flow_filter::Verdict;
+use packet_view::Packets;
+use session_state::{Session, Timeouts};
+
+// Whether a packet with this verdict is counted for this reason.
+fn has_reason(reason: Reason, verdict: Verdict) -> bool
+    ensures { result ≡ Hits.has_reason reason verdict }
+{
+    match (reason, verdict) {
+        (Reason::Session, Verdict::Session)
+        | (Reason::ByDefault, Verdict::ByDefault)
+        | (Reason::Full, Verdict::Full)
+        | (Reason::Worn, Verdict::Worn)
+        | (Reason::NoPages, Verdict::NoPages)
+        | (Reason::NotIp, Verdict::NotIp)
+        | (Reason::Malformed, Verdict::Malformed)
+        | (Reason::Short, Verdict::Short) => true,
+        _ => false,
+    }
+}
+
+/// How many packets have this verdict.
+pub fn count_reason(reason: Reason, verdicts: &[Verdict]) -> u64
+    ensures { result ≡ count_by (Hits.has_reason reason) verdicts.now }
+{
+    let mut count = 0;
+    'verdicts: for verdict in verdicts {
+        if has_reason(reason, *verdict) {
+            count += 1;
+        }
+    }
+    count
+}
+
+// Whether a packet with this verdict entered a session.
+fn is_entry(verdict: Verdict) -> bool
+    ensures { result ≡ Hits.is_entry verdict }
+{
+    matches!(verdict, Verdict::Reflect(_))
+}
+
+// How many packets entered a session, by their verdicts.
+fn count_entries(verdicts: &[Verdict]) -> u64
+    ensures { result ≡ count_by Hits.is_entry verdicts.now }
+{
+    let mut count = 0;
+    'verdicts: for verdict in verdicts {
+        if is_entry(*verdict) {
+            count += 1;
+        }
+    }
+    count
+}
+
+// The latest second of packets.
+fn latest_second(packets: Packets<'_>) -> u32
+    ensures { result ≡ Hits.latest_second (remaining packets.entry) }
+{
+    let mut left = packets;
+    let mut latest = 0;
+    'packets: while let Some(packet) = left.next() {
+        latest = latest.max(packet.moment);
+    }
+    latest
+}
+
+// Whether the session in this word is live at a moment.
+fn is_live(times: &Timeouts, moment: u32, word: u64) -> bool
+    ensures { result ≡ not (is_expired_at times.now moment word) }
+{
+    match Session::from_word(word) {
+        Some(session) => session.live_at(moment, times),
+        None => false,
+    }
+}
+
+// How many of these sessions are live at a moment.
+fn count_live<const N: usize>(times: &Timeouts, moment: u32, pairs: &[([u64; N], u64)]) -> u64
+    ensures { result ≡ live_among times.now moment pairs.now }
+{
+    let mut count = 0;
+    'pairs: for pair in pairs {
+        if is_live(times, moment, pair.1) {
+            count += 1;
+        }
+    }
+    count
+}
+
+/// How many sessions a run entered, how many packets they let through, and how many of those entered aren't live any more at the
+/// latest second of any packet.
+pub fn count_sessions(times: Timeouts, run: Run<'_>, stored: &StoredPairs) -> SessionCounts
+    ensures { result ≡ session_counts times (run_facts run.entry) (stored_facts stored.now) }
+{
+    let latest = latest_second(run.packets);
+    let entered = count_entries(run.verdicts);
+    let four = count_live(&times, latest, &stored.four);
+    let six = count_live(&times, latest, &stored.six);
+    SessionCounts {
+        entered,
+        matched: count_reason(Reason::Session, run.verdicts),
+        expired: entered.saturating_sub(four).saturating_sub(six),
+    }
+}

@@ -1,0 +1,255 @@
+//! What is told of hits, in lines or objects.
+ghost use Rattle.std.specs.Prelude.{◌≡◌, ◌+◌, ◌≤◌, ◌++◌, [], ◌∷◌, List, Option, OnOk, IfOk, codes, count_by, length};
+ghost use Rattle.std.specs.List.{flat_map};
+ghost use Rattle.acl_policy.specs.Policies.{IsPolicyText, policy_facts};
+ghost use Rattle.racl_views.specs.Hits;
+ghost use Rattle.racl_views.specs.Hits.{IsHits, has_reason, hit_line, hit_told, reason_hits, rule_hits, session_hits};
+ghost use Rattle.racl_views.specs.Objects.{number, object_line, object_of};
+ghost use Rattle.racl_views.specs.PacketWords.{numbered};
+ghost use Rattle.racl_views.specs.RunEntries.{run_facts};
+ghost use Rattle.racl_views.specs.Stored.{stored_facts};
+ghost use Rattle.racl_views.specs.declared.hit.Hit.TheVariants.{Rule, Unruled};
+ghost use Rattle.racl_views.specs.declared.rule_name.RuleName.{RuleName};
+ghost use Rattle.racl_views.specs.inner.Counts.{Count};
+
+use crate::counting_reasons_and_sessions::{count_reason, count_sessions};
+use crate::hit::Hit;
+use crate::json_fields::{add_number, add_string, begin, end};
+use crate::json_of_packets_and_totals::add_way;
+use crate::line_text::{pass_on, push_numbered};
+use crate::reason_without_rule::Reason;
+use crate::rule_counts::{count_packets, number_at};
+use crate::rule_name::RuleLine;
+use crate::rule_numbering::rule_lines;
+use crate::session_counts::SessionCounts;
+use crate::stored_pairs::StoredPairs;
+use crate::text_or_json::View;
+use crate::told_run::Run;
+use flow_filter::Verdict;
+use packet_view::Direction;
+use racl_io::Piece;
+use session_state::Timeouts;
+use std::alloc::{AllocError, Global};
+
+fn way_word(direction: Direction) -> &'static [u8]
+    ensures word { result.now ≡ Hits.way_word direction }
+    ensures short { length result.now ≤ 10 }
+{
+    match direction {
+        Direction::Inbound => b" in rule ",
+        Direction::Outbound => b" out rule ",
+    }
+}
+
+fn word_of(reason: Reason) -> &'static str
+    ensures word { result.now ≡ Hits.word_of reason }
+    ensures short { length result.now ≤ 9 }
+{
+    match reason {
+        Reason::Session => "session",
+        Reason::ByDefault => "default",
+        Reason::Full => "full",
+        Reason::Worn => "worn",
+        Reason::NoPages => "no-pages",
+        Reason::NotIp => "not-ip",
+        Reason::Malformed => "malformed",
+        Reason::Short => "short",
+    }
+}
+
+// The line of how many packets a rule decided.
+fn push_rule(piece: &mut Piece, at: RuleLine, count: u64)
+    requires { length piece.old + 199 ≤ 262144 }
+    ensures { piece.new ≡ piece.old ++ hit_line (Rule at count) }
+{
+    push_numbered(piece, b"interface ", u64::from(at.rule.interface));
+    push_numbered(piece, way_word(at.rule.direction), at.rule.number);
+    push_numbered(piece, b" line ", at.line);
+    push_numbered(piece, b" packets ", count);
+    piece.push(b"\n");
+}
+
+// The line of how many packets a reason decided that is no rule.
+fn push_reason(piece: &mut Piece, reason: Reason, count: u64)
+    requires { length piece.old + 199 ≤ 262144 }
+    ensures { piece.new ≡ piece.old ++ hit_line (Unruled reason count) }
+{
+    piece.push(word_of(reason).as_bytes());
+    push_numbered(piece, b" packets ", count);
+    piece.push(b"\n");
+}
+
+// The line of a count among the hits.
+fn push_count(piece: &mut Piece, word: &'static [u8], count: u64)
+    requires { length piece.old + length word.now + 25 ≤ 262144 }
+    ensures { piece.new ≡ piece.old ++ (numbered word.now count ++ codes "\n") }
+{
+    push_numbered(piece, word, count);
+    piece.push(b"\n");
+}
+
+// The line of a hit.
+fn push_hit(piece: &mut Piece, hit: Hit)
+    requires { length piece.old + 199 ≤ 262144 }
+    ensures { piece.new ≡ piece.old ++ hit_line hit }
+{
+    match hit {
+        Hit::Rule(at, count) => push_rule(piece, at, count),
+        Hit::Unruled(reason, count) => push_reason(piece, reason, count),
+        Hit::Entered(count) => push_count(piece, b"sessions entered ", count),
+        Hit::Matched(count) => push_count(piece, b"sessions matched ", count),
+        Hit::Expired(count) => push_count(piece, b"sessions expired ", count),
+    }
+}
+
+fn rule_object(text: Vec<u8>, at: RuleLine, count: u64) -> Result<Vec<u8>, AllocError>
+    ensures { IfOk result (λ new. new.items ≡ text.items ++ object_line (Hits.hit_object (Rule at count))) }
+{
+    let mut object = begin(&text)?;
+    add_number(&mut object, "interface", u64::from(at.rule.interface))?;
+    add_way(&mut object, at.rule.direction)?;
+    add_number(&mut object, "rule", at.rule.number)?;
+    add_number(&mut object, "line", at.line)?;
+    add_number(&mut object, "packets", count)?;
+    end(object, text)
+}
+
+fn reason_object(text: Vec<u8>, reason: Reason, count: u64) -> Result<Vec<u8>, AllocError>
+    ensures { IfOk result (λ new. new.items ≡ text.items ++ object_line (Hits.hit_object (Unruled reason count))) }
+{
+    let mut object = begin(&text)?;
+    add_string(&mut object, "reason", word_of(reason))?;
+    add_number(&mut object, "packets", count)?;
+    end(object, text)
+}
+
+fn count_object(text: Vec<u8>, key: &str, count: u64) -> Result<Vec<u8>, AllocError>
+    ensures { IfOk result (λ new. new.items ≡ text.items ++ object_line (object_of (number key.now count ∷ []))) }
+{
+    let mut object = begin(&text)?;
+    add_number(&mut object, key, count)?;
+    end(object, text)
+}
+
+// The object of a hit behind a text.
+fn hit_object(text: Vec<u8>, hit: Hit) -> Result<Vec<u8>, AllocError>
+    ensures { IfOk result (λ new. new.items ≡ text.items ++ object_line (Hits.hit_object hit)) }
+{
+    match hit {
+        Hit::Rule(at, count) => rule_object(text, at, count),
+        Hit::Unruled(reason, count) => reason_object(text, reason, count),
+        Hit::Entered(count) => count_object(text, "sessions_entered", count),
+        Hit::Matched(count) => count_object(text, "sessions_matched", count),
+        Hit::Expired(count) => count_object(text, "sessions_expired", count),
+    }
+}
+
+// What is told of a hit behind a text. The piece is room for it.
+fn tell_hit(text: Vec<u8>, piece: &mut Piece, view: View, hit: Hit) -> Result<Vec<u8>, AllocError>
+    ensures { IfOk result (λ new. new.items ≡ text.items ++ hit_told view hit) }
+{
+    match view {
+        View::Text => {
+            piece.clear();
+            push_hit(piece, hit);
+            pass_on(text, piece)
+        }
+        View::Json => hit_object(text, hit),
+    }
+}
+
+// What is told of hits.
+fn tell_hits(alloc: Global, view: View, hits: &[Hit]) -> Result<Vec<u8>, AllocError>
+    ensures { IfOk result (λ told. told.items ≡ flat_map (hit_told view) hits.now) }
+{
+    let mut piece = Piece::new(alloc)?;
+    let mut text = Vec::new(alloc);
+    'hits: for hit in hits {
+        text = tell_hit(text, &mut piece, view, *hit)?;
+    }
+    Ok(text)
+}
+
+// How many packets a rule decided, by the counts of all.
+fn push_rules(hits: &mut Vec<Hit>, counts: &[u64], rules: &[RuleLine]) -> Result<(), AllocError>
+    ensures { OnOk result ((deciding : List (Option RuleName)) → Count counts.now deciding
+        → hits.new.items ≡ hits.old.items ++ rule_hits deciding rules.now) }
+{
+    'rules: for at in rules {
+        hits.push(Hit::Rule(*at, number_at(counts, &at.rule)))?;
+    }
+    Ok(())
+}
+
+fn unruled(reason: Reason, verdicts: &[Verdict]) -> Hit
+    ensures { result ≡ Unruled reason (count_by (has_reason reason) verdicts.now) }
+{
+    Hit::Unruled(reason, count_reason(reason, verdicts))
+}
+
+fn push_reasons(hits: &mut Vec<Hit>, verdicts: &[Verdict]) -> Result<(), AllocError>
+    ensures { OnOk result (hits.new.items ≡ hits.old.items ++ reason_hits verdicts.now) }
+{
+    hits.extend_from_slice(&[
+        unruled(Reason::Session, verdicts),
+        unruled(Reason::ByDefault, verdicts),
+        unruled(Reason::Full, verdicts),
+        unruled(Reason::Worn, verdicts),
+        unruled(Reason::NoPages, verdicts),
+        unruled(Reason::NotIp, verdicts),
+        unruled(Reason::Malformed, verdicts),
+        unruled(Reason::Short, verdicts),
+    ])?;
+    Ok(())
+}
+
+fn push_sessions(hits: &mut Vec<Hit>, counts: SessionCounts) -> Result<(), AllocError>
+    ensures { OnOk result (hits.new.items ≡ hits.old.items ++ session_hits counts) }
+{
+    hits.extend_from_slice(&[
+        Hit::Entered(counts.entered),
+        Hit::Matched(counts.matched),
+        Hit::Expired(counts.expired),
+    ])?;
+    Ok(())
+}
+
+// The hits of rules, by the counts of their packets, of other verdicts, and of sessions.
+fn hits_of(
+    alloc: Global,
+    rules: &[RuleLine],
+    counts: &[u64],
+    verdicts: &[Verdict],
+    sessions: SessionCounts,
+) -> Result<Vec<Hit>, AllocError>
+    ensures { IfOk result (λ hits. (deciding : List (Option RuleName)) → Count counts.now deciding
+        → hits.items ≡ rule_hits deciding rules.now ++ (reason_hits verdicts.now ++ session_hits sessions)) }
+{
+    let mut hits = Vec::new(alloc);
+    push_rules(&mut hits, counts, rules)?;
+    push_reasons(&mut hits, verdicts)?;
+    push_sessions(&mut hits, sessions)?;
+    Ok(hits)
+}
+
+/// What is told of hits: for each rule of the policy's text its interface, direction and number, its line and how many packets
+/// it decided; for each verdict that is no rule's how many packets have it; and how many sessions were entered, how many packets
+/// they let through, and how many have expired by the latest second of any packet. `stored` has the sessions that the tables hold
+/// after the run. An `Err` says that memory ran out.
+pub fn hits_text(
+    alloc: Global,
+    view: View,
+    times: Timeouts,
+    run: Run<'_>,
+    stored: &StoredPairs,
+) -> Result<Vec<u8>, AllocError>
+    ensures { IfOk result (λ told. IsPolicyText run.entry.text.now (policy_facts run.entry.policy.now)
+        → IsHits view times (run_facts run.entry) (stored_facts stored.now) told.items) }
+{
+    let rules = rule_lines(alloc, run.text)?;
+    let counts = count_packets(alloc, run.policy, run.packets, run.verdicts)?;
+    let sessions = count_sessions(times, run, stored);
+    let hits = hits_of(alloc, &rules, &counts, run.verdicts, sessions)?;
+    let told = tell_hits(alloc, view, &hits)?;
+    Ok(told)
+}

@@ -1,0 +1,144 @@
+//! The report in objects of JSON, made whole before any of it is written.
+ghost use Rattle.std.specs.Prelude.{◌≡◌, ◌+◌, ◌-◌, ◌<◌, ◌^◌, ◌++◌, ◌∷◌, [], ℕ, List, IfOk, OnOk, drop, length};
+ghost use Rattle.packet_view.specs.Captures.{packet_facts};
+ghost use Rattle.packet_view.specs.CheckedCaptures.{remaining};
+ghost use Rattle.acl_policy.specs.Policies.{IsPolicyText, policy_facts};
+ghost use Rattle.racl_io.specs.Reports.{packets_in, totals_of};
+ghost use Rattle.racl_io.specs.Sinks.{Writes};
+ghost use Rattle.racl_views.specs.Objects.{object_line};
+ghost use Rattle.racl_views.specs.PacketObjects.{IsToldInObjects, totals_object};
+ghost use Rattle.racl_views.specs.RunEntries.{captures_told, run_facts, told_from};
+ghost use Rattle.racl_views.specs.inner.Tellings.{entries_by, entry_by, object_by, truncation_by};
+
+use crate::json_of_packets_and_totals::{push_packet, push_totals, push_truncation};
+use crate::packet_telling::Telling;
+use crate::passed_count::passed;
+use crate::rule_lines_by_place::{entry_of, rule_table};
+use crate::told_run::Run;
+use flow_filter::Verdict;
+use packet_view::{Packet, Packets};
+use racl_io::{Captured, Fault, Sink, Totals, has_line, totals_on, write_all};
+use std::alloc::{AllocError, Global};
+
+// The object of a packet behind a text, where it is shown.
+fn tell(
+    text: Vec<u8>,
+    address: &mut String,
+    telling: Telling<'_, '_>,
+    number: u64,
+    packet: Packet<'_>,
+    verdict: Verdict,
+) -> Result<Vec<u8>, AllocError>
+    ensures { IfOk result (λ new. new.items ≡ text.items ++ object_by telling.entry number (entry_by telling.entry (packet_facts packet.entry) verdict)) }
+{
+    if !has_line(telling.shown, verdict) {
+        return Ok(text);
+    }
+    let entry = entry_of(telling.policy, &telling.table.lines, packet, verdict);
+    push_packet(text, address, number, &entry)
+}
+
+// The objects among these packets, of which the first has this number.
+fn tell_packets(
+    text: Vec<u8>,
+    address: &mut String,
+    telling: Telling<'_, '_>,
+    first: u64,
+    packets: &mut Packets<'_>,
+    verdicts: &[Verdict],
+) -> Result<Vec<u8>, AllocError>
+    requires { first + length verdicts.now < 2 ^ 64 }
+    ensures told { IfOk result (λ new. new.items ≡ text.items
+        ++ told_from (object_by telling.entry) first (entries_by telling.entry (remaining packets.old) verdicts.now)) }
+    ensures left { OnOk result (remaining packets.new ≡ drop (length verdicts.now) (remaining packets.old)) }
+{
+    let mut told = text;
+    let mut number = first;
+    'verdicts: for verdict in verdicts {
+        let Some(packet) = packets.next() else {
+            return Ok(told);
+        };
+        told = tell(told, address, telling, number, packet, *verdict)?;
+        number += 1;
+    }
+    Ok(told)
+}
+
+// That of a truncation, where there is one.
+fn tell_truncation(text: Vec<u8>, captured: &Captured) -> Result<Vec<u8>, AllocError>
+    ensures { IfOk result (λ new. new.items ≡ text.items ++ truncation_by captured.now) }
+{
+    if captured.truncated {
+        return push_truncation(text, captured);
+    }
+    Ok(text)
+}
+
+// Those of the captures, one after the other.
+fn tell_captures(
+    alloc: Global,
+    telling: Telling<'_, '_>,
+    run: Run<'_>,
+) -> Result<Vec<u8>, AllocError>
+    requires { packets_in run.captures.now ≡ length run.verdicts.now }
+    ensures { IfOk result (λ told. told.items ≡ captures_told (λ _. object_by telling.entry) truncation_by 1
+        (entries_by telling.entry (remaining run.entry.packets) run.entry.verdicts.now) run.entry.captures.now) }
+{
+    let mut address = String::new(alloc);
+    let mut told = Vec::new(alloc);
+    let mut packets = run.packets;
+    let mut others = 0;
+    let mut rest = run.verdicts;
+    let mut left = run.captures;
+    'each: while let Some((captured, after)) = left.split_first() {
+        let (first, behind) = rest.split_at(captured.packets);
+        told = tell_packets(
+            told,
+            &mut address,
+            telling,
+            others as u64 + 1,
+            &mut packets,
+            first,
+        )?;
+        told = tell_truncation(told, captured)?;
+        others += captured.packets;
+        rest = behind;
+        left = after;
+    }
+    Ok(told)
+}
+
+// Those of a run, with its totals.
+fn tell_run(alloc: Global, run: Run<'_>, totals: &Totals) -> Result<Vec<u8>, AllocError>
+    requires { packets_in run.captures.now ≡ length run.verdicts.now }
+    ensures { IfOk result (λ told. IsPolicyText run.entry.text.now (policy_facts run.entry.policy.now)
+        → totals.now ≡ totals_of run.entry.verdicts.now run.entry.captures.now → IsToldInObjects (run_facts run.entry) told.items) }
+{
+    let table = rule_table(alloc, run.text)?;
+    let telling = Telling {
+        shown: run.shown,
+        policy: run.policy,
+        table: &table,
+    };
+    let told = tell_captures(alloc, telling, run)?;
+    let told = push_totals(told, totals)?;
+    Ok(told)
+}
+
+/// Writes a run in objects of JSON, one a line: of each packet that is shown its verdict, what it is, and the line of the rule
+/// that decided it; and the totals. Memory is asked for before the first byte is written.
+pub fn write_objects<W: Sink>(alloc: Global, writer: &mut W, run: Run<'_>) -> Result<Totals, Fault>
+    requires sound { W.failures writer.old < 2 ^ 64 - 1 }
+    requires counted { packets_in run.captures.now ≡ length run.verdicts.now }
+    ensures { (told : List ℕ) × (IsPolicyText run.entry.text.now (policy_facts run.entry.policy.now) → IsToldInObjects (run_facts run.entry) told)
+        × Writes W.bytes W.failures writer.old writer.new told (totals_of run.entry.verdicts.now run.entry.captures.now) result }
+{
+    let totals = totals_on(passed(run.verdicts), run.verdicts, run.captures);
+    match tell_run(alloc, run, &totals) {
+        Ok(told) => {
+            write_all(writer, &told)?;
+            Ok(totals)
+        }
+        Err(_) => Err(Fault::Memory),
+    }
+}

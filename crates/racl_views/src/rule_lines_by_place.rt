@@ -1,0 +1,91 @@
+//! The lines of rules, each at its rule's place.
+ghost use Rattle.std.specs.Prelude.{◌≡◌, ◌<◌, ◌==◌, ◌^◌, ◌∷◌, ℕ, List, IfOk, IfSome, OnOk, get_or, if◌then◌else◌};
+ghost use Rattle.packet_view.specs.Captures.{packet_facts};
+ghost use Rattle.acl_policy.specs.Policies.{policy_facts};
+ghost use Rattle.racl_views.specs.declared.rule_name.RuleLine as code;
+ghost use Rattle.racl_views.specs.Entries.{entry_facts, line_deciding};
+ghost use Rattle.racl_views.specs.inner.EntryLists.{AreAtPlaces, entry_on};
+ghost use Rattle.racl_views.specs.inner.Tellings.{IsTableOf};
+
+use crate::deciding_rule::{rule_on, seen};
+use crate::packet_entry::Entry;
+use crate::rule_counts::{number_at, place, reach};
+use crate::rule_name::{RuleLine, RuleName};
+use crate::rule_numbering::rule_lines;
+use crate::rule_table::RuleTable;
+use crate::rule_texts_in_policy::texts_of;
+use acl_policy::Policy;
+use flow_filter::Verdict;
+use packet_view::Packet;
+use std::alloc::{AllocError, Global};
+
+fn set_line(lines: &mut Vec<u64>, place: usize, line: u64) -> Result<(), AllocError>
+    ensures { OnOk result ((k : ℕ) → get_or lines.new.items k 0 ≡ (if place == k then line else get_or lines.old.items k 0)) }
+{
+    reach(lines, place)?;
+    lines[place] = line;
+    Ok(())
+}
+
+// Puts the line of a rule before others at its place. No verdict has a number of more than 16 bits.
+fn set_rule(lines: &mut Vec<u64>, at: &RuleLine) -> Result<(), AllocError>
+    ensures { (rules : List code.RuleLine) → AreAtPlaces lines.old.items rules → OnOk result (AreAtPlaces lines.new.items (at.now ∷ rules)) }
+{
+    if at.rule.number > u64::from(u16::MAX) {
+        return Ok(());
+    }
+    set_line(lines, place(&at.rule) as usize, at.line)
+}
+
+// The lines of rules, each at the place of its rule.
+fn lines_at_places(alloc: Global, rules: &[RuleLine]) -> Result<Vec<u64>, AllocError>
+    ensures { IfOk result (λ lines. AreAtPlaces lines.items rules.now) }
+{
+    let mut lines = Vec::new(alloc);
+    for i in (0..rules.len()).rev() {
+        set_rule(&mut lines, &rules[i])?;
+    }
+    Ok(lines)
+}
+
+/// What is looked up of the rules of a policy's text. An `Err` says that memory ran out.
+pub fn rule_table(alloc: Global, text: &[u8]) -> Result<RuleTable<'_>, AllocError>
+    ensures { IfOk result (IsTableOf text.now) }
+{
+    let rules = rule_lines(alloc, text)?;
+    let lines = lines_at_places(alloc, &rules)?;
+    let texts = texts_of(alloc, text)?;
+    Ok(RuleTable {
+        rules,
+        lines,
+        texts,
+    })
+}
+
+// The line of a rule that decided, and 0 where none did.
+fn line_of(lines: &[u64], rule: Option<RuleName>) -> u64
+    requires interface { IfSome rule (λ r. r.interface < 2 ^ 8) }
+    requires number { IfSome rule (λ r. r.number < 2 ^ 16) }
+    ensures { (rules : List code.RuleLine) → AreAtPlaces lines.now rules → result ≡ line_deciding rules rule }
+{
+    match rule {
+        Some(rule) => number_at(lines, &rule),
+        None => 0,
+    }
+}
+
+/// What is told of a packet.
+pub fn entry_of(policy: &Policy, lines: &[u64], packet: Packet<'_>, verdict: Verdict) -> Entry
+    ensures { (rules : List code.RuleLine) → AreAtPlaces lines.now rules
+        → entry_facts result ≡ entry_on (policy_facts policy.now) rules (packet_facts packet.entry) verdict }
+{
+    let frame = seen(policy, packet);
+    let line = line_of(lines, rule_on(packet.interface, frame, verdict));
+    Entry {
+        verdict,
+        interface: packet.interface,
+        moment: packet.moment,
+        frame,
+        line,
+    }
+}

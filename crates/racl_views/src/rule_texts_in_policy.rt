@@ -1,0 +1,104 @@
+//! The texts of rules, as their lines have them.
+ghost use Rattle.std.specs.Prelude.{◌≡◌, ◌-◌, ◌<◌, ◌≤◌, [], IfOk, IfSome, get_or, length, map, not, position, take};
+ghost use Rattle.std.specs.Str.{IsUtf8};
+ghost use Rattle.policy_words.specs.Words;
+ghost use Rattle.racl_views.specs.RuleTexts;
+ghost use Rattle.racl_views.specs.RuleTexts.{from_word, rule_texts, shown_of, without_end};
+
+use crate::shown_rule_text::RuleText;
+use acl_policy::before_comment;
+use std::alloc::{AllocError, Global};
+
+/// How many bytes of a rule are shown at most.
+const MOST_SHOWN: usize = 200;
+
+fn is_blank(byte: u8) -> bool
+    ensures { result ≡ Words.is_blank byte }
+{
+    byte == b' ' || byte == b'\t'
+}
+
+fn word_start(text: &[u8]) -> Option<usize>
+    ensures place { result ≡ position (λ b. not (Words.is_blank b)) text.now }
+    ensures within { IfSome result (λ i. i < length text.now) }
+{
+    text.iter().position(|b| !is_blank(*b))
+}
+
+// The text of a policy's line from its first word on.
+fn after_blanks(text: &[u8]) -> &[u8]
+    ensures { result.now ≡ from_word text.now }
+{
+    match word_start(text) {
+        Some(start) => &text[start..],
+        None => &[],
+    }
+}
+
+// The text of a policy's line without the blanks at its end.
+fn before_blanks(text: &[u8]) -> &[u8]
+    ensures { result.now ≡ without_end text.now }
+{
+    let mut kept = text;
+    'blanks: while let Some((last, others)) = kept.split_last() {
+        if !is_blank(*last) {
+            return kept;
+        }
+        kept = others;
+    }
+    kept
+}
+
+// As many bytes of a text as are shown at most.
+fn front(text: &[u8]) -> &[u8]
+    ensures text { result.now ≡ take 200 text.now }
+    ensures short { length result.now ≤ 200 }
+{
+    if text.len() < MOST_SHOWN {
+        return text;
+    }
+    &text[..MOST_SHOWN]
+}
+
+// What is shown of a line.
+fn rule_text(line: &[u8]) -> RuleText<'_>
+    ensures { shown_of result ≡ RuleTexts.rule_text line.now }
+{
+    RuleText {
+        text: front(before_blanks(after_blanks(before_comment(line)))),
+    }
+}
+
+fn texts_in<'a>(alloc: Global, text: &'a str) -> Result<Vec<RuleText<'a>>, AllocError>
+    ensures { IfOk result (λ texts. map shown_of texts.items ≡ rule_texts text.now) }
+{
+    let mut texts = Vec::new(alloc);
+    for line in text.lines() {
+        texts.push(rule_text(line.as_bytes()))?;
+    }
+    Ok(texts)
+}
+
+/// What is shown of each line of a policy's text. An `Err` says that memory ran out.
+pub fn texts_of<'a>(alloc: Global, text: &'a [u8]) -> Result<Vec<RuleText<'a>>, AllocError>
+    ensures { IfOk result (λ texts. IsUtf8 text.now → map shown_of texts.items ≡ rule_texts text.now) }
+{
+    match str::from_utf8(text) {
+        Ok(text) => texts_in(alloc, text),
+        Err(_) => Ok(Vec::new(alloc)),
+    }
+}
+
+/// What is shown of the line with this number, counted from 1, and nothing where there is none.
+pub fn text_at<'a>(texts: &'a [RuleText<'a>], line: u64) -> &'a [u8]
+    requires { 0 < line }
+    ensures text { result.now ≡ get_or (map shown_of texts.now) (line - 1) [] }
+    ensures short { length result.now ≤ 200 }
+{
+    let place = (line - 1) as usize;
+    if place < texts.len() {
+        texts[place].text
+    } else {
+        &[]
+    }
+}
