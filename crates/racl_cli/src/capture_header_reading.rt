@@ -1,8 +1,6 @@
 //! The header of a capture, read from a source.
 ghost use Rattle.std.specs.Prelude.{◌≡◌, ◌-◌, ◌<◌, ◌^◌, MatchResult};
-ghost use Rattle.acl_policy.specs.Policies.{policy_facts};
-ghost use Rattle.capture_stream.specs.Lives.{HasToldAll, IsLiveFault, with_read, with_write};
-ghost use Rattle.racl_cli.specs.LiveRuns.{ByOneWorker, HasRunLive, IsLiveRunFault};
+ghost use Rattle.capture_stream.specs.Lives.{with_read};
 ghost use Rattle.racl_cli.specs.inner.Heads.{HasReadHeader, IsHeadless};
 
 use packet_view::{Order, capture_header};

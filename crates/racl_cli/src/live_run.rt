@@ -3,7 +3,6 @@ ghost use Rattle.std.specs.Prelude.{◌≡◌, ◌-◌, ◌<◌, ◌^◌, MatchR
 ghost use Rattle.acl_policy.specs.Policies.{policy_facts};
 ghost use Rattle.capture_stream.specs.Lives.{HasToldAll, IsLiveFault, with_read, with_write};
 ghost use Rattle.racl_cli.specs.LiveRuns.{ByOneWorker, HasRunLive, IsLiveRunFault};
-ghost use Rattle.racl_cli.specs.inner.Heads.{HasReadHeader, IsHeadless};
 
 use crate::capture_header_reading::read_header;
 use crate::sized_tables_and_workers::{SizedWorkers, create_sized};
