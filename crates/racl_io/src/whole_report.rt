@@ -1,8 +1,8 @@
 //! The report on captures, written in pieces.
-ghost use Rattle.std.specs.Prelude.{◌≡◌, ◌≢◌, ◌+◌, ◌-◌, ◌*◌, ◌<◌, ◌≤◌, ◌^◌, ◌++◌, ◌⊎◌, ◌↔◌, [], true, None, IfOk, IfErr, OnOk, OnErr, Err, codes, length, decimal};
+ghost use Rattle.std.specs.Prelude.{◌≡◌, ◌≢◌, ◌+◌, ◌-◌, ◌<◌, ◌≤◌, ◌^◌, ◌⊎◌, ◌↔◌, [], true, IfOk, IfErr, OnOk, OnErr, Err, length};
 ghost use Rattle.std.specs.Io.KnownBytes.{Appends};
 ghost use Rattle.racl_io.specs.Reports;
-ghost use Rattle.racl_io.specs.Reports.{captures_from, line_of, lines_from, name_of, packets_in, report_of, text_of, totals_of, totals_line, truncation_line};
+ghost use Rattle.racl_io.specs.Reports.{captures_from, packets_in, report_of, totals_of, totals_line, truncation_line};
 ghost use Rattle.racl_io.specs.Sinks.{GotFront, HasPutFront};
 ghost use Rattle.racl_io.specs.inner.Lines.{HasTold, HasWritten, lines_at};
 ghost use Rattle.racl_io.specs.declared.fault.Fault.TheVariants.{Memory, Write};

@@ -1,19 +1,16 @@
 //! The report on an input, as the options ask for it.
-ghost use Rattle.std.specs.Prelude.{◌≡◌, ◌<◌, ◌-◌, ◌^◌, ℕ, List, [], ◌∷◌, IfOk, Some, length};
-ghost use Rattle.packet_view.specs.Captures.{PacketFacts, packet_facts};
+ghost use Rattle.std.specs.Prelude.{◌≡◌, ◌<◌, ◌-◌, ◌^◌, ℕ, List, IfOk, length};
+ghost use Rattle.packet_view.specs.Captures.{PacketFacts};
 ghost use Rattle.packet_view.specs.CheckedCaptures.{remaining};
 ghost use Rattle.acl_policy.specs.Policies.{IsPolicyText, PolicyFacts, policy_facts};
 ghost use Rattle.racl_io.specs.declared.whole_report.Captured as told;
-ghost use Rattle.racl_io.specs.Inputs.{input_facts};
 ghost use Rattle.racl_io.specs.Reports;
-ghost use Rattle.racl_views.specs.CapturePackets.{HavePackets};
 ghost use Rattle.racl_views.specs.Hits.{AreHits};
 ghost use Rattle.racl_views.specs.Stored.{stored_facts};
 ghost use Rattle.racl_views.specs.RunEntries.{run_facts};
 ghost use Rattle.racl_report.specs.RunReports;
-ghost use Rattle.racl_report.specs.ReadInputs.{HasPackets, IsRead};
+ghost use Rattle.racl_report.specs.ReadInputs.{IsRead};
 ghost use Rattle.racl_report.specs.RunReports.{sessions_behind, told_facts};
-ghost use Rattle.racl_report.specs.inner.NumberedCaptures.{AreTakenFrom, facts_of};
 ghost use Rattle.racl_report.specs.WrittenReports;
 ghost use Rattle.racl_report.specs.WrittenReports.{EndsOnce, HasPlain, HasReport, MayTell};
 ghost use Rattle.racl_report.specs.inner.InputsAgain.{HasLines, IsAgain};
