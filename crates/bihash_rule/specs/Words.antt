@@ -1,7 +1,7 @@
 -- Where the words of a table stand (this project's layout): the caller count, the allocation lock, the
 -- used mark, for each log2 a count of returned blocks, for each log2 a list of them, the bucket words,
 -- the page words.
-use Rattle.std.specs.Prelude.{◌≡◌, ℕ, ◌+◌, ◌-◌, ◌*◌, ◌/◌, ◌^◌, ◌<◌, ◌≤◌, List, length, slice_index, zero, suc}
+use Rattle.std.specs.Prelude.{◌≡◌, ℕ, ◌+◌, ◌-◌, ◌*◌, ◌/◌, ◌%◌, ◌^◌, ◌<◌, ◌≤◌, List, length, slice_index, zero, suc}
 use Rattle.bihash_words.specs.Sizes.{Sizes}
 
 abbrev pub count_of : List ℕ → ℕ
@@ -37,8 +37,13 @@ front_words z = (4 + z.max_log2) + lists_words z (suc z.max_log2)
 abbrev pub buckets : Sizes → ℕ
 buckets z = 2 ^ z.log2_buckets
 
+-- Where the word of a bucket stands among the bucket words: those whose numbers are the same modulo 16 stand together. So
+-- workers to whom packets are dealt by bucket, 2, 4, 8 or 16, hardly share a cache line there.
+unfoldable pub bucket_place : Sizes → ℕ → ℕ
+bucket_place z b = b % 16 * 2 ^ (z.log2_buckets - 4) + b / 16
+
 abbrev pub bucket_at : Sizes → ℕ → ℕ
-bucket_at z b = front_words z + b
+bucket_at z b = front_words z + bucket_place z b
 
 -- a place has a key and a value, and a page four places
 abbrev pub place_words : Sizes → ℕ

@@ -19,6 +19,7 @@ use Rattle.bihash_rule.specs.declared.view.LockedBucket.{LockedBucket}
 use Rattle.bihash_rule.specs.declared.view.HeldBlock.{HeldBlock}
 use Rattle.bihash_rule.specs.declared.view.OpenBucket.{OpenBucket}
 use Rattle.bihash_rule.specs.declared.view.View.{View}
+use Rattle.bihash_steps.proofs.BucketPlaces.{one_place}
 use Rattle.bihash_steps.proofs.bucket_steps.LoadBucket.{bucket_fits, loads_bucket}
 use Rattle.bihash_steps.proofs.bucket_steps.LockFrom.{locks_bucket}
 use Rattle.bihash_steps.proofs.bucket_steps.LockedWords.{held_bucket, loads_locked_word, stores_locked_word}
@@ -41,26 +42,26 @@ HasVersion v = (l : LockedBucket) → v.holds.bucket ≡ Some l → FitsWord (wo
 module _ (z : Sizes) where
   -- ---- Buckets
 
-  same_bucket : (b c : ℕ) → bucket_at z b ≡ bucket_at z c → b ≡ c
-  same_bucket b c e = omega arith
+  same_bucket : (b c : ℕ) → b < buckets z → c < buckets z → bucket_at z b ≡ bucket_at z c → b ≡ c
+  same_bucket b c l l' e = one_place z b c l l' (omega arith)
 
   pub sees_at : (slots id at b : ℕ) (m : ViewOfSeat) → at ≡ bucket_at z b → b < buckets z → 1 ≤ length m.0.records
-      → Allows (WordRule z) slots id m at (λ n. n) (λ n m'. (c : ℕ) → at ≡ bucket_at z c → TellsBucket z c m n m')
+      → Allows (WordRule z) slots id m at (λ n. n) (λ n m'. (c : ℕ) → c < buckets z → at ≡ bucket_at z c → TellsBucket z c m n m')
   sees_at slots id at b m is inside acts =
-      subst (λ (i : ℕ). Allows (WordRule z) slots id m i (λ n. n) (λ n m'. (c : ℕ) → i ≡ bucket_at z c → TellsBucket z c m n m')) (sym is)
+      subst (λ (i : ℕ). Allows (WordRule z) slots id m i (λ n. n) (λ n m'. (c : ℕ) → c < buckets z → i ≡ bucket_at z c → TellsBucket z c m n m')) (sym is)
       (tells (WordRule z) slots id (bucket_at z b) m (λ n. n) (TellsBucket z b m)
-      (λ n m'. (c : ℕ) → bucket_at z b ≡ bucket_at z c → TellsBucket z c m n m')
-      (λ n m' t c e. subst (λ (k : ℕ). TellsBucket z k m n m') (same_bucket b c e) t) (loads_bucket z slots id b m inside acts))
+      (λ n m'. (c : ℕ) → c < buckets z → bucket_at z b ≡ bucket_at z c → TellsBucket z c m n m')
+      (λ n m' t c l e. subst (λ (k : ℕ). TellsBucket z k m n m') (same_bucket b c inside l e) t) (loads_bucket z slots id b m inside acts))
 
   pub locks_at : (slots id at b word locked : ℕ) (x : Bucket) (m : ViewOfSeat) → at ≡ bucket_at z b → b < buckets z → 1 ≤ length m.0.records
       → m.0.holds.bucket ≡ None → FitsWord x → word ≡ packed x → x.locked ≡ false → locked ≡ packed (record x { locked = true })
-      → Allows (WordRule z) slots id m at (λ n. either (eqb n word) locked n) (λ n m'. (c : ℕ) → at ≡ bucket_at z c → TellsLock z c word m n m')
+      → Allows (WordRule z) slots id m at (λ n. either (eqb n word) locked n) (λ n m'. (c : ℕ) → c < buckets z → at ≡ bucket_at z c → TellsLock z c word m n m')
   locks_at slots id at b word locked x m is inside acts free fits stood unset next =
       subst (λ (i : ℕ). Allows (WordRule z) slots id m i (λ n. either (eqb n word) locked n)
-      (λ n m'. (c : ℕ) → i ≡ bucket_at z c → TellsLock z c word m n m')) (sym is)
+      (λ n m'. (c : ℕ) → c < buckets z → i ≡ bucket_at z c → TellsLock z c word m n m')) (sym is)
       (tells (WordRule z) slots id (bucket_at z b) m (λ n. either (eqb n word) locked n) (TellsLock z b word m)
-      (λ n m'. (c : ℕ) → bucket_at z b ≡ bucket_at z c → TellsLock z c word m n m')
-      (λ n m' t c e. subst (λ (k : ℕ). TellsLock z k word m n m') (same_bucket b c e) t)
+      (λ n m'. (c : ℕ) → c < buckets z → bucket_at z b ≡ bucket_at z c → TellsLock z c word m n m')
+      (λ n m' t c l e. subst (λ (k : ℕ). TellsLock z k word m n m') (same_bucket b c inside l e) t)
       (locks_bucket z slots id b word locked x m inside acts free fits stood unset next))
 
   -- the old word is put back, without an answer or with one

@@ -22,6 +22,7 @@ use Rattle.bihash_rule.specs.WordRule.{WordRule}
 use Rattle.bihash_rule.specs.declared.view.PageStore.{PageStore}
 use Rattle.bihash_steps.proofs.Beginnings.{AreHome, bucket_at_first, no_writes, opening_lawful, starts_so}
 use Rattle.bihash_steps.proofs.BlockLemmas.{bare_block}
+use Rattle.bihash_steps.proofs.BucketPlaces.{place_inside}
 use Rattle.bihash_steps.proofs.CountWord.{front}
 
 module _ (z : Sizes) where
@@ -70,7 +71,7 @@ module _ (z : Sizes) where
         one = fresh.one;
         home = none_home;
         bucket = λ b l. record {
-          word = fresh.empty (bucket_at z b) (omega arith) (omega arith);
+          word = let p = place_inside z b l in fresh.empty (bucket_at z b) (omega arith) (omega arith);
           writes = no_writes z no_openings none_home b l;
           bearers = λ n w e. absurd (some-ne-none w (sym e));
           size = refl;

@@ -2,6 +2,7 @@ pub mod Addresses
 pub mod Beginnings
 pub mod BlockLemmas
 pub mod Bounds
+pub mod BucketPlaces
 pub mod CountWord
 pub mod Exchange
 pub mod Frames

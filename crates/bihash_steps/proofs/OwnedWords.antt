@@ -16,6 +16,7 @@ use Rattle.bihash_rule.specs.declared.view.Extent.{Extent}
 use Rattle.bihash_rule.specs.declared.view.PageStore.{PageStore}
 use Rattle.bihash_rule.specs.declared.view.HeldBlock.{HeldBlock}
 use Rattle.bihash_rule.specs.declared.view.View.{View}
+use Rattle.bihash_steps.proofs.BucketPlaces.{one_place, place_inside}
 use Rattle.bihash_steps.proofs.CountWord.{front, block_set}
 use Rattle.bihash_steps.proofs.Frames.{Beside}
 
@@ -86,7 +87,7 @@ module _ (z : Sizes) (used : ℕ) (has : Owner → Option PageRun) (parted : IsP
   beside_run : (words : List ℕ) (b id i n : ℕ) (o : Owner) (run : PageRun) → has o ≡ Some run → i < 2 ^ run.log2 * page_words z
       → ((o' : Owner) → o' ≢ of_bucket b → o' ≢ held_by id → o' ≢ o) → Beside z has words (set words (page_at z run.page + i) n) b id
   beside_run words b id i n o run e l away = record {
-    word = λ c h ne. let x : ℕ = (run.page - 1) * page_words z in
+    word = λ c h ne. let x : ℕ = (run.page - 1) * page_words z in let p = place_inside z c h in
         get_or-set_other words (page_at z run.page + i) (bucket_at z c) n 0 (λ q. omega arith);
     block = λ o' run' i' f ne ne' lt. get_or-set_other words (page_at z run.page + i) (page_at z run'.page + i') n 0
         (λ q. words_apart o' o run' run i' i f e (away o' ne ne') lt l q);
@@ -118,7 +119,8 @@ module _ (z : Sizes) where
   -- a store to the word of bucket b
   pub beside_bucket : (has : Owner → Option PageRun) (words : List ℕ) (b id n : ℕ) → b < buckets z
       → Beside z has words (set words (bucket_at z b) n) b id
-  beside_bucket has words b id n l = beside_front has words b id (bucket_at z b) n (omega arith) (λ c h ne e. ne (omega arith))
+  beside_bucket has words b id n l = beside_front has words b id (bucket_at z b) n (let p = place_inside z b l in omega arith)
+      (λ c h ne e. ne (one_place z c b h l (omega arith)))
 
   -- a store before the bucket words
   pub beside_store : (has : Owner → Option PageRun) (words : List ℕ) (b id i n : ℕ) → i < front_words z
@@ -156,7 +158,7 @@ module _ (z : Sizes) where
   bucket_after b = let h = front z in omega arith
 
   pub bucket_inside : (b : ℕ) → b < buckets z → bucket_at z b < all_words z
-  bucket_inside b l = let x : ℕ = z.pages * page_words z in omega arith
+  bucket_inside b l = let x : ℕ = z.pages * page_words z in let p = place_inside z b l in omega arith
 
   pub page_after : (page k : ℕ) → front_words z ≤ page_at z page + k
   page_after page k = let x : ℕ = (page - 1) * page_words z in omega arith

@@ -8,6 +8,7 @@ use Rattle.bihash_words.specs.Words.{Bucket, FitsWord, packed}
 use Rattle.bihash_words.specs.declared.block_size.BlockSize.{BlockSize}
 use Rattle.bihash_rule.specs.Words.{all_words, buckets, bucket_at}
 use Rattle.bihash_steps.specs.Renewals.{AreRenewedBelow}
+use Rattle.bihash_steps.proofs.BucketPlaces.{one_place, place_inside}
 use Rattle.bihash_steps.proofs.CountWord.{front}
 use Rattle.bihash_steps.proofs.OwnedWords.{bucket_inside}
 
@@ -15,13 +16,13 @@ module _ (z : Sizes) where
   renewed_at : (n word : ℕ) (words new : List ℕ) → n < buckets z → bucket_at z n < length new
       → ((x : Bucket) → FitsWord x → slice_index words (bucket_at z n) ≡ packed x → word ≡ packed (record x { locked = false; version = 0 }))
       → AreRenewedBelow z n words new → AreRenewedBelow z (n + 1) words (set new (bucket_at z n) word)
-  renewed_at n word words new inside within is old = let f = front z in record {
+  renewed_at n word words new inside within is old = let f = front z in let p = place_inside z n inside in record {
     wide = length-set new (bucket_at z n) word ∙ old.wide;
     one = get_or-set_other new (bucket_at z n) 0 word 0 (λ e. omega arith) ∙ old.one;
     bucket = λ b x l fits stood. dite (ℕ_discrete b n)
         (λ here. ap (λ (k : ℕ). slice_index (set new (bucket_at z n) word) (bucket_at z k)) here
         ∙ (get_or-set_same new (bucket_at z n) word 0 within ∙ is x fits (ap (λ (k : ℕ). slice_index words (bucket_at z k)) (sym here) ∙ stood)))
-        (λ ne. get_or-set_other new (bucket_at z n) (bucket_at z b) word 0 (λ e. ne (omega arith)) ∙ old.bucket b x (omega arith) fits stood);
+        (λ ne. get_or-set_other new (bucket_at z n) (bucket_at z b) word 0 (λ e. ne (one_place z b n (omega arith) inside (omega arith))) ∙ old.bucket b x (omega arith) fits stood);
     front = λ i l h. get_or-set_other new (bucket_at z n) i word 0 (λ e. omega arith) ∙ old.front i l h;
     pages = λ i l. get_or-set_other new (bucket_at z n) i word 0 (λ e. omega arith) ∙ old.pages i l;
   }

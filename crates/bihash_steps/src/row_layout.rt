@@ -41,6 +41,17 @@ pub(crate) fn front_words<S: Shape>() -> usize
     4 + S::MAX_LOG2 as usize + lists_words::<S>(S::MAX_LOG2 + 1)
 }
 
+// Where the word of a bucket stands among the bucket words. The compiler knows by what it shifts.
+#[inline(always)]
+fn bucket_place<S: Shape>(bucket: usize) -> usize
+    requires sound { IsSound (sizes_of S.Shape) }
+    requires one { bucket < buckets (sizes_of S.Shape) }
+    ensures place { result ≡ Words.bucket_place (sizes_of S.Shape) bucket }
+    ensures inside { result < buckets (sizes_of S.Shape) }
+{
+    bucket % 16 * (1 << S::LOG2_BUCKETS.saturating_sub(4)) + bucket / 16
+}
+
 /// How many words stand before the page words.
 #[inline(always)]
 fn pages_front<S: Shape>() -> usize
@@ -69,7 +80,7 @@ impl<S: Shape> Row<S> {
     {
         // That the sizes are sound is in the invariant of a row.
         let _ = &self.table;
-        front_words::<S>() + bucket
+        front_words::<S>() + bucket_place::<S>(bucket)
     }
 
     /// Where word k stands of the block that begins at this page.

@@ -1,8 +1,8 @@
 -- The pairs of a bucket's block, found among the words of a row and added to a list place by place.
-use Rattle.std.proofs.Common.{◌≡◌, ◌≢◌, ◌∙◌, ◌+◌, ◌*◌, ◌^◌, ◌%◌, ◌<◌, ◌≤◌, ℕ, zero, suc, List, [], ◌∷◌, ◌++◌, ap, arith, drop, get_or-drop, get_or-take, length, length-drop, length-take-le, pow_mono, slice_index, subst, sym, Result, Ok, Err}
+use Rattle.std.proofs.Common.{◌≡◌, ◌≢◌, ◌∙◌, ◌+◌, ◌*◌, ◌<◌, ◌≤◌, ℕ, zero, suc, List, [], ◌∷◌, ◌++◌, ap, arith, drop, get_or-drop, get_or-take, length, length-drop, length-take-le, slice_index, subst, sym, Result, Ok, Err}
 use Rattle.std.proofs.Math.ListN.{take}
 use Rattle.std.specs.Prelude.{IfOk, IsErrAnd}
-use Rattle.bihash_words.specs.Sizes.{IsSound, Sizes, sizes_of}
+use Rattle.bihash_words.specs.Sizes.{Sizes, sizes_of}
 use Rattle.bihash_words.specs.Words.{Bucket, FitsWord, packed}
 use Rattle.bihash_words.specs.declared.shape.Shape.{Ghosts}
 use Rattle.bihash_rule.specs.Words.{all_words, bucket_at, buckets, page_at, place_words}
@@ -38,15 +38,6 @@ block_in z v words row idle b inside =
       },
       record { pairs = found.pairs; writes = found.writes },
     )
-
--- a loop over all buckets is at one of them
-pub bucket_below : (z : Sizes) (b log2 : ℕ) → IsSound z → log2 ≡ z.log2_buckets → b < 1 * 2 ^ log2 % 2 ^ 64 → b < buckets z
-bucket_below z b log2 sound is below =
-    let small = sound.few_buckets in
-    let at_most : log2 ≤ 24 = omega arith in
-    let few : 2 ^ log2 ≤ 2 ^ 24 = pow_mono at_most in
-    let n : ℕ = 2 ^ log2 in
-    let inside : b < n = omega arith in subst (λ (k : ℕ). b < 2 ^ k) is inside
 
 -- they are all words of the row
 pub row_wide : (z : Sizes) (v : View) (words : List ℕ) → AreRowWords z v words → length words ≡ all_words z

@@ -1,9 +1,9 @@
 -- A caller that is the same but for its view.
-use Rattle.std.proofs.Common.{◌≡◌, ◌∙◌, ◌++◌, Bool, List, [], ◌∷◌, true, false, ap, append-nil, refl, subst, sym}
+use Rattle.std.proofs.Common.{◌≡◌, ◌∙◌, ◌++◌, List, [], ◌∷◌, true, false, ap, append-nil, refl, subst, sym}
 use Rattle.bihash_steps.specs.Seats.{CallerState, with_view}
 use Rattle.bihash_words.specs.Sizes.{Sizes}
-use Rattle.bihash_steps.specs.BucketCalls.{HasEntered, IsValidated}
-use Rattle.bihash_steps.specs.BucketSteps.{Enters, acting, entry_of, view_after_validate}
+use Rattle.bihash_steps.specs.BucketCalls.{HasEntered}
+use Rattle.bihash_steps.specs.BucketSteps.{Enters, acting, entry_of}
 use Rattle.bihash_rule.specs.Callers.{known_at}
 use Rattle.bihash_rule.specs.Histories.{is_changed, write_of}
 use Rattle.bihash_rule.specs.Logs.{writes_on}

@@ -1,5 +1,5 @@
 -- The exchange that sets the lock bit of a bucket's word.
-use Rattle.std.proofs.Common.{◌≡◌, ◌≢◌, ℕ, ◌<◌, ◌≤◌, eqb, Bool, true, false, length, set, refl, sym, ap, ◌∙◌, subst, arith, length-set, get_or-set_same, eq-eqb, ne_eqb, Some, None}
+use Rattle.std.proofs.Common.{◌≡◌, ◌+◌, ◌≢◌, ℕ, ◌<◌, ◌≤◌, eqb, Bool, true, false, length, set, refl, sym, ap, ◌∙◌, subst, arith, length-set, get_or-set_same, eq-eqb, ne_eqb, Some, None}
 use mathlib.Core.Logic.{dite}
 use mathlib.Core.Option.{some}
 use native.Mathlib.Decide.{ℕ_discrete}
@@ -9,7 +9,7 @@ use Rattle.std.specs.Prelude.{slice_index}
 use Rattle.atomic_table.specs.Table.{State, Act, keeps, Valid, stepped, carried_after, Allows}
 use Rattle.bihash_words.specs.Sizes.{Sizes}
 use Rattle.bihash_words.specs.Words.{Bucket, FitsWord, packed}
-use Rattle.bihash_rule.specs.Words.{count_of, buckets, bucket_at}
+use Rattle.bihash_rule.specs.Words.{count_of, front_words, buckets, bucket_at}
 use Rattle.bihash_rule.specs.Buckets.{StandsStillIf, word_of}
 use Rattle.bihash_rule.specs.PageStores.{all_used, runs_now}
 use Rattle.bihash_rule.specs.WordRule.{IsView, WordRule}
@@ -17,6 +17,7 @@ use Rattle.bihash_steps.specs.Steps.{ViewOfSeat}
 use Rattle.bihash_steps.specs.BucketSteps.{without_notes, with_history, lock_counted, locked_on, locking, IsFound, TellsLock}
 use Rattle.bihash_rule.specs.declared.view.LockedBucket.{LockedBucket}
 use Rattle.bihash_rule.specs.declared.view.View.{View}
+use Rattle.bihash_steps.proofs.BucketPlaces.{place_inside}
 use Rattle.bihash_steps.proofs.KnownLists.{lawful_here, lawful_set, logged_at}
 use Rattle.bihash_steps.proofs.CountWord.{kept_log, stays_at, others_apart}
 use Rattle.bihash_steps.proofs.NotedViews.{unnoted_view}
@@ -47,6 +48,7 @@ module _ (z : Sizes) where
       let ok = r.each_view id v at in
       let bucket = r.each_bucket b inside in
       let i : ℕ = bucket_at z b in
+      let before : i < front_words z + buckets z = let p = place_inside z b inside in omega arith in
       let l : LockedBucket = locked_on b (length x.history) x.extent x.block in
       relocked_rule z s r b id v (lock_counted v.records) (with_history v b x.history).known (Some l) v.log (set s.words i word') (Some id) x.dirty record {
         logged = set_logged z r.table.openings (λ d. (r.table.bucket d).history) s.views id v (locking (with_history v b x.history) l) at r.logged refl
@@ -58,7 +60,7 @@ module _ (z : Sizes) where
         count = count_still z s.words i word' (bucket_after z b);
         front = store_still z s.words i word' (omega arith);
         beside = beside_bucket z (runs_now r.table.bucket r.table.store.store s.views) s.words b id word' inside;
-        block = block_keeps z s.words i word' (omega arith) v.holds.block ok.block;
+        block = block_keeps z s.words i word' before v.holds.block ok.block;
         free = free_none id x.lock free;
         free' = free_own id (Some id) refl;
         stored = λ e. e;
@@ -83,7 +85,7 @@ module _ (z : Sizes) where
             fresh = known_learned v b x.history (let wide = ok.informed.wide in omega arith);
             was = refl;
             size = bucket.size;
-            stands = front_still z s.words i word' x.extent.page x.block (omega arith) (bucket.at_rest free);
+            stands = front_still z s.words i word' x.extent.page x.block before (bucket.at_rest free);
             clean = λ _. refl;
             dirty = bucket.clean free;
           },

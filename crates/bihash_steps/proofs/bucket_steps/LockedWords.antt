@@ -19,6 +19,7 @@ use Rattle.bihash_rule.specs.declared.view.Holdings.{Holdings}
 use Rattle.bihash_rule.specs.declared.view.LockedBucket.{LockedBucket}
 use Rattle.bihash_rule.specs.declared.view.HeldBlock.{HeldBlock}
 use Rattle.bihash_rule.specs.declared.view.View.{View}
+use Rattle.bihash_steps.proofs.BucketPlaces.{place_inside}
 use Rattle.bihash_steps.proofs.CountWord.{kept_log, stays_at, others_apart}
 use Rattle.bihash_steps.proofs.Frames.{Beside, free_own, stands_beside}
 use Rattle.bihash_steps.proofs.OwnedWords.{beside_block, stored_stands, store_still, count_still, bucket_after, page_after, word_of_block}
@@ -107,7 +108,7 @@ module _ (z : Sizes) where
           free' = free_own id (Some id) refl;
           stored = λ e. absurd (true≢false e);
           word = get_or-set_other s.words i (bucket_at z l.bucket) n 0
-              (λ e. let c = h.inside in let y : ℕ = (l.extent.page - 1) * page_words z in omega arith)
+              (λ e. let p = place_inside z l.bucket h.inside in let y : ℕ = (l.extent.page - 1) * page_words z in omega arith)
               ∙ ((r.each_bucket l.bucket h.inside).word ∙ ap (λ (lock : Option ℕ). packed
               (word_of (r.table.bucket l.bucket).extent (is_some lock) (length (r.table.bucket l.bucket).history))) h.held);
           at_rest = λ e. cc;

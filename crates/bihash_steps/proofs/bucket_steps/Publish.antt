@@ -29,6 +29,7 @@ use Rattle.bihash_rule.specs.declared.view.LockedBucket.{LockedBucket}
 use Rattle.bihash_rule.specs.declared.view.LockedStore.{LockedStore}
 use Rattle.bihash_rule.specs.declared.view.HeldBlock.{HeldBlock}
 use Rattle.bihash_rule.specs.declared.view.View.{View}
+use Rattle.bihash_steps.proofs.BucketPlaces.{place_inside}
 use Rattle.bihash_steps.proofs.KnownLists.{lawful_set}
 use Rattle.bihash_steps.proofs.Lists.{there, no_row}
 use Rattle.bihash_steps.proofs.Frames.{Keeps, Undisturbed, store_keeps, store_lock_beside, more_writes, used_more, more_short, moved}
@@ -140,7 +141,7 @@ module _ (z : Sizes) where
         bearers = bearers_more (count_of s.words) x.history w bearer old.bearers;
         size = size;
         pairs = subst (IsBlockOf z e now) map_is pairs;
-        at_rest = λ _. front_still z s.words i n e.page now (let l = bucket_in in omega arith) stands;
+        at_rest = λ _. front_still z s.words i n e.page now (let p = place_inside z b bucket_in in omega arith) stands;
         clean = λ _. refl;
       }
         where
@@ -328,7 +329,7 @@ module _ (z : Sizes) where
             r.store;
         holds = store_lock_beside z s.words words' still q id v.holds.store ok.store;
         notes = ok.only_store;
-        held = block_keeps z s.words (bucket_at z b) n (let a = inside in omega arith) v.holds.block ok.block;
+        held = block_keeps z s.words (bucket_at z b) n (let p = place_inside z b inside in omega arith) v.holds.block ok.block;
         parted = subst (IsPartition z.pages q.store.used)
             (sym (runs_still r.table.bucket x' q.store q.store s.views id v told runs (λ _. refl) at refl)) r.parted;
       }

@@ -26,6 +26,7 @@ use Rattle.bihash_rule.specs.declared.view.PageStore.{PageStore}
 use Rattle.bihash_rule.specs.declared.view.ListedPage.{ListedPage}
 use Rattle.bihash_rule.specs.declared.view.HeldBlock.{HeldBlock}
 use Rattle.bihash_rule.specs.declared.view.View.{View}
+use Rattle.bihash_steps.proofs.BucketPlaces.{place_inside}
 use Rattle.bihash_steps.proofs.KnownLists.{lawful_set}
 use Rattle.bihash_steps.proofs.Frames.{free_own, more_writes, used_more, store_keeps, store_lock_beside}
 use Rattle.bihash_steps.proofs.OwnedWords.{front_still, store_still}
@@ -218,7 +219,7 @@ module _ (z : Sizes) where
         holds = settled_lock words' q id v.holds.store (store_lock_beside z s.words words' still q id v.holds.store ok.store);
         notes = λ f. (record may.locked { store = settled may.locked.store }, ap settled_in may.store);
         held = subst (HoldsBlockIf z words') (sym freed_is) (freed_held words' l.extent.page l.extent.size.log2 l.now small h.size
-            (front_still z s.words (bucket_at z b) n l.extent.page l.now (let a = inside in omega arith) h.stands));
+            (front_still z s.words (bucket_at z b) n l.extent.page l.now (let p = place_inside z b inside in omega arith) h.stands));
         parted = passes z.pages q.store.used r.table.bucket x' q.store q'.store s.views id v told at b
             (λ d ne. ap (λ (y : BucketState). y.extent) (elsewhere d ne)) (λ _. refl)
             (ap (λ (y : BucketState). run_of y.extent.page y.extent.size.log2) here ∙ new_block.run)

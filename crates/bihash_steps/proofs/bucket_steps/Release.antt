@@ -1,5 +1,5 @@
 -- The old word is stored over a locked bucket: its lock is opened without an answer, or a call that is no write is answered.
-use Rattle.std.proofs.Common.{◌≡◌, ℕ, ◌<◌, true, false, List, length, set, refl, sym, ap, ◌∙◌, subst, arith, length-set, get_or-set_same, None, [], ◌∷◌, ◌++◌}
+use Rattle.std.proofs.Common.{◌≡◌, ◌+◌, ℕ, ◌<◌, true, false, List, length, set, refl, sym, ap, ◌∙◌, subst, arith, length-set, get_or-set_same, None, [], ◌∷◌, ◌++◌}
 use mathlib.Core.Option.{some}
 use lib.ListN.{get_elem?}
 use Rattle.atomic_table.specs.Table.{State, keeps, Allows}
@@ -7,7 +7,7 @@ use Rattle.bihash_words.specs.Sizes.{Sizes}
 use Rattle.bihash_words.specs.Words.{packed}
 use Rattle.bihash_words.specs.declared.patch.Reply.{Reply}
 use Rattle.bihash_words.specs.declared.patch.Reply.TheVariants.{NoPages}
-use Rattle.bihash_rule.specs.Words.{count_of, buckets, bucket_at, page_at, Stands}
+use Rattle.bihash_rule.specs.Words.{count_of, front_words, buckets, bucket_at, page_at, Stands}
 use Rattle.bihash_rule.specs.Histories.{IsKeyOf, IsAnswer, store_of}
 use Rattle.bihash_rule.specs.Callers.{HasNumber, HasNumbers, IsWhole, known_at}
 use Rattle.bihash_rule.specs.Buckets.{HoldsBucket, word_of}
@@ -21,6 +21,7 @@ use Rattle.bihash_rule.specs.declared.view.Entry.{Entry}
 use Rattle.bihash_rule.specs.declared.view.Record.{Record}
 use Rattle.bihash_rule.specs.declared.view.Extent.{Extent}
 use Rattle.bihash_rule.specs.declared.view.View.{View}
+use Rattle.bihash_steps.proofs.BucketPlaces.{place_inside}
 use Rattle.bihash_steps.proofs.KnownLists.{lawful_here, logged_at}
 use Rattle.bihash_steps.proofs.Frames.{free_none, free_own}
 use Rattle.bihash_steps.proofs.OwnedWords.{beside_bucket, block_keeps, front_still, store_still, count_still, bucket_after, bucket_inside}
@@ -60,6 +61,7 @@ module _ (z : Sizes) where
       let ok = r.each_view id v at in
       let acts = holder_acts z s r id v l at clean.held in
       let i : ℕ = bucket_at z b in
+      let before : i < front_words z + buckets z = let p = place_inside z b inside in omega arith in
       let stands : Stands s.words (page_at z x.extent.page) x.block
       = subst (Stands s.words (page_at z x.extent.page)) (h.clean clean.clean ∙ h.was)
       (subst (λ (e : Extent). Stands s.words (page_at z e.page) l.now) h.extent h.stands) in
@@ -72,13 +74,13 @@ module _ (z : Sizes) where
         count = count_still z s.words i word (bucket_after z b);
         front = store_still z s.words i word (omega arith);
         beside = beside_bucket z (runs_now r.table.bucket r.table.store.store s.views) s.words b id word inside;
-        block = block_keeps z s.words i word (omega arith) v.holds.block ok.block;
+        block = block_keeps z s.words i word before v.holds.block ok.block;
         free = free_own id x.lock h.held;
         free' = free_none id None refl;
         stored = λ e. e;
         word = get_or-set_same s.words i word 0 (let c = bucket_inside z b inside in let wide = r.wide in omega arith)
             ∙ (clean.stood ∙ (λ t. packed (word_of (h.extent t) false (h.version t))));
-        at_rest = λ _. front_still z s.words i word x.extent.page x.block (omega arith) stands;
+        at_rest = λ _. front_still z s.words i word x.extent.page x.block before stands;
         clean = λ _. h.dirty ∙ clean.clean;
         informed = good.informed;
         numbers = good.numbers;

@@ -1,6 +1,6 @@
 //! What each kind of step on a bucket tells its caller. The address of a step names the bucket, or the
 //! word of a block.
-ghost use Rattle.std.specs.Prelude.{◌≡◌, ℕ, ◌+◌, false, [], length, Some, None};
+ghost use Rattle.std.specs.Prelude.{◌≡◌, ℕ, ◌+◌, ◌<◌, false, [], length, Some, None};
 ghost use Rattle.bihash_words.specs.Sizes.{sizes_of};
 ghost use Rattle.bihash_words.specs.Expiries.{no_recycling};
 ghost use Rattle.bihash_words.specs.declared.patch.Change.TheVariants.{Keep};
@@ -8,7 +8,7 @@ ghost use Rattle.bihash_words.specs.declared.patch.Reply.TheVariants.{Full};
 ghost use Rattle.bihash_words.specs.Words.{FitsWord};
 ghost use Rattle.bihash_rule.specs.Callers.{known_at};
 ghost use Rattle.bihash_rule.specs.Buckets.{word_of, open_word};
-ghost use Rattle.bihash_rule.specs.Words.{bucket_at, page_at};
+ghost use Rattle.bihash_rule.specs.Words.{bucket_at, buckets, page_at};
 ghost use Rattle.bihash_steps.specs.BucketSteps.{TellsBucket, TellsLock, IsLockedWord, TellsLockedWord, TellsStored, IsOpenWord, TellsOpenWord, TellsValid, TellsEntry, TellsEvent, without_lock, view_after_answer, view_after_write};
 ghost use Rattle.bihash_steps.specs.StoreSteps.{view_after_replace};
 ghost use Rattle.bihash_rule.specs.declared.view.Call.{Call};
@@ -26,7 +26,8 @@ pub(crate) struct Sees<S> {
 }
 
 impl<S: Shape> Play<(), View> for Sees<S> {
-    ghost then = { λ step me found next. (b : ℕ) → step.word ≡ bucket_at (sizes_of S.Shape) b
+    ghost then = { λ step me found next. (b : ℕ) → b < buckets (sizes_of S.Shape)
+        → step.word ≡ bucket_at (sizes_of S.Shape) b
         → TellsBucket (sizes_of S.Shape) b me found next };
 }
 
@@ -36,7 +37,8 @@ pub(crate) struct Locks<S> {
 }
 
 impl<S: Shape> Play<(), View> for Locks<S> {
-    ghost then = { λ step me found next. (b : ℕ) → step.word ≡ bucket_at (sizes_of S.Shape) b
+    ghost then = { λ step me found next. (b : ℕ) → b < buckets (sizes_of S.Shape)
+        → step.word ≡ bucket_at (sizes_of S.Shape) b
         → TellsLock (sizes_of S.Shape) b step.first me found next };
 }
 

@@ -3,9 +3,11 @@ use Rattle.bihash_words.specs.Sizes.{sizes_of}
 use Rattle.bihash_steps.specs.Renewals.{AreRowWords}
 use Rattle.bihash_steps.specs.Seats.{CallerState}
 use Rattle.bihash_rule.specs.declared.view.Known.{Known}
+use Rattle.bihash_steps.proofs.Bounds.{few_words}
+use Rattle.bihash_steps.proofs.BucketPlaces.{bucket_below}
 use Rattle.bihash_steps.proofs.OwnedWords.{bucket_inside}
 use Rattle.bihash_table.specs.inner.PairLists.{ListsBuckets}
-use Rattle.bihash_table.proofs.BlockPairs.{bucket_added, bucket_below, has_block, row_wide}
+use Rattle.bihash_table.proofs.BlockPairs.{bucket_added, has_block, row_wide}
 use Rattle.bihash_table.proofs.PairListLemmas.{buckets_none}
 use Rattle.bihash_table.proofs.close.read_all.Goals as goal
 
@@ -18,6 +20,14 @@ bounds-words-bucket_at g c =
     let z = sizes_of g.S.Shape in
     let wide = row_wide z _ _ c.in_ok-loaded.ensures.words in
     let same = ap (λ (ws : List ℕ). length ws) c.as_slice-words.ensures.value in
+    let at = c.bucket_at.ensures.place in
+    let within = bucket_inside z c.loop-bucket.bucket
+    (bucket_below z c.loop-bucket.bucket c.LOG2_BUCKETS.result c.is_sound.ensures c.LOG2_BUCKETS.ensures c.loop-bucket-test.true) in omega arith
+
+pub offset_bounds-words-bucket_at : goal.offset_bounds-words-bucket_at
+offset_bounds-words-bucket_at g c =
+    let z = sizes_of g.S.Shape in
+    let few = few_words z c.is_sound.ensures in
     let at = c.bucket_at.ensures.place in
     let within = bucket_inside z c.loop-bucket.bucket
     (bucket_below z c.loop-bucket.bucket c.LOG2_BUCKETS.result c.is_sound.ensures c.LOG2_BUCKETS.ensures c.loop-bucket-test.true) in omega arith

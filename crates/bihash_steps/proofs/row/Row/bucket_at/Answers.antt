@@ -9,5 +9,5 @@ overflow_add-result g c =
     let z = sizes_of g.S.Shape in
     let few = few_words z c.self.invariant.sound in
     let at = c.front_words.ensures.words in
-    let inside = c.requires in
+    let inside = c.bucket_place.ensures.inside in
     let pages : ℕ = z.pages * page_words z in omega arith

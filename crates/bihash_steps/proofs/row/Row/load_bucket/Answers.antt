@@ -12,9 +12,9 @@ load-requires g c = (
 
 pub invariant_of-caller : goal.invariant_of-caller
 invariant_of-caller g c =
-    let told = c.load.ensures.2 _ c.bucket_at.ensures.place in
+    let told = c.load.ensures.2 _ c.requires.at.inside c.bucket_at.ensures.place in
     counted_same c.caller.inside.seat.me _ _ _ told.slots (seen_records _ _ _ _ _ told.seen) c.caller.invariant
 
 pub returns : goal.returns
 returns g c = found_bucket _ _ _ _ _ _ _ _ c.caller.inside.seat.me _ _ c.load.ensures.0 c.load.ensures.1 c.of.ensures c.caller.view_is
-    (c.load.ensures.2 _ c.bucket_at.ensures.place)
+    (c.load.ensures.2 _ c.requires.at.inside c.bucket_at.ensures.place)

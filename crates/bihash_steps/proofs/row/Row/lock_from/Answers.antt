@@ -18,8 +18,8 @@ compare_exchange-requires g c =
 
 pub invariant_of-caller : goal.invariant_of-caller
 invariant_of-caller g c =
-    counted_locks _ _ _ c.caller.inside.seat.me _ _ _ _ (c.compare_exchange.ensures.2 _ c.bucket_at-at.ensures.place) c.caller.invariant
+    counted_locks _ _ _ c.caller.inside.seat.me _ _ _ _ (c.compare_exchange.ensures.2 _ c.requires.at.inside c.bucket_at-at.ensures.place) c.caller.invariant
 
 pub returns : goal.returns
 returns g c = tried_lock _ _ _ _ _ _ _ _ _ c.caller.inside.seat.me _ _ c.compare_exchange.ensures.0 c.compare_exchange.ensures.1 c.to_word-open.ensures
-    c.caller.view_is (c.compare_exchange.ensures.2 _ c.bucket_at-at.ensures.place)
+    c.caller.view_is (c.compare_exchange.ensures.2 _ c.requires.at.inside c.bucket_at-at.ensures.place)
