@@ -12,7 +12,7 @@ mod ranges_and_flags;
 
 pub use address::address_of;
 pub use family::{icmp_number, width_of};
-pub use line_words::{before_comment, cut_at, is_end, next_word};
+pub use line_words::{before_comment, cut_at, is_blank, is_end, next_word, word_start};
 pub use mac::mac_of;
 pub use number_parsing::{number_of, octet_of};
 pub use prefix::prefix_of;

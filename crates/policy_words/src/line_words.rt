@@ -5,7 +5,8 @@ ghost use Rattle.policy_words.specs.inner.Reading.Numerals.{cut_in};
 ghost use Rattle.policy_words.specs.Words;
 ghost use Rattle.policy_words.specs.Words.{without_comment, words_of};
 
-fn is_blank(byte: u8) -> bool
+/// Whether a byte of a line stands between words: a space or a tab.
+pub fn is_blank(byte: u8) -> bool
     ensures { result ≡ Words.is_blank byte }
 {
     byte == b' ' || byte == b'\t'
@@ -18,13 +19,15 @@ fn place_of(text: &[u8], byte: u8) -> Option<usize>
     text.iter().position(|b| *b == byte)
 }
 
-fn word_start(text: &[u8]) -> Option<usize>
+/// Where the first word of a text begins, where it has one.
+pub fn word_start(text: &[u8]) -> Option<usize>
     ensures place { result ≡ position (λ b. not (Words.is_blank b)) text.now }
     ensures within { IfSome result (λ i. i < length text.now) }
 {
     text.iter().position(|b| !is_blank(*b))
 }
 
+// Where the first blank of a text stands, where it has one.
 fn word_end(text: &[u8]) -> Option<usize>
     ensures place { result ≡ position Words.is_blank text.now }
     ensures within { IfSome result (λ i. i < length text.now) }

@@ -1,29 +1,16 @@
 //! The texts of rules, as their lines have them.
-ghost use Rattle.std.specs.Prelude.{◌≡◌, ◌-◌, ◌<◌, ◌≤◌, [], IfOk, IfSome, get_or, length, map, not, position, take};
+ghost use Rattle.std.specs.Prelude.{◌≡◌, ◌-◌, ◌<◌, ◌≤◌, [], IfOk, get_or, length, map, take};
 ghost use Rattle.std.specs.Str.{IsUtf8};
-ghost use Rattle.policy_words.specs.Words;
 ghost use Rattle.racl_views.specs.RuleTexts;
 ghost use Rattle.racl_views.specs.RuleTexts.{from_word, rule_texts, shown_of, without_end};
 
 use crate::shown_rule_text::RuleText;
 use acl_policy::before_comment;
+use policy_words::{is_blank, word_start};
 use std::alloc::{AllocError, Global};
 
 /// How many bytes of a rule are shown at most.
 const MOST_SHOWN: usize = 200;
-
-fn is_blank(byte: u8) -> bool
-    ensures { result ≡ Words.is_blank byte }
-{
-    byte == b' ' || byte == b'\t'
-}
-
-fn word_start(text: &[u8]) -> Option<usize>
-    ensures place { result ≡ position (λ b. not (Words.is_blank b)) text.now }
-    ensures within { IfSome result (λ i. i < length text.now) }
-{
-    text.iter().position(|b| !is_blank(*b))
-}
 
 // The text of a policy's line from its first word on.
 fn after_blanks(text: &[u8]) -> &[u8]
