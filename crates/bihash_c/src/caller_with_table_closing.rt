@@ -1,5 +1,5 @@
 //! The ends of a table: its pairs, or a table of its own that begins with them.
-ghost use Rattle.std.specs.Prelude.{◌≡◌, IfOk, IfErr};
+ghost use Rattle.std.specs.Prelude.{IfOk, IfErr};
 ghost use Rattle.bihash_words.specs.Sizes.{sizes_of};
 ghost use Rattle.bihash_c.specs.Members.{IsCloseTold, IsClosed, IsRenewTold, IsRenewedFrom};
 

@@ -1,6 +1,5 @@
 //! A caller's hold of its table: its own, or one that other callers have too.
 ghost use Rattle.std.specs.Prelude.{◌≡◌, IfOk, IfErr};
-ghost use Rattle.std.specs.Arc.{arc_value};
 ghost use Rattle.bihash_c.specs.Shares.{row_of};
 
 use bihash_table::Sessions;

@@ -1,6 +1,6 @@
 //! Whether pairs and a new key fit the pages of a block.
 
-ghost use Rattle.std.specs.Prelude.{◌≡◌, ◌<◌, ◌+◌, ◌^◌, ◌↔◌, ◌∷◌, IsTrue, length};
+ghost use Rattle.std.specs.Prelude.{◌≡◌, ◌<◌, ◌+◌, ◌↔◌, ◌∷◌, IsTrue, length};
 ghost use Rattle.bihash_words.specs.Pages.{paging_of};
 ghost use Rattle.bihash_plan.specs.Searches.{MayHavePages, MayLookAt};
 ghost use Rattle.bihash_plan.specs.Plans.{Fits, keys_of};

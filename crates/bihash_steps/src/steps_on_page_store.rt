@@ -1,5 +1,5 @@
 //! Steps on the page store under its allocation lock, and on a block that no bucket has.
-ghost use Rattle.std.specs.Prelude.{◌≡◌, ◌+◌, false, Some, None, slice_index};
+ghost use Rattle.std.specs.Prelude.{◌≡◌, ◌+◌, Some, None, slice_index};
 ghost use Rattle.bihash_words.specs.Sizes.{sizes_of};
 ghost use Rattle.bihash_rule.specs.PageStores.{returned_in};
 ghost use Rattle.bihash_steps.specs.StoreCalls.{ReadsStore, TriesStoreLock};

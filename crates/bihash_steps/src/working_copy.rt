@@ -1,5 +1,5 @@
 //! The lists that a caller works with while it splits a block.
-ghost use Rattle.std.specs.Prelude.{◌≡◌, ℕ, ◌*◌, ◌^◌, ◌≤◌, length};
+ghost use Rattle.std.specs.Prelude.{◌≡◌, ◌*◌, ◌^◌, ◌≤◌, length};
 
 use bihash_words::{FREE, Shape};
 use std::alloc::{AllocError, Global};

@@ -1,6 +1,5 @@
 //! A new pair in a full bucket: it takes the place of an expired one, or is refused.
-ghost use Rattle.std.specs.Prelude.{◌≡◌, None};
-ghost use Rattle.bihash_words.specs.Sizes.{sizes_of};
+ghost use Rattle.std.specs.Prelude.{None};
 ghost use Rattle.bihash_words.specs.declared.patch.Change.TheVariants.{Set};
 ghost use Rattle.bihash_table.specs.Tries.{FinishedOver};
 ghost use Rattle.bihash_table.specs.inner.Locked.{TakesPlace, UnderLock};

@@ -1,5 +1,5 @@
 //! Bytes that stand in an input as hexadecimal digits, decoded while they are read.
-ghost use Rattle.std.specs.Prelude.{◌≡◌, ◌∷◌, ◌<◌, ◌≤◌, [], IfNone, IfSome, is_some, length};
+ghost use Rattle.std.specs.Prelude.{◌≡◌, ◌∷◌, ◌<◌, [], IfNone, IfSome, is_some, length};
 ghost use Rattle.std.specs.Io.KnownBytes.{IsAtEnd, prepend_known};
 ghost use Rattle.hex.specs.Hex.{hex_digit_value};
 ghost use Rattle.racl_io.specs.Inputs.{digits_of};

@@ -1,5 +1,5 @@
 //! A capture from what was read of it to its end.
-ghost use Rattle.std.specs.Prelude.{◌≡◌, ◌+◌, ◌-◌, ◌<◌, ◌^◌, MatchResult, length};
+ghost use Rattle.std.specs.Prelude.{◌+◌, ◌-◌, ◌<◌, ◌^◌, MatchResult, length};
 ghost use Rattle.racl_io.specs.Inputs.{most_bytes};
 ghost use Rattle.racl_io.specs.Transfers.{HasReadWithin};
 ghost use Rattle.capture_stream.specs.Streams.{HasStreamed, IsSize, IsStreamFault, MayStream};

@@ -184,7 +184,6 @@ impl<'a, D: HasReading> LazyPatch<'a, D> {
 }
 
 impl<'a, D: HasReading> Patch for LazyPatch<'a, D> {
-    ghost use Rattle.bihash_words.specs.Patches.{IsStorable};
     ghost use Rattle.session_state.specs.Decisions.{decision_of};
     ghost use Rattle.flow_filter.specs.LazyPatches.{facts_of};
 

@@ -1,6 +1,5 @@
 //! The one update of a packet that takes part in sessions.
 ghost use Rattle.std.specs.Prelude.{◌≡◌, ◌&&◌};
-ghost use Rattle.packet_view.specs.Tuples.{tuple_facts};
 ghost use Rattle.session_state.specs.Decisions.{patch_facts};
 ghost use Rattle.flow_filter.specs.Updates;
 ghost use Rattle.flow_filter.specs.PacketFlows.{update_by};

@@ -1,5 +1,5 @@
 //! Callers of workers: made before their turns, and taken together after them.
-ghost use Rattle.std.specs.Prelude.{◌≡◌, IfOk};
+ghost use Rattle.std.specs.Prelude.{IfOk};
 ghost use Rattle.bihash_words.specs.Sizes.{sizes_of};
 ghost use Rattle.bihash_steps.specs.CallerCalls.{AreIdle};
 ghost use Rattle.flow_workers.specs.inner.CallerSplits.{AreJoined, AreJoinedWhole, AreNew, IsJoinedOne, IsNewCaller, MayJoin};

@@ -1,5 +1,5 @@
 //! One worker: each packet that is dealt to it is judged, in the order of the file.
-ghost use Rattle.std.specs.Prelude.{◌≡◌, ◌≢◌, ◌+◌, ◌<◌, ◌++◌, ◌∷◌, [], false, IfOk, length};
+ghost use Rattle.std.specs.Prelude.{◌+◌, ◌<◌, IfOk, length};
 ghost use Rattle.packet_view.specs.Captures.{packet_facts};
 ghost use Rattle.flow_workers.specs.inner.Jobs.{CanWork, HasWorked, HasWorkedOn, IsShareOf, MayJudgePacket, MayJudgeChunk, MayJudgeViewed};
 

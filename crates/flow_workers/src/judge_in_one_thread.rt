@@ -1,5 +1,5 @@
 //! All workers in one thread: each packet is judged by its worker, in the order of the file.
-ghost use Rattle.std.specs.Prelude.{◌≡◌, ◌<◌, ◌≤◌, ◌+◌, ◌++◌, ◌∷◌, [], false, IfOk, length, replicate};
+ghost use Rattle.std.specs.Prelude.{◌≡◌, ◌<◌, ◌+◌, ◌++◌, IfOk, replicate};
 ghost use Rattle.packet_view.specs.Captures.{packet_facts};
 ghost use Rattle.flow_workers.specs.inner.Jobs.{HasWorked};
 ghost use Rattle.flow_workers.specs.inner.Together.{HasJudgedNext, HaveJudgedBatch, MayJudgeByOne, MayJudgeNext};

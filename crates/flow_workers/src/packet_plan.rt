@@ -1,5 +1,4 @@
 //! What a packet comes to before it asks a table.
-ghost use Rattle.std.specs.Prelude.{◌≡◌};
 
 use crate::viewed_packet::ViewedPacket;
 use flow_filter::{

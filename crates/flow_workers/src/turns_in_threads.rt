@@ -1,5 +1,5 @@
 //! The turns of all workers at packets.
-ghost use Rattle.std.specs.Prelude.{◌≡◌, ◌≤◌, All, IfOk, map, Ok};
+ghost use Rattle.std.specs.Prelude.{◌≡◌, All, IfOk, map, Ok};
 ghost use Rattle.flow_workers.specs.declared.worker_turn.Turn.TheVariants.{Over};
 ghost use Rattle.flow_workers.specs.inner.Jobs.{AreDealtFrom};
 ghost use Rattle.flow_workers.specs.inner.Turns.{AreTurnsAhead, AreTurns, HaveWorked, IsTurnPast, MayJudgeBatch};

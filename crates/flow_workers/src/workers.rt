@@ -1,6 +1,6 @@
 //! Workers that judge packets in batches.
 ghost use Rattle.std.specs.Prelude.{◌≡◌, [], IfOk};
-ghost use Rattle.flow_workers.specs.inner.Shares.{AreFresh, AreSplit, MaySplit};
+ghost use Rattle.flow_workers.specs.inner.Shares.{AreSplit, MaySplit};
 
 use crate::caller_split::{join_whole, split_both};
 use crate::gate::Gate;

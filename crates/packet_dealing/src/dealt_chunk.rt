@@ -1,5 +1,5 @@
 //! Packets that follow each other, once it is known who judges each of them.
-ghost use Rattle.std.specs.Prelude.{◌≡◌, ◌<◌, ◌≤◌, ◌^◌, IfOk, length};
+ghost use Rattle.std.specs.Prelude.{◌<◌, ◌^◌, IfOk, length};
 ghost use Rattle.packet_dealing.specs.inner.OwnPackets.{HasHanded, IsEmptyChunk};
 
 use packet_view::Packet;

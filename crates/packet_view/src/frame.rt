@@ -1,7 +1,6 @@
 //! Frames, and what they turn out to be.
-ghost use Rattle.std.specs.Prelude.{◌≡◌, ◌≤◌, IfSome, length};
+ghost use Rattle.std.specs.Prelude.{◌≡◌, IfSome};
 ghost use Rattle.packet_view.specs.Frames.{IsFrame, FrameFacts, frame_facts};
-ghost use Rattle.packet_view.specs.Interfaces.{Interface};
 ghost use Rattle.packet_view.specs.inner.FrameSteps.{packets, view_of, view_of_packet};
 
 use crate::frame_direction::direction;

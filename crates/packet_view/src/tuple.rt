@@ -1,5 +1,5 @@
 //! The five-tuple: what rules and sessions look at in a packet.
-ghost use Rattle.std.specs.Prelude.{◌≡◌, ◌<◌, IsTrue};
+ghost use Rattle.std.specs.Prelude.{◌<◌, IsTrue};
 ghost use Rattle.packet_view.specs.Addresses.{address_limit, fields_suit};
 
 /// The version of the Internet Protocol (RFC 791, RFC 8200).

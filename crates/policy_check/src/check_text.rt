@@ -1,5 +1,5 @@
 //! What a check tells, line by line.
-ghost use Rattle.std.specs.Prelude.{◌≡◌, ◌↔◌, [], IfOk, IsTrue};
+ghost use Rattle.std.specs.Prelude.{◌↔◌, IfOk, IsTrue};
 ghost use Rattle.acl_policy.specs.Policies.{IsPolicyText, PolicyFacts};
 
 use crate::complaint::{Checked, Complaint};

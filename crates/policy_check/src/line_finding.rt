@@ -1,6 +1,5 @@
 //! What is wrong with a line of no form.
-ghost use Rattle.std.specs.Prelude.{◌≡◌, ◌∷◌, IfErr, IfSome};
-ghost use Rattle.packet_view.specs.declared.tuple.Mac.{Mac};
+ghost use Rattle.std.specs.Prelude.{IfErr};
 ghost use Rattle.acl_policy.specs.Lines.{IsInterface};
 ghost use Rattle.policy_words.specs.Prefixes.{IsMac};
 ghost use Rattle.policy_words.specs.Words.{words_of};

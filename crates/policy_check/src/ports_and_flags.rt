@@ -1,5 +1,5 @@
 //! The parts after a protocol, one by one.
-ghost use Rattle.std.specs.Prelude.{◌≡◌, ◌++◌, ℕ, List, IfErr, IfOk, MatchOption, codes};
+ghost use Rattle.std.specs.Prelude.{◌≡◌, ◌++◌, ℕ, List, IfErr, IfOk};
 ghost use Rattle.policy_words.specs.Traffic.{IsRange, OfTcp, Parts};
 ghost use Rattle.policy_words.specs.Words.{words_of};
 ghost use Rattle.policy_check.specs.Reasons.{HasRange, IsPartReason, IsRangeReason};

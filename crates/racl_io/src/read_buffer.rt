@@ -19,7 +19,7 @@ pub struct ReadBuffer {
 }
 
 impl ReadBuffer {
-    ghost use Rattle.std.specs.Prelude.{◌≡◌, ◌+◌, ◌-◌, ◌<◌, ◌≤◌, ◌^◌, ◌⊎◌, IfOk, IfErr, IsErrOf, OnOk, OnErr, length, vec_capacity, vec_len};
+    ghost use Rattle.std.specs.Prelude.{◌≡◌, ◌+◌, ◌-◌, ◌<◌, ◌≤◌, ◌^◌, ◌⊎◌, IfOk, IfErr, IsErrOf, OnOk, OnErr, length, vec_len};
     ghost use Rattle.racl_io.specs.Buffers.{held_by, room_in};
     ghost use Rattle.racl_io.specs.Inputs.{most_bytes};
     ghost use Rattle.racl_io.specs.Transfers.{HasRead, HasReadWithin};

@@ -1,6 +1,6 @@
 //! The packets of a capture that are chosen by their verdicts, as a capture.
 ghost use Rattle.std.specs.Prelude.{◌≡◌, ◌-◌, ◌<◌, ◌≤◌, ◌^◌, ◌++◌, ℕ, List, [], IfErr, IfNone, IfSome, drop, length, take};
-ghost use Rattle.packet_view.specs.Captures.{End, IsCapture, IsCaptureAt, IsHeaderFault, IsPiece, Record, RecordFacts, Whole, packets_at};
+ghost use Rattle.packet_view.specs.Captures.{End, IsCapture, IsCaptureAt, IsHeaderFault, RecordFacts, Whole, packets_at};
 ghost use Rattle.packet_view.specs.declared.capture.CaptureFault.{CaptureFault};
 ghost use Rattle.flow_filter.specs.declared.verdict.Verdict.{Verdict};
 ghost use Rattle.racl_io.specs.declared.fault.Fault.TheVariants.{Write};

@@ -1,12 +1,11 @@
 //! The report in objects of JSON, made whole before any of it is written.
-ghost use Rattle.std.specs.Prelude.{◌≡◌, ◌+◌, ◌-◌, ◌<◌, ◌^◌, ◌++◌, ◌∷◌, [], ℕ, List, IfOk, OnOk, drop, length};
+ghost use Rattle.std.specs.Prelude.{◌≡◌, ◌+◌, ◌-◌, ◌<◌, ◌^◌, ◌++◌, ℕ, List, IfOk, OnOk, drop, length};
 ghost use Rattle.packet_view.specs.Captures.{packet_facts};
 ghost use Rattle.packet_view.specs.CheckedCaptures.{remaining};
 ghost use Rattle.acl_policy.specs.Policies.{IsPolicyText, policy_facts};
 ghost use Rattle.racl_io.specs.Reports.{packets_in, totals_of};
 ghost use Rattle.racl_io.specs.Sinks.{Writes};
-ghost use Rattle.racl_views.specs.Objects.{object_line};
-ghost use Rattle.racl_views.specs.PacketObjects.{IsToldInObjects, totals_object};
+ghost use Rattle.racl_views.specs.PacketObjects.{IsToldInObjects};
 ghost use Rattle.racl_views.specs.RunEntries.{captures_told, run_facts, told_from};
 ghost use Rattle.racl_views.specs.inner.Tellings.{entries_by, entry_by, object_by, truncation_by};
 

@@ -1,6 +1,5 @@
 //! What is told of sessions, in lines or objects.
 ghost use Rattle.std.specs.Prelude.{◌≡◌, ◌+◌, ◌<◌, ◌≤◌, ◌++◌, ◌∷◌, [], OnOk, IfOk, length};
-ghost use Rattle.json.specs.Json.{array, item, no_items};
 ghost use Rattle.json.specs.Tree.{json_tokens};
 ghost use Rattle.packet_view.specs.Addresses.{address_limit};
 ghost use Rattle.session_state.specs.Sessions;

@@ -1,5 +1,5 @@
 //! Flows: both directions of an exchange under one key.
-ghost use Rattle.std.specs.Prelude.{◌≡◌, ◌<◌, ◌+◌, ◌*◌, ◌^◌, Bool, IfSome, Some};
+ghost use Rattle.std.specs.Prelude.{◌≡◌, ◌<◌, ◌+◌, ◌*◌, ◌^◌, IfSome, Some};
 ghost use Rattle.packet_view.specs.declared.tuple.Family.TheVariants.{V4};
 ghost use Rattle.packet_view.specs.Addresses.{address_limit};
 ghost use Rattle.packet_view.specs.PlainFrames.{IsTupleOf};

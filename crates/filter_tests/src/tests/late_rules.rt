@@ -1,5 +1,4 @@
 //! A packet's update with the rules that are asked late.
-ghost use Rattle.std.specs.Prelude.{◌≡◌};
 ghost use Rattle.flow_filter.specs.Filters.{section_in};
 ghost use Rattle.flow_filter.specs.Liveness.{IsForeseen};
 ghost use Rattle.flow_filter.specs.PacketFlows.{IsRulingOn};

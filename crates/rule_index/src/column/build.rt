@@ -1,5 +1,5 @@
 //! Columns made of ranges, and read at a number.
-ghost use Rattle.std.specs.Prelude.{ℕ, IfOk, IfSome, List, map};
+ghost use Rattle.std.specs.Prelude.{IfOk, IfSome, List, map};
 ghost use Rattle.acl_policy.specs.Rules.{RuleFacts, rule_facts};
 ghost use Rattle.packet_view.specs.Tuples.{TupleFacts};
 ghost use Rattle.rule_index.specs.inner.Columns.{Holds};
