@@ -1,5 +1,6 @@
 -- Each bucket's word has a place of its own among the bucket words.
-use Rattle.std.proofs.Common.{◌≡◌, ℕ, suc, ◌+◌, ◌-◌, ◌*◌, ◌/◌, ◌%◌, ◌^◌, ◌<◌, ◌≤◌, ap, sym, subst, arith, mul-le-mul_right, suc-mul, pow-add, pow_mono}
+use Rattle.std.proofs.Common.{◌≡◌, ◌∙◌, ℕ, suc, ◌+◌, ◌-◌, ◌*◌, ◌/◌, ◌%◌, ◌^◌, ◌<◌, ◌≤◌, ap, sym, subst, arith, mul-le-mul_right, suc-mul, pow-add, pow_mono}
+use Rattle.std.proofs.lemmas.Nat.{mod-mul-add}
 use mathlib.Core.Logic.{dite}
 use native.Mathlib.Decide.{dec_lt}
 use Rattle.bihash_words.specs.Sizes.{Sizes, IsSound}
@@ -55,19 +56,44 @@ one_place z b c l l' e =
     let same : x ≡ y = ap (λ (r : ℕ). r * q) row in
     let e' : x + b / 16 ≡ y + c / 16 = e in omega arith
 
--- the same, by the sizes as they are computed with
-pub place_is : (z : Sizes) (b log2 less : ℕ) → IsSound z → b < buckets z → log2 ≡ z.log2_buckets → less ≡ log2 - 4
-    → (b % 16 * (1 * 2 ^ less % 18446744073709551616) + b / 16 ≡ bucket_place z b)
-    × (b % 16 * (1 * 2 ^ less % 18446744073709551616) + b / 16 < buckets z)
-unfolding bucket_place
-place_is z b log2 less sound l el es =
-    let same : 2 ^ less ≡ rows z = ap (λ (n : ℕ). 2 ^ n) (let a = el in let b = es in let k : less ≡ z.log2_buckets - 4 = omega arith in k) in
+-- ---- A place as it is computed
+
+few_buckets : (z : Sizes) (log2 : ℕ) → IsSound z → log2 ≡ z.log2_buckets → 1 * 2 ^ log2 % 18446744073709551616 ≡ buckets z
+few_buckets z log2 sound el =
     let a = sound.few_buckets in
-    let small : rows z ≤ 2 ^ 24 = pow_mono {j = 24} (let k : z.log2_buckets - 4 ≤ 24 = omega arith in k) in
-    let n : ℕ = 2 ^ less in let q : ℕ = rows z in let same' : n ≡ q = same in let small' : q ≤ 16777216 = small in
-    let whole : 1 * n % 18446744073709551616 ≡ q = omega arith in
-    let is : b % 16 * (1 * n % 18446744073709551616) + b / 16 ≡ b % 16 * q + b / 16 = ap (λ (k : ℕ). b % 16 * k + b / 16) whole in
-    (is, subst (λ (k : ℕ). k < buckets z) (sym is) (row_of z b l).1)
+    let same : 2 ^ log2 ≡ 2 ^ z.log2_buckets = ap (λ (n : ℕ). 2 ^ n) el in
+    let small : 2 ^ z.log2_buckets ≤ 2 ^ 24 = pow_mono {j = 24} (let k : z.log2_buckets ≤ 24 = omega arith in k) in
+    let n : ℕ = 2 ^ log2 in let m : ℕ = 2 ^ z.log2_buckets in let same' : n ≡ m = same in let small' : m ≤ 16777216 = small in omega arith
+
+-- fewer than sixteen buckets stand in their order
+pub place_of_few : (z : Sizes) (b log2 : ℕ) → log2 ≡ z.log2_buckets → log2 < 4 → b < buckets z → b ≡ bucket_place z b
+unfolding bucket_place
+place_of_few z b log2 el few l =
+    let one : rows z ≡ 1 = ap (λ (n : ℕ). 2 ^ n) (let none : z.log2_buckets - 4 ≡ 0 = omega arith in none) in
+    let p : 2 ^ z.log2_buckets ≤ 2 ^ 3 = pow_mono {j = 3} (omega arith) in
+    let n : ℕ = 2 ^ z.log2_buckets in let small : n ≤ 8 = p in
+    let r : b % 16 * rows z ≡ b % 16 * 1 = ap (λ (q : ℕ). b % 16 * q) one in
+    let x : ℕ = b % 16 * rows z in let x' : x ≡ b % 16 = omega (arith, r) in omega arith
+
+in_rows : (r d q : ℕ) → (16 * d + r) * (16 * q + 1) ≡ 16 * (d * (16 * q) + r * q) + (16 * d + r)
+in_rows r d q = grind arith
+
+place_of_rows : (n q b : ℕ) → n ≡ 16 * q → b % 16 * q + b / 16 < n → b * (n + 1) / 16 % n ≡ b % 16 * q + b / 16
+place_of_rows n q b e inside =
+    let r : ℕ = b % 16 in let d : ℕ = b / 16 in
+    let parts : b ≡ 16 * d + r = omega arith in
+    let whole : b * (n + 1) ≡ 16 * (d * n + r * q) + b =
+    (λ i. parts i * (e i + 1)) ∙ in_rows r d q ∙ (λ i. 16 * (d * sym e i + r * q) + sym parts i) in
+    let x : ℕ = d * n in let y : ℕ = r * q in let w : ℕ = b * (n + 1) in let whole' : w ≡ 16 * (x + y) + b = whole in
+    let half : w / 16 ≡ x + (y + d) = omega arith in
+    ap (λ (k : ℕ). k % n) half ∙ mod-mul-add d n (y + d) inside
+
+pub place_of_many : (z : Sizes) (b log2 : ℕ) → IsSound z → log2 ≡ z.log2_buckets → 4 ≤ log2 → b < buckets z
+    → b * (1 * 2 ^ log2 % 18446744073709551616 + 1) / 16 % (1 * 2 ^ log2 % 18446744073709551616) ≡ bucket_place z b
+unfolding bucket_place
+place_of_many z b log2 sound el many l =
+    ap (λ (n : ℕ). b * (n + 1) / 16 % n) (few_buckets z log2 sound el)
+    ∙ place_of_rows (buckets z) (rows z) b (sixteen_rows z (omega arith)) (row_of z b l).1
 
 -- a loop over all buckets is at one of them
 pub bucket_below : (z : Sizes) (b log2 : ℕ) → IsSound z → log2 ≡ z.log2_buckets → b < 1 * 2 ^ log2 % 2 ^ 64 → b < buckets z
