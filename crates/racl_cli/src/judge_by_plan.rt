@@ -25,8 +25,12 @@ use std::alloc::Global;
 use std::sync::Wait;
 use std::thread::Threads;
 
-/// How many bytes are read at once for one worker: so few that they are still in the processor's cache when they are judged.
-const ONE_WINDOW: usize = 262_144;
+/// How many bytes of an input are read at first for one worker.
+const ONE_FRONT: usize = 262_144;
+
+/// How many bytes are read at once for one worker after that: so few that they are still in the processor's nearest caches
+/// when they are judged.
+const ONE_WINDOW: usize = 65_536;
 
 /// How many bytes are read at once for several workers: so many that their packets may pay for a thread each.
 const SEVERAL_WINDOW: usize = 4_194_304;
@@ -38,7 +42,7 @@ pub fn front_bytes(options: &Options) -> usize
     if options.workers > 1 {
         SEVERAL_WINDOW
     } else {
-        ONE_WINDOW
+        ONE_FRONT
     }
 }
 
