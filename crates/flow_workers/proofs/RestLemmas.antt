@@ -170,13 +170,6 @@ module _ {A B R G K L : Type 0} (ga : Ghosts A K) (gb : Ghosts B L) (old : Worke
       → AreAtRest (packets ++ remaining batch.packets)
       (record { setup = old.setup; shares = shares; judges = judges; count = count })
   rest_more shares judges count ran counted =
-      let are =
-      workers_noted ga gb (dealer_of old.setup) old.judges.items judges.items packets (remaining batch.packets)
-      rest.noted.count rest.noted.workers
-      (subst (λ n. HaveNoted ga gb (dealer_of old.setup) n (remaining batch.packets) old.judges.items judges.items)
-      (first ∙ rest.count)
-      (subst (λ (s : Setup A B R G K L). HaveNoted ga gb (dealer_of s) batch.first (remaining batch.packets) old.judges.items
-      judges.items) same ran.noted)) in
       record {
         sound = rest.sound;
         count = let e = rest.count in let n = length-append packets (remaining batch.packets) in omega arith;
@@ -184,7 +177,17 @@ module _ {A B R G K L : Type 0} (ga : Ghosts A K) (gb : Ghosts B L) (old : Worke
         each = λ i d inside. rest_judged ga gb old.setup [] packets batch i (get_or old.shares.items i d)
             (get_or shares.items i d) same (first ∙ rest.count) (rest.each i d inside)
             (ran.worked.each i d d (subst (λ n. i < n) (sym rest.shares) inside));
-        noted = record { count = are.0; workers = are.1 };
+        noted = λ several.
+            let noted = rest.noted several in
+            let more = ran.noted (subst (λ (s : Setup A B R G K L). 1 < s.workers) (sym same) several) in
+            let are =
+            workers_noted ga gb (dealer_of old.setup) old.judges.items judges.items packets (remaining batch.packets)
+            noted.count noted.workers
+            (subst (λ n. HaveNoted ga gb (dealer_of old.setup) n (remaining batch.packets) old.judges.items judges.items)
+            (first ∙ rest.count)
+            (subst (λ (s : Setup A B R G K L). HaveNoted ga gb (dealer_of s) batch.first (remaining batch.packets) old.judges.items
+            judges.items) same more)) in
+            record { count = are.0; workers = are.1 };
       }
 
 -- by equal timeouts and policies packets are judged alike

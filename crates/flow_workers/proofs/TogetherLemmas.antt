@@ -1,7 +1,7 @@
 -- All workers at packets that are judged one after the other.
-use Rattle.std.proofs.Common.{◌≡◌, ◌∙◌, ◌+◌, ◌<◌, ℕ, zero, suc, List, [], ◌∷◌, ◌++◌, None, Option, Some, ap, append_assoc, append-nil, arith, get_or, inl, inr, length, refl, replicate, set, slice_get, subst, sym}
+use Rattle.std.proofs.Common.{◌≡◌, ◌∙◌, ◌+◌, ◌<◌, ℕ, zero, suc, List, [], ◌∷◌, ◌++◌, None, Option, Some, ap, append_assoc, append-nil, arith, get_or, inl, inr, length, refl, set, slice_get, subst, sym}
 use Rattle.std.proofs.lemmas.Bool.Decides.{eqb_tells}
-use Rattle.std.proofs.lemmas.List.{get_or-replicate, get_or-set_other, get_or-set_same, length-replicate, length-set, length_push}
+use Rattle.std.proofs.lemmas.List.{get_or-set_other, get_or-set_same, length-set, length_push}
 use Rattle.packet_view.specs.Captures.{PacketFacts}
 use Rattle.packet_view.specs.CheckedCaptures.{remaining}
 use Rattle.bihash_words.specs.declared.shape.Shape.{Ghosts}
@@ -20,6 +20,8 @@ use Rattle.flow_workers.specs.inner.Jobs.{HasWorkedOn, dealer_of}
 use Rattle.flow_workers.specs.inner.Together.{HaveNotedSome}
 use Rattle.flow_workers.specs.inner.Turns.{HaveWorkedOn}
 use Rattle.flow_workers.proofs.DealtLemmas.{passed_by, worked_on}
+
+-- what is there is there by any default
 
 -- what is there is there by any default
 same_there : {X : Type 0} (xs : List X) (i : ℕ) (d e : X) → i < length xs → get_or xs i d ≡ get_or xs i e
@@ -128,21 +130,3 @@ module _ {A B K L : Type 0} (ga : Ghosts A K) (gb : Ghosts B L) where
   only_dealt dealer number packet alone = λ own seen is.
       subst (λ n. 0 ≡ worker_by_dealing dealer.dealing (layout_of ga gb) n number (flow_of_frame seen)) (sym alone)
       (only_by_dealing dealer.dealing (layout_of ga gb) number (flow_of_frame seen))
-
-  -- the first of so many equal workers
-  pub only_noted : (dealer : Dealer) (first : ℕ) (packets : List PacketFacts) (judges more : List ℕ) → dealer.workers ≡ 1
-      → more ≡ judges ++ replicate (length packets) 0 → HaveNotedSome ga gb dealer first packets (length packets) judges more
-  only_noted dealer first packets judges more alone is =
-      let firsts : List ℕ = replicate (length packets) 0 in
-      let many : length firsts ≡ length packets = length-replicate (length packets) 0 in
-      record {
-        workers = firsts;
-        noted = is;
-        are = record {
-          inside = omega arith;
-          each = λ k packet below there.
-              subst (IsDealtTo ga gb dealer (first + k) packet) (sym (get_or-replicate (length packets) k 0 0 (omega arith)))
-              (only_dealt dealer (first + k) packet alone);
-        };
-        many = many;
-      }

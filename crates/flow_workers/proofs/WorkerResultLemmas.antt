@@ -120,11 +120,11 @@ module _ {A B K L : Type 0} (ga : Ghosts A K) (gb : Ghosts B L) (tables : Tables
   -- what all workers said, with the worker of each packet
   pub all_said : (judges : List ℕ) (results : WorkerResults A B K L ga gb) (p : AreResults ga gb tables run results)
       → 0 < run.deal.workers → run.deal.workers ≤ 16 → run.deal.layout ≡ layout_of ga gb
-      → (length judges ≡ length run.packets) × AreWorkers ga gb (dealer_by run) 0 judges run.packets
+      → (1 < run.deal.workers → (length judges ≡ length run.packets) × AreWorkers ga gb (dealer_by run) 0 judges run.packets)
       → AreAllSaid run p.traces results.said.items judges
   all_said judges results p some_worker few layout are = record {
     told = record { some_worker = some_worker; few = few; traced = p.traced; said = p.said };
-    judges = all_judges ga gb run layout judges are.0 are.1;
+    judges = λ several. all_judges ga gb run layout judges (are several).0 (are several).1;
   }
 
   -- the callers of a family's table, joined

@@ -61,7 +61,7 @@ pub record AreAtRest {A B R G K L : Type 0} {ga : Ghosts A K} {gb : Ghosts B L} 
   pub shares : length all.shares.items ≡ all.setup.workers
   pub each : (i : ℕ) (d : Share A B K L ga gb) → i < all.setup.workers
       → IsAtRest ga gb all.setup packets i (slice_index_or all.shares.items i d)
-  pub noted : AreNoted ga gb all.setup packets all.judges.items
+  pub noted : 1 < all.setup.workers → AreNoted ga gb all.setup packets all.judges.items
 
 -- workers of this setup that judged no packet
 pub record AreBegun {A B R G K L : Type 0} {ga : Ghosts A K} {gb : Ghosts B L} (setup : Setup A B R G K L)

@@ -48,19 +48,8 @@ fn judge_by_one<A: Shape, B: Shape, R: Wait, G: Gate>(
     Ok(())
 }
 
-// The worker of so many more packets is the first one.
-fn note_first(judges: &mut Vec<u8>, count: usize) -> Result<(), AllocError>
-    ensures { IfOk result (λ _. judges.new.items ≡ judges.old.items ++ replicate count 0) }
-{
-    let noted = judges.len();
-    let Some(all) = noted.checked_add(count) else {
-        return Err(AllocError);
-    };
-    judges.resize(all, 0)
-}
-
 /// The shares of all workers after these judged the packets of a batch, one after the other in this thread. The workers of
-/// the packets come after those that are noted.
+/// the packets come after those that are noted, where there are several.
 pub fn judge_together<A: Shape, B: Shape, R: Wait, G: Gate>(
     batch: Batch<'_, '_, '_, A, B, R, G>,
     shares: Vec<Share<A, B>>,
@@ -72,7 +61,6 @@ pub fn judge_together<A: Shape, B: Shape, R: Wait, G: Gate>(
     let mut shares = shares;
     if batch.setup.is_alone() {
         judge_by_one(&batch, &mut shares[0])?;
-        note_first(judges, batch.packets.count())?;
         return Ok(shares);
     }
     judges.reserve(batch.packets.count())?;

@@ -32,11 +32,11 @@ pub record AreTold (run : RunFacts) (traces : List (List Item)) (all : List (Vec
   pub traced : AreTraces run.deal run.times run.policy run.packets traces
   pub said : AllZip (λ trace said. AreSaid run trace said.items) traces all
 
--- the workers of a run did these traces and said this, and these are the workers of the packets
+-- the workers of a run did these traces and said this, and these are the workers of the packets where there are several
 pub record AreAllSaid (run : RunFacts) (traces : List (List Item)) (all : List (Vec Verdict))
     (workers : List ℕ) : Type 0 where
   pub told : AreTold run traces all
-  pub judges : AreAllJudges run workers
+  pub judges : 1 < run.deal.workers → AreAllJudges run workers
 
 -- these verdicts are what was said, in the order of the packets, whatever the run and its traces were
 abbrev pub AreMerged : List (Vec Verdict) → List ℕ → List Verdict → Type 0

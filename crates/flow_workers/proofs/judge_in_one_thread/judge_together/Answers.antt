@@ -1,11 +1,11 @@
-use Rattle.std.proofs.Common.{◌≡◌, ◌∙◌, ◌++◌, ap, arith, length, replicate, subst, sym}
+use Rattle.std.proofs.Common.{◌≡◌, ◌∙◌, arith, length, subst, sym}
 use Rattle.std.proofs.lemmas.Bool.{eqb-true}
 use Rattle.packet_view.specs.Captures.{packet_facts}
 use Rattle.packet_view.specs.CheckedCaptures.{remaining}
 use Rattle.packet_dealing.proofs.DealtLists.{left_behind, none_left, stands_at}
 use Rattle.flow_workers.specs.inner.Jobs.{dealer_of}
 use Rattle.flow_workers.specs.inner.Together.{HaveNotedSome}
-use Rattle.flow_workers.proofs.TogetherLemmas.{all_worked_on, all_worked_to, idle_after, none_noted, none_worked, noted_push, only_noted, only_worked}
+use Rattle.flow_workers.proofs.TogetherLemmas.{all_worked_on, all_worked_to, idle_after, none_noted, none_worked, noted_push, only_worked}
 use Rattle.flow_workers.proofs.WorkSteps.{taken_inside}
 use Rattle.flow_workers.proofs.judge_in_one_thread.judge_together.Goals as goal
 
@@ -18,8 +18,7 @@ returns-then-is_alone g c =
     record {
       worked = only_worked g.A.Shape g.B.Shape batch (length packets) c.args.shares.items c.index_mut.result.now c.judge_by_one.new.share one
           (sym c.index_mut.ensures.value) c.in_ok-judge_by_one.ensures;
-      noted = only_noted g.A.Shape g.B.Shape (dealer_of batch.setup) batch.first packets c.args.judges.now.items c.note_first.new.judges.items
-          alone (c.in_ok-note_first.ensures ∙ ap (λ n. c.args.judges.now.items ++ replicate n 0) c.count.ensures);
+      noted = λ several. absurd (omega arith);
     }
 
 pub packets-init : goal.packets-init
@@ -68,6 +67,6 @@ returns g c =
     let all : c.packets.taken ≡ length (remaining batch.packets) = omega arith in
     record {
       worked = all_worked_to g.A.Shape g.B.Shape batch 0 c.packets.taken _ _ _ all c.packets.invariant.worked;
-      noted = subst (λ n. HaveNotedSome g.A.Shape g.B.Shape (dealer_of batch.setup) batch.first (remaining batch.packets) n
+      noted = λ _. subst (λ n. HaveNotedSome g.A.Shape g.B.Shape (dealer_of batch.setup) batch.first (remaining batch.packets) n
           c.args.judges.now.items c.packets.judges.items) all c.packets.invariant.noted;
     }

@@ -13,7 +13,7 @@ returns g c =
     IfOk-weaker c.run_shares.result _ _
     (λ v worked. record {
       worked = subst (λ r. HaveWorked r c.args.shares.items v.items) c.again.ensures worked;
-      noted = dealt_noted g.A.Shape g.B.Shape _ batch.first c.in_ok-dealt.dealt.items (remaining batch.packets) _ _
+      noted = λ _. dealt_noted g.A.Shape g.B.Shape _ batch.first c.in_ok-dealt.dealt.items (remaining batch.packets) _ _
           (subst (λ d. AreDealt g.A.Shape g.B.Shape d batch.first c.in_ok-dealt.dealt.items (remaining batch.packets))
           c.dealer.ensures c.in_ok-dealt.ensures)
           (c.in_ok-note_workers.ensures

@@ -15,7 +15,7 @@ place-requires c =
       record {
         told = subst (AreTold run traces) (sym c.as_slice.ensures.value) is.told;
         judges = rw c.in_ok-with_capacity.ensures.items
-            is.judges.are;
+            (is.judges (let count = count_is run traces _ is.told in omega arith)).are;
         before = none_placed run traces c.as_slice.result.now
             (subst (AreTold run traces) (sym c.as_slice.ensures.value) is.told) _ c.in_ok-with_capacity.ensures.items refl;
       },
@@ -25,7 +25,7 @@ pub returns-then-len-gt1 : goal.returns-then-len-gt1
 returns-then-len-gt1 c run traces is =
     let many = c.if-len-gt1.true in
     let counted = c.len.ensures in
-    let judges = is.judges in
+    let judges = is.judges (let count = count_is run traces _ is.told in omega arith) in
     let told = subst (AreTold run traces) (sym c.as_slice.ensures.value) is.told in
     let none = ap length c.in_ok-with_capacity.ensures.items in
     let long = c.in_ok-place.ensures.count in

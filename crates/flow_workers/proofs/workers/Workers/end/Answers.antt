@@ -35,7 +35,7 @@ merge_verdicts-requires g c =
       p.traces,
       subst (AreAllSaid _ _ _) (sym c.as_slice.ensures.value)
           (all_said g.A.Shape g.B.Shape _ _ c.args.self.judges.items c.in_ok-four.field-0 p rest.sound.some
-          rest.sound.few refl (rest.noted.count, rest.noted.workers)),
+          rest.sound.few refl (λ several. let noted = rest.noted several in (noted.count, noted.workers))),
     )
 
 pub returns : goal.returns
@@ -57,5 +57,5 @@ returns g c = record {
       c.in_ok-verdicts.verdicts.items
       (c.in_ok-verdicts.ensures _ p.traces (subst (AreAllSaid _ _ _) (sym c.as_slice.ensures.value)
       (all_said g.A.Shape g.B.Shape _ _ c.args.self.judges.items c.in_ok-four.field-0 p rest.sound.some rest.sound.few
-      refl (rest.noted.count, rest.noted.workers))));
+      refl (λ several. let noted = rest.noted several in (noted.count, noted.workers)))));
 }

@@ -10,7 +10,7 @@ returns g c = record {
     count = refl;
     shares = c.in_ok-shares.ensures.count;
     each = λ i d inside. rest_begun g.A.Shape g.B.Shape c.args.setup i _ (c.in_ok-shares.ensures.each i d inside);
-    noted = record {
+    noted = λ several. record {
       count = ap length c.new.ensures.items;
       workers = record {
         inside = let none = ap length c.new.ensures.items in omega arith;
