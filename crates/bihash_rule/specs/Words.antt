@@ -37,8 +37,8 @@ front_words z = (4 + z.max_log2) + lists_words z (suc z.max_log2)
 abbrev pub buckets : Sizes → ℕ
 buckets z = 2 ^ z.log2_buckets
 
--- Where the word of a bucket stands among the bucket words: those whose numbers are the same modulo 16 stand together. So
--- workers to whom packets are dealt by bucket, 2, 4, 8 or 16, hardly share a cache line there.
+-- Where the word of a bucket stands among the bucket words: those of buckets whose numbers are the same modulo 16 stand
+-- together. So 2, 4, 8 or 16 workers, to whom packets are dealt by bucket, hardly share a cache line there.
 unfoldable pub bucket_place : Sizes → ℕ → ℕ
 bucket_place z b = b % 16 * 2 ^ (z.log2_buckets - 4) + b / 16
 

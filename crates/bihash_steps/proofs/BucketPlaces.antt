@@ -13,44 +13,44 @@ earlier_row q r r' d d' inside less =
     let x : ℕ = r * q in let y : ℕ = r' * q in
     let m' : x + q ≤ y = subst (λ (t : ℕ). t ≤ y) (suc-mul r q) m in omega arith
 
--- how many rows of sixteen the buckets fill
-abbrev rows : Sizes → ℕ
-rows z = 2 ^ (z.log2_buckets - 4)
+-- the bucket words stand in rows, one for each remainder modulo 16: how many words a row has
+abbrev row_words : Sizes → ℕ
+row_words z = 2 ^ (z.log2_buckets - 4)
 
--- so many rows have all of them
-sixteen_rows : (z : Sizes) → 4 ≤ z.log2_buckets → buckets z ≡ 16 * rows z
+-- sixteen rows are all of them
+sixteen_rows : (z : Sizes) → 4 ≤ z.log2_buckets → buckets z ≡ 16 * row_words z
 sixteen_rows z many = let e : 2 ^ (4 + (z.log2_buckets - 4)) ≡ 2 ^ 4 * 2 ^ (z.log2_buckets - 4) = pow-add 2 4 (z.log2_buckets - 4) in
     let k : 4 + (z.log2_buckets - 4) ≡ z.log2_buckets = omega arith in
-    subst (λ (n : ℕ). 2 ^ n ≡ 16 * rows z) k e
+    subst (λ (n : ℕ). 2 ^ n ≡ 16 * row_words z) k e
 
--- a bucket's row, and its place
-row_of : (z : Sizes) (b : ℕ) → b < buckets z → (b / 16 < rows z) × (b % 16 * rows z + b / 16 < buckets z)
-row_of z b l = dite (dec_lt z.log2_buckets 4)
-    (λ few. let one : rows z ≡ 1 = ap (λ (n : ℕ). 2 ^ n) (let none : z.log2_buckets - 4 ≡ 0 = omega arith in none) in
+-- a bucket's place in its row, and among all bucket words
+in_row : (z : Sizes) (b : ℕ) → b < buckets z → (b / 16 < row_words z) × (b % 16 * row_words z + b / 16 < buckets z)
+in_row z b l = dite (dec_lt z.log2_buckets 4)
+    (λ few. let one : row_words z ≡ 1 = ap (λ (n : ℕ). 2 ^ n) (let none : z.log2_buckets - 4 ≡ 0 = omega arith in none) in
     let p : 2 ^ z.log2_buckets ≤ 2 ^ 3 = pow_mono {j = 3} (omega arith) in
     let n : ℕ = 2 ^ z.log2_buckets in let small : n ≤ 8 = p in
-    let r : b % 16 * rows z ≡ b % 16 * 1 = ap (λ (q : ℕ). b % 16 * q) one in
-    let x : ℕ = b % 16 * rows z in let q : ℕ = rows z in let q' : q ≡ 1 = one in let x' : x ≡ b % 16 = omega (arith, r) in
+    let r : b % 16 * row_words z ≡ b % 16 * 1 = ap (λ (q : ℕ). b % 16 * q) one in
+    let x : ℕ = b % 16 * row_words z in let q : ℕ = row_words z in let q' : q ≡ 1 = one in let x' : x ≡ b % 16 = omega (arith, r) in
     (omega arith, omega arith))
-    (λ not. let e : buckets z ≡ 16 * rows z = sixteen_rows z (omega arith) in
-    let m : b % 16 * rows z ≤ 15 * rows z = mul-le-mul_right (rows z) (let h : b % 16 ≤ 15 = omega arith in h) in
-    let q : ℕ = rows z in let x : ℕ = b % 16 * q in let m' : x ≤ 15 * q = m in
+    (λ not. let e : buckets z ≡ 16 * row_words z = sixteen_rows z (omega arith) in
+    let m : b % 16 * row_words z ≤ 15 * row_words z = mul-le-mul_right (row_words z) (let h : b % 16 ≤ 15 = omega arith in h) in
+    let q : ℕ = row_words z in let x : ℕ = b % 16 * q in let m' : x ≤ 15 * q = m in
     let n : ℕ = 2 ^ z.log2_buckets in let e' : n ≡ 16 * q = e in
     (omega arith, omega arith))
 
 pub place_inside : (z : Sizes) (b : ℕ) → b < buckets z → bucket_place z b < buckets z
 unfolding bucket_place
-place_inside z b l = (row_of z b l).1
+place_inside z b l = (in_row z b l).1
 
 pub one_place : (z : Sizes) (b c : ℕ) → b < buckets z → c < buckets z → bucket_place z b ≡ bucket_place z c → b ≡ c
 unfolding bucket_place
 one_place z b c l l' e =
-    let q : ℕ = rows z in let x : ℕ = b % 16 * q in let y : ℕ = c % 16 * q in
+    let q : ℕ = row_words z in let x : ℕ = b % 16 * q in let y : ℕ = c % 16 * q in
     let row : b % 16 ≡ c % 16 = dite (dec_lt (b % 16) (c % 16))
-    (λ less. absurd (let h : x + b / 16 < y + c / 16 = earlier_row q (b % 16) (c % 16) (b / 16) (c / 16) (row_of z b l).0 less in
+    (λ less. absurd (let h : x + b / 16 < y + c / 16 = earlier_row q (b % 16) (c % 16) (b / 16) (c / 16) (in_row z b l).0 less in
     let e' : x + b / 16 ≡ y + c / 16 = e in omega arith))
     (λ not. dite (dec_lt (c % 16) (b % 16))
-    (λ less. absurd (let h : y + c / 16 < x + b / 16 = earlier_row q (c % 16) (b % 16) (c / 16) (b / 16) (row_of z c l').0 less in
+    (λ less. absurd (let h : y + c / 16 < x + b / 16 = earlier_row q (c % 16) (b % 16) (c / 16) (b / 16) (in_row z c l').0 less in
     let e' : x + b / 16 ≡ y + c / 16 = e in omega arith))
     (λ neither. omega arith)) in
     let same : x ≡ y = ap (λ (r : ℕ). r * q) row in
@@ -58,8 +58,9 @@ one_place z b c l l' e =
 
 -- ---- A place as it is computed
 
-few_buckets : (z : Sizes) (log2 : ℕ) → IsSound z → log2 ≡ z.log2_buckets → 1 * 2 ^ log2 % 18446744073709551616 ≡ buckets z
-few_buckets z log2 sound el =
+-- how many buckets there are, as it is computed
+buckets_are : (z : Sizes) (log2 : ℕ) → IsSound z → log2 ≡ z.log2_buckets → 1 * 2 ^ log2 % 18446744073709551616 ≡ buckets z
+buckets_are z log2 sound el =
     let a = sound.few_buckets in
     let same : 2 ^ log2 ≡ 2 ^ z.log2_buckets = ap (λ (n : ℕ). 2 ^ n) el in
     let small : 2 ^ z.log2_buckets ≤ 2 ^ 24 = pow_mono {j = 24} (let k : z.log2_buckets ≤ 24 = omega arith in k) in
@@ -69,11 +70,11 @@ few_buckets z log2 sound el =
 pub place_of_few : (z : Sizes) (b log2 : ℕ) → log2 ≡ z.log2_buckets → log2 < 4 → b < buckets z → b ≡ bucket_place z b
 unfolding bucket_place
 place_of_few z b log2 el few l =
-    let one : rows z ≡ 1 = ap (λ (n : ℕ). 2 ^ n) (let none : z.log2_buckets - 4 ≡ 0 = omega arith in none) in
+    let one : row_words z ≡ 1 = ap (λ (n : ℕ). 2 ^ n) (let none : z.log2_buckets - 4 ≡ 0 = omega arith in none) in
     let p : 2 ^ z.log2_buckets ≤ 2 ^ 3 = pow_mono {j = 3} (omega arith) in
     let n : ℕ = 2 ^ z.log2_buckets in let small : n ≤ 8 = p in
-    let r : b % 16 * rows z ≡ b % 16 * 1 = ap (λ (q : ℕ). b % 16 * q) one in
-    let x : ℕ = b % 16 * rows z in let x' : x ≡ b % 16 = omega (arith, r) in omega arith
+    let r : b % 16 * row_words z ≡ b % 16 * 1 = ap (λ (q : ℕ). b % 16 * q) one in
+    let x : ℕ = b % 16 * row_words z in let x' : x ≡ b % 16 = omega (arith, r) in omega arith
 
 in_rows : (r d q : ℕ) → (16 * d + r) * (16 * q + 1) ≡ 16 * (d * (16 * q) + r * q) + (16 * d + r)
 in_rows r d q = grind arith
@@ -92,14 +93,9 @@ pub place_of_many : (z : Sizes) (b log2 : ℕ) → IsSound z → log2 ≡ z.log2
     → b * (1 * 2 ^ log2 % 18446744073709551616 + 1) / 16 % (1 * 2 ^ log2 % 18446744073709551616) ≡ bucket_place z b
 unfolding bucket_place
 place_of_many z b log2 sound el many l =
-    ap (λ (n : ℕ). b * (n + 1) / 16 % n) (few_buckets z log2 sound el)
-    ∙ place_of_rows (buckets z) (rows z) b (sixteen_rows z (omega arith)) (row_of z b l).1
+    ap (λ (n : ℕ). b * (n + 1) / 16 % n) (buckets_are z log2 sound el)
+    ∙ place_of_rows (buckets z) (row_words z) b (sixteen_rows z (omega arith)) (in_row z b l).1
 
 -- a loop over all buckets is at one of them
 pub bucket_below : (z : Sizes) (b log2 : ℕ) → IsSound z → log2 ≡ z.log2_buckets → b < 1 * 2 ^ log2 % 2 ^ 64 → b < buckets z
-bucket_below z b log2 sound is below =
-    let small = sound.few_buckets in
-    let at_most : log2 ≤ 24 = omega arith in
-    let few : 2 ^ log2 ≤ 2 ^ 24 = pow_mono at_most in
-    let n : ℕ = 2 ^ log2 in
-    let inside : b < n = omega arith in subst (λ (k : ℕ). b < 2 ^ k) is inside
+bucket_below z b log2 sound is below = subst (λ (n : ℕ). b < n) (buckets_are z log2 sound is) below

@@ -41,8 +41,8 @@ pub(crate) fn front_words<S: Shape>() -> usize
     4 + S::MAX_LOG2 as usize + lists_words::<S>(S::MAX_LOG2 + 1)
 }
 
-// Where the word of a bucket stands among the bucket words: at `bucket % 16 * (buckets / 16) + bucket / 16`, but by half as
-// many instructions.
+// Where the word of a bucket stands among the bucket words: at `bucket % 16 * (buckets / 16) + bucket / 16`, made by half as
+// many instructions, since `bucket * buckets / 16` is its first part modulo `buckets`. Fewer than 16 stand in their order.
 #[inline(always)]
 fn bucket_place<S: Shape>(bucket: usize) -> usize
     requires sound { IsSound (sizes_of S.Shape) }

@@ -188,6 +188,7 @@ module _ {A B R G K L : Type 0} (ga : Ghosts A K) (gb : Ghosts B L) (old : Worke
             (subst (λ (s : Setup A B R G K L). HaveNoted ga gb (dealer_of s) batch.first (remaining batch.packets) old.judges.items
             judges.items) same more)) in
             record { count = are.0; workers = are.1 };
+        none = λ one. ran.none (subst (λ (s : Setup A B R G K L). s.workers ≡ 1) (sym same) one) ∙ rest.none one;
       }
 
 -- by equal timeouts and policies packets are judged alike

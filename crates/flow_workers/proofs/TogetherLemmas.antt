@@ -22,8 +22,6 @@ use Rattle.flow_workers.specs.inner.Turns.{HaveWorkedOn}
 use Rattle.flow_workers.proofs.DealtLemmas.{passed_by, worked_on}
 
 -- what is there is there by any default
-
--- what is there is there by any default
 same_there : {X : Type 0} (xs : List X) (i : ℕ) (d e : X) → i < length xs → get_or xs i d ≡ get_or xs i e
 same_there [] i d e inside = absurd (omega arith)
 same_there (x ∷ xs) zero d e inside = refl

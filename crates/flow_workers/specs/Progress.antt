@@ -53,7 +53,7 @@ pub record AreNoted {A B R G K L : Type 0} (ga : Ghosts A K) (gb : Ghosts B L) (
   pub count : length judges ≡ length packets
   pub workers : AreWorkers ga gb (dealer_of setup) 0 judges packets
 
--- all workers after these packets
+-- all workers after these packets: if they are several, the worker of each packet is noted
 pub record AreAtRest {A B R G K L : Type 0} {ga : Ghosts A K} {gb : Ghosts B L} (packets : List PacketFacts)
     (all : Workers A B R G K L ga gb) : Type 0 where
   pub sound : IsSoundSetup ga gb all.setup
@@ -62,6 +62,7 @@ pub record AreAtRest {A B R G K L : Type 0} {ga : Ghosts A K} {gb : Ghosts B L} 
   pub each : (i : ℕ) (d : Share A B K L ga gb) → i < all.setup.workers
       → IsAtRest ga gb all.setup packets i (slice_index_or all.shares.items i d)
   pub noted : 1 < all.setup.workers → AreNoted ga gb all.setup packets all.judges.items
+  pub none : all.setup.workers ≡ 1 → all.judges.items ≡ []
 
 -- workers of this setup that judged no packet
 pub record AreBegun {A B R G K L : Type 0} {ga : Ghosts A K} {gb : Ghosts B L} (setup : Setup A B R G K L)

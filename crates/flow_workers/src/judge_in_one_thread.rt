@@ -1,5 +1,5 @@
 //! All workers in one thread: each packet is judged by its worker, in the order of the file.
-ghost use Rattle.std.specs.Prelude.{◌≡◌, ◌<◌, ◌+◌, ◌++◌, IfOk, replicate};
+ghost use Rattle.std.specs.Prelude.{IfOk};
 ghost use Rattle.packet_view.specs.Captures.{packet_facts};
 ghost use Rattle.flow_workers.specs.inner.Jobs.{HasWorked};
 ghost use Rattle.flow_workers.specs.inner.Together.{HasJudgedNext, HaveJudgedBatch, MayJudgeByOne, MayJudgeNext};
@@ -49,7 +49,7 @@ fn judge_by_one<A: Shape, B: Shape, R: Wait, G: Gate>(
 }
 
 /// The shares of all workers after these judged the packets of a batch, one after the other in this thread. The workers of
-/// the packets come after those that are noted, where there are several.
+/// the packets come after those that are noted; a lone worker notes nothing.
 pub fn judge_together<A: Shape, B: Shape, R: Wait, G: Gate>(
     batch: Batch<'_, '_, '_, A, B, R, G>,
     shares: Vec<Share<A, B>>,

@@ -1,5 +1,5 @@
 //! All workers, each in a thread of its own: the packets of a batch are dealt, and then judged at once.
-ghost use Rattle.std.specs.Prelude.{◌≡◌, ◌++◌, IfOk};
+ghost use Rattle.std.specs.Prelude.{◌≡◌, ◌<◌, ◌++◌, IfOk};
 ghost use Rattle.packet_dealing.specs.declared.dealt_chunk.DealtChunk.{DealtChunk};
 ghost use Rattle.flow_workers.specs.inner.Shares.{workers_in};
 ghost use Rattle.flow_workers.specs.inner.Together.{HaveJudgedBatch};
@@ -40,7 +40,8 @@ pub fn judge_in_threads<
 where
     A::Key: Send + Sync,
     B::Key: Send + Sync,
-    requires { MayJudgeBatch batch shares.items }
+    requires may { MayJudgeBatch batch shares.items }
+    requires several { 1 < batch.setup.workers }
     ensures { IfOk result (λ v. HaveJudgedBatch batch.entry shares.items v.items judges.old.items judges.new.items) }
 {
     let setup = &batch.setup;

@@ -57,7 +57,6 @@ impl<'t, 'f, A: Shape, B: Shape, R: Wait, G: Gate> Workers<'t, 'f, A, B, R, G> {
             mut judges,
             ..
         } = self;
-        judges.clear();
         let mut shares = judge_together(batch, shares, &mut judges)?;
         let said = let_go(setup.rt, alloc, setup.tables, &mut shares[0]);
         let workers = Workers {

@@ -47,7 +47,8 @@ impl VerdictMerge {
     }
 }
 
-/// The verdicts on so many packets, of which each has its worker among these. What a worker that is alone said is in their order already.
+/// The verdicts on so many packets, each of which has its worker among these where several workers said them. What a worker
+/// that is alone said is in their order already.
 pub fn merge_verdicts(
     alloc: Global,
     mut all: Vec<Vec<Verdict>>,

@@ -59,7 +59,7 @@ pub struct Workers<'t, 'f, A: Shape, B: Shape, R: Wait, G: Gate> {
     pub setup: Setup<'t, 'f, A, B, R, G>,
     /// What each worker has, in their order.
     pub shares: Vec<Share<A, B>>,
-    /// The worker of each packet, where there are several.
+    /// The worker of each packet, where there are several workers; else none is noted.
     pub judges: Vec<u8>,
     /// How many packets they judged.
     pub count: usize,

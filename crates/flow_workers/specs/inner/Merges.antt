@@ -32,7 +32,7 @@ pub record AreTold (run : RunFacts) (traces : List (List Item)) (all : List (Vec
   pub traced : AreTraces run.deal run.times run.policy run.packets traces
   pub said : AllZip (λ trace said. AreSaid run trace said.items) traces all
 
--- the workers of a run did these traces and said this, and these are the workers of the packets where there are several
+-- the workers of a run did these traces and said this, and, if they are several, these are the workers of the packets
 pub record AreAllSaid (run : RunFacts) (traces : List (List Item)) (all : List (Vec Verdict))
     (workers : List ℕ) : Type 0 where
   pub told : AreTold run traces all

@@ -50,8 +50,10 @@ pub record MayJudgeByOne {A B R G K L : Type 0} (ga : Ghosts A K) (gb : Ghosts B
   pub idle : AreIdle ga gb batch.setup.tables.now share.callers
   pub fits : batch.first + length (remaining batch.packets) < 2 ^ 64
 
--- the packets of the batch were judged, and their workers noted where there are several
+-- the packets of the batch were judged, and, if there are several workers, the worker of each was noted
 pub record HaveJudgedBatch {A B R G K L : Type 0} {ga : Ghosts A K} {gb : Ghosts B L} (batch : Batch A B R G K L)
     (old new : List (Share A B K L ga gb)) (judges more : List ℕ) : Type 0 where
   pub worked : HaveWorked batch old new
-  pub noted : 1 < batch.setup.workers → HaveNoted ga gb (dealer_of batch.setup) batch.first (remaining batch.packets) judges more
+  pub noted : 1 < batch.setup.workers
+      → HaveNoted ga gb (dealer_of batch.setup) batch.first (remaining batch.packets) judges more
+  pub none : batch.setup.workers ≡ 1 → more ≡ judges

@@ -1,4 +1,4 @@
-use Rattle.std.proofs.Common.{◌∙◌, ◌++◌, ap, subst}
+use Rattle.std.proofs.Common.{arith, ◌∙◌, ◌++◌, ap, subst}
 use Rattle.std.proofs.lemmas.Result.{IfOk-weaker}
 use Rattle.packet_view.specs.CheckedCaptures.{remaining}
 use Rattle.packet_dealing.specs.Dealt.{AreDealt}
@@ -18,5 +18,6 @@ returns g c =
           c.dealer.ensures c.in_ok-dealt.ensures)
           (c.in_ok-note_workers.ensures
           ∙ ap (λ chunks. c.args.judges.now.items ++ workers_in chunks) c.as_slice.ensures.value);
+      none = λ one. absurd (let several = c.requires.several in omega arith);
     })
     c.run_shares.ensures

@@ -17,5 +17,6 @@ returns g c = record {
         each = λ k packet below there. absurd (let none = ap length c.new.ensures.items in omega arith);
       };
     };
+    none = λ _. c.new.ensures.items;
   };
 }
